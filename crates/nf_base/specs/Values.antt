@@ -1,0 +1,53 @@
+-- The values of a handler's text.
+use Rattle.std.specs.Prelude.{ℕ, ◌+◌, ◌-◌, ◌*◌, ◌/◌, ◌%◌, ◌^◌, min, Bool, nat_lt, nat_le, not, ◌==◌, if◌then◌else◌}
+use Rattle.std.specs.Int.Bits.{bit_and}
+use Rattle.nf_base.specs.declared.packet.Field.{Field}
+use Rattle.nf_base.specs.declared.packet.Field.TheVariants.{Time, Length, SrcMac, DstMac, SrcIp, DstIp, Proto, Ttl, SrcPort, DstPort}
+use Rattle.nf_base.specs.declared.packet.Fields.{Fields}
+use Rattle.nf_base.specs.declared.width.Width.{Width}
+use Rattle.nf_base.specs.declared.width.Width.TheVariants.{W8, W16, W32, W48, W64}
+use Rattle.nf_base.specs.declared.expr.Operator.{Operator}
+use Rattle.nf_base.specs.declared.expr.Operator.TheVariants.{Plus, Minus, Times, Over, Modulo, And}
+use Rattle.nf_base.specs.declared.expr.Comparison.{Comparison}
+use Rattle.nf_base.specs.declared.expr.Comparison.TheVariants.{Equal, NotEqual, Less, LessOrEqual, Greater, GreaterOrEqual}
+
+-- the value of a field of a handled packet that came at a time
+abbrev pub field_of : ℕ → Fields → Field → ℕ
+field_of time fields Time = time
+field_of time fields Length = fields.length
+field_of time fields SrcMac = fields.src_mac
+field_of time fields DstMac = fields.dst_mac
+field_of time fields SrcIp = fields.src_ip
+field_of time fields DstIp = fields.dst_ip
+field_of time fields Proto = fields.proto
+field_of time fields Ttl = fields.ttl
+field_of time fields SrcPort = fields.src_port
+field_of time fields DstPort = fields.dst_port
+
+abbrev pub bits : Width → ℕ
+bits W8 = 8
+bits W16 = 16
+bits W32 = 32
+bits W48 = 48
+bits W64 = 64
+
+-- a value taken to a width
+abbrev pub narrowed : Width → ℕ → ℕ
+narrowed w v = v % 2 ^ bits w
+
+-- Sums and products stop at the largest value, differences at 0; a division by 0 gives 0.
+abbrev pub result_of : Operator → ℕ → ℕ → ℕ
+result_of Plus a b = min (a + b) (2 ^ 64 - 1)
+result_of Minus a b = a - b
+result_of Times a b = min (a * b) (2 ^ 64 - 1)
+result_of Over a b = if b == 0 then 0 else a / b
+result_of Modulo a b = if b == 0 then 0 else a % b
+result_of And a b = bit_and a b
+
+abbrev pub compares : Comparison → ℕ → ℕ → Bool
+compares Equal a b = a == b
+compares NotEqual a b = not (a == b)
+compares Less a b = nat_lt a b
+compares LessOrEqual a b = nat_le a b
+compares Greater a b = nat_lt b a
+compares GreaterOrEqual a b = nat_le b a

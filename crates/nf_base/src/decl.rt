@@ -1,0 +1,47 @@
+use crate::indexed::Indexed;
+use crate::limited::Limited;
+use crate::size::Size;
+use crate::width::Width;
+
+/// A declared name, in ASCII.
+pub type Name = Limited<u8, 32>;
+
+/// A label or a free column of a chain.
+#[derive(Drop)]
+pub struct ColumnDecl {
+    pub name: Name,
+    pub width: Width,
+}
+
+/// A map of a chain: its key is `parts` of the chain's labels, from `first` on.
+#[derive(Drop)]
+pub struct MapDecl {
+    pub name: Name,
+    pub first: u32,
+    pub parts: u32,
+}
+
+/// A chain: entries by index, each with labels and free columns, given up after a lifetime.
+///
+/// Its labels are the key parts of its maps and its fixed columns, in text order.
+#[derive(Drop)]
+pub struct ChainDecl {
+    pub name: Name,
+    /// How many indices it has.
+    pub size: Size,
+    /// How long an entry stays after its stamp, in nanoseconds.
+    pub lifetime: u64,
+    /// At most 8 parts for each of 16 maps, and 8 fixed columns.
+    pub labels: Limited<ColumnDecl, 136>,
+    pub free: Limited<ColumnDecl, 8>,
+    pub maps: Limited<MapDecl, 16>,
+}
+
+/// An array of cells.
+#[derive(Drop)]
+pub struct ArrayDecl {
+    pub name: Name,
+    pub width: Width,
+    /// What the cells hold before the first packet.
+    pub cells: Indexed<u64>,
+}

@@ -1,0 +1,20 @@
+//! What every crate of maestro shares: packets, the checked function, what it remembers, and what
+//! the handling of a packet comes to.
+#![tactic(auto)]
+
+pub mod code;
+pub mod decl;
+pub mod done;
+pub mod expr;
+pub mod func;
+pub mod indexed;
+pub mod key;
+pub mod keys;
+pub mod limited;
+pub mod packet;
+pub mod picks;
+pub mod seq;
+pub mod share;
+pub mod size;
+pub mod state;
+pub mod width;

@@ -1,0 +1,11 @@
+ghost use Rattle.nf_base.specs.Limits.{IsShare};
+
+/// Which indices a queue owns: of every chain those `i` with `i mod of = queue`.
+#[derive(Clone, Copy, Debug, PartialEq, Eq)]
+pub struct Share {
+    /// Below `of`.
+    pub queue: u32,
+    /// How many queues there are, 1 to 16.
+    pub of: u32,
+    pub ghost within: { IsShare queue of },
+}
