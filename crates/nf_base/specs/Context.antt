@@ -1,8 +1,6 @@
 -- A handler in its context, and what its text reads.
 use Rattle.std.specs.Prelude.{ℕ, List, Option, Some, None, slice_get}
-use Rattle.nf_base.specs.declared.code.Expr.{Expr, Number, Read, Index, Label, Free, Cell', Both'}
-use Rattle.nf_base.specs.declared.code.Given.{Given}
-use Rattle.nf_base.specs.declared.code.Guard.{Guard}
+use Rattle.nf_base.specs.Text.{Expression, Number, Read, Index, Label, Column, Cell, Both, Given, Guard}
 use Rattle.nf_base.specs.declared.width.Width.TheVariants.{W16}
 use Rattle.nf_base.specs.declared.decl.ChainDecl.{ChainDecl}
 use Rattle.nf_base.specs.declared.done.Edits.{Edits}
@@ -70,14 +68,14 @@ cell_at arrays array i = of_array (slice_get arrays array)
     of_array None = None
     of_array (Some cells) = slice_get cells i
 
-abbrev pub value : Input → Context → Expr → ℕ
+abbrev pub value : Input → Context → Expression → ℕ
 value p c (Number n) = n
 value p c (Read field) = field_of p.time p.fields field
 value p c (Index var) = index_of (var_at c.vars var)
 value p c (Label var label) = label_of label (entry_in c.state.chains (var_at c.vars var))
 value p c (Column var column) = free_of column (entry_in c.state.chains (var_at c.vars var))
-value p c (Cell' place array pe at) = or_zero (cell_at c.state.arrays array (narrowed W16 (value p c at)))
-value p c (Both' operator pl left pr right) = result_of operator (value p c left) (value p c right)
+value p c (Cell place array at) = or_zero (cell_at c.state.arrays array (narrowed W16 (value p c at)))
+value p c (Both operator left right) = result_of operator (value p c left) (value p c right)
 
 abbrev pub given : Input → Context → Given → ℕ
 given p c g = narrowed g.width (value p c g.value)

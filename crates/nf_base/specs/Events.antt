@@ -1,8 +1,6 @@
 -- What a packet's handler did, operation by operation.
 use Rattle.std.specs.Prelude.{ℕ, ◌==◌, ◌&&◌, Bool, true, false, not, List, [], ◌∷◌, ◌++◌, Option, Some, None, if◌then◌else◌, flat_map, slice_get}
-use Rattle.nf_base.specs.declared.code.Expr.{Expr, Number, Read, Index, Label, Free, Cell', Both'}
-use Rattle.nf_base.specs.declared.code.Given.{Given}
-use Rattle.nf_base.specs.declared.code.Guard.{Guard}
+use Rattle.nf_base.specs.Text.{Expression, Number, Read, Index, Label, Column, Cell, Both, Given, Guard}
 use Rattle.nf_base.specs.declared.width.Width.TheVariants.{W16}
 use Rattle.nf_base.specs.declared.state.Entry.{Entry}
 use Rattle.nf_base.specs.declared.state.Chain.{Chain}
@@ -43,14 +41,14 @@ stores place array i v None = []
 stores place array i v (Some before) = CellWritten place array i (not (before == v)) ∷ []
 
 -- what an expression reads, from the left
-abbrev pub reads : Input → Context → Expr → List Event
+abbrev pub reads : Input → Context → Expression → List Event
 reads p c (Number n) = []
 reads p c (Read field) = []
 reads p c (Index var) = used false (var_at c.vars var)
 reads p c (Label var label) = used false (var_at c.vars var)
 reads p c (Column var column) = used false (var_at c.vars var)
-reads p c (Cell' place array pe at) = reads p c at ++ loads place array (narrowed W16 (value p c at)) (cell_at c.state.arrays array (narrowed W16 (value p c at)))
-reads p c (Both' operator pl left pr right) = reads p c left ++ reads p c right
+reads p c (Cell place array at) = reads p c at ++ loads place array (narrowed W16 (value p c at)) (cell_at c.state.arrays array (narrowed W16 (value p c at)))
+reads p c (Both operator left right) = reads p c left ++ reads p c right
 
 abbrev pub reads_all : Input → Context → List Given → List Event
 reads_all p c [] = []

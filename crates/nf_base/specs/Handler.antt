@@ -1,12 +1,13 @@
 -- A handler's text with the record of what it did, in one recursion.
 use Rattle.std.specs.Prelude.{ℕ, List, [], ◌∷◌, ◌++◌, Option, Some, None, if◌then◌else◌, map}
-use Rattle.nf_base.specs.declared.code.Code.{Code, End, Forward, Flood, Discard, Get', Find', New', If', Touch', Free', Set', Write', Store'}
+use Rattle.nf_base.specs.Text.{Block, End, Forward, Discard, Get, Find, New, If, Touch, Free, Set, Write, Store}
+use Rattle.nf_base.specs.Text as text
 use Rattle.nf_base.specs.declared.width.Width.TheVariants.{W16}
 use Rattle.nf_base.specs.declared.done.Action.{Action}
 use Rattle.nf_base.specs.declared.done.Action.TheVariants.{Drop, Flood}
 use Rattle.nf_base.specs.Values.{narrowed, compares}
 use Rattle.nf_base.specs.Context.{Context, Input, value, given, guard, var_at, entry_in, cell_at}
-use Rattle.nf_base.specs.Operations.{Making, Made, Taken, Full, BadIndex, bind, sent, looked, met, making, touching, writing, freeing, setting, storing}
+use Rattle.nf_base.specs.Operations.{Making, Made, Taken, Full, BadIndex, bind, sent, found_key, found_at, making, touching, writing, freeing, setting, storing}
 use Rattle.nf_base.specs.Events.{Event, Tested, LookedUp, Found, EntryMade, KeyTaken, ChainFull, reads, reads_all, reads_guards, used, frees, stores, restamps, rewrites}
 
 -- how a block goes, with what was done on the way
@@ -35,33 +36,33 @@ if_made place chain labels Taken made taken full = after (KeyTaken place chain l
 if_made place chain labels Full made taken full = after (ChainFull place chain labels ∷ []) full
 if_made place chain labels BadIndex made taken full = NoTrace
 
-abbrev pub trace : Input → Code → Context → Traced
+abbrev pub trace : Input → Block → Context → Traced
 trace p End c = FallsOff [] c
 trace p (Forward port) c = Ends (reads p c port) (sent p.ports (value p c port)) c
-trace p Flood c = Ends [] Flood c
+trace p text.Flood c = Ends [] Flood c
 trace p Discard c = Ends [] Drop c
-trace p (Get' place chain m key slot ph hit pm miss pn next) c =
-    let found = looked p c chain m (map (given p c) key) in
+trace p (Get place chain m key var hit miss next) c =
+    let found = found_key p c chain m (map (given p c) key) in
     after (reads_all p c key ++ LookedUp place chain m (map (given p c) key) found ∷ [])
-    (and_then (if_found found (λ i. trace p hit (bind slot chain i c)) (trace p miss c)) (trace p next))
-trace p (Find' place chain at guards slot ph hit pm miss pn next) c =
-    let found = met c chain (value p c at) (map (guard p c) guards) in
+    (and_then (if_found found (λ i. trace p hit (bind var chain i c)) (trace p miss c)) (trace p next))
+trace p (Find place chain at guards var hit miss next) c =
+    let found = found_at c chain (value p c at) (map (guard p c) guards) in
     after (reads p c at ++ reads_guards p c guards ++ Found place chain found ∷ [])
-    (and_then (if_found found (λ i. trace p hit (bind slot chain i c)) (trace p miss c)) (trace p next))
-trace p (New' place chain labels slot pm made pt taken pf full pn next) c =
+    (and_then (if_found found (λ i. trace p hit (bind var chain i c)) (trace p miss c)) (trace p next))
+trace p (New place chain labels var made taken full next) c =
     after (reads_all p c labels)
-    (and_then (if_made place chain (map (given p c) labels) (making p chain (map (given p c) labels) c) (λ i d. trace p made (bind slot chain i d)) (trace p taken c) (trace p full c)) (trace p next))
-trace p (If' sign left right ph holds pf fails pn next) c =
-    let test = compares sign (value p c left) (value p c right) in
+    (and_then (if_made place chain (map (given p c) labels) (making p chain (map (given p c) labels) c) (λ i d. trace p made (bind var chain i d)) (trace p taken c) (trace p full c)) (trace p next))
+trace p (If comparison left right holds fails next) c =
+    let test = compares comparison (value p c left) (value p c right) in
     after (reads p c left ++ reads p c right ++ Tested test ∷ [])
     (and_then (if test then trace p holds c else trace p fails c) (trace p next))
-trace p (Touch' var pn next) c = after (used (restamps p.time c.state.chains (var_at c.vars var)) (var_at c.vars var)) (trace p next (touching p var c))
-trace p (Free' var pn next) c = after (frees (var_at c.vars var)) (trace p next (freeing var c))
-trace p (Set' field g pn next) c = after (reads p c g.value) (trace p next (setting field (given p c g) c))
-trace p (Write' var column g pn next) c =
+trace p (Touch var next) c = after (used (restamps p.time c.state.chains (var_at c.vars var)) (var_at c.vars var)) (trace p next (touching p var c))
+trace p (Free var next) c = after (frees (var_at c.vars var)) (trace p next (freeing var c))
+trace p (Set field g next) c = after (reads p c g.value) (trace p next (setting field (given p c g) c))
+trace p (Write var column g next) c =
     after (reads p c g.value ++ used (rewrites column (given p c g) (entry_in c.state.chains (var_at c.vars var))) (var_at c.vars var))
     (trace p next (writing var column (given p c g) c))
-trace p (Store' place array at g pn next) c =
+trace p (Store place array at g next) c =
     let i = narrowed W16 (value p c at) in
     after (reads p c at ++ reads p c g.value ++ stores place array i (given p c g) (cell_at c.state.arrays array i))
     (trace p next (storing array i (given p c g) c))

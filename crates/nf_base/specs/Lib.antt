@@ -1,3 +1,15 @@
 pub mod Text
 pub mod View
+pub mod Functions
 pub mod Limits
+pub mod Values
+pub mod Chains
+pub mod Context
+pub mod Operations
+pub mod Events
+pub mod Handler
+pub mod Step
+pub mod Places
+pub mod Written
+pub mod Runs
+pub mod Orders

@@ -22,8 +22,8 @@ abbrev pub with_chains : List Chain → Context → Context
 with_chains chains c = record c { state = record { chains = chains; arrays = c.state.arrays } }
 
 -- what `get` finds in a map of a chain
-abbrev pub looked : Input → Context → ℕ → ℕ → List ℕ → Option ℕ
-looked p c chain m key = in_chain (slice_get p.decls chain) (slice_get c.state.chains chain)
+abbrev pub found_key : Input → Context → ℕ → ℕ → List ℕ → Option ℕ
+found_key p c chain m key = in_chain (slice_get p.decls chain) (slice_get c.state.chains chain)
   where
     in_map : Option MapDecl → Chain → Option ℕ
     in_map None state = None
@@ -35,8 +35,8 @@ looked p c chain m key = in_chain (slice_get p.decls chain) (slice_get c.state.c
     in_chain (Some decl) (Some state) = in_map (slice_get decl.maps m) state
 
 -- what `find` finds at an index of a chain
-abbrev pub met : Context → ℕ → ℕ → List (ℕ × ℕ) → Option ℕ
-met c chain i guards = in_chain (slice_get c.state.chains chain)
+abbrev pub found_at : Context → ℕ → ℕ → List (ℕ × ℕ) → Option ℕ
+found_at c chain i guards = in_chain (slice_get c.state.chains chain)
   where
     at_entry : Option Entry → Option ℕ
     at_entry None = None

@@ -1,8 +1,7 @@
 -- Whole runs.
-use Rattle.std.specs.Prelude.{ℕ, ◌&&◌, Bool, true, false, List, [], ◌∷◌, ◌++◌, fold, Option, Some, None, Contains, map, option_and_then, replicate, slice_get, nat_lt, ◌+◌, if◌then◌else◌}
-use Rattle.nf_base.specs.declared.code.Code.{Code}
+use Rattle.std.specs.Prelude.{ℕ, IsTrue, ◌&&◌, Bool, true, false, List, [], ◌∷◌, ◌++◌, fold, Option, Some, None, Contains, map, option_and_then, replicate, slice_get, nat_lt, ◌+◌, if◌then◌else◌}
 use Rattle.nf_base.specs.declared.decl.ChainDecl.{ChainDecl}
-use Rattle.nf_base.specs.declared.code.Func.{Func}
+use Rattle.nf_base.specs.Text.{Block, Function}
 use Rattle.nf_base.specs.declared.packet.Packet.{Packet}
 use Rattle.nf_base.specs.declared.packet.Fields.{Fields}
 use Rattle.nf_base.specs.declared.state.Entry.{Entry}
@@ -11,14 +10,15 @@ use Rattle.nf_base.specs.declared.state.State.{State}
 use Rattle.nf_base.specs.declared.done.Done.{Done}
 use Rattle.nf_base.specs.Step.{Stepped, step, opening, input, begun}
 use Rattle.nf_base.specs.Events.{Event, is_quiet}
+use Rattle.nf_base.specs.Written.{is_written}
 use Rattle.nf_base.specs.Handler.{trace, events_of}
-use Rattle.nf_base.specs.Places.{Place, Numbers, places, all_numbers}
+use Rattle.nf_base.specs.Places.{Place, Numbers, no_numbers, places, all_numbers}
 
 -- the operations of a packet's step, after expiry
-abbrev pub events : Func → State → Packet → List ℕ → List Event
+abbrev pub events : Function → State → Packet → List ℕ → List Event
 events f s packet choices = of_fields packet.fields
   where
-    of_code : Fields → Option Code → List Event
+    of_code : Fields → Option Block → List Event
     of_code fields None = []
     of_code fields (Some code) = events_of (trace (input f packet.time fields) code (begun f s packet.time choices))
 
@@ -41,7 +41,7 @@ all_none_past time (decl ∷ decls) [] = true
 all_none_past time (decl ∷ decls) (chain ∷ chains) = none_past time decl.lifetime chain.slots && all_none_past time decls chains
 
 -- no single operation of the step changes the state, expiry included
-abbrev pub quiet : Func → State → Packet → List ℕ → Bool
+abbrev pub quiet : Function → State → Packet → List ℕ → Bool
 quiet f s packet choices = of_fields packet.fields
   where
     of_fields : Option Fields → Bool
@@ -61,10 +61,10 @@ pub record Report : Type 0 where
 -- a run so far
 pub record Ran : Type 0 where
   pub state : State
-  pub numbers : List Numbers
+  pub numbers : Numbers
   pub reports : List Report
 
-abbrev pub with_step : Func → Ran → Turn → Option Stepped → Option Ran
+abbrev pub with_step : Function → Ran → Turn → Option Stepped → Option Ran
 with_step f r t None = None
 with_step f r t (Some s) = Some (record {
   state = s.state;
@@ -72,18 +72,19 @@ with_step f r t (Some s) = Some (record {
   reports = r.reports ++ record { done = s.done; places = places f.chains r.numbers (events f r.state t.packet t.choices) } ∷ [];
 })
 
-abbrev pub turn : Func → Turn → Ran → Option Ran
+abbrev pub turn : Function → Turn → Ran → Option Ran
 turn f t r = with_step f r t (step f r.state t.packet t.choices)
 
 -- the run over packets with their choices, from a run so far
-abbrev pub run : Func → Option Ran → List Turn → Option Ran
+abbrev pub run : Function → Option Ran → List Turn → Option Ran
 run f r ts = fold (λ so_far t. option_and_then (turn f t) so_far) r ts
 
-abbrev pub start : Func → Ran
-start f = record { state = opening f; numbers = map (λ (d : ChainDecl). record { made = 0; lives = replicate d.size 0 }) f.chains; reports = [] }
+abbrev pub start : Function → Ran
+start f = record { state = opening f; numbers = no_numbers; reports = [] }
 
--- two packets of a run that touch one place
-pub record Meet (a b : Report) : Type 0 where
+-- Two packets of a run meet where they touch one place of an object that the function writes.
+pub record Meet (f : Function) (a b : Report) : Type 0 where
   pub place : Place
+  pub written : IsTrue (is_written f place)
   pub first : Contains a.places place
   pub second : Contains b.places place
