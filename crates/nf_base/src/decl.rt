@@ -21,6 +21,13 @@ pub struct MapDecl {
     pub parts: u32,
 }
 
+/// A label or a free column of a chain, by its number among the labels or the free columns.
+#[derive(Clone, Copy, Debug, PartialEq, Eq)]
+pub enum ColumnId {
+    Label(u32),
+    Free(u32),
+}
+
 /// A chain: entries by index, each with labels and free columns, given up after a lifetime.
 ///
 /// Its labels are the key parts of its maps and its fixed columns, in text order.
@@ -35,6 +42,8 @@ pub struct ChainDecl {
     pub labels: Limited<ColumnDecl, 136>,
     pub free: Limited<ColumnDecl, 8>,
     pub maps: Limited<MapDecl, 16>,
+    /// The labels and free columns in text order.
+    pub columns: Limited<ColumnId, 144>,
 }
 
 /// An array of cells.

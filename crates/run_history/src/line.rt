@@ -1,0 +1,172 @@
+//! A line of a journal.
+//!
+//! | line | text |
+//! |---|---|
+//! | header | `maestro journal 1 <mode> <workers>` |
+//! | packet | `<port> <seq> <worker> <action> <choices>` |
+//!
+//! An action is `skip`, `drop`, `flood` or `to:<port>`. The choices are `-` where there are none, and
+//! else indices joined by `,`. Numbers are decimals, and each line ends by LF.
+ghost use Rattle.std.specs.Prelude.{◌≡◌, ◌++◌, OnOk, OnErr, IfOk, drop, take, length};
+ghost use Rattle.run_history.specs.Line.{line_bytes, mode_word, action_word, choices_word, more_choices, header_line, packet_line, numbers_word, journal_title};
+
+use crate::text::{push_bytes, push_decimal};
+use nf_base::done::Action;
+use nf_base::packet::PacketId;
+use nf_base::picks::Picks;
+use std::alloc::{AllocError, Global};
+
+/// How a run's packets were handled.
+#[derive(Clone, Copy, Debug, PartialEq, Eq)]
+pub enum Mode {
+    /// In capture order, by one worker.
+    One,
+    /// In capture order, each queue by its own worker.
+    Shard,
+    /// In each port's order, by workers that share their tables.
+    Lock,
+}
+
+/// One line of a journal.
+#[derive(Debug, Drop)]
+pub enum JournalLine {
+    /// The first line.
+    Header {
+        mode: Mode,
+        /// 1 to 16.
+        workers: u32,
+    },
+    /// What one packet came to.
+    Packet {
+        id: PacketId,
+        worker: u32,
+        action: Action,
+        picks: Picks,
+    },
+}
+
+impl Mode {
+    /// Its word in a journal.
+    pub fn word(self) -> &'static str
+        ensures { result.now ≡ mode_word self }
+    {
+        match self {
+            Mode::One => "one",
+            Mode::Shard => "shard",
+            Mode::Lock => "lock",
+        }
+    }
+}
+
+fn push_action(out: &mut Vec<u8>, action: Action) -> Result<(), AllocError>
+    ensures ok { OnOk result (out.new.items ≡ out.old.items ++ action_word action) }
+{
+    match action {
+        Action::Skip => push_bytes(out, b"skip"),
+        Action::Drop => push_bytes(out, b"drop"),
+        Action::Flood => push_bytes(out, b"flood"),
+        Action::To(port) => {
+            push_bytes(out, b"to:")?;
+            push_decimal(out, u64::from(port))
+        }
+    }
+}
+
+fn push_choices(out: &mut Vec<u8>, picks: &[u32]) -> Result<(), AllocError>
+    ensures ok { OnOk result (out.new.items ≡ out.old.items ++ choices_word picks.now) }
+{
+    let Some((first, more)) = picks.split_first() else {
+        return push_bytes(out, b"-");
+    };
+    push_decimal(out, u64::from(*first))?;
+    push_more_choices(out, more)
+}
+
+fn push_more_choices(out: &mut Vec<u8>, picks: &[u32]) -> Result<(), AllocError>
+    ensures ok { OnOk result (out.new.items ≡ out.old.items ++ more_choices picks.now) }
+{
+    for index in picks {
+        push_bytes(out, b",")?;
+        push_decimal(out, u64::from(*index))?;
+    }
+    Ok(())
+}
+
+fn push_mode(out: &mut Vec<u8>, mode: Mode) -> Result<(), AllocError>
+    ensures ok { OnOk result (out.new.items ≡ out.old.items ++ mode_word mode) }
+{
+    push_bytes(out, mode.word().as_bytes())
+}
+
+#[tactic(auto, unfolding(crate::specs::Line::journal_title))]
+fn push_title(out: &mut Vec<u8>) -> Result<(), AllocError>
+    ensures ok { OnOk result (out.new.items ≡ out.old.items ++ journal_title) }
+{
+    push_bytes(out, b"maestro journal 1 ")
+}
+
+fn push_header(out: &mut Vec<u8>, mode: Mode, workers: u32) -> Result<(), AllocError>
+    ensures ok { OnOk result (out.new.items ≡ out.old.items ++ header_line mode workers) }
+{
+    push_title(out)?;
+    push_mode(out, mode)?;
+    push_bytes(out, b" ")?;
+    push_decimal(out, u64::from(workers))?;
+    push_bytes(out, b"\n")
+}
+
+fn push_numbers(out: &mut Vec<u8>, id: PacketId, worker: u32) -> Result<(), AllocError>
+    ensures ok { OnOk result (out.new.items ≡ out.old.items ++ numbers_word id worker) }
+{
+    push_decimal(out, u64::from(id.port))?;
+    push_bytes(out, b" ")?;
+    push_decimal(out, u64::from(id.seq))?;
+    push_bytes(out, b" ")?;
+    push_decimal(out, u64::from(worker))?;
+    push_bytes(out, b" ")
+}
+
+/// Puts a packet's line behind what stands there.
+///
+/// After an `Err` the buffer may hold a part of the line.
+pub fn push_packet(
+    out: &mut Vec<u8>,
+    id: PacketId,
+    worker: u32,
+    action: Action,
+    picks: &Picks,
+) -> Result<(), AllocError>
+    ensures ok { OnOk result (out.new.items ≡ out.old.items ++ packet_line id worker action picks.now) }
+{
+    push_numbers(out, id, worker)?;
+    push_action(out, action)?;
+    push_bytes(out, b" ")?;
+    push_choices(out, picks.as_slice())?;
+    push_bytes(out, b"\n")
+}
+
+/// Puts a line behind what stands there.
+///
+/// After an `Err` the buffer may hold a part of the line.
+pub fn push_line(out: &mut Vec<u8>, line: &JournalLine) -> Result<(), AllocError>
+    ensures ok { OnOk result (out.new.items ≡ out.old.items ++ line_bytes line.now) }
+{
+    match line {
+        JournalLine::Header { mode, workers } => push_header(out, *mode, *workers),
+        JournalLine::Packet {
+            id,
+            worker,
+            action,
+            picks,
+        } => push_packet(out, *id, *worker, *action, picks),
+    }
+}
+
+/// The text of a line.
+pub fn write_line(alloc: Global, line: &JournalLine) -> Result<Vec<u8>, AllocError>
+    ensures { IfOk result (λ v. v.items ≡ line_bytes line.now) }
+{
+    let mut out = Vec::new(alloc);
+    push_line(&mut out, line)?;
+    Ok(out)
+}
