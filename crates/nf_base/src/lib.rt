@@ -18,3 +18,4 @@ pub mod share;
 pub mod size;
 pub mod state;
 pub mod width;
+pub mod workers;

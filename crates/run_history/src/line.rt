@@ -14,6 +14,7 @@ use crate::text::{push_bytes, push_decimal};
 use nf_base::done::Action;
 use nf_base::packet::PacketId;
 use nf_base::picks::Picks;
+use nf_base::workers::Workers;
 use std::alloc::{AllocError, Global};
 
 /// How a run's packets were handled.
@@ -33,8 +34,7 @@ pub enum JournalLine {
     /// The first line.
     Header {
         mode: Mode,
-        /// 1 to 16.
-        workers: u32,
+        workers: Workers,
     },
     /// What one packet came to.
     Packet {
@@ -105,13 +105,13 @@ fn push_title(out: &mut Vec<u8>) -> Result<(), AllocError>
     push_bytes(out, b"maestro journal 1 ")
 }
 
-fn push_header(out: &mut Vec<u8>, mode: Mode, workers: u32) -> Result<(), AllocError>
+fn push_header(out: &mut Vec<u8>, mode: Mode, workers: Workers) -> Result<(), AllocError>
     ensures ok { OnOk result (out.new.items ≡ out.old.items ++ header_line mode workers) }
 {
     push_title(out)?;
     push_mode(out, mode)?;
     push_bytes(out, b" ")?;
-    push_decimal(out, u64::from(workers))?;
+    push_decimal(out, u64::from(workers.get()))?;
     push_bytes(out, b"\n")
 }
 
