@@ -1,0 +1,13 @@
+pub mod Quiet
+pub mod QuietTrace
+pub mod QuietStep
+pub mod Invariant
+pub mod Soundness
+pub mod SoundRun
+pub mod Legal
+pub mod Taken
+pub mod Skips
+pub mod Keys
+pub mod Expiring
+pub mod Longer
+pub mod Meeting

@@ -1,0 +1,13 @@
+pub mod Kept
+pub mod Sound
+pub mod Skipped
+pub mod Choices
+pub mod Expiry
+pub mod Lookup
+pub mod Longer
+pub mod Samples
+pub mod Firewall
+pub mod Policer
+pub mod Nat
+pub mod Bridge
+pub mod Tickets
