@@ -1,0 +1,5 @@
+pub mod Signs
+pub mod Bytes
+pub mod Numbers
+pub mod Words
+pub mod Tokens
