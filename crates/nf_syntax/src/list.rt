@@ -1,0 +1,90 @@
+//! Several of one kind with commas between them, up to a `)`.
+
+ghost use Rattle.std.specs.Prelude.{◌≡◌, map};
+ghost use Rattle.nf_syntax.specs.Machine.{GivenAt, values_at, some_given_at, labels_at};
+ghost use Rattle.nf_syntax.specs.Reads.{Reads};
+ghost use Rattle.nf_syntax.specs.View.{expression_of, given_of};
+
+use crate::fault::Stop;
+use crate::single::{one_given, one_label, value};
+use crate::tree::{Expr, Given, Label};
+use nf_base::seq::Seq;
+use nf_tokens::{Placed, Sign, Token};
+use std::alloc::Global;
+
+/// The values of a key.
+pub fn key(alloc: Global, tokens: &[Placed]) -> Result<(Seq<Expr>, &[Placed]), Stop>
+    ensures { Reads values_at (λ x. map expression_of x.0) (λ x. x.1.now) result tokens.now }
+{
+    let mut all = Seq::new(alloc);
+    let (first, mut rest) = value(tokens)?;
+    all.push(first)?;
+    'more: while let [next, after @ ..] = rest {
+        match &next.token {
+            Token::Sign(Sign::Comma) => {
+                let (another, behind) = value(after)?;
+                all.push(another)?;
+                rest = behind;
+            }
+            Token::Sign(Sign::CloseParenthesis) => return Ok((all, after)),
+            _ => return Err(Stop::Stuck(next.place)),
+        }
+    }
+    Err(Stop::Short)
+}
+
+/// What a `new` gives its labels, one at least.
+fn some_given(alloc: Global, tokens: &[Placed]) -> Result<(Seq<Given>, &[Placed]), Stop>
+    ensures { Reads some_given_at (λ x. map given_of x.0) (λ x. x.1.now) result tokens.now }
+{
+    let mut all = Seq::new(alloc);
+    let (first, mut rest) = one_given(alloc, tokens)?;
+    all.push(first)?;
+    'more: while let [next, after @ ..] = rest {
+        match &next.token {
+            Token::Sign(Sign::Comma) => {
+                let (another, behind) = one_given(alloc, after)?;
+                all.push(another)?;
+                rest = behind;
+            }
+            Token::Sign(Sign::CloseParenthesis) => return Ok((all, after)),
+            _ => return Err(Stop::Stuck(next.place)),
+        }
+    }
+    Err(Stop::Short)
+}
+
+/// What a `new` gives its labels, maybe nothing.
+pub fn given(alloc: Global, tokens: &[Placed]) -> Result<(Seq<Given>, &[Placed]), Stop>
+    ensures { Reads GivenAt (λ x. map given_of x.0) (λ x. x.1.now) result tokens.now }
+{
+    match tokens {
+        [] => Err(Stop::Short),
+        [first, rest @ ..] => match &first.token {
+            Token::Name(_) => some_given(alloc, tokens),
+            Token::Sign(Sign::CloseParenthesis) => Ok((Seq::new(alloc), rest)),
+            _ => Err(Stop::Stuck(first.place)),
+        },
+    }
+}
+
+/// The labels of a map.
+pub fn labels(alloc: Global, tokens: &[Placed]) -> Result<(Seq<Label>, &[Placed]), Stop>
+    ensures { Reads labels_at (λ x. x.0) (λ x. x.1.now) result tokens.now }
+{
+    let mut all = Seq::new(alloc);
+    let (first, mut rest) = one_label(alloc, tokens)?;
+    all.push(first)?;
+    'more: while let [next, after @ ..] = rest {
+        match &next.token {
+            Token::Sign(Sign::Comma) => {
+                let (another, behind) = one_label(alloc, after)?;
+                all.push(another)?;
+                rest = behind;
+            }
+            Token::Sign(Sign::CloseParenthesis) => return Ok((all, after)),
+            _ => return Err(Stop::Stuck(next.place)),
+        }
+    }
+    Err(Stop::Short)
+}
