@@ -1,0 +1,38 @@
+-- What the interpreter's own values stand for.
+use Rattle.std.specs.Prelude.{◌≡◌, Result, Ok, Err}
+use Rattle.nf_meaning.specs.declared.context.Context.{Context}
+use Rattle.nf_meaning.specs.declared.context.Input.{Input}
+use Rattle.nf_meaning.specs.declared.context.Flow.{Flow}
+use Rattle.nf_meaning.specs.declared.context.Flow.TheVariants.{Falls, Ends}
+use Rattle.nf_meaning.specs.declared.context.Making.{Making}
+use Rattle.nf_meaning.specs.declared.context.Making.TheVariants.{Made, Taken, Full}
+use Rattle.nf_meaning.specs.declared.fault.StepFault.{StepFault}
+use Rattle.nf_meaning.specs.declared.fault.StepFault.TheVariants.{BadChoice, Memory}
+use Rattle.nf_base.specs.Context as context
+use Rattle.nf_base.specs.Operations as step
+use Rattle.nf_base.specs.Handler as handler
+
+abbrev pub context_of : Context → context.Context
+context_of c = record { state = c.state; vars = c.vars; edits = c.edits; left = c.left.now }
+
+abbrev pub input_of : Input → context.Input
+input_of p = record { decls = p.decls.now; ports = p.ports; time = p.time; fields = p.fields }
+
+-- a flow of the code, with the context that it left
+abbrev pub flow_in : Flow → Context → handler.Flow
+flow_in Falls c = handler.Through (context_of c)
+flow_in (Ends a) c = handler.EndedBy a (context_of c)
+
+-- what the code answers is this flow, unless memory ran out
+abbrev pub Goes : Result Flow StepFault → Context → handler.Flow → Type 0
+Goes (Ok flow) new meant = meant ≡ flow_in flow new
+Goes (Err BadChoice) new meant = meant ≡ handler.NoFlow
+Goes (Err Memory) new meant = Unit {0}
+
+-- What `new` comes to. Where it makes no entry nothing changes.
+abbrev pub Makes : Result Making StepFault → Context → Context → step.Making → Type 0
+Makes (Ok (Made i)) old new meant = meant ≡ step.Made i (context_of new)
+Makes (Ok Taken) old new meant = (meant ≡ step.Taken) × (context_of new ≡ context_of old)
+Makes (Ok Full) old new meant = (meant ≡ step.Full) × (context_of new ≡ context_of old)
+Makes (Err BadChoice) old new meant = meant ≡ step.BadIndex
+Makes (Err Memory) old new meant = Unit {0}
