@@ -1,0 +1,10 @@
+pub mod Told
+pub mod Pieces
+pub mod Openings
+pub mod Reads
+pub mod Writes
+pub mod Causes
+pub mod Expected
+pub mod Opened
+pub mod Memory
+pub mod Untold

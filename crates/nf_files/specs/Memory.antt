@@ -1,0 +1,74 @@
+-- What files in memory tell.
+use Rattle.std.specs.Prelude.{◌≡◌, ℕ, ◌^◌, zero, suc, ◌-◌, ◌≤◌, ◌<◌, ◌⊎◌, Bool, true, false, List, [], ◌∷◌, length, Option, Some, None, IsSome, slice_get, if◌then◌else◌, nat_eq}
+use Rattle.std.specs.List.{list_any}
+use Rattle.std.specs.Str.{bytes_eq}
+use Rattle.nf_files.specs.declared.memory.opened.Kind.TheVariants.{Input, Output}
+use Rattle.nf_files.specs.declared.memory.opened.OpenFile.{OpenFile}
+use Rattle.nf_files.specs.declared.memory.named.Named.{Named}
+use Rattle.nf_files.specs.declared.memory.MemoryFiles.{MemoryFiles}
+use Rattle.nf_files.specs.Told.{Told}
+use Rattle.nf_files.specs.Causes.{Counted}
+use Rattle.nf_files.specs.Opened.{rest_of, given_of, name_of, kind_of, last_created}
+
+-- of standard output, of standard error, and of the opened files, whose numbers begin at 2
+abbrev pub numbered : {A : Type 0} → A → A → (ℕ → A) → ℕ → A
+numbered output errors opened zero = output
+numbered output errors opened (suc zero) = errors
+numbered output errors opened (suc (suc k)) = opened k
+
+-- the number of an opened file
+abbrev pub number_of : Option ℕ → Option ℕ
+number_of None = None
+number_of (Some k) = Some (suc (suc k))
+
+-- what was put under a name, at last
+abbrev pub put_under : List Named → List ℕ → Option (List ℕ)
+put_under [] n = None
+put_under (x ∷ xs) n = if bytes_eq x.name.items n then Some x.bytes.items else put_under xs n
+
+-- what was given to the file that was created last under a name, else what was put there
+abbrev pub content_of : List OpenFile → Option (List ℕ) → Option ℕ → Option (List ℕ)
+content_of files put None = put
+content_of files put (Some k) = given_of (slice_get files k)
+
+abbrev pub told_of : List Named → List ℕ → List ℕ → List OpenFile → Told
+told_of names output errors files = record {
+  content = λ n. content_of files (put_under names n) (last_created files n);
+  rest = numbered None None (λ k. rest_of (slice_get files k));
+  given = numbered (Some output) (Some errors) (λ k. given_of (slice_get files k));
+  name = numbered None None (λ k. name_of (slice_get files k));
+  latest = λ n. number_of (last_created files n);
+  next = suc (suc (length files));
+}
+
+abbrev pub memory_told : MemoryFiles → Told
+memory_told m = told_of m.names.items m.output.items m.errors.items m.files.items
+
+abbrev pub memory_counted : MemoryFiles → Counted
+memory_counted m = record { faults = m.count.faults; first = m.count.first }
+
+abbrev pub is_input : List OpenFile → ℕ → Type 0
+is_input files g = (2 ≤ g) × (kind_of (slice_get files (g - 2)) ≡ Some Input)
+
+abbrev pub is_output : List OpenFile → ℕ → Type 0
+is_output files g = (2 ≤ g) × (kind_of (slice_get files (g - 2)) ≡ Some Output)
+
+-- the next call stands in the list of those that fail
+abbrev pub is_listed : MemoryFiles → Bool
+is_listed m = list_any (λ call. nat_eq call m.calls) m.fails.items
+
+-- a file can still be opened: numbers have 32 bits
+abbrev pub HasNumber : MemoryFiles → Type 0
+HasNumber m = length m.files.items < 2 ^ 32 - 2
+
+abbrev pub will_fail : MemoryFiles → Type 0
+will_fail m = (is_listed m ≡ true) × HasNumber m
+
+abbrev pub will_pass : MemoryFiles → Type 0
+will_pass m = is_listed m ≡ false
+
+abbrev pub will_not_open : MemoryFiles → List ℕ → Type 0
+will_not_open m n = ((is_listed m ≡ true) ⊎ ((memory_told m).content n ≡ None)) × HasNumber m
+
+abbrev pub will_open : MemoryFiles → List ℕ → Type 0
+will_open m n = (is_listed m ≡ false) × IsSome ((memory_told m).content n)

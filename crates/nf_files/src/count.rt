@@ -1,0 +1,50 @@
+// A count of faults.
+ghost use Rattle.std.specs.Prelude.{◌≡◌, None};
+
+/// How many calls failed, and the file of the first.
+#[derive(Debug, Drop)]
+pub struct FaultCount {
+    faults: u64,
+    first: Option<u32>,
+    // No file is the first to fail exactly where no fault was counted.
+    ghost agrees: { (first ≡ None → faults ≡ 0) × (faults ≡ 0 → first ≡ None) },
+}
+
+impl FaultCount {
+    ghost use Rattle.nf_files.specs.Causes.{Counted, Faulted};
+
+    /// No fault.
+    pub fn new() -> Self
+        ensures none { result.faults ≡ 0 }
+        ensures no_first { result.first ≡ None }
+    {
+        FaultCount {
+            faults: 0,
+            first: None,
+        }
+    }
+
+    /// Counts one more fault, up to 2^64 - 1, on a file.
+    pub fn add(&mut self, file: u32)
+        ensures value { Faulted (record { faults = self.old.faults; first = self.old.first }) (record { faults = self.new.faults; first = self.new.first }) file }
+    {
+        self.faults = self.faults.saturating_add(1);
+        if self.first.is_none() {
+            self.first = Some(file);
+        }
+    }
+
+    /// The number of faults; from 2^64 - 1 on it stays.
+    pub fn faults(&self) -> u64
+        ensures value { result ≡ self.now.faults }
+    {
+        self.faults
+    }
+
+    /// The file of the first fault.
+    pub fn first(&self) -> Option<u32>
+        ensures value { result ≡ self.now.first }
+    {
+        self.first
+    }
+}

@@ -1,0 +1,91 @@
+// The trait of the files outside.
+ghost use Rattle.std.specs.Prelude.{◌≡◌, ◌<◌, ◌≤◌, ◌⊎◌, ℕ, List, IfOk, OnErr, length, take};
+ghost use Rattle.nf_files.specs.Told.{Told, Same};
+ghost use Rattle.nf_files.specs.Openings.{Opens, Creates};
+ghost use Rattle.nf_files.specs.Reads.{Reads};
+ghost use Rattle.nf_files.specs.Writes.{Writes};
+ghost use Rattle.nf_files.specs.Causes.{Counted, HasCause, IsCount};
+ghost use Rattle.nf_files.specs.Expected.{IsFailed, IsNotMemory};
+
+use crate::FilesFault;
+
+/// The files outside, with a count of faults that never falls.
+///
+/// Files have numbers. 0 is standard output and 1 is standard error: both are written and never
+/// opened. The others count from 2 in the order of opening. A call that answers `Failed` has raised
+/// the count, or it stands at 2^64 - 1. An `Err` changes nothing else.
+pub trait Files {
+    ghost told: { Self → Told };
+
+    ghost counted: { Self → Counted };
+
+    // The number is one that an opening gave.
+    ghost is_read: { Self → ℕ → Type 0 };
+
+    // The number is one that a creation gave.
+    ghost is_written: { Self → ℕ → Type 0 };
+
+    // The next call is known to fail, or is known not to: an opening of this name, or a call of
+    // another kind.
+    ghost will_open: { Self → List ℕ → Type 0 };
+
+    ghost will_not_open: { Self → List ℕ → Type 0 };
+
+    ghost will_pass: { Self → Type 0 };
+
+    ghost will_fail: { Self → Type 0 };
+
+    /// Opens a name to be read from its first byte, and gives the file's number.
+    fn open_in(&mut self, name: &str) -> Result<u32, FilesFault>
+        ensures ok { IfOk result (λ file. Opens (told self.old) (told self.new) name.now file) }
+        ensures readable { IfOk result (is_read self.new) }
+        ensures err { OnErr result (Same (told self.old) (told self.new)) }
+        ensures cause { HasCause (counted self.old) (counted self.new) (told self.old).next result }
+        ensures fails { will_not_open self.old name.now → IsFailed result }
+        ensures passes { will_open self.old name.now → IsFailed result → ⊥ }
+        ensures reads { (g : ℕ) → is_read self.old g → is_read self.new g }
+        ensures writes { (g : ℕ) → is_written self.old g → is_written self.new g };
+
+    /// Empties a name, or makes it, to be written, and gives the file's number.
+    fn create_out(&mut self, name: &str) -> Result<u32, FilesFault>
+        ensures ok { IfOk result (λ file. Creates (told self.old) (told self.new) name.now file) }
+        ensures writable { IfOk result (is_written self.new) }
+        ensures err { OnErr result (Same (told self.old) (told self.new)) }
+        ensures cause { HasCause (counted self.old) (counted self.new) (told self.old).next result }
+        ensures fails { will_fail self.old → IsFailed result }
+        ensures passes { will_pass self.old → IsFailed result → ⊥ }
+        ensures reads { (g : ℕ) → is_read self.old g → is_read self.new g }
+        ensures writes { (g : ℕ) → is_written self.old g → is_written self.new g };
+
+    /// Reads bytes of a file into the front of `out`, and gives their number.
+    ///
+    /// 0 for an `out` that isn't empty is the end of the file.
+    fn read(&mut self, file: u32, out: &mut [u8]) -> Result<usize, FilesFault>
+        requires opened { is_read self.old file }
+        ensures ok { IfOk result (λ count. Reads (told self.old) (told self.new) file count out.new) }
+        ensures err { OnErr result (Same (told self.old) (told self.new)) }
+        ensures no_memory { IsNotMemory result }
+        ensures cause { HasCause (counted self.old) (counted self.new) file result }
+        ensures fails { will_fail self.old → IsFailed result }
+        ensures passes { will_pass self.old → IsFailed result → ⊥ }
+        ensures reads { (g : ℕ) → is_read self.old g → is_read self.new g }
+        ensures writes { (g : ℕ) → is_written self.old g → is_written self.new g };
+
+    /// Writes bytes of the front of `piece` to a file, and gives their number.
+    ///
+    /// Where none of a piece that isn't empty is taken, that is a fault.
+    fn write(&mut self, file: u32, piece: &[u8]) -> Result<usize, FilesFault>
+        requires created { (file < 2) ⊎ is_written self.old file }
+        ensures within { IfOk result (λ count. count ≤ length piece.now) }
+        ensures some { IfOk result (λ count. 0 < length piece.now → 0 < count) }
+        ensures ok { IfOk result (λ count. Writes (told self.old) (told self.new) file (take count piece.now)) }
+        ensures err { OnErr result (Same (told self.old) (told self.new)) }
+        ensures cause { HasCause (counted self.old) (counted self.new) file result }
+        ensures fails { will_fail self.old → IsFailed result }
+        ensures passes { will_pass self.old → IsFailed result → ⊥ }
+        ensures reads { (g : ℕ) → is_read self.old g → is_read self.new g }
+        ensures writes { (g : ℕ) → is_written self.old g → is_written self.new g };
+
+    // No file is the first to fail exactly where no fault was counted.
+    ghost counts: { (files : Self) → IsCount (counted files) };
+}

@@ -1,0 +1,113 @@
+// The opened files of `MemoryFiles`.
+ghost use Rattle.std.specs.Prelude.{◌≡◌, ◌<◌, ◌≤◌, ◌++◌, [], take, drop, length, slice_get, IfOk, OnOk, OnErr, Some};
+ghost use Rattle.nf_files.specs.Opened.{kind_of, rest_of, given_of, is_named, last_created, Changes};
+ghost use Rattle.std.specs.Str.{bytes_eq};
+ghost use Rattle.nf_files.specs.Pieces.{Takes, Gains};
+ghost use Rattle.nf_files.specs.Told.{IsEmptyIfTold};
+
+use std::alloc::{AllocError, Global};
+
+/// What an opened file is good for.
+#[derive(Clone, Copy, Debug, PartialEq, Eq)]
+pub enum Kind {
+    /// It is read.
+    Input,
+    /// It is written.
+    Output,
+}
+
+/// A file that was opened.
+#[derive(Drop)]
+pub struct OpenFile {
+    // An output's name. An input's is empty.
+    pub name: Vec<u8>,
+    pub kind: Kind,
+    pub bytes: Vec<u8>,
+    // How many bytes of an input were read.
+    pub at: usize,
+}
+
+// A file that is read, with these bytes.
+pub fn input(alloc: Global, bytes: Vec<u8>) -> OpenFile
+    ensures value { (result.kind ≡ Kind.Input) × (result.bytes ≡ bytes) × (result.at ≡ 0) }
+{
+    OpenFile {
+        name: Vec::new(alloc),
+        kind: Kind::Input,
+        bytes,
+        at: 0,
+    }
+}
+
+// An empty file that is written, under a name.
+pub fn output(alloc: Global, name: &str) -> Result<OpenFile, AllocError>
+    ensures value { IfOk result (λ f. (f.kind ≡ Kind.Output) × (f.name.items ≡ name.now) × (f.bytes.items ≡ [])) }
+{
+    Ok(OpenFile {
+        name: Vec::from_slice(alloc, name.as_bytes())?,
+        kind: Kind::Output,
+        bytes: Vec::new(alloc),
+        at: 0,
+    })
+}
+
+// Takes bytes from what is left of a file, as many as there are room and bytes for.
+fn take_from(f: &mut OpenFile, out: &mut [u8]) -> usize
+    ensures within { result ≤ length out.new }
+    ensures taken { drop f.old.at f.old.bytes.items ≡ take result out.new ++ drop f.new.at f.new.bytes.items }
+    ensures at_end { result ≡ 0 → 0 < length out.new → drop f.old.at f.old.bytes.items ≡ [] }
+    ensures same { (f.new.name ≡ f.old.name) × (f.new.kind ≡ f.old.kind) × (f.new.bytes ≡ f.old.bytes) }
+{
+    let start = f.at.min(f.bytes.len());
+    let (_, rest) = f.bytes.as_slice().split_at(start);
+    let count = rest.len().min(out.len());
+    let (front, _) = rest.split_at(count);
+    for k in 0..count {
+        out[k] = front[k];
+    }
+    f.at = start + count;
+    count
+}
+
+// Reads the file at a place of the list.
+pub fn read_at(files: &mut Vec<OpenFile>, k: usize, out: &mut [u8]) -> usize
+    requires input { kind_of (slice_get files.old.items k) ≡ Some Kind.Input }
+    ensures changes { Changes files.old.items files.new.items k }
+    ensures within { result ≤ length out.new }
+    ensures taken { Takes (take result out.new) (rest_of (slice_get files.old.items k)) (rest_of (slice_get files.new.items k)) }
+    ensures at_end { result ≡ 0 → 0 < length out.new → IsEmptyIfTold (rest_of (slice_get files.old.items k)) }
+    ensures given { given_of (slice_get files.new.items k) ≡ given_of (slice_get files.old.items k) }
+{
+    take_from(&mut files[k], out)
+}
+
+// Writes a piece to the file at a place of the list.
+pub fn write_at(files: &mut Vec<OpenFile>, k: usize, piece: &[u8]) -> Result<(), AllocError>
+    requires output { kind_of (slice_get files.old.items k) ≡ Some Kind.Output }
+    ensures changes { Changes files.old.items files.new.items k }
+    ensures gained { OnOk result (Gains piece.now (given_of (slice_get files.old.items k)) (given_of (slice_get files.new.items k))) }
+    ensures unchanged { OnErr result (given_of (slice_get files.new.items k) ≡ given_of (slice_get files.old.items k)) }
+    ensures rest { rest_of (slice_get files.new.items k) ≡ rest_of (slice_get files.old.items k) }
+{
+    files[k].bytes.extend_from_slice(piece)
+}
+
+// Whether a file was created under a name.
+fn is_under(f: &OpenFile, name: &str) -> bool
+    ensures value { result ≡ is_named f.now.kind (bytes_eq f.now.name.items name.now) }
+{
+    f.kind == Kind::Output && f.name.as_slice() == name.as_bytes()
+}
+
+// The place of the file that was created last under a name.
+pub fn last_under(files: &[OpenFile], name: &str) -> Option<usize>
+    ensures value { result ≡ last_created files.now name.now }
+{
+    let mut found = None;
+    'files: for k in 0..files.len() {
+        if is_under(&files[k], name) {
+            found = Some(k);
+        }
+    }
+    found
+}
