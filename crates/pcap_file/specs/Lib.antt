@@ -1,0 +1,3 @@
+pub mod Record
+pub mod Capture
+pub mod Reading
