@@ -1,0 +1,9 @@
+//! The files that a run leaves, written in large pieces from what its packets came to.
+#![tactic(auto)]
+
+mod flush;
+mod handled;
+mod journal_file;
+
+pub use handled::Handled;
+pub use journal_file::write_journal;
