@@ -1,5 +1,6 @@
-//! The files outside: a trait that says what is told of them and when a call on them may fail,
-//! files in memory, the files of the system, and the reading and writing of whole files.
+//! The files outside: a trait that says what is told of them and when a call on them may fail, the
+//! files of the system, and the reading and writing of whole files. Of files in memory only the list
+//! of opened files stands.
 #![tactic(auto)]
 
 mod count;
