@@ -1,13 +1,12 @@
 -- A list of opened files of which one was changed.
 use Rattle.std.proofs.Common.{◌≡◌, ◌≢◌, ℕ, zero, suc, ◌<◌, List, [], ◌∷◌, ◌++◌, length, take, drop, get_or, set, Option, Some, slice_get, refl, ap, sym, ◌∙◌, arith, true, false}
 use Rattle.std.proofs.lemmas.List.{length-set}
-use Rattle.std.specs.Str.{bytes_eq}
 use Rattle.nf_files.specs.declared.memory.opened.OpenFile.{OpenFile}
 use Rattle.nf_files.specs.declared.memory.opened.Kind.{Kind}
 use Rattle.nf_files.specs.declared.memory.opened.Kind.TheVariants.{Input, Output}
 use Rattle.nf_files.specs.Pieces.{Gains, Takes}
 use Rattle.nf_files.specs.Told.{IsEmptyIfTold}
-use Rattle.nf_files.specs.Opened.{rest_of, given_of, name_of, kind_of, if_input, if_output, is_named, later, last_created, Changes}
+use Rattle.nf_files.specs.Opened.{rest_of, given_of, name_of, kind_of, if_input, if_output, stands_under, later, last_created, Changes}
 
 -- the changed one
 pub got_same : {A : Type 0} (xs : List A) (i : ℕ) (y : A) → i < length xs → slice_get (set xs i y) i ≡ Some y
@@ -43,22 +42,22 @@ within_kind [] i k h = cc
 within_kind (x ∷ xs) zero k h = omega arith
 within_kind (x ∷ xs) (suc i) k h = let below : i < length xs = within_kind xs i k h in omega arith
 
-pub lasts_same : (xs : List OpenFile) (i : ℕ) (x y : OpenFile) (n : List ℕ) → i < length xs → x ≡ get_or xs i x → y.kind ≡ x.kind → y.name ≡ x.name → last_created (set xs i y) n ≡ last_created xs n
-lasts_same [] i x y n lt at kind name = refl
-lasts_same (z ∷ zs) zero x y n lt at kind name =
-    ap (later (last_created zs n)) (rw (kind, name) refl ∙ ap (λ (w : OpenFile). is_named w.kind (bytes_eq w.name.items n)) at)
-lasts_same (z ∷ zs) (suc i) x y n lt at kind name =
-    ap (λ o. later o (is_named z.kind (bytes_eq z.name.items n))) (lasts_same zs i x y n (omega arith) at kind name)
+pub lasts_same : (xs : List OpenFile) (i : ℕ) (x y : OpenFile) (n : List ℕ) → i < length xs → x ≡ get_or xs i x → y.kind ≡ x.kind → y.name ≡ x.name → y.stands ≡ x.stands → last_created (set xs i y) n ≡ last_created xs n
+lasts_same [] i x y n lt at kind name stands = refl
+lasts_same (z ∷ zs) zero x y n lt at kind name stands =
+    ap (later (last_created zs n)) (rw (kind, name, stands) refl ∙ ap (λ (w : OpenFile). stands_under w n) at)
+lasts_same (z ∷ zs) (suc i) x y n lt at kind name stands =
+    ap (λ o. later o (stands_under z n)) (lasts_same zs i x y n (omega arith) at kind name stands)
 
 name_alike : (x y : OpenFile) → y.kind ≡ x.kind → y.name ≡ x.name → name_of (Some y) ≡ name_of (Some x)
 name_alike x y kind name = rw (kind, name) refl
 
-pub changes : (xs : List OpenFile) (i : ℕ) (x y : OpenFile) → i < length xs → x ≡ get_or xs i x → y.kind ≡ x.kind → y.name ≡ x.name → Changes xs (set xs i y) i
-changes xs i x y lt at kind name = record {
+pub changes : (xs : List OpenFile) (i : ℕ) (x y : OpenFile) → i < length xs → x ≡ get_or xs i x → y.kind ≡ x.kind → y.name ≡ x.name → y.stands ≡ x.stands → Changes xs (set xs i y) i
+changes xs i x y lt at kind name stands = record {
   others = λ j other. got_other xs i j y other;
   kinds = λ j. same_seen kind_of xs i j x y lt at (ap Some kind);
   names = λ j. same_seen name_of xs i j x y lt at (name_alike x y kind name);
-  lasts = λ n. lasts_same xs i x y n lt at kind name;
+  lasts = λ n. lasts_same xs i x y n lt at kind name stands;
   count = length-set xs i y;
 }
 
@@ -102,13 +101,13 @@ rest_same xs i x y lt at kind out =
     same_seen rest_of xs i i x y lt at (rw kind (no_rest x.kind (drop y.at y.bytes.items) (drop x.at x.bytes.items) of_x))
 
 -- the last of the files up to one that was created under the name
-pub last_here : (xs : List OpenFile) (k : ℕ) (x : OpenFile) (n : List ℕ) → k < length xs → x ≡ get_or xs k x → is_named x.kind (bytes_eq x.name.items n) ≡ true → last_created (take (suc k) xs) n ≡ Some k
+pub last_here : (xs : List OpenFile) (k : ℕ) (x : OpenFile) (n : List ℕ) → k < length xs → x ≡ get_or xs k x → stands_under x n ≡ true → last_created (take (suc k) xs) n ≡ Some k
 last_here [] k x n lt at named = absurd (omega arith)
 last_here (z ∷ zs) zero x n lt at named = rw (sym at, named) refl
 last_here (z ∷ zs) (suc k) x n lt at named = rw (last_here zs k x n (omega arith) at named) refl
 
 -- and up to one that wasn't
-pub last_before : (xs : List OpenFile) (k : ℕ) (x : OpenFile) (n : List ℕ) → k < length xs → x ≡ get_or xs k x → is_named x.kind (bytes_eq x.name.items n) ≡ false → last_created (take (suc k) xs) n ≡ last_created (take k xs) n
+pub last_before : (xs : List OpenFile) (k : ℕ) (x : OpenFile) (n : List ℕ) → k < length xs → x ≡ get_or xs k x → stands_under x n ≡ false → last_created (take (suc k) xs) n ≡ last_created (take k xs) n
 last_before [] k x n lt at named = absurd (omega arith)
 last_before (z ∷ zs) zero x n lt at named = rw (sym at, named) refl
-last_before (z ∷ zs) (suc k) x n lt at named = ap (λ o. later o (is_named z.kind (bytes_eq z.name.items n))) (last_before zs k x n (omega arith) at named)
+last_before (z ∷ zs) (suc k) x n lt at named = ap (λ o. later o (stands_under z n)) (last_before zs k x n (omega arith) at named)

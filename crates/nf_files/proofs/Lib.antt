@@ -1,2 +1,5 @@
 pub mod Given
 pub mod Changed
+pub mod Numbers
+pub mod Standing
+pub mod Told

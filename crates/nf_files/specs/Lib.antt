@@ -3,6 +3,7 @@ pub mod Pieces
 pub mod Openings
 pub mod Reads
 pub mod Writes
+pub mod Puts
 pub mod Causes
 pub mod Expected
 pub mod Opened

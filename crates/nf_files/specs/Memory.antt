@@ -5,6 +5,8 @@ use Rattle.std.specs.Str.{bytes_eq}
 use Rattle.nf_files.specs.declared.memory.opened.Kind.TheVariants.{Input, Output}
 use Rattle.nf_files.specs.declared.memory.opened.OpenFile.{OpenFile}
 use Rattle.nf_files.specs.declared.memory.named.Named.{Named}
+use Rattle.nf_files.specs.declared.memory.store.Store.{Store}
+use Rattle.nf_files.specs.declared.memory.calls.Calls.{Calls}
 use Rattle.nf_files.specs.declared.memory.MemoryFiles.{MemoryFiles}
 use Rattle.nf_files.specs.Told.{Told}
 use Rattle.nf_files.specs.Causes.{Counted}
@@ -41,11 +43,28 @@ told_of names output errors files = record {
   next = suc (suc (length files));
 }
 
+-- nothing stands under any name, nothing was written, and no file was opened
+abbrev pub nothing : Told
+nothing = record {
+  content = λ n. None;
+  rest = λ g. None;
+  given = numbered (Some []) (Some []) (λ k. None);
+  name = λ g. None;
+  latest = λ n. None;
+  next = 2;
+}
+
+abbrev pub store_told : Store → Told
+store_told s = told_of s.names.items s.output.items s.errors.items s.files.items
+
 abbrev pub memory_told : MemoryFiles → Told
-memory_told m = told_of m.names.items m.output.items m.errors.items m.files.items
+memory_told m = store_told m.store
+
+abbrev pub calls_counted : Calls → Counted
+calls_counted c = record { faults = c.count.faults; first = c.count.first }
 
 abbrev pub memory_counted : MemoryFiles → Counted
-memory_counted m = record { faults = m.count.faults; first = m.count.first }
+memory_counted m = calls_counted m.calls
 
 abbrev pub is_input : List OpenFile → ℕ → Type 0
 is_input files g = (2 ≤ g) × (kind_of (slice_get files (g - 2)) ≡ Some Input)
@@ -54,21 +73,21 @@ abbrev pub is_output : List OpenFile → ℕ → Type 0
 is_output files g = (2 ≤ g) × (kind_of (slice_get files (g - 2)) ≡ Some Output)
 
 -- the next call stands in the list of those that fail
-abbrev pub is_listed : MemoryFiles → Bool
-is_listed m = list_any (λ call. nat_eq call m.calls) m.fails.items
+abbrev pub is_listed : Calls → Bool
+is_listed c = list_any (λ call. nat_eq call c.made) c.fails.items
 
 -- a file can still be opened: numbers have 32 bits
 abbrev pub HasNumber : MemoryFiles → Type 0
-HasNumber m = length m.files.items < 2 ^ 32 - 2
+HasNumber m = length m.store.files.items < 2 ^ 32 - 2
 
 abbrev pub will_fail : MemoryFiles → Type 0
-will_fail m = (is_listed m ≡ true) × HasNumber m
+will_fail m = (is_listed m.calls ≡ true) × HasNumber m
 
 abbrev pub will_pass : MemoryFiles → Type 0
-will_pass m = is_listed m ≡ false
+will_pass m = is_listed m.calls ≡ false
 
 abbrev pub will_not_open : MemoryFiles → List ℕ → Type 0
-will_not_open m n = ((is_listed m ≡ true) ⊎ ((memory_told m).content n ≡ None)) × HasNumber m
+will_not_open m n = ((is_listed m.calls ≡ true) ⊎ ((memory_told m).content n ≡ None)) × HasNumber m
 
 abbrev pub will_open : MemoryFiles → List ℕ → Type 0
-will_open m n = (is_listed m ≡ false) × IsSome ((memory_told m).content n)
+will_open m n = (is_listed m.calls ≡ false) × IsSome ((memory_told m).content n)

@@ -1,5 +1,5 @@
 -- The opened files of `MemoryFiles`, as a list in the order of opening.
-use Rattle.std.specs.Prelude.{◌≡◌, ◌≢◌, ℕ, suc, Bool, true, false, List, [], ◌∷◌, length, drop, Option, Some, None, slice_get}
+use Rattle.std.specs.Prelude.{◌≡◌, ◌≢◌, ℕ, suc, Bool, true, false, ◌&&◌, not, List, [], ◌∷◌, length, drop, Option, Some, None, slice_get}
 use Rattle.std.specs.Str.{bytes_eq}
 use Rattle.nf_files.specs.declared.memory.opened.Kind.{Kind}
 use Rattle.nf_files.specs.declared.memory.opened.Kind.TheVariants.{Input, Output}
@@ -32,10 +32,14 @@ abbrev pub kind_of : Option OpenFile → Option Kind
 kind_of None = None
 kind_of (Some f) = Some f.kind
 
--- this file was created under the name
+-- only the name of a created file counts
 abbrev pub is_named : Kind → Bool → Bool
 is_named Input same = false
 is_named Output same = same
+
+-- this file was created under the name, and nothing was put there since
+abbrev pub stands_under : OpenFile → List ℕ → Bool
+stands_under f n = is_named f.kind (f.stands && bytes_eq f.name.items n)
 
 -- the place of the later one of two
 abbrev pub later : Option ℕ → Bool → Option ℕ
@@ -43,10 +47,20 @@ later (Some k) here = Some (suc k)
 later None true = Some 0
 later None false = None
 
--- the place of the file that was created last under a name
+-- the place of the file that was created last under a name, where nothing was put there since
 abbrev pub last_created : List OpenFile → List ℕ → Option ℕ
 last_created [] n = None
-last_created (f ∷ fs) n = later (last_created fs n) (is_named f.kind (bytes_eq f.name.items n))
+last_created (f ∷ fs) n = later (last_created fs n) (stands_under f n)
+
+-- the file after something else was put under a name
+abbrev pub displaced : List ℕ → OpenFile → OpenFile
+displaced n f = record {
+  name = f.name;
+  stands = f.stands && not (bytes_eq f.name.items n);
+  kind = f.kind;
+  bytes = f.bytes;
+  at = f.at;
+}
 
 -- in the list nothing changed but the bytes and the place of one file
 pub record Changes (old new : List OpenFile) (k : ℕ) : Type 0 where

@@ -7,11 +7,13 @@ mod count;
 mod fault;
 mod files;
 mod memory;
+mod number;
 mod real;
 mod whole;
 
 pub use count::FaultCount;
 pub use fault::FilesFault;
 pub use files::Files;
+pub use memory::MemoryFiles;
 pub use real::RealFiles;
 pub use whole::{read_whole, write_whole};

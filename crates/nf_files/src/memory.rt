@@ -1,23 +1,133 @@
 // Files in memory.
-ghost use Rattle.std.specs.Prelude.{◌≡◌};
+ghost use Rattle.std.specs.Prelude.{◌≡◌, ℕ, [], option_map, unwrap_or, OnOk, OnErr, None};
+ghost use Rattle.nf_files.specs.Memory.{memory_told, memory_counted, nothing, is_input, is_output, will_fail, will_pass, will_open, will_not_open};
+ghost use Rattle.nf_files.specs.Puts.{Puts};
+ghost use Rattle.nf_files.specs.Told.{Same};
 
+mod calls;
 mod named;
 mod opened;
+mod store;
 
-use crate::{FaultCount, Files, FilesFault};
-use named::Named;
-use opened::OpenFile;
+use crate::number::next_number;
+use crate::{Files, FilesFault};
+use calls::Calls;
 use std::alloc::{AllocError, Global};
+use store::Store;
 
-/// Files in memory, of which all is told. Each call that is listed fails.
+/// Files in memory, of which all is told.
+///
+/// The calls of `Files` are counted together, from 0, and each that is listed fails. Opening a name
+/// under which nothing stands fails too. Standard output and standard error are kept in memory.
 #[derive(Drop)]
 pub struct MemoryFiles {
     alloc: Global,
-    names: Vec<Named>,
-    output: Vec<u8>,
-    errors: Vec<u8>,
-    files: Vec<OpenFile>,
-    fails: Vec<u64>,
-    calls: u64,
-    count: FaultCount,
+    store: Store,
+    calls: Calls,
+}
+
+impl MemoryFiles {
+    /// Nothing stands under any name, and no call was made. `fails` lists the calls that fail.
+    pub fn new(alloc: Global, fails: Vec<u64>) -> Self
+        ensures nothing { Same nothing (memory_told result) }
+        ensures no_fault { memory_counted result ≡ record { faults = 0; first = None } }
+        ensures fails { result.calls.fails ≡ fails }
+        ensures no_call { result.calls.made ≡ 0 }
+    {
+        MemoryFiles {
+            alloc,
+            store: Store::new(alloc),
+            calls: Calls::new(fails),
+        }
+    }
+
+    /// Puts bytes under a name, in place of what stands there.
+    ///
+    /// A file that was created under the name before keeps what it was given, and doesn't stand
+    /// under the name any more. This is no call that is counted.
+    pub fn put(&mut self, name: &str, bytes: &[u8]) -> Result<(), AllocError>
+        ensures ok { OnOk result (Puts (memory_told self.old) (memory_told self.new) name.now bytes.now) }
+        ensures err { OnErr result (Same (memory_told self.old) (memory_told self.new)) }
+        ensures reads { (g : ℕ) → is_input self.old.store.files.items g → is_input self.new.store.files.items g }
+        ensures writes { (g : ℕ) → is_output self.old.store.files.items g → is_output self.new.store.files.items g }
+        ensures calls { self.new.calls ≡ self.old.calls }
+    {
+        self.store.put(self.alloc, name, bytes)
+    }
+
+    /// The bytes that were given to a file that is written, and none for another number.
+    pub fn given(&self, file: u32) -> &[u8]
+        ensures value { result.now ≡ unwrap_or ((memory_told self.now).given file) [] }
+    {
+        match self.store.given(file) {
+            Some(bytes) => bytes,
+            None => &[],
+        }
+    }
+
+    /// The bytes that stand under a name, `None` exactly where nothing does.
+    pub fn content(&self, name: &str) -> Option<&[u8]>
+        ensures value { option_map (λ bytes. bytes.now) result ≡ (memory_told self.now).content name.now }
+    {
+        self.store.content(name)
+    }
+}
+
+impl Files for MemoryFiles {
+    ghost told = { memory_told };
+
+    ghost counted = { memory_counted };
+
+    ghost is_read = { λ m. is_input m.store.files.items };
+
+    ghost is_written = { λ m. is_output m.store.files.items };
+
+    ghost will_open = { will_open };
+
+    ghost will_not_open = { will_not_open };
+
+    ghost will_pass = { will_pass };
+
+    ghost will_fail = { will_fail };
+
+    fn open_in(&mut self, name: &str) -> Result<u32, FilesFault> {
+        let number = next_number(self.store.files.len())?;
+        if self.calls.fails_now(number) {
+            return Err(FilesFault::Failed);
+        }
+        match self.store.open(self.alloc, name) {
+            Ok(()) => Ok(number),
+            Err(FilesFault::Memory(error)) => Err(FilesFault::Memory(error)),
+            Err(FilesFault::Failed) => {
+                self.calls.count.add(number);
+                Err(FilesFault::Failed)
+            }
+        }
+    }
+
+    fn create_out(&mut self, name: &str) -> Result<u32, FilesFault> {
+        let number = next_number(self.store.files.len())?;
+        if self.calls.fails_now(number) {
+            return Err(FilesFault::Failed);
+        }
+        self.store.create(self.alloc, name)?;
+        Ok(number)
+    }
+
+    fn read(&mut self, file: u32, out: &mut [u8]) -> Result<usize, FilesFault> {
+        if self.calls.fails_now(file) {
+            return Err(FilesFault::Failed);
+        }
+        Ok(self.store.read(file, out))
+    }
+
+    fn write(&mut self, file: u32, piece: &[u8]) -> Result<usize, FilesFault> {
+        if self.calls.fails_now(file) {
+            return Err(FilesFault::Failed);
+        }
+        self.store.write(file, piece)?;
+        Ok(piece.len())
+    }
+
+    ghost counts = { λ m. m.calls.count.agrees };
 }

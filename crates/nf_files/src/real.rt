@@ -2,6 +2,7 @@
 ghost use Rattle.std.specs.Prelude.{◌≡◌, ◌<◌, ◌≤◌, ◌+◌, ◌⊎◌, ℕ, IfOk, IfErr, length, None};
 ghost use Rattle.nf_files.specs.Untold.{untold, IsOpened};
 
+use crate::number::next_number;
 use crate::{FaultCount, Files, FilesFault};
 use std::alloc::{AllocError, Global};
 use std::io::{Read, Stderr, Stdout, Write};
@@ -17,18 +18,6 @@ pub struct RealFiles<'a, R: rt::Files> {
     errors: Stderr,
     opened: Vec<R::File>,
     count: FaultCount,
-}
-
-// The number of the next file, after so many. Numbers have 32 bits.
-fn next_number(opened: usize) -> Result<u32, FilesFault>
-    ensures ok { IfOk result (λ number. number ≡ opened + 2) }
-    ensures err { IfErr result (λ fault. fault ≡ FilesFault.Memory (record {})) }
-{
-    if opened < 0xffff_fffe {
-        Ok(opened as u32 + 2)
-    } else {
-        Err(FilesFault::Memory(AllocError))
-    }
 }
 
 impl<'a, R: rt::Files> RealFiles<'a, R> {

@@ -1,7 +1,6 @@
 // The opened files of `MemoryFiles`.
-ghost use Rattle.std.specs.Prelude.{◌≡◌, ◌<◌, ◌≤◌, ◌++◌, [], take, drop, length, slice_get, IfOk, OnOk, OnErr, Some};
-ghost use Rattle.nf_files.specs.Opened.{kind_of, rest_of, given_of, is_named, last_created, Changes};
-ghost use Rattle.std.specs.Str.{bytes_eq};
+ghost use Rattle.std.specs.Prelude.{◌≡◌, ◌<◌, ◌≤◌, ◌++◌, [], take, drop, length, slice_get, IfOk, OnOk, OnErr, Some, true, map, option_map};
+ghost use Rattle.nf_files.specs.Opened.{kind_of, rest_of, given_of, stands_under, last_created, displaced, Changes};
 ghost use Rattle.nf_files.specs.Pieces.{Takes, Gains};
 ghost use Rattle.nf_files.specs.Told.{IsEmptyIfTold};
 
@@ -21,6 +20,8 @@ pub enum Kind {
 pub struct OpenFile {
     // An output's name. An input's is empty.
     pub name: Vec<u8>,
+    // Whether nothing was put under an output's name since.
+    pub stands: bool,
     pub kind: Kind,
     pub bytes: Vec<u8>,
     // How many bytes of an input were read.
@@ -33,6 +34,7 @@ pub fn input(alloc: Global, bytes: Vec<u8>) -> OpenFile
 {
     OpenFile {
         name: Vec::new(alloc),
+        stands: false,
         kind: Kind::Input,
         bytes,
         at: 0,
@@ -41,10 +43,11 @@ pub fn input(alloc: Global, bytes: Vec<u8>) -> OpenFile
 
 // An empty file that is written, under a name.
 pub fn output(alloc: Global, name: &str) -> Result<OpenFile, AllocError>
-    ensures value { IfOk result (λ f. (f.kind ≡ Kind.Output) × (f.name.items ≡ name.now) × (f.bytes.items ≡ [])) }
+    ensures value { IfOk result (λ f. (f.kind ≡ Kind.Output) × (f.name.items ≡ name.now) × (f.stands ≡ true) × (f.bytes.items ≡ [])) }
 {
     Ok(OpenFile {
         name: Vec::from_slice(alloc, name.as_bytes())?,
+        stands: true,
         kind: Kind::Output,
         bytes: Vec::new(alloc),
         at: 0,
@@ -56,7 +59,7 @@ fn take_from(f: &mut OpenFile, out: &mut [u8]) -> usize
     ensures within { result ≤ length out.new }
     ensures taken { drop f.old.at f.old.bytes.items ≡ take result out.new ++ drop f.new.at f.new.bytes.items }
     ensures at_end { result ≡ 0 → 0 < length out.new → drop f.old.at f.old.bytes.items ≡ [] }
-    ensures same { (f.new.name ≡ f.old.name) × (f.new.kind ≡ f.old.kind) × (f.new.bytes ≡ f.old.bytes) }
+    ensures same { (f.new.name ≡ f.old.name) × (f.new.kind ≡ f.old.kind) × (f.new.bytes ≡ f.old.bytes) × (f.new.stands ≡ f.old.stands) }
 {
     let start = f.at.min(f.bytes.len());
     let (_, rest) = f.bytes.as_slice().split_at(start);
@@ -92,14 +95,25 @@ pub fn write_at(files: &mut Vec<OpenFile>, k: usize, piece: &[u8]) -> Result<(),
     files[k].bytes.extend_from_slice(piece)
 }
 
-// Whether a file was created under a name.
-fn is_under(f: &OpenFile, name: &str) -> bool
-    ensures value { result ≡ is_named f.now.kind (bytes_eq f.now.name.items name.now) }
+// What was given to the file at a place of the list.
+pub fn given_at<'a>(files: &'a [OpenFile], k: usize) -> Option<&'a [u8]>
+    ensures value { option_map (λ bytes. bytes.now) result ≡ given_of (slice_get files.now k) }
 {
-    f.kind == Kind::Output && f.name.as_slice() == name.as_bytes()
+    let f = files.get(k)?;
+    match f.kind {
+        Kind::Input => None,
+        Kind::Output => Some(f.bytes.as_slice()),
+    }
 }
 
-// The place of the file that was created last under a name.
+// Whether the bytes of a file stand under a name.
+fn is_under(f: &OpenFile, name: &str) -> bool
+    ensures value { result ≡ stands_under f.now name.now }
+{
+    f.kind == Kind::Output && f.stands && f.name.as_slice() == name.as_bytes()
+}
+
+// The place of the file whose bytes stand under a name.
 pub fn last_under(files: &[OpenFile], name: &str) -> Option<usize>
     ensures value { result ≡ last_created files.now name.now }
 {
@@ -110,4 +124,22 @@ pub fn last_under(files: &[OpenFile], name: &str) -> Option<usize>
         }
     }
     found
+}
+
+// Takes a file's bytes from under a name.
+fn displace(f: &mut OpenFile, name: &str)
+    ensures value { f.new ≡ displaced name.now f.old }
+{
+    if f.name.as_slice() == name.as_bytes() {
+        f.stands = false;
+    }
+}
+
+// Takes the bytes of every file from under a name.
+pub fn displace_all(files: &mut Vec<OpenFile>, name: &str)
+    ensures value { files.new.items ≡ map (displaced name.now) files.old.items }
+{
+    'files: for k in 0..files.len() {
+        displace(&mut files[k], name);
+    }
 }

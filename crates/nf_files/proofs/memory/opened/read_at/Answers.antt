@@ -5,7 +5,7 @@ use Rattle.nf_files.proofs.memory.opened.read_at.Goals as goal
 
 pub returns-clause-changes : goal.returns-clause-changes
 returns-clause-changes c =
-    changes _ c.args.k c.index_mut.result.now _ (within_kind _ _ Input c.requires.input) c.index_mut.ensures.value c.take_from.ensures.same.1 c.take_from.ensures.same.0
+    changes _ c.args.k c.index_mut.result.now _ (within_kind _ _ Input c.requires.input) c.index_mut.ensures.value c.take_from.ensures.same.1 c.take_from.ensures.same.0 c.take_from.ensures.same.3
 
 pub returns-clause-taken : goal.returns-clause-taken
 returns-clause-taken c =

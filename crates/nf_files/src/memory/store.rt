@@ -1,0 +1,134 @@
+// Names, what stands under them, and the files that were opened.
+ghost use Rattle.std.specs.Prelude.{◌≡◌, ◌<◌, ◌≤◌, ◌+◌, ◌⊎◌, ℕ, ◌↔◌, length, option_map, OnOk, OnErr, None};
+ghost use Rattle.nf_files.specs.Expected.{IsFailed};
+ghost use Rattle.nf_files.specs.Memory.{store_told, nothing, is_input, is_output};
+ghost use Rattle.nf_files.specs.Openings.{Opens, Creates};
+ghost use Rattle.nf_files.specs.Puts.{Puts};
+ghost use Rattle.nf_files.specs.Reads.{Reads};
+ghost use Rattle.nf_files.specs.Told.{Same};
+ghost use Rattle.nf_files.specs.Writes.{Writes};
+
+use super::named::{Named, put_bytes};
+use super::opened::{
+    OpenFile, displace_all, given_at, input, last_under, output, read_at, write_at,
+};
+use crate::FilesFault;
+use std::alloc::{AllocError, Global};
+
+/// Names, what stands under them, and the files that were opened.
+#[derive(Drop)]
+pub struct Store {
+    // Newest first.
+    pub names: Vec<Named>,
+    // What was given to standard output, and to standard error.
+    pub output: Vec<u8>,
+    pub errors: Vec<u8>,
+    pub files: Vec<OpenFile>,
+}
+
+impl Store {
+    pub fn new(alloc: Global) -> Self
+        ensures nothing { Same nothing (store_told result) }
+        ensures none { length result.files.items ≡ 0 }
+    {
+        Store {
+            names: Vec::new(alloc),
+            output: Vec::new(alloc),
+            errors: Vec::new(alloc),
+            files: Vec::new(alloc),
+        }
+    }
+
+    // The bytes that stand under a name.
+    pub fn content(&self, name: &str) -> Option<&[u8]>
+        ensures value { option_map (λ bytes. bytes.now) result ≡ (store_told self.now).content name.now }
+    {
+        match last_under(self.files.as_slice(), name) {
+            Some(k) => given_at(self.files.as_slice(), k),
+            None => put_bytes(self.names.as_slice(), name),
+        }
+    }
+
+    // The bytes that were given to a file that is written.
+    pub fn given(&self, file: u32) -> Option<&[u8]>
+        ensures value { option_map (λ bytes. bytes.now) result ≡ (store_told self.now).given file }
+    {
+        match file {
+            0 => Some(self.output.as_slice()),
+            1 => Some(self.errors.as_slice()),
+            _ => given_at(self.files.as_slice(), file as usize - 2),
+        }
+    }
+
+    // Puts bytes under a name.
+    pub fn put(&mut self, alloc: Global, name: &str, bytes: &[u8]) -> Result<(), AllocError>
+        ensures ok { OnOk result (Puts (store_told self.old) (store_told self.new) name.now bytes.now) }
+        ensures err { OnErr result (Same (store_told self.old) (store_told self.new)) }
+        ensures reads { (g : ℕ) → is_input self.old.files.items g → is_input self.new.files.items g }
+        ensures writes { (g : ℕ) → is_output self.old.files.items g → is_output self.new.files.items g }
+        ensures count { length self.new.files.items ≡ length self.old.files.items }
+    {
+        let named = Named {
+            name: Vec::from_slice(alloc, name.as_bytes())?,
+            bytes: Vec::from_slice(alloc, bytes)?,
+        };
+        self.names.insert(0, named)?;
+        displace_all(&mut self.files, name);
+        Ok(())
+    }
+
+    // Opens a name to be read. It is refused exactly where nothing stands there.
+    pub fn open(&mut self, alloc: Global, name: &str) -> Result<(), FilesFault>
+        ensures ok { OnOk result (Opens (store_told self.old) (store_told self.new) name.now (length self.old.files.items + 2)) }
+        ensures readable { OnOk result (is_input self.new.files.items (length self.old.files.items + 2)) }
+        ensures missing { IsFailed result ↔ ((store_told self.old).content name.now ≡ None) }
+        ensures err { OnErr result (Same (store_told self.old) (store_told self.new)) }
+        ensures reads { (g : ℕ) → is_input self.old.files.items g → is_input self.new.files.items g }
+        ensures writes { (g : ℕ) → is_output self.old.files.items g → is_output self.new.files.items g }
+    {
+        let Some(content) = self.content(name) else {
+            return Err(FilesFault::Failed);
+        };
+        let bytes = Vec::from_slice(alloc, content)?;
+        self.files.push(input(alloc, bytes))?;
+        Ok(())
+    }
+
+    // Creates a name, empty, to be written.
+    pub fn create(&mut self, alloc: Global, name: &str) -> Result<(), AllocError>
+        ensures ok { OnOk result (Creates (store_told self.old) (store_told self.new) name.now (length self.old.files.items + 2)) }
+        ensures writable { OnOk result (is_output self.new.files.items (length self.old.files.items + 2)) }
+        ensures err { OnErr result (Same (store_told self.old) (store_told self.new)) }
+        ensures reads { (g : ℕ) → is_input self.old.files.items g → is_input self.new.files.items g }
+        ensures writes { (g : ℕ) → is_output self.old.files.items g → is_output self.new.files.items g }
+    {
+        let file = output(alloc, name)?;
+        self.files.push(file)?;
+        Ok(())
+    }
+
+    // Reads what is left of a file, as much as fits.
+    pub fn read(&mut self, file: u32, out: &mut [u8]) -> usize
+        requires input { is_input self.old.files.items file }
+        ensures ok { Reads (store_told self.old) (store_told self.new) file result out.new }
+        ensures reads { (g : ℕ) → is_input self.old.files.items g → is_input self.new.files.items g }
+        ensures writes { (g : ℕ) → is_output self.old.files.items g → is_output self.new.files.items g }
+    {
+        read_at(&mut self.files, file as usize - 2, out)
+    }
+
+    // Gives a piece to a file.
+    pub fn write(&mut self, file: u32, piece: &[u8]) -> Result<(), AllocError>
+        requires output { (file < 2) ⊎ is_output self.old.files.items file }
+        ensures ok { OnOk result (Writes (store_told self.old) (store_told self.new) file piece.now) }
+        ensures err { OnErr result (Same (store_told self.old) (store_told self.new)) }
+        ensures reads { (g : ℕ) → is_input self.old.files.items g → is_input self.new.files.items g }
+        ensures writes { (g : ℕ) → is_output self.old.files.items g → is_output self.new.files.items g }
+    {
+        match file {
+            0 => self.output.extend_from_slice(piece),
+            1 => self.errors.extend_from_slice(piece),
+            _ => write_at(&mut self.files, file as usize - 2, piece),
+        }
+    }
+}
