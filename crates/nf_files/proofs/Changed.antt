@@ -2,8 +2,8 @@
 use Rattle.std.proofs.Common.{◌≡◌, ◌≢◌, ℕ, zero, suc, ◌<◌, List, [], ◌∷◌, ◌++◌, length, take, drop, get_or, set, Option, Some, slice_get, refl, ap, sym, ◌∙◌, arith, true, false}
 use Rattle.std.proofs.lemmas.List.{length-set}
 use Rattle.nf_files.specs.declared.memory.opened.OpenFile.{OpenFile}
-use Rattle.nf_files.specs.declared.memory.opened.Kind.{Kind}
-use Rattle.nf_files.specs.declared.memory.opened.Kind.TheVariants.{Input, Output}
+use Rattle.nf_files.specs.declared.kind.Kind.{Kind}
+use Rattle.nf_files.specs.declared.kind.Kind.TheVariants.{Input, Output}
 use Rattle.nf_files.specs.Pieces.{Gains, Takes}
 use Rattle.nf_files.specs.Told.{IsEmptyIfTold}
 use Rattle.nf_files.specs.Opened.{rest_of, given_of, name_of, kind_of, if_input, if_output, stands_under, later, last_created, Changes}

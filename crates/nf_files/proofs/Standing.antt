@@ -3,8 +3,8 @@ use Rattle.std.proofs.Common.{◌≡◌, ◌≢◌, ℕ, zero, suc, ◌<◌, Lis
 use Rattle.std.specs.Cmp.Lexicographic.{same_text}
 use Rattle.std.specs.Str.{bytes_eq}
 use Rattle.nf_files.specs.declared.memory.opened.OpenFile.{OpenFile}
-use Rattle.nf_files.specs.declared.memory.opened.Kind.{Kind}
-use Rattle.nf_files.specs.declared.memory.opened.Kind.TheVariants.{Input, Output}
+use Rattle.nf_files.specs.declared.kind.Kind.{Kind}
+use Rattle.nf_files.specs.declared.kind.Kind.TheVariants.{Input, Output}
 use Rattle.nf_files.specs.Opened.{name_of, kind_of, if_output, is_named, stands_under, later, last_created, displaced}
 
 below_step : (o : Option ℕ) (b : Bool) (len j : ℕ) → ((i : ℕ) → o ≡ Some i → i < len) → later o b ≡ Some j → j < suc len

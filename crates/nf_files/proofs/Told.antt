@@ -7,8 +7,8 @@ use Rattle.std.proofs.lemmas.Bool.Decides.{eqb_tells}
 use Rattle.std.specs.Str.{bytes_eq}
 use Rattle.nf_files.specs.declared.memory.named.Named.{Named}
 use Rattle.nf_files.specs.declared.memory.opened.OpenFile.{OpenFile}
-use Rattle.nf_files.specs.declared.memory.opened.Kind.{Kind}
-use Rattle.nf_files.specs.declared.memory.opened.Kind.TheVariants.{Input, Output}
+use Rattle.nf_files.specs.declared.kind.Kind.{Kind}
+use Rattle.nf_files.specs.declared.kind.Kind.TheVariants.{Input, Output}
 use Rattle.nf_files.specs.Memory.{numbered, number_of, put_under, content_of, told_of}
 use Rattle.nf_files.specs.Opened.{rest_of, given_of, name_of, kind_of, stands_under, last_created, displaced, Changes}
 use Rattle.nf_files.specs.Openings.{Opens, Creates}

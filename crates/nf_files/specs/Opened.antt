@@ -1,8 +1,8 @@
 -- The opened files of `MemoryFiles`, as a list in the order of opening.
 use Rattle.std.specs.Prelude.{◌≡◌, ◌≢◌, ℕ, suc, Bool, true, false, ◌&&◌, not, List, [], ◌∷◌, length, drop, Option, Some, None, slice_get}
 use Rattle.std.specs.Str.{bytes_eq}
-use Rattle.nf_files.specs.declared.memory.opened.Kind.{Kind}
-use Rattle.nf_files.specs.declared.memory.opened.Kind.TheVariants.{Input, Output}
+use Rattle.nf_files.specs.declared.kind.Kind.{Kind}
+use Rattle.nf_files.specs.declared.kind.Kind.TheVariants.{Input, Output}
 use Rattle.nf_files.specs.declared.memory.opened.OpenFile.{OpenFile}
 
 abbrev pub if_input : {A : Type 0} → Kind → A → Option A

@@ -1,5 +1,7 @@
 -- Files of which nothing is told but the number that the next opening gives.
-use Rattle.std.specs.Prelude.{ℕ, ◌+◌, ◌<◌, ◌≤◌, None}
+use Rattle.std.specs.Prelude.{◌≡◌, ℕ, ◌+◌, ◌-◌, ◌≤◌, List, Option, Some, None, option_map, slice_get}
+use Rattle.nf_files.specs.declared.kind.Kind.{Kind}
+use Rattle.nf_files.specs.declared.real.SystemFile.{SystemFile}
 use Rattle.nf_files.specs.Told.{Told}
 
 -- so many files were opened
@@ -13,6 +15,6 @@ untold opened = record {
   next = opened + 2;
 }
 
--- the number of one of so many opened files
-abbrev pub IsOpened : ℕ → ℕ → Type 0
-IsOpened opened file = (2 ≤ file) × (file < opened + 2)
+-- the number of an opened file that is good for this
+abbrev pub IsOf : {F : Type 0} → Kind → List (SystemFile F) → ℕ → Type 0
+IsOf kind files g = (2 ≤ g) × (option_map (λ f. f.kind) (slice_get files (g - 2)) ≡ Some kind)

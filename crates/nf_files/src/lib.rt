@@ -6,6 +6,7 @@
 mod count;
 mod fault;
 mod files;
+mod kind;
 mod memory;
 mod number;
 mod real;

@@ -17,8 +17,9 @@ use store::Store;
 
 /// Files in memory, of which all is told.
 ///
-/// The calls of `Files` are counted together, from 0, and each that is listed fails. Opening a name
-/// under which nothing stands fails too. Standard output and standard error are kept in memory.
+/// The calls of `Files` are counted together, from 0, and each that is listed fails; one that answers
+/// `Memory` is not counted. Opening a name under which nothing stands fails too. Standard output and
+/// standard error are kept in memory.
 #[derive(Drop)]
 pub struct MemoryFiles {
     alloc: Global,
@@ -44,7 +45,7 @@ impl MemoryFiles {
     /// Puts bytes under a name, in place of what stands there.
     ///
     /// A file that was created under the name before keeps what it was given, and doesn't stand
-    /// under the name any more. This is no call that is counted.
+    /// under the name any more. This is none of the calls that are counted.
     pub fn put(&mut self, name: &str, bytes: &[u8]) -> Result<(), AllocError>
         ensures ok { OnOk result (Puts (memory_told self.old) (memory_told self.new) name.now bytes.now) }
         ensures err { OnErr result (Same (memory_told self.old) (memory_told self.new)) }
@@ -92,40 +93,43 @@ impl Files for MemoryFiles {
 
     fn open_in(&mut self, name: &str) -> Result<u32, FilesFault> {
         let number = next_number(self.store.files.len())?;
-        if self.calls.fails_now(number) {
-            return Err(FilesFault::Failed);
+        if self.calls.fails_next() {
+            return Err(self.calls.fail(number));
         }
-        match self.store.open(self.alloc, name) {
-            Ok(()) => Ok(number),
-            Err(FilesFault::Memory(error)) => Err(FilesFault::Memory(error)),
-            Err(FilesFault::Failed) => {
-                self.calls.count.add(number);
-                Err(FilesFault::Failed)
-            }
-        }
+        let Some(content) = self.store.content(name) else {
+            return Err(self.calls.fail(number));
+        };
+        let bytes = Vec::from_slice(self.alloc, content)?;
+        self.store.open(self.alloc, bytes)?;
+        self.calls.pass();
+        Ok(number)
     }
 
     fn create_out(&mut self, name: &str) -> Result<u32, FilesFault> {
         let number = next_number(self.store.files.len())?;
-        if self.calls.fails_now(number) {
-            return Err(FilesFault::Failed);
+        if self.calls.fails_next() {
+            return Err(self.calls.fail(number));
         }
         self.store.create(self.alloc, name)?;
+        self.calls.pass();
         Ok(number)
     }
 
     fn read(&mut self, file: u32, out: &mut [u8]) -> Result<usize, FilesFault> {
-        if self.calls.fails_now(file) {
-            return Err(FilesFault::Failed);
+        if self.calls.fails_next() {
+            return Err(self.calls.fail(file));
         }
-        Ok(self.store.read(file, out))
+        let count = self.store.read(file, out);
+        self.calls.pass();
+        Ok(count)
     }
 
     fn write(&mut self, file: u32, piece: &[u8]) -> Result<usize, FilesFault> {
-        if self.calls.fails_now(file) {
-            return Err(FilesFault::Failed);
+        if self.calls.fails_next() {
+            return Err(self.calls.fail(file));
         }
         self.store.write(file, piece)?;
+        self.calls.pass();
         Ok(piece.len())
     }
 

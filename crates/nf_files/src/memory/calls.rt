@@ -1,9 +1,9 @@
 // Which calls on `MemoryFiles` fail.
-ghost use Rattle.std.specs.Prelude.{◌≡◌, ◌+◌, ◌-◌, ◌^◌, min, MatchBool, None};
+ghost use Rattle.std.specs.Prelude.{◌≡◌, ◌+◌, ◌-◌, ◌^◌, min, None};
 ghost use Rattle.nf_files.specs.Causes.{Faulted};
 ghost use Rattle.nf_files.specs.Memory.{is_listed, calls_counted};
 
-use crate::FaultCount;
+use crate::{FaultCount, FilesFault};
 
 /// The calls that are to fail, counted from 0, and the faults so far.
 #[derive(Drop)]
@@ -28,18 +28,31 @@ impl Calls {
         }
     }
 
-    // Makes one more call, on a file. It counts a fault where the call is one that fails.
-    pub fn fails_now(&mut self, file: u32) -> bool
-        ensures listed { result ≡ is_listed self.old }
-        ensures cause { MatchBool result (Faulted (calls_counted self.old) (calls_counted self.new) file) (calls_counted self.new ≡ calls_counted self.old) }
+    // Whether the next call is one that fails.
+    pub fn fails_next(&self) -> bool
+        ensures value { result ≡ is_listed self.now }
+    {
+        self.fails.contains(&self.made)
+    }
+
+    // The next call passed.
+    pub fn pass(&mut self)
+        ensures count { self.new.count ≡ self.old.count }
         ensures made { self.new.made ≡ min (self.old.made + 1) (2 ^ 64 - 1) }
         ensures fails { self.new.fails ≡ self.old.fails }
     {
-        let fails = self.fails.contains(&self.made);
         self.made = self.made.saturating_add(1);
-        if fails {
-            self.count.add(file);
-        }
-        fails
+    }
+
+    // The next call failed, on a file.
+    pub fn fail(&mut self, file: u32) -> FilesFault
+        ensures value { result ≡ FilesFault.Failed }
+        ensures cause { Faulted (calls_counted self.old) (calls_counted self.new) file }
+        ensures made { self.new.made ≡ min (self.old.made + 1) (2 ^ 64 - 1) }
+        ensures fails { self.new.fails ≡ self.old.fails }
+    {
+        self.made = self.made.saturating_add(1);
+        self.count.add(file);
+        FilesFault::Failed
     }
 }

@@ -4,16 +4,8 @@ ghost use Rattle.nf_files.specs.Opened.{kind_of, rest_of, given_of, stands_under
 ghost use Rattle.nf_files.specs.Pieces.{Takes, Gains};
 ghost use Rattle.nf_files.specs.Told.{IsEmptyIfTold};
 
+use crate::kind::Kind;
 use std::alloc::{AllocError, Global};
-
-/// What an opened file is good for.
-#[derive(Clone, Copy, Debug, PartialEq, Eq)]
-pub enum Kind {
-    /// It is read.
-    Input,
-    /// It is written.
-    Output,
-}
 
 /// A file that was opened.
 #[derive(Drop)]

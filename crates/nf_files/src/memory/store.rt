@@ -1,6 +1,5 @@
 // Names, what stands under them, and the files that were opened.
-ghost use Rattle.std.specs.Prelude.{◌≡◌, ◌<◌, ◌≤◌, ◌+◌, ◌⊎◌, ℕ, ◌↔◌, length, option_map, OnOk, OnErr, None};
-ghost use Rattle.nf_files.specs.Expected.{IsFailed};
+ghost use Rattle.std.specs.Prelude.{◌≡◌, ◌<◌, ◌≤◌, ◌+◌, ◌⊎◌, ℕ, List, length, option_map, OnOk, OnErr, Some};
 ghost use Rattle.nf_files.specs.Memory.{store_told, nothing, is_input, is_output};
 ghost use Rattle.nf_files.specs.Openings.{Opens, Creates};
 ghost use Rattle.nf_files.specs.Puts.{Puts};
@@ -12,7 +11,6 @@ use super::named::{Named, put_bytes};
 use super::opened::{
     OpenFile, displace_all, given_at, input, last_under, output, read_at, write_at,
 };
-use crate::FilesFault;
 use std::alloc::{AllocError, Global};
 
 /// Names, what stands under them, and the files that were opened.
@@ -77,19 +75,14 @@ impl Store {
         Ok(())
     }
 
-    // Opens a name to be read. It is refused exactly where nothing stands there.
-    pub fn open(&mut self, alloc: Global, name: &str) -> Result<(), FilesFault>
-        ensures ok { OnOk result (Opens (store_told self.old) (store_told self.new) name.now (length self.old.files.items + 2)) }
+    // Opens a name to be read, under which these bytes stand.
+    pub fn open(&mut self, alloc: Global, bytes: Vec<u8>) -> Result<(), AllocError>
+        ensures ok { OnOk result ((n : List ℕ) → (store_told self.old).content n ≡ Some bytes.items → Opens (store_told self.old) (store_told self.new) n (length self.old.files.items + 2)) }
         ensures readable { OnOk result (is_input self.new.files.items (length self.old.files.items + 2)) }
-        ensures missing { IsFailed result ↔ ((store_told self.old).content name.now ≡ None) }
         ensures err { OnErr result (Same (store_told self.old) (store_told self.new)) }
         ensures reads { (g : ℕ) → is_input self.old.files.items g → is_input self.new.files.items g }
         ensures writes { (g : ℕ) → is_output self.old.files.items g → is_output self.new.files.items g }
     {
-        let Some(content) = self.content(name) else {
-            return Err(FilesFault::Failed);
-        };
-        let bytes = Vec::from_slice(alloc, content)?;
         self.files.push(input(alloc, bytes))?;
         Ok(())
     }

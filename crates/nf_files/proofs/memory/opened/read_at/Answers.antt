@@ -1,5 +1,5 @@
 use Rattle.std.proofs.Common.{ap}
-use Rattle.nf_files.specs.declared.memory.opened.Kind.TheVariants.{Input}
+use Rattle.nf_files.specs.declared.kind.Kind.TheVariants.{Input}
 use Rattle.nf_files.proofs.Changed.{changes, takes_here, empty_here, given_same, within_kind}
 use Rattle.nf_files.proofs.memory.opened.read_at.Goals as goal
 

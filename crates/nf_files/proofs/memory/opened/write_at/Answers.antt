@@ -1,5 +1,5 @@
 use Rattle.std.proofs.Common.{refl}
-use Rattle.nf_files.specs.declared.memory.opened.Kind.TheVariants.{Output}
+use Rattle.nf_files.specs.declared.kind.Kind.TheVariants.{Output}
 use Rattle.nf_files.proofs.Changed.{changes, within_kind}
 use Rattle.nf_files.proofs.memory.opened.write_at.Goals as goal
 

@@ -1,5 +1,5 @@
 use Rattle.std.proofs.Common.{◌-◌, refl, arith}
-use Rattle.nf_files.specs.declared.memory.opened.Kind.TheVariants.{Input, Output}
+use Rattle.nf_files.specs.declared.kind.Kind.TheVariants.{Input, Output}
 use Rattle.nf_files.proofs.Standing.{kind_grows}
 use Rattle.nf_files.proofs.Told.{creates, kind_at_end}
 use Rattle.nf_files.proofs.memory.store.Store.create.Goals as goal

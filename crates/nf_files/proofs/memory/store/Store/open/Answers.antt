@@ -1,13 +1,13 @@
-use Rattle.std.proofs.Common.{◌-◌, refl, arith}
-use Rattle.nf_files.specs.declared.memory.opened.Kind.TheVariants.{Input, Output}
+use Rattle.std.proofs.Common.{◌-◌, ◌∙◌, refl, sym, ap, Some, drop, arith}
+use Rattle.nf_files.specs.declared.kind.Kind.TheVariants.{Input, Output}
 use Rattle.nf_files.proofs.Standing.{kind_grows}
 use Rattle.nf_files.proofs.Told.{opens, kind_at_end}
 use Rattle.nf_files.proofs.memory.store.Store.open.Goals as goal
 
 pub returns-clause-ok : goal.returns-clause-ok
-returns-clause-ok c =
+returns-clause-ok c n stands =
     let made = c.input.ensures.value in
-    rw c.in_ok-push.ensures.items (opens _ _ _ c.args.self.now.files.items c.input.result c.args.name.now _ refl made.0 (rw (made.2, made.1, c.in_ok-bytes.ensures.items) c.in-Some.ensures.value))
+    rw c.in_ok-push.ensures.items (opens _ _ _ c.args.self.now.files.items c.input.result n _ refl made.0 (rw (made.2, made.1) (sym stands)))
 
 pub returns-clause-readable : goal.returns-clause-readable
 returns-clause-readable c =
