@@ -1,6 +1,8 @@
 // A count of faults.
 ghost use Rattle.std.specs.Prelude.{◌≡◌, None};
 
+use crate::FilesFault;
+
 /// How many calls failed, and the file of the first.
 #[derive(Debug, Drop)]
 pub struct FaultCount {
@@ -24,14 +26,16 @@ impl FaultCount {
         }
     }
 
-    /// Counts one more fault, up to 2^64 - 1, on a file.
-    pub fn add(&mut self, file: u32)
-        ensures value { Faulted (record { faults = self.old.faults; first = self.old.first }) (record { faults = self.new.faults; first = self.new.first }) file }
+    /// Counts one more fault, up to 2^64 - 1, on a file, and gives what its call answers.
+    pub fn fail(&mut self, file: u32) -> FilesFault
+        ensures value { result ≡ FilesFault.Failed }
+        ensures counted { Faulted (record { faults = self.old.faults; first = self.old.first }) (record { faults = self.new.faults; first = self.new.first }) file }
     {
         self.faults = self.faults.saturating_add(1);
         if self.first.is_none() {
             self.first = Some(file);
         }
+        FilesFault::Failed
     }
 
     /// The number of faults; from 2^64 - 1 on it stays.

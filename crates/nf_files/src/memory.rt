@@ -8,6 +8,8 @@ mod calls;
 mod named;
 mod opened;
 mod store;
+#[cfg(test)]
+mod tests;
 
 use crate::number::next_number;
 use crate::{Files, FilesFault};

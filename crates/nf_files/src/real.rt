@@ -3,6 +3,9 @@ ghost use Rattle.std.specs.Prelude.{◌≡◌, ◌<◌, ◌≤◌, ◌+◌, ◌�
 ghost use Rattle.nf_files.specs.Untold.{untold, IsOf};
 ghost use Rattle.nf_files.specs.declared.kind.Kind.TheVariants.{Input, Output};
 
+#[cfg(test)]
+mod tests;
+
 use crate::kind::Kind;
 use crate::number::next_number;
 use crate::{FaultCount, Files, FilesFault};
@@ -98,10 +101,7 @@ impl<'a, R: rt::Files> Files for RealFiles<'a, R> {
                 });
                 Ok(number)
             }
-            Err(_) => {
-                self.count.add(number);
-                Err(FilesFault::Failed)
-            }
+            Err(_) => Err(self.count.fail(number)),
         }
     }
 
@@ -116,30 +116,21 @@ impl<'a, R: rt::Files> Files for RealFiles<'a, R> {
                 });
                 Ok(number)
             }
-            Err(_) => {
-                self.count.add(number);
-                Err(FilesFault::Failed)
-            }
+            Err(_) => Err(self.count.fail(number)),
         }
     }
 
     fn read(&mut self, file: u32, out: &mut [u8]) -> Result<usize, FilesFault> {
         match self.opened[file as usize - 2].file.read(out) {
             Ok(count) => Ok(count),
-            Err(_) => {
-                self.count.add(file);
-                Err(FilesFault::Failed)
-            }
+            Err(_) => Err(self.count.fail(file)),
         }
     }
 
     fn write(&mut self, file: u32, piece: &[u8]) -> Result<usize, FilesFault> {
         match self.write_once(file, piece) {
             Ok(count) if count > 0 || piece.is_empty() => Ok(count),
-            _ => {
-                self.count.add(file);
-                Err(FilesFault::Failed)
-            }
+            _ => Err(self.count.fail(file)),
         }
     }
 

@@ -52,7 +52,6 @@ impl Calls {
         ensures fails { self.new.fails ≡ self.old.fails }
     {
         self.made = self.made.saturating_add(1);
-        self.count.add(file);
-        FilesFault::Failed
+        self.count.fail(file)
     }
 }
