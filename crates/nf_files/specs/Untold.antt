@@ -1,5 +1,5 @@
 -- Files of which nothing is told but the number that the next opening gives.
-use Rattle.std.specs.Prelude.{◌≡◌, ℕ, ◌+◌, ◌-◌, ◌≤◌, List, Option, Some, None, option_map, slice_get}
+use Rattle.std.specs.Prelude.{◌≡◌, ℕ, ◌+◌, ◌-◌, ◌≤◌, List, Some, None, option_map, slice_get}
 use Rattle.nf_files.specs.declared.kind.Kind.{Kind}
 use Rattle.nf_files.specs.declared.real.SystemFile.{SystemFile}
 use Rattle.nf_files.specs.Told.{Told}

@@ -1,4 +1,4 @@
-use Rattle.std.proofs.Common.{◌-◌, ◌∙◌, refl, sym, ap, Some, drop, arith}
+use Rattle.std.proofs.Common.{◌-◌, refl, sym, arith}
 use Rattle.nf_files.specs.declared.kind.Kind.TheVariants.{Input, Output}
 use Rattle.nf_files.proofs.Standing.{kind_grows}
 use Rattle.nf_files.proofs.Told.{opens, kind_at_end}
