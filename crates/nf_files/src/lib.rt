@@ -1,6 +1,5 @@
 //! The files outside: a trait that says what is told of them and when a call on them may fail, the
-//! files of the system, and the reading and writing of whole files. Of files in memory only the list
-//! of opened files stands.
+//! files of the system, files in memory, and the reading and writing of whole files.
 #![tactic(auto)]
 
 mod count;
