@@ -1,11 +1,12 @@
 -- What the interpreter's own values stand for.
-use Rattle.std.specs.Prelude.{◌≡◌, Result, Ok, Err}
+use Rattle.std.specs.Prelude.{◌≡◌, ℕ, List, Option, Some, None, Result, Ok, Err}
 use Rattle.nf_meaning.specs.declared.context.Context.{Context}
 use Rattle.nf_meaning.specs.declared.context.Input.{Input}
 use Rattle.nf_meaning.specs.declared.context.Flow.{Flow}
 use Rattle.nf_meaning.specs.declared.context.Flow.TheVariants.{Falls, Ends}
 use Rattle.nf_meaning.specs.declared.context.Making.{Making}
 use Rattle.nf_meaning.specs.declared.context.Making.TheVariants.{Made, Taken, Full}
+use Rattle.std.specs.declared.alloc.AllocError.{AllocError}
 use Rattle.nf_meaning.specs.declared.fault.StepFault.{StepFault}
 use Rattle.nf_meaning.specs.declared.fault.StepFault.TheVariants.{BadChoice, Memory}
 use Rattle.nf_base.specs.Context as context
@@ -13,7 +14,7 @@ use Rattle.nf_base.specs.Operations as step
 use Rattle.nf_base.specs.Handler as handler
 
 abbrev pub context_of : Context → context.Context
-context_of c = record { state = c.state; vars = c.vars; edits = c.edits; left = c.left.now }
+context_of c = record { state = c.state; vars = c.vars; edits = c.edits; left = c.choices }
 
 abbrev pub input_of : Input → context.Input
 input_of p = record { decls = p.decls.now; ports = p.ports; time = p.time; fields = p.fields }
@@ -36,3 +37,9 @@ Makes (Ok Taken) old new meant = (meant ≡ step.Taken) × (context_of new ≡ c
 Makes (Ok Full) old new meant = (meant ≡ step.Full) × (context_of new ≡ context_of old)
 Makes (Err BadChoice) old new meant = meant ≡ step.BadIndex
 Makes (Err Memory) old new meant = Unit {0}
+
+-- the index that `new` tries, with the choices after it
+abbrev pub Chooses : Result (Option ℕ) AllocError → List ℕ → Option (ℕ × List ℕ) → Type 0
+Chooses (Ok None) choices meant = meant ≡ None
+Chooses (Ok (Some i)) choices meant = meant ≡ Some (i, choices)
+Chooses (Err e) choices meant = Unit {0}

@@ -1,6 +1,6 @@
 // The statements of a handler.
-ghost use Rattle.nf_base.specs.Handler.{trace, flow_of};
 ghost use Rattle.nf_base.specs.View.{block_of};
+ghost use Rattle.nf_meaning.specs.Going.{going};
 ghost use Rattle.nf_meaning.specs.Seen.{context_of, input_of, Goes};
 
 use crate::context::{
@@ -18,9 +18,8 @@ use std::alloc::Global;
 ///
 /// It goes along the statements in a loop, and calls itself for nested blocks alone. `BadChoice` comes
 /// exactly where the block has no flow: a choice is not free, or there is none left.
-#[tactic(auto, using(crate::proofs::Forgets::flow_after, crate::proofs::Forgets::flow_and_then))]
 pub fn exec(alloc: Global, context: &mut Context, p: &Input, code: &Code) -> Result<Flow, StepFault>
-    ensures { Goes result context.new (flow_of (trace (input_of p.now) (block_of code.now) (context_of context.old))) }
+    ensures { Goes result context.new (going p.now.choosing (input_of p.now) (block_of code.now) (context_of context.old)) }
 {
     let mut rest = code;
     loop {

@@ -1,12 +1,16 @@
 // The interpreter over whole packets.
 ghost use Rattle.std.specs.Prelude.{◌≡◌, ℕ, ◌+◌, ◌≤◌, ◌<◌, ◌^◌, [], ◌∷◌, ◌++◌, length, take, drop, IfOk, OnOk, OnErr, map, Some, None, IsSome, replicate, All};
 ghost use Rattle.nf_base.specs.Chains.{unexpired, kept};
-ghost use Rattle.nf_base.specs.Step.{expired, step, opening, opening_chain, opening_cells, handled, skipped, if_none_left, no_edits};
+ghost use Rattle.nf_base.specs.Step.{expired, step, opening, opening_chain, opening_cells, handled, skipped, if_none_left, no_edits, begun};
+ghost use Rattle.nf_base.specs.declared.done.Action.TheVariants.{Skip};
 ghost use Rattle.nf_base.specs.Functions.{function_of};
-ghost use Rattle.nf_meaning.specs.Whole.{Answers, Handles};
-ghost use Rattle.nf_meaning.specs.Seen.{context_of};
+ghost use Rattle.nf_meaning.specs.Whole.{Answers, Handles, action_of};
+ghost use Rattle.nf_meaning.specs.Seen.{context_of, input_of, Goes};
+ghost use Rattle.nf_meaning.specs.declared.context.Choosing.TheVariants.{Given};
+ghost use Rattle.nf_base.specs.Handler.{trace, flow_of};
+ghost use Rattle.nf_base.specs.View.{block_of};
 
-use crate::context::{Context, Flow, Input};
+use crate::context::{Choosing, Context, Flow, Input};
 use crate::fault::StepFault;
 use crate::statements::exec;
 use nf_base::code::Code;
@@ -172,6 +176,7 @@ impl Undivided {
     ///
     /// `BadChoice` comes exactly where the packet has no step with them, `Memory` where the allocator
     /// gave none. After an `Err` nothing is changed.
+    #[tactic(auto, using(crate::proofs::Lengths::handled_length))]
     pub fn packet(
         &mut self,
         alloc: Global,
@@ -180,13 +185,14 @@ impl Undivided {
         picks: &Picks,
     ) -> Result<Done, StepFault>
         requires of_func { length func.now.chains ≡ length self.old.state.chains }
+        ensures same_chains { length self.new.state.chains ≡ length self.old.state.chains }
         ensures step { Answers result self.new.state (step (function_of func.now) self.old.state packet.now picks.now) }
         ensures err { OnErr result (self.new ≡ self.old) }
     {
         match packet.fields {
-            None => skip(&self.state, picks),
+            None => skip_with(&self.state, picks),
             Some(fields) => {
-                let (state, done) = handle(
+                let (state, done) = handle_with(
                     alloc,
                     func,
                     &self.state,
@@ -200,10 +206,115 @@ impl Undivided {
             }
         }
     }
+
+    /// Handles one packet, with the least free index of its chain for each entry that it makes.
+    ///
+    /// The choices stand in the answer. After an `Err` nothing is changed.
+    #[tactic(auto, using(crate::proofs::Lengths::handled_length))]
+    pub fn handle(
+        &mut self,
+        alloc: Global,
+        func: &Func,
+        packet: &Packet,
+    ) -> Result<Done, AllocError>
+        requires of_func { length func.now.chains ≡ length self.old.state.chains }
+        requires port { packet.now.id.port < length func.now.handlers }
+        ensures same_chains { length self.new.state.chains ≡ length self.old.state.chains }
+        ensures step { IfOk result (λ done. step (function_of func.now) self.old.state packet.now done.picks ≡ Some (record { state = self.new.state; done = done })) }
+        ensures err { OnErr result (self.new ≡ self.old) }
+    {
+        match packet.fields {
+            None => Ok(skipped()),
+            Some(fields) => {
+                let (state, done) = handle_at_least(
+                    alloc,
+                    func,
+                    &self.state,
+                    packet.id,
+                    packet.time,
+                    fields,
+                )?;
+                self.state = state;
+                Ok(done)
+            }
+        }
+    }
+
+    /// Choices with which the packet has a step: the least free index of its chain for each entry.
+    pub fn pick(&self, alloc: Global, func: &Func, packet: &Packet) -> Result<Picks, AllocError>
+        requires of_func { length func.now.chains ≡ length self.now.state.chains }
+        requires port { packet.now.id.port < length func.now.handlers }
+        ensures legal { IfOk result (λ picks. IsSome (step (function_of func.now) self.now.state packet.now picks)) }
+    {
+        match packet.fields {
+            None => Ok(Picks::new()),
+            Some(fields) => {
+                let (_, done) = handle_at_least(
+                    alloc,
+                    func,
+                    &self.state,
+                    packet.id,
+                    packet.time,
+                    fields,
+                )?;
+                Ok(done.picks)
+            }
+        }
+    }
 }
 
-// The step of a packet that is handled.
-fn handle(
+// What a handler begins with, in a copy of the state.
+fn begin(
+    alloc: Global,
+    func: &Func,
+    state: &State,
+    time: u64,
+    choices: Seq<u32>,
+) -> Result<Context, AllocError>
+    requires of_func { length func.now.chains ≡ length state.now.chains }
+    ensures { IfOk result (λ c. context_of c ≡ begun (function_of func.now) state.now time choices) }
+{
+    let chains = copy_expired(alloc, time, func.chains.as_slice(), state.chains.as_slice())?;
+    let arrays = copy_arrays(alloc, state.arrays.as_slice())?;
+    Ok(Context {
+        state: State { chains, arrays },
+        vars: Seq::new(alloc),
+        edits: no_edits(),
+        choices,
+    })
+}
+
+fn copy_choices(alloc: Global, picks: &Picks) -> Result<Seq<u32>, AllocError>
+    ensures { IfOk result (λ v. v ≡ picks.now) }
+{
+    Ok(Seq::from_vec(Vec::from_slice(alloc, picks.as_slice())?))
+}
+
+// A handler that falls off its end drops its packet.
+fn action_of(flow: Flow) -> Action
+    ensures { result ≡ action_of flow }
+{
+    match flow {
+        Flow::Falls => Action::Drop,
+        Flow::Ends(action) => action,
+    }
+}
+
+// With given choices a block goes as its trace does.
+fn exec_given(
+    alloc: Global,
+    context: &mut Context,
+    p: &Input,
+    code: &Code,
+) -> Result<Flow, StepFault>
+    requires { p.now.choosing ≡ Given }
+    ensures { Goes result context.new (flow_of (trace (input_of p.now) (block_of code.now) (context_of context.old))) }
+{
+    exec(alloc, context, p, code)
+}
+
+// The step of a packet that is handled, with these choices.
+fn handle_with(
     alloc: Global,
     func: &Func,
     state: &State,
@@ -223,32 +334,27 @@ fn handle(
         ports: func.handlers.len(),
         time,
         fields,
+        choosing: Choosing::Given,
     };
-    let chains = copy_expired(alloc, time, func.chains.as_slice(), state.chains.as_slice())?;
-    let arrays = copy_arrays(alloc, state.arrays.as_slice())?;
-    let mut context = Context {
-        state: State { chains, arrays },
-        vars: Seq::new(alloc),
-        edits: no_edits(),
-        left: picks.as_slice(),
-    };
-    match exec(alloc, &mut context, &p, &handler.code)? {
+    let choices = copy_choices(alloc, picks)?;
+    let mut context = begin(alloc, func, state, time, choices)?;
+    match exec_given(alloc, &mut context, &p, &handler.code)? {
         Flow::Falls => settle(context, Action::Drop, picks),
-        Flow::Ends(a) => settle(context, a, picks),
+        Flow::Ends(action) => settle(context, action, picks),
     }
 }
 
 // The answer where no choice is left.
 fn settle(context: Context, action: Action, picks: &Picks) -> Result<(State, Done), StepFault>
-    ensures { Handles result (if_none_left picks.now (context_of context.entry) action) }
+    ensures { Handles result (if_none_left picks.now (context_of context) action) }
 {
     let Context {
         state,
         vars: _,
         edits,
-        left,
+        choices,
     } = context;
-    if left.len() > 0 {
+    if choices.len() > 0 {
         return Err(StepFault::BadChoice);
     }
     Ok((
@@ -261,15 +367,76 @@ fn settle(context: Context, action: Action, picks: &Picks) -> Result<(State, Don
     ))
 }
 
-fn skip(state: &State, picks: &Picks) -> Result<Done, StepFault>
+// The step of a packet that is handled, at the least free indices.
+fn handle_at_least(
+    alloc: Global,
+    func: &Func,
+    state: &State,
+    id: PacketId,
+    time: u64,
+    fields: Fields,
+) -> Result<(State, Done), AllocError>
+    requires of_func { length func.now.chains ≡ length state.now.chains }
+    requires port { id.port < length func.now.handlers }
+    ensures { IfOk result (λ found. handled (function_of func.now) state.now id time fields found.1.picks ≡ Some (record { state = found.0; done = found.1 })) }
+{
+    let handler = func.handlers.item(id.port);
+    let p = Input {
+        decls: func.chains.as_slice(),
+        ports: func.handlers.len(),
+        time,
+        fields,
+        choosing: Choosing::LeastFree,
+    };
+    let mut context = begin(alloc, func, state, time, Seq::new(alloc))?;
+    let flow = match exec(alloc, &mut context, &p, &handler.code) {
+        Ok(flow) => flow,
+        Err(StepFault::BadChoice) => unreachable!(),
+        Err(StepFault::Memory) => return Err(AllocError),
+    };
+    let Context {
+        state,
+        vars: _,
+        edits,
+        choices,
+    } = context;
+    Ok((
+        state,
+        Done {
+            action: action_of(flow),
+            edits,
+            picks: picks_of(choices.as_slice()),
+        },
+    ))
+}
+
+fn picks_of(choices: &[u32]) -> Picks
+    requires { length choices.now ≤ 16 }
+    ensures { result ≡ choices.now }
+{
+    let mut picks = Picks::new();
+    for i in choices {
+        picks.push(*i);
+    }
+    picks
+}
+
+// What a packet comes to that no handler sees.
+fn skipped() -> Done
+    ensures { result ≡ record { action = Skip; edits = no_edits; picks = [] } }
+{
+    Done {
+        action: Action::Skip,
+        edits: no_edits(),
+        picks: Picks::new(),
+    }
+}
+
+fn skip_with(state: &State, picks: &Picks) -> Result<Done, StepFault>
     ensures { Answers result state.now (skipped state.now picks.now) }
 {
     if picks.len() == 0 {
-        Ok(Done {
-            action: Action::Skip,
-            edits: no_edits(),
-            picks: picks.again(),
-        })
+        Ok(skipped())
     } else {
         Err(StepFault::BadChoice)
     }
