@@ -1,5 +1,5 @@
 -- What the interpreter's own values stand for.
-use Rattle.std.specs.Prelude.{◌≡◌, ℕ, List, Option, Some, None, Result, Ok, Err}
+use Rattle.std.specs.Prelude.{◌≡◌, ◌<◌, ℕ, List, Option, Some, None, Result, Ok, Err}
 use Rattle.nf_meaning.specs.declared.context.Context.{Context}
 use Rattle.nf_meaning.specs.declared.context.Input.{Input}
 use Rattle.nf_meaning.specs.declared.context.Flow.{Flow}
@@ -9,6 +9,11 @@ use Rattle.nf_meaning.specs.declared.context.Making.TheVariants.{Made, Taken, Fu
 use Rattle.std.specs.declared.alloc.AllocError.{AllocError}
 use Rattle.nf_meaning.specs.declared.fault.StepFault.{StepFault}
 use Rattle.nf_meaning.specs.declared.fault.StepFault.TheVariants.{BadChoice, Memory}
+use Rattle.nf_meaning.specs.declared.statements.Next.{Next}
+use Rattle.nf_meaning.specs.declared.statements.Next.TheVariants.{Over, On, Into}
+use Rattle.nf_meaning.specs.Going.{going}
+use Rattle.nf_base.specs.declared.code.Code.{Code, size-Code}
+use Rattle.nf_base.specs.View.{block_of}
 use Rattle.nf_base.specs.Context as context
 use Rattle.nf_base.specs.Operations as step
 use Rattle.nf_base.specs.Handler as handler
@@ -43,3 +48,17 @@ abbrev pub Chooses : Result (Option ℕ) AllocError → List ℕ → Option (ℕ
 Chooses (Ok None) choices meant = meant ≡ None
 Chooses (Ok (Some i)) choices meant = meant ≡ Some (i, choices)
 Chooses (Err e) choices meant = Unit {0}
+
+-- where a block goes on after one of its statements
+abbrev pub Steps : Result Next StepFault → Context → Input → handler.Flow → Type 0
+Steps (Ok (Over flow)) new p meant = meant ≡ flow_in flow new
+Steps (Ok (On next)) new p meant = meant ≡ going p.choosing (input_of p) (block_of next.now) (context_of new)
+Steps (Ok (Into inner next)) new p meant = meant ≡ handler.flow_then (going p.choosing (input_of p) (block_of inner.now) (context_of new)) (going p.choosing (input_of p) (block_of next.now))
+Steps (Err BadChoice) new p meant = meant ≡ handler.NoFlow
+Steps (Err Memory) new p meant = Unit {0}
+
+-- what is left is a part of the block
+abbrev pub IsPart : Next → Code → Type 0
+IsPart (Over flow) code = Unit {0}
+IsPart (On next) code = size-Code next.now < size-Code code
+IsPart (Into inner next) code = (size-Code inner.now < size-Code code) × (size-Code next.now < size-Code code)

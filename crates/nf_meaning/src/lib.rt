@@ -2,7 +2,10 @@
 #![tactic(auto)]
 
 pub mod context;
+mod copies;
 pub mod fault;
+mod handling;
+mod opening;
 mod slots;
 pub mod statements;
 #[cfg(test)]

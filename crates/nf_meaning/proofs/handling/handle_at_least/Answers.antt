@@ -11,7 +11,7 @@ use Rattle.nf_meaning.specs.declared.context.Choosing.TheVariants.{LeastFree}
 use Rattle.nf_meaning.specs.Going.{going}
 use Rattle.nf_meaning.specs.Seen.{context_of, input_of}
 use Rattle.nf_meaning.proofs.Least.{always_goes, few_choices, handled_least}
-use Rattle.nf_meaning.proofs.undivided.handle_at_least.Goals as goal
+use Rattle.nf_meaning.proofs.handling.handle_at_least.Goals as goal
 
 pub unreachable-requires : goal.unreachable-requires
 unreachable-requires c =

@@ -5,7 +5,7 @@ use Rattle.nf_meaning.specs.declared.context.Choosing.{Choosing}
 use Rattle.nf_meaning.specs.Going.{going}
 use Rattle.nf_meaning.specs.Seen.{context_of, input_of, Goes}
 use Rattle.nf_meaning.proofs.Given.{going_given}
-use Rattle.nf_meaning.proofs.undivided.exec_given.Goals as goal
+use Rattle.nf_meaning.proofs.handling.exec_given.Goals as goal
 
 pub returns : goal.returns
 returns c =
