@@ -4,8 +4,12 @@
 pub mod context;
 mod copies;
 pub mod fault;
+#[cfg(test)]
+mod firewall_tests;
 mod handling;
 mod opening;
+#[cfg(test)]
+mod samples;
 mod slots;
 pub mod statements;
 #[cfg(test)]
