@@ -1,7 +1,8 @@
 // One packet through a handler.
 ghost use Rattle.std.specs.Prelude.{◌≡◌, ℕ, ◌+◌, ◌≤◌, [], ◌∷◌, ◌++◌, length, take, drop, IfOk, OnOk, OnErr, map, slice_get, slice_set, None, Some, Ok, Err};
-ghost use Rattle.nf_base.specs.Operations.{touching, writing, unless_at, freeing, setting, storing, sent, found_key, found_at, bind, zeros, making};
-ghost use Rattle.nf_meaning.specs.Seen.{context_of, input_of, Makes};
+ghost use Rattle.nf_base.specs.Operations.{touching, writing, unless_at, freeing, setting, storing, sent, found_key, found_at, bind, zeros};
+ghost use Rattle.nf_meaning.specs.Going.{next_choice, making_by};
+ghost use Rattle.nf_meaning.specs.Seen.{context_of, input_of, Makes, Chooses};
 
 use crate::fault::StepFault;
 use crate::slots;
@@ -11,19 +12,19 @@ use nf_base::done::{Action, Edits};
 use nf_base::indexed::Indexed;
 use nf_base::packet::{Field, Fields};
 use nf_base::seq::Seq;
-use nf_base::state::State;
+use nf_base::state::{Entry, State};
 use std::alloc::{AllocError, Global};
 
 /// A handler in its context.
 #[derive(Drop)]
-pub struct Context<'a> {
+pub struct Context {
     /// The packet's own copy, without what is past its lifetime.
     pub state: State,
     /// By number the chain and the index of an entry, or None once it was freed.
     pub vars: Seq<Option<(u32, u32)>>,
     pub edits: Edits,
-    /// The choices that no `new` has taken yet.
-    pub left: &'a [u32],
+    /// Where the choices are given, those that no `new` has taken yet; otherwise those taken so far.
+    pub choices: Seq<u32>,
 }
 
 /// What does not change while a handler runs.
@@ -35,6 +36,16 @@ pub struct Input<'a> {
     /// In nanoseconds.
     pub time: u64,
     pub fields: Fields,
+    pub choosing: Choosing,
+}
+
+/// Where the index of a new entry comes from.
+#[derive(Clone, Copy)]
+pub enum Choosing {
+    /// It is the next one of a list, which has to be free.
+    Given,
+    /// It is the least free one of its chain.
+    LeastFree,
 }
 
 /// How a block went.
@@ -210,6 +221,29 @@ fn zeros(alloc: Global, columns: &[ColumnDecl]) -> Result<Vec<u64>, AllocError>
     columns.iter().map(|_| 0u64).collect(alloc)
 }
 
+// The index that `new` tries at these entries.
+fn next_choice(
+    choosing: Choosing,
+    slots: &Indexed<Option<Entry>>,
+    choices: &mut Seq<u32>,
+) -> Result<Option<u32>, AllocError>
+    ensures { Chooses result choices.new (next_choice choosing slots.now choices.old) }
+{
+    match choosing {
+        Choosing::Given => {
+            if choices.len() == 0 {
+                return Ok(None);
+            }
+            Ok(Some(choices.remove_first()))
+        }
+        Choosing::LeastFree => {
+            let i = slots::least_free(slots);
+            choices.push(i)?;
+            Ok(Some(i))
+        }
+    }
+}
+
 // The entry that `new` makes, at the next choice.
 pub(crate) fn make(
     alloc: Global,
@@ -218,7 +252,7 @@ pub(crate) fn make(
     chain: u32,
     labels: Vec<u64>,
 ) -> Result<Making, StepFault>
-    ensures { Makes result context.old context.new (making (input_of p.now) chain labels.items (context_of context.old)) }
+    ensures { Makes result context.old context.new (making_by p.now.choosing (input_of p.now) chain labels.items (context_of context.old)) }
 {
     let Some(decl) = p.decls.get(chain as usize) else {
         return Ok(Making::Full);
@@ -226,21 +260,21 @@ pub(crate) fn make(
     if (chain as usize) >= context.state.chains.len() {
         return Ok(Making::Full);
     }
-    let all = context.state.chains.item(chain as usize).slots.as_slice();
+    let entries = &context.state.chains.item(chain as usize).slots;
+    let all = entries.as_slice();
     if slots::is_taken(decl.maps.as_slice(), &labels, all) {
         return Ok(Making::Taken);
     }
     if slots::is_full(all) {
         return Ok(Making::Full);
     }
-    let Some((&i, left)) = context.left.split_first() else {
+    let Some(i) = next_choice(p.choosing, entries, &mut context.choices)? else {
         return Err(StepFault::BadChoice);
     };
     if !slots::is_free(all, i) {
         return Err(StepFault::BadChoice);
     }
     let free = zeros(alloc, decl.free.as_slice())?;
-    context.left = left;
     let state = context.state.chains.item_mut(chain as usize);
     slots::put(state, p.time, i, Seq::from_vec(labels), Seq::from_vec(free));
     Ok(Making::Made(i))

@@ -2,7 +2,14 @@
 #![tactic(auto)]
 
 pub mod context;
+mod copies;
 pub mod fault;
+#[cfg(test)]
+mod firewall_tests;
+mod handling;
+mod opening;
+#[cfg(test)]
+mod samples;
 mod slots;
 pub mod statements;
 #[cfg(test)]

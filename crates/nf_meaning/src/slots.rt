@@ -1,6 +1,7 @@
 // Look-ups in a chain, and operations on one.
 ghost use Rattle.std.specs.Prelude.{◌≡◌, ℕ, ◌+◌, ◌≤◌, ◌<◌, length, take, drop, IfOk, IfSome, IsSome, OnOk, map, slice_get, slice_set, Some, None};
 ghost use Rattle.nf_base.specs.Chains.{key_in, has_key, index_from, is_bound, is_taken, is_full, is_free, has_label, has_labels, put, touched, freed, written, with_column, entry_at};
+ghost use Rattle.nf_meaning.specs.Going.{least_free};
 
 use nf_base::decl::MapDecl;
 use nf_base::indexed::Indexed;
@@ -69,6 +70,18 @@ pub fn is_full(slots: &[Option<Entry>]) -> bool
         }
     }
     true
+}
+
+// The least index that holds no entry; where none is free, how many there are.
+pub fn least_free(slots: &Indexed<Option<Entry>>) -> u32
+    ensures { result ≡ least_free slots.now }
+{
+    for k in 0..slots.len() {
+        if slots.item(k).is_none() {
+            return k;
+        }
+    }
+    slots.len()
 }
 
 pub fn is_free(slots: &[Option<Entry>], i: u32) -> bool

@@ -1,4 +1,4 @@
-use crate::context::{Context, Flow, Input};
+use crate::context::{Choosing, Context, Flow, Input};
 use crate::statements::exec;
 use crate::undivided::Undivided;
 use nf_base::code::Code;
@@ -48,6 +48,7 @@ fn a_long_block_runs_in_little_stack(rt: HostRuntime) {
         ports: 1,
         time: 0,
         fields: FIELDS,
+        choosing: Choosing::Given,
     };
     let mut context = Context {
         state: State {
@@ -56,7 +57,7 @@ fn a_long_block_runs_in_little_stack(rt: HostRuntime) {
         },
         vars: Seq::new(alloc),
         edits: Edits { values: [None; 7] },
-        left: &[],
+        choices: Seq::new(alloc),
     };
     match exec(alloc, &mut context, &p, &code) {
         Ok(Flow::Ends(action)) => assert_eq!(rt; action, Action::Drop),

@@ -1,23 +1,17 @@
 // The interpreter over whole packets.
-ghost use Rattle.std.specs.Prelude.{◌≡◌, ℕ, ◌+◌, ◌≤◌, ◌<◌, ◌^◌, [], ◌∷◌, ◌++◌, length, take, drop, IfOk, OnOk, OnErr, map, Some, None, IsSome, replicate, All};
-ghost use Rattle.nf_base.specs.Chains.{unexpired, kept};
-ghost use Rattle.nf_base.specs.Step.{expired, step, opening, opening_chain, opening_cells, handled, skipped, if_none_left, no_edits};
+ghost use Rattle.std.specs.Prelude.{◌≡◌, ◌<◌, length, map, IfOk, OnErr, Some, IsSome};
+ghost use Rattle.nf_base.specs.Step.{step, opening};
 ghost use Rattle.nf_base.specs.Functions.{function_of};
-ghost use Rattle.nf_meaning.specs.Whole.{Answers, Handles};
-ghost use Rattle.nf_meaning.specs.Seen.{context_of};
+ghost use Rattle.nf_meaning.specs.Whole.{Answers};
 
-use crate::context::{Context, Flow, Input};
 use crate::fault::StepFault;
-use crate::statements::exec;
-use nf_base::code::Code;
-use nf_base::decl::{ArrayDecl, ChainDecl};
-use nf_base::done::{Action, Done, Edits};
-use nf_base::func::{Func, Handler};
-use nf_base::indexed::Indexed;
-use nf_base::packet::{Fields, Packet, PacketId};
+use crate::handling::{handle_at_least, handle_with, skip_with, skipped};
+use crate::opening::{opening_arrays, opening_chains};
+use nf_base::done::Done;
+use nf_base::func::Func;
+use nf_base::packet::Packet;
 use nf_base::picks::Picks;
-use nf_base::seq::Seq;
-use nf_base::state::{Chain, Entry, State};
+use nf_base::state::State;
 use std::alloc::{AllocError, Global};
 
 /// The plain interpreter: what a function remembers, in one list of indices for each chain.
@@ -25,127 +19,6 @@ use std::alloc::{AllocError, Global};
 pub struct Undivided {
     /// What the packets so far left.
     pub state: State,
-}
-
-fn copy_numbers(alloc: Global, xs: &Seq<u64>) -> Result<Seq<u64>, AllocError>
-    ensures { IfOk result (λ v. v ≡ xs.now) }
-{
-    Ok(Seq::from_vec(Vec::from_slice(alloc, xs.as_slice())?))
-}
-
-// A copy of what an index holds, unless it is past its lifetime.
-fn copy_kept(
-    alloc: Global,
-    time: u64,
-    lifetime: u64,
-    slot: &Option<Entry>,
-) -> Result<Option<Entry>, AllocError>
-    ensures { IfOk result (λ v. v ≡ kept time lifetime slot.now) }
-{
-    let Some(entry) = slot else {
-        return Ok(None);
-    };
-    let end = u128::from(entry.stamp) + u128::from(lifetime);
-    if end < u128::from(time) {
-        return Ok(None);
-    }
-    let labels = copy_numbers(alloc, &entry.labels)?;
-    let free = copy_numbers(alloc, &entry.free)?;
-    Ok(Some(Entry {
-        stamp: entry.stamp,
-        labels,
-        free,
-    }))
-}
-
-fn copy_unexpired(
-    alloc: Global,
-    time: u64,
-    decl: &ChainDecl,
-    chain: &Chain,
-) -> Result<Chain, AllocError>
-    ensures { IfOk result (λ v. v ≡ unexpired time decl.now chain.now) }
-{
-    let mut slots = Vec::new(alloc);
-    for k in 0..chain.slots.len() {
-        slots.push(copy_kept(alloc, time, decl.lifetime, chain.slots.item(k))?)?;
-    }
-    Ok(Chain {
-        slots: Indexed::from_vec(slots),
-        greatest: chain.greatest,
-    })
-}
-
-// A copy of the chains in which nothing is past its lifetime.
-fn copy_expired(
-    alloc: Global,
-    time: u64,
-    decls: &[ChainDecl],
-    chains: &[Chain],
-) -> Result<Seq<Chain>, AllocError>
-    requires { length decls.now ≡ length chains.now }
-    ensures { IfOk result (λ v. v ≡ expired time decls.now chains.now) }
-{
-    let mut out = Seq::new(alloc);
-    for k in 0..chains.len() {
-        out.push(copy_unexpired(alloc, time, &decls[k], &chains[k])?)?;
-    }
-    Ok(out)
-}
-
-fn copy_cells(alloc: Global, cells: &Indexed<u64>) -> Result<Indexed<u64>, AllocError>
-    ensures { IfOk result (λ v. v ≡ cells.now) }
-{
-    let _len = cells.len();
-    Ok(Indexed::from_vec(Vec::from_slice(alloc, cells.as_slice())?))
-}
-
-fn copy_arrays(alloc: Global, arrays: &[Indexed<u64>]) -> Result<Seq<Indexed<u64>>, AllocError>
-    ensures { IfOk result (λ v. v ≡ arrays.now) }
-{
-    let mut out = Seq::new(alloc);
-    for cells in arrays {
-        out.push(copy_cells(alloc, cells)?)?;
-    }
-    Ok(out)
-}
-
-fn no_edits() -> Edits
-    ensures { result ≡ no_edits }
-{
-    Edits { values: [None; 7] }
-}
-
-fn empty_slots(alloc: Global, size: u32) -> Result<Indexed<Option<Entry>>, AllocError>
-    requires { size ≤ 65536 }
-    ensures { IfOk result (λ v. v ≡ replicate size None) }
-{
-    let mut slots = Vec::new(alloc);
-    for k in 0..size {
-        slots.push(None)?;
-    }
-    Ok(Indexed::from_vec(slots))
-}
-
-fn opening_chains(alloc: Global, decls: &[ChainDecl]) -> Result<Seq<Chain>, AllocError>
-    ensures { IfOk result (λ v. v ≡ map opening_chain decls.now) }
-{
-    let mut chains = Seq::new(alloc);
-    for decl in decls {
-        let slots = empty_slots(alloc, decl.size.get())?;
-        chains.push(Chain { slots, greatest: 0 })?;
-    }
-    Ok(chains)
-}
-
-fn opening_arrays(alloc: Global, decls: &[ArrayDecl]) -> Result<Seq<Indexed<u64>>, AllocError>
-    ensures { IfOk result (λ v. v ≡ map opening_cells decls.now) }
-{
-    let mut arrays = Seq::new(alloc);
-    for decl in decls {
-        arrays.push(copy_cells(alloc, &decl.cells)?)?;
-    }
-    Ok(arrays)
 }
 
 impl Undivided {
@@ -172,6 +45,7 @@ impl Undivided {
     ///
     /// `BadChoice` comes exactly where the packet has no step with them, `Memory` where the allocator
     /// gave none. After an `Err` nothing is changed.
+    #[tactic(auto, using(crate::proofs::Lengths::handled_length))]
     pub fn packet(
         &mut self,
         alloc: Global,
@@ -180,13 +54,14 @@ impl Undivided {
         picks: &Picks,
     ) -> Result<Done, StepFault>
         requires of_func { length func.now.chains ≡ length self.old.state.chains }
+        ensures same_chains { length self.new.state.chains ≡ length self.old.state.chains }
         ensures step { Answers result self.new.state (step (function_of func.now) self.old.state packet.now picks.now) }
         ensures err { OnErr result (self.new ≡ self.old) }
     {
         match packet.fields {
-            None => skip(&self.state, picks),
+            None => skip_with(&self.state, picks),
             Some(fields) => {
-                let (state, done) = handle(
+                let (state, done) = handle_with(
                     alloc,
                     func,
                     &self.state,
@@ -200,77 +75,59 @@ impl Undivided {
             }
         }
     }
-}
 
-// The step of a packet that is handled.
-fn handle(
-    alloc: Global,
-    func: &Func,
-    state: &State,
-    id: PacketId,
-    time: u64,
-    fields: Fields,
-    picks: &Picks,
-) -> Result<(State, Done), StepFault>
-    requires of_func { length func.now.chains ≡ length state.now.chains }
-    ensures { Handles result (handled (function_of func.now) state.now id time fields picks.now) }
-{
-    let Some(handler) = func.handlers.as_slice().get(id.port as usize) else {
-        return Err(StepFault::BadChoice);
-    };
-    let p = Input {
-        decls: func.chains.as_slice(),
-        ports: func.handlers.len(),
-        time,
-        fields,
-    };
-    let chains = copy_expired(alloc, time, func.chains.as_slice(), state.chains.as_slice())?;
-    let arrays = copy_arrays(alloc, state.arrays.as_slice())?;
-    let mut context = Context {
-        state: State { chains, arrays },
-        vars: Seq::new(alloc),
-        edits: no_edits(),
-        left: picks.as_slice(),
-    };
-    match exec(alloc, &mut context, &p, &handler.code)? {
-        Flow::Falls => settle(context, Action::Drop, picks),
-        Flow::Ends(a) => settle(context, a, picks),
+    /// Handles one packet, with the least free index of its chain for each entry that it makes.
+    ///
+    /// The choices stand in the answer. After an `Err` nothing is changed.
+    #[tactic(auto, using(crate::proofs::Lengths::handled_length))]
+    pub fn handle(
+        &mut self,
+        alloc: Global,
+        func: &Func,
+        packet: &Packet,
+    ) -> Result<Done, AllocError>
+        requires of_func { length func.now.chains ≡ length self.old.state.chains }
+        requires port { packet.now.id.port < length func.now.handlers }
+        ensures same_chains { length self.new.state.chains ≡ length self.old.state.chains }
+        ensures step { IfOk result (λ done. step (function_of func.now) self.old.state packet.now done.picks ≡ Some (record { state = self.new.state; done = done })) }
+        ensures err { OnErr result (self.new ≡ self.old) }
+    {
+        match packet.fields {
+            None => Ok(skipped()),
+            Some(fields) => {
+                let (state, done) = handle_at_least(
+                    alloc,
+                    func,
+                    &self.state,
+                    packet.id,
+                    packet.time,
+                    fields,
+                )?;
+                self.state = state;
+                Ok(done)
+            }
+        }
     }
-}
 
-// The answer where no choice is left.
-fn settle(context: Context, action: Action, picks: &Picks) -> Result<(State, Done), StepFault>
-    ensures { Handles result (if_none_left picks.now (context_of context.entry) action) }
-{
-    let Context {
-        state,
-        vars: _,
-        edits,
-        left,
-    } = context;
-    if left.len() > 0 {
-        return Err(StepFault::BadChoice);
-    }
-    Ok((
-        state,
-        Done {
-            action,
-            edits,
-            picks: picks.again(),
-        },
-    ))
-}
-
-fn skip(state: &State, picks: &Picks) -> Result<Done, StepFault>
-    ensures { Answers result state.now (skipped state.now picks.now) }
-{
-    if picks.len() == 0 {
-        Ok(Done {
-            action: Action::Skip,
-            edits: no_edits(),
-            picks: picks.again(),
-        })
-    } else {
-        Err(StepFault::BadChoice)
+    /// Choices with which the packet has a step: the least free index of its chain for each entry.
+    pub fn pick(&self, alloc: Global, func: &Func, packet: &Packet) -> Result<Picks, AllocError>
+        requires of_func { length func.now.chains ≡ length self.now.state.chains }
+        requires port { packet.now.id.port < length func.now.handlers }
+        ensures legal { IfOk result (λ picks. IsSome (step (function_of func.now) self.now.state packet.now picks)) }
+    {
+        match packet.fields {
+            None => Ok(Picks::new()),
+            Some(fields) => {
+                let (_, done) = handle_at_least(
+                    alloc,
+                    func,
+                    &self.state,
+                    packet.id,
+                    packet.time,
+                    fields,
+                )?;
+                Ok(done.picks)
+            }
+        }
     }
 }

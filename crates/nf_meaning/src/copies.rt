@@ -1,0 +1,93 @@
+// Copies of a state.
+ghost use Rattle.std.specs.Prelude.{◌≡◌, ℕ, ◌+◌, ◌<◌, ◌≤◌, ◌++◌, length, take, drop, IfOk, map, Some, None};
+ghost use Rattle.nf_base.specs.Chains.{unexpired, kept};
+ghost use Rattle.nf_base.specs.Step.{expired};
+
+use nf_base::decl::ChainDecl;
+use nf_base::indexed::Indexed;
+use nf_base::seq::Seq;
+use nf_base::state::{Chain, Entry};
+use std::alloc::{AllocError, Global};
+
+fn copy_numbers(alloc: Global, xs: &Seq<u64>) -> Result<Seq<u64>, AllocError>
+    ensures { IfOk result (λ v. v ≡ xs.now) }
+{
+    Ok(Seq::from_vec(Vec::from_slice(alloc, xs.as_slice())?))
+}
+
+// A copy of what an index holds, unless it is past its lifetime.
+fn copy_kept(
+    alloc: Global,
+    time: u64,
+    lifetime: u64,
+    slot: &Option<Entry>,
+) -> Result<Option<Entry>, AllocError>
+    ensures { IfOk result (λ v. v ≡ kept time lifetime slot.now) }
+{
+    let Some(entry) = slot else {
+        return Ok(None);
+    };
+    let end = u128::from(entry.stamp) + u128::from(lifetime);
+    if end < u128::from(time) {
+        return Ok(None);
+    }
+    let labels = copy_numbers(alloc, &entry.labels)?;
+    let free = copy_numbers(alloc, &entry.free)?;
+    Ok(Some(Entry {
+        stamp: entry.stamp,
+        labels,
+        free,
+    }))
+}
+
+fn copy_unexpired(
+    alloc: Global,
+    time: u64,
+    decl: &ChainDecl,
+    chain: &Chain,
+) -> Result<Chain, AllocError>
+    ensures { IfOk result (λ v. v ≡ unexpired time decl.now chain.now) }
+{
+    let mut slots = Vec::new(alloc);
+    for k in 0..chain.slots.len() {
+        slots.push(copy_kept(alloc, time, decl.lifetime, chain.slots.item(k))?)?;
+    }
+    Ok(Chain {
+        slots: Indexed::from_vec(slots),
+        greatest: chain.greatest,
+    })
+}
+
+// A copy of the chains in which nothing is past its lifetime.
+pub fn copy_expired(
+    alloc: Global,
+    time: u64,
+    decls: &[ChainDecl],
+    chains: &[Chain],
+) -> Result<Seq<Chain>, AllocError>
+    requires { length decls.now ≡ length chains.now }
+    ensures { IfOk result (λ v. v ≡ expired time decls.now chains.now) }
+{
+    let mut out = Seq::new(alloc);
+    for k in 0..chains.len() {
+        out.push(copy_unexpired(alloc, time, &decls[k], &chains[k])?)?;
+    }
+    Ok(out)
+}
+
+pub fn copy_cells(alloc: Global, cells: &Indexed<u64>) -> Result<Indexed<u64>, AllocError>
+    ensures { IfOk result (λ v. v ≡ cells.now) }
+{
+    let _len = cells.len();
+    Ok(Indexed::from_vec(Vec::from_slice(alloc, cells.as_slice())?))
+}
+
+pub fn copy_arrays(alloc: Global, arrays: &[Indexed<u64>]) -> Result<Seq<Indexed<u64>>, AllocError>
+    ensures { IfOk result (λ v. v ≡ arrays.now) }
+{
+    let mut out = Seq::new(alloc);
+    for cells in arrays {
+        out.push(copy_cells(alloc, cells)?)?;
+    }
+    Ok(out)
+}
