@@ -1,0 +1,12 @@
+//! The type rules of the language: from a syntax tree to a checked function.
+#![tactic(auto)]
+
+mod counts;
+mod declaration;
+mod fault;
+mod name;
+mod statement;
+mod value;
+mod variables;
+
+pub use fault::{CheckFault, TypingKind};
