@@ -1,6 +1,7 @@
 //! The type rules of the language: from a syntax tree to a checked function.
 #![tactic(auto)]
 
+mod block;
 mod counts;
 mod declaration;
 mod fault;

@@ -12,6 +12,7 @@ use nf_base::decl::ChainDecl;
 use nf_base::seq::Seq;
 
 /// The variables in scope, the innermost first. A variable's number is how many stand behind it.
+#[derive(Drop)]
 pub enum Variables<'a> {
     Empty,
     Bound {
