@@ -20,11 +20,11 @@ name_of x = if nat_le (length x) 32 then Some x else None
 -- one of the five widths
 abbrev pub width_of : ℕ → Option Width
 width_of n =
-  if n == 8 then Some W8 else
-  if n == 16 then Some W16 else
-  if n == 32 then Some W32 else
-  if n == 48 then Some W48 else
-  if n == 64 then Some W64 else None
+    if n == 8 then Some W8 else
+    if n == 16 then Some W16 else
+    if n == 32 then Some W32 else
+    if n == 48 then Some W48 else
+    if n == 64 then Some W64 else None
 
 abbrev pub label_of : declared_label.Label → Option ColumnDecl
 label_of l = and_then (name_of l.name) (λ x. option_map (λ w. record { name = x; width = w }) (width_of l.width))
@@ -51,10 +51,10 @@ chain_with x size lifetime m labels = record {
 
 unfoldable pub chain_of : ChainTree → Option ChainDecl
 chain_of c =
-  and_then (name_of c.name) (λ x.
-  and_then (size_of c.size) (λ size.
-  and_then (name_of c.map.name) (λ m.
-  option_map (λ labels. chain_with x size c.lifetime m labels) (labels_of c.map.labels))))
+    and_then (name_of c.name) (λ x.
+    and_then (size_of c.size) (λ size.
+    and_then (name_of c.map.name) (λ m.
+    option_map (λ labels. chain_with x size c.lifetime m labels) (labels_of c.map.labels))))
 
 -- at most 8 chains, each with a name of its own
 abbrev pub chains_of : List ChainTree → Option (List ChainDecl)

@@ -2,6 +2,7 @@ pub mod Names
 pub mod Declarations
 pub mod Statements
 pub mod Counts
+pub mod Small
 pub mod Blocks
 pub mod Checked
 pub mod View

@@ -31,8 +31,8 @@ pub record LookUp : Type 0 where
 -- the same in a chain with a number
 abbrev pub look_in : ℕ → ChainDecl → (m : List ℕ) → List tree.Expression → Option LookUp
 look_in i d m key =
-  and_then (named (λ (a : MapDecl). a.name) m d.maps) (λ found.
-  option_map (λ gs. record { chain = i; map = found.0; key = gs }) (key_of d.labels key))
+    and_then (named (λ (a : MapDecl). a.name) m d.maps) (λ found.
+    option_map (λ gs. record { chain = i; map = found.0; key = gs }) (key_of d.labels key))
 
 abbrev pub look_up : List ChainDecl → (chain m : List ℕ) → List tree.Expression → Option LookUp
 look_up ds c m key = and_then (named (λ (d : ChainDecl). d.name) c ds) (λ found. look_in found.0 found.1 m key)
@@ -52,8 +52,8 @@ pub record Making : Type 0 where
 
 abbrev pub making : List ChainDecl → (chain : List ℕ) → List tree.Given → Option Making
 making ds c gs =
-  and_then (named (λ (d : ChainDecl). d.name) c ds) (λ chain.
-  option_map (λ ls. record { chain = chain.0; labels = ls }) (labels_from gs chain.1.labels))
+    and_then (named (λ (d : ChainDecl). d.name) c ds) (λ chain.
+    option_map (λ ls. record { chain = chain.0; labels = ls }) (labels_from gs chain.1.labels))
 
 -- The variables in scope stand the innermost first. A variable's number is how many are in scope where
 -- it is bound.

@@ -5,9 +5,12 @@ mod block;
 mod counts;
 mod declaration;
 mod fault;
+mod function;
+mod handler;
 mod name;
 mod statement;
 mod value;
 mod variables;
 
 pub use fault::{CheckFault, TypingKind};
+pub use function::check;

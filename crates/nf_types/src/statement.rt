@@ -34,11 +34,7 @@ pub struct Making {
 }
 
 /// Each label with its value.
-fn each_part(
-    alloc: Global,
-    labels: &[ColumnDecl],
-    key: &[Value],
-) -> Result<Seq<Given>, AllocError>
+fn each_part(alloc: Global, labels: &[ColumnDecl], key: &[Value]) -> Result<Seq<Given>, AllocError>
     requires { length key.now ≡ length labels.now }
     ensures { IfOk result (λ gs. map checked.given_of gs ≡ map (λ p. given_to p.0 p.1) (zip labels.now (map syntax.expression_of key.now))) }
 {
@@ -116,11 +112,7 @@ fn value_for(given: &[Assigned], label: &ColumnDecl) -> Result<Given, Stop>
 }
 
 /// The values of the labels one by one.
-fn each_value(
-    alloc: Global,
-    given: &[Assigned],
-    labels: &[ColumnDecl],
-) -> Result<Seq<Given>, Stop>
+fn each_value(alloc: Global, given: &[Assigned], labels: &[ColumnDecl]) -> Result<Seq<Given>, Stop>
     ensures { Finds (λ gs. map checked.given_of gs) (each (value_for (map syntax.given_of given.now)) labels.now) result }
 {
     let mut all = Seq::new(alloc);
@@ -131,11 +123,7 @@ fn each_value(
 }
 
 /// A `new` gives each label just one value, in any order.
-fn labels_from(
-    alloc: Global,
-    given: &[Assigned],
-    labels: &[ColumnDecl],
-) -> Result<Seq<Given>, Stop>
+fn labels_from(alloc: Global, given: &[Assigned], labels: &[ColumnDecl]) -> Result<Seq<Given>, Stop>
     ensures { Finds (λ gs. map checked.given_of gs) (labels_from (map syntax.given_of given.now) labels.now) result }
 {
     if !are_labels(given, labels) {

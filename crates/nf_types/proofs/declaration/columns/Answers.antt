@@ -7,5 +7,5 @@ use Rattle.nf_types.proofs.declaration.columns.Goals as goal
 
 pub loop-i-preserved : goal.loop-i-preserved
 loop-i-preserved c =
-  let more = map-range_with_len_more Label 0 c.loop-i.i c.loop-i.i (omega arith) in
-  grind (arith, common_steps, more)
+    let more = map-range_with_len_more Label 0 c.loop-i.i c.loop-i.i (omega arith) in
+    grind (arith, common_steps, more)
