@@ -6,4 +6,5 @@ pub mod Small
 pub mod Blocks
 pub mod Checked
 pub mod View
+pub mod Rows
 pub mod Answers

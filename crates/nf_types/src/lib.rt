@@ -8,9 +8,13 @@ mod fault;
 mod function;
 mod handler;
 mod name;
+pub mod rows;
 mod statement;
 mod value;
 mod variables;
 
 pub use fault::{CheckFault, TypingKind};
 pub use function::check;
+
+#[cfg(test)]
+mod tests;
