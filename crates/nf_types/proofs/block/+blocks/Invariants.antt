@@ -1,0 +1,27 @@
+-- what is left of a block, in front of what was made, comes to what the whole does
+use Rattle.std.proofs.Common.{◌≡◌, ◌+◌, ◌*◌, ◌≤◌, max}
+use Rattle.nf_base.specs.Text.{End}
+use Rattle.nf_base.specs.View as checked
+use Rattle.nf_syntax.specs.declared.tree.Block.{size-Block}
+use Rattle.nf_syntax.specs.View as syntax
+use Rattle.nf_types.specs.Blocks.{checked_block}
+use Rattle.nf_types.specs.Counts.{lookups}
+use Rattle.nf_types.specs.View.{variables_of}
+use Rattle.nf_types.proofs.block.+blocks.Given as goal
+
+abbrev pub decreases-get : goal.decreases-get
+decreases-get l = 2 * max (size-Block l.x.now.hit.now) (size-Block l.x.now.miss.now) + 1
+
+abbrev pub decreases-new : goal.decreases-new
+decreases-new l = 2 * max (size-Block l.x.now.made.now) (max (size-Block l.x.now.taken.now) (size-Block l.x.now.full.now)) + 1
+
+abbrev pub decreases-block : goal.decreases-block
+decreases-block l = 2 * size-Block l.block.now
+
+abbrev pub invariant-block-loop-rest : goal.invariant-block-loop-rest
+invariant-block-loop-rest l = record {
+  smaller : size-Block l.rest ≤ size-Block l.block;
+  fewer : lookups (syntax.block_of l.rest) ≤ lookups (syntax.block_of l.block);
+  so_far : checked_block l.place l.chains (variables_of l.scope) (syntax.block_of l.rest) (checked.block_of l.next)
+      ≡ checked_block l.place l.chains (variables_of l.scope) (syntax.block_of l.block) End;
+}

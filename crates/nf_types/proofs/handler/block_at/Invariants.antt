@@ -1,0 +1,16 @@
+-- what is left decides
+use Rattle.std.proofs.Common.{◌≡◌, ◌+◌, ◌*◌, ◌≤◌, length, map}
+use Rattle.nf_syntax.specs.View.{handler_of}
+use Rattle.nf_types.specs.Checked.{block_at}
+use Rattle.nf_types.specs.Small.{AreSmall}
+use Rattle.nf_types.proofs.handler.block_at.Given as goal
+
+abbrev pub invariant-loop-rest : goal.invariant-loop-rest
+invariant-loop-rest l = record {
+  places : l.before + 32 * length l.rest ≤ 128;
+  small : AreSmall (map handler_of l.rest);
+  same : block_at l.port l.before (map handler_of l.rest) ≡ block_at l.port 0 (map handler_of l.handlers);
+}
+
+abbrev pub decreases-loop-rest : goal.decreases-loop-rest
+decreases-loop-rest l = length l.rest

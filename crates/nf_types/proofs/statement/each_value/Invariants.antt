@@ -1,0 +1,13 @@
+-- what was made stands in front of what comes of the rest
+use Rattle.std.proofs.Common.{◌≡◌, ◌++◌, drop, map}
+use Rattle.std.specs.Option.{option_map}
+use Rattle.nf_base.specs.View as checked
+use Rattle.nf_syntax.specs.View as syntax
+use Rattle.nf_types.specs.Names.{each}
+use Rattle.nf_types.specs.Statements.{value_for}
+use Rattle.nf_types.proofs.statement.each_value.Given as goal
+
+abbrev pub invariant-loop-label : goal.invariant-loop-label
+invariant-loop-label l =
+    option_map (λ gs. map checked.given_of l.all ++ gs) (each (value_for (map syntax.given_of l.given)) (drop l.label-index l.labels))
+    ≡ each (value_for (map syntax.given_of l.given)) l.labels

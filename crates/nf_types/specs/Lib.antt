@@ -1,0 +1,10 @@
+pub mod Names
+pub mod Declarations
+pub mod Statements
+pub mod Counts
+pub mod Small
+pub mod Blocks
+pub mod Checked
+pub mod View
+pub mod Rows
+pub mod Answers

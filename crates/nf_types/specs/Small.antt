@@ -1,0 +1,12 @@
+-- Blocks within the limits, as facts.
+use Rattle.std.specs.Prelude.{◌≤◌, List, [], ◌∷◌}
+use Rattle.nf_syntax.specs.Tree.{Block, Handler}
+use Rattle.nf_types.specs.Counts.{news, lookups}
+
+pub record IsSmall (b : Block) : Type 0 where
+  pub news : news b ≤ 16
+  pub lookups : lookups b ≤ 32
+
+abbrev pub AreSmall : List Handler → Type 0
+AreSmall [] = Unit {0}
+AreSmall (h ∷ hs) = IsSmall h.block × AreSmall hs
