@@ -8,3 +8,6 @@ mod loading;
 pub use arrival::{Arrival, frame};
 pub use fault::LoadFault;
 pub use loading::load;
+
+#[cfg(test)]
+mod tests;
