@@ -1,5 +1,5 @@
 -- The records of the packets that are sent out at a port, from one packet on.
-use Rattle.std.proofs.Common.{◌≡◌, ℕ, suc, ◌+◌, ◌<◌, ◌≤◌, Bool, true, false, cond, List, [], ◌∷◌, ◌++◌, length, map, filter, drop, get_or, Result, Ok, Err, OnOk, refl, ap, sym, ◌∙◌, subst, drop-cons, add-one}
+use Rattle.std.proofs.Common.{◌≡◌, ℕ, suc, ◌+◌, ◌<◌, ◌≤◌, Bool, true, false, cond, List, [], ◌∷◌, ◌++◌, length, map, filter, drop, get_or, refl, ap, sym, ◌∙◌, subst, drop-cons, add-one}
 use Rattle.std.specs.List.{flat_map, AllByRecursion}
 use Rattle.std.proofs.lemmas.List.{append-nil, drop_all}
 use Rattle.pcap_file.specs.Record.{record_bytes}
@@ -9,8 +9,8 @@ use Rattle.run_files.specs.declared.handled.Handled.{Handled}
 use Rattle.run_files.specs.Written.{arrival_in, is_sent, record_of, sent_bytes, output_bytes}
 
 -- a list of at most one record, put in front of others
-chosen : (b : Bool) (captures : List (List ℕ)) (h : Handled) (hs : List Handled) → flat_map record_bytes (map (record_of captures) (cond b (h ∷ hs) hs)) ≡ flat_map record_bytes (map (record_of captures) (cond b (h ∷ []) [])) ++ flat_map record_bytes (map (record_of captures) hs)
-chosen true captures h hs = ap (λ (r : List ℕ). r ++ flat_map record_bytes (map (record_of captures) hs)) (sym (append-nil (record_bytes (record_of captures h))))
+chosen : (b : Bool) (captures : List (List ℕ)) (h : Handled) (hs : List Handled) → flat_map record_bytes (map (record_of captures) (map arrival_in (cond b (h ∷ hs) hs))) ≡ flat_map record_bytes (map (record_of captures) (map arrival_in (cond b (h ∷ []) []))) ++ flat_map record_bytes (map (record_of captures) (map arrival_in hs))
+chosen true captures h hs = ap (λ (r : List ℕ). r ++ flat_map record_bytes (map (record_of captures) (map arrival_in hs))) (sym (append-nil (record_bytes (record_of captures h.arrival))))
 chosen false captures h hs = refl
 
 sent_more : (port : ℕ) (captures : List (List ℕ)) (h : Handled) (hs : List Handled) → sent_bytes port captures (h ∷ hs) ≡ sent_bytes port captures (h ∷ []) ++ sent_bytes port captures hs
@@ -27,13 +27,13 @@ pub sent_end : (port : ℕ) (captures : List (List ℕ)) (hs : List Handled) (i 
 unfolding sent_bytes
 sent_end port captures hs i past = ap (sent_bytes port captures) (drop_all i hs past)
 
-pub sent_one : (port : ℕ) (captures : List (List ℕ)) (h : Handled) → is_sent port h ≡ true → sent_bytes port captures (h ∷ []) ≡ record_bytes (record_of captures h)
+pub sent_one : (port : ℕ) (captures : List (List ℕ)) (h : Handled) → is_sent port h ≡ true → sent_bytes port captures (h ∷ []) ≡ record_bytes (record_of captures h.arrival)
 unfolding sent_bytes
-sent_one port captures h e = ap (λ (b : Bool). flat_map record_bytes (map (record_of captures) (cond b (h ∷ []) []))) e ∙ append-nil (record_bytes (record_of captures h))
+sent_one port captures h e = ap (λ (b : Bool). flat_map record_bytes (map (record_of captures) (map arrival_in (cond b (h ∷ []) [])))) e ∙ append-nil (record_bytes (record_of captures h.arrival))
 
-pub sent_none : (port : ℕ) (captures : List (List ℕ)) (h : Handled) → is_sent port h ≡ false → sent_bytes port captures (h ∷ []) ≡ []
+pub sent_none : (bytes : List ℕ) (port : ℕ) (captures : List (List ℕ)) (h : Handled) → is_sent port h ≡ false → bytes ++ sent_bytes port captures (h ∷ []) ≡ bytes
 unfolding sent_bytes
-sent_none port captures h e = ap (λ (b : Bool). flat_map record_bytes (map (record_of captures) (cond b (h ∷ []) []))) e
+sent_none bytes port captures h e = ap (λ (b : Bool). bytes ++ flat_map record_bytes (map (record_of captures) (map arrival_in (cond b (h ∷ []) [])))) e ∙ append-nil bytes
 
 pub output_starts : (port : ℕ) (captures : List (List ℕ)) (hs : List Handled) → header_bytes ++ sent_bytes port captures hs ≡ output_bytes port captures hs
 unfolding output_bytes
@@ -44,8 +44,3 @@ pub within_from : (captures : List (List ℕ)) (hs : List Handled) (i : ℕ) (h 
 within_from captures hs i h lt at all =
     let parts : drop i hs ≡ h ∷ drop (i + 1) hs = drop-cons hs i h lt ∙ rw (add-one i) (ap (λ (x : Handled). x ∷ drop (suc i) hs) (sym at)) in
     subst (λ (xs : List Handled). AllByRecursion (IsWithin captures) (map arrival_in xs)) parts all
-
--- bytes were gathered, which are those of a packet
-pub gathered : {T E : Type 0} (r : Result T E) (old new bytes more : List ℕ) → bytes ≡ more → OnOk r (new ≡ old ++ bytes) → OnOk r (new ≡ old ++ more)
-gathered (Ok x) old new bytes more e h = h ∙ ap (λ (t : List ℕ). old ++ t) e
-gathered (Err x) old new bytes more e h = tt

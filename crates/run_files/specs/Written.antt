@@ -37,12 +37,12 @@ abbrev pub is_sent : ℕ → Handled → Bool
 is_sent port h = sends h.done.action h.arrival.packet.id.port port
 
 -- the record of a packet that is sent: the packet's time, and its frame as it came
-abbrev pub record_of : List (List ℕ) → Handled → Record
-record_of captures h = record_at h.arrival.packet.time h.arrival.original (frame_in captures h.arrival)
+abbrev pub record_of : List (List ℕ) → Arrival → Record
+record_of captures arrival = record_at arrival.packet.time arrival.original (frame_in captures arrival)
 
 -- the records of the packets that are sent out at a port, in the order in which they were handled
 unfoldable pub sent_bytes : ℕ → List (List ℕ) → List Handled → List ℕ
-sent_bytes port captures hs = flat_map record_bytes (map (record_of captures) (filter (is_sent port) hs))
+sent_bytes port captures hs = flat_map record_bytes (map (record_of captures) (map arrival_in (filter (is_sent port) hs)))
 
 -- the output capture of a port
 unfoldable pub output_bytes : ℕ → List (List ℕ) → List Handled → List ℕ

@@ -1,23 +1,24 @@
 // The output captures of a run.
 ghost use Rattle.std.specs.Prelude.{◌≡◌, ◌<◌, ◌⊎◌, ℕ, [], ◌∷◌, ◌++◌, map, OnOk, OnErr, IfOk};
 ghost use Rattle.std.specs.List.{AllByRecursion};
+ghost use Rattle.pcap_file.specs.Record.{record_bytes};
 ghost use Rattle.pcap_file.specs.Capture.{header_bytes};
 ghost use Rattle.capture_order.specs.Arrivals.{IsWithin, all_bytes};
 ghost use Rattle.nf_files.specs.Causes.{HasCause};
 ghost use Rattle.nf_files.specs.Writes.{WritesAll, WritesFront};
 ghost use Rattle.run_files.specs.Pending.{Flushes};
-ghost use Rattle.run_files.specs.Written.{arrival_in, sends, sent_bytes, output_bytes};
+ghost use Rattle.run_files.specs.Written.{arrival_in, record_of, sends, sent_bytes, output_bytes};
 
 use crate::flush::flush_when_large;
 use crate::handled::Handled;
-use capture_order::frame;
+use capture_order::{Arrival, frame};
 use nf_base::done::Action;
 use nf_files::{Files, FilesFault, write_whole};
 use pcap_file::{push_header, push_record};
 use std::alloc::{AllocError, Global};
 
 // Whether an action sends a packet that came in at a port out at another.
-fn sends(action: Action, from: u32, port: u32) -> bool
+pub(crate) fn sends(action: Action, from: u32, port: u32) -> bool
     ensures { result ≡ sends action from port }
 {
     match action {
@@ -28,27 +29,36 @@ fn sends(action: Action, from: u32, port: u32) -> bool
     }
 }
 
+// Gathers the record of a packet.
+fn push_packet(
+    buffer: &mut Vec<u8>,
+    captures: &[Vec<u8>],
+    arrival: &Arrival,
+) -> Result<(), AllocError>
+    requires { IsWithin (all_bytes captures.now) arrival.now }
+    ensures { OnOk result (buffer.new.items ≡ buffer.old.items ++ record_bytes (record_of (all_bytes captures.now) arrival.now)) }
+{
+    let frame = frame(captures, arrival);
+    push_record(buffer, arrival.packet.time, arrival.original, frame)
+}
+
 // Gathers a packet's record, where it is sent out at a port.
-fn push_sent(
+#[tactic(auto, using(crate::proofs::Sent::sent_one, crate::proofs::Sent::sent_none))]
+pub(crate) fn push_sent(
     buffer: &mut Vec<u8>,
     port: u32,
     captures: &[Vec<u8>],
     handled: &Handled,
 ) -> Result<(), AllocError>
     requires { IsWithin (all_bytes captures.now) handled.now.arrival }
-    ensures ok { OnOk result (buffer.new.items ≡ buffer.old.items ++ sent_bytes port (all_bytes captures.now) (handled.now ∷ [])) }
+    ensures { OnOk result (buffer.new.items ≡ buffer.old.items ++ sent_bytes port (all_bytes captures.now) (handled.now ∷ [])) }
 {
     let arrival = &handled.arrival;
-    let packet = &arrival.packet;
-    if !sends(handled.done.action, packet.id.port, port) {
-        return Ok(());
+    if sends(handled.done.action, arrival.packet.id.port, port) {
+        push_packet(buffer, captures, arrival)
+    } else {
+        Ok(())
     }
-    push_record(
-        buffer,
-        packet.time,
-        arrival.original,
-        frame(captures, arrival),
-    )
 }
 
 // Gathers a packet's record, and gives what was gathered to the file where it is much.
