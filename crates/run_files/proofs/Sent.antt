@@ -36,7 +36,7 @@ unfolding sent_bytes
 sent_none bytes port captures h e = ap (λ (b : Bool). bytes ++ flat_map record_bytes (map (record_of captures) (map arrival_in (cond b (h ∷ []) [])))) e ∙ append-nil bytes
 
 pub output_starts : (port : ℕ) (captures : List (List ℕ)) (hs : List Handled) → header_bytes ++ sent_bytes port captures hs ≡ output_bytes port captures hs
-unfolding output_bytes
+unfolding output_bytes sent_bytes
 output_starts port captures hs = refl
 
 -- the packets from one on lie in their captures

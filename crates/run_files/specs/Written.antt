@@ -4,7 +4,7 @@ use Rattle.std.specs.List.{flat_map}
 use Rattle.nf_base.specs.declared.done.Action.{Action}
 use Rattle.nf_base.specs.declared.done.Action.TheVariants.{Skip, Drop, To, Flood}
 use Rattle.pcap_file.specs.Record.{Record, record_at, record_bytes}
-use Rattle.pcap_file.specs.Capture.{header_bytes}
+use Rattle.pcap_file.specs.Capture.{capture_bytes}
 use Rattle.run_history.specs.Line.{header_line, packet_line}
 use Rattle.run_history.specs.declared.line.Mode.TheVariants.{One}
 use Rattle.capture_order.specs.declared.arrival.Arrival.{Arrival}
@@ -41,9 +41,13 @@ abbrev pub record_of : List (List ℕ) → Arrival → Record
 record_of captures arrival = record_at arrival.packet.time arrival.original (frame_in captures arrival)
 
 -- the records of the packets that are sent out at a port, in the order in which they were handled
-unfoldable pub sent_bytes : ℕ → List (List ℕ) → List Handled → List ℕ
-sent_bytes port captures hs = flat_map record_bytes (map (record_of captures) (map arrival_in (filter (is_sent port) hs)))
+abbrev pub sent_records : ℕ → List (List ℕ) → List Handled → List Record
+sent_records port captures hs = map (record_of captures) (map arrival_in (filter (is_sent port) hs))
 
--- the output capture of a port
+-- their bytes
+unfoldable pub sent_bytes : ℕ → List (List ℕ) → List Handled → List ℕ
+sent_bytes port captures hs = flat_map record_bytes (sent_records port captures hs)
+
+-- the output of a port: a capture of these records
 unfoldable pub output_bytes : ℕ → List (List ℕ) → List Handled → List ℕ
-output_bytes port captures hs = header_bytes ++ sent_bytes port captures hs
+output_bytes port captures hs = capture_bytes (sent_records port captures hs)
