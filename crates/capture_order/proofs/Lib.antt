@@ -1,1 +1,3 @@
 pub mod Sorting
+pub mod Heads
+pub mod Listing

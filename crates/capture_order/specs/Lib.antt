@@ -1,1 +1,3 @@
 pub mod Arrivals
+pub mod Loaded
+pub mod Adding

@@ -26,23 +26,21 @@ goes_on heads offset latest limit n (b ∷ bytes) r after total lt h so_far =
     let one : with_front heads offset latest (records_within (limit - n) (b ∷ bytes)) ≡ with_front (heads ++ head_of offset latest r ∷ []) (offset + 16 + length r.frame) (max latest (time_of r)) (records_within (limit - (n + 1)) after) = rw (k, ← h) (regroup heads offset latest r (records_within (limit - (n + 1)) after)) in
     sym one ∙ so_far
 
-pub is_torn : (heads : List Head) (offset latest limit n : ℕ) (bytes : List ℕ) (total : Option (List Head)) → n < limit → eqb (length bytes) 0 ≡ false → None ≡ first_record bytes
-    → with_front heads offset latest (records_within (limit - n) bytes) ≡ total → total ≡ None
+-- the first record is torn
+pub none_where_torn : (limit n : ℕ) (bytes : List ℕ) → n < limit → eqb (length bytes) 0 ≡ false → None ≡ first_record bytes → records_within (limit - n) bytes ≡ None
 unfolding first_record records_within
-is_torn heads offset latest limit n [] total lt some h so_far = absurd cc
-is_torn heads offset latest limit n (b ∷ bytes) total lt some h so_far =
+none_where_torn limit n [] lt some h = absurd cc
+none_where_torn limit n (b ∷ bytes) lt some h =
     let k : limit - n ≡ suc (limit - (n + 1)) = omega arith in
-    let one : with_front heads offset latest (records_within (limit - n) (b ∷ bytes)) ≡ None = rw (k, ← h) refl in
-    sym so_far ∙ one
+    rw (k, ← h) refl
 
-pub is_over : (heads : List Head) (offset latest limit n : ℕ) (bytes : List ℕ) (total : Option (List Head)) → limit ≤ n → eqb (length bytes) 0 ≡ false
-    → with_front heads offset latest (records_within (limit - n) bytes) ≡ total → total ≡ None
+-- there are as many records as there may be, and bytes behind them
+pub none_where_full : (limit n : ℕ) (bytes : List ℕ) → limit ≤ n → eqb (length bytes) 0 ≡ false → records_within (limit - n) bytes ≡ None
 unfolding records_within
-is_over heads offset latest limit n [] total le some so_far = absurd cc
-is_over heads offset latest limit n (b ∷ bytes) total le some so_far =
+none_where_full limit n [] le some = absurd cc
+none_where_full limit n (b ∷ bytes) le some =
     let k : limit - n ≡ 0 = omega arith in
-    let one : with_front heads offset latest (records_within (limit - n) (b ∷ bytes)) ≡ None = rw k refl in
-    sym so_far ∙ one
+    rw k refl
 
 pub is_done : (heads : List Head) (offset latest left : ℕ) (bytes : List ℕ) (total : Option (List Head)) → eqb (length bytes) 0 ≡ true
     → with_front heads offset latest (records_within left bytes) ≡ total → total ≡ Some heads

@@ -36,6 +36,7 @@ fn has_header(bytes: &[u8]) -> bool
         && bytes[21] == 0
 }
 
+#[tactic(auto, using(crate::proofs::Loop::none_where_torn, crate::proofs::Loop::none_where_full))]
 fn heads(alloc: Global, bytes: &[u8]) -> Result<Records, CapFault>
     requires { 24 ≤ length bytes.now }
     ensures { Gives result (option_map heads_of (records_within most_records (drop 24 bytes.now))) }

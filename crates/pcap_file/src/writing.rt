@@ -1,5 +1,5 @@
 //! A capture into bytes.
-ghost use Rattle.std.specs.Prelude.{◌≡◌, ◌+◌, ◌≤◌, ◌++◌, length, take, OnOk, OnErr};
+ghost use Rattle.std.specs.Prelude.{◌≡◌, ◌+◌, ◌/◌, ◌%◌, ◌≤◌, ◌++◌, length, take, OnOk, OnErr};
 ghost use Rattle.pcap_file.specs.Record.{Fits, record_bytes, record_at, time_of, greatest_time};
 ghost use Rattle.pcap_file.specs.Capture.{header_bytes};
 
@@ -18,14 +18,23 @@ pub fn push_header(out: &mut Vec<u8>) -> Result<(), AllocError>
     out.extend_from_slice(&HEADER)
 }
 
+// The seconds of a time, and the nanoseconds behind them.
+fn parts(time: u64) -> (u32, u32)
+    requires { time ≤ greatest_time }
+    ensures { result ≡ (time / 1000000000, time % 1000000000) }
+{
+    let seconds = time / 1_000_000_000;
+    let fraction = time % 1_000_000_000;
+    (seconds as u32, fraction as u32)
+}
+
 fn append(out: &mut Vec<u8>, time: u64, original: u32, frame: &[u8]) -> Result<(), AllocError>
     requires time { time ≤ greatest_time }
     requires frame { length frame.now ≤ 262144 }
     ensures ok { OnOk result (out.new.items ≡ out.old.items ++ record_bytes (record_at time original frame.now)) }
     ensures front { take (length out.old.items) out.new.items ≡ out.old.items }
 {
-    let seconds = (time / 1_000_000_000) as u32;
-    let fraction = (time % 1_000_000_000) as u32;
+    let (seconds, fraction) = parts(time);
     let captured = frame.len() as u32;
     out.extend_from_slice(&seconds.to_le_bytes())?;
     out.extend_from_slice(&fraction.to_le_bytes())?;

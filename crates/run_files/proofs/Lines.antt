@@ -1,5 +1,5 @@
 -- A journal's lines, from one packet on.
-use Rattle.std.proofs.Common.{◌≡◌, ℕ, suc, ◌+◌, ◌<◌, ◌≤◌, List, [], ◌∷◌, ◌++◌, length, drop, get_or, ap, sym, ◌∙◌, drop-cons, add-one, arith}
+use Rattle.std.proofs.Common.{◌≡◌, ℕ, suc, ◌+◌, ◌<◌, ◌≤◌, List, [], ◌++◌, length, drop, get_or, ap, sym, ◌∙◌, drop-cons, add-one}
 use Rattle.run_files.specs.declared.handled.Handled.{Handled}
 use Rattle.std.proofs.lemmas.List.{drop_all}
 use Rattle.run_files.specs.Written.{packet_lines, line_of}

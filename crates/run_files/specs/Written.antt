@@ -1,8 +1,18 @@
 -- The bytes of the files that a run leaves.
-use Rattle.std.specs.Prelude.{ℕ, List, [], ◌∷◌, ◌++◌}
+use Rattle.std.specs.Prelude.{ℕ, Bool, false, not, ◌==◌, List, [], ◌∷◌, ◌++◌, map, filter}
+use Rattle.std.specs.List.{flat_map}
+use Rattle.nf_base.specs.declared.done.Action.{Action}
+use Rattle.nf_base.specs.declared.done.Action.TheVariants.{Skip, Drop, To, Flood}
+use Rattle.pcap_file.specs.Record.{Record, record_at, record_bytes}
+use Rattle.pcap_file.specs.Capture.{capture_bytes}
 use Rattle.run_history.specs.Line.{header_line, packet_line}
 use Rattle.run_history.specs.declared.line.Mode.TheVariants.{One}
+use Rattle.capture_order.specs.declared.arrival.Arrival.{Arrival}
+use Rattle.capture_order.specs.Arrivals.{frame_in}
 use Rattle.run_files.specs.declared.handled.Handled.{Handled}
+
+abbrev pub arrival_in : Handled → Arrival
+arrival_in h = h.arrival
 
 -- a packet's line; one worker, whose number is 0, handles all
 abbrev pub line_of : Handled → List ℕ
@@ -14,3 +24,30 @@ packet_lines (h ∷ hs) = line_of h ++ packet_lines hs
 
 abbrev pub journal_bytes : List Handled → List ℕ
 journal_bytes hs = header_line One 1 ++ packet_lines hs
+
+-- An action sends a packet that came in at a port out at another: a flood goes to every port but that one.
+abbrev pub sends : Action → ℕ → ℕ → Bool
+sends Skip from port = false
+sends Drop from port = false
+sends (To out) from port = out == port
+sends Flood from port = not (from == port)
+
+-- the packet is sent out at a port
+abbrev pub is_sent : ℕ → Handled → Bool
+is_sent port h = sends h.done.action h.arrival.packet.id.port port
+
+-- the record of a packet that is sent: the packet's time, and its frame as it came
+abbrev pub record_of : List (List ℕ) → Arrival → Record
+record_of captures arrival = record_at arrival.packet.time arrival.original (frame_in captures arrival)
+
+-- the records of the packets that are sent out at a port, in the order in which they were handled
+abbrev pub sent_records : ℕ → List (List ℕ) → List Handled → List Record
+sent_records port captures hs = map (record_of captures) (map arrival_in (filter (is_sent port) hs))
+
+-- their bytes
+unfoldable pub sent_bytes : ℕ → List (List ℕ) → List Handled → List ℕ
+sent_bytes port captures hs = flat_map record_bytes (sent_records port captures hs)
+
+-- the output of a port: a capture of these records
+unfoldable pub output_bytes : ℕ → List (List ℕ) → List Handled → List ℕ
+output_bytes port captures hs = capture_bytes (sent_records port captures hs)

@@ -1,16 +1,8 @@
 use Rattle.std.proofs.Common.{arith, sym, ◌∙◌}
 use Rattle.std.specs.Vec.{vec_len}
 use Rattle.pcap_file.specs.Capture.{most_records}
-use Rattle.pcap_file.proofs.Loop.{goes_on, is_torn, is_over, is_done}
+use Rattle.pcap_file.proofs.Loop.{goes_on, is_done}
 use Rattle.pcap_file.proofs.reading.heads.Goals as goal
-
-pub returns-then-len-ge-MOST_RECORDS : goal.returns-then-len-ge-MOST_RECORDS
-returns-then-len-ge-MOST_RECORDS c =
-    is_over c.each.heads.items c.each.offset c.each.latest most_records (vec_len c.each.heads) c.each.rest.now _ (omega arith) (sym c.is_empty.ensures ∙ c.each-test.true) c.each.invariant.0
-
-pub returns-in-None : goal.returns-in-None
-returns-in-None c =
-    is_torn c.each.heads.items c.each.offset c.each.latest most_records (vec_len c.each.heads) c.each.rest.now _ (omega arith) (sym c.is_empty.ensures ∙ c.each-test.true) c.in-None.ensures.value c.each.invariant.0
 
 pub each-preserved : goal.each-preserved
 each-preserved c = (

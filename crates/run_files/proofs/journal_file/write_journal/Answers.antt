@@ -1,4 +1,4 @@
-use Rattle.std.proofs.Common.{◌≡◌, ◌∙◌, ℕ, ◌+◌, [], List, drop, subst}
+use Rattle.std.proofs.Common.{◌∙◌, ℕ, ◌+◌, List, drop, subst}
 use Rattle.nf_files.specs.Writes.{WritesAll}
 use Rattle.run_files.specs.Pending.{Pending}
 use Rattle.run_files.specs.Written.{journal_bytes, packet_lines, line_of}

@@ -1,0 +1,90 @@
+use crate::{Arrival, LoadFault, load};
+use pcap_file::{push_header, push_record};
+use std::alloc::{AllocError, Global};
+
+/// A capture of frames of one byte, by their times.
+fn capture(alloc: Global, times: &[u64]) -> Result<Vec<u8>, AllocError> {
+    let mut out = Vec::new(alloc);
+    push_header(&mut out)?;
+    for time in times {
+        if *time <= 4_294_967_295_999_999_999 {
+            push_record(&mut out, *time, 60, &[1])?;
+        }
+    }
+    Ok(out)
+}
+
+/// A TCP segment's first bytes, with an IP header of 20 bytes.
+const SEGMENT: [u8; 54] = [
+    0, 0, 0, 0, 0, 2, 0, 0, 0, 0, 0, 1, 0x08, 0x00, 0x45, 0, 0, 40, 0, 0, 0, 0, 64, 6, 0, 0, 10, 0,
+    0, 1, 192, 168, 0, 2, 0x30, 0x39, 0x01, 0xbb, 0, 0, 0, 0, 0, 0, 0, 0, 0x50, 0x02, 0, 0, 0, 0,
+    0, 0,
+];
+
+fn order(arrival: &Arrival) -> (u64, u32, u32) {
+    let packet = arrival.packet;
+    (packet.time, packet.id.port, packet.id.seq)
+}
+
+#[test]
+fn ties_go_by_port_and_times_never_fall(rt: HostRuntime) {
+    let first = capture(rt.alloc(), &[7, 3, 9]).expect(&rt, "memory");
+    let second = capture(rt.alloc(), &[7, 8]).expect(&rt, "memory");
+    let captures = [first, second];
+    let arrivals = load(rt.alloc(), &captures).expect(&rt, "captures");
+    let expected = [(7, 0, 0), (7, 0, 1), (7, 1, 0), (8, 1, 1), (9, 0, 2)];
+    assert_eq!(rt; arrivals.len(), 5);
+    for (arrival, wanted) in arrivals.iter().zip(&expected) {
+        assert_eq!(rt; order(arrival), *wanted);
+    }
+}
+
+#[test]
+fn a_skipped_frame_is_a_packet_with_a_number(rt: HostRuntime) {
+    let mut out = Vec::new(rt.alloc());
+    push_header(&mut out).expect(&rt, "memory");
+    push_record(&mut out, 1, 54, &SEGMENT[..53]).expect(&rt, "memory");
+    push_record(&mut out, 2, 1500, &SEGMENT).expect(&rt, "memory");
+    let captures = [out];
+    let arrivals = load(rt.alloc(), &captures).expect(&rt, "captures");
+    assert_eq!(rt; arrivals.len(), 2);
+    for arrival in &arrivals {
+        match arrival.packet.fields {
+            None => assert_eq!(rt;
+                (
+                    arrival.packet.id.seq,
+                    arrival.offset,
+                    arrival.captured,
+                    arrival.original
+                ),
+                (0, 40, 53, 54)
+            ),
+            Some(fields) => {
+                assert_eq!(rt;
+                    (
+                        arrival.packet.id.seq,
+                        arrival.offset,
+                        arrival.captured,
+                        arrival.original
+                    ),
+                    (1, 109, 54, 1500)
+                );
+                assert_eq!(rt;
+                    (fields.length, fields.src_port, fields.dst_port),
+                    (1500, 12345, 443)
+                );
+            }
+        }
+    }
+}
+
+#[test]
+fn the_least_port_without_a_capture_is_named(rt: HostRuntime) {
+    let whole = capture(rt.alloc(), &[7]).expect(&rt, "memory");
+    let mut torn = capture(rt.alloc(), &[7]).expect(&rt, "memory");
+    torn.pop();
+    let captures = [whole, torn, Vec::new(rt.alloc())];
+    assert!(rt; load(rt.alloc(), &captures).is_err_and(|e| e == LoadFault::NotCapture { port: 1 }));
+    assert!(rt; load(rt.alloc(), &captures[..1]).is_ok_and(|arrivals| arrivals.len() == 1));
+    assert!(rt; load(rt.alloc(), &captures[..0]).is_ok_and(|arrivals| arrivals.is_empty()));
+}
