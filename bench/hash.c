@@ -32,15 +32,16 @@ int main(void)
     while (scanf("%u", &count) == 1) {
         uint64_t state = 0;
         uint32_t all = 0;
-        uint8_t key[40];
-        for (int i = 0; i < 40; i++)
-            key[i] = DEFAULT_KEY[i] ^ (uint8_t)count;
+        uint8_t keys[4][40];
+        for (unsigned port = 0; port < 4; port++)
+            for (int i = 0; i < 40; i++)
+                keys[port][i] = DEFAULT_KEY[i] ^ (uint8_t)(count % 64 + 64 * port);
         for (uint32_t k = 0; k < count; k++) {
             uint8_t input[12];
             state = state * 0x5851f42d4c957f2dull + 0x14057b7ef767814full;
             for (int i = 0; i < 12; i++)
                 input[i] = (uint8_t)(state >> (56 - 8 * (i % 8)));
-            all ^= toeplitz(key, input, 12);
+            all ^= toeplitz(keys[state >> 62], input, 12);
         }
         printf("%08x\n", all);
     }

@@ -1,5 +1,5 @@
-//! Hashes as many inputs of 12 bytes as each line says, and prints the `xor` of their hashes, in
-//! hexadecimal. `bench/hash` times it.
+//! Hashes as many inputs of 12 bytes as each line says, under one of four keys each, and prints the
+//! `xor` of their hashes, in hexadecimal. `bench/hash` times it.
 #![tactic(auto)]
 
 use std::io;
@@ -7,21 +7,27 @@ use toeplitz_hash::{DEFAULT_KEY, toeplitz};
 
 /// The `xor` of the hashes of some made up inputs.
 fn hash_all(count: u32) -> u32 {
-    let key = key_for(count);
+    let salt = (count % 64) as u8;
+    let keys = [
+        key_for(salt),
+        key_for(salt + 64),
+        key_for(salt + 128),
+        key_for(salt + 192),
+    ];
     let mut state = 0u64;
     let mut all = 0;
     for _ in 0..count {
         state = state
             .wrapping_mul(0x5851_f42d_4c95_7f2d)
             .wrapping_add(0x1405_7b7e_f767_814f);
-        all ^= toeplitz(&key, &input_from(state));
+        let port = (state >> 62) as usize;
+        all ^= toeplitz(&keys[port], &input_from(state));
     }
     all
 }
 
 /// A key that no compiler knows.
-fn key_for(count: u32) -> [u8; 40] {
-    let salt = (count % 256) as u8;
+fn key_for(salt: u8) -> [u8; 40] {
     let mut key = DEFAULT_KEY;
     for byte in key.iter_mut() {
         *byte ^= salt;
