@@ -1,5 +1,5 @@
 -- The entries of an even table.
-use Rattle.std.proofs.Common.{◌≡◌, ℕ, ◌%◌, ◌<◌, List, length, get_or, arith}
+use Rattle.std.proofs.Common.{◌≡◌, ℕ, ◌%◌, ◌<◌, List, length, get_or, refl, arith}
 use Rattle.std.proofs.lemmas.Nat.{mod_below}
 use Rattle.std.proofs.lemmas.List.FromFn.{length-map-range_with_len, get_or-map-range_with_len, fill_by_all}
 use Rattle.std.proofs.lemmas.List.Elements.{All-from_get_or}
@@ -31,5 +31,6 @@ pub entries_go_round : EntriesGoRound
 entries_go_round workers = record {
   entries = length_even workers;
   entry = entry_even workers;
+  of_skipped = refl;
   of_hash = λ hash. entry_even workers (hash % 128) (omega arith);
 }

@@ -31,6 +31,7 @@ pub record AllBelow (count : ℕ) (table : List ℕ) : Type 0 where
 pub record GoesRound (workers : ℕ) : Type 0 where
   pub entries : length (even_table workers) ≡ 128
   pub entry : (i : ℕ) → i < 128 → slice_index (even_table workers) i ≡ i % workers
+  pub of_skipped : queue_at (even_table workers) None ≡ 0
   pub of_hash : (hash : ℕ) → queue_at (even_table workers) (Some hash) ≡ hash % 128 % workers
 
 abbrev pub EntriesGoRound : Type 0

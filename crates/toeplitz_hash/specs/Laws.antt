@@ -1,11 +1,13 @@
 -- What the hash is known for, as laws over its definition.
-use Rattle.std.specs.Prelude.{◌≡◌, ◌≢◌, ℕ, ◌+◌, ◌-◌, ◌*◌, ◌%◌, ◌^◌, ◌<◌, ◌≤◌, List, ◌++◌, length, drop}
+use Rattle.std.specs.Prelude.{◌≡◌, ◌≢◌, ℕ, ◌+◌, ◌-◌, ◌*◌, ◌%◌, ◌^◌, ◌<◌, ◌≤◌, List, ◌++◌, length, drop, Option, Some, None, slice_get}
 use Rattle.std.specs.Int.{bit_at}
 use Rattle.std.specs.Int.Bits.{bit_xor}
+use Rattle.nf_base.specs.declared.keys.Keys.{Keys}
 use Rattle.nf_base.specs.declared.packet.Fields.{Fields}
+use Rattle.nf_base.specs.declared.packet.Packet.{Packet}
 use Rattle.toeplitz_hash.specs.Bits.{bit_of, number_of}
 use Rattle.toeplitz_hash.specs.Toeplitz.{hash_bit, toeplitz_of}
-use Rattle.toeplitz_hash.specs.Packets.{input_bytes}
+use Rattle.toeplitz_hash.specs.Packets.{input_bytes, hash_of}
 
 -- bit j of a hash, 0 the highest of 32
 abbrev pub bit_of_hash : ℕ → ℕ → ℕ
@@ -78,3 +80,11 @@ pub record IsLaidOut (fields : Fields) : Type 0 where
 
 abbrev pub InputsAreLaidOut : Type 0
 InputsAreLaidOut = (fields : Fields) → IsLaidOut fields
+
+-- which key a packet's hash is taken with
+pub record UsesTheKeyOfItsPort (keys : Keys) (packet : Packet) : Type 0 where
+  pub handled : (fields : Fields) (key : List ℕ) → packet.fields ≡ Some fields → slice_get keys.ports packet.id.port ≡ Some key → hash_of keys packet ≡ Some (toeplitz_of key (input_bytes fields))
+  pub skipped : packet.fields ≡ None → hash_of keys packet ≡ None
+
+abbrev pub PacketsUseTheKeyOfTheirPort : Type 0
+PacketsUseTheKeyOfTheirPort = (keys : Keys) (packet : Packet) → UsesTheKeyOfItsPort keys packet

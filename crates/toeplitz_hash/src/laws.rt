@@ -1,6 +1,6 @@
 //! Laws over the definition of the hash, which is a sum modulo 2 in the bits of the key as in those of
 //! the input. Each function's contract is one law; its body does nothing.
-ghost use Rattle.toeplitz_hash.specs.Laws.{HashesHaveBits, IsLinearInKey, IsLinearInInput, OnlyFirstBitsMatter, OnlyBitsTo126Matter, ZerosHashToZero, OneKeyBitSelects, OneInputBitSelects, InputsAddUp, InputsAreLaidOut};
+ghost use Rattle.toeplitz_hash.specs.Laws.{HashesHaveBits, IsLinearInKey, IsLinearInInput, OnlyFirstBitsMatter, OnlyBitsTo126Matter, ZerosHashToZero, OneKeyBitSelects, OneInputBitSelects, InputsAddUp, InputsAreLaidOut, PacketsUseTheKeyOfTheirPort};
 ghost use Rattle.toeplitz_hash.specs.Suite.{SuiteIsMet};
 
 /// Bit `j` of a hash is the sum modulo 2 over the bits `i` of the input of `input_i * key_(i+j)`, and
@@ -56,7 +56,13 @@ pub fn inputs_are_laid_out()
     ensures { InputsAreLaidOut }
 {}
 
-/// The hash gives what Microsoft's verification suite says, in all its IPv4 rows.
+/// A packet is hashed with the key of the port that it came in at, and a skipped one has no hash.
+pub fn packets_use_the_key_of_their_port()
+    ensures { PacketsUseTheKeyOfTheirPort }
+{}
+
+/// The hash under the default key is what Microsoft's verification suite says, in all its rows. Its
+/// inputs reach every bit of that key but the last one, which no input of 36 bytes does.
 pub fn suite_is_met()
     ensures { SuiteIsMet }
 {}

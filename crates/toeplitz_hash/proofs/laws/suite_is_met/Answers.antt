@@ -11,4 +11,7 @@ returns c = record {
   third = record { of_addresses = refl; with_ports = refl };
   fourth = record { of_addresses = refl; with_ports = refl };
   fifth = record { of_addresses = refl; with_ports = refl };
+  sixth = record { of_addresses = refl; with_ports = refl };
+  seventh = record { of_addresses = refl; with_ports = refl };
+  eighth = record { of_addresses = refl; with_ports = refl };
 }
