@@ -1,0 +1,13 @@
+//! The indirection table of receive side scaling (Microsoft RSS), and which indices of a chain each of
+//! its queues owns.
+#![tactic(auto)]
+
+pub mod laws;
+mod shares;
+mod table;
+
+pub use shares::share;
+pub use table::{Table, table_index};
+
+#[cfg(test)]
+mod tests;

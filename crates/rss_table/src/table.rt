@@ -1,0 +1,58 @@
+//! From a hash to a queue.
+ghost use Rattle.std.specs.Prelude.{◌≡◌, ℕ, ◌<◌, length};
+ghost use Rattle.rss_table.specs.Tables.{AllBelow, table_index, even_table, queue_of};
+
+use nf_base::keys::Keys;
+use nf_base::packet::Packet;
+use nf_base::workers::Workers;
+use std::marker::Model;
+use toeplitz_hash::hash_packet;
+
+/// The queues of the 128 table indices, which contracts see as the list of these queues.
+#[derive(Drop)]
+pub struct Table {
+    queues: [u32; 128],
+}
+
+impl Model for Table {
+    ghost use Rattle.std.specs.Prelude.{List, ℕ};
+
+    ghost Value = { List ℕ };
+
+    ghost view = { λ table. table.queues };
+}
+
+impl Table {
+    /// The table whose entry `i` is queue `i` modulo the number of workers.
+    pub fn even(workers: Workers) -> Table
+        ensures value { result ≡ even_table workers }
+        ensures below { AllBelow workers result }
+    {
+        let count = workers.get();
+        let mut queues = [0; 128];
+        for i in 0..128u32 {
+            queues[i as usize] = i % count;
+        }
+        Table { queues }
+    }
+
+    /// The queue of a packet: the entry at the table index of its hash, and 0 for one that is skipped.
+    pub fn queue(&self, keys: &Keys, packet: &Packet) -> u32
+        requires { packet.now.id.port < length keys.now.ports }
+        ensures value { result ≡ queue_of self.now keys.now packet.now }
+        ensures below { (count : ℕ) → AllBelow count self.now → result < count }
+    {
+        match hash_packet(keys, packet) {
+            Some(hash) => self.queues[table_index(hash) as usize],
+            None => 0,
+        }
+    }
+}
+
+/// The table index of a hash: its low 7 bits.
+pub fn table_index(hash: u32) -> u32
+    ensures value { result ≡ table_index hash }
+    ensures below { result < 128 }
+{
+    hash % 128
+}

@@ -1,0 +1,98 @@
+ghost use Rattle.std.specs.Prelude.{◌≡◌, length, IfOk};
+
+use crate::{Table, share, table_index};
+use nf_base::keys::Keys;
+use nf_base::limited::Limited;
+use nf_base::packet::{Fields, Packet, PacketId};
+use nf_base::workers::Workers;
+use std::alloc::{AllocError, Global};
+use std::test::Fail;
+use toeplitz_hash::DEFAULT_KEY;
+
+fn packet_between(src_ip: [u8; 4], src_port: u16, dst_ip: [u8; 4], dst_port: u16) -> Packet
+    ensures { result.id.port ≡ 0 }
+{
+    let fields = Fields {
+        length: 42,
+        src_mac: 0x0200_0000_0001,
+        dst_mac: 0x0200_0000_0002,
+        src_ip: u32::from_be_bytes(src_ip),
+        dst_ip: u32::from_be_bytes(dst_ip),
+        proto: 17,
+        ttl: 64,
+        src_port,
+        dst_port,
+    };
+    Packet {
+        id: PacketId { port: 0, seq: 0 },
+        time: 0,
+        fields: Some(fields),
+    }
+}
+
+fn one_key(alloc: Global, key: [u8; 40]) -> Result<Keys, AllocError>
+    ensures { IfOk result (λ keys. length keys.ports ≡ 1) }
+{
+    let mut ports = Limited::new(alloc);
+    ports.push(key)?;
+    Ok(Keys { ports })
+}
+
+/// The first two rows of Microsoft's verification suite with ports: hashes 51ccc178 and c626b0ea.
+#[test]
+fn low_seven_bits_pick_the_queue(rt: HostRuntime) -> Result<(), Fail> {
+    let keys = one_key(rt.alloc(), DEFAULT_KEY)?;
+    let first = packet_between([66, 9, 149, 187], 2794, [161, 142, 100, 80], 1766);
+    let second = packet_between([199, 92, 111, 2], 14230, [65, 69, 140, 83], 4739);
+    let cases = [(1, 0, 0), (2, 0, 0), (7, 1, 1), (16, 8, 10)];
+    for (workers, of_first, of_second) in cases {
+        if 1 <= workers && workers <= 16 {
+            let table = Table::even(Workers::new(workers));
+            assert_eq!(rt; table.queue(&keys, &first), of_first, "first of {workers}");
+            assert_eq!(rt;
+                table.queue(&keys, &second),
+                of_second,
+                "second of {workers}"
+            );
+        }
+    }
+    assert_eq!(rt; table_index(0x51cc_c178), 120);
+    assert_eq!(rt; table_index(0xc626_b0ea), 106);
+    Ok(())
+}
+
+#[test]
+fn keys_by_one_address_look_at_it_alone(rt: HostRuntime) -> Result<(), Fail> {
+    let mut by_destination = [0; 40];
+    by_destination[7] = 1;
+    let mut by_source = [0; 40];
+    by_source[0] = 0x6d;
+    by_source[1] = 0x5a;
+    by_source[2] = 0x56;
+    by_source[3] = 0xda;
+    let table = Table::even(Workers::new(3));
+    let there = packet_between([9, 9, 9, 9], 1, [10, 0, 0, 1], 2);
+    let back = packet_between([10, 0, 0, 1], 2, [9, 9, 9, 9], 1);
+    assert_eq!(rt;
+        table.queue(&one_key(rt.alloc(), by_destination)?, &there),
+        2
+    );
+    assert_eq!(rt; table.queue(&one_key(rt.alloc(), by_source)?, &back), 2);
+    Ok(())
+}
+
+#[test]
+fn a_skipped_packet_has_queue_0(rt: HostRuntime) -> Result<(), Fail> {
+    let keys = one_key(rt.alloc(), DEFAULT_KEY)?;
+    let mut packet = packet_between([1, 2, 3, 4], 5, [6, 7, 8, 9], 10);
+    packet.fields = None;
+    let table = Table::even(Workers::new(16));
+    assert_eq!(rt; table.queue(&keys, &packet), 0);
+    Ok(())
+}
+
+#[test]
+fn a_share_names_its_queue(rt: HostRuntime) {
+    let own = share(1, Workers::new(2));
+    assert_eq!(rt; (own.queue, own.of), (1, 2));
+}

@@ -1,0 +1,90 @@
+-- What the hash is known for, as laws over its definition.
+use Rattle.std.specs.Prelude.{◌≡◌, ◌≢◌, ℕ, ◌+◌, ◌-◌, ◌*◌, ◌%◌, ◌^◌, ◌<◌, ◌≤◌, List, ◌++◌, length, drop, Option, Some, None, slice_get}
+use Rattle.std.specs.Int.{bit_at}
+use Rattle.std.specs.Int.Bits.{bit_xor}
+use Rattle.nf_base.specs.declared.keys.Keys.{Keys}
+use Rattle.nf_base.specs.declared.packet.Fields.{Fields}
+use Rattle.nf_base.specs.declared.packet.Packet.{Packet}
+use Rattle.toeplitz_hash.specs.Bits.{bit_of, number_of}
+use Rattle.toeplitz_hash.specs.Toeplitz.{hash_bit, toeplitz_of}
+use Rattle.toeplitz_hash.specs.Packets.{input_bytes, hash_of}
+
+-- bit j of a hash, 0 the highest of 32
+abbrev pub bit_of_hash : ℕ → ℕ → ℕ
+bit_of_hash hash j = bit_at hash (31 - j)
+
+-- a hash, bit by bit
+pub record HasBits (key input : List ℕ) : Type 0 where
+  pub fits : toeplitz_of key input < 2 ^ 32
+  pub bits : (j : ℕ) → j < 32 → bit_of_hash (toeplitz_of key input) j ≡ hash_bit (8 * length input) (bit_of key) (bit_of input) j
+
+abbrev pub HashesHaveBits : Type 0
+HashesHaveBits = (key input : List ℕ) → HasBits key input
+
+-- bytes whose bits are the sums modulo 2 of two others' bits
+pub record IsSum (left right sum : List ℕ) : Type 0 where
+  pub bits : (i : ℕ) → bit_of sum i ≡ (bit_of left i + bit_of right i) % 2
+
+abbrev pub IsLinearInKey : Type 0
+IsLinearInKey = (left right sum input : List ℕ) → IsSum left right sum → toeplitz_of sum input ≡ bit_xor (toeplitz_of left input) (toeplitz_of right input)
+
+abbrev pub IsLinearInInput : Type 0
+IsLinearInInput = (key left right sum : List ℕ) → length left ≡ length sum → length right ≡ length sum → IsSum left right sum → toeplitz_of key sum ≡ bit_xor (toeplitz_of key left) (toeplitz_of key right)
+
+-- two keys that agree on their first n bits
+pub record AgreeBelow (n : ℕ) (left right : List ℕ) : Type 0 where
+  pub bits : (i : ℕ) → i < n → bit_of left i ≡ bit_of right i
+
+-- Of a key as many bits matter as the input has, and 31 more.
+abbrev pub OnlyFirstBitsMatter : Type 0
+OnlyFirstBitsMatter = (left right input : List ℕ) → AgreeBelow (8 * length input + 31) left right → toeplitz_of left input ≡ toeplitz_of right input
+
+abbrev pub OnlyBitsTo126Matter : Type 0
+OnlyBitsTo126Matter = (left right : List ℕ) (fields : Fields) → AgreeBelow 127 left right → toeplitz_of left (input_bytes fields) ≡ toeplitz_of right (input_bytes fields)
+
+-- bytes without a 1
+pub record AreZero (bytes : List ℕ) : Type 0 where
+  pub bits : (i : ℕ) → bit_of bytes i ≡ 0
+
+abbrev pub ZerosHashToZero : Type 0
+ZerosHashToZero = (key input : List ℕ) → AreZero key → toeplitz_of key input ≡ 0
+
+-- bytes with one 1, at bit k
+pub record HasOneBit (bytes : List ℕ) (k : ℕ) : Type 0 where
+  pub one : bit_of bytes k ≡ 1
+  pub others : (i : ℕ) → i ≢ k → bit_of bytes i ≡ 0
+
+-- Under a key with one 1 a bit of the hash is one bit of the input: they count down from the 1.
+pub record CountsDownFrom (key input : List ℕ) (k : ℕ) : Type 0 where
+  pub to_the_first : (j : ℕ) → j < 32 → j ≤ k → bit_of_hash (toeplitz_of key input) j ≡ bit_of input (k - j)
+  pub past_the_first : (j : ℕ) → j < 32 → k < j → bit_of_hash (toeplitz_of key input) j ≡ 0
+
+abbrev pub OneKeyBitSelects : Type 0
+OneKeyBitSelects = (key input : List ℕ) (k : ℕ) → HasOneBit key k → CountsDownFrom key input k
+
+-- An input with one 1 has the 32 bits of the key from there on as its hash.
+abbrev pub OneInputBitSelects : Type 0
+OneInputBitSelects = (key input : List ℕ) (k : ℕ) → k < 8 * length input → HasOneBit input k → toeplitz_of key input ≡ number_of 32 (λ j. bit_of key (k + j))
+
+-- The hash of two inputs in a row, from the hash of each; the second one's key begins where it begins.
+abbrev pub InputsAddUp : Type 0
+InputsAddUp = (key left right : List ℕ) → toeplitz_of key (left ++ right) ≡ bit_xor (toeplitz_of key left) (toeplitz_of (drop (length left) key) right)
+
+-- where a packet's addresses and ports stand among the 96 bits of its input
+pub record IsLaidOut (fields : Fields) : Type 0 where
+  pub bytes : length (input_bytes fields) ≡ 12
+  pub src_ip : (i : ℕ) → i < 32 → bit_of (input_bytes fields) i ≡ bit_at fields.src_ip (31 - i)
+  pub dst_ip : (i : ℕ) → i < 32 → bit_of (input_bytes fields) (32 + i) ≡ bit_at fields.dst_ip (31 - i)
+  pub src_port : (i : ℕ) → i < 16 → bit_of (input_bytes fields) (64 + i) ≡ bit_at fields.src_port (15 - i)
+  pub dst_port : (i : ℕ) → i < 16 → bit_of (input_bytes fields) (80 + i) ≡ bit_at fields.dst_port (15 - i)
+
+abbrev pub InputsAreLaidOut : Type 0
+InputsAreLaidOut = (fields : Fields) → IsLaidOut fields
+
+-- which key a packet's hash is taken with
+pub record UsesTheKeyOfItsPort (keys : Keys) (packet : Packet) : Type 0 where
+  pub handled : (fields : Fields) (key : List ℕ) → packet.fields ≡ Some fields → slice_get keys.ports packet.id.port ≡ Some key → hash_of keys packet ≡ Some (toeplitz_of key (input_bytes fields))
+  pub skipped : packet.fields ≡ None → hash_of keys packet ≡ None
+
+abbrev pub PacketsUseTheKeyOfTheirPort : Type 0
+PacketsUseTheKeyOfTheirPort = (keys : Keys) (packet : Packet) → UsesTheKeyOfItsPort keys packet

@@ -1,0 +1,5 @@
+pub mod Bits
+pub mod Toeplitz
+pub mod Packets
+pub mod Laws
+pub mod Suite

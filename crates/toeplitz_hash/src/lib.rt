@@ -1,0 +1,15 @@
+//! The Toeplitz hash of receive side scaling (Microsoft RSS), and of which bytes of a packet it is
+//! taken.
+#![tactic(auto)]
+
+mod hash;
+mod input;
+mod key;
+pub mod laws;
+
+pub use hash::toeplitz;
+pub use input::{hash_packet, input_of};
+pub use key::DEFAULT_KEY;
+
+#[cfg(test)]
+mod tests;
