@@ -9,3 +9,4 @@ pub mod Expected
 pub mod Opened
 pub mod Memory
 pub mod Untold
+pub mod Standard

@@ -1,5 +1,5 @@
 // The trait of the files outside.
-ghost use Rattle.std.specs.Prelude.{◌≡◌, ◌<◌, ◌≤◌, ◌⊎◌, ℕ, List, IfOk, OnErr, length, take};
+ghost use Rattle.std.specs.Prelude.{◌≡◌, ◌<◌, ◌≤◌, ◌⊎◌, ℕ, List, IfOk, OnErr, None, length, take};
 ghost use Rattle.nf_files.specs.Told.{Told, Same};
 ghost use Rattle.nf_files.specs.Openings.{Opens, Creates};
 ghost use Rattle.nf_files.specs.Reads.{Reads};
@@ -88,4 +88,7 @@ pub trait Files {
 
     // No file is the first to fail exactly where no fault was counted.
     ghost counts: { (files : Self) → IsCount (counted files) };
+
+    // Standard output and standard error stand under no name.
+    ghost standard: { (files : Self) → (g : ℕ) → g < 2 → (told files).name g ≡ None };
 }

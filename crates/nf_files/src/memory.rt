@@ -1,6 +1,7 @@
 // Files in memory.
-ghost use Rattle.std.specs.Prelude.{◌≡◌, ℕ, [], option_map, unwrap_or, OnOk, OnErr, None};
+ghost use Rattle.std.specs.Prelude.{◌≡◌, ℕ, [], option_map, unwrap_or, OnOk, OnErr, None, suc};
 ghost use Rattle.nf_files.specs.Memory.{memory_told, memory_counted, nothing, is_input, is_output, will_fail, will_pass, will_open, will_not_open};
+ghost use Rattle.nf_files.specs.Standard.{of_standard};
 ghost use Rattle.nf_files.specs.Puts.{Puts};
 ghost use Rattle.nf_files.specs.Told.{Same};
 
@@ -136,4 +137,6 @@ impl Files for MemoryFiles {
     }
 
     ghost counts = { λ m. m.calls.count.agrees };
+
+    ghost standard = { λ m g lt. of_standard None None (λ k. (memory_told m).name (suc (suc k))) (λ o. o ≡ None) g lt (λ _. None) (λ _. None) };
 }

@@ -135,4 +135,6 @@ impl<'a, R: rt::Files> Files for RealFiles<'a, R> {
     }
 
     ghost counts = { λ r. r.count.agrees };
+
+    ghost standard = { λ _ _ _ _. None };
 }

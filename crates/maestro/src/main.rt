@@ -1,0 +1,24 @@
+//! The program: the words of the command line and the files of the system, given to the top call.
+#![tactic(auto)]
+
+use maestro_cli::{Status, maestro};
+use nf_files::RealFiles;
+use std::process::ExitCode;
+use std::{env, io};
+
+fn words(rt: &HostRuntime) -> io::Result<Vec<String>> {
+    let mut words = Vec::new(rt.alloc());
+    for word in env::args(rt)? {
+        words.push(word)?;
+    }
+    Ok(words)
+}
+
+fn main(rt: HostRuntime) -> ExitCode {
+    let Ok(words) = words(&rt) else {
+        return ExitCode::from(Status::Memory.number());
+    };
+    let mut files = RealFiles::new(rt.alloc(), &rt, rt.stdout(), rt.stderr());
+    let status = maestro(rt.alloc(), words.as_slice(), &mut files);
+    ExitCode::from(status.number())
+}

@@ -1,0 +1,29 @@
+-- The cause of a status after more was printed.
+use Rattle.std.proofs.Common.{◌≡◌, ℕ, ◌+◌, ◌-◌, ◌^◌, ◌≤◌, min, Option, Some, None, refl, ap, sym, subst, ◌∙◌, arith}
+use Rattle.nf_files.specs.Causes.{Counted, Faulted, FirstAfter, Rose}
+use Rattle.maestro_cli.specs.declared.status.RunFile.{RunFile}
+use Rattle.maestro_cli.specs.declared.status.Status.{Status}
+use Rattle.maestro_cli.specs.declared.status.Status.TheVariants.{Done, Usage, Refused, FileFault, NotCapture, Memory}
+use Rattle.maestro_cli.specs.Numbers.{Start, number_of, HasStatusCause}
+
+first_stays : (a : Option ℕ) (n : ℕ) (b : Option ℕ) (m : ℕ) (c : Option ℕ) → FirstAfter a n b → FirstAfter b m c → FirstAfter a n c
+first_stays (Some x) n (Some y) m c h k = k ∙ h
+first_stays (Some x) n None m c h k = cc
+first_stays None n (Some y) m c h k = k ∙ h
+first_stays None n None m c h k = cc
+
+two_faults : (a b c : Counted) (n m : ℕ) → Faulted a b n → Faulted b c m → Faulted a c n
+two_faults a b c n m h k = record {
+  later = omega (arith, h.later, k.later);
+  rose = omega (arith, h.rose, k.later);
+  first = first_stays a.first n b.first m c.first h.first k.first;
+}
+
+-- a further fault leaves the first one standing
+pub fault_stays : (start : Start) (a b c : Counted) (file : RunFile) (stop : Status) → Faulted a b (number_of start file) → HasStatusCause start b c stop → Faulted a c (number_of start file)
+fault_stays start a b c file (FileFault other) h k = two_faults a b c (number_of start file) (number_of start other) h k
+fault_stays start a b c file Done h k = subst (λ (x : Counted). Faulted a x (number_of start file)) (sym k) h
+fault_stays start a b c file Usage h k = subst (λ (x : Counted). Faulted a x (number_of start file)) (sym k) h
+fault_stays start a b c file (Refused line column) h k = subst (λ (x : Counted). Faulted a x (number_of start file)) (sym k) h
+fault_stays start a b c file (NotCapture port) h k = subst (λ (x : Counted). Faulted a x (number_of start file)) (sym k) h
+fault_stays start a b c file Memory h k = subst (λ (x : Counted). Faulted a x (number_of start file)) (sym k) h

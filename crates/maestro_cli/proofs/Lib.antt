@@ -1,0 +1,9 @@
+pub mod Got
+pub mod Openings
+pub mod Readings
+pub mod Handlings
+pub mod Stages
+pub mod Reaching
+pub mod Printing
+pub mod Causes
+pub mod Ending

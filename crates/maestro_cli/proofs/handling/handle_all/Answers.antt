@@ -1,0 +1,34 @@
+use Rattle.std.proofs.Common.{◌≡◌, ◌<◌, ◌∙◌, ◌+◌, ◌++◌, length, map, drop, sym, refl, ap, subst}
+use Rattle.std.specs.List.{AllByRecursion}
+use Rattle.std.proofs.lemmas.List.{length-map}
+use Rattle.nf_base.specs.Functions.{function_of}
+use Rattle.nf_base.specs.Step.{opening_chain}
+use Rattle.run_files.specs.Written.{arrival_in}
+use Rattle.maestro_cli.specs.Runs.{IsUndivided}
+use Rattle.maestro_cli.proofs.Handlings.{undivided_none, handles_more, arrivals_after, all_got, arrivals_more}
+use Rattle.maestro_cli.proofs.handling.handle_all.Goals as goal
+
+pub loop-arrival-init : goal.loop-arrival-init
+loop-arrival-init c =
+    let f = function_of c.args.func.now in
+    let opens = c.in_ok-undivided.ensures in
+    record {
+      all = ap (λ hs. map arrival_in hs ++ c.args.arrivals.now) c.new-handled.ensures.items;
+      undivided = subst (λ hs. IsUndivided f hs c.in_ok-undivided.undivided.state) (sym c.new-handled.ensures.items) (undivided_none f c.in_ok-undivided.undivided.state opens);
+      of_func = sym (ap (λ state. length state.chains) opens ∙ length-map c.args.func.now.chains opening_chain);
+      ports = c.requires;
+    }
+
+pub loop-arrival-preserved : goal.loop-arrival-preserved
+loop-arrival-preserved c =
+    let f = function_of c.args.func.now in
+    let xs = c.args.arrivals.now in
+    let i = c.loop-arrival.arrival-index in
+    let inv = c.loop-arrival.invariant in
+    let one = c.in_ok-handle_one.ensures.ok in
+    record {
+      all = ap (λ ys. ys ++ drop (i + 1) xs) (arrivals_after f _ _ _ _ _ one) ∙ arrivals_more (map arrival_in c.loop-arrival.handled.items) xs i _ c.loop-arrival-test.true inv.all;
+      undivided = handles_more f _ _ _ _ _ one inv.undivided;
+      of_func = inv.of_func ∙ sym c.in_ok-handle_one.ensures.same_chains;
+      ports = inv.ports;
+    }

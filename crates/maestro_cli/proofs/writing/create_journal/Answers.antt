@@ -1,0 +1,18 @@
+use Rattle.std.proofs.Common.{◌≡◌, ◌<◌, ◌≤◌, ◌+◌, ℕ, length, string_bytes, ap, sym, refl, subst, ◌∙◌, arith}
+use Rattle.maestro_cli.specs.declared.status.Status.TheVariants.{Memory}
+use Rattle.maestro_cli.specs.declared.status.RunFile.TheVariants as run_file
+use Rattle.maestro_cli.specs.Stages.{Reaches}
+use Rattle.maestro_cli.specs.Report.{run_in, file_in, all_files}
+use Rattle.maestro_cli.proofs.Reaching.{created_journal, ports_same, reaches_created, reaches_stopped}
+use Rattle.maestro_cli.proofs.writing.create_journal.Goals as goal
+
+pub returns-in-Err-clause-reaches : goal.returns-in-Err-clause-reaches
+returns-in-Err-clause-reaches g c =
+    let r = c.args.report.now in
+    reaches_stopped g.start (g.F.Files.told c.args.files.now) (file_in r) (length r.captures.now) (0) (all_files r) Memory (c.requires.1.1) (omega (arith, ports_same r))
+
+pub returns-clause-reaches : goal.returns-clause-reaches
+returns-clause-reaches g c =
+    let r = c.args.report.now in
+    let out = string_bytes r.out.now in
+    reaches_created g.start (g.F.Files.told c.args.files.now) (g.F.Files.told c.create.new.files) (file_in r) (length r.captures.now) (0) (all_files r) (string_bytes c.in-Ok.name) c.create.result (c.requires.1.1) (omega arith) (omega (arith, ports_same r)) (c.in-Ok.ensures ∙ sym (ap (λ f. f.name) (ap (λ n. file_in r n) (sym (ports_same r)) ∙ created_journal out (run_in r)))) c.create.ensures.ok c.create.ensures.err

@@ -1,0 +1,14 @@
+use Rattle.std.proofs.Common.{◌≡◌, ◌<◌, ◌≤◌, ◌+◌, ℕ, length, string_bytes, ap, sym, refl, subst, ◌∙◌, arith}
+use Rattle.maestro_cli.specs.declared.status.Status.TheVariants.{Memory}
+use Rattle.maestro_cli.specs.declared.status.RunFile.TheVariants as run_file
+use Rattle.maestro_cli.specs.Stages.{Reaches}
+use Rattle.maestro_cli.specs.Report.{run_in, file_in, all_files}
+use Rattle.maestro_cli.proofs.Reaching.{created_state, ports_same, reaches_written}
+use Rattle.maestro_cli.proofs.writing.write_last.Goals as goal
+
+pub returns-clause-reaches : goal.returns-clause-reaches
+returns-clause-reaches g c =
+    let r = c.args.report.now in
+    let out = string_bytes r.out.now in
+    subst (Reaches g.start (g.F.Files.told c.write_state-wrote.new.files) (file_in r) (length r.captures.now + 1 + 1) (length r.captures.now + 1 + 1) (all_files r)) (sym c.outcome_of.ensures)
+    (reaches_written g.start (g.F.Files.told c.args.files.now) (g.F.Files.told c.write_state-wrote.new.files) (file_in r) (length r.captures.now + 1 + 1) (length r.captures.now + 1) (all_files r) c.args.file _ (run_file.State) c.write_state-wrote.result (c.requires.1.1.1.1.1) (omega (arith)) (omega (arith, ports_same r)) (omega (arith, c.requires.1.1.0, c.requires.1.0)) (c.requires.1.1.1.0 ∙ omega arith) (sym (ap (λ f. f.bytes) (ap (λ n. file_in r (n + 1)) (sym (ports_same r)) ∙ created_state out (run_in r)))) c.write_state-wrote.ensures.wrote)

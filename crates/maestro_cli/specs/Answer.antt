@@ -1,0 +1,87 @@
+-- What the program answers: a relation of its words, of what is told of the files outside before and after, and of the status.
+use Rattle.std.specs.Prelude.{◌≡◌, ◌⊎◌, ℕ, ◌≤◌, List, [], length, Option, Some, None, Result, Ok, Err}
+use Rattle.nf_files.specs.Told.{Told}
+use Rattle.nf_files.specs.Causes.{Counted}
+use Rattle.nf_files.specs.Writes.{Writes}
+use Rattle.maestro_cli.specs.declared.status.Status.{Status}
+use Rattle.maestro_cli.specs.declared.status.Status.TheVariants.{Done, Usage, Refused, FileFault, NotCapture, Memory}
+use Rattle.maestro_cli.specs.Words.{Command}
+use Rattle.maestro_cli.specs.Source.{IsNoFunctionUnder}
+use Rattle.maestro_cli.specs.Runs.{Run, IsRunOf, HasOtherPorts, HasNoCapture}
+use Rattle.maestro_cli.specs.Numbers.{Start, first_created}
+use Rattle.maestro_cli.specs.Opened.{IsUntouched}
+use Rattle.maestro_cli.specs.Created.{created_file, files_created}
+use Rattle.maestro_cli.specs.Stages.{HoldsAll, HoldsFronts}
+use Rattle.maestro_cli.specs.Printed.{Printed, PrintedFront, IsStop, ComplainsFront}
+use Rattle.maestro_cli.specs.Texts.{error_line, ran_line}
+
+-- what is told as a command begins
+abbrev pub start_of : Told → Option Command → Start
+start_of before None = record { told = before; captures = 0 }
+start_of before (Some c) = record { told = before; captures = length c.captures }
+
+abbrev pub base_of : Told → Command → ℕ
+base_of before c = first_created (start_of before (Some c))
+
+-- A finished run: its journal lists every packet of every capture once, in capture order; the output captures and the text of the last state are those of one undivided run over that journal.
+pub record IsFinished (c : Command) (before after : Told) : Type 0 where
+  pub run : Run
+  pub is_run : IsRunOf c before run
+  pub files : HoldsAll before after (base_of before c) (created_file c.out run) (files_created run)
+  pub stdout : Printed before after 0 (ran_line (length run.handled))
+  pub stderr : Printed before after 1 []
+
+-- Nothing was created, no name has changed, and nothing was printed on standard output.
+pub record IsUnbegun (before after : Told) : Type 0 where
+  pub contents : (n : List ℕ) → after.content n ≡ before.content n
+  pub stdout : Printed before after 0 []
+
+-- the line of a status on standard error, and nothing else
+pub record SaysOnly (before after : Told) (status : Status) : Type 0 where
+  pub unbegun : IsUnbegun before after
+  pub stderr : Printed before after 1 (error_line status)
+
+-- Some of a run's files were created, and each holds a front of what that one run leaves there.
+pub record IsCutShort (c : Command) (before after : Told) : Type 0 where
+  pub run : Run
+  pub is_run : IsRunOf c before run
+  pub made : ℕ
+  pub within : made ≤ files_created run
+  pub files : HoldsFronts before after (base_of before c) (created_file c.out run) made
+  pub stdout : PrintedFront before after 0 (ran_line (length run.handled))
+
+-- a front of a status's line on standard error
+pub record SaysFront (before after : Told) : Type 0 where
+  pub of : Status
+  pub stderr : PrintedFront before after 1 (error_line of)
+
+-- The call was stopped by the outside or for want of memory.
+pub record IsStopped (c : Command) (before after : Told) : Type 0 where
+  pub files : IsUnbegun before after ⊎ IsCutShort c before after
+  pub stderr : SaysFront before after
+
+pub record IsUnread (before after : Told) : Type 0 where
+  pub files : IsUnbegun before after
+  pub stderr : SaysFront before after
+
+-- what each status says of a command
+abbrev pub Runs : Command → Told → Told → Status → Type 0
+Runs c before after Done = IsFinished c before after
+Runs c before after Usage = HasOtherPorts c before × SaysOnly before after Usage
+Runs c before after (Refused line column) = IsNoFunctionUnder before c.nf line column × SaysOnly before after (Refused line column)
+Runs c before after (FileFault file) = IsStopped c before after
+Runs c before after (NotCapture port) = HasNoCapture c before port × SaysOnly before after (NotCapture port)
+Runs c before after Memory = IsStopped c before after
+
+-- what each status says of words that are no command
+abbrev pub Declines : Told → Told → Status → Type 0
+Declines before after Usage = SaysOnly before after Usage
+Declines before after (FileFault file) = IsUnread before after
+Declines before after Memory = IsUnread before after
+Declines before after Done = ⊥
+Declines before after (Refused line column) = ⊥
+Declines before after (NotCapture port) = ⊥
+
+abbrev pub Answers : Option Command → Told → Told → Status → Type 0
+Answers None before after status = Declines before after status
+Answers (Some c) before after status = Runs c before after status

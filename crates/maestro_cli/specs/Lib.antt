@@ -1,0 +1,17 @@
+pub mod Statuses
+pub mod Words
+pub mod Asked
+pub mod Source
+pub mod Runs
+pub mod Handling
+pub mod Numbers
+pub mod Faults
+pub mod Opened
+pub mod Created
+pub mod Stages
+pub mod Texts
+pub mod Answer
+pub mod Report
+pub mod Printed
+pub mod Loading
+pub mod Running

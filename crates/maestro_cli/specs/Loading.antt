@@ -1,0 +1,37 @@
+-- What reading a run's files comes to.
+use Rattle.std.specs.Prelude.{◌≡◌, ℕ, List, Option, Result, Ok, Err, Vec, Some}
+use Rattle.std.specs.List.{AllByRecursion}
+use Rattle.nf_base.specs.declared.func.Func.{Func}
+use Rattle.nf_base.specs.Functions.{function_of}
+use Rattle.nf_files.specs.Told.{Told}
+use Rattle.capture_order.specs.Arrivals.{IsWithin, all_bytes}
+use Rattle.capture_order.specs.Loaded.{IsLoaded}
+use Rattle.maestro_cli.specs.declared.loading.Packets.{Packets}
+use Rattle.maestro_cli.specs.declared.status.Status.{Status}
+use Rattle.maestro_cli.specs.declared.status.Status.TheVariants.{Done, Usage, Refused, FileFault, NotCapture, Memory}
+use Rattle.maestro_cli.specs.Source.{IsFunctionUnder, IsNoFunctionUnder}
+use Rattle.maestro_cli.specs.Runs.{AreTold, IsNoCaptureUnder}
+
+abbrev pub FindsFunction : Told → List ℕ → Result Func Status → Type 0
+FindsFunction told name (Ok func) = IsFunctionUnder told name (function_of func)
+FindsFunction told name (Err (Refused line column)) = IsNoFunctionUnder told name line column
+FindsFunction told name (Err (FileFault file)) = Unit {0}
+FindsFunction told name (Err Memory) = Unit {0}
+FindsFunction told name (Err Done) = ⊥
+FindsFunction told name (Err Usage) = ⊥
+FindsFunction told name (Err (NotCapture port)) = ⊥
+
+-- the packets of the captures that stand under some names
+pub record ArePacketsUnder (told : Told) (names : List (List ℕ)) (packets : Packets) : Type 0 where
+  pub captures_told : AreTold told.content names (all_bytes packets.captures.items)
+  pub loaded : IsLoaded (all_bytes packets.captures.items) packets.arrivals.items
+  pub within : AllByRecursion (IsWithin (all_bytes packets.captures.items)) packets.arrivals.items
+
+abbrev pub FindsPackets : Told → List (List ℕ) → Result Packets Status → Type 0
+FindsPackets told names (Ok packets) = ArePacketsUnder told names packets
+FindsPackets told names (Err (NotCapture port)) = IsNoCaptureUnder told names port
+FindsPackets told names (Err (FileFault file)) = Unit {0}
+FindsPackets told names (Err Memory) = Unit {0}
+FindsPackets told names (Err Done) = ⊥
+FindsPackets told names (Err Usage) = ⊥
+FindsPackets told names (Err (Refused line column)) = ⊥

@@ -1,0 +1,91 @@
+-- What a run comes to before its end is told on standard error.
+use Rattle.std.specs.Prelude.{◌≡◌, ◌⊎◌, ℕ, ◌≤◌, List, length, map, Result, Ok, Err, string_bytes}
+use Rattle.nf_base.specs.Text.{Function}
+use Rattle.nf_files.specs.Told.{Told}
+use Rattle.nf_files.specs.Causes.{Counted}
+use Rattle.nf_files.specs.Writes.{Writes}
+use Rattle.capture_order.specs.Loaded.{IsLoaded}
+use Rattle.run_files.specs.Written.{arrival_in}
+use Rattle.maestro_cli.specs.declared.report.Report.{Report}
+use Rattle.maestro_cli.specs.declared.status.Status.{Status}
+use Rattle.maestro_cli.specs.declared.status.Status.TheVariants.{Done, Usage, Refused, FileFault, NotCapture, Memory}
+use Rattle.maestro_cli.specs.Words.{Command}
+use Rattle.maestro_cli.specs.Source.{IsNoFunctionUnder}
+use Rattle.maestro_cli.specs.Runs.{Run, IsUndivided, HasOtherPorts, HasNoCapture}
+use Rattle.maestro_cli.specs.Numbers.{Start, first_created}
+use Rattle.maestro_cli.specs.Opened.{IsUntouched}
+use Rattle.maestro_cli.specs.Created.{created_file, files_created}
+use Rattle.maestro_cli.specs.Stages.{HoldsAll, HoldsFronts}
+use Rattle.maestro_cli.specs.Printed.{Printed, PrintedFront, IsStop, ComplainsFront}
+use Rattle.maestro_cli.specs.Report.{run_in, file_in, all_files}
+use Rattle.maestro_cli.specs.Texts.{error_line, ran_line}
+use Rattle.maestro_cli.specs.Answer.{IsFinished, IsCutShort}
+
+-- what a run's calls begin with: what is told and counted then
+pub record Begun : Type 0 where
+  pub start : Start
+  pub counted : Counted
+
+-- all files of a report are whole, and its line is printed
+pub record LeftAll (start : Start) (now : Told) (r : Report) : Type 0 where
+  pub files : HoldsAll start.told now (first_created start) (file_in r) (all_files r)
+  pub stdout : Printed start.told now 0 (ran_line (length r.handled.now))
+  pub stderr : now.given 1 ≡ start.told.given 1
+
+-- some of its files were created, and each holds a front of its bytes
+pub record LeftSome (start : Start) (now : Told) (r : Report) : Type 0 where
+  pub made : ℕ
+  pub within : made ≤ all_files r
+  pub files : HoldsFronts start.told now (first_created start) (file_in r) made
+  pub stdout : PrintedFront start.told now 0 (ran_line (length r.handled.now))
+  pub stderr : now.given 1 ≡ start.told.given 1
+
+abbrev pub Leaves : {T : Type 0} → Start → Told → Report → Result T Status → Type 0
+Leaves start now r (Ok x) = LeftAll start now r
+Leaves start now r (Err status) = LeftSome start now r
+
+-- a run of this function over the packets of these captures
+pub record IsRunWith (f : Function) (captures : List (List ℕ)) (r : Run) : Type 0 where
+  pub function : r.function ≡ f
+  pub captures_are : r.captures ≡ captures
+  pub in_order : IsLoaded r.captures (map arrival_in r.handled)
+  pub undivided : IsUndivided r.function r.handled r.state
+
+pub record EndsWhole (start : Start) (now : Told) (out : List ℕ) (f : Function) (captures : List (List ℕ)) : Type 0 where
+  pub run : Run
+  pub is_run : IsRunWith f captures run
+  pub files : HoldsAll start.told now (first_created start) (created_file out run) (files_created run)
+  pub stdout : Printed start.told now 0 (ran_line (length run.handled))
+  pub stderr : now.given 1 ≡ start.told.given 1
+
+pub record EndsShort (start : Start) (now : Told) (out : List ℕ) (f : Function) (captures : List (List ℕ)) : Type 0 where
+  pub run : Run
+  pub is_run : IsRunWith f captures run
+  pub made : ℕ
+  pub within : made ≤ files_created run
+  pub files : HoldsFronts start.told now (first_created start) (created_file out run) made
+  pub stdout : PrintedFront start.told now 0 (ran_line (length run.handled))
+  pub stderr : now.given 1 ≡ start.told.given 1
+
+-- what handling all packets and leaving the files comes to
+abbrev pub Ends : {T : Type 0} → Start → Told → List ℕ → Function → List (List ℕ) → Result T Status → Type 0
+Ends start now out f captures (Ok x) = EndsWhole start now out f captures
+Ends start now out f captures (Err status) = IsUntouched start.told now ⊎ EndsShort start now out f captures
+
+-- a run that was stopped, of which standard error says nothing yet
+abbrev pub StopsSilently : Command → Told → Told → Type 0
+StopsSilently c before now = IsUntouched before now ⊎ (IsCutShort c before now × (now.given 1 ≡ before.given 1))
+
+-- what a run comes to before its end is told on standard error
+abbrev pub RunsTo : {T : Type 0} → Command → Told → Told → Result T Status → Type 0
+RunsTo c before now (Ok x) = IsFinished c before now
+RunsTo c before now (Err Usage) = HasOtherPorts c before × IsUntouched before now
+RunsTo c before now (Err (Refused line column)) = IsNoFunctionUnder before c.nf line column × IsUntouched before now
+RunsTo c before now (Err (FileFault file)) = StopsSilently c before now
+RunsTo c before now (Err (NotCapture port)) = HasNoCapture c before port × IsUntouched before now
+RunsTo c before now (Err Memory) = StopsSilently c before now
+RunsTo c before now (Err Done) = ⊥
+
+-- The line of a status was written, or a front of some status's line and the outside or want of memory stopped it.
+abbrev pub Tells : Told → Told → Status → Status → Type 0
+Tells old new status result = ((result ≡ status) × Writes old new 1 (error_line status)) ⊎ (IsStop result × ComplainsFront old new)

@@ -1,0 +1,62 @@
+-- A whole run: what it was made of, and what it came to.
+use Rattle.std.specs.Prelude.{◌≡◌, ◌≢◌, ℕ, List, [], ◌∷◌, length, map, Option, Some}
+use Rattle.nf_base.specs.Text.{Function}
+use Rattle.nf_base.specs.Runs.{Ran, Turn, run, start}
+use Rattle.nf_base.specs.declared.state.State.{State}
+use Rattle.nf_files.specs.Told.{Told, IsToldAs}
+use Rattle.capture_order.specs.Loaded.{IsLoaded, first_bad}
+use Rattle.run_files.specs.declared.handled.Handled.{Handled}
+use Rattle.run_files.specs.Written.{arrival_in}
+use Rattle.maestro_cli.specs.Words.{Command}
+use Rattle.maestro_cli.specs.Source.{IsFunctionUnder}
+
+-- the function, the bytes of the captures, the packets with what each came to in the order in which they were handled, and the last state
+pub record Run : Type 0 where
+  pub function : Function
+  pub captures : List (List ℕ)
+  pub handled : List Handled
+  pub state : State
+
+abbrev pub turn_of : Handled → Turn
+turn_of h = record { packet = h.arrival.packet; choices = h.done.picks }
+
+-- The undivided function handles these packets, one after another from its opening state: each came to what is said, and this state is left.
+pub record IsUndivided (f : Function) (handled : List Handled) (state : State) : Type 0 where
+  pub ran : Ran
+  pub is_run : run f (Some (start f)) (map turn_of handled) ≡ Some ran
+  pub came_to : map (λ r. r.done) ran.reports ≡ map (λ h. h.done) handled
+  pub left : ran.state ≡ state
+
+-- these bytes are what is told of these names or numbers, each where it is told
+abbrev pub AreTold : {A : Type 0} → (A → Option (List ℕ)) → List A → List (List ℕ) → Type 0
+AreTold told [] [] = Unit {0}
+AreTold told (n ∷ ns) (b ∷ bs) = IsToldAs b (told n) × AreTold told ns bs
+AreTold told [] (b ∷ bs) = ⊥
+AreTold told (n ∷ ns) [] = ⊥
+
+-- what stands under the name of this port is no capture, and that of each lower one is
+pub record IsNoCaptureUnder (told : Told) (names : List (List ℕ)) (port : ℕ) : Type 0 where
+  pub captures : List (List ℕ)
+  pub captures_told : AreTold told.content names captures
+  pub least : first_bad captures ≡ Some port
+
+-- A run that a command asks for: its text and its captures are those that stood under their names, and every packet of every capture is handled once, in capture order.
+pub record IsRunOf (command : Command) (told : Told) (run : Run) : Type 0 where
+  pub is_function : IsFunctionUnder told command.nf run.function
+  pub as_many : length command.captures ≡ length run.function.handlers
+  pub captures_told : AreTold told.content command.captures run.captures
+  pub in_order : IsLoaded run.captures (map arrival_in run.handled)
+  pub undivided : IsUndivided run.function run.handled run.state
+
+-- The text is a network function whose ports are not as many as the captures.
+pub record HasOtherPorts (command : Command) (told : Told) : Type 0 where
+  pub function : Function
+  pub is_function : IsFunctionUnder told command.nf function
+  pub not_as_many : length command.captures ≢ length function.handlers
+
+-- The captures are as many as the function's ports, and the file of this port is the first that is no capture.
+pub record HasNoCapture (command : Command) (told : Told) (port : ℕ) : Type 0 where
+  pub function : Function
+  pub is_function : IsFunctionUnder told command.nf function
+  pub as_many : length command.captures ≡ length function.handlers
+  pub none : IsNoCaptureUnder told command.captures port

@@ -1,0 +1,36 @@
+-- What is printed.
+use Rattle.std.specs.Prelude.{ℕ, List, [], ◌++◌, codes, decimal}
+use Rattle.maestro_cli.specs.declared.status.RunFile.{RunFile}
+use Rattle.maestro_cli.specs.declared.status.RunFile.TheVariants.{Nf, Capture, Output, OutJournal, State, Stdout, Stderr}
+use Rattle.maestro_cli.specs.declared.status.Status.{Status}
+use Rattle.maestro_cli.specs.declared.status.Status.TheVariants.{Done, Usage, Refused, FileFault, NotCapture, Memory}
+
+abbrev pub file_text : RunFile → List ℕ
+file_text Nf = codes "nf"
+file_text (Capture port) = codes "capture " ++ decimal port
+file_text (Output port) = codes "output " ++ decimal port
+file_text OutJournal = codes "out journal"
+file_text State = codes "state"
+file_text Stdout = codes "stdout"
+file_text Stderr = codes "stderr"
+
+-- what a file fault begins with
+unfoldable pub fault_title : List ℕ
+fault_title = codes "file fault: "
+
+-- what a status says
+abbrev pub status_words : Status → List ℕ
+status_words Done = []
+status_words Usage = codes "bad command line"
+status_words (Refused line column) = codes "refused N0 at " ++ decimal line ++ codes ":" ++ decimal column
+status_words (FileFault file) = fault_title ++ file_text file
+status_words (NotCapture port) = codes "capture " ++ decimal port ++ codes " has no pcap header"
+status_words Memory = codes "out of memory"
+
+-- the line on standard error of a status that is no success
+abbrev pub error_line : Status → List ℕ
+error_line status = codes "maestro: " ++ status_words status ++ codes "\n"
+
+-- the line on standard output of a run of so many packets, by one worker
+abbrev pub ran_line : ℕ → List ℕ
+ran_line packets = codes "ran " ++ decimal packets ++ codes " one 1\n"

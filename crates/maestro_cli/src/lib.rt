@@ -1,0 +1,20 @@
+//! The whole program: from its words and the files outside to a status.
+#![tactic(auto)]
+
+mod captures;
+mod command;
+mod fault;
+mod function;
+mod handling;
+mod loading;
+mod names;
+mod program;
+mod report;
+mod running;
+mod say;
+mod status;
+mod text;
+mod writing;
+
+pub use program::maestro;
+pub use status::{RunFile, Status};
