@@ -1,5 +1,5 @@
 // Bytes that are gathered, and given to a file in large pieces.
-ghost use Rattle.std.specs.Prelude.{◌≡◌, ◌<◌, ◌⊎◌, ℕ, OnOk, OnErr};
+ghost use Rattle.std.specs.Prelude.{◌≡◌, ◌<◌, ◌⊎◌, ℕ, OnOk, OnErr, vec_len};
 ghost use Rattle.nf_files.specs.Causes.{HasCause};
 ghost use Rattle.nf_files.specs.Writes.{WritesFront};
 ghost use Rattle.run_files.specs.Pending.{Flushes};
@@ -7,7 +7,7 @@ ghost use Rattle.run_files.specs.Pending.{Flushes};
 use nf_files::{Files, FilesFault, write_whole};
 
 /// From how many bytes on they are given to their file.
-const PIECE: usize = 65536;
+pub const PIECE: usize = 65536;
 
 /// Gives a buffer's bytes to a file where they are many, and empties it then.
 pub fn flush_when_large<F: Files>(
@@ -17,6 +17,8 @@ pub fn flush_when_large<F: Files>(
 ) -> Result<(), FilesFault>
     requires created { (file < 2) ⊎ F.is_written files.old file }
     ensures ok { OnOk result (Flushes (F.told files.old) (F.told files.new) file buffer.old.items buffer.new.items) }
+    // What is gathered stays small.
+    ensures small { OnOk result (vec_len buffer.new < PIECE) }
     ensures err { OnErr result (WritesFront (F.told files.old) (F.told files.new) file buffer.old.items) }
     ensures cause { HasCause (F.counted files.old) (F.counted files.new) file result }
     ensures reads { (g : ℕ) → F.is_read files.old g → F.is_read files.new g }

@@ -1,5 +1,5 @@
 // The journal of a run.
-ghost use Rattle.std.specs.Prelude.{◌≡◌, ◌<◌, ◌⊎◌, ℕ, ◌++◌, OnOk, OnErr, IfOk};
+ghost use Rattle.std.specs.Prelude.{◌≡◌, ◌<◌, ◌⊎◌, ℕ, ◌++◌, OnOk, OnErr, IfOk, vec_len};
 ghost use Rattle.run_history.specs.Line.{header_line};
 ghost use Rattle.run_history.specs.declared.line.Mode.TheVariants.{One};
 ghost use Rattle.nf_files.specs.Causes.{HasCause};
@@ -7,7 +7,7 @@ ghost use Rattle.nf_files.specs.Writes.{WritesAll, WritesFront};
 ghost use Rattle.run_files.specs.Pending.{Flushes};
 ghost use Rattle.run_files.specs.Written.{journal_bytes, packet_lines, line_of};
 
-use crate::flush::flush_when_large;
+use crate::flush::{PIECE, flush_when_large};
 use crate::handled::Handled;
 use nf_base::workers::Workers;
 use nf_files::{Files, FilesFault, write_whole};
@@ -24,6 +24,7 @@ fn add_line<F: Files>(
 ) -> Result<(), FilesFault>
     requires created { (file < 2) ⊎ F.is_written files.old file }
     ensures ok { OnOk result (Flushes (F.told files.old) (F.told files.new) file (buffer.old.items ++ line_of handled.now) buffer.new.items) }
+    ensures small { OnOk result (vec_len buffer.new < PIECE) }
     ensures err { OnErr result (WritesFront (F.told files.old) (F.told files.new) file (buffer.old.items ++ line_of handled.now)) }
     ensures cause { HasCause (F.counted files.old) (F.counted files.new) file result }
     ensures reads { (g : ℕ) → F.is_read files.old g → F.is_read files.new g }

@@ -1,5 +1,5 @@
 // The output captures of a run.
-ghost use Rattle.std.specs.Prelude.{◌≡◌, ◌<◌, ◌⊎◌, ℕ, [], ◌∷◌, ◌++◌, map, OnOk, OnErr, IfOk};
+ghost use Rattle.std.specs.Prelude.{◌≡◌, ◌<◌, ◌⊎◌, ℕ, [], ◌∷◌, ◌++◌, map, OnOk, OnErr, IfOk, vec_len};
 ghost use Rattle.std.specs.List.{AllByRecursion};
 ghost use Rattle.pcap_file.specs.Record.{record_bytes};
 ghost use Rattle.pcap_file.specs.Capture.{header_bytes};
@@ -9,7 +9,7 @@ ghost use Rattle.nf_files.specs.Writes.{WritesAll, WritesFront};
 ghost use Rattle.run_files.specs.Pending.{Flushes};
 ghost use Rattle.run_files.specs.Written.{arrival_in, record_of, sends, sent_bytes, output_bytes};
 
-use crate::flush::flush_when_large;
+use crate::flush::{PIECE, flush_when_large};
 use crate::handled::Handled;
 use capture_order::{Arrival, frame};
 use nf_base::done::Action;
@@ -74,6 +74,7 @@ fn add_record<F: Files>(
     requires created { (file < 2) ⊎ F.is_written files.old file }
     requires within { IsWithin (all_bytes captures.now) handled.now.arrival }
     ensures ok { OnOk result (Flushes (F.told files.old) (F.told files.new) file (buffer.old.items ++ sent_bytes port (all_bytes captures.now) (handled.now ∷ [])) buffer.new.items) }
+    ensures small { OnOk result (vec_len buffer.new < PIECE) }
     ensures err { OnErr result (WritesFront (F.told files.old) (F.told files.new) file (buffer.old.items ++ sent_bytes port (all_bytes captures.now) (handled.now ∷ []))) }
     ensures cause { HasCause (F.counted files.old) (F.counted files.new) file result }
     ensures reads { (g : ℕ) → F.is_read files.old g → F.is_read files.new g }
