@@ -1,7 +1,5 @@
 pub mod Text
 pub mod View
-pub mod Laid
-pub mod Rest
 pub mod Functions
 pub mod Limits
 pub mod Values

@@ -3,7 +3,6 @@
 #![tactic(auto)]
 
 pub mod code;
-mod copy;
 pub mod decl;
 pub mod done;
 pub mod expr;
