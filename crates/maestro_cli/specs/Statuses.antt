@@ -1,9 +1,8 @@
--- Statuses as numbers, with which the process ends.
+-- The number that the process ends with.
 use Rattle.std.specs.Prelude.{ℕ}
 use Rattle.maestro_cli.specs.declared.status.Status.{Status}
 use Rattle.maestro_cli.specs.declared.status.Status.TheVariants.{Done, Usage, Refused, FileFault, NotCapture, Memory}
 
--- one number for each way to end
 abbrev pub number_of_status : Status → ℕ
 number_of_status Done = 0
 number_of_status Usage = 1

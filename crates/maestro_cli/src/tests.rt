@@ -1,9 +1,0 @@
-// The program as its user meets it: words and files go in, a status and files come out.
-mod calls;
-mod captures;
-mod faults;
-mod firewall;
-mod forms;
-mod functions;
-mod texts;
-mod words;
