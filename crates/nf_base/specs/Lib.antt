@@ -1,5 +1,7 @@
 pub mod Text
 pub mod View
+pub mod Laid
+pub mod Rest
 pub mod Functions
 pub mod Limits
 pub mod Values

@@ -1,7 +1,10 @@
+ghost use Rattle.std.specs.Prelude.{◌≡◌, IfOk};
+
 use crate::indexed::Indexed;
 use crate::limited::Limited;
 use crate::size::Size;
 use crate::width::Width;
+use std::alloc::{AllocError, Global};
 
 /// A declared name, in ASCII.
 pub type Name = Limited<u8, 32>;
@@ -53,4 +56,81 @@ pub struct ArrayDecl {
     pub width: Width,
     /// What the cells hold before the first packet.
     pub cells: Indexed<u64>,
+}
+
+impl ColumnDecl {
+    pub fn copy(&self, alloc: Global) -> Result<ColumnDecl, AllocError>
+        ensures { IfOk result (λ copy. copy ≡ self.now) }
+    {
+        Ok(ColumnDecl {
+            name: self.name.copy(alloc)?,
+            width: self.width,
+        })
+    }
+}
+
+impl MapDecl {
+    pub fn copy(&self, alloc: Global) -> Result<MapDecl, AllocError>
+        ensures { IfOk result (λ copy. copy ≡ self.now) }
+    {
+        Ok(MapDecl {
+            name: self.name.copy(alloc)?,
+            first: self.first,
+            parts: self.parts,
+        })
+    }
+}
+
+fn copied_columns<const MOST: u32>(
+    alloc: Global,
+    columns: &Limited<ColumnDecl, MOST>,
+) -> Result<Limited<ColumnDecl, MOST>, AllocError>
+    ensures { IfOk result (λ copy. copy ≡ columns.now) }
+{
+    let mut all = Limited::new(alloc);
+    for one in columns.as_slice() {
+        all.push(one.copy(alloc)?)?;
+    }
+    Ok(all)
+}
+
+fn copied_maps(
+    alloc: Global,
+    maps: &Limited<MapDecl, 16>,
+) -> Result<Limited<MapDecl, 16>, AllocError>
+    ensures { IfOk result (λ copy. copy ≡ maps.now) }
+{
+    let mut all = Limited::new(alloc);
+    for one in maps.as_slice() {
+        all.push(one.copy(alloc)?)?;
+    }
+    Ok(all)
+}
+
+impl ChainDecl {
+    pub fn copy(&self, alloc: Global) -> Result<ChainDecl, AllocError>
+        ensures { IfOk result (λ copy. copy ≡ self.now) }
+    {
+        Ok(ChainDecl {
+            name: self.name.copy(alloc)?,
+            size: self.size,
+            lifetime: self.lifetime,
+            labels: copied_columns(alloc, &self.labels)?,
+            free: copied_columns(alloc, &self.free)?,
+            maps: copied_maps(alloc, &self.maps)?,
+            columns: self.columns.copy(alloc)?,
+        })
+    }
+}
+
+impl ArrayDecl {
+    pub fn copy(&self, alloc: Global) -> Result<ArrayDecl, AllocError>
+        ensures { IfOk result (λ copy. copy ≡ self.now) }
+    {
+        Ok(ArrayDecl {
+            name: self.name.copy(alloc)?,
+            width: self.width,
+            cells: self.cells.copy(alloc)?,
+        })
+    }
 }

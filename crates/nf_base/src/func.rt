@@ -1,9 +1,12 @@
-ghost use Rattle.std.specs.Prelude.{◌≤◌, length};
+ghost use Rattle.std.specs.Prelude.{◌≡◌, ◌≤◌, length, map, IfOk};
 ghost use Rattle.nf_base.specs.Limits.{IsWithinLimits, maps_in};
+ghost use Rattle.nf_base.specs.View.{block_of};
 
 use crate::code::Code;
+use crate::copy::copied;
 use crate::decl::{ArrayDecl, ChainDecl, Name};
 use crate::limited::Limited;
+use std::alloc::{AllocError, Global};
 
 /// What a port does with its packets: at most 32 `get`, `find` and `new`, and at most 16 `new`.
 #[derive(Drop)]
@@ -22,4 +25,69 @@ pub struct Func {
     pub handlers: Limited<Handler, 4>,
     pub ghost some_port: { 1 ≤ length handlers },
     pub ghost maps: { maps_in chains ≤ 16 },
+}
+
+impl Handler {
+    pub fn copy(&self, alloc: Global) -> Result<Handler, AllocError>
+        ensures { IfOk result (λ copy. block_of copy.code ≡ block_of self.now.code) }
+    {
+        let code = copied(alloc, &self.code)?;
+        Ok(Handler { code })
+    }
+}
+
+fn copied_handlers(
+    alloc: Global,
+    handlers: &Limited<Handler, 4>,
+) -> Result<Limited<Handler, 4>, AllocError>
+    ensures same { IfOk result (λ copy. map (λ h. block_of h.code) copy ≡ map (λ h. block_of h.code) handlers.now) }
+    ensures all { IfOk result (λ copy. length copy ≡ length handlers.now) }
+{
+    let mut all = Limited::new(alloc);
+    for one in handlers.as_slice() {
+        all.push(one.copy(alloc)?)?;
+    }
+    Ok(all)
+}
+
+fn copied_chains(
+    alloc: Global,
+    chains: &Limited<ChainDecl, 8>,
+) -> Result<Limited<ChainDecl, 8>, AllocError>
+    ensures { IfOk result (λ copy. copy ≡ chains.now) }
+{
+    let mut all = Limited::new(alloc);
+    for one in chains.as_slice() {
+        all.push(one.copy(alloc)?)?;
+    }
+    Ok(all)
+}
+
+fn copied_arrays(
+    alloc: Global,
+    arrays: &Limited<ArrayDecl, 8>,
+) -> Result<Limited<ArrayDecl, 8>, AllocError>
+    ensures { IfOk result (λ copy. copy ≡ arrays.now) }
+{
+    let mut all = Limited::new(alloc);
+    for one in arrays.as_slice() {
+        all.push(one.copy(alloc)?)?;
+    }
+    Ok(all)
+}
+
+impl Func {
+    ghost use Rattle.nf_base.specs.Functions.{function_of};
+
+    /// The same function once more.
+    pub fn copy(&self, alloc: Global) -> Result<Func, AllocError>
+        ensures { IfOk result (λ copy. function_of copy ≡ function_of self.now) }
+    {
+        Ok(Func {
+            name: self.name.copy(alloc)?,
+            chains: copied_chains(alloc, &self.chains)?,
+            arrays: copied_arrays(alloc, &self.arrays)?,
+            handlers: copied_handlers(alloc, &self.handlers)?,
+        })
+    }
 }

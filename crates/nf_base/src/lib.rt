@@ -3,6 +3,7 @@
 #![tactic(auto)]
 
 pub mod code;
+mod copy;
 pub mod decl;
 pub mod done;
 pub mod expr;

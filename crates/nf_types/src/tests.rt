@@ -98,6 +98,21 @@ fn the_firewall_is_a_function(rt: HostRuntime) {
 }
 
 #[test]
+fn a_function_is_copied(rt: HostRuntime) {
+    match checked(rt.alloc(), FIREWALL) {
+        Some(Ok(func)) => match func.copy(rt.alloc()) {
+            Ok(copy) => {
+                assert!(rt; copy.name.as_slice() == b"fw".as_slice());
+                assert_eq!(rt; copy.chains.len(), 1);
+                assert_eq!(rt; copy.handlers.len(), 2);
+            }
+            Err(_) => assert!(rt; false),
+        },
+        _ => assert!(rt; false),
+    }
+}
+
+#[test]
 fn texts_at_their_limits_are_functions(rt: HostRuntime) {
     let texts: [&[u8]; 8] = [
         b"nf x { ports 1; on 0 { } }".as_slice(),
@@ -205,7 +220,7 @@ fn the_limits_count_nested_blocks(rt: HostRuntime) {
 }
 
 #[test]
-fn a_block_as_long_as_the_text_is_checked(rt: HostRuntime) {
+fn a_block_as_long_as_the_text_is_checked_and_copied(rt: HostRuntime) {
     let front =
         b"nf x { ports 1; chain c 1 lifetime 1 { map m(a: 8); } on 0 { get e = c.m(src_ip) { ";
     let Ok(text) = repeated(rt.alloc(), front, b"touch e;", 131056, b"} } }") else {
@@ -213,5 +228,8 @@ fn a_block_as_long_as_the_text_is_checked(rt: HostRuntime) {
         return;
     };
     assert!(rt; text.len() <= 1048576);
-    assert!(rt; is_good(rt.alloc(), text.as_slice()));
+    match checked(rt.alloc(), text.as_slice()) {
+        Some(Ok(func)) => assert!(rt; func.copy(rt.alloc()).is_ok()),
+        _ => assert!(rt; false),
+    }
 }

@@ -1,0 +1,6 @@
+-- what was copied is the front
+use Rattle.std.proofs.Common.{◌≡◌, take}
+use Rattle.nf_base.proofs.func.copied_arrays.Given as goal
+
+abbrev pub invariant-loop-one : goal.invariant-loop-one
+invariant-loop-one l = l.all ≡ take l.one-index l.arrays
