@@ -20,6 +20,7 @@ abbrev pub start_of : Told → Option Command → Start
 start_of before None = record { told = before; captures = 0 }
 start_of before (Some c) = record { told = before; captures = length c.captures }
 
+-- the number of the first file that a command's run creates
 abbrev pub base_of : Told → Command → ℕ
 base_of before c = first_created (start_of before (Some c))
 
@@ -60,6 +61,7 @@ pub record IsStopped (c : Command) (before after : Told) : Type 0 where
   pub files : IsUnbegun before after ⊎ IsCutShort c before after
   pub stderr : SaysFront before after
 
+-- The words were no command, and not even that could be said.
 pub record IsUnread (before after : Told) : Type 0 where
   pub files : IsUnbegun before after
   pub stderr : SaysFront before after
@@ -82,6 +84,7 @@ Declines before after Done = ⊥
 Declines before after (Refused line column) = ⊥
 Declines before after (NotCapture port) = ⊥
 
+-- what the program answers: to a command, and to words that are none
 abbrev pub Answers : Option Command → Told → Told → Status → Type 0
 Answers None before after status = Declines before after status
 Answers (Some c) before after status = Runs c before after status

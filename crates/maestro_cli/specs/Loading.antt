@@ -12,6 +12,7 @@ use Rattle.maestro_cli.specs.declared.status.Status.TheVariants.{Done, Usage, Re
 use Rattle.maestro_cli.specs.Source.{IsFunctionUnder, IsNoFunctionUnder}
 use Rattle.maestro_cli.specs.Runs.{AreTold, IsNoCaptureUnder}
 
+-- what reading the function under a name comes to; faults of files and want of memory are said by the cause
 abbrev pub FindsFunction : Told → List ℕ → Result Func Status → Type 0
 FindsFunction told name (Ok func) = IsFunctionUnder told name (function_of func)
 FindsFunction told name (Err (Refused line column)) = IsNoFunctionUnder told name line column
@@ -27,6 +28,7 @@ pub record ArePacketsUnder (told : Told) (names : List (List ℕ)) (packets : Pa
   pub loaded : IsLoaded (all_bytes packets.captures.items) packets.arrivals.items
   pub within : AllByRecursion (IsWithin (all_bytes packets.captures.items)) packets.arrivals.items
 
+-- what reading the captures under some names comes to; likewise
 abbrev pub FindsPackets : Told → List (List ℕ) → Result Packets Status → Type 0
 FindsPackets told names (Ok packets) = ArePacketsUnder told names packets
 FindsPackets told names (Err (NotCapture port)) = IsNoCaptureUnder told names port

@@ -37,6 +37,7 @@ pub record ComplainsFront (old new : Told) : Type 0 where
   pub of : Status
   pub wrote : WritesFront old new 1 (error_line of)
 
+-- what printing the line of a status comes to
 abbrev pub Complains : {T : Type 0} → Told → Told → Status → Result T Status → Type 0
 Complains old new status (Ok x) = Writes old new 1 (error_line status)
 Complains old new status (Err stop) = IsStop stop × ComplainsFront old new

@@ -9,12 +9,15 @@ use Rattle.maestro_cli.specs.Numbers.{Start, first_created}
 use Rattle.maestro_cli.specs.Created.{Created, created_file, files_created}
 use Rattle.maestro_cli.specs.Stages.{Stage}
 
+-- the run that a report is of
 abbrev pub run_in : Report → Run
 run_in r = record { function = function_of r.func.now; captures = all_bytes r.captures.now; handled = r.handled.now; state = r.state.now }
 
+-- the files of that run, in the order of their creation
 abbrev pub file_in : Report → ℕ → Created
 file_in r = created_file (string_bytes r.out.now) (run_in r)
 
+-- how many they are
 abbrev pub all_files : Report → ℕ
 all_files r = files_created (run_in r)
 

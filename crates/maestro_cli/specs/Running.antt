@@ -40,6 +40,7 @@ pub record LeftSome (start : Start) (now : Told) (r : Report) : Type 0 where
   pub stdout : PrintedFront start.told now 0 (ran_line (length r.handled.now))
   pub stderr : now.given 1 ≡ start.told.given 1
 
+-- what leaving the files of a report comes to
 abbrev pub Leaves : {T : Type 0} → Start → Told → Report → Result T Status → Type 0
 Leaves start now r (Ok x) = LeftAll start now r
 Leaves start now r (Err status) = LeftSome start now r
@@ -51,6 +52,7 @@ pub record IsRunWith (f : Function) (captures : List (List ℕ)) (r : Run) : Typ
   pub in_order : IsLoaded r.captures (map arrival_in r.handled)
   pub undivided : IsUndivided r.function r.handled r.state
 
+-- all files of a run of this function over these captures are whole, and its line is printed
 pub record EndsWhole (start : Start) (now : Told) (out : List ℕ) (f : Function) (captures : List (List ℕ)) : Type 0 where
   pub run : Run
   pub is_run : IsRunWith f captures run
@@ -58,6 +60,7 @@ pub record EndsWhole (start : Start) (now : Told) (out : List ℕ) (f : Function
   pub stdout : Printed start.told now 0 (ran_line (length run.handled))
   pub stderr : now.given 1 ≡ start.told.given 1
 
+-- some of its files were created, and each holds a front of its bytes
 pub record EndsShort (start : Start) (now : Told) (out : List ℕ) (f : Function) (captures : List (List ℕ)) : Type 0 where
   pub run : Run
   pub is_run : IsRunWith f captures run

@@ -17,6 +17,7 @@ pub record Run : Type 0 where
   pub handled : List Handled
   pub state : State
 
+-- a packet that was handled, as a step of a run: the packet, and the indices that it was given
 abbrev pub turn_of : Handled → Turn
 turn_of h = record { packet = h.arrival.packet; choices = h.done.picks }
 

@@ -19,6 +19,7 @@ pub record IsFrontOf (bytes front : List ℕ) : Type 0 where
   pub later : List ℕ
   pub all : front ++ later ≡ bytes
 
+-- these are the first of some bytes, where that is told
 abbrev pub IsFrontIfTold : List ℕ → Option (List ℕ) → Type 0
 IsFrontIfTold bytes None = Unit {0}
 IsFrontIfTold bytes (Some front) = IsFrontOf bytes front

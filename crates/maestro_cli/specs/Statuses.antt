@@ -1,8 +1,9 @@
--- The number that the process ends with.
+-- Statuses as numbers, with which the process ends.
 use Rattle.std.specs.Prelude.{ℕ}
 use Rattle.maestro_cli.specs.declared.status.Status.{Status}
 use Rattle.maestro_cli.specs.declared.status.Status.TheVariants.{Done, Usage, Refused, FileFault, NotCapture, Memory}
 
+-- one number for each way to end
 abbrev pub number_of_status : Status → ℕ
 number_of_status Done = 0
 number_of_status Usage = 1

@@ -5,6 +5,7 @@ use Rattle.maestro_cli.specs.declared.status.RunFile.TheVariants.{Nf, Capture, O
 use Rattle.maestro_cli.specs.declared.status.Status.{Status}
 use Rattle.maestro_cli.specs.declared.status.Status.TheVariants.{Done, Usage, Refused, FileFault, NotCapture, Memory}
 
+-- how a file of a run is called in a fault's line
 abbrev pub file_text : RunFile → List ℕ
 file_text Nf = codes "nf"
 file_text (Capture port) = codes "capture " ++ decimal port

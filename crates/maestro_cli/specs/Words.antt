@@ -13,6 +13,7 @@ abbrev pub is_name : List ℕ → Bool
 is_name [] = true
 is_name (b ∷ bs) = not (nat_eq b 0x2d)
 
+-- none of these names begins with `-`
 abbrev pub are_names : List (List ℕ) → Bool
 are_names [] = true
 are_names (w ∷ ws) = is_name w && are_names ws
@@ -21,6 +22,7 @@ are_names (w ∷ ws) = is_name w && are_names ws
 abbrev pub is_one_worker : List ℕ → List ℕ → Bool
 is_one_worker option value = bytes_eq option (codes "--workers") && bytes_eq value (codes "1")
 
+-- the captures, where the words behind them ask for one worker and all are names
 abbrev pub if_one_worker : List ℕ → List ℕ → List (List ℕ) → Option (List (List ℕ))
 if_one_worker option value captures = if is_one_worker option value && are_names captures then Some captures else None
 
@@ -32,6 +34,7 @@ captures_of (a ∷ b ∷ c ∷ option ∷ value ∷ []) = if_one_worker option v
 captures_of (a ∷ b ∷ c ∷ d ∷ option ∷ value ∷ []) = if_one_worker option value (a ∷ b ∷ c ∷ d ∷ [])
 captures_of words = None
 
+-- the command, where the verb is `run` and the other words are names
 abbrev pub run_of : List ℕ → List ℕ → List ℕ → Option (List (List ℕ)) → Option Command
 run_of verb nf out None = None
 run_of verb nf out (Some captures) =

@@ -45,7 +45,7 @@ pub fn handle_all(alloc: Global, func: &Func, arrivals: &[Arrival]) -> Result<Co
     ensures { IfOk result (Handles (function_of func.now) arrivals.now) }
 {
     let mut undivided = Undivided::new(alloc, func)?;
-    let mut handled = Vec::new(alloc);
+    let mut handled = Vec::with_capacity(alloc, arrivals.len())?;
     for arrival in arrivals {
         handle_one(alloc, func, &mut undivided, &mut handled, arrival)?;
     }

@@ -13,6 +13,8 @@ mod report;
 mod running;
 mod say;
 mod status;
+#[cfg(test)]
+mod tests;
 mod text;
 mod writing;
 

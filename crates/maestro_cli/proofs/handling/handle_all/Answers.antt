@@ -13,8 +13,8 @@ loop-arrival-init c =
     let f = function_of c.args.func.now in
     let opens = c.in_ok-undivided.ensures in
     record {
-      all = ap (λ hs. map arrival_in hs ++ c.args.arrivals.now) c.new-handled.ensures.items;
-      undivided = subst (λ hs. IsUndivided f hs c.in_ok-undivided.undivided.state) (sym c.new-handled.ensures.items) (undivided_none f c.in_ok-undivided.undivided.state opens);
+      all = ap (λ hs. map arrival_in hs ++ c.args.arrivals.now) c.in_ok-handled.ensures.items;
+      undivided = subst (λ hs. IsUndivided f hs c.in_ok-undivided.undivided.state) (sym c.in_ok-handled.ensures.items) (undivided_none f c.in_ok-undivided.undivided.state opens);
       of_func = sym (ap (λ state. length state.chains) opens ∙ length-map c.args.func.now.chains opening_chain);
       ports = c.requires;
     }

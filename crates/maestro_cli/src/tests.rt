@@ -1,0 +1,10 @@
+// The program as its user meets it: words and files go in, a status and files come out.
+mod calls;
+mod captures;
+mod faults;
+mod firewall;
+mod forms;
+mod functions;
+mod runs;
+mod texts;
+mod words;

@@ -1,0 +1,180 @@
+// Calls of the program over files in memory, and what they come to.
+use crate::{Status, maestro};
+use nf_files::{Files, FilesFault, MemoryFiles};
+use std::alloc::{AllocError, Global};
+
+/// What a call came to: how it ended, and what stands in the files then.
+#[derive(Drop)]
+pub struct Outcome {
+    pub status: Status,
+    pub stdout: Vec<u8>,
+    pub stderr: Vec<u8>,
+    /// The output captures of ports 0 to 3; `None` here and below: there is no such file.
+    pub outputs: Vec<Option<Vec<u8>>>,
+    pub journal: Option<Vec<u8>>,
+    pub state: Option<Vec<u8>>,
+    /// The function's text.
+    pub text: Option<Vec<u8>>,
+    /// How many files were opened or created.
+    pub opened: u32,
+}
+
+impl Outcome {
+    /// Whether a call ended so, with this line on standard error, none on standard output, and so many
+    /// files opened or created, and left.
+    pub fn is_stop(&self, status: Status, said: &str, opened: u32, left: u32) -> bool {
+        self.status == status
+            && self.stdout.is_empty()
+            && is_text(self.stderr.as_slice(), said)
+            && self.opened == opened
+            && self.left() == left
+    }
+
+    /// How many outputs, journals and states there are.
+    pub fn left(&self) -> u32 {
+        let mut count = one_if(self.journal.is_some()).saturating_add(one_if(self.state.is_some()));
+        for output in &self.outputs {
+            count = count.saturating_add(one_if(output.is_some()));
+        }
+        count
+    }
+}
+
+fn one_if(there: bool) -> u32 {
+    if there { 1 } else { 0 }
+}
+
+/// Whether these bytes are a text.
+pub fn is_text(bytes: &[u8], text: &str) -> bool {
+    bytes == text.as_bytes()
+}
+
+/// Whether a file is there and has these bytes.
+pub fn has_bytes(content: &Option<Vec<u8>>, bytes: &[u8]) -> bool {
+    match content {
+        Some(content) => content.as_slice() == bytes,
+        None => false,
+    }
+}
+
+fn words_of(alloc: Global, line: &str) -> Result<Vec<String>, AllocError> {
+    let mut words = Vec::new(alloc);
+    for word in line.split(' ') {
+        words.push(String::from_str(alloc, word)?)?;
+    }
+    Ok(words)
+}
+
+// Captures as `a.pcap` to `d.pcap`.
+fn put_captures(files: &mut MemoryFiles, captures: &[Vec<u8>]) -> Result<(), AllocError> {
+    for (name, bytes) in ["a.pcap", "b.pcap", "c.pcap", "d.pcap"]
+        .iter()
+        .zip(captures)
+    {
+        files.put(name, bytes.as_slice())?;
+    }
+    Ok(())
+}
+
+// A function as `x.nf`, and captures.
+fn files_of(
+    alloc: Global,
+    text: &[u8],
+    captures: &[Vec<u8>],
+    fails: &[u64],
+) -> Result<MemoryFiles, AllocError> {
+    let mut files = MemoryFiles::new(alloc, Vec::from_slice(alloc, fails)?);
+    files.put("x.nf", text)?;
+    put_captures(&mut files, captures)?;
+    Ok(files)
+}
+
+fn content(alloc: Global, files: &MemoryFiles, name: &str) -> Result<Option<Vec<u8>>, AllocError> {
+    match files.content(name) {
+        Some(bytes) => Ok(Some(Vec::from_slice(alloc, bytes)?)),
+        None => Ok(None),
+    }
+}
+
+fn given(alloc: Global, files: &MemoryFiles, file: u32) -> Result<Vec<u8>, AllocError> {
+    Vec::from_slice(alloc, files.given(file))
+}
+
+// What stands under the front of a run's names with this ending.
+fn ending(
+    alloc: Global,
+    files: &MemoryFiles,
+    out: &str,
+    end: &str,
+) -> Result<Option<Vec<u8>>, AllocError> {
+    let mut name = String::from_str(alloc, out)?;
+    name.push_str(end)?;
+    content(alloc, files, name.as_str())
+}
+
+fn outputs(
+    alloc: Global,
+    files: &MemoryFiles,
+    out: &str,
+) -> Result<Vec<Option<Vec<u8>>>, AllocError> {
+    let mut outputs = Vec::new(alloc);
+    for end in [".0.pcap", ".1.pcap", ".2.pcap", ".3.pcap"] {
+        outputs.push(ending(alloc, files, out, end)?)?;
+    }
+    Ok(outputs)
+}
+
+// Numbers count from 2, in the order in which files are opened or created. No call fails any more.
+fn opened(files: &mut MemoryFiles) -> Result<u32, AllocError> {
+    match files.create_out("next") {
+        Ok(next) => Ok(next.saturating_sub(2)),
+        Err(FilesFault::Failed) => Ok(0),
+        Err(FilesFault::Memory(e)) => Err(e),
+    }
+}
+
+fn outcome_of(
+    alloc: Global,
+    files: &mut MemoryFiles,
+    out: &str,
+    status: Status,
+) -> Result<Outcome, AllocError> {
+    Ok(Outcome {
+        status,
+        stdout: given(alloc, files, 0)?,
+        stderr: given(alloc, files, 1)?,
+        outputs: outputs(alloc, files, out)?,
+        journal: ending(alloc, files, out, ".journal")?,
+        state: ending(alloc, files, out, ".state")?,
+        text: content(alloc, files, "x.nf")?,
+        opened: opened(files)?,
+    })
+}
+
+fn status_of(alloc: Global, words: &[String], files: &mut MemoryFiles) -> Status {
+    maestro(alloc, words, files)
+}
+
+/// Calls the program with the words of a line, one space apart, over a function as `x.nf` and captures
+/// as `a.pcap` to `d.pcap`, in files whose calls of these numbers fail. `out` is the front of the names
+/// of what it leaves.
+pub fn call(
+    alloc: Global,
+    line: &str,
+    out: &str,
+    text: &[u8],
+    captures: &[Vec<u8>],
+    fails: &[u64],
+) -> Result<Outcome, AllocError> {
+    let words = words_of(alloc, line)?;
+    let mut files = files_of(alloc, text, captures, fails)?;
+    let status = status_of(alloc, words.as_slice(), &mut files);
+    outcome_of(alloc, &mut files, out, status)
+}
+
+/// Calls the program with no words at all.
+pub fn call_nothing(alloc: Global) -> Result<Outcome, AllocError> {
+    let mut files = files_of(alloc, b"", &[], &[])?;
+    let status = status_of(alloc, &[], &mut files);
+    outcome_of(alloc, &mut files, "out", status)
+}

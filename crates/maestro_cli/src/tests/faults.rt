@@ -1,0 +1,171 @@
+// Calls on files that fail, one at a time.
+use super::calls::{Outcome, call, has_bytes};
+use super::firewall::{firewall, query_and_reply, run_two};
+use crate::{RunFile, Status};
+use std::alloc::{AllocError, Global};
+use std::test::Fail;
+
+// The firewall with a query and its reply, in files whose calls of these numbers fail.
+fn call_firewall(alloc: Global, fails: &[u64]) -> Result<Outcome, AllocError> {
+    let captures = query_and_reply(alloc)?;
+    call(
+        alloc,
+        run_two(),
+        "out",
+        firewall(),
+        captures.as_slice(),
+        fails,
+    )
+}
+
+// For each call of the run its file, and how many files stand open or created before it: a file that is
+// read takes a call to open it, one for its bytes and one for its end.
+const CALLS: [(RunFile, u32); 18] = [
+    (RunFile::Nf, 0),
+    (RunFile::Nf, 1),
+    (RunFile::Nf, 1),
+    (RunFile::Capture(0), 1),
+    (RunFile::Capture(1), 2),
+    (RunFile::Capture(0), 3),
+    (RunFile::Capture(0), 3),
+    (RunFile::Capture(1), 3),
+    (RunFile::Capture(1), 3),
+    (RunFile::Output(0), 3),
+    (RunFile::Output(1), 4),
+    (RunFile::OutJournal, 5),
+    (RunFile::Output(0), 6),
+    (RunFile::Output(1), 6),
+    (RunFile::OutJournal, 6),
+    (RunFile::State, 6),
+    (RunFile::State, 7),
+    (RunFile::Stdout, 7),
+];
+
+fn calls() -> &'static [(RunFile, u32)] {
+    &CALLS
+}
+
+fn said(file: RunFile) -> &'static str {
+    match file {
+        RunFile::Nf => "maestro: file fault: nf\n",
+        RunFile::Capture(0) => "maestro: file fault: capture 0\n",
+        RunFile::Capture(_) => "maestro: file fault: capture 1\n",
+        RunFile::Output(0) => "maestro: file fault: output 0\n",
+        RunFile::Output(_) => "maestro: file fault: output 1\n",
+        RunFile::OutJournal => "maestro: file fault: out journal\n",
+        RunFile::State => "maestro: file fault: state\n",
+        RunFile::Stdout => "maestro: file fault: stdout\n",
+        RunFile::Stderr => "",
+    }
+}
+
+// Whether a file has the first bytes, or all, of another, where it is there.
+fn is_front(content: &Option<Vec<u8>>, whole: &Option<Vec<u8>>) -> bool {
+    match (content, whole) {
+        (None, _) => true,
+        (Some(bytes), Some(whole)) => whole.as_slice().starts_with(bytes.as_slice()),
+        (Some(_), None) => false,
+    }
+}
+
+// Whether each file that a run leaves has the first bytes, or all, of what the other run left there.
+fn are_fronts(got: &Outcome, whole: &Outcome) -> bool {
+    let mut all = is_front(&got.journal, &whole.journal) && is_front(&got.state, &whole.state);
+    for (content, whole) in got.outputs.iter().zip(whole.outputs.iter()) {
+        all = is_front(content, whole) && all;
+    }
+    all
+}
+
+// What was created are the files that a run leaves, after the three that it reads.
+fn is_named(
+    alloc: Global,
+    whole: &Outcome,
+    number: u64,
+    file: RunFile,
+    opened: u32,
+) -> Result<bool, AllocError> {
+    let got = call_firewall(alloc, &[number])?;
+    let left = opened.saturating_sub(3);
+    let status = Status::FileFault(file);
+    Ok(got.is_stop(status, said(file), opened, left) && are_fronts(&got, whole))
+}
+
+#[test]
+fn every_call_that_fails_names_its_file(rt: HostRuntime) -> Result<(), Fail> {
+    let whole = call_firewall(rt.alloc(), &[])?;
+    let mut number: u64 = 0;
+    for (file, opened) in calls() {
+        let met = is_named(rt.alloc(), &whole, number, *file, *opened)?;
+        assert!(rt; met, "call {number}");
+        number = number.saturating_add(1);
+    }
+    Ok(())
+}
+
+// After the calls of the table there is no further one.
+fn is_all(alloc: Global) -> Result<bool, AllocError> {
+    let whole = call_firewall(alloc, &[])?;
+    let got = call_firewall(alloc, &[18])?;
+    Ok(got.status == Status::Done && are_fronts(&got, &whole) && are_fronts(&whole, &got))
+}
+
+#[test]
+fn a_run_makes_18_calls(rt: HostRuntime) -> Result<(), Fail> {
+    let met = is_all(rt.alloc())?;
+    assert!(rt; met);
+    Ok(())
+}
+
+fn is_empty_journal(alloc: Global) -> Result<bool, AllocError> {
+    let got = call_firewall(alloc, &[14])?;
+    let status = Status::FileFault(RunFile::OutJournal);
+    Ok(got.status == status && has_bytes(&got.journal, b"") && got.state.is_none())
+}
+
+#[test]
+fn a_journal_that_takes_no_bytes_stays_empty(rt: HostRuntime) -> Result<(), Fail> {
+    let met = is_empty_journal(rt.alloc())?;
+    assert!(rt; met);
+    Ok(())
+}
+
+// A call that fails, as does the next, which would say so on standard error.
+const FIRST: [(u64, RunFile); 4] = [
+    (0, RunFile::Nf),
+    (4, RunFile::Capture(1)),
+    (14, RunFile::OutJournal),
+    (17, RunFile::Stdout),
+];
+
+fn first() -> &'static [(u64, RunFile)] {
+    &FIRST
+}
+
+fn is_first(alloc: Global, number: u64, file: RunFile) -> Result<bool, AllocError> {
+    let got = call_firewall(alloc, &[number, number.saturating_add(1)])?;
+    Ok(got.status == Status::FileFault(file) && got.stderr.is_empty())
+}
+
+#[test]
+fn the_first_fault_is_told(rt: HostRuntime) -> Result<(), Fail> {
+    for (number, file) in first() {
+        let met = is_first(rt.alloc(), *number, *file)?;
+        assert!(rt; met, "call {number}");
+    }
+    Ok(())
+}
+
+fn is_mute(alloc: Global, line: &str, text: &[u8], fails: u64) -> Result<bool, AllocError> {
+    let got = call(alloc, line, "out", text, &[], &[fails])?;
+    Ok(got.status == Status::FileFault(RunFile::Stderr) && got.stderr.is_empty())
+}
+
+#[test]
+fn a_message_that_can_not_be_written_is_a_fault(rt: HostRuntime) -> Result<(), Fail> {
+    let usage = is_mute(rt.alloc(), "maestro --help", b"", 0)?;
+    // The text is opened and read in three calls.
+    let refused = is_mute(rt.alloc(), run_two(), b"nf", 3)?;
+    assert!(rt; usage && refused);
+    Ok(())
+}
