@@ -1,3 +1,3 @@
 pub mod Sorting
-pub mod Heads
+pub mod Placing
 pub mod Listing

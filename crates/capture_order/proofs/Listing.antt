@@ -7,7 +7,8 @@ use Rattle.std.proofs.lemmas.List.Elements.{All-from_recursion, recursion_from_A
 use Rattle.std.proofs.lemmas.List.Sorted.{All-permutation}
 use Rattle.capture_order.specs.declared.arrival.Arrival.{Arrival}
 use Rattle.capture_order.specs.Arrivals.{IsWithin, all_bytes, capture_at}
-use Rattle.capture_order.specs.Loaded.{packets_in, both, arrivals_at, all_arrivals, first_bad_at, first_bad}
+use Rattle.capture_order.specs.declared.loaded.Tear.{Tear}
+use Rattle.capture_order.specs.Loaded.{placed_in, packets_in, both, arrivals_at, all_arrivals, first_bad_at, first_bad, tear_in, tears_at, all_tears}
 use Rattle.capture_order.specs.Adding.{CameIn, Adds}
 
 both_nil : (o : Option (List Arrival)) → both (Some []) o ≡ o
@@ -19,13 +20,14 @@ both_more xs ys (Some zs) = ap (λ (r : List Arrival). Some r) (append_assoc xs 
 both_more xs ys None = refl
 
 -- The packets of the captures before one were listed, each of those captures is one, and the rest is still to come.
-pub record Listed (captures : List (Vec ℕ Global)) (port : ℕ) (arrivals : List Arrival) : Type 0 where
+pub record Listed (captures : List (Vec ℕ Global)) (port : ℕ) (arrivals : List Arrival) (tears : List Tear) : Type 0 where
   pub all : both (Some arrivals) (arrivals_at port (all_bytes (drop port captures))) ≡ all_arrivals (all_bytes captures)
   pub bad : first_bad_at port (all_bytes (drop port captures)) ≡ first_bad (all_bytes captures)
   pub within : AllByRecursion (IsWithin (all_bytes captures)) arrivals
+  pub torn : tears ++ tears_at port (all_bytes (drop port captures)) ≡ all_tears (all_bytes captures)
 
-pub listed_none : (captures : List (Vec ℕ Global)) → Listed captures 0 []
-listed_none captures = record { all = both_nil (arrivals_at 0 (all_bytes captures)); bad = refl; within = tt }
+pub listed_none : (captures : List (Vec ℕ Global)) → Listed captures 0 [] []
+listed_none captures = record { all = both_nil (arrivals_at 0 (all_bytes captures)); bad = refl; within = tt; torn = refl }
 
 rest_at : (captures : List (Vec ℕ Global)) (port : ℕ) (c : Vec ℕ Global) → port < length captures → c ≡ get_or captures port c → all_bytes (drop port captures) ≡ c.items ∷ all_bytes (drop (port + 1) captures)
 rest_at captures port c lt at = ap all_bytes (drop-cons captures port c lt) ∙ rw (add-one port) (ap (λ (x : Vec ℕ Global). x.items ∷ all_bytes (drop (suc port) captures)) (sym at))
@@ -48,8 +50,8 @@ all_within captures port c [] [] lt at h k = tt
 all_within captures port c [] (m ∷ ms) lt at h k = (is_within captures port c m lt at k.0, all_within captures port c [] ms lt at h k.1)
 all_within captures port c (x ∷ xs) more lt at h k = (h.0, all_within captures port c xs more lt at h.1 k)
 
-pub listed_more : (captures : List (Vec ℕ Global)) (port : ℕ) (c : Vec ℕ Global) (old new : List Arrival) → port < length captures → c ≡ get_or captures port c → Listed captures port old → Adds port c.items old new → Listed captures (port + 1) new
-listed_more captures port c old new lt at h adds =
+pub listed_more : (captures : List (Vec ℕ Global)) (port : ℕ) (c : Vec ℕ Global) (old new : List Arrival) (old_tears new_tears : List Tear) → port < length captures → c ≡ get_or captures port c → Listed captures port old old_tears → Adds port c.items old new old_tears new_tears → Listed captures (port + 1) new new_tears
+listed_more captures port c old new old_tears new_tears lt at h adds =
     let rest = rest_at captures port c lt at in
     let later = all_bytes (drop (port + 1) captures) in
     record {
@@ -62,17 +64,25 @@ listed_more captures port c old new lt at h adds =
           ∙ ap (first_bad_at port) (sym rest)
           ∙ h.bad;
       within = subst (λ (xs : List Arrival). AllByRecursion (IsWithin (all_bytes captures)) xs) (sym adds.behind) (all_within captures port c old adds.more lt at h.within adds.came);
+      torn = ap (λ (ts : List Tear). ts ++ tears_at (port + 1) later) adds.torn
+          ∙ append_assoc old_tears (tear_in port (placed_in c.items)) (tears_at (port + 1) later)
+          ∙ ap (λ (bs : List (List ℕ)). old_tears ++ tears_at port bs) (sym rest)
+          ∙ h.torn;
     }
 
-pub listed_bad : (captures : List (Vec ℕ Global)) (port : ℕ) (c : Vec ℕ Global) (old : List Arrival) → port < length captures → c ≡ get_or captures port c → Listed captures port old → packets_in port c.items ≡ None → first_bad (all_bytes captures) ≡ Some port
-listed_bad captures port c old lt at h none =
+pub listed_bad : (captures : List (Vec ℕ Global)) (port : ℕ) (c : Vec ℕ Global) (old : List Arrival) (tears : List Tear) → port < length captures → c ≡ get_or captures port c → Listed captures port old tears → packets_in port c.items ≡ None → first_bad (all_bytes captures) ≡ Some port
+listed_bad captures port c old tears lt at h none =
     let rest = rest_at captures port c lt at in
     let later = all_bytes (drop (port + 1) captures) in
     sym h.bad ∙ ap (first_bad_at port) rest ∙ ap (λ (o : Option (List Arrival)). cond (is_some o) (first_bad_at (port + 1) later) (Some port)) none
 
-pub listed_all : (captures : List (Vec ℕ Global)) (port : ℕ) (xs : List Arrival) → length captures ≤ port → Listed captures port xs → all_arrivals (all_bytes captures) ≡ Some xs
-listed_all captures port xs past h =
+pub listed_all : (captures : List (Vec ℕ Global)) (port : ℕ) (xs : List Arrival) (tears : List Tear) → length captures ≤ port → Listed captures port xs tears → all_arrivals (all_bytes captures) ≡ Some xs
+listed_all captures port xs tears past h =
     sym h.all ∙ ap (λ (cs : List (Vec ℕ Global)). both (Some xs) (arrivals_at port (all_bytes cs))) (drop_all port captures past) ∙ ap (λ (r : List Arrival). Some r) (append-nil xs)
+
+pub torn_all : (captures : List (Vec ℕ Global)) (port : ℕ) (xs : List Arrival) (tears : List Tear) → length captures ≤ port → Listed captures port xs tears → tears ≡ all_tears (all_bytes captures)
+torn_all captures port xs tears past h =
+    sym (append-nil tears) ∙ ap (λ (cs : List (Vec ℕ Global)). tears ++ tears_at port (all_bytes cs)) (sym (drop_all port captures past)) ∙ h.torn
 
 -- packets that only changed places
 pub still_within : (captures : List (List ℕ)) (xs ys : List Arrival) → IsPermutation xs ys → AllByRecursion (IsWithin captures) xs → AllByRecursion (IsWithin captures) ys

@@ -1,38 +1,57 @@
 -- The packets of captures, one capture a port, and what a list of them in capture order is.
-use Rattle.std.specs.Prelude.{◌≡◌, ℕ, ◌+◌, List, [], ◌∷◌, ◌++◌, map, if◌then◌else◌, Option, Some, None, option_map, is_some, Result, Ok, Err, Vec}
-use Rattle.std.specs.declared.alloc.Global.{Global}
+use Rattle.std.specs.Prelude.{◌≡◌, ℕ, ◌+◌, max, List, [], ◌∷◌, ◌++◌, length, map, nat_le, if◌then◌else◌, Option, Some, None, option_map, is_some, Result, Ok, Err}
 use Rattle.std.specs.List.Sorted.{IsPermutation, IsSortedBy}
 use Rattle.nf_base.specs.Orders.{comes_before}
-use Rattle.pcap_file.specs.declared.head.Head.{Head}
-use Rattle.pcap_file.specs.Capture.{frame_at}
-use Rattle.pcap_file.specs.Reading.{heads_in}
+use Rattle.pcap_file.specs.declared.places.Place.{Place}
+use Rattle.pcap_file.specs.Capture.{capture_of}
+use Rattle.pcap_file.specs.Placed.{Placed, placed, frame_at}
 use Rattle.frame_ip.specs.Frame.{fields_in}
 use Rattle.capture_order.specs.declared.arrival.Arrival.{Arrival}
+use Rattle.capture_order.specs.declared.loaded.Tear.{Tear}
+use Rattle.capture_order.specs.declared.loaded.Loaded.{Loaded}
 use Rattle.capture_order.specs.declared.fault.LoadFault.{LoadFault}
 use Rattle.capture_order.specs.declared.fault.LoadFault.TheVariants.{NotCapture, Memory}
 use Rattle.capture_order.specs.Arrivals.{packet_of}
 
--- the packet of a record of a port's capture: its number, its time (the latest up to it), and the fields of its frame, which are none where it is skipped
-unfoldable pub arrival_of : ℕ → List ℕ → ℕ → Head → Arrival
-arrival_of port bytes seq head = record {
-  packet = record { id = record { port = port; seq = seq }; time = head.time; fields = fields_in (frame_at bytes head) head.original };
-  offset = head.offset;
-  captured = head.captured;
-  original = head.original;
+-- how many whole records a capture may hold
+abbrev pub most_records : ℕ
+most_records = 10000000
+
+-- a capture of no more records than that
+abbrev pub limited : Placed → Option Placed
+limited p = if nat_le (length p.places) most_records then Some p else None
+
+-- the records of a capture, and none where its header is short or wrong or there are too many
+abbrev pub if_limited : Option Placed → Option Placed
+if_limited None = None
+if_limited (Some p) = limited p
+
+-- the records in bytes, and where these are torn
+unfoldable pub placed_in : List ℕ → Option Placed
+placed_in bytes = if_limited (option_map placed (capture_of bytes))
+
+-- the packet of a record of a port's capture that came at a time: its number, and the fields of its frame, which are none where it is skipped
+unfoldable pub arrival_of : ℕ → List ℕ → ℕ → ℕ → Place → Arrival
+arrival_of port bytes seq time place = record {
+  packet = record { id = record { port = port; seq = seq }; time = time; fields = fields_in (frame_at bytes place) place.head.original };
+  offset = place.offset;
+  captured = place.head.captured;
+  original = place.head.original;
 }
 
--- the packets of records that are numbered from a number on
-abbrev pub arrivals_from : ℕ → List ℕ → ℕ → List Head → List Arrival
-arrivals_from port bytes seq [] = []
-arrivals_from port bytes seq (head ∷ heads) = arrival_of port bytes seq head ∷ arrivals_from port bytes (seq + 1) heads
+-- the packets of records that are numbered from a number on; each came at the latest time up to it
+abbrev pub arrivals_from : ℕ → List ℕ → ℕ → ℕ → List Place → List Arrival
+arrivals_from port bytes seq latest [] = []
+arrivals_from port bytes seq latest (p ∷ ps) =
+    arrival_of port bytes seq (max latest p.head.time) p ∷ arrivals_from port bytes (seq + 1) (max latest p.head.time) ps
 
 -- the packets of all the records of a capture, numbered from 0, skipped ones too
-abbrev pub arrivals_of : ℕ → List ℕ → List Head → List Arrival
-arrivals_of port bytes heads = arrivals_from port bytes 0 heads
+abbrev pub arrivals_of : ℕ → List ℕ → List Place → List Arrival
+arrivals_of port bytes places = arrivals_from port bytes 0 0 places
 
 -- the packets of a port's bytes, where they are a capture
-unfoldable pub packets_in : ℕ → List ℕ → Option (List Arrival)
-packets_in port bytes = option_map (arrivals_of port bytes) (heads_in bytes)
+abbrev pub packets_in : ℕ → List ℕ → Option (List Arrival)
+packets_in port bytes = option_map (λ p. arrivals_of port bytes p.places) (placed_in bytes)
 
 -- one list behind the other, where both are there
 abbrev pub both : Option (List Arrival) → Option (List Arrival) → Option (List Arrival)
@@ -58,15 +77,35 @@ first_bad_at port (bytes ∷ captures) = if is_some (packets_in port bytes) then
 abbrev pub first_bad : List (List ℕ) → Option ℕ
 first_bad captures = first_bad_at 0 captures
 
--- the packets of all captures, each once, in capture order
-pub record IsLoaded (captures : List (List ℕ)) (arrivals : List Arrival) : Type 0 where
+-- where a port's capture is torn, if it is
+abbrev pub tear_of : ℕ → Option ℕ → List Tear
+tear_of port None = []
+tear_of port (Some offset) = record { port = port; offset = offset } ∷ []
+
+-- where a port's bytes are torn, if they are
+abbrev pub tear_in : ℕ → Option Placed → List Tear
+tear_in port None = []
+tear_in port (Some p) = tear_of port p.torn
+
+-- where the captures of the ports from one on are torn
+abbrev pub tears_at : ℕ → List (List ℕ) → List Tear
+tears_at port [] = []
+tears_at port (bytes ∷ captures) = tear_in port (placed_in bytes) ++ tears_at (port + 1) captures
+
+-- where captures are torn, by port
+abbrev pub all_tears : List (List ℕ) → List Tear
+all_tears captures = tears_at 0 captures
+
+-- the packets of all captures, each once, in capture order, and where captures are torn
+pub record IsLoaded (captures : List (List ℕ)) (arrivals : List Arrival) (tears : List Tear) : Type 0 where
   pub listed : List Arrival
   pub all : all_arrivals captures ≡ Some listed
   pub each_once : IsPermutation listed arrivals
   pub in_order : IsSortedBy comes_before (map packet_of arrivals)
+  pub torn : tears ≡ all_tears captures
 
 -- what loading captures comes to; want of memory is free
-abbrev pub Loads : List (List ℕ) → Result (Vec Arrival Global) LoadFault → Type 0
-Loads captures (Ok arrivals) = IsLoaded captures arrivals.items
+abbrev pub Loads : List (List ℕ) → Result Loaded LoadFault → Type 0
+Loads captures (Ok loaded) = IsLoaded captures loaded.arrivals.items loaded.tears.items
 Loads captures (Err (NotCapture port)) = first_bad captures ≡ Some port
 Loads captures (Err Memory) = Unit {0}

@@ -5,7 +5,8 @@ use thiserror::Error;
 /// Why captures can't be loaded.
 #[derive(Clone, Copy, Debug, PartialEq, Eq, Error)]
 pub enum LoadFault {
-    /// The bytes of this port are no capture, and those of each lesser port are one.
+    /// The capture of this port has a short or wrong header or more than 10,000,000 whole records, and
+    /// that of no lesser port has.
     #[error("not a capture at port {port}")]
     NotCapture { port: u32 },
     /// Memory ran out.

@@ -3,10 +3,12 @@
 
 pub mod arrival;
 mod fault;
+mod loaded;
 mod loading;
 
 pub use arrival::{Arrival, frame};
 pub use fault::LoadFault;
+pub use loaded::{Loaded, Tear};
 pub use loading::load;
 
 #[cfg(test)]

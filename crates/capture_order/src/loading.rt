@@ -1,33 +1,37 @@
 //! The packets of captures in memory.
 ghost use Rattle.std.specs.Prelude.{◌≡◌, ◌++◌, ◌^◌, ◌<◌, ◌≤◌, length, IfOk, OnOk};
 ghost use Rattle.std.specs.List.{AllByRecursion};
+ghost use Rattle.pcap_file.specs.Placed.{Lies};
 ghost use Rattle.capture_order.specs.Arrivals.{IsWithin, all_bytes};
-ghost use Rattle.capture_order.specs.Loaded.{arrival_of, arrivals_of, Loads};
-ghost use Rattle.capture_order.specs.Adding.{Lies, Added, Lists};
+ghost use Rattle.capture_order.specs.Loaded.{arrival_of, arrivals_of, tear_of, Loads};
+ghost use Rattle.capture_order.specs.Adding.{Added, Lists};
 
 use crate::arrival::{Arrival, sort};
 use crate::fault::LoadFault;
+use crate::loaded::{Loaded, Tear};
 use frame_ip::fields_of;
 use nf_base::packet::{Packet, PacketId};
-use pcap_file::{CapFault, Head, records};
+use pcap_file::{CapFault, Place, Places, records};
 use std::alloc::{AllocError, Global};
 
-// The packet of a record.
+const MOST_RECORDS: usize = 10_000_000;
+
+// The packet of a record that came at a time.
 #[tactic(auto, unfolding(crate::specs::Loaded::arrival_of))]
-fn arrival(port: u32, bytes: &[u8], seq: u32, head: Head) -> Arrival
-    requires { Lies bytes.now head }
-    ensures { result ≡ arrival_of port bytes.now seq head }
+fn arrival(port: u32, bytes: &[u8], seq: u32, time: u64, place: Place) -> Arrival
+    requires { Lies bytes.now place }
+    ensures { result ≡ arrival_of port bytes.now seq time place }
 {
-    let frame = &bytes.split_at(head.offset).1[..head.captured as usize];
+    let frame = &bytes.split_at(place.offset).1[..place.head.captured as usize];
     Arrival {
         packet: Packet {
             id: PacketId { port, seq },
-            time: head.time,
-            fields: fields_of(frame, head.original),
+            time,
+            fields: fields_of(frame, place.head.original),
         },
-        offset: head.offset,
-        captured: head.captured,
-        original: head.original,
+        offset: place.offset,
+        captured: place.head.captured,
+        original: place.head.original,
     }
 }
 
@@ -35,71 +39,110 @@ fn arrival(port: u32, bytes: &[u8], seq: u32, head: Head) -> Arrival
 fn push_arrivals(
     port: u32,
     bytes: &[u8],
-    heads: &[Head],
+    places: &[Place],
     arrivals: &mut Vec<Arrival>,
 ) -> Result<(), AllocError>
-    requires lie { AllByRecursion (Lies bytes.now) heads.now }
-    requires count { length heads.now < 2 ^ 32 }
-    ensures { OnOk result (arrivals.new.items ≡ arrivals.old.items ++ arrivals_of port bytes.now heads.now) }
+    requires lie { AllByRecursion (Lies bytes.now) places.now }
+    requires count { length places.now < 2 ^ 32 }
+    ensures { OnOk result (arrivals.new.items ≡ arrivals.old.items ++ arrivals_of port bytes.now places.now) }
 {
-    for (seq, head) in heads.iter().enumerate() {
-        arrivals.push(arrival(port, bytes, seq as u32, *head))?;
+    let mut latest: u64 = 0;
+    for (seq, place) in places.iter().enumerate() {
+        latest = latest.max(place.head.time);
+        arrivals.push(arrival(port, bytes, seq as u32, latest, *place))?;
     }
     Ok(())
 }
 
-// Adds the packets of one capture.
+// Adds where a capture is torn.
+fn push_tear(port: u32, torn: Option<u64>, tears: &mut Vec<Tear>) -> Result<(), AllocError>
+    ensures { OnOk result (tears.new.items ≡ tears.old.items ++ tear_of port torn) }
+{
+    if let Some(offset) = torn {
+        tears.push(Tear { port, offset })?;
+    }
+    Ok(())
+}
+
+// Adds what was found in one capture.
+fn push_capture(
+    port: u32,
+    bytes: &[u8],
+    found: &Places,
+    arrivals: &mut Vec<Arrival>,
+    tears: &mut Vec<Tear>,
+) -> Result<(), AllocError>
+    requires lie { AllByRecursion (Lies bytes.now) found.now.places }
+    requires count { length found.now.places < 2 ^ 32 }
+    ensures arrivals { OnOk result (arrivals.new.items ≡ arrivals.old.items ++ arrivals_of port bytes.now found.now.places) }
+    ensures tears { OnOk result (tears.new.items ≡ tears.old.items ++ tear_of port found.now.torn) }
+{
+    push_arrivals(port, bytes, found.as_slice(), arrivals)?;
+    push_tear(port, found.torn(), tears)?;
+    Ok(())
+}
+
+// Adds the packets of one capture, and where it is torn.
 fn add_capture(
     alloc: Global,
     port: u32,
     bytes: &[u8],
     arrivals: &mut Vec<Arrival>,
+    tears: &mut Vec<Tear>,
 ) -> Result<(), LoadFault>
-    ensures { Added port bytes.now arrivals.old.items arrivals.new.items result }
+    ensures { Added port bytes.now arrivals.old.items arrivals.new.items tears.old.items tears.new.items result }
 {
     let found = match records(alloc, bytes) {
         Ok(found) => found,
         Err(CapFault::NotCapture) => return Err(LoadFault::NotCapture { port }),
-        Err(CapFault::Memory) => return Err(LoadFault::Memory),
+        Err(_) => return Err(LoadFault::Memory),
     };
-    match push_arrivals(port, bytes, found.as_slice(), arrivals) {
+    if found.len() > MOST_RECORDS {
+        return Err(LoadFault::NotCapture { port });
+    }
+    match push_capture(port, bytes, &found, arrivals, tears) {
         Ok(()) => Ok(()),
         Err(_) => Err(LoadFault::Memory),
     }
 }
 
 // The packets of all captures, one capture after the other.
-fn list(alloc: Global, captures: &[Vec<u8>]) -> Result<Vec<Arrival>, LoadFault>
+fn list(alloc: Global, captures: &[Vec<u8>]) -> Result<Loaded, LoadFault>
     requires { length captures.now ≤ 2 ^ 32 }
     ensures { Lists (all_bytes captures.now) result }
 {
     let mut arrivals = Vec::new(alloc);
+    let mut tears = Vec::new(alloc);
     for (port, bytes) in captures.iter().enumerate() {
-        match add_capture(alloc, port as u32, bytes.as_slice(), &mut arrivals) {
+        let bytes = bytes.as_slice();
+        match add_capture(alloc, port as u32, bytes, &mut arrivals, &mut tears) {
             Ok(()) => {}
             Err(e) => return Err(e),
         }
     }
-    Ok(arrivals)
+    Ok(Loaded { arrivals, tears })
 }
 
 /// The packets of all captures in capture order: least time first, ties by port, then in the order of
-/// the file.
+/// the file; and where captures are torn, by port.
 ///
-/// The capture at index `i` is that of port `i`. Each record is a packet, whose number counts the
+/// The capture at index `i` is that of port `i`. Each whole record is a packet, whose number counts the
 /// records of its capture from 0, skipped ones too, and whose time is the latest of its capture up to
 /// it. The fields are those of the captured bytes, with the frame's original length.
-pub fn load(alloc: Global, captures: &[Vec<u8>]) -> Result<Vec<Arrival>, LoadFault>
+pub fn load(alloc: Global, captures: &[Vec<u8>]) -> Result<Loaded, LoadFault>
     requires { length captures.now ≤ 2 ^ 32 }
     ensures loaded { Loads (all_bytes captures.now) result }
-    ensures within { IfOk result (λ arrivals. AllByRecursion (IsWithin (all_bytes captures.now)) arrivals.items) }
+    ensures within { IfOk result (λ loaded. AllByRecursion (IsWithin (all_bytes captures.now)) loaded.arrivals.items) }
 {
-    let mut arrivals = match list(alloc, captures) {
-        Ok(arrivals) => arrivals,
+    let Loaded {
+        mut arrivals,
+        tears,
+    } = match list(alloc, captures) {
+        Ok(listed) => listed,
         Err(e) => return Err(e),
     };
     match sort(&mut arrivals) {
-        Ok(()) => Ok(arrivals),
+        Ok(()) => Ok(Loaded { arrivals, tears }),
         Err(_) => Err(LoadFault::Memory),
     }
 }

@@ -1,3 +1,4 @@
-pub mod Fields
-pub mod Laws
-pub mod Loop
+pub mod Steps
+pub mod Placing
+pub mod Numbers
+pub mod Spelling

@@ -1,3 +1,5 @@
+pub mod Form
 pub mod Record
 pub mod Capture
-pub mod Reading
+pub mod Spelled
+pub mod Placed

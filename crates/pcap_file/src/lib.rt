@@ -2,14 +2,19 @@
 #![tactic(auto)]
 
 mod fault;
+mod form;
 mod head;
-mod reading;
+mod number;
+mod places;
 mod record;
+mod whole;
 mod writing;
 
 pub use fault::CapFault;
-pub use head::{Head, Records};
-pub use reading::records;
+pub use form::{Endian, Form, TimeUnit};
+pub use head::Head;
+pub use places::{Place, Places};
+pub use whole::records;
 pub use writing::{push_header, push_record};
 
 #[cfg(test)]

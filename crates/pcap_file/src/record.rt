@@ -3,22 +3,23 @@
 //! | offset | bytes | meaning |
 //! |---|---|---|
 //! | 0 | 4 | seconds |
-//! | 4 | 4 | fraction, in nanoseconds |
+//! | 4 | 4 | fraction, in microseconds or nanoseconds |
 //! | 8 | 4 | captured length, in bytes |
 //! | 12 | 4 | original length, in bytes |
 //! | 16 | captured length | the frame |
 //!
-//! All numbers stand lowest byte first (libpcap file format 2.4, "Packet Record").
-ghost use Rattle.std.specs.Prelude.{◌≡◌, ◌+◌, ◌^◌, ◌<◌, ◌≤◌, length, option_map, IfSome};
-ghost use Rattle.pcap_file.specs.Record.{time_of};
-ghost use Rattle.pcap_file.specs.Capture.{head_of};
-ghost use Rattle.pcap_file.specs.Reading.{number_at, frame_of, first_record};
+//! All numbers stand in the capture's byte order (libpcap file format 2.4, "Packet Record").
+ghost use Rattle.std.specs.Prelude.{◌≡◌, ◌+◌, ◌≤◌, length, if◌then◌else◌, Some, None};
+ghost use Rattle.pcap_file.specs.Record.{nanoseconds, time_of, head_of};
+ghost use Rattle.pcap_file.specs.Capture.{captured_in, is_sized, is_whole, record_in};
 
+use crate::form::{Endian, TimeUnit};
 use crate::head::Head;
+use crate::number::number;
 use std::marker::Model;
 
 /// The length of a record's header, in bytes.
-const RECORD_HEADER: usize = 16;
+pub(crate) const RECORD_HEADER: usize = 16;
 
 /// The most bytes of a frame that a record holds.
 const MOST_CAPTURED: u32 = 262_144;
@@ -28,7 +29,7 @@ const GREATEST_TIME: u64 = 4_294_967_295_999_999_999;
 
 /// A record, whose frame is borrowed from the capture's bytes.
 #[derive(Drop)]
-pub struct Record<'a> {
+pub(crate) struct Record<'a> {
     pub(crate) seconds: u32,
     pub(crate) fraction: u32,
     pub(crate) original: u32,
@@ -47,71 +48,70 @@ impl<'a> Model for Record<'a> {
 }
 
 impl<'a> Record<'a> {
-    /// In nanoseconds, at most the last one of the last second that a record can hold.
-    pub fn time(&self) -> u64
-        ensures { result ≡ time_of self.now }
+    // In nanoseconds, at most the last one of the last second that a record can hold.
+    fn time(&self, unit: TimeUnit) -> u64
+        ensures { result ≡ time_of unit self.now }
     {
-        let time = u64::from(self.seconds) * 1_000_000_000 + u64::from(self.fraction);
+        let fraction = match unit {
+            TimeUnit::Microseconds => u64::from(self.fraction) * 1000,
+            TimeUnit::Nanoseconds => u64::from(self.fraction),
+        };
+        let time = u64::from(self.seconds) * 1_000_000_000 + fraction;
         time.min(GREATEST_TIME)
     }
 
-    /// Where the frame of the record at an offset lies; `latest` is the greatest time before it.
-    pub fn head(&self, offset: usize, latest: u64) -> Head
-        requires { offset + 16 < 2 ^ 64 }
-        ensures { result ≡ head_of offset latest self.now }
+    /// How many bytes it takes in its capture.
+    pub(crate) fn size(&self) -> usize
+        ensures { result ≡ 16 + length self.now.frame }
+    {
+        RECORD_HEADER + self.frame.len()
+    }
+
+    pub(crate) fn head(&self, unit: TimeUnit) -> Head
+        ensures { result ≡ head_of unit self.now }
     {
         Head {
-            time: latest.max(self.time()),
-            offset: offset + RECORD_HEADER,
+            time: self.time(unit),
             captured: self.frame.len() as u32,
             original: self.original,
         }
     }
 }
 
-fn number(bytes: &[u8]) -> Option<(u32, &[u8])>
-    ensures value { option_map (λ x. (x.0, x.1.now)) result ≡ number_at bytes.now }
-    ensures len { IfSome result (λ x. 4 + length x.1.now ≡ length bytes.now) }
+/// The size of the record whose header stands in front, in bytes: 16 and the captured length.
+///
+/// None where it is torn whatever follows: more than 262,144 bytes are captured, or it would end past
+/// byte 2^64 - 1.
+pub(crate) fn size(order: Endian, offset: u64, bytes: &[u8]) -> Option<usize>
+    requires { 16 ≤ length bytes.now }
+    ensures { result ≡ (if is_sized order offset bytes.now then Some (16 + captured_in order bytes.now) else None) }
 {
-    if bytes.len() < 4 {
+    let captured = number(order, &bytes[8..]);
+    if captured > MOST_CAPTURED {
         return None;
     }
-    let (front, rest) = bytes.split_at(4);
-    Some((
-        u32::from_le_bytes([front[0], front[1], front[2], front[3]]),
-        rest,
-    ))
+    let size = RECORD_HEADER + captured as usize;
+    match offset.checked_add(size as u64) {
+        Some(_) => Some(size),
+        None => None,
+    }
 }
 
-fn frame(captured: u32, bytes: &[u8]) -> Option<(&[u8], &[u8])>
-    ensures value { option_map (λ x. (x.0.now, x.1.now)) result ≡ frame_of captured bytes.now }
-    ensures within { IfSome result (λ x. length x.0.now ≤ 262144) }
-    ensures len { IfSome result (λ x. length x.0.now + length x.1.now ≡ length bytes.now) }
+/// The first record of bytes that begin at this offset of a capture; None where it is torn.
+pub(crate) fn first(order: Endian, offset: u64, bytes: &[u8]) -> Option<Record<'_>>
+    ensures { result ≡ (if is_whole order offset bytes.now then Some (record_in order bytes.now) else None) }
 {
-    if captured > MOST_CAPTURED || bytes.len() < captured as usize {
+    if bytes.len() < RECORD_HEADER {
         return None;
     }
-    Some(bytes.split_at(captured as usize))
-}
-
-/// The first record of some bytes, and the bytes behind it; None where it is torn.
-#[tactic(auto, unfolding(crate::specs::Reading::first_record))]
-pub fn first(bytes: &[u8]) -> Option<(Record<'_>, &[u8])>
-    ensures value { option_map (λ x. (x.0, x.1.now)) result ≡ first_record bytes.now }
-    ensures len { IfSome result (λ x. 16 + length x.0.frame + length x.1.now ≡ length bytes.now) }
-{
-    let (seconds, rest) = number(bytes)?;
-    let (fraction, rest) = number(rest)?;
-    let (captured, rest) = number(rest)?;
-    let (original, rest) = number(rest)?;
-    let (frame, rest) = frame(captured, rest)?;
-    Some((
-        Record {
-            seconds,
-            fraction,
-            original,
-            frame,
-        },
-        rest,
-    ))
+    let size = size(order, offset, bytes)?;
+    if bytes.len() < size {
+        return None;
+    }
+    Some(Record {
+        seconds: number(order, bytes),
+        fraction: number(order, &bytes[4..]),
+        original: number(order, &bytes[12..]),
+        frame: &bytes[RECORD_HEADER..size],
+    })
 }

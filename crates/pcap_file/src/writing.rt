@@ -1,8 +1,12 @@
 //! A capture into bytes.
-ghost use Rattle.std.specs.Prelude.{◌≡◌, ◌+◌, ◌/◌, ◌%◌, ◌≤◌, ◌++◌, length, take, OnOk, OnErr};
-ghost use Rattle.pcap_file.specs.Record.{Fits, record_bytes, record_at, time_of, greatest_time};
-ghost use Rattle.pcap_file.specs.Capture.{header_bytes};
+ghost use Rattle.std.specs.Prelude.{◌≡◌, ◌+◌, ◌/◌, ◌%◌, ◌≤◌, ◌<◌, ◌^◌, ◌++◌, length, take, drop, OnOk, OnErr};
+ghost use Rattle.pcap_file.specs.declared.form.Endian.TheVariants.{Little};
+ghost use Rattle.pcap_file.specs.declared.form.TimeUnit.TheVariants.{Nanoseconds};
+ghost use Rattle.pcap_file.specs.Form.{bytes_in};
+ghost use Rattle.pcap_file.specs.Record.{Fits, record_at, time_of, greatest_time};
+ghost use Rattle.pcap_file.specs.Spelled.{header_bytes, written_bytes};
 
+use byteorder::{ByteOrder, LittleEndian};
 use std::alloc::AllocError;
 
 /// Magic number, version 2.4, zone and accuracy 0, at most 262,144 captured bytes, link type 1.
@@ -18,28 +22,27 @@ pub fn push_header(out: &mut Vec<u8>) -> Result<(), AllocError>
     out.extend_from_slice(&HEADER)
 }
 
-// The seconds of a time, and the nanoseconds behind them.
-fn parts(time: u64) -> (u32, u32)
+// The four numbers of a record, lowest byte first.
+fn numbers(time: u64, captured: u32, original: u32) -> [u8; 16]
     requires { time ≤ greatest_time }
-    ensures { result ≡ (time / 1000000000, time % 1000000000) }
+    ensures { result ≡ bytes_in Little (time / 1000000000) ++ (bytes_in Little (time % 1000000000) ++ (bytes_in Little captured ++ bytes_in Little original)) }
 {
-    let seconds = time / 1_000_000_000;
-    let fraction = time % 1_000_000_000;
-    (seconds as u32, fraction as u32)
+    let mut bytes = [0u8; 16];
+    LittleEndian::write_u32(&mut bytes, (time / 1_000_000_000) as u32);
+    LittleEndian::write_u32(&mut bytes[4..], (time % 1_000_000_000) as u32);
+    LittleEndian::write_u32(&mut bytes[8..], captured);
+    LittleEndian::write_u32(&mut bytes[12..], original);
+    bytes
 }
 
 fn append(out: &mut Vec<u8>, time: u64, original: u32, frame: &[u8]) -> Result<(), AllocError>
     requires time { time ≤ greatest_time }
     requires frame { length frame.now ≤ 262144 }
-    ensures ok { OnOk result (out.new.items ≡ out.old.items ++ record_bytes (record_at time original frame.now)) }
+    ensures ok { OnOk result (out.new.items ≡ out.old.items ++ written_bytes (record_at time original frame.now)) }
     ensures front { take (length out.old.items) out.new.items ≡ out.old.items }
 {
-    let (seconds, fraction) = parts(time);
-    let captured = frame.len() as u32;
-    out.extend_from_slice(&seconds.to_le_bytes())?;
-    out.extend_from_slice(&fraction.to_le_bytes())?;
-    out.extend_from_slice(&captured.to_le_bytes())?;
-    out.extend_from_slice(&original.to_le_bytes())?;
+    let numbers = numbers(time, frame.len() as u32, original);
+    out.extend_from_slice(&numbers)?;
     out.extend_from_slice(frame)?;
     Ok(())
 }
@@ -55,11 +58,11 @@ pub fn push_record(
 ) -> Result<(), AllocError>
     requires time { time ≤ greatest_time }
     requires frame { length frame.now ≤ 262144 }
-    ensures ok { OnOk result (out.new.items ≡ out.old.items ++ record_bytes (record_at time original frame.now)) }
+    ensures ok { OnOk result (out.new.items ≡ out.old.items ++ written_bytes (record_at time original frame.now)) }
     ensures unchanged { OnErr result (out.new.items ≡ out.old.items) }
     // What is written can be read again, at the same time.
     ensures fits { Fits (record_at time original frame.now) }
-    ensures same_time { time_of (record_at time original frame.now) ≡ time }
+    ensures same_time { time_of Nanoseconds (record_at time original frame.now) ≡ time }
 {
     let before = out.len();
     let done = append(out, time, original, frame);

@@ -3,8 +3,8 @@ use Rattle.std.specs.Prelude.{ℕ, Bool, false, not, ◌==◌, List, [], ◌∷�
 use Rattle.std.specs.List.{flat_map}
 use Rattle.nf_base.specs.declared.done.Action.{Action}
 use Rattle.nf_base.specs.declared.done.Action.TheVariants.{Skip, Drop, To, Flood}
-use Rattle.pcap_file.specs.Record.{Record, record_at, record_bytes}
-use Rattle.pcap_file.specs.Capture.{capture_bytes}
+use Rattle.pcap_file.specs.Record.{Record, record_at}
+use Rattle.pcap_file.specs.Spelled.{written_bytes, capture_bytes}
 use Rattle.run_history.specs.Line.{header_line, packet_line}
 use Rattle.run_history.specs.declared.line.Mode.TheVariants.{One}
 use Rattle.capture_order.specs.declared.arrival.Arrival.{Arrival}
@@ -46,7 +46,7 @@ sent_records port captures hs = map (record_of captures) (map arrival_in (filter
 
 -- their bytes
 unfoldable pub sent_bytes : ℕ → List (List ℕ) → List Handled → List ℕ
-sent_bytes port captures hs = flat_map record_bytes (sent_records port captures hs)
+sent_bytes port captures hs = flat_map written_bytes (sent_records port captures hs)
 
 -- the output of a port: a capture of these records
 unfoldable pub output_bytes : ℕ → List (List ℕ) → List Handled → List ℕ

@@ -1,8 +1,7 @@
 // The output captures of a run.
 ghost use Rattle.std.specs.Prelude.{◌≡◌, ◌<◌, ◌⊎◌, ℕ, [], ◌∷◌, ◌++◌, map, OnOk, OnErr, IfOk, vec_len};
 ghost use Rattle.std.specs.List.{AllByRecursion};
-ghost use Rattle.pcap_file.specs.Record.{record_bytes};
-ghost use Rattle.pcap_file.specs.Capture.{header_bytes};
+ghost use Rattle.pcap_file.specs.Spelled.{header_bytes, written_bytes};
 ghost use Rattle.capture_order.specs.Arrivals.{IsWithin, all_bytes};
 ghost use Rattle.nf_files.specs.Causes.{HasCause};
 ghost use Rattle.nf_files.specs.Writes.{WritesAll, WritesFront};
@@ -36,7 +35,7 @@ fn push_packet(
     arrival: &Arrival,
 ) -> Result<(), AllocError>
     requires { IsWithin (all_bytes captures.now) arrival.now }
-    ensures { OnOk result (buffer.new.items ≡ buffer.old.items ++ record_bytes (record_of (all_bytes captures.now) arrival.now)) }
+    ensures { OnOk result (buffer.new.items ≡ buffer.old.items ++ written_bytes (record_of (all_bytes captures.now) arrival.now)) }
 {
     let frame = frame(captures, arrival);
     push_record(buffer, arrival.packet.time, arrival.original, frame)

@@ -1,28 +1,24 @@
-use Rattle.std.proofs.Common.{ap, refl, Option, List, arith, subst, sym}
-use Rattle.std.specs.List.{AllByRecursion}
+use Rattle.std.proofs.Common.{ap, refl, Option, List, Some, None, arith, ◌∙◌}
 use Rattle.std.specs.Option.{option_map}
-use Rattle.pcap_file.specs.declared.head.Head.{Head}
-use Rattle.capture_order.specs.Loaded.{packets_in, arrivals_of}
-use Rattle.capture_order.specs.Adding.{Lies}
-use Rattle.capture_order.proofs.Heads.{heads_lie, heads_count, all_came}
+use Rattle.std.proofs.lemmas.Bool.{le-leb, lt-leb}
+use Rattle.pcap_file.specs.Placed.{Placed}
+use Rattle.capture_order.specs.Loaded.{arrivals_of, tear_in}
+use Rattle.capture_order.proofs.Placing.{all_came, is_placed, too_many, is_none}
 use Rattle.capture_order.proofs.loading.add_capture.Goals as goal
 
 pub returns-in-Err-NotCapture : goal.returns-in-Err-NotCapture
-unfolding packets_in
-returns-in-Err-NotCapture c = (refl, ap (λ (o : Option (List Head)). option_map (arrivals_of c.args.port c.args.bytes.now) o) (rw c.in-Err-NotCapture.field-0-is at c.in-Err-NotCapture.ensures.exact))
+returns-in-Err-NotCapture c = (refl, ap (option_map (λ p. arrivals_of c.args.port c.args.bytes.now p.places)) (is_none c.args.bytes.now (rw c.in-Err-NotCapture.field-0-is at c.in-Err-NotCapture.ensures.exact)))
 
-pub push_arrivals-requires-clause-lie : goal.push_arrivals-requires-clause-lie
-push_arrivals-requires-clause-lie c =
-    subst (λ (hs : List Head). AllByRecursion (Lies c.args.bytes.now) hs) (sym c.as_slice.ensures) (heads_lie c.args.bytes.now c.in-Ok.found c.in-Ok.ensures.found)
+pub returns-then-len-gt-MOST_RECORDS : goal.returns-then-len-gt-MOST_RECORDS
+returns-then-len-gt-MOST_RECORDS c = (refl, ap (option_map (λ p. arrivals_of c.args.port c.args.bytes.now p.places)) (too_many c.args.bytes.now c.in-Ok.found c.in-Ok.ensures.exact (lt-leb _ _ (omega arith))))
 
-pub push_arrivals-requires-clause-count : goal.push_arrivals-requires-clause-count
-push_arrivals-requires-clause-count c = rw c.as_slice.ensures (omega (arith, heads_count c.args.bytes.now c.in-Ok.found c.in-Ok.ensures.found))
-
-pub returns-in-Ok-push_arrivals : goal.returns-in-Ok-push_arrivals
-unfolding packets_in
-returns-in-Ok-push_arrivals c = record {
-  more = arrivals_of c.args.port c.args.bytes.now c.in-Ok.found;
-  read = ap (λ (o : Option (List Head)). option_map (arrivals_of c.args.port c.args.bytes.now) o) c.in-Ok.ensures.exact;
-  behind = rw c.as_slice.ensures at c.in-Ok-push_arrivals.ensures;
-  came = all_came c.args.port c.args.bytes.now 0 c.in-Ok.found (heads_lie c.args.bytes.now c.in-Ok.found c.in-Ok.ensures.found);
-}
+pub returns-in-Ok-push_capture : goal.returns-in-Ok-push_capture
+returns-in-Ok-push_capture c =
+    let is = is_placed c.args.bytes.now c.in-Ok.found c.in-Ok.ensures.exact (le-leb _ _ (omega arith)) in
+    record {
+      more = arrivals_of c.args.port c.args.bytes.now c.in-Ok.found.places;
+      read = ap (option_map (λ p. arrivals_of c.args.port c.args.bytes.now p.places)) is;
+      behind = c.in-Ok-push_capture.ensures.arrivals;
+      came = all_came c.args.port c.args.bytes.now 0 0 c.in-Ok.found.places (omega arith) c.in-Ok.ensures.lie;
+      torn = rw is c.in-Ok-push_capture.ensures.tears;
+    }

@@ -3,5 +3,5 @@ use Rattle.pcap_file.proofs.writing.append.Goals as goal
 
 pub returns-clause-ok : goal.returns-clause-ok
 returns-clause-ok c =
-    rw (c.in_ok-extend_from_slice-5.ensures.items, c.in_ok-extend_from_slice-4.ensures.items, c.in_ok-extend_from_slice-3.ensures.items, c.in_ok-extend_from_slice-2.ensures.items, c.in_ok-extend_from_slice.ensures.items, c.to_le_bytes-4.ensures, c.to_le_bytes-3.ensures, c.to_le_bytes-2.ensures, c.to_le_bytes.ensures, c.parts-seconds.ensures)
+    rw (c.in_ok-extend_from_slice-2.ensures.items, c.in_ok-extend_from_slice.ensures.items, c.numbers-numbers.ensures)
     (simp append_assoc)
