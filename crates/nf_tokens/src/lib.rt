@@ -8,4 +8,5 @@ mod token;
 mod word;
 
 pub use lexer::tokens;
+pub use number::{address, decimal};
 pub use token::{Place, Placed, Sign, Token};

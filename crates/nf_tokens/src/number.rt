@@ -80,8 +80,8 @@ fn has_no_leading_zero(bytes: &[u8]) -> bool
     }
 }
 
-/// A decimal without leading zeros.
-fn decimal(bytes: &[u8]) -> Option<u64>
+/// The value of ASCII digits, which are a decimal below 2^64 without leading zeros; None where they are none.
+pub fn decimal(bytes: &[u8]) -> Option<u64>
     ensures { result ≡ decimal bytes.now }
 {
     if digits_length(bytes) == bytes.len() && has_no_leading_zero(bytes) {
@@ -141,9 +141,11 @@ fn behind_dot(bytes: &[u8]) -> &[u8]
     }
 }
 
-/// An IPv4 address, its first byte highest.
-fn address(bytes: &[u8]) -> Option<u64>
-    ensures { result ≡ address bytes.now }
+/// An IPv4 address, its first byte highest: four decimals up to 255, parted by dots, without leading zeros;
+/// None where the bytes are none.
+pub fn address(bytes: &[u8]) -> Option<u64>
+    ensures value { result ≡ address bytes.now }
+    ensures within { IfSome result (λ v. v < 2 ^ 32) }
 {
     let second = behind_dot(bytes);
     let third = behind_dot(second);

@@ -1,0 +1,41 @@
+use Rattle.std.proofs.Common.{◌≡◌, ◌⊎◌, ◌∙◌, map, ap, sym, refl, true, Option, None, inl, inr, [], ◌∷◌}
+use Rattle.std.specs.String.{string_bytes}
+use Rattle.std.proofs.lemmas.Result.{IfOk-weaker}
+use Rattle.clap.specs.Words.{App, Kinds, app_of, fault_of, is_simple, is_simple_and_free, subcommand_of, subcommand_rows_of, IsAmong, kind_of}
+use Rattle.clap.proofs.OnLiterals.{clap_on_literals}
+use Rattle.clap.specs.declared.error.kind.ErrorKind.{ErrorKind}
+use Rattle.clap.specs.declared.error.kind.ErrorKind.TheVariants.{OutOfMemory}
+use Rattle.command_words.specs.Grammar.{app}
+use Rattle.command_words.specs.Commands.{Command, in_match, if_faultless}
+use Rattle.command_words.proofs.words.command_of.Goals as goal
+
+app_is_simple : is_simple app ≡ true
+unfolding clap_on_literals
+app_is_simple = refl
+
+app_is_free : is_simple_and_free app ≡ true
+unfolding clap_on_literals
+app_is_free = refl
+
+-- an error that is no want of memory is a fault of the words
+none_if : (kinds : Kinds) (k : ErrorKind) (o : Option Command) → (k ≡ OutOfMemory → ⊥) → (k ≡ OutOfMemory) ⊎ IsAmong k kinds → None ≡ if_faultless kinds o
+none_if [] k o other fault = elim fault [ inl e ↦ absurd (other e) | inr e ↦ absurd e ]
+none_if (x ∷ kinds) k o other fault = refl
+
+pub returns-in-Ok : goal.returns-in-Ok
+returns-in-Ok c =
+    let words = map string_bytes c.args.words.now in
+    let app_is : app_of c.in_ok-command.command ≡ app = c.in_ok-command.ensures.app in
+    let found : subcommand_rows_of c.in-Ok.matches ≡ subcommand_of app words =
+    (c.in-Ok.ensures.matches (ap is_simple app_is ∙ app_is_simple)).1 ∙ ap (λ (a : App). subcommand_of a words) app_is in
+    let faultless : fault_of app words ≡ [] =
+    sym (ap (λ (a : App). fault_of a words) app_is) ∙ c.in-Ok.ensures.kinds (ap is_simple_and_free app_is ∙ app_is_free) in
+    IfOk-weaker c.in_match.result _ _ (λ r h. h ∙ ap in_match found ∙ sym (ap (λ (ks : Kinds). if_faultless ks (in_match (subcommand_of app words))) faultless)) c.in_match.ensures
+
+pub returns : goal.returns
+returns c =
+    let words = map string_bytes c.args.words.now in
+    let app_is : app_of c.in_ok-command.command ≡ app = c.in_ok-command.ensures.app in
+    let fault = c.in-Err.ensures.kinds (ap is_simple_and_free app_is ∙ app_is_free) in
+    let at_app = none_if (fault_of (app_of c.in_ok-command.command) words) (kind_of c.in-Err.error) (in_match (subcommand_of app words)) (λ e. c.in_default.not-OutOfMemory (c.kind.ensures ∙ e)) fault in
+    at_app ∙ ap (λ (a : App). if_faultless (fault_of a words) (in_match (subcommand_of app words))) app_is

@@ -1,0 +1,81 @@
+-- The command that a command line's words ask for.
+use Rattle.std.specs.Prelude.{ℕ, nat_le, ◌&&◌, Option, Some, None, List, [], ◌∷◌, codes, length, if◌then◌else◌}
+use Rattle.std.specs.Option.{option_map}
+use Rattle.std.specs.Str.{bytes_eq}
+use Rattle.clap.specs.Words.{Kinds, Row, Text, all_of, fault_of, first_of, subcommand_of}
+use Rattle.command_words.specs.Grammar.{app}
+use Rattle.command_words.specs.Texts.{and_then, Endpoint, number_up_to, workers_in, endpoint_in, key_in}
+
+-- a run: the names of the function's file and of each port's capture, the front of the names of what it leaves, and the most packets that it handles
+pub record Run : Type 0 where
+  pub function : Text
+  pub out : Text
+  pub captures : List Text
+  pub most : ℕ
+
+-- a hash: the packet's two ends, the key where one is given, and the number of workers
+pub record Hash : Type 0 where
+  pub source : Endpoint
+  pub destination : Endpoint
+  pub key : Option (List ℕ)
+  pub workers : ℕ
+
+pub data Command : Type 0 where
+  RunCommand : Run → Command
+  HashCommand : Hash → Command
+
+-- an option's value: its default where the option is left out, and else what its text says
+abbrev pub or_default : {A : Type 0} → A → (Text → Option A) → Option Text → Option A
+or_default default read None = Some default
+or_default default read (Some text) = read text
+
+-- a run has one worker
+abbrev pub one_worker : Option Text → Option ℕ
+one_worker text = and_then (or_default 1 workers_in text) (λ n. if nat_le n 1 then Some n else None)
+
+-- one to four captures
+abbrev pub captures_in : Option (List Text) → Option (List Text)
+captures_in names = and_then names (λ names. if nat_le 1 (length names) && nat_le (length names) 4 then Some names else None)
+
+-- 10,000,000 packets where no number is given
+abbrev pub most_in : Option Text → Option ℕ
+most_in text = or_default 10000000 (number_up_to 4294967295) text
+
+abbrev pub run_in : List Row → Option Run
+run_in rows =
+    and_then (first_of (codes "function") rows) (λ f.
+    and_then (first_of (codes "out") rows) (λ o.
+    and_then (captures_in (all_of (codes "capture") rows)) (λ cs.
+    and_then (one_worker (first_of (codes "workers") rows)) (λ w.
+    option_map (λ n. record { function = f; out = o; captures = cs; most = n }) (most_in (first_of (codes "max-packets") rows))))))
+
+-- a key where one is given
+abbrev pub given_key : Option Text → Option (Option (List ℕ))
+given_key None = Some None
+given_key (Some text) = option_map (λ key. Some key) (key_in text)
+
+abbrev pub hash_in : List Row → Option Hash
+hash_in rows =
+    and_then (and_then (first_of (codes "source") rows) endpoint_in) (λ s.
+    and_then (and_then (first_of (codes "destination") rows) endpoint_in) (λ d.
+    and_then (given_key (first_of (codes "key") rows)) (λ key.
+    option_map (λ w. record { source = s; destination = d; key = key; workers = w }) (or_default 1 workers_in (first_of (codes "workers") rows)))))
+
+-- the command of a name, with what stands beside it
+abbrev pub named : Text → List Row → Option Command
+named name rows =
+    if bytes_eq name (codes "run") then option_map RunCommand (run_in rows) else
+    if bytes_eq name (codes "hash") then option_map HashCommand (hash_in rows) else
+    None
+
+abbrev pub in_match : Option (Text × List Row) → Option Command
+in_match found = and_then found (λ found. named found.0 found.1)
+
+-- what clap takes nothing amiss in
+abbrev pub if_faultless : Kinds → Option Command → Option Command
+if_faultless [] command = command
+if_faultless (k ∷ ks) command = None
+
+-- The command that these words ask for, the first of which is the program's name; None where they ask for none.
+abbrev pub command_of : List Text → Option Command
+command_of words = if_faultless (fault_of app words) (in_match (subcommand_of app words))

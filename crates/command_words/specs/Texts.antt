@@ -1,0 +1,57 @@
+-- The texts of values among the words.
+use Rattle.std.specs.Prelude.{ℕ, ◌+◌, ◌*◌, ◌==◌, nat_le, not, ◌&&◌, Bool, Option, Some, None, List, length, map, slice_index, take, drop, if◌then◌else◌}
+use Rattle.std.specs.List.{range_with_len}
+use Rattle.std.specs.Option.{option_map, option_and_then}
+use Rattle.nf_tokens.specs.Bytes.{is_hex_digit, digit_of, front_length}
+use Rattle.nf_tokens.specs.Numbers.{decimal, address, all_are}
+
+-- what comes of a value, where there is one
+abbrev pub and_then : {A B : Type 0} → Option A → (A → Option B) → Option B
+and_then o f = option_and_then f o
+
+-- a value that is at most so large
+abbrev pub at_most : ℕ → Option ℕ → Option ℕ
+at_most most v = and_then v (λ v. if nat_le v most then Some v else None)
+
+-- a decimal up to a number, without a sign or leading zeros
+abbrev pub number_up_to : ℕ → List ℕ → Option ℕ
+number_up_to most text = at_most most (decimal text)
+
+-- 1 to 16
+abbrev pub workers_in : List ℕ → Option ℕ
+workers_in text = and_then (number_up_to 16 text) (λ n. if n == 0 then None else Some n)
+
+-- an IPv4 address and a port
+pub record Endpoint : Type 0 where
+  pub address : ℕ
+  pub port : ℕ
+
+-- a byte that is no colon
+abbrev pub in_address : ℕ → Bool
+in_address b = not (b == 58)
+
+-- how long the text up to the first colon is
+abbrev pub address_length : List ℕ → ℕ
+address_length text = front_length in_address text
+
+-- what stands behind the first colon
+abbrev pub behind_colon : List ℕ → List ℕ
+behind_colon text = drop (address_length text + 1) text
+
+-- an address, a colon, and a port up to 65,535
+abbrev pub endpoint_in : List ℕ → Option Endpoint
+endpoint_in text =
+    and_then (address (take (address_length text) text)) (λ a.
+    option_map (λ p. record { address = a; port = p }) (number_up_to 65535 (behind_colon text)))
+
+-- the byte that two hexadecimal digits make, the first one its high half
+abbrev pub byte_at : List ℕ → ℕ → ℕ
+byte_at digits i = 16 * digit_of (slice_index digits (2 * i)) + digit_of (slice_index digits (2 * i + 1))
+
+-- the 40 bytes of 80 digits
+unfoldable pub bytes_of_digits : List ℕ → List ℕ
+bytes_of_digits digits = map (byte_at digits) (range_with_len 0 40)
+
+-- 80 digits of 0-9 a-f, which make 40 bytes
+abbrev pub key_in : List ℕ → Option (List ℕ)
+key_in text = if (length text == 80) && all_are is_hex_digit text then Some (bytes_of_digits text) else None

@@ -1,0 +1,23 @@
+-- What the declared commands stand for.
+use Rattle.std.specs.Prelude.{map, string_bytes}
+use Rattle.command_words.specs.declared.endpoint.Endpoint as declared_endpoint
+use Rattle.command_words.specs.declared.command.RunCommand as declared_run
+use Rattle.command_words.specs.declared.command.HashCommand as declared_hash
+use Rattle.command_words.specs.declared.command.Command as declared_command
+use Rattle.command_words.specs.declared.command.Command.TheVariants as commands
+use Rattle.command_words.specs.Texts.{Endpoint}
+use Rattle.command_words.specs.Commands.{Run, Hash, Command, RunCommand, HashCommand}
+
+abbrev pub endpoint : declared_endpoint.Endpoint → Endpoint
+endpoint e = record { address = e.address; port = e.port }
+
+abbrev pub run : declared_run.RunCommand → Run
+run c = record { function = string_bytes c.function; out = string_bytes c.out; captures = map string_bytes c.captures.items; most = c.most }
+
+abbrev pub hash : declared_hash.HashCommand → Hash
+hash c = record { source = endpoint c.source; destination = endpoint c.destination; key = c.key; workers = c.workers }
+
+-- what is asked for
+abbrev pub asked : declared_command.Command → Command
+asked (commands.Run c) = RunCommand (run c)
+asked (commands.Hash c) = HashCommand (hash c)

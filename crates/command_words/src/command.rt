@@ -1,0 +1,35 @@
+//! What a command line asks for.
+
+use crate::endpoint::Endpoint;
+use nf_base::workers::Workers;
+
+/// A run of a function over captures.
+#[derive(Drop)]
+pub struct RunCommand {
+    /// The name of the function's text.
+    pub function: String,
+    /// The front of the names of the files that the run leaves.
+    pub out: String,
+    /// The name of a capture for each port, 1 to 4.
+    pub captures: Vec<String>,
+    /// The most packets that are handled.
+    pub most: u32,
+}
+
+/// The hash of a packet between two ends.
+#[derive(Drop)]
+pub struct HashCommand {
+    pub source: Endpoint,
+    pub destination: Endpoint,
+    /// The key of the hash, 40 bytes, where one is given.
+    pub key: Option<[u8; 40]>,
+    /// How many workers the queues are for.
+    pub workers: Workers,
+}
+
+/// A command.
+#[derive(Drop)]
+pub enum Command {
+    Run(RunCommand),
+    Hash(HashCommand),
+}

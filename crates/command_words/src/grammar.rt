@@ -1,0 +1,76 @@
+//! The words that a command line may have, for `clap`.
+
+ghost use Rattle.std.specs.Prelude.{◌≡◌, false, IfOk};
+ghost use Rattle.clap.specs.Words.{app_of, rule_of};
+ghost use Rattle.clap.specs.declared.builder.command.Command.TheViews.{out-Command};
+ghost use Rattle.command_words.specs.Grammar as grammar;
+
+use clap::{Arg, ArgAction, Command};
+use std::alloc::{AllocError, Global};
+
+/// One word that has to be there.
+fn word<'a>(alloc: Global, id: &'a str) -> Arg<'a>
+    ensures rule { rule_of result ≡ grammar.word id.entry.now }
+    ensures local { result.global ≡ false }
+{
+    Arg::new(alloc, id).required(true).action(ArgAction::Set)
+}
+
+/// One word or more.
+fn words<'a>(alloc: Global, id: &'a str) -> Arg<'a>
+    ensures rule { rule_of result ≡ grammar.words id.entry.now }
+    ensures local { result.global ≡ false }
+{
+    Arg::new(alloc, id).required(true).action(ArgAction::Append)
+}
+
+/// An option with a value, `--id`, which may be left out.
+fn option<'a>(alloc: Global, id: &'a str) -> Arg<'a>
+    ensures rule { rule_of result ≡ grammar.option id.entry.now }
+    ensures local { result.global ≡ false }
+{
+    Arg::new(alloc, id).long(id).action(ArgAction::Set)
+}
+
+/// `run NF OUT CAPTURE..`
+fn run_names<'a>(alloc: Global) -> Result<Command<'a>, AllocError>
+    ensures app { IfOk result (λ c. app_of c ≡ grammar.run_names) }
+    ensures local { IfOk result (λ c. (out-Command c).has_globals ≡ false) }
+{
+    Command::new(alloc, "run")
+        .arg(word(alloc, "function"))?
+        .arg(word(alloc, "out"))?
+        .arg(words(alloc, "capture"))
+}
+
+/// `run NF OUT CAPTURE.. [--workers W] [--max-packets N]`
+fn run_words<'a>(alloc: Global) -> Result<Command<'a>, AllocError>
+    ensures app { IfOk result (λ c. app_of c ≡ grammar.run_app) }
+    ensures local { IfOk result (λ c. (out-Command c).has_globals ≡ false) }
+{
+    run_names(alloc)?
+        .arg(option(alloc, "workers"))?
+        .arg(option(alloc, "max-packets"))
+}
+
+/// `hash SRC:PORT DST:PORT [--key HEX80] [--workers W]`
+fn hash_words<'a>(alloc: Global) -> Result<Command<'a>, AllocError>
+    ensures app { IfOk result (λ c. app_of c ≡ grammar.hash_app) }
+    ensures local { IfOk result (λ c. (out-Command c).has_globals ≡ false) }
+{
+    Command::new(alloc, "hash")
+        .arg(word(alloc, "source"))?
+        .arg(word(alloc, "destination"))?
+        .arg(option(alloc, "key"))?
+        .arg(option(alloc, "workers"))
+}
+
+/// Every command.
+pub fn all_words<'a>(alloc: Global) -> Result<Command<'a>, AllocError>
+    ensures app { IfOk result (λ c. app_of c ≡ grammar.app) }
+    ensures local { IfOk result (λ c. (out-Command c).has_globals ≡ false) }
+{
+    Command::new(alloc, "maestro")
+        .subcommand(run_words(alloc)?)?
+        .subcommand(hash_words(alloc)?)
+}

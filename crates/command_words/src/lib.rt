@@ -1,0 +1,15 @@
+//! The words of a command line, as the command that they ask for.
+#![tactic(auto)]
+
+mod command;
+mod endpoint;
+mod grammar;
+mod key;
+mod words;
+
+pub use command::{Command, HashCommand, RunCommand};
+pub use endpoint::Endpoint;
+pub use words::command_of;
+
+#[cfg(test)]
+mod tests;

@@ -1,0 +1,214 @@
+use super::{Command, Endpoint, command_of};
+use std::alloc::{AllocError, Global};
+use std::test::Fail;
+
+/// Words one space apart; None where memory ran out.
+fn words_of(alloc: Global, line: &str) -> Result<Vec<String>, AllocError> {
+    let mut words = Vec::new(alloc);
+    for word in line.split(' ') {
+        words.push(String::from_str(alloc, word)?)?;
+    }
+    Ok(words)
+}
+
+fn asked(alloc: Global, line: &str) -> Result<Option<Command>, AllocError> {
+    let words = words_of(alloc, line)?;
+    command_of(alloc, words.as_slice())
+}
+
+/// What a run is asked of, one space apart: its function, its front, its captures, its most packets.
+fn run_line(alloc: Global, line: &str) -> Result<String, Fail> {
+    let mut said = String::new(alloc);
+    if let Some(Command::Run(run)) = asked(alloc, line)? {
+        said.push_str(run.function.as_str())?;
+        said.push_str(" ")?;
+        said.push_str(run.out.as_str())?;
+        for capture in run.captures.as_slice() {
+            said.push_str(" ")?;
+            said.push_str(capture.as_str())?;
+        }
+        said.push_str(format!(in alloc; " {}", run.most)?.as_str())?;
+    }
+    Ok(said)
+}
+
+const NO_COMMANDS: [&str; 56] = [
+    "",
+    "maestro",
+    "maestro run",
+    "maestro run x.nf",
+    "maestro run x.nf out",
+    "maestro run x.nf out --workers 1",
+    "maestro run x.nf out a b --workers",
+    "maestro run x.nf out a b c d e",
+    "maestro run x.nf out a b c d e --workers 1",
+    "maestro run x.nf out a --workers 0",
+    "maestro run x.nf out a --workers 2",
+    "maestro run x.nf out a --workers 17",
+    "maestro run x.nf out a --workers 01",
+    "maestro run x.nf out a --workers +1",
+    "maestro run x.nf out a --workers -1",
+    "maestro run x.nf out a --workers one",
+    "maestro run x.nf out a --workers ",
+    "maestro run x.nf out a --worker 1",
+    "maestro run x.nf out a --Workers 1",
+    "maestro run x.nf out a -w 1",
+    "maestro run x.nf out a --workers 1 --workers 1",
+    "maestro run x.nf out a --max-packets",
+    "maestro run x.nf out a --max-packets -1",
+    "maestro run x.nf out a --max-packets 07",
+    "maestro run x.nf out a --max-packets 4294967296",
+    "maestro run x.nf out a --max-packets 1e3",
+    "maestro run x.nf out a --max-packets 0x10",
+    "maestro run x.nf out a --mode auto",
+    "maestro run x.nf out -a",
+    "maestro run -x.nf out a",
+    "maestro run x.nf out a --help",
+    "maestro --workers 1 run x.nf out a",
+    "maestro Run x.nf out a",
+    "maestro  x.nf out a",
+    "run x.nf out a",
+    "maestro --help",
+    "maestro -h",
+    "maestro --version",
+    "maestro -V",
+    "maestro help",
+    "maestro help run",
+    "maestro check x.nf",
+    "maestro hash",
+    "maestro hash 1.2.3.4:1",
+    "maestro hash 1.2.3.4 5.6.7.8:2",
+    "maestro hash 1.2.3.4: 5.6.7.8:2",
+    "maestro hash 1.2.3.4:65536 5.6.7.8:2",
+    "maestro hash 1.2.3.4:01 5.6.7.8:2",
+    "maestro hash 1.2.3.256:1 5.6.7.8:2",
+    "maestro hash 1.2.3.04:1 5.6.7.8:2",
+    "maestro hash 1.2.3:1 5.6.7.8:2",
+    "maestro hash 1.2.3.4.5:1 5.6.7.8:2",
+    "maestro hash 1.2.3.4:1:2 5.6.7.8:2",
+    "maestro hash 1.2.3.4:1 5.6.7.8:2 --workers 0",
+    "maestro hash 1.2.3.4:1 5.6.7.8:2 --workers 17",
+    "maestro hash 1.2.3.4:1 5.6.7.8:2 --key 00",
+];
+
+#[test]
+fn lines_that_are_no_commands(rt: HostRuntime) -> Result<(), Fail> {
+    let alloc = rt.alloc();
+    assert!(rt; command_of(alloc, &[])?.is_none());
+    for line in NO_COMMANDS {
+        assert!(rt; asked(alloc, line)?.is_none(), "{line}");
+    }
+    Ok(())
+}
+
+const RUNS: [(&str, &str); 12] = [
+    ("maestro run x.nf out a", "x.nf out a 10000000"),
+    ("maestro run x.nf out a b c d", "x.nf out a b c d 10000000"),
+    (
+        "maestro run x.nf out a b --workers 1",
+        "x.nf out a b 10000000",
+    ),
+    ("maestro run x.nf out a --workers=1", "x.nf out a 10000000"),
+    (
+        "maestro run --workers 1 x.nf out a b",
+        "x.nf out a b 10000000",
+    ),
+    (
+        "maestro run x.nf --workers 1 out a b",
+        "x.nf out a b 10000000",
+    ),
+    (
+        "maestro run x.nf out a --workers 1 b",
+        "x.nf out a b 10000000",
+    ),
+    ("maestro run x.nf out a --max-packets 0", "x.nf out a 0"),
+    ("maestro run x.nf out a --max-packets=3 b", "x.nf out a b 3"),
+    (
+        "maestro run x.nf out a --max-packets 4294967295 --workers 1",
+        "x.nf out a 4294967295",
+    ),
+    ("another run x.nf out a", "x.nf out a 10000000"),
+    ("maestro run -- -x.nf -out -a", "-x.nf -out -a 10000000"),
+];
+
+#[test]
+fn lines_that_are_runs(rt: HostRuntime) -> Result<(), Fail> {
+    let alloc = rt.alloc();
+    for (line, expected) in RUNS {
+        assert_eq!(rt; run_line(alloc, line)?.as_str(), expected, "{line}");
+    }
+    Ok(())
+}
+
+/// The ends, the first and last bytes of the key, and the workers of a hash that is asked for.
+fn hash_of(
+    alloc: Global,
+    line: &str,
+) -> Result<Option<(Endpoint, Endpoint, Option<(u8, u8)>, u32)>, AllocError> {
+    match asked(alloc, line)? {
+        Some(Command::Hash(hash)) => Ok(Some((
+            hash.source,
+            hash.destination,
+            hash.key.map(|key| (key[0], key[39])),
+            hash.workers.get(),
+        ))),
+        _ => Ok(None),
+    }
+}
+
+const SOURCE: Endpoint = Endpoint {
+    address: 0x4209_95bb,
+    port: 2794,
+};
+
+const DESTINATION: Endpoint = Endpoint {
+    address: 0xa18e_6450,
+    port: 1766,
+};
+
+#[test]
+fn lines_that_are_hashes(rt: HostRuntime) -> Result<(), Fail> {
+    let alloc = rt.alloc();
+    let plain = hash_of(alloc, "maestro hash 66.9.149.187:2794 161.142.100.80:1766")?;
+    assert!(rt; plain == Some((SOURCE, DESTINATION, None, 1)));
+    let workers = hash_of(
+        alloc,
+        "maestro hash --workers 16 66.9.149.187:2794 161.142.100.80:1766",
+    )?;
+    assert!(rt; workers == Some((SOURCE, DESTINATION, None, 16)));
+    let keyed = hash_of(
+        alloc,
+        "maestro hash 66.9.149.187:2794 161.142.100.80:1766 --key \
+         0f000000000000000000000000000000000000000000000000000000000000000000000000000a9",
+    )?;
+    assert!(rt; keyed.is_none());
+    let keyed = hash_of(
+        alloc,
+        "maestro hash 66.9.149.187:2794 161.142.100.80:1766 --key \
+         0f0000000000000000000000000000000000000000000000000000000000000000000000000000a9",
+    )?;
+    assert!(rt; keyed == Some((SOURCE, DESTINATION, Some((0x0f, 0xa9)), 1)));
+    let upper = hash_of(
+        alloc,
+        "maestro hash 66.9.149.187:2794 161.142.100.80:1766 --key \
+         0F0000000000000000000000000000000000000000000000000000000000000000000000000000A9",
+    )?;
+    assert!(rt; upper.is_none());
+    let least = hash_of(alloc, "maestro hash 0.0.0.0:0 255.255.255.255:65535")?;
+    assert!(rt;
+        least
+            == Some((
+                Endpoint {
+                    address: 0,
+                    port: 0,
+                },
+                Endpoint {
+                    address: u32::MAX,
+                    port: u16::MAX,
+                },
+                None,
+                1,
+            ))
+    );
+    Ok(())
+}

@@ -1,0 +1,186 @@
+//! From a command line's words to the command that they ask for.
+
+ghost use Rattle.std.specs.Prelude.{◌≡◌, IfOk, map, option_map, string_bytes, is_some};
+ghost use Rattle.clap.specs.Words.{all_of, first_of, found_of, rows_of, subcommand_rows_of};
+ghost use Rattle.command_words.specs.Texts.{and_then, endpoint_in, workers_in};
+ghost use Rattle.command_words.specs.Commands as meant;
+ghost use Rattle.command_words.specs.View as view;
+
+use crate::command::{Command, HashCommand, RunCommand};
+use crate::endpoint::{Endpoint, endpoint_in, number_up_to};
+use crate::grammar::all_words;
+use crate::key::key_in;
+use clap::ArgMatches;
+use clap::error::ErrorKind;
+use nf_base::workers::Workers;
+use std::alloc::{AllocError, Global};
+
+/// The value of an argument that has one.
+#[tactic(auto, using(crate::proofs::Rows::first_in_rows))]
+fn value<'a>(matches: &ArgMatches<'a>, id: &str) -> Option<&'a str>
+    ensures { option_map (λ s. s.now) result ≡ first_of id.now (rows_of (found_of matches.now)) }
+{
+    matches.get_str(id)
+}
+
+/// All values of an argument.
+#[tactic(auto, using(crate::proofs::Rows::all_in_rows))]
+fn values<'m, 'a>(matches: &'m ArgMatches<'a>, id: &str) -> Option<&'m [&'a str]>
+    ensures { option_map (λ s. map (λ v. v.now) s.now) result ≡ all_of id.now (rows_of (found_of matches.now)) }
+{
+    matches.get_strs(id)
+}
+
+/// 1 to 16.
+fn workers_in(text: &[u8]) -> Option<Workers>
+    ensures { result ≡ workers_in text.now }
+{
+    match number_up_to(16, text) {
+        Some(n) if n >= 1 => Some(Workers::new(n as u32)),
+        _ => None,
+    }
+}
+
+/// 1 to 16, and 1 where the option is left out.
+fn workers_or_one(text: Option<&str>) -> Option<Workers>
+    ensures { result ≡ meant.or_default 1 workers_in (option_map (λ s. s.now) text.entry) }
+{
+    match text {
+        None => Some(Workers::new(1)),
+        Some(text) => workers_in(text.as_bytes()),
+    }
+}
+
+/// Whether the option asks for one worker, or is left out.
+fn is_one_worker(text: Option<&str>) -> bool
+    ensures { result ≡ is_some (meant.one_worker (option_map (λ s. s.now) text.entry)) }
+{
+    match workers_or_one(text) {
+        Some(workers) => workers.get() <= 1,
+        None => false,
+    }
+}
+
+/// 10,000,000 where the option is left out.
+fn most_in(text: Option<&str>) -> Option<u32>
+    ensures { result ≡ meant.most_in (option_map (λ s. s.now) text.entry) }
+{
+    match text {
+        None => Some(10_000_000),
+        Some(text) => match number_up_to(4_294_967_295, text.as_bytes()) {
+            Some(n) => Some(n as u32),
+            None => None,
+        },
+    }
+}
+
+fn copied(alloc: Global, names: &[&str]) -> Result<Vec<String>, AllocError>
+    ensures { IfOk result (λ copies. map string_bytes copies.items ≡ map (λ s. s.now) names.now) }
+{
+    let mut copies = Vec::new(alloc);
+    for name in names {
+        copies.push(String::from_str(alloc, name)?)?;
+    }
+    Ok(copies)
+}
+
+/// One to four captures.
+fn captures_in(alloc: Global, names: Option<&[&str]>) -> Result<Option<Vec<String>>, AllocError>
+    ensures { IfOk result (λ r. option_map (λ v. map string_bytes v.items) r ≡ meant.captures_in (option_map (λ s. map (λ v. v.now) s.now) names.entry)) }
+{
+    match names {
+        Some(names) if 1 <= names.len() && names.len() <= 4 => Ok(Some(copied(alloc, names)?)),
+        _ => Ok(None),
+    }
+}
+
+fn run_command(alloc: Global, matches: &ArgMatches) -> Result<Option<RunCommand>, AllocError>
+    ensures { IfOk result (λ r. option_map view.run r ≡ meant.run_in (rows_of (found_of matches.now))) }
+{
+    let Some(function) = value(matches, "function") else {
+        return Ok(None);
+    };
+    let Some(out) = value(matches, "out") else {
+        return Ok(None);
+    };
+    let Some(captures) = captures_in(alloc, values(matches, "capture"))? else {
+        return Ok(None);
+    };
+    let most = most_in(value(matches, "max-packets"));
+    match most {
+        Some(most) if is_one_worker(value(matches, "workers")) => Ok(Some(RunCommand {
+            function: String::from_str(alloc, function)?,
+            out: String::from_str(alloc, out)?,
+            captures,
+            most,
+        })),
+        _ => Ok(None),
+    }
+}
+
+/// An address, a colon and a port, where they are there.
+fn end_in(text: Option<&str>) -> Option<Endpoint>
+    ensures { option_map view.endpoint result ≡ and_then (option_map (λ s. s.now) text.entry) endpoint_in }
+{
+    endpoint_in(text?.as_bytes())
+}
+
+/// A key, where one is given.
+fn given_key(text: Option<&str>) -> Option<Option<[u8; 40]>>
+    ensures { result ≡ meant.given_key (option_map (λ s. s.now) text.entry) }
+{
+    match text {
+        None => Some(None),
+        Some(text) => Some(Some(key_in(text.as_bytes())?)),
+    }
+}
+
+fn hash_command(matches: &ArgMatches) -> Option<HashCommand>
+    ensures { option_map view.hash result ≡ meant.hash_in (rows_of (found_of matches.now)) }
+{
+    Some(HashCommand {
+        source: end_in(value(matches, "source"))?,
+        destination: end_in(value(matches, "destination"))?,
+        key: given_key(value(matches, "key"))?,
+        workers: workers_or_one(value(matches, "workers"))?,
+    })
+}
+
+/// The command of a name, with what stands beside it.
+fn named(alloc: Global, name: &str, matches: &ArgMatches) -> Result<Option<Command>, AllocError>
+    ensures { IfOk result (λ r. option_map view.asked r ≡ meant.named name.now (rows_of (found_of matches.now))) }
+{
+    if name == "run" {
+        Ok(run_command(alloc, matches)?.map(Command::Run))
+    } else if name == "hash" {
+        Ok(hash_command(matches).map(Command::Hash))
+    } else {
+        Ok(None)
+    }
+}
+
+/// The command of the subcommand that was met.
+#[tactic(auto, using(crate::proofs::Rows::met))]
+fn in_match(alloc: Global, matches: &ArgMatches) -> Result<Option<Command>, AllocError>
+    ensures { IfOk result (λ r. option_map view.asked r ≡ meant.in_match (subcommand_rows_of matches.now)) }
+{
+    match matches.subcommand() {
+        Some((name, found)) => named(alloc, name, found),
+        None => Ok(None),
+    }
+}
+
+/// The command that these words ask for, the first of which is the program's name; None where they ask for
+/// none.
+pub fn command_of(alloc: Global, words: &[String]) -> Result<Option<Command>, AllocError>
+    ensures { IfOk result (λ r. option_map view.asked r ≡ meant.command_of (map string_bytes words.now)) }
+{
+    let command = all_words(alloc)?;
+    match command.try_get_matches_from(words) {
+        Ok(matches) => in_match(alloc, &matches),
+        Err(error) => match error.kind() {
+            ErrorKind::OutOfMemory => Err(AllocError),
+            _ => Ok(None),
+        },
+    }
+}
