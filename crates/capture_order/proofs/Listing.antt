@@ -1,5 +1,5 @@
 -- The packets of captures, one capture after the other.
-use Rattle.std.proofs.Common.{◌≡◌, ℕ, suc, ◌+◌, ◌<◌, ◌≤◌, List, [], ◌∷◌, ◌++◌, length, drop, get_or, Option, Some, None, Vec, Global, is_some, cond, refl, ap, sym, ◌∙◌, subst, append_assoc, drop-cons, add-one}
+use Rattle.std.proofs.Common.{◌≡◌, ℕ, zero, suc, take, ◌+◌, ◌<◌, ◌≤◌, List, [], ◌∷◌, ◌++◌, length, drop, get_or, Option, Some, None, Vec, Global, is_some, cond, refl, ap, sym, ◌∙◌, subst, append_assoc, drop-cons, add-one}
 use Rattle.std.specs.List.{AllByRecursion}
 use Rattle.std.specs.List.Sorted.{IsPermutation}
 use Rattle.std.proofs.lemmas.List.{append-nil, drop_all, get_or-map, length-map}
@@ -87,3 +87,9 @@ torn_all captures port xs tears past h =
 -- packets that only changed places
 pub still_within : (captures : List (List ℕ)) (xs ys : List Arrival) → IsPermutation xs ys → AllByRecursion (IsWithin captures) xs → AllByRecursion (IsWithin captures) ys
 still_within captures xs ys moved h = recursion_from_All (IsWithin captures) ys (All-permutation (IsWithin captures) xs ys moved (All-from_recursion (IsWithin captures) xs h))
+
+-- the first ones of all
+pub all_first : {A : Type 0} (P : A → Type 0) (n : ℕ) (xs : List A) → AllByRecursion P xs → AllByRecursion P (take n xs)
+all_first P zero xs h = tt
+all_first P (suc n) [] h = tt
+all_first P (suc n) (x ∷ xs) h = (h.0, all_first P n xs h.1)

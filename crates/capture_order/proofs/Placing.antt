@@ -1,12 +1,12 @@
 -- The packets of the records of one capture.
-use Rattle.std.proofs.Common.{◌≡◌, ℕ, ◌+◌, ◌≤◌, max, leb, true, false, List, [], ◌∷◌, length, Option, Some, None, Result, Ok, Err, ap, sym, subst, ◌∙◌, refl, arith}
+use Rattle.std.proofs.Common.{◌≡◌, ℕ, ◌+◌, ◌≤◌, max, List, [], ◌∷◌, length, Option, Some, None, Result, Ok, Err, ap, sym, subst, ◌∙◌, refl, arith}
 use Rattle.std.specs.List.{AllByRecursion}
 use Rattle.std.specs.Option.{option_map}
 use Rattle.pcap_file.specs.declared.places.Place.{Place}
 use Rattle.pcap_file.specs.Record.{greatest_time}
 use Rattle.pcap_file.specs.Capture.{Capture, capture_of}
 use Rattle.pcap_file.specs.Placed.{Placed, Lies, placed}
-use Rattle.capture_order.specs.Loaded.{arrival_of, arrivals_from, most_records, limited, if_limited, placed_in}
+use Rattle.capture_order.specs.Loaded.{arrival_of, arrivals_from, placed_in}
 use Rattle.capture_order.specs.Adding.{CameIn}
 
 came_in : (port : ℕ) (bytes : List ℕ) (seq time : ℕ) (place : Place) → time ≤ greatest_time → Lies bytes place → CameIn port bytes (arrival_of port bytes seq time place)
@@ -19,15 +19,11 @@ all_came port bytes seq latest (p ∷ ps) le lie =
     let later : max latest p.head.time ≤ greatest_time = omega (arith, lie.0.time) in
     (came_in port bytes seq (max latest p.head.time) p later lie.0, all_came port bytes (seq + 1) (max latest p.head.time) ps later lie.1)
 
--- a capture that has few enough records, one that has too many, and none
-pub is_placed : (bytes : List ℕ) (p : Placed) → option_map placed (capture_of bytes) ≡ Some p → leb (length p.places) most_records ≡ true → placed_in bytes ≡ Some p
+-- a capture, and what is none
+pub is_placed : (bytes : List ℕ) (p : Placed) → option_map placed (capture_of bytes) ≡ Some p → placed_in bytes ≡ Some p
 unfolding placed_in
-is_placed bytes p e few = ap if_limited e ∙ rw few refl
-
-pub too_many : (bytes : List ℕ) (p : Placed) → option_map placed (capture_of bytes) ≡ Some p → leb (length p.places) most_records ≡ false → placed_in bytes ≡ None
-unfolding placed_in
-too_many bytes p e many = ap if_limited e ∙ rw many refl
+is_placed bytes p e = e
 
 pub is_none : (bytes : List ℕ) → capture_of bytes ≡ None → placed_in bytes ≡ None
 unfolding placed_in
-is_none bytes e = ap (λ (o : Option Capture). if_limited (option_map placed o)) e
+is_none bytes e = ap (λ (o : Option Capture). option_map placed o) e

@@ -4,7 +4,7 @@ use Rattle.std.specs.List.{AllByRecursion}
 use Rattle.pcap_file.specs.Record.{greatest_time}
 use Rattle.capture_order.specs.declared.arrival.Arrival.{Arrival}
 use Rattle.capture_order.specs.declared.loaded.Tear.{Tear}
-use Rattle.capture_order.specs.declared.loaded.Loaded.{Loaded}
+use Rattle.capture_order.specs.declared.loading.Listing.{Listing}
 use Rattle.capture_order.specs.declared.fault.LoadFault.{LoadFault}
 use Rattle.capture_order.specs.declared.fault.LoadFault.TheVariants.{NotCapture, Memory}
 use Rattle.capture_order.specs.Arrivals.{IsWithin}
@@ -32,7 +32,7 @@ Added port bytes old new old_tears new_tears (Err (NotCapture bad)) = (bad ≡ p
 Added port bytes old new old_tears new_tears (Err Memory) = Unit {0}
 
 -- what listing the packets of all captures comes to
-abbrev pub Lists : List (List ℕ) → Result Loaded LoadFault → Type 0
-Lists captures (Ok loaded) = (all_arrivals captures ≡ Some loaded.arrivals.items) × AllByRecursion (IsWithin captures) loaded.arrivals.items × (loaded.tears.items ≡ all_tears captures)
+abbrev pub Lists : List (List ℕ) → Result Listing LoadFault → Type 0
+Lists captures (Ok listing) = (all_arrivals captures ≡ Some listing.arrivals.items) × AllByRecursion (IsWithin captures) listing.arrivals.items × (listing.tears.items ≡ all_tears captures)
 Lists captures (Err (NotCapture port)) = first_bad captures ≡ Some port
 Lists captures (Err Memory) = Unit {0}

@@ -1,5 +1,5 @@
 -- The packets of captures, one capture a port, and what a list of them in capture order is.
-use Rattle.std.specs.Prelude.{◌≡◌, ℕ, ◌+◌, max, List, [], ◌∷◌, ◌++◌, length, map, nat_le, if◌then◌else◌, Option, Some, None, option_map, is_some, Result, Ok, Err}
+use Rattle.std.specs.Prelude.{◌≡◌, ℕ, ◌+◌, max, List, [], ◌∷◌, ◌++◌, length, map, take, Bool, nat_lt, if◌then◌else◌, Option, Some, None, option_map, is_some, Result, Ok, Err}
 use Rattle.std.specs.List.Sorted.{IsPermutation, IsSortedBy}
 use Rattle.nf_base.specs.Orders.{comes_before}
 use Rattle.pcap_file.specs.declared.places.Place.{Place}
@@ -13,22 +13,9 @@ use Rattle.capture_order.specs.declared.fault.LoadFault.{LoadFault}
 use Rattle.capture_order.specs.declared.fault.LoadFault.TheVariants.{NotCapture, Memory}
 use Rattle.capture_order.specs.Arrivals.{packet_of}
 
--- how many whole records a capture may hold
-abbrev pub most_records : ℕ
-most_records = 10000000
-
--- a capture of no more records than that
-abbrev pub limited : Placed → Option Placed
-limited p = if nat_le (length p.places) most_records then Some p else None
-
--- the records of a capture, and none where its header is short or wrong or there are too many
-abbrev pub if_limited : Option Placed → Option Placed
-if_limited None = None
-if_limited (Some p) = limited p
-
 -- the records in bytes, and where these are torn
 unfoldable pub placed_in : List ℕ → Option Placed
-placed_in bytes = if_limited (option_map placed (capture_of bytes))
+placed_in bytes = option_map placed (capture_of bytes)
 
 -- the packet of a record of a port's capture that came at a time: its number, and the fields of its frame, which are none where it is skipped
 unfoldable pub arrival_of : ℕ → List ℕ → ℕ → ℕ → Place → Arrival
@@ -96,16 +83,32 @@ tears_at port (bytes ∷ captures) = tear_in port (placed_in bytes) ++ tears_at 
 abbrev pub all_tears : List (List ℕ) → List Tear
 all_tears captures = tears_at 0 captures
 
--- the packets of all captures, each once, in capture order, and where captures are torn
-pub record IsLoaded (captures : List (List ℕ)) (arrivals : List Arrival) (tears : List Tear) : Type 0 where
+-- the first packets of all captures, so many at most, in capture order
+pub record IsLoaded (captures : List (List ℕ)) (most : ℕ) (arrivals : List Arrival) : Type 0 where
   pub listed : List Arrival
   pub all : all_arrivals captures ≡ Some listed
-  pub each_once : IsPermutation listed arrivals
-  pub in_order : IsSortedBy comes_before (map packet_of arrivals)
-  pub torn : tears ≡ all_tears captures
+  pub ordered : List Arrival
+  pub each_once : IsPermutation listed ordered
+  pub in_order : IsSortedBy comes_before (map packet_of ordered)
+  pub first : arrivals ≡ take most ordered
+
+-- how many packets there are
+abbrev pub count_of : Option (List Arrival) → ℕ
+count_of None = 0
+count_of (Some arrivals) = length arrivals
+
+-- whether captures have more packets than so many
+abbrev pub has_more : List (List ℕ) → ℕ → Bool
+has_more captures most = nat_lt most (count_of (all_arrivals captures))
+
+-- captures with their first packets, where they are torn, and whether they have more packets
+pub record AreLoaded (captures : List (List ℕ)) (most : ℕ) (loaded : Loaded) : Type 0 where
+  pub packets : IsLoaded captures most loaded.arrivals.items
+  pub torn : loaded.tears.items ≡ all_tears captures
+  pub more : loaded.more ≡ has_more captures most
 
 -- what loading captures comes to; want of memory is free
-abbrev pub Loads : List (List ℕ) → Result Loaded LoadFault → Type 0
-Loads captures (Ok loaded) = IsLoaded captures loaded.arrivals.items loaded.tears.items
-Loads captures (Err (NotCapture port)) = first_bad captures ≡ Some port
-Loads captures (Err Memory) = Unit {0}
+abbrev pub Loads : List (List ℕ) → ℕ → Result Loaded LoadFault → Type 0
+Loads captures most (Ok loaded) = AreLoaded captures most loaded
+Loads captures most (Err (NotCapture port)) = first_bad captures ≡ Some port
+Loads captures most (Err Memory) = Unit {0}

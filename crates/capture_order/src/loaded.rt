@@ -10,10 +10,12 @@ pub struct Tear {
     pub offset: u64,
 }
 
-/// The packets of captures in capture order, and where captures are torn.
+/// The first packets of captures in capture order, and what else there is to tell of them.
 #[derive(Drop)]
 pub struct Loaded {
     pub arrivals: Vec<Arrival>,
-    /// By port, the least first.
+    /// Where captures are torn, by port, the least first.
     pub tears: Vec<Tear>,
+    /// Whether the captures have more packets than these.
+    pub more: bool,
 }

@@ -14,7 +14,12 @@ use nf_base::packet::{Packet, PacketId};
 use pcap_file::{CapFault, Place, Places, records};
 use std::alloc::{AllocError, Global};
 
-const MOST_RECORDS: usize = 10_000_000;
+/// The packets of captures, one capture after the other, and where captures are torn.
+#[derive(Drop)]
+struct Listing {
+    arrivals: Vec<Arrival>,
+    tears: Vec<Tear>,
+}
 
 // The packet of a record that came at a time.
 #[tactic(auto, unfolding(crate::specs::Loaded::arrival_of))]
@@ -97,8 +102,9 @@ fn add_capture(
         Err(CapFault::NotCapture) => return Err(LoadFault::NotCapture { port }),
         Err(_) => return Err(LoadFault::Memory),
     };
-    if found.len() > MOST_RECORDS {
-        return Err(LoadFault::NotCapture { port });
+    // Packets are numbered by 32 bits.
+    if found.len() > u32::MAX as usize {
+        return Err(LoadFault::Memory);
     }
     match push_capture(port, bytes, &found, arrivals, tears) {
         Ok(()) => Ok(()),
@@ -107,7 +113,7 @@ fn add_capture(
 }
 
 // The packets of all captures, one capture after the other.
-fn list(alloc: Global, captures: &[Vec<u8>]) -> Result<Loaded, LoadFault>
+fn list(alloc: Global, captures: &[Vec<u8>]) -> Result<Listing, LoadFault>
     requires { length captures.now ≤ 2 ^ 32 }
     ensures { Lists (all_bytes captures.now) result }
 {
@@ -120,29 +126,36 @@ fn list(alloc: Global, captures: &[Vec<u8>]) -> Result<Loaded, LoadFault>
             Err(e) => return Err(e),
         }
     }
-    Ok(Loaded { arrivals, tears })
+    Ok(Listing { arrivals, tears })
 }
 
-/// The packets of all captures in capture order: least time first, ties by port, then in the order of
-/// the file; and where captures are torn, by port.
+/// The first packets of all captures in capture order, at most so many: least time first, ties by port,
+/// then in the order of the file; where captures are torn, by port; and whether there are more packets.
 ///
 /// The capture at index `i` is that of port `i`. Each whole record is a packet, whose number counts the
 /// records of its capture from 0, skipped ones too, and whose time is the latest of its capture up to
 /// it. The fields are those of the captured bytes, with the frame's original length.
-pub fn load(alloc: Global, captures: &[Vec<u8>]) -> Result<Loaded, LoadFault>
+pub fn load(alloc: Global, captures: &[Vec<u8>], most: u32) -> Result<Loaded, LoadFault>
     requires { length captures.now ≤ 2 ^ 32 }
-    ensures loaded { Loads (all_bytes captures.now) result }
+    ensures loaded { Loads (all_bytes captures.now) most result }
     ensures within { IfOk result (λ loaded. AllByRecursion (IsWithin (all_bytes captures.now)) loaded.arrivals.items) }
 {
-    let Loaded {
+    let Listing {
         mut arrivals,
         tears,
     } = match list(alloc, captures) {
-        Ok(listed) => listed,
+        Ok(listing) => listing,
         Err(e) => return Err(e),
     };
+    let more = arrivals.len() > most as usize;
     match sort(&mut arrivals) {
-        Ok(()) => Ok(Loaded { arrivals, tears }),
-        Err(_) => Err(LoadFault::Memory),
+        Ok(()) => {}
+        Err(_) => return Err(LoadFault::Memory),
     }
+    arrivals.truncate(most as usize);
+    Ok(Loaded {
+        arrivals,
+        tears,
+        more,
+    })
 }

@@ -31,7 +31,7 @@ fn ties_go_by_port_and_times_never_fall(rt: HostRuntime) {
     let first = capture(rt.alloc(), &[7, 3, 9]).expect(&rt, "memory");
     let second = capture(rt.alloc(), &[7, 8]).expect(&rt, "memory");
     let captures = [first, second];
-    let loaded = load(rt.alloc(), &captures).expect(&rt, "captures");
+    let loaded = load(rt.alloc(), &captures, 100).expect(&rt, "captures");
     let arrivals = &loaded.arrivals;
     let expected = [(7, 0, 0), (7, 0, 1), (7, 1, 0), (8, 1, 1), (9, 0, 2)];
     assert_eq!(rt; arrivals.len(), 5);
@@ -47,7 +47,7 @@ fn a_skipped_frame_is_a_packet_with_a_number(rt: HostRuntime) {
     push_record(&mut out, 1, 54, &SEGMENT[..53]).expect(&rt, "memory");
     push_record(&mut out, 2, 1500, &SEGMENT).expect(&rt, "memory");
     let captures = [out];
-    let loaded = load(rt.alloc(), &captures).expect(&rt, "captures");
+    let loaded = load(rt.alloc(), &captures, 100).expect(&rt, "captures");
     let arrivals = &loaded.arrivals;
     assert_eq!(rt; arrivals.len(), 2);
     for arrival in arrivals {
@@ -86,7 +86,7 @@ fn the_least_port_without_a_capture_is_named(rt: HostRuntime) {
     let mut short = capture(rt.alloc(), &[]).expect(&rt, "memory");
     short.pop();
     let captures = [whole, short, Vec::new(rt.alloc())];
-    assert!(rt; load(rt.alloc(), &captures).is_err_and(|e| e == LoadFault::NotCapture { port: 1 }));
+    assert!(rt; load(rt.alloc(), &captures, 100).is_err_and(|e| e == LoadFault::NotCapture { port: 1 }));
     assert!(rt; load(rt.alloc(), &captures[..1]).is_ok_and(|loaded| loaded.arrivals.len() == 1));
     assert!(rt; load(rt.alloc(), &captures[..0]).is_ok_and(|loaded| loaded.arrivals.is_empty()));
 }
@@ -99,7 +99,7 @@ fn torn_captures_give_their_whole_records(rt: HostRuntime) {
     let mut third = capture(rt.alloc(), &[6, 9]).expect(&rt, "memory");
     third.pop();
     let captures = [first, second, third];
-    let loaded = load(rt.alloc(), &captures).expect(&rt, "captures");
+    let loaded = load(rt.alloc(), &captures, 100).expect(&rt, "captures");
     let expected = [(5, 1, 0), (6, 2, 0)];
     assert_eq!(rt; loaded.arrivals.len(), 2);
     for (arrival, wanted) in loaded.arrivals.iter().zip(&expected) {

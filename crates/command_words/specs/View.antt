@@ -1,5 +1,5 @@
 -- What the declared commands stand for.
-use Rattle.std.specs.Prelude.{map, string_bytes}
+use Rattle.std.specs.Prelude.{◌≤◌, map, length, string_bytes}
 use Rattle.command_words.specs.declared.endpoint.Endpoint as declared_endpoint
 use Rattle.command_words.specs.declared.command.RunCommand as declared_run
 use Rattle.command_words.specs.declared.command.HashCommand as declared_hash
@@ -21,3 +21,8 @@ hash c = record { source = endpoint c.source; destination = endpoint c.destinati
 abbrev pub asked : declared_command.Command → Command
 asked (commands.Run c) = RunCommand (run c)
 asked (commands.Hash c) = HashCommand (hash c)
+
+-- a run has one to four captures
+abbrev pub HasFew : declared_command.Command → Type 0
+HasFew (commands.Run c) = (1 ≤ length c.captures.items) × (length c.captures.items ≤ 4)
+HasFew (commands.Hash c) = Unit {0}

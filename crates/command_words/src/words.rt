@@ -1,6 +1,6 @@
 //! From a command line's words to the command that they ask for.
 
-ghost use Rattle.std.specs.Prelude.{◌≡◌, IfOk, map, option_map, string_bytes, is_some};
+ghost use Rattle.std.specs.Prelude.{◌≡◌, ◌≤◌, IfOk, IfSome, map, length, option_map, string_bytes, is_some};
 ghost use Rattle.clap.specs.Words.{all_of, first_of, found_of, rows_of, subcommand_rows_of};
 ghost use Rattle.command_words.specs.Texts.{and_then, endpoint_in, workers_in};
 ghost use Rattle.command_words.specs.Commands as meant;
@@ -86,7 +86,8 @@ fn copied(alloc: Global, names: &[&str]) -> Result<Vec<String>, AllocError>
 
 /// One to four captures.
 fn captures_in(alloc: Global, names: Option<&[&str]>) -> Result<Option<Vec<String>>, AllocError>
-    ensures { IfOk result (λ r. option_map (λ v. map string_bytes v.items) r ≡ meant.captures_in (option_map (λ s. map (λ v. v.now) s.now) names.entry)) }
+    ensures few { IfOk result (λ r. IfSome r (λ v. (1 ≤ length v.items) × (length v.items ≤ 4))) }
+    ensures value { IfOk result (λ r. option_map (λ v. map string_bytes v.items) r ≡ meant.captures_in (option_map (λ s. map (λ v. v.now) s.now) names.entry)) }
 {
     match names {
         Some(names) if 1 <= names.len() && names.len() <= 4 => Ok(Some(copied(alloc, names)?)),
@@ -95,7 +96,8 @@ fn captures_in(alloc: Global, names: Option<&[&str]>) -> Result<Option<Vec<Strin
 }
 
 fn run_command(alloc: Global, matches: &ArgMatches) -> Result<Option<RunCommand>, AllocError>
-    ensures { IfOk result (λ r. option_map view.run r ≡ meant.run_in (rows_of (found_of matches.now))) }
+    ensures few { IfOk result (λ r. IfSome r (λ c. (1 ≤ length c.captures.items) × (length c.captures.items ≤ 4))) }
+    ensures value { IfOk result (λ r. option_map view.run r ≡ meant.run_in (rows_of (found_of matches.now))) }
 {
     let Some(function) = value(matches, "function") else {
         return Ok(None);
@@ -148,7 +150,8 @@ fn hash_command(matches: &ArgMatches) -> Option<HashCommand>
 
 /// The command of a name, with what stands beside it.
 fn named(alloc: Global, name: &str, matches: &ArgMatches) -> Result<Option<Command>, AllocError>
-    ensures { IfOk result (λ r. option_map view.asked r ≡ meant.named name.now (rows_of (found_of matches.now))) }
+    ensures few { IfOk result (λ r. IfSome r view.HasFew) }
+    ensures value { IfOk result (λ r. option_map view.asked r ≡ meant.named name.now (rows_of (found_of matches.now))) }
 {
     if name == "run" {
         Ok(run_command(alloc, matches)?.map(Command::Run))
@@ -162,7 +165,8 @@ fn named(alloc: Global, name: &str, matches: &ArgMatches) -> Result<Option<Comma
 /// The command of the subcommand that was met.
 #[tactic(auto, using(crate::proofs::Rows::met))]
 fn in_match(alloc: Global, matches: &ArgMatches) -> Result<Option<Command>, AllocError>
-    ensures { IfOk result (λ r. option_map view.asked r ≡ meant.in_match (subcommand_rows_of matches.now)) }
+    ensures few { IfOk result (λ r. IfSome r view.HasFew) }
+    ensures value { IfOk result (λ r. option_map view.asked r ≡ meant.in_match (subcommand_rows_of matches.now)) }
 {
     match matches.subcommand() {
         Some((name, found)) => named(alloc, name, found),
@@ -173,7 +177,8 @@ fn in_match(alloc: Global, matches: &ArgMatches) -> Result<Option<Command>, Allo
 /// The command that these words ask for, the first of which is the program's name; None where they ask for
 /// none.
 pub fn command_of(alloc: Global, words: &[String]) -> Result<Option<Command>, AllocError>
-    ensures { IfOk result (λ r. option_map view.asked r ≡ meant.command_of (map string_bytes words.now)) }
+    ensures few { IfOk result (λ r. IfSome r view.HasFew) }
+    ensures value { IfOk result (λ r. option_map view.asked r ≡ meant.command_of (map string_bytes words.now)) }
 {
     let command = all_words(alloc)?;
     match command.try_get_matches_from(words) {

@@ -3,7 +3,7 @@ use Rattle.std.proofs.Common.{◌≡◌, ℕ, ◌+◌, ◌-◌, ◌^◌, ◌≤�
 use Rattle.nf_files.specs.Causes.{Counted, Faulted, FirstAfter, Rose}
 use Rattle.maestro_cli.specs.declared.status.RunFile.{RunFile}
 use Rattle.maestro_cli.specs.declared.status.Status.{Status}
-use Rattle.maestro_cli.specs.declared.status.Status.TheVariants.{Done, Usage, Refused, FileFault, NotCapture, Memory}
+use Rattle.maestro_cli.specs.declared.status.Status.TheVariants.{Done, Usage, Refused, FileFault, NotCapture, Torn, TooMany, Memory}
 use Rattle.maestro_cli.specs.Numbers.{Start, number_of, HasStatusCause}
 
 first_stays : (a : Option ℕ) (n : ℕ) (b : Option ℕ) (m : ℕ) (c : Option ℕ) → FirstAfter a n b → FirstAfter b m c → FirstAfter a n c

@@ -9,7 +9,7 @@ use Rattle.capture_order.specs.Loaded.{IsLoaded}
 use Rattle.run_files.specs.Written.{arrival_in}
 use Rattle.maestro_cli.specs.declared.report.Report.{Report}
 use Rattle.maestro_cli.specs.declared.status.Status.{Status}
-use Rattle.maestro_cli.specs.declared.status.Status.TheVariants.{Done, Usage, Refused, FileFault, NotCapture, Memory}
+use Rattle.maestro_cli.specs.declared.status.Status.TheVariants.{Done, Usage, Refused, FileFault, NotCapture, Torn, TooMany, Memory}
 use Rattle.maestro_cli.specs.Words.{Command}
 use Rattle.maestro_cli.specs.Source.{IsFunctionUnder}
 use Rattle.maestro_cli.specs.Runs.{Run, IsRunOf, IsUndivided, AreTold}

@@ -6,7 +6,7 @@ use Rattle.nf_files.specs.Told.{Told, IsToldAs}
 use Rattle.nf_files.specs.Pieces.{Gains}
 use Rattle.nf_files.specs.Writes.{Writes, WritesFront}
 use Rattle.maestro_cli.specs.declared.status.Status.{Status}
-use Rattle.maestro_cli.specs.declared.status.Status.TheVariants.{Done, Usage, Refused, FileFault, NotCapture, Memory}
+use Rattle.maestro_cli.specs.declared.status.Status.TheVariants.{Done, Usage, Refused, FileFault, NotCapture, Torn, TooMany, Memory}
 use Rattle.maestro_cli.specs.Created.{Created}
 use Rattle.maestro_cli.specs.Stages.{Stage, Cut, HoldsFronts, HoldsAll, IsFrontOf, IsFrontIfTold}
 use Rattle.maestro_cli.specs.Printed.{Printed, PrintedFront, Says, Complains, ComplainsFront, IsStop}

@@ -7,7 +7,7 @@ use Rattle.capture_order.specs.Arrivals.{all_bytes}
 use Rattle.maestro_cli.specs.Opened.{IsUntouched}
 use Rattle.nf_base.specs.declared.func.Func.{Func}
 use Rattle.maestro_cli.specs.declared.status.Status.{Status}
-use Rattle.maestro_cli.specs.declared.status.Status.TheVariants.{Done, Usage, Refused, FileFault, NotCapture, Memory}
+use Rattle.maestro_cli.specs.declared.status.Status.TheVariants.{Done, Usage, Refused, FileFault, NotCapture, Torn, TooMany, Memory}
 use Rattle.maestro_cli.specs.Source.{Reads}
 use Rattle.maestro_cli.specs.Loading.{FindsFunction}
 use Rattle.maestro_cli.specs.Runs.{AreTold}

@@ -1,5 +1,5 @@
 pub mod Statuses
-pub mod Words
+pub mod Endings
 pub mod Asked
 pub mod Source
 pub mod Runs

@@ -8,9 +8,10 @@ use Rattle.capture_order.specs.Arrivals.{IsWithin, all_bytes}
 use Rattle.capture_order.specs.Loaded.{IsLoaded}
 use Rattle.maestro_cli.specs.declared.loading.Packets.{Packets}
 use Rattle.maestro_cli.specs.declared.status.Status.{Status}
-use Rattle.maestro_cli.specs.declared.status.Status.TheVariants.{Done, Usage, Refused, FileFault, NotCapture, Memory}
+use Rattle.maestro_cli.specs.declared.status.Status.TheVariants.{Done, Usage, Refused, FileFault, NotCapture, Torn, TooMany, Memory}
 use Rattle.maestro_cli.specs.Source.{IsFunctionUnder, IsNoFunctionUnder}
 use Rattle.maestro_cli.specs.Runs.{AreTold, IsNoCaptureUnder}
+use Rattle.maestro_cli.specs.Endings.{ending_of}
 
 -- what reading the function under a name comes to; faults of files and want of memory are said by the cause
 abbrev pub FindsFunction : Told → List ℕ → Result Func Status → Type 0
@@ -21,19 +22,24 @@ FindsFunction told name (Err Memory) = Unit {0}
 FindsFunction told name (Err Done) = ⊥
 FindsFunction told name (Err Usage) = ⊥
 FindsFunction told name (Err (NotCapture port)) = ⊥
+FindsFunction told name (Err (Torn port offset)) = ⊥
+FindsFunction told name (Err (TooMany most)) = ⊥
 
--- the packets of the captures that stand under some names
-pub record ArePacketsUnder (told : Told) (names : List (List ℕ)) (packets : Packets) : Type 0 where
+-- the first packets of the captures that stand under some names, and how a run over them ends
+pub record ArePacketsUnder (told : Told) (names : List (List ℕ)) (most : ℕ) (packets : Packets) : Type 0 where
   pub captures_told : AreTold told.content names (all_bytes packets.captures.items)
-  pub loaded : IsLoaded (all_bytes packets.captures.items) packets.arrivals.items
+  pub loaded : IsLoaded (all_bytes packets.captures.items) most packets.arrivals.items
   pub within : AllByRecursion (IsWithin (all_bytes packets.captures.items)) packets.arrivals.items
+  pub ending : packets.ending ≡ ending_of most (all_bytes packets.captures.items)
 
 -- what reading the captures under some names comes to; likewise
-abbrev pub FindsPackets : Told → List (List ℕ) → Result Packets Status → Type 0
-FindsPackets told names (Ok packets) = ArePacketsUnder told names packets
-FindsPackets told names (Err (NotCapture port)) = IsNoCaptureUnder told names port
-FindsPackets told names (Err (FileFault file)) = Unit {0}
-FindsPackets told names (Err Memory) = Unit {0}
-FindsPackets told names (Err Done) = ⊥
-FindsPackets told names (Err Usage) = ⊥
-FindsPackets told names (Err (Refused line column)) = ⊥
+abbrev pub FindsPackets : Told → List (List ℕ) → ℕ → Result Packets Status → Type 0
+FindsPackets told names most (Ok packets) = ArePacketsUnder told names most packets
+FindsPackets told names most (Err (NotCapture port)) = IsNoCaptureUnder told names port
+FindsPackets told names most (Err (FileFault file)) = Unit {0}
+FindsPackets told names most (Err Memory) = Unit {0}
+FindsPackets told names most (Err Done) = ⊥
+FindsPackets told names most (Err Usage) = ⊥
+FindsPackets told names most (Err (Refused line column)) = ⊥
+FindsPackets told names most (Err (Torn port offset)) = ⊥
+FindsPackets told names most (Err (TooMany n)) = ⊥

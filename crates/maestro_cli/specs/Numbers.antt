@@ -5,7 +5,7 @@ use Rattle.nf_files.specs.Causes.{Counted, Faulted}
 use Rattle.maestro_cli.specs.declared.status.RunFile.{RunFile}
 use Rattle.maestro_cli.specs.declared.status.RunFile.TheVariants.{Nf, Capture, Output, OutJournal, State, Stdout, Stderr}
 use Rattle.maestro_cli.specs.declared.status.Status.{Status}
-use Rattle.maestro_cli.specs.declared.status.Status.TheVariants.{Done, Usage, Refused, FileFault, NotCapture, Memory}
+use Rattle.maestro_cli.specs.declared.status.Status.TheVariants.{Done, Usage, Refused, FileFault, NotCapture, Torn, TooMany, Memory}
 
 -- what is told as a run begins, and how many captures it has
 pub record Start : Type 0 where
@@ -33,6 +33,8 @@ HasStatusCause s old new Done = new ≡ old
 HasStatusCause s old new Usage = new ≡ old
 HasStatusCause s old new (Refused line column) = new ≡ old
 HasStatusCause s old new (NotCapture port) = new ≡ old
+HasStatusCause s old new (Torn port offset) = new ≡ old
+HasStatusCause s old new (TooMany most) = new ≡ old
 HasStatusCause s old new Memory = new ≡ old
 
 -- the same of a step of a run

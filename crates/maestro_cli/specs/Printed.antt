@@ -4,7 +4,7 @@ use Rattle.nf_files.specs.Told.{Told}
 use Rattle.nf_files.specs.Pieces.{Gains}
 use Rattle.nf_files.specs.Writes.{Writes, WritesFront}
 use Rattle.maestro_cli.specs.declared.status.Status.{Status}
-use Rattle.maestro_cli.specs.declared.status.Status.TheVariants.{Done, Usage, Refused, FileFault, NotCapture, Memory}
+use Rattle.maestro_cli.specs.declared.status.Status.TheVariants.{Done, Usage, Refused, FileFault, NotCapture, Torn, TooMany, Memory}
 use Rattle.maestro_cli.specs.Stages.{IsFrontOf}
 use Rattle.maestro_cli.specs.Texts.{error_line}
 
@@ -26,6 +26,8 @@ IsStop Done = ⊥
 IsStop Usage = ⊥
 IsStop (Refused line column) = ⊥
 IsStop (NotCapture port) = ⊥
+IsStop (Torn port offset) = ⊥
+IsStop (TooMany most) = ⊥
 
 -- a line was given whole, or a front of it where the call was refused
 abbrev pub Says : {T : Type 0} → Told → Told → ℕ → List ℕ → Result T Status → Type 0

@@ -7,7 +7,7 @@ use Rattle.nf_files.specs.Told.{Told, IsToldAs}
 use Rattle.capture_order.specs.Loaded.{IsLoaded, first_bad}
 use Rattle.run_files.specs.declared.handled.Handled.{Handled}
 use Rattle.run_files.specs.Written.{arrival_in}
-use Rattle.maestro_cli.specs.Words.{Command}
+use Rattle.command_words.specs.Commands.{Run as RunAsked}
 use Rattle.maestro_cli.specs.Source.{IsFunctionUnder}
 
 -- the function, the bytes of the captures, the packets with what each came to in the order in which they were handled, and the last state
@@ -41,23 +41,23 @@ pub record IsNoCaptureUnder (told : Told) (names : List (List ℕ)) (port : ℕ)
   pub captures_told : AreTold told.content names captures
   pub least : first_bad captures ≡ Some port
 
--- A run that a command asks for: its text and its captures are those that stood under their names, and every packet of every capture is handled once, in capture order.
-pub record IsRunOf (command : Command) (told : Told) (run : Run) : Type 0 where
-  pub is_function : IsFunctionUnder told command.nf run.function
+-- A run that a command asks for: its text and its captures are those that stood under their names, and their packets are handled, each once, in capture order: all of them, or the most that may be handled.
+pub record IsRunOf (command : RunAsked) (told : Told) (run : Run) : Type 0 where
+  pub is_function : IsFunctionUnder told command.function run.function
   pub as_many : length command.captures ≡ length run.function.handlers
   pub captures_told : AreTold told.content command.captures run.captures
-  pub in_order : IsLoaded run.captures (map arrival_in run.handled)
+  pub in_order : IsLoaded run.captures command.most (map arrival_in run.handled)
   pub undivided : IsUndivided run.function run.handled run.state
 
 -- The text is a network function whose ports are not as many as the captures.
-pub record HasOtherPorts (command : Command) (told : Told) : Type 0 where
+pub record HasOtherPorts (command : RunAsked) (told : Told) : Type 0 where
   pub function : Function
-  pub is_function : IsFunctionUnder told command.nf function
+  pub is_function : IsFunctionUnder told command.function function
   pub not_as_many : length command.captures ≢ length function.handlers
 
 -- The captures are as many as the function's ports, and the file of this port is the first that is no capture.
-pub record HasNoCapture (command : Command) (told : Told) (port : ℕ) : Type 0 where
+pub record HasNoCapture (command : RunAsked) (told : Told) (port : ℕ) : Type 0 where
   pub function : Function
-  pub is_function : IsFunctionUnder told command.nf function
+  pub is_function : IsFunctionUnder told command.function function
   pub as_many : length command.captures ≡ length function.handlers
   pub none : IsNoCaptureUnder told command.captures port

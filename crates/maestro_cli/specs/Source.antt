@@ -7,7 +7,7 @@ use Rattle.nf_types.specs.Checked.{checked}
 use Rattle.nf_base.specs.declared.func.Func.{Func}
 use Rattle.nf_base.specs.Functions.{function_of}
 use Rattle.maestro_cli.specs.declared.status.Status.{Status}
-use Rattle.maestro_cli.specs.declared.status.Status.TheVariants.{Done, Usage, Refused, FileFault, NotCapture, Memory}
+use Rattle.maestro_cli.specs.declared.status.Status.TheVariants.{Done, Usage, Refused, FileFault, NotCapture, Torn, TooMany, Memory}
 
 -- the text spells a tree that keeps the type rules and the limits, and this is its function
 pub record IsFunction (text : List ℕ) (f : Function) : Type 0 where
@@ -42,3 +42,5 @@ Reads text (Err Done) = ⊥
 Reads text (Err Usage) = ⊥
 Reads text (Err (FileFault file)) = ⊥
 Reads text (Err (NotCapture port)) = ⊥
+Reads text (Err (Torn port offset)) = ⊥
+Reads text (Err (TooMany most)) = ⊥

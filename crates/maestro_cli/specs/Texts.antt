@@ -3,7 +3,7 @@ use Rattle.std.specs.Prelude.{ℕ, List, [], ◌++◌, codes, decimal}
 use Rattle.maestro_cli.specs.declared.status.RunFile.{RunFile}
 use Rattle.maestro_cli.specs.declared.status.RunFile.TheVariants.{Nf, Capture, Output, OutJournal, State, Stdout, Stderr}
 use Rattle.maestro_cli.specs.declared.status.Status.{Status}
-use Rattle.maestro_cli.specs.declared.status.Status.TheVariants.{Done, Usage, Refused, FileFault, NotCapture, Memory}
+use Rattle.maestro_cli.specs.declared.status.Status.TheVariants.{Done, Usage, Refused, FileFault, NotCapture, Torn, TooMany, Memory}
 
 -- how a file of a run is called in a fault's line
 abbrev pub file_text : RunFile → List ℕ
@@ -26,6 +26,8 @@ status_words Usage = codes "bad command line"
 status_words (Refused line column) = codes "refused N0 at " ++ decimal line ++ codes ":" ++ decimal column
 status_words (FileFault file) = fault_title ++ file_text file
 status_words (NotCapture port) = codes "capture " ++ decimal port ++ codes " has no pcap header"
+status_words (Torn port offset) = codes "capture " ++ decimal port ++ codes " is torn at byte " ++ decimal offset
+status_words (TooMany most) = codes "more than " ++ decimal most ++ codes " packets"
 status_words Memory = codes "out of memory"
 
 -- the line on standard error of a status that is no success

@@ -1,5 +1,5 @@
 //! What a run is made of, read from its files.
-ghost use Rattle.std.specs.Prelude.{◌≡◌, ◌≤◌, ◌+◌, ℕ, map, length, IfOk, IfErr, OnOk, string_bytes};
+ghost use Rattle.std.specs.Prelude.{◌≡◌, ◌≤◌, ◌+◌, ℕ, map, length, IfOk, IfErr, OnOk, string_bytes, if◌then◌else◌};
 ghost use Rattle.nf_files.specs.Told.{IsToldAs};
 ghost use Rattle.maestro_cli.specs.Printed.{IsStop};
 ghost use Rattle.maestro_cli.specs.Numbers.{Start, HasStepCause, first_created};
@@ -7,22 +7,42 @@ ghost use Rattle.maestro_cli.specs.Opened.{IsUntouched};
 ghost use Rattle.capture_order.specs.Arrivals.{all_bytes};
 ghost use Rattle.maestro_cli.specs.Runs.{AreTold};
 ghost use Rattle.maestro_cli.specs.Loading.{FindsFunction, FindsPackets};
+ghost use Rattle.maestro_cli.specs.Endings.{if_torn};
+ghost use Rattle.maestro_cli.specs.declared.status.Status.TheVariants.{TooMany};
 
 use crate::captures::{open_captures, read_captures};
 use crate::fault::status_of;
 use crate::function::function_in;
 use crate::status::{RunFile, Status};
 use capture_order::arrival::Arrival;
-use capture_order::{LoadFault, load};
+use capture_order::{LoadFault, Tear, load};
 use nf_base::func::Func;
 use nf_files::{Files, read_whole};
 use std::alloc::Global;
 
-/// The captures of all ports, and their packets in capture order.
+/// The captures of all ports, and their first packets in capture order.
 #[derive(Drop)]
 pub struct Packets {
     pub captures: Vec<Vec<u8>>,
     pub arrivals: Vec<Arrival>,
+    /// How a run over them ends that the outside doesn't stop.
+    pub ending: Status,
+}
+
+// How a run over captures ends that the outside doesn't stop.
+fn ending_of(most: u32, more: bool, tears: &[Tear]) -> Status
+    ensures { result ≡ (if more then TooMany most else if_torn tears.now) }
+{
+    if more {
+        return Status::TooMany { most };
+    }
+    match tears.first() {
+        None => Status::Done,
+        Some(tear) => Status::Torn {
+            port: tear.port,
+            offset: tear.offset,
+        },
+    }
 }
 
 // The bytes under the name of the function, the first file of a run.
@@ -83,18 +103,19 @@ fn read_all<F: Files>(
     }
 }
 
-/// The captures under some names, and their packets in capture order.
+/// The captures under some names, and their first packets in capture order, so many at most.
 pub fn read_packets<F: Files>(
     alloc: Global,
     files: &mut F,
     names: &[String],
+    most: u32,
 ) -> Result<Packets, Status>
     ghost start: { Start }
     requires next { (F.told files.old).next ≡ start.told.next + 1 }
     requires untouched { IsUntouched start.told (F.told files.old) }
     requires few { length names.now ≤ 4 }
     requires ports { start.captures ≡ length names.now }
-    ensures finds { FindsPackets start.told (map string_bytes names.now) result }
+    ensures finds { FindsPackets start.told (map string_bytes names.now) most result }
     ensures next { OnOk result ((F.told files.new).next ≡ first_created start) }
     ensures untouched { IsUntouched start.told (F.told files.new) }
     ensures cause { HasStepCause start (F.counted files.old) (F.counted files.new) result }
@@ -103,9 +124,15 @@ pub fn read_packets<F: Files>(
         Ok(captures) => captures,
         Err(status) => return Err(status),
     };
-    match load(alloc, captures.as_slice()) {
-        Ok(arrivals) => Ok(Packets { captures, arrivals }),
-        Err(LoadFault::NotCapture { port }) => Err(Status::NotCapture { port }),
-        Err(LoadFault::Memory) => Err(Status::Memory),
-    }
+    let loaded = match load(alloc, captures.as_slice(), most) {
+        Ok(loaded) => loaded,
+        Err(LoadFault::NotCapture { port }) => return Err(Status::NotCapture { port }),
+        Err(LoadFault::Memory) => return Err(Status::Memory),
+    };
+    let ending = ending_of(most, loaded.more, loaded.tears.as_slice());
+    Ok(Packets {
+        captures,
+        arrivals: loaded.arrivals,
+        ending,
+    })
 }

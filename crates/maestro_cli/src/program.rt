@@ -1,15 +1,18 @@
 //! The whole program.
 ghost use Rattle.std.specs.Prelude.{◌≡◌, ◌≤◌, map, length, string_bytes};
+ghost use Rattle.command_words.specs.Commands.{command_of};
+ghost use Rattle.command_words.specs.View.{hash};
 ghost use Rattle.maestro_cli.specs.Asked.{asked};
-ghost use Rattle.maestro_cli.specs.Words.{command_of};
 ghost use Rattle.maestro_cli.specs.Numbers.{HasStatusCause};
-ghost use Rattle.maestro_cli.specs.Answer.{Answers, Runs, start_of};
+ghost use Rattle.maestro_cli.specs.Answer.{Answers, Runs, Hashes, start_of};
 ghost use Rattle.maestro_cli.specs.Running.{Begun, Tells};
 
-use crate::command::{Command, command_of};
+use crate::command::Command;
+use crate::hashing::hash_line;
 use crate::running::run;
-use crate::say::complain;
+use crate::say::{complain, print};
 use crate::status::Status;
+use command_words::{HashCommand, command_of};
 use nf_files::Files;
 use std::alloc::Global;
 
@@ -31,6 +34,7 @@ fn tell<F: Files>(alloc: Global, files: &mut F, status: Status) -> Status
     }
 }
 
+// Does a run.
 fn carry_out<F: Files>(alloc: Global, files: &mut F, command: &Command) -> Status
     ghost begun: { Begun }
     requires begins { F.told files.old ≡ begun.start.told }
@@ -47,16 +51,73 @@ fn carry_out<F: Files>(alloc: Global, files: &mut F, command: &Command) -> Statu
     }
 }
 
+// Prints the line of a hash.
+fn print_hash<F: Files>(
+    alloc: Global,
+    files: &mut F,
+    command: &HashCommand,
+) -> Result<(), Status>
+    ghost begun: { Begun }
+    ensures prints { PrintsHash (hash command.now) (F.told files.old) (F.told files.new) result }
+    ensures cause { HasStepCause begun.start (F.counted files.old) (F.counted files.new) result }
+{
+    match hash_line(alloc, command) {
+        Ok(line) => print(files, line.as_bytes()),
+        Err(_) => Err(Status::Memory),
+    }
+}
+
+// Prints the line of a hash, and says where that failed.
+fn hash_and_tell<F: Files>(alloc: Global, files: &mut F, command: &HashCommand) -> Status
+    ghost begun: { Begun }
+    requires counts { F.counted files.old ≡ begun.counted }
+    ensures hashes { Hashes (hash command.now) (F.told files.old) (F.told files.new) result }
+    ensures cause { HasStatusCause begun.start begun.counted (F.counted files.new) result }
+{
+    match print_hash(alloc, files, command) {
+        Ok(()) => Status::Done,
+        Err(status) => tell(alloc, files, status),
+    }
+}
+
+// Does what a command asks for.
+fn obey<F: Files>(alloc: Global, files: &mut F, command: &command_words::Command) -> Status
+    ghost begun: { Begun }
+    requires begins { F.told files.old ≡ begun.start.told }
+    requires counts { F.counted files.old ≡ begun.counted }
+    requires start { begun.start ≡ start_of begun.start.told (Some (command_asked command.now)) }
+    requires few { HasFew command.now }
+    ensures answer { Answers (Some (command_asked command.now)) begun.start.told (F.told files.new) result }
+    ensures cause { HasStatusCause begun.start begun.counted (F.counted files.new) result }
+{
+    match command {
+        command_words::Command::Run(asked) => {
+            let command = Command {
+                function: &asked.function,
+                out: &asked.out,
+                captures: asked.captures.as_slice(),
+                most: asked.most,
+            };
+            carry_out(alloc, files, &command)
+        }
+        command_words::Command::Hash(asked) => hash_and_tell(alloc, files, asked),
+    }
+}
+
 /// Does what the words ask for, and says how it ended.
 ///
-/// The words begin with the program's name, and are then `run`, a network function's file, the front
-/// of the names of the outputs, one to four captures, `--workers` and `1`.
+/// The words begin with the program's name. Then stand
+/// - `run`, a network function's file, the front of the outputs' names, and one to four captures; with the
+///   options `--workers 1` and `--max-packets N`, 10,000,000 where it is left out;
+/// - `hash`, a source and a destination as `ADDRESS:PORT`; with the options `--key`, 80 hexadecimal digits, and
+///   `--workers`, 1 to 16.
 pub fn maestro<F: Files>(alloc: Global, words: &[String], files: &mut F) -> Status
     ensures answer { Answers (command_of (map string_bytes words.now)) (F.told files.old) (F.told files.new) result }
     ensures cause { HasStatusCause (start_of (F.told files.old) (command_of (map string_bytes words.now))) (F.counted files.old) (F.counted files.new) result }
 {
-    match command_of(words) {
-        None => tell(alloc, files, Status::Usage),
-        Some(command) => carry_out(alloc, files, &command),
+    match command_of(alloc, words) {
+        Err(_) => tell(alloc, files, Status::Memory),
+        Ok(None) => tell(alloc, files, Status::Usage),
+        Ok(Some(command)) => obey(alloc, files, &command),
     }
 }

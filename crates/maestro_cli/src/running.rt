@@ -1,5 +1,5 @@
 //! A run, from its files to the files that it leaves.
-ghost use Rattle.std.specs.Prelude.{◌≡◌, ◌≤◌, map, length, IfErr, string_bytes};
+ghost use Rattle.std.specs.Prelude.{◌≡◌, ◌≤◌, ℕ, map, length, IfErr, string_bytes};
 ghost use Rattle.std.specs.List.{AllByRecursion};
 ghost use Rattle.nf_base.specs.Functions.{function_of};
 ghost use Rattle.capture_order.specs.Arrivals.{IsWithin, all_bytes};
@@ -10,7 +10,8 @@ ghost use Rattle.maestro_cli.specs.Numbers.{Start, HasStepCause, first_created};
 ghost use Rattle.maestro_cli.specs.Opened.{IsUntouched};
 ghost use Rattle.maestro_cli.specs.Printed.{IsStop};
 ghost use Rattle.maestro_cli.specs.Report.{IsStage};
-ghost use Rattle.maestro_cli.specs.Running.{Leaves, Ends, RunsTo};
+ghost use Rattle.maestro_cli.specs.Endings.{ending_of};
+ghost use Rattle.maestro_cli.specs.Running.{Leaves, EndsWell, Ends, RunsTo};
 
 use crate::command::Command;
 use crate::handling::handle_all;
@@ -47,7 +48,7 @@ fn leave_and_print<F: Files>(alloc: Global, files: &mut F, report: &Report) -> R
 }
 
 // Handles all packets, and writes what the run leaves.
-fn finish<F: Files>(
+fn handle_and_leave<F: Files>(
     alloc: Global,
     files: &mut F,
     out: &String,
@@ -55,15 +56,16 @@ fn finish<F: Files>(
     packets: &Packets,
 ) -> Result<(), Status>
     ghost start: { Start }
+    ghost most: { ℕ }
     requires next { (F.told files.old).next ≡ first_created start }
     requires untouched { IsUntouched start.told (F.told files.old) }
     requires ports { start.captures ≡ length packets.now.captures.items }
     requires few { length packets.now.captures.items ≤ 4 }
     requires some { 1 ≤ length packets.now.captures.items }
     requires as_many { length packets.now.captures.items ≡ length func.now.handlers }
-    requires loaded { IsLoaded (all_bytes packets.now.captures.items) packets.now.arrivals.items }
+    requires loaded { IsLoaded (all_bytes packets.now.captures.items) most packets.now.arrivals.items }
     requires within { AllByRecursion (IsWithin (all_bytes packets.now.captures.items)) packets.now.arrivals.items }
-    ensures ends { Ends start (F.told files.new) (string_bytes out.now) (function_of func.now) (all_bytes packets.now.captures.items) result }
+    ensures ends { EndsWell start (F.told files.new) (string_bytes out.now) (function_of func.now) (all_bytes packets.now.captures.items) most result }
     ensures cause { HasStepCause start (F.counted files.old) (F.counted files.new) result }
     ensures stops { IfErr result IsStop }
 {
@@ -81,6 +83,38 @@ fn finish<F: Files>(
     leave_and_print(alloc, files, &report)
 }
 
+// Handles all packets, writes what the run leaves, and says how it ended.
+fn finish<F: Files>(
+    alloc: Global,
+    files: &mut F,
+    out: &String,
+    func: &Func,
+    packets: &Packets,
+) -> Result<(), Status>
+    ghost start: { Start }
+    ghost most: { ℕ }
+    requires next { (F.told files.old).next ≡ first_created start }
+    requires untouched { IsUntouched start.told (F.told files.old) }
+    requires ports { start.captures ≡ length packets.now.captures.items }
+    requires few { length packets.now.captures.items ≤ 4 }
+    requires some { 1 ≤ length packets.now.captures.items }
+    requires as_many { length packets.now.captures.items ≡ length func.now.handlers }
+    requires loaded { IsLoaded (all_bytes packets.now.captures.items) most packets.now.arrivals.items }
+    requires within { AllByRecursion (IsWithin (all_bytes packets.now.captures.items)) packets.now.arrivals.items }
+    requires ending { packets.now.ending ≡ ending_of most (all_bytes packets.now.captures.items) }
+    ensures ends { Ends start (F.told files.new) (string_bytes out.now) (function_of func.now) (all_bytes packets.now.captures.items) most result }
+    ensures cause { HasStepCause start (F.counted files.old) (F.counted files.new) result }
+{
+    match handle_and_leave(alloc, files, out, func, packets) {
+        Ok(()) => {}
+        Err(status) => return Err(status),
+    }
+    match packets.ending {
+        Status::Done => Ok(()),
+        status => Err(status),
+    }
+}
+
 /// Does what a command asks for.
 pub fn run<F: Files>(alloc: Global, files: &mut F, command: &Command) -> Result<(), Status>
     ghost start: { Start }
@@ -91,14 +125,14 @@ pub fn run<F: Files>(alloc: Global, files: &mut F, command: &Command) -> Result<
     ensures runs { RunsTo (asked command.now) start.told (F.told files.new) result }
     ensures cause { HasStepCause start (F.counted files.old) (F.counted files.new) result }
 {
-    let func = match read_function(alloc, files, command.nf) {
+    let func = match read_function(alloc, files, command.function) {
         Ok(func) => func,
         Err(status) => return Err(status),
     };
     if command.captures.len() != func.handlers.len() as usize {
         return Err(Status::Usage);
     }
-    let packets = match read_packets(alloc, files, command.captures) {
+    let packets = match read_packets(alloc, files, command.captures, command.most) {
         Ok(packets) => packets,
         Err(status) => return Err(status),
     };

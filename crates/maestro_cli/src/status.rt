@@ -33,6 +33,11 @@ pub enum Status {
     FileFault(RunFile),
     /// This is the least port whose file is no capture.
     NotCapture { port: u32 },
+    /// All packets were handled, up to where captures are torn; this is the least port of a torn one, and the
+    /// offset of the torn record in its capture, in bytes.
+    Torn { port: u32, offset: u64 },
+    /// There are more packets than this; as many were handled.
+    TooMany { most: u32 },
     Memory,
 }
 
@@ -47,6 +52,8 @@ impl Status {
             Status::Refused { .. } => 2,
             Status::FileFault(_) => 3,
             Status::NotCapture { .. } => 4,
+            Status::Torn { .. } => 5,
+            Status::TooMany { .. } => 7,
             Status::Memory => 9,
         }
     }

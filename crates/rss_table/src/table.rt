@@ -1,6 +1,6 @@
 //! From a hash to a queue.
-ghost use Rattle.std.specs.Prelude.{◌≡◌, ℕ, ◌<◌, length};
-ghost use Rattle.rss_table.specs.Tables.{AllBelow, table_index, even_table, queue_of};
+ghost use Rattle.std.specs.Prelude.{◌≡◌, ℕ, ◌<◌, length, Some};
+ghost use Rattle.rss_table.specs.Tables.{AllBelow, table_index, even_table, queue_at, queue_of};
 
 use nf_base::keys::Keys;
 use nf_base::packet::Packet;
@@ -43,9 +43,17 @@ impl Table {
         ensures below { (count : ℕ) → AllBelow count self.now → result < count }
     {
         match hash_packet(keys, packet) {
-            Some(hash) => self.queues[table_index(hash) as usize],
+            Some(hash) => self.queue_of_hash(hash),
             None => 0,
         }
+    }
+
+    /// The queue of a hash: the entry at its table index.
+    pub fn queue_of_hash(&self, hash: u32) -> u32
+        ensures value { result ≡ queue_at self.now (Some hash) }
+        ensures below { (count : ℕ) → AllBelow count self.now → result < count }
+    {
+        self.queues[table_index(hash) as usize]
     }
 }
 

@@ -1,20 +1,16 @@
 use Rattle.std.proofs.Common.{ap, refl, Option, List, Some, None, arith, ◌∙◌}
 use Rattle.std.specs.Option.{option_map}
-use Rattle.std.proofs.lemmas.Bool.{le-leb, lt-leb}
 use Rattle.pcap_file.specs.Placed.{Placed}
 use Rattle.capture_order.specs.Loaded.{arrivals_of, tear_in}
-use Rattle.capture_order.proofs.Placing.{all_came, is_placed, too_many, is_none}
+use Rattle.capture_order.proofs.Placing.{all_came, is_placed, is_none}
 use Rattle.capture_order.proofs.loading.add_capture.Goals as goal
 
 pub returns-in-Err-NotCapture : goal.returns-in-Err-NotCapture
 returns-in-Err-NotCapture c = (refl, ap (option_map (λ p. arrivals_of c.args.port c.args.bytes.now p.places)) (is_none c.args.bytes.now (rw c.in-Err-NotCapture.field-0-is at c.in-Err-NotCapture.ensures.exact)))
 
-pub returns-then-len-gt-MOST_RECORDS : goal.returns-then-len-gt-MOST_RECORDS
-returns-then-len-gt-MOST_RECORDS c = (refl, ap (option_map (λ p. arrivals_of c.args.port c.args.bytes.now p.places)) (too_many c.args.bytes.now c.in-Ok.found c.in-Ok.ensures.exact (lt-leb _ _ (omega arith))))
-
 pub returns-in-Ok-push_capture : goal.returns-in-Ok-push_capture
 returns-in-Ok-push_capture c =
-    let is = is_placed c.args.bytes.now c.in-Ok.found c.in-Ok.ensures.exact (le-leb _ _ (omega arith)) in
+    let is = is_placed c.args.bytes.now c.in-Ok.found c.in-Ok.ensures.exact in
     record {
       more = arrivals_of c.args.port c.args.bytes.now c.in-Ok.found.places;
       read = ap (option_map (λ p. arrivals_of c.args.port c.args.bytes.now p.places)) is;

@@ -22,18 +22,18 @@ none_if : (kinds : Kinds) (k : ErrorKind) (o : Option Command) → (k ≡ OutOfM
 none_if [] k o other fault = elim fault [ inl e ↦ absurd (other e) | inr e ↦ absurd e ]
 none_if (x ∷ kinds) k o other fault = refl
 
-pub returns-in-Ok : goal.returns-in-Ok
-returns-in-Ok c =
+pub returns-in-Ok-clause-value : goal.returns-in-Ok-clause-value
+returns-in-Ok-clause-value c =
     let words = map string_bytes c.args.words.now in
     let app_is : app_of c.in_ok-command.command ≡ app = c.in_ok-command.ensures.app in
     let found : subcommand_rows_of c.in-Ok.matches ≡ subcommand_of app words =
     (c.in-Ok.ensures.matches (ap is_simple app_is ∙ app_is_simple)).1 ∙ ap (λ (a : App). subcommand_of a words) app_is in
     let faultless : fault_of app words ≡ [] =
     sym (ap (λ (a : App). fault_of a words) app_is) ∙ c.in-Ok.ensures.kinds (ap is_simple_and_free app_is ∙ app_is_free) in
-    IfOk-weaker c.in_match.result _ _ (λ r h. h ∙ ap in_match found ∙ sym (ap (λ (ks : Kinds). if_faultless ks (in_match (subcommand_of app words))) faultless)) c.in_match.ensures
+    IfOk-weaker c.in_match.result _ _ (λ r h. h ∙ ap in_match found ∙ sym (ap (λ (ks : Kinds). if_faultless ks (in_match (subcommand_of app words))) faultless)) c.in_match.ensures.value
 
-pub returns : goal.returns
-returns c =
+pub returns-clause-value : goal.returns-clause-value
+returns-clause-value c =
     let words = map string_bytes c.args.words.now in
     let app_is : app_of c.in_ok-command.command ≡ app = c.in_ok-command.ensures.app in
     let fault = c.in-Err.ensures.kinds (ap is_simple_and_free app_is ∙ app_is_free) in

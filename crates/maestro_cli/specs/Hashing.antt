@@ -1,0 +1,39 @@
+-- The line of a hash: the hash of a packet between two ends, its table index, and its queue.
+use Rattle.std.specs.Prelude.{ℕ, List, ◌++◌, Some, codes, decimal, unwrap_or}
+use Rattle.std.specs.Int.{w32, to_be_bytes}
+use Rattle.hex.specs.Hex.{encode_lower}
+use Rattle.nf_base.specs.declared.packet.Fields.{Fields}
+use Rattle.toeplitz_hash.specs.declared.key.TheConstants.{DEFAULT_KEY}
+use Rattle.toeplitz_hash.specs.Toeplitz.{toeplitz_of}
+use Rattle.toeplitz_hash.specs.Packets.{input_bytes}
+use Rattle.rss_table.specs.Tables.{table_index, even_table, queue_at}
+use Rattle.command_words.specs.Texts.{Endpoint}
+use Rattle.command_words.specs.Commands.{Hash}
+
+-- the fields of a packet between two ends; the others are not hashed
+abbrev pub fields_between : Endpoint → Endpoint → Fields
+fields_between source destination = record {
+  length = 0;
+  src_mac = 0;
+  dst_mac = 0;
+  src_ip = source.address;
+  dst_ip = destination.address;
+  proto = 0;
+  ttl = 0;
+  src_port = source.port;
+  dst_port = destination.port;
+}
+
+-- the hash under the given key, or the default one
+abbrev pub hash_value : Hash → ℕ
+hash_value c = toeplitz_of (unwrap_or c.key DEFAULT_KEY) (input_bytes (fields_between c.source c.destination))
+
+-- 8 hexadecimal digits, the table index, and the queue of so many workers' queues
+abbrev pub line_of : ℕ → ℕ → List ℕ
+line_of hash workers =
+    encode_lower (to_be_bytes w32 hash) ++ codes " " ++ decimal (table_index hash)
+    ++ codes " " ++ decimal (queue_at (even_table workers) (Some hash)) ++ codes "\n"
+
+-- what is printed of a hash
+abbrev pub hash_line : Hash → List ℕ
+hash_line c = line_of (hash_value c) c.workers
