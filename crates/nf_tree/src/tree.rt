@@ -1,42 +1,50 @@
-//! The syntax tree of a network function. Names are ASCII bytes, numbers are 64 bits.
+//! Statements hold what stands before them, so a block is built along its text.
 
+use crate::place::{Literal, Name};
 use nf_base::packet::Field;
 use nf_base::seq::Seq;
+use nf_tokens::Place;
 
 /// A value of a handler's text.
 #[derive(Drop)]
 pub enum Expr {
-    Number(u64),
-    Field(Field),
+    Number(Literal),
+    Field { field: Field, place: Place },
 }
 
 /// A value that is given to a name.
 #[derive(Drop)]
 pub struct Given {
-    pub name: Seq<u8>,
+    pub name: Name,
     pub value: Expr,
 }
 
 /// A label of a map, with its width in bits.
 #[derive(Drop)]
 pub struct Label {
-    pub name: Seq<u8>,
-    pub width: u64,
+    pub name: Name,
+    pub width: Literal,
 }
 
 /// A map of a chain, from the values of its labels to an index.
 #[derive(Drop)]
 pub struct MapTree {
-    pub name: Seq<u8>,
+    /// Where the word `map` stands.
+    pub place: Place,
+    pub name: Name,
     pub labels: Seq<Label>,
+    /// Where the `)` behind the labels stands.
+    pub close: Place,
 }
 
 /// A chain of `size` indices; entries are given up by age, the lifetime in nanoseconds.
 #[derive(Drop)]
 pub struct ChainTree {
-    pub name: Seq<u8>,
-    pub size: u64,
-    pub lifetime: u64,
+    /// Where the word `chain` stands.
+    pub place: Place,
+    pub name: Name,
+    pub size: Literal,
+    pub lifetime: Literal,
     pub map: MapTree,
 }
 
@@ -51,24 +59,30 @@ pub enum Block {
     Missing,
     Touch {
         before: Box<Block>,
-        variable: Seq<u8>,
+        variable: Name,
     },
-    /// Looks a key up in a map of a chain.
+    /// Looks a key up in a map of a chain. `place` is that of the word `get`, `close` that of the `)`
+    /// behind the key.
     Get {
         before: Box<Block>,
-        variable: Seq<u8>,
-        chain: Seq<u8>,
-        map: Seq<u8>,
+        place: Place,
+        variable: Name,
+        chain: Name,
+        map: Name,
         key: Seq<Expr>,
+        close: Place,
         hit: Box<Block>,
         miss: Box<Block>,
     },
-    /// Makes an entry of a chain, with values for its labels.
+    /// Makes an entry of a chain, with values for its labels. `place` is that of the word `new`, `close`
+    /// that of the `)` behind the values.
     New {
         before: Box<Block>,
-        variable: Seq<u8>,
-        chain: Seq<u8>,
+        place: Place,
+        variable: Name,
+        chain: Name,
         given: Seq<Given>,
+        close: Place,
         made: Box<Block>,
         taken: Box<Block>,
         full: Box<Block>,
@@ -97,18 +111,22 @@ impl Drop for Block {
                 } => self = Box::into_inner(before),
                 Block::Get {
                     before,
+                    place: _,
                     variable: _,
                     chain: _,
                     map: _,
                     key: _,
+                    close: _,
                     hit: _,
                     miss: _,
                 } => self = Box::into_inner(before),
                 Block::New {
                     before,
+                    place: _,
                     variable: _,
                     chain: _,
                     given: _,
+                    close: _,
                     made: _,
                     taken: _,
                     full: _,
@@ -123,15 +141,19 @@ impl Drop for Block {
 /// The handler of a port.
 #[derive(Drop)]
 pub struct HandlerTree {
-    pub port: u64,
+    /// Where the word `on` stands.
+    pub place: Place,
+    pub port: Literal,
     pub block: Block,
 }
 
 /// A network function's text: its chains, then its handlers, each in text order.
 #[derive(Drop)]
 pub struct Tree {
-    pub name: Seq<u8>,
-    pub ports: u64,
+    pub name: Name,
+    pub ports: Literal,
     pub chains: Seq<ChainTree>,
     pub handlers: Seq<HandlerTree>,
+    /// Where the last `}` stands.
+    pub end: Place,
 }
