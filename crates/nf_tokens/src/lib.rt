@@ -7,5 +7,5 @@ mod number;
 mod token;
 mod word;
 
-pub use lexer::tokens;
-pub use token::{Place, Placed, Sign, Token};
+pub use lexer::{end_of, tokens};
+pub use token::{Flaw, Place, Placed, Sign, Token};
