@@ -1,16 +1,14 @@
--- The table of what may come, over marked tokens.
+-- The table of what may come, over marked items.
 use Rattle.std.proofs.Common.{◌≡◌, ◌∙◌, ◌∷◌, ℕ, Bool, true, false, Option, Some, None, List, [], refl, ap, nat_eq}
 use Rattle.nf_tokens.specs.Signs.{number_of}
 use Rattle.nf_tokens.specs.declared.token.Placed.{Placed}
-use Rattle.nf_tokens.specs.declared.token.Place as places
-use Rattle.nf_tokens.specs.declared.token.Token.{Token}
-use Rattle.nf_tokens.specs.declared.token.Token.TheVariants as tokens
 use Rattle.nf_tokens.specs.declared.token.Sign.{Sign}
 use Rattle.nf_tokens.specs.declared.token.Sign.TheVariants as signs
-use Rattle.nf_syntax.specs.Tree.{Tree, Block, Missing}
-use Rattle.nf_syntax.specs.Grammar.{Marked}
-use Rattle.nf_syntax.specs.Machine.{Place, OptionalAt, BlockAt, Row, Go, No, go_or, step, finished, ended, judged, run, Verdict, Accepted}
-use Rattle.nf_syntax.specs.Language.{unmarked}
+use Rattle.nf_tree.specs.declared.tree.Label.{Label}
+use Rattle.nf_tree.specs.declared.tree.ChainTree.{ChainTree}
+use Rattle.nf_tree.specs.Tree.{Tree, Expression, Given, Block, Missing}
+use Rattle.nf_syntax.specs.Items.{Item, AName, ANumber, AField, ASign, AWord, AJoin, Unfit, item, Marked, unmarked}
+use Rattle.nf_syntax.specs.Machine.{Place, MoreAt, MoreGivenAt, MoreLabelsAt, OptionalAt, BlockAt, ChainsAt, Row, Go, No, go_or, step, finished, ended, judged, run, Verdict, Accepted}
 
 abbrev pub agree : Bool → Bool → Option Tree → Option Tree
 agree true true o = o
@@ -25,43 +23,91 @@ abbrev pub on_row : Row → Bool → (Place → Option Tree) → Option Tree
 on_row (Go past place) mark next = agree past mark (next place)
 on_row No mark next = None
 
--- the block of these tokens with these marks, where they have one
+-- the tree of these items with these marks, where they have one
 abbrev pub goes : Place → List Marked → Option Tree
 goes place [] = finished place
-goes place (m ∷ ms) = on_row (step place m.token) m.past (λ next. goes next ms)
+goes place (m ∷ ms) = on_row (step place m.item) m.past (λ next. goes next ms)
 
--- another token than this sign, and tokens that do not begin with it
-abbrev pub IsOther : Sign → Token → Type 0
-IsOther word (tokens.Sign t) = nat_eq (number_of t) (number_of word) ≡ false
-IsOther word t = Unit {0}
+-- an item that nothing which may be left out begins with
+abbrev pub IsFirmItem : Item → Type 0
+IsFirmItem (AJoin s) = ⊥
+IsFirmItem (AWord signs.Chain at) = ⊥
+IsFirmItem i = Unit {0}
+
+abbrev pub IsFirm : List Marked → Type 0
+IsFirm [] = Unit {0}
+IsFirm (m ∷ ms) = IsFirmItem m.item
+
+-- another item than this word of an optional block, and items that do not begin with it
+abbrev pub IsOther : Sign → Item → Type 0
+IsOther s (AJoin t) = nat_eq (number_of t) (number_of s) ≡ false
+IsOther s i = Unit {0}
 
 abbrev pub Misses : Sign → List Marked → Type 0
-Misses word [] = Unit {0}
-Misses word (m ∷ ms) = IsOther word m.token
+Misses s [] = Unit {0}
+Misses s (m ∷ ms) = IsOther s m.item
 
-step_other : (word : Sign) (room : ℕ) (k : Block → Place) (t : Token) → IsOther word t → step (OptionalAt word room k) t ≡ step (k Missing) t
-step_other word room k (tokens.Sign t) h = ap (λ b. go_or b (BlockAt room k) (step (k Missing) (tokens.Sign t))) h
-step_other word room k t h = refl
+other : (s : Sign) (i : Item) → IsFirmItem i → IsOther s i
+other s (AJoin t) h = absurd h
+other s i h = tt
 
-pub skip_optional : (word : Sign) (room : ℕ) (k : Block → Place) (ms : List Marked) → Misses word ms → goes (OptionalAt word room k) ms ≡ goes (k Missing) ms
-skip_optional word room k [] h = refl
-skip_optional word room k (m ∷ ms) h = ap (λ row. on_row row m.past (λ next. goes next ms)) (step_other word room k m.token h)
+pub misses : (s : Sign) (ms : List Marked) → IsFirm ms → Misses s ms
+misses s [] h = tt
+misses s (m ∷ ms) h = other s m.item h
 
--- nothing that may begin with a word of an optional block
-pub record NoOptional (ms : List Marked) : Type 0 where
-  pub no_else : Misses signs.Else ms
-  pub no_taken : Misses signs.Taken ms
-  pub no_full : Misses signs.Full ms
+step_other : (s : Sign) (room : ℕ) (k : Block → Place) (i : Item) → IsOther s i → step (OptionalAt s room k) i ≡ step (k Missing) i
+step_other s room k (AJoin t) h = ap (λ b. go_or b (BlockAt room k) (step (k Missing) (AJoin t))) h
+step_other s room k i h = refl
 
-pub goes_go : (place : Place) (t : Token) (past : Bool) (next : Place) (ms : List Marked) →
-    step place t ≡ Go past next → goes place (record { token = t; past = past } ∷ ms) ≡ goes next ms
-goes_go place t past next ms h = ap (λ row. on_row row past (λ n. goes n ms)) h ∙ agree_itself past (goes next ms)
+step_more : (vs : List Expression) (k : List Expression → Place) (i : Item) → IsFirmItem i → step (MoreAt vs k) i ≡ step (k vs) i
+step_more vs k (AJoin t) h = absurd h
+step_more vs k i h = refl
 
-pub goes_no : (place : Place) (t : Token) (past : Bool) (ms : List Marked) →
-    step place t ≡ No → goes place (record { token = t; past = past } ∷ ms) ≡ None
-goes_no place t past ms h = ap (λ row. on_row row past (λ n. goes n ms)) h
+step_more_given : (gs : List Given) (k : List Given → Place) (i : Item) → IsFirmItem i → step (MoreGivenAt gs k) i ≡ step (k gs) i
+step_more_given gs k (AJoin t) h = absurd h
+step_more_given gs k i h = refl
 
-accepted_row : (row : Row) (p : places.Place) (tree : Tree) (g : Place → Option Tree) (r : Place → Verdict) →
+step_more_labels : (ls : List Label) (k : List Label → Place) (i : Item) → IsFirmItem i → step (MoreLabelsAt ls k) i ≡ step (k ls) i
+step_more_labels ls k (AJoin t) h = absurd h
+step_more_labels ls k i h = refl
+
+step_chains : (k : List ChainTree → Place) (i : Item) → IsFirmItem i → step (ChainsAt k) i ≡ step (k []) i
+step_chains k (AWord signs.Chain at) h = absurd h
+step_chains k i h = refl
+
+-- two places that go on alike with this item
+alike : (at by : Place) (m : Marked) (ms : List Marked) → step at m.item ≡ step by m.item → goes at (m ∷ ms) ≡ goes by (m ∷ ms)
+alike at by m ms h = ap (λ row. on_row row m.past (λ next. goes next ms)) h
+
+pub skip_optional : (s : Sign) (room : ℕ) (k : Block → Place) (ms : List Marked) → Misses s ms → goes (OptionalAt s room k) ms ≡ goes (k Missing) ms
+skip_optional s room k [] h = refl
+skip_optional s room k (m ∷ ms) h = alike (OptionalAt s room k) (k Missing) m ms (step_other s room k m.item h)
+
+pub skip_more : (vs : List Expression) (k : List Expression → Place) (ms : List Marked) → IsFirm ms → goes (MoreAt vs k) ms ≡ goes (k vs) ms
+skip_more vs k [] h = refl
+skip_more vs k (m ∷ ms) h = alike (MoreAt vs k) (k vs) m ms (step_more vs k m.item h)
+
+pub skip_more_given : (gs : List Given) (k : List Given → Place) (ms : List Marked) → IsFirm ms → goes (MoreGivenAt gs k) ms ≡ goes (k gs) ms
+skip_more_given gs k [] h = refl
+skip_more_given gs k (m ∷ ms) h = alike (MoreGivenAt gs k) (k gs) m ms (step_more_given gs k m.item h)
+
+pub skip_more_labels : (ls : List Label) (k : List Label → Place) (ms : List Marked) → IsFirm ms → goes (MoreLabelsAt ls k) ms ≡ goes (k ls) ms
+skip_more_labels ls k [] h = refl
+skip_more_labels ls k (m ∷ ms) h = alike (MoreLabelsAt ls k) (k ls) m ms (step_more_labels ls k m.item h)
+
+pub skip_chains : (k : List ChainTree → Place) (ms : List Marked) → IsFirm ms → goes (ChainsAt k) ms ≡ goes (k []) ms
+skip_chains k [] h = refl
+skip_chains k (m ∷ ms) h = alike (ChainsAt k) (k []) m ms (step_chains k m.item h)
+
+pub goes_go : (place : Place) (i : Item) (past : Bool) (next : Place) (ms : List Marked) →
+    step place i ≡ Go past next → goes place (record { item = i; past = past } ∷ ms) ≡ goes next ms
+goes_go place i past next ms h = ap (λ row. on_row row past (λ n. goes n ms)) h ∙ agree_itself past (goes next ms)
+
+pub goes_no : (place : Place) (i : Item) (past : Bool) (ms : List Marked) →
+    step place i ≡ No → goes place (record { item = i; past = past } ∷ ms) ≡ None
+goes_no place i past ms h = ap (λ row. on_row row past (λ n. goes n ms)) h
+
+accepted_row : (row : Row) (p : Placed) (tree : Tree) (g : Place → Option Tree) (r : Place → Verdict) →
     ((place : Place) → g place ≡ Some tree → r place ≡ Accepted tree) →
     on_row row false g ≡ Some tree → judged row p r ≡ Accepted tree
 accepted_row (Go true place) p tree g r f h = cc
@@ -71,10 +117,10 @@ accepted_row No p tree g r f h = cc
 -- what goes through without a mark is accepted
 pub accepted : (place : Place) (ps : List Placed) (tree : Tree) → goes place (unmarked ps) ≡ Some tree → run place ps ≡ Accepted tree
 accepted place [] tree h = ap ended h
-accepted place (p ∷ ps) tree h = accepted_row (step place p.token) p.place tree (λ next. goes next (unmarked ps)) (λ next. run next ps)
+accepted place (p ∷ ps) tree h = accepted_row (step place (item p.token p.place)) p tree (λ next. goes next (unmarked ps)) (λ next. run next ps)
     (λ next. accepted next ps tree) h
 
-went_row : (row : Row) (p : places.Place) (tree : Tree) (g : Place → Option Tree) (r : Place → Verdict) →
+went_row : (row : Row) (p : Placed) (tree : Tree) (g : Place → Option Tree) (r : Place → Verdict) →
     ((place : Place) → r place ≡ Accepted tree → g place ≡ Some tree) →
     judged row p r ≡ Accepted tree → on_row row false g ≡ Some tree
 went_row (Go true place) p tree g r f h = cc
@@ -88,5 +134,5 @@ went_end (Some t) tree h = cc
 -- what is accepted goes through without a mark
 pub went : (place : Place) (ps : List Placed) (tree : Tree) → run place ps ≡ Accepted tree → goes place (unmarked ps) ≡ Some tree
 went place [] tree h = went_end (finished place) tree h
-went place (p ∷ ps) tree h = went_row (step place p.token) p.place tree (λ next. goes next (unmarked ps)) (λ next. run next ps)
+went place (p ∷ ps) tree h = went_row (step place (item p.token p.place)) p tree (λ next. goes next (unmarked ps)) (λ next. run next ps)
     (λ next. went next ps tree) h

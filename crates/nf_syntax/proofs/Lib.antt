@@ -1,8 +1,13 @@
 pub mod SameSign
 pub mod Steps
 pub mod Going
+pub mod Live
 pub mod CompleteLists
 pub mod Complete
+pub mod SoundTokens
 pub mod SoundLists
+pub mod SoundBlocks
 pub mod Sound
 pub mod First
+pub mod Marks
+pub mod Explained

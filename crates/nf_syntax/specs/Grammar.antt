@@ -1,12 +1,15 @@
 -- The grammar: what each tree is spelled like, and which trees are well formed.
-use Rattle.std.specs.Prelude.{ℕ, ◌-◌, Bool, false, List, [], ◌∷◌, ◌++◌, ◌==◌}
+use Rattle.std.specs.Prelude.{ℕ, ◌-◌, List, [], ◌∷◌, ◌++◌, ◌==◌}
+use Rattle.nf_tokens.specs.declared.token.Place as places
 use Rattle.nf_tokens.specs.declared.token.Sign.{Sign}
 use Rattle.nf_tokens.specs.declared.token.Sign.TheVariants as signs
-use Rattle.nf_tokens.specs.declared.token.Token.{Token}
-use Rattle.nf_tokens.specs.declared.token.Token.TheVariants as tokens
-use Rattle.nf_syntax.specs.declared.tree.Label.{Label}
-use Rattle.nf_syntax.specs.declared.tree.ChainTree.{ChainTree}
-use Rattle.nf_syntax.specs.Tree.{Expression, Number, Read, Given, Block, Start, Missing, Touch, Get, New, Forward, Discard, Handler, Tree}
+use Rattle.nf_tree.specs.declared.place.Name.{Name}
+use Rattle.nf_tree.specs.declared.place.Literal.{Literal}
+use Rattle.nf_tree.specs.declared.tree.Label.{Label}
+use Rattle.nf_tree.specs.declared.tree.MapTree.{MapTree}
+use Rattle.nf_tree.specs.declared.tree.ChainTree.{ChainTree}
+use Rattle.nf_tree.specs.Tree.{Expression, Number, Read, Given, Block, Start, Missing, Touch, Get, New, Forward, Discard, Handler, Tree}
+use Rattle.nf_syntax.specs.Items.{AField, ASign, Marked, plain, sign, word, join, name, number}
 
 -- what stands at a place of the grammar: statements that more may follow, a body, a body or nothing
 pub data Kind : Type 0 where
@@ -24,8 +27,8 @@ Is kind Start = Unit {0}
 Is Optional Missing = Unit {0}
 Is kind Missing = ⊥
 Is kind (Touch b x) = Is Opened b
-Is kind (Get b x c m key hit miss) = Is Opened b × IsNotEmpty key × Is Body hit × Is Optional miss
-Is kind (New b x c gs made taken full) = Is Opened b × Is Body made × Is Optional taken × Is Optional full
+Is kind (Get b at x c m key close hit miss) = Is Opened b × IsNotEmpty key × Is Body hit × Is Optional miss
+Is kind (New b at x c gs close made taken full) = Is Opened b × Is Body made × Is Optional taken × Is Optional full
 Is Opened (Forward b v) = ⊥
 Is kind (Forward b v) = Is Opened b
 Is Opened (Discard b) = ⊥
@@ -44,31 +47,14 @@ AreHandlers (h ∷ hs) = Is Body h.block × AreHandlers hs
 abbrev pub IsText : Tree → Type 0
 IsText t = AreChains t.chains × AreHandlers t.handlers
 
--- a token, and whether it passes the limit of open blocks
-pub record Marked : Type 0 where
-  pub token : Token
-  pub past : Bool
-
-abbrev pub plain : Token → Marked
-plain t = record { token = t; past = false }
-
-abbrev pub sign : Sign → Marked
-sign s = plain (tokens.Sign s)
-
-abbrev pub name : List ℕ → Marked
-name x = plain (tokens.Name x)
-
-abbrev pub number : ℕ → Marked
-number n = plain (tokens.Number n)
-
 abbrev pub value : Expression → Marked
-value (Number n) = plain (tokens.Number n)
-value (Read field) = plain (tokens.Field field)
+value (Number n) = number n
+value (Read field at) = plain (AField field at)
 
 -- what follows the first of several, each behind a comma
 abbrev pub values_more : List Expression → List Marked
 values_more [] = []
-values_more (v ∷ vs) = sign signs.Comma ∷ value v ∷ values_more vs
+values_more (v ∷ vs) = join signs.Comma ∷ value v ∷ values_more vs
 
 abbrev pub values : List Expression → List Marked
 values [] = []
@@ -76,7 +62,7 @@ values (v ∷ vs) = value v ∷ values_more vs
 
 abbrev pub given_more : List Given → List Marked
 given_more [] = []
-given_more (g ∷ gs) = sign signs.Comma ∷ name g.name ∷ sign signs.Assign ∷ value g.value ∷ given_more gs
+given_more (g ∷ gs) = join signs.Comma ∷ name g.name ∷ sign signs.Assign ∷ value g.value ∷ given_more gs
 
 abbrev pub given : List Given → List Marked
 given [] = []
@@ -84,7 +70,7 @@ given (g ∷ gs) = name g.name ∷ sign signs.Assign ∷ value g.value ∷ given
 
 abbrev pub labels_more : List Label → List Marked
 labels_more [] = []
-labels_more (l ∷ ls) = sign signs.Comma ∷ name l.name ∷ sign signs.Colon ∷ number l.width ∷ labels_more ls
+labels_more (l ∷ ls) = join signs.Comma ∷ name l.name ∷ sign signs.Colon ∷ number l.width ∷ labels_more ls
 
 abbrev pub labels : List Label → List Marked
 labels [] = []
@@ -92,17 +78,17 @@ labels (l ∷ ls) = name l.name ∷ sign signs.Colon ∷ number l.width ∷ labe
 
 -- braces round the tokens of a body, where so many more blocks may be open
 abbrev pub braced : ℕ → List Marked → List Marked
-braced room inside = record { token = tokens.Sign signs.OpenBrace; past = room == 0 } ∷ (inside ++ sign signs.CloseBrace ∷ [])
+braced room inside = record { item = ASign signs.OpenBrace; past = room == 0 } ∷ (inside ++ sign signs.CloseBrace ∷ [])
 
 -- a block behind its word, or nothing
 abbrev pub optional : Sign → ℕ → Block → List Marked → List Marked
-optional word room Missing inside = []
-optional word room written inside = sign word ∷ braced room inside
+optional s room Missing inside = []
+optional s room written inside = join s ∷ braced room inside
 
-abbrev pub get_head : List ℕ → List ℕ → List ℕ → List Marked
+abbrev pub get_head : Name → Name → Name → List Marked
 get_head x c m = name x ∷ sign signs.Assign ∷ name c ∷ sign signs.Dot ∷ name m ∷ sign signs.OpenParenthesis ∷ []
 
-abbrev pub new_head : List ℕ → List ℕ → List Marked
+abbrev pub new_head : Name → Name → List Marked
 new_head x c = name x ∷ sign signs.Assign ∷ name c ∷ sign signs.OpenParenthesis ∷ []
 
 -- the tokens of a body, where so many more blocks may be open in it
@@ -110,11 +96,11 @@ abbrev pub body : ℕ → Block → List Marked
 body room Start = []
 body room Missing = []
 body room (Touch b x) = body room b ++ sign signs.Touch ∷ name x ∷ sign signs.Semicolon ∷ []
-body room (Get b x c m key hit miss) = body room b ++ (sign signs.Get ∷ get_head x c m
-    ++ (values key ++ (sign signs.CloseParenthesis ∷ []
+body room (Get b at x c m key close hit miss) = body room b ++ (word signs.Get at ∷ get_head x c m
+    ++ (values key ++ (word signs.CloseParenthesis close ∷ []
     ++ (braced room (body (room - 1) hit) ++ optional signs.Else room miss (body (room - 1) miss)))))
-body room (New b x c gs made taken full) = body room b ++ (sign signs.New ∷ new_head x c
-    ++ (given gs ++ (sign signs.CloseParenthesis ∷ []
+body room (New b at x c gs close made taken full) = body room b ++ (word signs.New at ∷ new_head x c
+    ++ (given gs ++ (word signs.CloseParenthesis close ∷ []
     ++ (braced room (body (room - 1) made) ++ (optional signs.Taken room taken (body (room - 1) taken)
     ++ optional signs.Full room full (body (room - 1) full))))))
 body room (Forward b v) = body room b ++ sign signs.Forward ∷ value v ∷ sign signs.Semicolon ∷ []
@@ -122,21 +108,21 @@ body room (Discard b) = body room b ++ sign signs.Discard ∷ sign signs.Semicol
 
 abbrev pub chain_head : ChainTree → List Marked
 chain_head c = name c.name ∷ number c.size ∷ sign signs.Lifetime ∷ number c.lifetime ∷ sign signs.OpenBrace
-    ∷ sign signs.Map ∷ name c.map.name ∷ sign signs.OpenParenthesis ∷ []
+    ∷ word signs.Map c.map.place ∷ name c.map.name ∷ sign signs.OpenParenthesis ∷ []
 
-abbrev pub chain_tail : List Marked
-chain_tail = sign signs.CloseParenthesis ∷ sign signs.Semicolon ∷ sign signs.CloseBrace ∷ []
+abbrev pub chain_tail : MapTree → List Marked
+chain_tail m = word signs.CloseParenthesis m.close ∷ sign signs.Semicolon ∷ sign signs.CloseBrace ∷ []
 
 abbrev pub chains : List ChainTree → List Marked
 chains [] = []
-chains (c ∷ cs) = sign signs.Chain ∷ chain_head c ++ (labels c.map.labels ++ (chain_tail ++ chains cs))
+chains (c ∷ cs) = word signs.Chain c.place ∷ chain_head c ++ (labels c.map.labels ++ (chain_tail c.map ++ chains cs))
 
 -- at most 64 blocks are open
 abbrev pub handlers : List Handler → List Marked
 handlers [] = []
-handlers (h ∷ hs) = sign signs.On ∷ number h.port ∷ braced 64 (body 63 h.block) ++ handlers hs
+handlers (h ∷ hs) = word signs.On h.place ∷ number h.port ∷ braced 64 (body 63 h.block) ++ handlers hs
 
-abbrev pub text_head : List ℕ → ℕ → List Marked
+abbrev pub text_head : Name → Literal → List Marked
 text_head x ports = sign signs.Nf ∷ name x ∷ sign signs.OpenBrace ∷ sign signs.Ports ∷ number ports ∷ sign signs.Semicolon ∷ []
 
 -- the tokens of a whole text

@@ -1,5 +1,4 @@
-pub mod Tree
-pub mod View
+pub mod Items
 pub mod Grammar
 pub mod Machine
 pub mod Reads

@@ -1,13 +1,15 @@
 -- What a function of the parser answers, beside the table of what may come.
 use Rattle.std.specs.Prelude.{◌≡◌, ◌<◌, ◌≤◌, length, List, ℕ, Result, Ok, Err}
+use Rattle.nf_tokens.specs.Tokens.{start}
 use Rattle.nf_tokens.specs.declared.token.Placed.{Placed}
 use Rattle.nf_syntax.specs.declared.fault.Stop.{Stop}
 use Rattle.nf_syntax.specs.declared.fault.Stop.TheVariants as stops
-use Rattle.nf_syntax.specs.Tree.{Block, Tree}
+use Rattle.nf_tree.specs.Tree.{Block, Tree}
 use Rattle.nf_syntax.specs.Machine.{Place, BodyAt, Verdict, Accepted, Stuck, Past, Short, run, whole}
+use Rattle.nf_syntax.specs.Language.{last_place}
 
 abbrev pub Fails : Stop → Verdict → Type 0
-Fails (stops.Stuck p) v = v ≡ Stuck p
+Fails (stops.Stuck kind p) v = v ≡ Stuck kind p
 Fails (stops.Past p) v = v ≡ Past p
 Fails stops.Short v = v ≡ Short
 Fails stops.Memory v = Unit {0}
@@ -32,12 +34,10 @@ abbrev pub Passes : {X : Type 0} → (Place → Place) → (X → List Placed) �
 Passes wanted rest (Ok x) ps = (length (rest x) < length ps) × ((k : Place) → run (wanted k) ps ≡ run k (rest x))
 Passes wanted rest (Err e) ps = (k : Place) → Fails e (run (wanted k) ps)
 
-abbrev pub Answers : {X : Type 0} → (X → Tree) → Result X Stop → List Placed → Type 0
-Answers view (Ok x) ps = run whole ps ≡ Accepted (view x)
-Answers view (Err e) ps = Fails e (run whole ps)
+-- a tree without where it ends
+abbrev pub without_end : Tree → Tree
+without_end t = record { name = t.name; ports = t.ports; chains = t.chains; handlers = t.handlers; end = start }
 
--- this tree was answered, or memory ran out
-abbrev pub Finds : {X : Type 0} → (X → Tree) → Tree → Result X Stop → Type 0
-Finds view tree (Ok x) = view x ≡ tree
-Finds view tree (Err stops.Memory) = Unit {0}
-Finds view tree (Err e) = ⊥
+abbrev pub Answers : {X : Type 0} → (X → Tree) → Result X Stop → List Placed → Type 0
+Answers view (Ok x) ps = (run whole ps ≡ Accepted (without_end (view x))) × ((view x).end ≡ last_place start ps)
+Answers view (Err e) ps = Fails e (run whole ps)

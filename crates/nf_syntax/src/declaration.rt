@@ -1,24 +1,26 @@
 //! Chains, handlers, and a whole text.
 
 ghost use Rattle.std.specs.Prelude.{◌≡◌, map};
-ghost use Rattle.nf_syntax.specs.Machine.{ChainsAt, map_head_at, chain_head_at, chain_at, only_chain_at, handler_at, text_head_at, no_handlers_yet};
+ghost use Rattle.nf_tokens.specs.Tokens.{start};
+ghost use Rattle.nf_tree.specs.View.{handler_of, tree_of};
+ghost use Rattle.nf_syntax.specs.Language.{last_place};
+ghost use Rattle.nf_syntax.specs.Machine.{ChainsAt, chain_head_at, map_at, chain_at, only_chain_at, handler_at, text_head_at, no_handlers_yet};
 ghost use Rattle.nf_syntax.specs.Reads.{Reads, ReadsOn, Answers};
-ghost use Rattle.nf_syntax.specs.View.{handler_of, tree_of};
 
-use crate::fault::Stop;
+use crate::fault::{Stop, stuck};
 use crate::head::{ChainHead, TextHead};
 use crate::list::labels;
-use crate::single::{name, number, sign};
+use crate::single::{close, map_word, name, number, sign};
 use crate::statement::block;
-use crate::tree::{ChainTree, HandlerTree, MapTree, Tree};
 use nf_base::seq::Seq;
-use nf_tokens::{Placed, Sign, Token};
+use nf_tokens::{Place, Placed, Sign, Token};
+use nf_tree::{ChainTree, HandlerTree, MapTree, Tree};
 use std::alloc::Global;
 
 /// How many blocks may be open.
 const DEEPEST: u32 = 64;
 
-/// The name, the size and the lifetime of a chain.
+/// The name, the size and the lifetime of a chain, up to its `{`.
 fn chain_head(alloc: Global, tokens: &[Placed]) -> Result<(ChainHead, &[Placed]), Stop>
     ensures { Reads chain_head_at (λ x. x.0) (λ x. x.1.now) result tokens.now }
 {
@@ -26,6 +28,7 @@ fn chain_head(alloc: Global, tokens: &[Placed]) -> Result<(ChainHead, &[Placed])
     let (size, rest) = number(rest)?;
     let rest = sign(rest, Sign::Lifetime)?;
     let (lifetime, rest) = number(rest)?;
+    let rest = sign(rest, Sign::OpenBrace)?;
     Ok((
         ChainHead {
             name,
@@ -36,24 +39,31 @@ fn chain_head(alloc: Global, tokens: &[Placed]) -> Result<(ChainHead, &[Placed])
     ))
 }
 
-/// The name of a chain's map, from the chain's `{` to the map's `(`.
-fn map_head(alloc: Global, tokens: &[Placed]) -> Result<(Seq<u8>, &[Placed]), Stop>
-    ensures { Reads map_head_at (λ x. x.0) (λ x. x.1.now) result tokens.now }
+/// A map behind its word, which stands at `place`.
+fn map(alloc: Global, place: Place, tokens: &[Placed]) -> Result<(MapTree, &[Placed]), Stop>
+    ensures { Reads (λ k. map_at place k) (λ x. x.0) (λ x. x.1.now) result tokens.now }
 {
-    let rest = sign(tokens, Sign::OpenBrace)?;
-    let rest = sign(rest, Sign::Map)?;
-    let (name, rest) = name(alloc, rest)?;
+    let (name, rest) = name(alloc, tokens)?;
     let rest = sign(rest, Sign::OpenParenthesis)?;
-    Ok((name, rest))
+    let (labels, rest) = labels(alloc, rest)?;
+    let (close, rest) = close(rest)?;
+    let rest = sign(rest, Sign::Semicolon)?;
+    let map = MapTree {
+        place,
+        name,
+        labels,
+        close,
+    };
+    Ok((map, rest))
 }
 
-fn chain(alloc: Global, tokens: &[Placed]) -> Result<(ChainTree, &[Placed]), Stop>
-    ensures { Reads chain_at (λ x. x.0) (λ x. x.1.now) result tokens.now }
+/// A chain behind its word, which stands at `place`.
+fn chain(alloc: Global, place: Place, tokens: &[Placed]) -> Result<(ChainTree, &[Placed]), Stop>
+    ensures { Reads (λ k. chain_at place k) (λ x. x.0) (λ x. x.1.now) result tokens.now }
 {
     let (head, rest) = chain_head(alloc, tokens)?;
-    let (map, rest) = map_head(alloc, rest)?;
-    let (labels, rest) = labels(alloc, rest)?;
-    let rest = sign(rest, Sign::Semicolon)?;
+    let (word, rest) = map_word(rest)?;
+    let (map, rest) = map(alloc, word, rest)?;
     let rest = sign(rest, Sign::CloseBrace)?;
     let ChainHead {
         name,
@@ -61,19 +71,24 @@ fn chain(alloc: Global, tokens: &[Placed]) -> Result<(ChainTree, &[Placed]), Sto
         lifetime,
     } = head;
     let chain = ChainTree {
+        place,
         name,
         size,
         lifetime,
-        map: MapTree { name: map, labels },
+        map,
     };
     Ok((chain, rest))
 }
 
 /// The chain alone, as a list.
-fn only_chain(alloc: Global, tokens: &[Placed]) -> Result<(Seq<ChainTree>, &[Placed]), Stop>
-    ensures { Reads only_chain_at (λ x. x.0) (λ x. x.1.now) result tokens.now }
+fn only_chain(
+    alloc: Global,
+    place: Place,
+    tokens: &[Placed],
+) -> Result<(Seq<ChainTree>, &[Placed]), Stop>
+    ensures { Reads (λ k. only_chain_at place k) (λ x. x.0) (λ x. x.1.now) result tokens.now }
 {
-    let (only, rest) = chain(alloc, tokens)?;
+    let (only, rest) = chain(alloc, place, tokens)?;
     let mut all = Seq::new(alloc);
     all.push(only)?;
     Ok((all, rest))
@@ -86,7 +101,7 @@ fn chains(alloc: Global, tokens: &[Placed]) -> Result<(Seq<ChainTree>, &[Placed]
     match tokens {
         [first, rest @ ..] => match &first.token {
             Token::Sign(Sign::Chain) => {
-                let (all, behind) = only_chain(alloc, rest)?;
+                let (all, behind) = only_chain(alloc, first.place, rest)?;
                 Ok((all, behind))
             }
             _ => Ok((Seq::new(alloc), tokens)),
@@ -95,12 +110,14 @@ fn chains(alloc: Global, tokens: &[Placed]) -> Result<(Seq<ChainTree>, &[Placed]
     }
 }
 
-fn handler(alloc: Global, tokens: &[Placed]) -> Result<(HandlerTree, &[Placed]), Stop>
-    ensures { Reads handler_at (λ x. handler_of x.0) (λ x. x.1.now) result tokens.now }
+/// A handler behind its word, which stands at `place`.
+fn handler(alloc: Global, place: Place, tokens: &[Placed]) -> Result<(HandlerTree, &[Placed]), Stop>
+    ensures { Reads (λ k. handler_at place k) (λ x. handler_of x.0) (λ x. x.1.now) result tokens.now }
 {
     let (port, rest) = number(tokens)?;
     let (block, rest) = block(alloc, rest, DEEPEST)?;
-    Ok((HandlerTree { port, block }, rest))
+    let handler = HandlerTree { place, port, block };
+    Ok((handler, rest))
 }
 
 /// The handlers up to the `}` of the text.
@@ -112,12 +129,12 @@ fn handlers(alloc: Global, tokens: &[Placed]) -> Result<(Seq<HandlerTree>, &[Pla
     'handlers: while let [first, after @ ..] = rest {
         match &first.token {
             Token::Sign(Sign::On) => {
-                let (another, behind) = handler(alloc, after)?;
+                let (another, behind) = handler(alloc, first.place, after)?;
                 all.push(another)?;
                 rest = behind;
             }
             Token::Sign(Sign::CloseBrace) => return Ok((all, after)),
-            _ => return Err(Stop::Stuck(first.place)),
+            _ => return Err(stuck(first)),
         }
     }
     Err(Stop::Short)
@@ -136,6 +153,17 @@ fn text_head(alloc: Global, tokens: &[Placed]) -> Result<(TextHead, &[Placed]), 
     Ok((TextHead { name, ports }, rest))
 }
 
+/// Where the last token stands.
+fn last_place(tokens: &[Placed]) -> Place
+    ensures { result ≡ last_place start tokens.now }
+{
+    let mut place = Place { line: 1, column: 1 };
+    for token in tokens {
+        place = token.place;
+    }
+    place
+}
+
 /// The tree that all the tokens spell.
 pub fn whole(alloc: Global, tokens: &[Placed]) -> Result<Tree, Stop>
     ensures exact { Answers tree_of result tokens.now }
@@ -149,9 +177,10 @@ pub fn whole(alloc: Global, tokens: &[Placed]) -> Result<Tree, Stop>
         ports,
         chains,
         handlers,
+        end: last_place(tokens),
     };
     match rest {
         [] => Ok(tree),
-        [first, ..] => Err(Stop::Stuck(first.place)),
+        [first, ..] => Err(stuck(first)),
     }
 }

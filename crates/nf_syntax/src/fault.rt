@@ -1,24 +1,39 @@
 //! Why a text has no tree.
 
 ghost use Rattle.std.specs.Prelude.{◌≡◌};
-ghost use Rattle.nf_syntax.specs.declared.fault.Stop.TheVariants.{Memory};
+ghost use Rattle.nf_syntax.specs.declared.fault.Stop.TheVariants.{Memory, Stuck};
+ghost use Rattle.nf_syntax.specs.Items.{kind_of};
 
-use nf_tokens::Place;
+use nf_tokens::{Flaw, Place, Placed, Token};
 use std::alloc::{AllocError, AllocFailed};
 use thiserror::Error;
 
 /// What is wrong with a text.
-#[derive(Clone, Copy, Debug, PartialEq, Eq)]
+#[derive(Clone, Copy, Debug, PartialEq, Eq, Error)]
 pub enum SyntaxKind {
-    /// The text is none of this cut of the language; the place is always 1:1.
-    N0,
+    /// A byte that begins no token; it stands there.
+    #[error("S1")]
+    Byte,
+    /// A number that is none of the three forms; its first byte.
+    #[error("S2")]
+    Number,
+    /// A token that no text of the grammar has here; its first byte.
+    #[error("S3")]
+    Token,
+    /// The text ends where more is needed; just past its last byte.
+    #[error("S4")]
+    End,
+    /// A limit is passed: by a text over 1,048,576 bytes (the place is 1:1), by a name over 32 bytes, or by
+    /// the `{` of a 65th open block.
+    #[error("S5")]
+    Limit,
 }
 
 /// Why a text gives no tree.
 #[derive(Clone, Copy, Debug, PartialEq, Eq, Error)]
 pub enum ParseFault {
-    /// Lines and columns count from 1, a column counts bytes.
-    #[error("syntax fault at {line}:{column}")]
+    /// The first fault. Lines and columns count from 1, a column counts bytes.
+    #[error("{kind} at {line}:{column}")]
     Syntax {
         kind: SyntaxKind,
         line: u32,
@@ -32,8 +47,8 @@ pub enum ParseFault {
 /// Where and why the reading of tokens stops.
 #[derive(Drop)]
 pub enum Stop {
-    /// A token that may not stand here.
-    Stuck(Place),
+    /// A token that may not stand here, and what is wrong with it.
+    Stuck(SyntaxKind, Place),
     /// A token that passes a limit.
     Past(Place),
     /// The text ends where more is needed.
@@ -56,4 +71,23 @@ impl<T: Drop> From<AllocFailed<T>> for Stop {
     fn from(_e: AllocFailed<T>) -> Stop {
         Stop::Memory
     }
+}
+
+/// What is wrong with a token that may not stand where it stands.
+fn kind_of(token: &Token) -> SyntaxKind
+    ensures { result ≡ kind_of token.now }
+{
+    match token {
+        Token::Bad(Flaw::Byte) => SyntaxKind::Byte,
+        Token::Bad(Flaw::Number) => SyntaxKind::Number,
+        Token::Bad(Flaw::Name) => SyntaxKind::Limit,
+        _ => SyntaxKind::Token,
+    }
+}
+
+/// The stop at a token that may not stand where it stands.
+pub fn stuck(first: &Placed) -> Stop
+    ensures { result ≡ Stuck (kind_of first.now.token) first.now.place }
+{
+    Stop::Stuck(kind_of(&first.token), first.place)
 }

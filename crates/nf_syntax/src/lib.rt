@@ -8,11 +8,9 @@ mod list;
 mod single;
 mod statement;
 mod text;
-mod tree;
 
 pub use fault::{ParseFault, SyntaxKind};
-pub use text::parse;
-pub use tree::{Block, ChainTree, Expr, Given, HandlerTree, Label, MapTree, Tree};
+pub use text::{one_mark, parse};
 
 #[cfg(test)]
 mod tests;

@@ -1,15 +1,15 @@
-//! Several of one kind with commas between them, up to a `)`.
+//! Several of one kind with commas between them.
 
 ghost use Rattle.std.specs.Prelude.{◌≡◌, map};
+ghost use Rattle.nf_tree.specs.View.{expression_of, given_of};
 ghost use Rattle.nf_syntax.specs.Machine.{GivenAt, values_at, some_given_at, labels_at};
-ghost use Rattle.nf_syntax.specs.Reads.{Reads};
-ghost use Rattle.nf_syntax.specs.View.{expression_of, given_of};
+ghost use Rattle.nf_syntax.specs.Reads.{Reads, ReadsOn};
 
 use crate::fault::Stop;
 use crate::single::{one_given, one_label, value};
-use crate::tree::{Expr, Given, Label};
 use nf_base::seq::Seq;
 use nf_tokens::{Placed, Sign, Token};
+use nf_tree::{Expr, Given, Label};
 use std::alloc::Global;
 
 /// The values of a key.
@@ -26,11 +26,10 @@ pub fn key(alloc: Global, tokens: &[Placed]) -> Result<(Seq<Expr>, &[Placed]), S
                 all.push(another)?;
                 rest = behind;
             }
-            Token::Sign(Sign::CloseParenthesis) => return Ok((all, after)),
-            _ => return Err(Stop::Stuck(next.place)),
+            _ => return Ok((all, rest)),
         }
     }
-    Err(Stop::Short)
+    Ok((all, rest))
 }
 
 /// What a `new` gives its labels, one at least.
@@ -47,24 +46,22 @@ fn some_given(alloc: Global, tokens: &[Placed]) -> Result<(Seq<Given>, &[Placed]
                 all.push(another)?;
                 rest = behind;
             }
-            Token::Sign(Sign::CloseParenthesis) => return Ok((all, after)),
-            _ => return Err(Stop::Stuck(next.place)),
+            _ => return Ok((all, rest)),
         }
     }
-    Err(Stop::Short)
+    Ok((all, rest))
 }
 
 /// What a `new` gives its labels, maybe nothing.
 pub fn given(alloc: Global, tokens: &[Placed]) -> Result<(Seq<Given>, &[Placed]), Stop>
-    ensures { Reads GivenAt (λ x. map given_of x.0) (λ x. x.1.now) result tokens.now }
+    ensures { ReadsOn GivenAt (λ x. map given_of x.0) (λ x. x.1.now) result tokens.now }
 {
     match tokens {
-        [] => Err(Stop::Short),
-        [first, rest @ ..] => match &first.token {
+        [first, ..] => match &first.token {
             Token::Name(_) => some_given(alloc, tokens),
-            Token::Sign(Sign::CloseParenthesis) => Ok((Seq::new(alloc), rest)),
-            _ => Err(Stop::Stuck(first.place)),
+            _ => Ok((Seq::new(alloc), tokens)),
         },
+        [] => Ok((Seq::new(alloc), tokens)),
     }
 }
 
@@ -82,9 +79,8 @@ pub fn labels(alloc: Global, tokens: &[Placed]) -> Result<(Seq<Label>, &[Placed]
                 all.push(another)?;
                 rest = behind;
             }
-            Token::Sign(Sign::CloseParenthesis) => return Ok((all, after)),
-            _ => return Err(Stop::Stuck(next.place)),
+            _ => return Ok((all, rest)),
         }
     }
-    Err(Stop::Short)
+    Ok((all, rest))
 }

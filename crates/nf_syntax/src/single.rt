@@ -1,15 +1,16 @@
 //! One token, or a few in a row.
 
 ghost use Rattle.std.specs.Prelude.{◌≡◌, IfOk};
-ghost use Rattle.nf_syntax.specs.Machine.{NameAt, NumberAt, ValueAt, SignAt, get_head_at, new_head_at, one_given_at, one_label_at};
+ghost use Rattle.nf_tree.specs.View.{expression_of, given_of};
+ghost use Rattle.nf_syntax.specs.Items.{class_of, Plain};
+ghost use Rattle.nf_syntax.specs.Machine.{NameAt, NumberAt, ValueAt, SignAt, CloseAt, MapAt, get_head_at, new_head_at, one_given_at, one_label_at};
 ghost use Rattle.nf_syntax.specs.Reads.{Reads, Passes};
-ghost use Rattle.nf_syntax.specs.View.{expression_of, given_of};
 
-use crate::fault::Stop;
+use crate::fault::{Stop, stuck};
 use crate::head::{GetHead, NewHead};
-use crate::tree::{Expr, Given, Label};
 use nf_base::seq::Seq;
-use nf_tokens::{Placed, Sign, Token};
+use nf_tokens::{Place, Placed, Sign, Token};
+use nf_tree::{Expr, Given, Label, Literal, Name};
 use std::alloc::{AllocError, Global};
 
 fn copied(alloc: Global, name: &Seq<u8>) -> Result<Seq<u8>, AllocError>
@@ -19,26 +20,39 @@ fn copied(alloc: Global, name: &Seq<u8>) -> Result<Seq<u8>, AllocError>
     Ok(Seq::from_vec(bytes))
 }
 
-pub fn name(alloc: Global, tokens: &[Placed]) -> Result<(Seq<u8>, &[Placed]), Stop>
+pub fn name(alloc: Global, tokens: &[Placed]) -> Result<(Name, &[Placed]), Stop>
     ensures { Reads NameAt (λ x. x.0) (λ x. x.1.now) result tokens.now }
 {
     match tokens {
         [] => Err(Stop::Short),
         [first, rest @ ..] => match &first.token {
-            Token::Name(found) => Ok((copied(alloc, found)?, rest)),
-            _ => Err(Stop::Stuck(first.place)),
+            Token::Name(found) => {
+                let bytes = copied(alloc, found)?;
+                let name = Name {
+                    bytes,
+                    place: first.place,
+                };
+                Ok((name, rest))
+            }
+            _ => Err(stuck(first)),
         },
     }
 }
 
-pub fn number(tokens: &[Placed]) -> Result<(u64, &[Placed]), Stop>
+pub fn number(tokens: &[Placed]) -> Result<(Literal, &[Placed]), Stop>
     ensures { Reads NumberAt (λ x. x.0) (λ x. x.1.now) result tokens.now }
 {
     match tokens {
         [] => Err(Stop::Short),
         [first, rest @ ..] => match &first.token {
-            Token::Number(found) => Ok((*found, rest)),
-            _ => Err(Stop::Stuck(first.place)),
+            Token::Number(found) => {
+                let number = Literal {
+                    value: *found,
+                    place: first.place,
+                };
+                Ok((number, rest))
+            }
+            _ => Err(stuck(first)),
         },
     }
 }
@@ -49,14 +63,28 @@ pub fn value(tokens: &[Placed]) -> Result<(Expr, &[Placed]), Stop>
     match tokens {
         [] => Err(Stop::Short),
         [first, rest @ ..] => match &first.token {
-            Token::Number(found) => Ok((Expr::Number(*found), rest)),
-            Token::Field(found) => Ok((Expr::Field(*found), rest)),
-            _ => Err(Stop::Stuck(first.place)),
+            Token::Number(found) => {
+                let number = Literal {
+                    value: *found,
+                    place: first.place,
+                };
+                Ok((Expr::Number(number), rest))
+            }
+            Token::Field(found) => {
+                let read = Expr::Field {
+                    field: *found,
+                    place: first.place,
+                };
+                Ok((read, rest))
+            }
+            _ => Err(stuck(first)),
         },
     }
 }
 
+/// What stands behind a sign that has no place in the tree.
 pub fn sign(tokens: &[Placed], wanted: Sign) -> Result<&[Placed], Stop>
+    requires { class_of wanted ≡ Plain }
     ensures { Passes (λ k. SignAt wanted k) (λ x. x.now) result tokens.now }
 {
     match tokens {
@@ -66,10 +94,36 @@ pub fn sign(tokens: &[Placed], wanted: Sign) -> Result<&[Placed], Stop>
                 if found.number() == wanted.number() {
                     Ok(rest)
                 } else {
-                    Err(Stop::Stuck(first.place))
+                    Err(stuck(first))
                 }
             }
-            _ => Err(Stop::Stuck(first.place)),
+            _ => Err(stuck(first)),
+        },
+    }
+}
+
+/// The place of a `)`.
+pub fn close(tokens: &[Placed]) -> Result<(Place, &[Placed]), Stop>
+    ensures { Reads CloseAt (λ x. x.0) (λ x. x.1.now) result tokens.now }
+{
+    match tokens {
+        [] => Err(Stop::Short),
+        [first, rest @ ..] => match &first.token {
+            Token::Sign(Sign::CloseParenthesis) => Ok((first.place, rest)),
+            _ => Err(stuck(first)),
+        },
+    }
+}
+
+/// The place of the word `map`.
+pub fn map_word(tokens: &[Placed]) -> Result<(Place, &[Placed]), Stop>
+    ensures { Reads MapAt (λ x. x.0) (λ x. x.1.now) result tokens.now }
+{
+    match tokens {
+        [] => Err(Stop::Short),
+        [first, rest @ ..] => match &first.token {
+            Token::Sign(Sign::Map) => Ok((first.place, rest)),
+            _ => Err(stuck(first)),
         },
     }
 }

@@ -1,17 +1,18 @@
 //! Blocks and their statements.
 
 ghost use Rattle.std.specs.Prelude.{◌≡◌};
+ghost use Rattle.nf_tree.specs.Tree.{Start};
+ghost use Rattle.nf_tree.specs.View.{block_of};
+ghost use Rattle.nf_syntax.specs.Items.{class_of, Joins};
 ghost use Rattle.nf_syntax.specs.Machine.{BlockAt, BodyAt, OptionalAt, get_at, new_at, touch_at, forward_at, discard_at};
 ghost use Rattle.nf_syntax.specs.Reads.{Reads, ReadsOn, Extends};
-ghost use Rattle.nf_syntax.specs.Tree.{Start};
-ghost use Rattle.nf_syntax.specs.View.{block_of};
 
-use crate::fault::Stop;
+use crate::fault::{Stop, stuck};
 use crate::head::{GetHead, NewHead};
 use crate::list::{given, key};
-use crate::single::{get_head, name, new_head, sign, value};
-use crate::tree::Block;
-use nf_tokens::{Placed, Sign, Token};
+use crate::single::{close, get_head, name, new_head, sign, value};
+use nf_tokens::{Place, Placed, Sign, Token};
+use nf_tree::Block;
 use std::alloc::Global;
 
 /// The body with a `touch` behind it.
@@ -63,13 +64,15 @@ fn discard(alloc: Global, before: Block, tokens: &[Placed]) -> Result<(Block, &[
 fn get(
     alloc: Global,
     before: Block,
+    place: Place,
     tokens: &[Placed],
     room: u32,
 ) -> Result<(Block, &[Placed]), Stop>
-    ensures { Extends room (λ k. get_at room (block_of before) k) (λ x. block_of x.0) (λ x. x.1.now) result tokens.now }
+    ensures { Extends room (λ k. get_at room (block_of before) place k) (λ x. block_of x.0) (λ x. x.1.now) result tokens.now }
 {
     let (head, rest) = get_head(alloc, tokens)?;
     let (key, rest) = key(alloc, rest)?;
+    let (close, rest) = close(rest)?;
     let (hit, rest) = block(alloc, rest, room)?;
     let (miss, rest) = optional(alloc, rest, Sign::Else, room)?;
     let GetHead {
@@ -79,10 +82,12 @@ fn get(
     } = head;
     let block = Block::Get {
         before: Box::new(alloc, before)?,
+        place,
         variable,
         chain,
         map,
         key,
+        close,
         hit: Box::new(alloc, hit)?,
         miss: Box::new(alloc, miss)?,
     };
@@ -94,22 +99,26 @@ fn get(
 fn new(
     alloc: Global,
     before: Block,
+    place: Place,
     tokens: &[Placed],
     room: u32,
 ) -> Result<(Block, &[Placed]), Stop>
-    ensures { Extends room (λ k. new_at room (block_of before) k) (λ x. block_of x.0) (λ x. x.1.now) result tokens.now }
+    ensures { Extends room (λ k. new_at room (block_of before) place k) (λ x. block_of x.0) (λ x. x.1.now) result tokens.now }
 {
     let (head, rest) = new_head(alloc, tokens)?;
     let (given, rest) = given(alloc, rest)?;
+    let (close, rest) = close(rest)?;
     let (made, rest) = block(alloc, rest, room)?;
     let (taken, rest) = optional(alloc, rest, Sign::Taken, room)?;
     let (full, rest) = optional(alloc, rest, Sign::Full, room)?;
     let NewHead { variable, chain } = head;
     let block = Block::New {
         before: Box::new(alloc, before)?,
+        place,
         variable,
         chain,
         given,
+        close,
         made: Box::new(alloc, made)?,
         taken: Box::new(alloc, taken)?,
         full: Box::new(alloc, full)?,
@@ -125,6 +134,7 @@ fn optional(
     word: Sign,
     room: u32,
 ) -> Result<(Block, &[Placed]), Stop>
+    requires { class_of word ≡ Joins }
     ensures { ReadsOn (λ k. OptionalAt word room k) (λ x. block_of x.0) (λ x. x.1.now) result tokens.now }
 {
     match tokens {
@@ -156,7 +166,7 @@ pub fn block(alloc: Global, tokens: &[Placed], room: u32) -> Result<(Block, &[Pl
                 }
                 body(alloc, rest, room - 1)
             }
-            _ => Err(Stop::Stuck(first.place)),
+            _ => Err(stuck(first)),
         },
     }
 }
@@ -171,12 +181,12 @@ fn body(alloc: Global, tokens: &[Placed], room: u32) -> Result<(Block, &[Placed]
     'statements: while let [first, after @ ..] = rest {
         match &first.token {
             Token::Sign(Sign::Get) => {
-                let (longer, behind) = get(alloc, block, after, room)?;
+                let (longer, behind) = get(alloc, block, first.place, after, room)?;
                 block = longer;
                 rest = behind;
             }
             Token::Sign(Sign::New) => {
-                let (longer, behind) = new(alloc, block, after, room)?;
+                let (longer, behind) = new(alloc, block, first.place, after, room)?;
                 block = longer;
                 rest = behind;
             }
@@ -188,7 +198,7 @@ fn body(alloc: Global, tokens: &[Placed], room: u32) -> Result<(Block, &[Placed]
             Token::Sign(Sign::Forward) => return forward(alloc, block, after),
             Token::Sign(Sign::Discard) => return discard(alloc, block, after),
             Token::Sign(Sign::CloseBrace) => return Ok((block, after)),
-            _ => return Err(Stop::Stuck(first.place)),
+            _ => return Err(stuck(first)),
         }
     }
     Err(Stop::Short)

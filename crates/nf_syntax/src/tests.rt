@@ -1,34 +1,20 @@
 use super::*;
+use nf_tokens::Place;
+use nf_tree::{Block, Expr};
 use std::alloc::{AllocError, Global};
 use std::test::*;
 
-const FIREWALL: &[u8] = b"nf fw {\n\
-  ports 2;\n\
-  chain flows 1 lifetime 60000000000 { map by_flow(a: 32, b: 32, c: 16, d: 16); }\n\
-  on 0 {\n\
-    get e = flows.by_flow(src_ip, dst_ip, src_port, dst_port) { touch e; }\n\
-    else {\n\
-      new f = flows(a = src_ip, b = dst_ip, c = src_port, d = dst_port) { }\n\
-      full { drop; }\n\
-    }\n\
-    forward 1;\n\
-  }\n\
-  on 1 {\n\
-    get e = flows.by_flow(dst_ip, src_ip, dst_port, src_port) { touch e; forward 0; }\n\
-    drop;\n\
-  }\n\
-}\n\
-";
-
-fn is_none(alloc: Global, text: &[u8]) -> bool {
-    matches!(
-        parse(alloc, text),
-        Err(ParseFault::Syntax {
-            kind: SyntaxKind::N0,
-            line: 1,
-            column: 1,
-        })
-    )
+fn is_fault(alloc: Global, text: &[u8], kind: SyntaxKind, line: u32, column: u32) -> bool {
+    match parse(alloc, text) {
+        Err(
+            ParseFault::Syntax {
+                kind: found,
+                line: l,
+                column: c,
+            },
+        ) => found == kind && l == line && c == column,
+        _ => false,
+    }
 }
 
 fn repeated(
@@ -48,53 +34,371 @@ fn repeated(
 }
 
 #[test]
-fn the_firewall_is_read(rt: HostRuntime) {
-    match parse(rt.alloc(), FIREWALL) {
-        Ok(tree) => {
-            assert!(rt; tree.name.as_slice() == b"fw".as_slice());
-            assert_eq!(rt; tree.ports, 2);
-            assert_eq!(rt; tree.chains.len(), 1);
-            assert_eq!(rt; tree.handlers.len(), 2);
-        }
-        Err(_) => assert!(rt; false),
+fn bytes_that_begin_no_token(rt: HostRuntime) {
+    let faults: [(&[u8], u32, u32); 10] = [
+        (b"\xef\xbb\xbfnf x { ports 1; }".as_slice(), 1, 1),
+        (b"nf x\0 { ports 1; }".as_slice(), 1, 5),
+        (b"nf x { ports 1; ! }".as_slice(), 1, 17),
+        (b"nf x {\t\r\r$".as_slice(), 1, 10),
+        (b"nf x { ports 1;\x0b}".as_slice(), 1, 16),
+        (b"nf \xc3\xa9 { ports 1; }".as_slice(), 1, 4),
+        (
+            b"nf x { # \xff\0 ! $\n  ports 1;\n  \x80 }".as_slice(),
+            3,
+            3,
+        ),
+        (b"nf x {\r\n  ports 1;\r\n\t\"".as_slice(), 3, 2),
+        (b"nf x { ports 1; on 0 { forward 1!2; } }".as_slice(), 1, 33),
+        (
+            b"nf x { ports 1; on 0 { forward 1 ! = 2; } }".as_slice(),
+            1,
+            34,
+        ),
+    ];
+    for (text, line, column) in faults.iter() {
+        assert!(rt; is_fault(rt.alloc(), text, SyntaxKind::Byte, *line, *column));
     }
+}
+
+#[test]
+fn numbers_of_no_form(rt: HostRuntime) {
+    let faults: [(&[u8], u32, u32); 16] = [
+        (b"nf x { ports 00; }".as_slice(), 1, 14),
+        (b"nf x { ports 01; }".as_slice(), 1, 14),
+        (b"nf x { ports 5a; }".as_slice(), 1, 14),
+        (b"nf x { ports 1.; }".as_slice(), 1, 14),
+        (b"nf x { ports 1.5; }".as_slice(), 1, 14),
+        (b"nf x { ports 0X1; }".as_slice(), 1, 14),
+        (b"nf x { ports 0xA; }".as_slice(), 1, 14),
+        (b"nf x { ports 0x; }".as_slice(), 1, 14),
+        (b"nf x { ports 0x11111111111111111; }".as_slice(), 1, 14),
+        (b"nf x { ports 1.2.3.256; }".as_slice(), 1, 14),
+        (b"nf x { ports 1.2.3.04; }".as_slice(), 1, 14),
+        (b"nf x { ports 1.2.3.4.5; }".as_slice(), 1, 14),
+        (b"nf x { ports 18446744073709551616; }".as_slice(), 1, 14),
+        (b"nf 5a { ports 1; }".as_slice(), 1, 4),
+        (b"nf x { ports 1; on 0 { drop; 1_ } }".as_slice(), 1, 30),
+        (b"7up".as_slice(), 1, 1),
+    ];
+    for (text, line, column) in faults.iter() {
+        assert!(rt; is_fault(rt.alloc(), text, SyntaxKind::Number, *line, *column));
+    }
+}
+
+#[test]
+fn long_names(rt: HostRuntime) {
+    let faults: [(&[u8], u32, u32); 4] = [
+        (
+            b"nf a23456789012345678901234567890123 { ports 1; }".as_slice(),
+            1,
+            4,
+        ),
+        (
+            b"nf x { ports a23456789012345678901234567890123; }".as_slice(),
+            1,
+            14,
+        ),
+        (
+            b"nf x { ports 1; on 0 { drop; a23456789012345678901234567890123 } }".as_slice(),
+            1,
+            30,
+        ),
+        (
+            b"nf x { ports 1; } a23456789012345678901234567890123".as_slice(),
+            1,
+            19,
+        ),
+    ];
+    for (text, line, column) in faults.iter() {
+        assert!(rt; is_fault(rt.alloc(), text, SyntaxKind::Limit, *line, *column));
+    }
+}
+
+#[test]
+fn tokens_where_none_may_stand(rt: HostRuntime) {
+    let faults: [(&[u8], u32, u32); 16] = [
+        (b"x".as_slice(), 1, 1),
+        (b"nf nf { ports 1; }".as_slice(), 1, 4),
+        (b"nf ttl { ports 1; }".as_slice(), 1, 4),
+        (b"nf x [ ports 1; }".as_slice(), 1, 6),
+        (b"nf x { on 0 { } }".as_slice(), 1, 8),
+        (b"nf x { ports x; }".as_slice(), 1, 14),
+        (b"nf x { ports 1, }".as_slice(), 1, 15),
+        (b"nf x { ports 1; ; }".as_slice(), 1, 17),
+        (b"nf x { ports 1; } nf".as_slice(), 1, 19),
+        (b"nf x { ports 1; }\n}".as_slice(), 2, 1),
+        (
+            b"nf x { ports 1; on 0 { } chain c 1 lifetime 1 { map m(a: 8); } }".as_slice(),
+            1,
+            26,
+        ),
+        (b"nf x { ports 1; on 0 { drop; drop; } }".as_slice(), 1, 30),
+        (
+            b"nf x { ports 1; on 0 { drop; touch e; } }".as_slice(),
+            1,
+            30,
+        ),
+        (b"nf x { ports 1; on 0 { drop } }".as_slice(), 1, 29),
+        (b"nf x { ports 1; on 0 { forward ; } }".as_slice(), 1, 32),
+        (b"nf x { ports 1; on 0 { else { } } }".as_slice(), 1, 24),
+    ];
+    for (text, line, column) in faults.iter() {
+        assert!(rt; is_fault(rt.alloc(), text, SyntaxKind::Token, *line, *column));
+    }
+}
+
+#[test]
+fn tokens_that_no_statement_has(rt: HostRuntime) {
+    let faults: [(&[u8], u32, u32); 16] = [
+        (b"nf x { ports 1; on 0 { touch 7; } }".as_slice(), 1, 30),
+        (b"nf x { ports 1; on 0 { touch e: } }".as_slice(), 1, 31),
+        (
+            b"nf x { ports 1; on 0 { get e = c.touch(1) { } } }".as_slice(),
+            1,
+            34,
+        ),
+        (
+            b"nf x { ports 1; on 0 { get e = c.m() { } } }".as_slice(),
+            1,
+            36,
+        ),
+        (
+            b"nf x { ports 1; on 0 { get e = c.m(src_ip dst_ip) { } } }".as_slice(),
+            1,
+            43,
+        ),
+        (
+            b"nf x { ports 1; on 0 { get e = c.m(1,) { } } }".as_slice(),
+            1,
+            38,
+        ),
+        (
+            b"nf x { ports 1; on 0 { get e == c.m(1) { } } }".as_slice(),
+            1,
+            30,
+        ),
+        (
+            b"nf x { ports 1; on 0 { get e = c.m(1) ; } }".as_slice(),
+            1,
+            39,
+        ),
+        (
+            b"nf x { ports 1; on 0 { new e = c(a = 1,) { } } }".as_slice(),
+            1,
+            40,
+        ),
+        (
+            b"nf x { ports 1; on 0 { new e = c(a : 1) { } } }".as_slice(),
+            1,
+            36,
+        ),
+        (
+            b"nf x { ports 1; on 0 { new e = c(1) { } } }".as_slice(),
+            1,
+            34,
+        ),
+        (
+            b"nf x { ports 1; on 0 { new e = c() { } full { } taken { } } }".as_slice(),
+            1,
+            49,
+        ),
+        (
+            b"nf x { ports 1; on 0 { new e = c() { } else { } } }".as_slice(),
+            1,
+            40,
+        ),
+        (
+            b"nf x { ports 1; on 0 { new e = c() { } taken { } taken { } } }".as_slice(),
+            1,
+            50,
+        ),
+        (
+            b"nf x { y ! 00 a23456789012345678901234567890123".as_slice(),
+            1,
+            8,
+        ),
+        (
+            b"nf x { ports 1; # a comment\n # another\n\tx".as_slice(),
+            3,
+            2,
+        ),
+    ];
+    for (text, line, column) in faults.iter() {
+        assert!(rt; is_fault(rt.alloc(), text, SyntaxKind::Token, *line, *column));
+    }
+}
+
+#[test]
+fn forms_that_are_not_of_the_cut(rt: HostRuntime) {
+    let faults: [(&[u8], u32, u32); 13] = [
+        (
+            b"nf x { ports 1; chain c 1 lifetime 1 { map m(a: 8); } chain d 1 lifetime 1 { map m(a: 8); } }".as_slice(),
+            1,
+            55,
+        ),
+        (
+            b"nf x { ports 1; chain c 1 lifetime 1 { map m(a: 8); map k(a: 8); } }".as_slice(),
+            1,
+            53,
+        ),
+        (
+            b"nf x { ports 1; chain c 1 lifetime 1 { map m(a: 8); fixed f: 8; } }".as_slice(),
+            1,
+            53,
+        ),
+        (
+            b"nf x { ports 1; chain c 1 lifetime 1 { } }".as_slice(),
+            1,
+            40,
+        ),
+        (b"nf x { ports 1; array a 1: 8; }".as_slice(), 1, 17),
+        (b"nf x { ports 1; on 0 { forward (1); } }".as_slice(), 1, 32),
+        (
+            b"nf x { ports 1; on 0 { forward 1 + 2; } }".as_slice(),
+            1,
+            34,
+        ),
+        (b"nf x { ports 1; on 0 { forward y; } }".as_slice(), 1, 32),
+        (b"nf x { ports 1; on 0 { x; } }".as_slice(), 1, 24),
+        (
+            b"nf x { ports 1; on 0 { if 1 == 1 { } } }".as_slice(),
+            1,
+            24,
+        ),
+        (b"nf x { ports 1; on 0 { flood; } }".as_slice(), 1, 24),
+        (b"nf x { ports 1; on 0 { free e; } }".as_slice(), 1, 24),
+        (b"nf x { ports 1; on 0 { set ttl = 1; } }".as_slice(), 1, 24),
+    ];
+    for (text, line, column) in faults.iter() {
+        assert!(rt; is_fault(rt.alloc(), text, SyntaxKind::Token, *line, *column));
+    }
+}
+
+#[test]
+fn texts_that_end_too_early(rt: HostRuntime) {
+    let faults: [(&[u8], u32, u32); 14] = [
+        (b"".as_slice(), 1, 1),
+        (b"\n".as_slice(), 2, 1),
+        (b"\r".as_slice(), 1, 2),
+        (b"\t ".as_slice(), 1, 3),
+        (b"nf".as_slice(), 1, 3),
+        (b"nf x {\n# a comment\n  ".as_slice(), 3, 3),
+        (b"nf x { # a comment".as_slice(), 1, 19),
+        (b"nf x { ports 1; on 0 { drop; }".as_slice(), 1, 31),
+        (b"nf x { ports 1; on 0 { drop; }\n\n".as_slice(), 3, 1),
+        (b"nf x { ports 1; on 0 { get e = c.m(1".as_slice(), 1, 37),
+        (
+            b"nf x { ports 1; on 0 { new e = c(a = 1) { }".as_slice(),
+            1,
+            44,
+        ),
+        (b"nf x { ports 1; on 0 { new e = c(".as_slice(), 1, 34),
+        (b"nf x { ports 1; on 0 { forward 1".as_slice(), 1, 33),
+        (
+            b"nf x { ports 1; chain c 1 lifetime 1 { map m(a: 8".as_slice(),
+            1,
+            50,
+        ),
+    ];
+    for (text, line, column) in faults.iter() {
+        assert!(rt; is_fault(rt.alloc(), text, SyntaxKind::End, *line, *column));
+    }
+}
+
+fn stands(place: Place, line: u32, column: u32) -> bool {
+    place.line == line && place.column == column
+}
+
+const PLACES: &[u8] = b"nf fw {\n\
+ports 0x2; # two\n\
+chain flows 1 lifetime 60 { map by_flow(a: 32, b: 32); }\n\
+on 0.0.0.1 { get e = flows.by_flow(src_ip, 7) { touch e; }\n\
+else { new f = flows(a = src_ip) { } full { drop; } }\n\
+forward 1; }\n\
+}\n\
+# the end";
+
+#[test]
+fn declarations_have_their_places(rt: HostRuntime) {
+    let Ok(tree) = parse(rt.alloc(), PLACES) else {
+        assert!(rt; false);
+        return;
+    };
+    assert!(rt; tree.name.bytes.as_slice() == b"fw".as_slice());
+    assert!(rt; stands(tree.name.place, 1, 4));
+    assert_eq!(rt; tree.ports.value, 2);
+    assert!(rt; stands(tree.ports.place, 2, 7));
+    assert!(rt; stands(tree.end, 7, 1));
+    let [chain] = tree.chains.as_slice() else {
+        assert!(rt; false);
+        return;
+    };
+    assert!(rt; stands(chain.place, 3, 1));
+    assert!(rt; stands(chain.name.place, 3, 7));
+    assert!(rt; stands(chain.size.place, 3, 13));
+    assert!(rt; stands(chain.lifetime.place, 3, 24));
+    assert!(rt; stands(chain.map.place, 3, 29));
+    assert!(rt; stands(chain.map.name.place, 3, 33));
+    assert!(rt; stands(chain.map.close, 3, 53));
+    let [_, label] = chain.map.labels.as_slice() else {
+        assert!(rt; false);
+        return;
+    };
+    assert!(rt; stands(label.name.place, 3, 48));
+    assert!(rt; stands(label.width.place, 3, 51));
+}
+
+#[test]
+fn statements_have_their_places(rt: HostRuntime) {
+    let Ok(tree) = parse(rt.alloc(), PLACES) else {
+        assert!(rt; false);
+        return;
+    };
+    let [handler] = tree.handlers.as_slice() else {
+        assert!(rt; false);
+        return;
+    };
+    assert!(rt; stands(handler.place, 4, 1));
+    assert!(rt; stands(handler.port.place, 4, 4));
+    let Block::Forward {
+        before,
+        port: Expr::Number(port),
+    } = &handler.block
+    else {
+        assert!(rt; false);
+        return;
+    };
+    assert!(rt; stands(port.place, 6, 9));
+    let Block::Get {
+        before: _,
+        place,
+        variable,
+        chain,
+        map,
+        key: _,
+        close,
+        hit: _,
+        miss: _,
+    } = &**before
+    else {
+        assert!(rt; false);
+        return;
+    };
+    assert!(rt; stands(*place, 4, 14));
+    assert!(rt; stands(variable.place, 4, 18));
+    assert!(rt; stands(chain.place, 4, 22));
+    assert!(rt; stands(map.place, 4, 28));
+    assert!(rt; stands(*close, 4, 45));
 }
 
 #[test]
 fn all_forms_of_numbers_are_read(rt: HostRuntime) {
     match parse(
         rt.alloc(),
-        b"nf x { ports 0.0.1.2; on 0xff { drop; } on 18446744073709551615 { } } # end",
+        b"nf x { ports 0.0.1.2; on 0xff { drop; } on 18446744073709551615 { } } # \xff\0 end",
     ) {
-        Ok(tree) => assert_eq!(rt; tree.ports, 258),
+        Ok(tree) => assert_eq!(rt; tree.ports.value, 258),
         Err(_) => assert!(rt; false),
-    }
-}
-
-#[test]
-fn other_texts_are_none_of_the_cut(rt: HostRuntime) {
-    let texts: [&[u8]; 18] = [
-        b"".as_slice(),
-        b"nf x { ports 1; on 0 { drop; drop; } }".as_slice(),
-        b"nf x { ports 1; on 0 { forward (1); } }".as_slice(),
-        b"nf x { ports 1; on 0 { if 1 == 1 { } } }".as_slice(),
-        b"nf x { ports 1; on 0 { flood; } }".as_slice(),
-        b"nf a23456789012345678901234567890123 { ports 1; }".as_slice(),
-        b"nf x { ports 18446744073709551616; }".as_slice(),
-        b"nf x { ports 0x; }".as_slice(),
-        b"nf x { ports 00; }".as_slice(),
-        b"nf x { ports 1.2.3; }".as_slice(),
-        b"nf x { ports 1.2.3.256; }".as_slice(),
-        b"nf x { ports 1; } nf".as_slice(),
-        b"nf x { ports 1; chain c 1 lifetime 1 { map m(a: 8); } chain d 1 lifetime 1 { map m(a: 8); } }".as_slice(),
-        b"nf x { ports 1; chain c 1 lifetime 1 { map m(a: 8); map k(a: 8); } }".as_slice(),
-        b"nf x { ports 1; chain c 1 lifetime 1 { map m(a: 8); fixed f: 8; } }".as_slice(),
-        b"nf x { ports 1; chain c 1 lifetime 1 { } }".as_slice(),
-        b"nf x { ports 1; on 0 { forward y; } }".as_slice(),
-        b"nf six { ports 1; ! }".as_slice(),
-    ];
-    for text in texts.iter() {
-        assert!(rt; is_none(rt.alloc(), text));
     }
 }
 
@@ -122,24 +426,25 @@ fn at_most_64_blocks_are_open(rt: HostRuntime) {
     }
     assert!(rt; most.extend_from_slice(b"}").is_ok());
     assert!(rt; parse(rt.alloc(), most.as_slice()).is_ok());
-    let Ok(mut more) = repeated(rt.alloc(), front, part, 64, b"") else {
+    let Ok(more) = repeated(rt.alloc(), front, part, 64, b"") else {
         assert!(rt; false);
         return;
     };
-    for _ in 0..65 {
-        assert!(rt; more.extend_from_slice(b"} ").is_ok());
-    }
-    assert!(rt; more.extend_from_slice(b"}").is_ok());
-    assert!(rt; is_none(rt.alloc(), more.as_slice()));
+    // The brace of the 65th block: 23 bytes, 63 blocks of 14 each, and 12 of the 64th.
+    assert!(rt; is_fault(rt.alloc(), more.as_slice(), SyntaxKind::Limit, 1, 918));
 }
 
 #[test]
 fn a_block_as_long_as_the_text_is_read(rt: HostRuntime) {
     let front = b"nf x { ports 1; on 0 { get e = c.m(src_ip) { ";
-    let Ok(text) = repeated(rt.alloc(), front, b"touch e;", 131064, b"} } }") else {
+    let Ok(mut text) = repeated(rt.alloc(), front, b"touch e;", 131065, b"} } }") else {
         assert!(rt; false);
         return;
     };
-    assert!(rt; text.len() <= 1048576);
+    while text.len() < 1048576 {
+        assert!(rt; text.push(b' ').is_ok());
+    }
     assert!(rt; parse(rt.alloc(), text.as_slice()).is_ok());
+    assert!(rt; text.push(b' ').is_ok());
+    assert!(rt; is_fault(rt.alloc(), text.as_slice(), SyntaxKind::Limit, 1, 1));
 }

@@ -1,54 +1,71 @@
 //! From a text to its tree.
 
-ghost use Rattle.std.specs.Prelude.{◌≡◌, IfOk, IfErr};
-ghost use Rattle.nf_syntax.specs.View.{tree_of};
-ghost use Rattle.nf_syntax.specs.Reads.{Finds};
-ghost use Rattle.nf_syntax.specs.Language.{SyntaxTree, unmarked, Spells, IsTextOf, Gives, Explains};
+ghost use Rattle.std.specs.Prelude.{◌≡◌, ◌++◌, ◌∷◌, [], List, true, false, IfOk, IfErr};
+ghost use Rattle.nf_tree.specs.View.{tree_of};
+ghost use Rattle.nf_syntax.specs.declared.fault.ParseFault.TheVariants.{Syntax};
+ghost use Rattle.nf_syntax.specs.Items.{Item, Marked};
+ghost use Rattle.nf_syntax.specs.Language.{SyntaxTree, marked, CanGoOn, IsTreeOf, IsTextOf, IsFirstFault, Gives, Finds, Explains};
 
 use crate::declaration::whole;
 use crate::fault::{ParseFault, Stop, SyntaxKind};
-use crate::tree::Tree;
-use nf_tokens::{Placed, tokens};
+use nf_tokens::{Place, Placed, end_of, tokens};
+use nf_tree::Tree;
 use std::alloc::Global;
 
 /// The longest text, in bytes.
 const LONGEST: usize = 1048576;
 
-/// The fault of a text that is none of this cut.
-const NO_TEXT: ParseFault = ParseFault::Syntax {
-    kind: SyntaxKind::N0,
-    line: 1,
-    column: 1,
-};
-
 /// The tree that these tokens spell, all of them.
 fn read(alloc: Global, placed: &[Placed]) -> Result<Tree, Stop>
-    ensures found { IfOk result (λ tree. Spells (unmarked placed.now) (tree_of tree)) }
-    ensures only { (tree : SyntaxTree) → Spells (unmarked placed.now) tree → Finds tree_of tree result }
+    ensures found { IfOk result (λ tree. IsTreeOf placed.now (tree_of tree)) }
+    ensures only { (tree : SyntaxTree) → IsTreeOf placed.now tree → Finds tree_of tree result }
+    ensures first { IfErr result (λ stop. IsFirstFault stop placed.now) }
 {
     whole(alloc, placed)
 }
 
+fn fault(kind: SyntaxKind, place: Place) -> ParseFault
+    ensures { result ≡ Syntax kind place.line place.column }
+{
+    ParseFault::Syntax {
+        kind,
+        line: place.line,
+        column: place.column,
+    }
+}
+
 /// Reads the text of a network function, in ASCII.
 ///
-/// A text of this cut has one tree.
+/// A text of the grammar has one tree. Any other has a first fault: nothing behind it is looked at.
 pub fn parse(alloc: Global, text: &[u8]) -> Result<Tree, ParseFault>
     // What is answered is spelled so.
     ensures found { IfOk result (λ tree. IsTextOf text.now (tree_of tree)) }
     // What is spelled so is answered, unless memory runs out.
     ensures only { (tree : SyntaxTree) → IsTextOf text.now tree → Gives tree_of tree result }
-    // A text with a fault is spelled like no tree.
-    ensures syntax { IfErr result (λ fault. Explains fault text.now) }
+    // What is wrong, and where.
+    ensures first { IfErr result (λ fault. Explains fault text.now) }
 {
     if text.len() > LONGEST {
-        return Err(NO_TEXT);
+        return Err(ParseFault::Syntax {
+            kind: SyntaxKind::Limit,
+            line: 1,
+            column: 1,
+        });
     }
     let Ok(placed) = tokens(alloc, text) else {
         return Err(ParseFault::Memory);
     };
     match read(alloc, placed.as_slice()) {
         Ok(tree) => Ok(tree),
+        Err(Stop::Stuck(kind, place)) => Err(fault(kind, place)),
+        Err(Stop::Past(place)) => Err(fault(SyntaxKind::Limit, place)),
+        Err(Stop::Short) => Err(fault(SyntaxKind::End, end_of(text))),
         Err(Stop::Memory) => Err(ParseFault::Memory),
-        Err(_) => Err(NO_TEXT),
     }
 }
+
+/// A law: behind one front a token passes a limit in every text of the grammar, or in none. So the token of a
+/// limit that is passed is the first that passes it, and no fault stands before it.
+pub fn one_mark()
+    ensures { (front : List Marked) (i : Item) → CanGoOn (front ++ marked i true ∷ []) → CanGoOn (front ++ marked i false ∷ []) → ⊥ }
+{}

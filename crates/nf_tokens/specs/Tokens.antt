@@ -1,6 +1,7 @@
 -- The tokens of a text: at each byte that no token before it has, the longest piece that begins there.
 use Rattle.std.specs.Prelude.{ℕ, zero, suc, ◌+◌, ◌-◌, ◌≤◌, nat_eq, Bool, true, false, Option, Some, None, List, [], ◌∷◌, take, if◌then◌else◌}
 use Rattle.nf_tokens.specs.declared.token.Sign.{Sign}
+use Rattle.nf_tokens.specs.declared.token.Flaw.TheVariants as flaws
 use Rattle.nf_tokens.specs.declared.token.Token.{Token}
 use Rattle.nf_tokens.specs.declared.token.Token.TheVariants as tokens
 use Rattle.nf_tokens.specs.declared.token.Place.{Place}
@@ -42,7 +43,7 @@ piece_at b bs =
     sign_at b bs
 
 abbrev pub number_or_bad : Option ℕ → Token
-number_or_bad None = tokens.Bad
+number_or_bad None = tokens.Bad flaws.Number
 number_or_bad (Some n) = tokens.Number n
 
 abbrev pub token_of_number : List ℕ → Token
@@ -54,7 +55,7 @@ token_of kinds.Space run = None
 token_of kinds.Word run = Some (token_of_word run)
 token_of kinds.Number run = Some (token_of_number run)
 token_of (kinds.Sign s) run = Some (tokens.Sign s)
-token_of kinds.Stray run = Some tokens.Bad
+token_of kinds.Stray run = Some (tokens.Bad flaws.Byte)
 
 -- the place behind a byte
 abbrev pub behind : Place → ℕ → Place

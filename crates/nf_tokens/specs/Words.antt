@@ -4,6 +4,7 @@ use Rattle.nf_base.specs.declared.packet.Field.{Field}
 use Rattle.nf_base.specs.declared.packet.Field.TheVariants as fields
 use Rattle.nf_tokens.specs.declared.token.Sign.{Sign}
 use Rattle.nf_tokens.specs.declared.token.Sign.TheVariants as signs
+use Rattle.nf_tokens.specs.declared.token.Flaw.TheVariants as flaws
 use Rattle.nf_tokens.specs.declared.token.Token.{Token}
 use Rattle.nf_tokens.specs.declared.token.Token.TheVariants as tokens
 
@@ -69,7 +70,7 @@ sign_of_word w = either (declaring w) (either (looking w) (acting w))
 
 -- a name has at most 32 bytes
 abbrev pub name : List ℕ → Token
-name w = if nat_le (length w) 32 then tokens.Name w else tokens.Bad
+name w = if nat_le (length w) 32 then tokens.Name w else tokens.Bad flaws.Name
 
 abbrev pub field_or_name : Option Field → List ℕ → Token
 field_or_name None w = name w

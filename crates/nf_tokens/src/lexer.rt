@@ -6,7 +6,7 @@ ghost use Rattle.nf_tokens.specs.Tokens.{begins_equals, sign_at, piece_at, behin
 
 use crate::byte::{compared_of, is_blank, is_digit, is_letter, sign_of};
 use crate::number::number_of_run;
-use crate::token::{Place, Placed, Sign, Token};
+use crate::token::{Flaw, Place, Placed, Sign, Token};
 use crate::word::token_of_word;
 use std::alloc::{AllocError, Global};
 
@@ -159,7 +159,7 @@ fn token_of_number(run: &[u8]) -> Token
 {
     match number_of_run(run) {
         Some(value) => Token::Number(value),
-        None => Token::Bad,
+        None => Token::Bad(Flaw::Number),
     }
 }
 
@@ -175,7 +175,7 @@ fn token_of(alloc: Global, kind: Kind, run: &[u8]) -> Result<Option<Token>, Allo
         }
         Kind::Number => Ok(Some(token_of_number(run))),
         Kind::Sign(sign) => Ok(Some(Token::Sign(sign))),
-        Kind::Stray => Ok(Some(Token::Bad)),
+        Kind::Stray => Ok(Some(Token::Bad(Flaw::Byte))),
     }
 }
 
@@ -186,6 +186,14 @@ fn push_token(out: &mut Vec<Placed>, token: Option<Token>, place: Place) -> Resu
         out.push(Placed { token, place })?;
     }
     Ok(())
+}
+
+/// The place just past the last byte of a text of at most 1,048,576 bytes.
+pub fn end_of(text: &[u8]) -> Place
+    requires { length text.now ≤ 1048576 }
+    ensures { result ≡ behind_all start text.now }
+{
+    behind_all(Place { line: 1, column: 1 }, text)
 }
 
 /// The tokens of a text of at most 1,048,576 bytes, with their places.

@@ -7,6 +7,6 @@ mod number;
 mod token;
 mod word;
 
-pub use lexer::tokens;
+pub use lexer::{end_of, tokens};
 pub use number::{address, decimal};
-pub use token::{Place, Placed, Sign, Token};
+pub use token::{Flaw, Place, Placed, Sign, Token};

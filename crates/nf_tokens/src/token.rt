@@ -113,6 +113,17 @@ impl Sign {
     }
 }
 
+/// What is wrong with a token that nothing in the grammar takes.
+#[derive(Clone, Copy, Debug, PartialEq, Eq)]
+pub enum Flaw {
+    /// A byte that begins no token.
+    Byte,
+    /// A number that is none of the three forms.
+    Number,
+    /// A name over 32 bytes.
+    Name,
+}
+
 /// A token of the language.
 #[derive(Drop)]
 pub enum Token {
@@ -122,9 +133,8 @@ pub enum Token {
     Number(u64),
     Field(Field),
     Sign(Sign),
-    /// What nothing in the grammar takes: a byte that begins no token, a number that is none of the
-    /// three forms, or a name over 32 bytes.
-    Bad,
+    /// What nothing in the grammar takes, and why.
+    Bad(Flaw),
 }
 
 /// Where a byte stands: lines and columns count from 1, a column counts bytes.

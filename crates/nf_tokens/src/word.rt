@@ -3,7 +3,7 @@
 ghost use Rattle.std.specs.Prelude.{◌≡◌, IfOk};
 ghost use Rattle.nf_tokens.specs.Words.{declaring, looking, acting, field_of_word, name, sign_of_word, token_of_word};
 
-use crate::token::{Sign, Token};
+use crate::token::{Flaw, Sign, Token};
 use nf_base::packet::Field;
 use nf_base::seq::Seq;
 use std::alloc::{AllocError, Global};
@@ -120,7 +120,7 @@ fn name(alloc: Global, word: &[u8]) -> Result<Token, AllocError>
         let bytes = word.to_vec(alloc)?;
         Ok(Token::Name(Seq::from_vec(bytes)))
     } else {
-        Ok(Token::Bad)
+        Ok(Token::Bad(Flaw::Name))
     }
 }
 

@@ -1,6 +1,8 @@
-pub mod Named
+pub mod First
+pub mod Behind
+pub mod Ended
 pub mod Small
-pub mod Parts
-pub mod Fits
+pub mod Few
 pub mod Maps
-pub mod Each
+pub mod Counted
+pub mod Ranges

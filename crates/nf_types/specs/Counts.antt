@@ -1,14 +1,15 @@
--- How many `get` and `new` a block's text has, and its limits.
-use Rattle.std.specs.Prelude.{ℕ, ◌+◌, nat_le, Bool, ◌&&◌}
-use Rattle.nf_syntax.specs.Tree.{Block, Start, Missing, Touch, Get, New, Forward, Discard}
+-- How many `get` and `new` a block's text has, and how many more may come.
+use Rattle.std.specs.Prelude.{ℕ, ◌+◌, ◌-◌}
+use Rattle.nf_tree.specs.Tree.{Block, Start, Missing, Touch, Get, New, Forward, Discard}
+use Rattle.nf_types.specs.declared.counts.Room.{Room}
 
 -- how many `new`
 abbrev pub news : Block → ℕ
 news Start = 0
 news Missing = 0
 news (Touch b x) = news b
-news (Get b x c m key hit miss) = news b + news hit + news miss
-news (New b x c gs made taken full) = news b + 1 + news made + news taken + news full
+news (Get b at x c m key close hit miss) = news b + news hit + news miss
+news (New b at x c gs close made taken full) = news b + 1 + news made + news taken + news full
 news (Forward b v) = news b
 news (Discard b) = news b
 
@@ -17,11 +18,22 @@ abbrev pub lookups : Block → ℕ
 lookups Start = 0
 lookups Missing = 0
 lookups (Touch b x) = lookups b
-lookups (Get b x c m key hit miss) = lookups b + 1 + lookups hit + lookups miss
-lookups (New b x c gs made taken full) = lookups b + 1 + lookups made + lookups taken + lookups full
+lookups (Get b at x c m key close hit miss) = lookups b + 1 + lookups hit + lookups miss
+lookups (New b at x c gs close made taken full) = lookups b + 1 + lookups made + lookups taken + lookups full
 lookups (Forward b v) = lookups b
 lookups (Discard b) = lookups b
 
--- at most 16 `new`, and at most 32 of `get` and `new` together
-abbrev pub is_small : Block → Bool
-is_small b = nat_le (news b) 16 && nat_le (lookups b) 32
+-- what may come in a handler: 32 of `get` and `new` together, 16 `new`
+abbrev pub whole_room : Room
+whole_room = record { lookups = 32; news = 16 }
+
+-- what may still come behind a block
+abbrev pub behind : Room → Block → Room
+behind room b = record { lookups = room.lookups - lookups b; news = room.news - news b }
+
+-- what may still come behind a `get`, and behind a `new`
+abbrev pub behind_get : Room → Room
+behind_get room = record { lookups = room.lookups - 1; news = room.news }
+
+abbrev pub behind_new : Room → Room
+behind_new room = record { lookups = room.lookups - 1; news = room.news - 1 }

@@ -1,8 +1,9 @@
 -- Blocks within the limits, as facts.
 use Rattle.std.specs.Prelude.{◌≤◌, List, [], ◌∷◌}
-use Rattle.nf_syntax.specs.Tree.{Block, Handler}
+use Rattle.nf_tree.specs.Tree.{Block, Handler}
 use Rattle.nf_types.specs.Counts.{news, lookups}
 
+-- at most 16 `new`, and at most 32 of `get` and `new` together
 pub record IsSmall (b : Block) : Type 0 where
   pub news : news b ≤ 16
   pub lookups : lookups b ≤ 32

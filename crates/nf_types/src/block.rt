@@ -1,33 +1,30 @@
 //! The code of a handler's blocks.
 
-ghost use Rattle.std.specs.Prelude.{◌≡◌, ◌+◌, ◌≤◌, length, map, IfOk, Some};
+ghost use Rattle.std.specs.Prelude.{◌≡◌, ◌+◌, ◌≤◌, length, map, IfOk};
 ghost use Rattle.nf_base.specs.Text as text;
 ghost use Rattle.nf_base.specs.View as checked;
-ghost use Rattle.nf_syntax.specs.View as syntax;
-ghost use Rattle.nf_types.specs.Blocks.{checked_block, got_in, made_in};
+ghost use Rattle.nf_tree.specs.View as syntax;
+ghost use Rattle.nf_types.specs.Blocks.{code_of, got, got_in, made, made_in};
 ghost use Rattle.nf_types.specs.Counts.{lookups};
-ghost use Rattle.nf_types.specs.Names.{and_then};
 ghost use Rattle.nf_types.specs.Statements.{variable_of};
-ghost use Rattle.nf_types.specs.View.{variables_of};
-ghost use Rattle.nf_types.specs.Answers.{Finds};
+ghost use Rattle.nf_types.specs.View.{variables_of, look_up_of, making_of};
 
 use crate::counts::lookups;
-use crate::fault::Stop;
 use crate::statement::{LookUp, Making, look_up, make};
 use crate::value::value;
-use crate::variables::{Variables, fresh, number_of};
+use crate::variables::{Variables, count, number_of};
 use nf_base::code::Code;
 use nf_base::decl::ChainDecl;
 use nf_base::seq::Seq;
-use nf_syntax::{Block, Expr, Given};
+use nf_tree::{Block, Expr, Given, Name};
 use std::alloc::{AllocError, Global};
 
 /// A `get` of the text.
 #[derive(Drop)]
 struct GetText<'a> {
-    variable: &'a Seq<u8>,
-    chain: &'a Seq<u8>,
-    wanted: &'a Seq<u8>,
+    variable: &'a Name,
+    chain: &'a Name,
+    wanted: &'a Name,
     key: &'a Seq<Expr>,
     hit: &'a Block,
     miss: &'a Block,
@@ -36,8 +33,8 @@ struct GetText<'a> {
 /// A `new` of the text.
 #[derive(Drop)]
 struct NewText<'a> {
-    variable: &'a Seq<u8>,
-    chain: &'a Seq<u8>,
+    variable: &'a Name,
+    chain: &'a Name,
     given: &'a Seq<Given>,
     made: &'a Block,
     taken: &'a Block,
@@ -52,7 +49,7 @@ fn get_code(
     branches: (Code, Code),
     next: Code,
 ) -> Result<Code, AllocError>
-    ensures { IfOk result (λ code. checked.block_of code ≡ text.Get place at.chain at.map (map checked.given_of at.key) var (checked.block_of branches.0) (checked.block_of branches.1) (checked.block_of next)) }
+    ensures { IfOk result (λ code. checked.block_of code ≡ got place (look_up_of at) var (checked.block_of branches.0) (checked.block_of branches.1) (checked.block_of next)) }
 {
     let LookUp { chain, map, key } = at;
     let (hit, miss) = branches;
@@ -76,7 +73,7 @@ fn new_code(
     branches: (Code, Code, Code),
     next: Code,
 ) -> Result<Code, AllocError>
-    ensures { IfOk result (λ code. checked.block_of code ≡ text.New place at.chain (map checked.given_of at.labels) var (checked.block_of branches.0) (checked.block_of branches.1) (checked.block_of branches.2) (checked.block_of next)) }
+    ensures { IfOk result (λ code. checked.block_of code ≡ made place (making_of at) var (checked.block_of branches.0) (checked.block_of branches.1) (checked.block_of branches.2) (checked.block_of next)) }
 {
     let Making { chain, labels } = at;
     let (made, taken, full) = branches;
@@ -93,18 +90,17 @@ fn new_code(
 }
 
 /// A `touch` in front of what follows.
-fn touch(alloc: Global, scope: &Variables, variable: &Seq<u8>, next: Code) -> Result<Code, Stop>
+fn touch(alloc: Global, scope: &Variables, variable: &Name, next: Code) -> Result<Code, AllocError>
     requires { length (variables_of scope.now) ≤ 128 }
-    ensures { Finds checked.block_of (and_then (variable_of (variables_of scope.now) variable.now) (λ var. Some (text.Touch var (checked.block_of next)))) result }
+    ensures { IfOk result (λ code. checked.block_of code ≡ text.Touch (variable_of (variables_of scope.now) variable.now.bytes) (checked.block_of next)) }
 {
-    let var = number_of(scope, variable)?;
+    let var = number_of(scope, &variable.bytes);
     let next = Box::new(alloc, next)?;
     Ok(Code::Touch { var, next })
 }
 
 /// A `get` in front of what follows.
 #[cycle(blocks)]
-#[tactic(auto, unfolding(crate::specs::Blocks::got))]
 fn get(
     alloc: Global,
     place: u32,
@@ -112,28 +108,26 @@ fn get(
     scope: &Variables,
     x: &GetText,
     next: Code,
-) -> Result<Code, Stop>
+) -> Result<Code, AllocError>
     requires few_chains { length chains.now ≤ 8 }
     requires few { 1 + lookups (syntax.block_of x.now.hit.now) + lookups (syntax.block_of x.now.miss.now) ≤ 32 }
     requires places { place + 1 + lookups (syntax.block_of x.now.hit.now) + lookups (syntax.block_of x.now.miss.now) ≤ 128 }
     requires in_scope { length (variables_of scope.now) ≤ place }
-    ensures { Finds checked.block_of (got_in place chains.now (variables_of scope.now) x.now.variable.now x.now.chain.now x.now.wanted.now (map syntax.expression_of x.now.key.now) (syntax.block_of x.now.hit.now) (syntax.block_of x.now.miss.now) (checked.block_of next)) result }
+    ensures { IfOk result (λ code. checked.block_of code ≡ got_in place chains.now (variables_of scope.now) x.now.variable.now x.now.chain.now x.now.wanted.now (map syntax.expression_of x.now.key.now) (syntax.block_of x.now.hit.now) (syntax.block_of x.now.miss.now) (checked.block_of next)) }
 {
-    let var = fresh(chains, scope, x.variable)?;
-    let at = look_up(alloc, chains, x.chain, x.wanted, x.key)?;
+    let at = look_up(alloc, chains, &x.chain.bytes, &x.wanted.bytes, x.key)?;
     let inner = Variables::Bound {
-        name: x.variable,
+        name: &x.variable.bytes,
         outer: &*scope,
     };
     let hit = block(alloc, place + 1, chains, &inner, x.hit)?;
     let miss = block(alloc, place + 1 + lookups(x.hit), chains, scope, x.miss)?;
-    let code = get_code(alloc, place, var, at, (hit, miss), next)?;
+    let code = get_code(alloc, place, count(scope), at, (hit, miss), next)?;
     Ok(code)
 }
 
 /// A `new` in front of what follows.
 #[cycle(blocks)]
-#[tactic(auto, unfolding(crate::specs::Blocks::made))]
 fn new(
     alloc: Global,
     place: u32,
@@ -141,24 +135,23 @@ fn new(
     scope: &Variables,
     x: &NewText,
     next: Code,
-) -> Result<Code, Stop>
+) -> Result<Code, AllocError>
     requires few_chains { length chains.now ≤ 8 }
     requires few { 1 + lookups (syntax.block_of x.now.made.now) + lookups (syntax.block_of x.now.taken.now) + lookups (syntax.block_of x.now.full.now) ≤ 32 }
     requires places { place + 1 + lookups (syntax.block_of x.now.made.now) + lookups (syntax.block_of x.now.taken.now) + lookups (syntax.block_of x.now.full.now) ≤ 128 }
     requires in_scope { length (variables_of scope.now) ≤ place }
-    ensures { Finds checked.block_of (made_in place chains.now (variables_of scope.now) x.now.variable.now x.now.chain.now (map syntax.given_of x.now.given.now) (syntax.block_of x.now.made.now) (syntax.block_of x.now.taken.now) (syntax.block_of x.now.full.now) (checked.block_of next)) result }
+    ensures { IfOk result (λ code. checked.block_of code ≡ made_in place chains.now (variables_of scope.now) x.now.variable.now x.now.chain.now (map syntax.given_of x.now.given.now) (syntax.block_of x.now.made.now) (syntax.block_of x.now.taken.now) (syntax.block_of x.now.full.now) (checked.block_of next)) }
 {
-    let var = fresh(chains, scope, x.variable)?;
-    let at = make(alloc, chains, x.chain, x.given)?;
+    let at = make(alloc, chains, &x.chain.bytes, x.given)?;
     let inner = Variables::Bound {
-        name: x.variable,
+        name: &x.variable.bytes,
         outer: &*scope,
     };
     let made = block(alloc, place + 1, chains, &inner, x.made)?;
     let behind = place + 1 + lookups(x.made);
     let taken = block(alloc, behind, chains, scope, x.taken)?;
     let full = block(alloc, behind + lookups(x.taken), chains, scope, x.full)?;
-    let code = new_code(alloc, place, var, at, (made, taken, full), next)?;
+    let code = new_code(alloc, place, count(scope), at, (made, taken, full), next)?;
     Ok(code)
 }
 
@@ -172,12 +165,12 @@ pub fn block(
     chains: &[ChainDecl],
     scope: &Variables,
     block: &Block,
-) -> Result<Code, Stop>
+) -> Result<Code, AllocError>
     requires few_chains { length chains.now ≤ 8 }
     requires few { lookups (syntax.block_of block.now) ≤ 32 }
     requires places { place + lookups (syntax.block_of block.now) ≤ 128 }
     requires in_scope { length (variables_of scope.now) ≤ place }
-    ensures { Finds checked.block_of (checked_block place chains.now (variables_of scope.now) (syntax.block_of block.now) text.End) result }
+    ensures { IfOk result (λ code. checked.block_of code ≡ code_of place chains.now (variables_of scope.now) (syntax.block_of block.now) text.End) }
 {
     let mut next = Code::End;
     let mut rest = block;
@@ -191,10 +184,12 @@ pub fn block(
             }
             Block::Get {
                 before,
+                place: _,
                 variable,
                 chain,
                 map,
                 key,
+                close: _,
                 hit,
                 miss,
             } => {
@@ -211,9 +206,11 @@ pub fn block(
             }
             Block::New {
                 before,
+                place: _,
                 variable,
                 chain,
                 given,
+                close: _,
                 made,
                 taken,
                 full,

@@ -1,54 +1,70 @@
-//! How many `get` and `new` a block has.
+//! How many `get` and `new` a block has, and how many more may come.
 
-ghost use Rattle.std.specs.Prelude.{◌≡◌, ◌+◌, ◌<◌, ◌≤◌, MatchOption};
-ghost use Rattle.nf_syntax.specs.View.{block_of};
-ghost use Rattle.nf_types.specs.Counts.{news, lookups, is_small};
+ghost use Rattle.std.specs.Prelude.{◌≡◌, ◌+◌, ◌-◌, ◌≤◌};
+ghost use Rattle.nf_tree.specs.View.{block_of};
+ghost use Rattle.nf_types.specs.Counts.{news, lookups};
 
-use nf_syntax::Block;
+use nf_tree::Block;
 
 /// How many `get` and `new` together a handler may have.
 pub const MOST_LOOKUPS: u32 = 32;
 
 /// How many `new` a handler may have.
-const MOST_NEWS: u32 = 16;
+pub const MOST_NEWS: u32 = 16;
 
-/// What is left of so many `get` and `new`, where a block has no more.
-fn lookups_left(room: u32, block: &Block) -> Option<u32>
-    ensures { MatchOption result (room < lookups (block_of block.now)) (λ left. left + lookups (block_of block.now) ≡ room) }
+/// What may still come in a handler.
+#[derive(Clone, Copy, Debug, PartialEq, Eq)]
+pub struct Room {
+    /// How many `get` and `new` together.
+    pub lookups: u32,
+    /// How many `new`.
+    pub news: u32,
+}
+
+/// How many more `get` and `new` may come behind a block, of so many.
+pub fn lookups_left(room: u32, block: &Block) -> u32
+    ensures { result ≡ room - lookups (block_of block.now) }
 {
     let mut left = room;
     let mut rest = block;
     loop {
+        if left == 0 {
+            return 0;
+        }
         match rest {
-            Block::Start => return Some(left),
-            Block::Missing => return Some(left),
+            Block::Start => return left,
+            Block::Missing => return left,
             Block::Touch {
                 before,
                 variable: _,
             } => rest = before,
             Block::Get {
                 before,
+                place: _,
                 variable: _,
                 chain: _,
                 map: _,
                 key: _,
+                close: _,
                 hit,
                 miss,
             } => {
-                left = lookups_left(lookups_left(left.checked_sub(1)?, hit)?, miss)?;
+                left = lookups_left(lookups_left(left - 1, hit), miss);
                 rest = before
             }
             Block::New {
                 before,
+                place: _,
                 variable: _,
                 chain: _,
                 given: _,
+                close: _,
                 made,
                 taken,
                 full,
             } => {
-                left = lookups_left(lookups_left(left.checked_sub(1)?, made)?, taken)?;
-                left = lookups_left(left, full)?;
+                left = lookups_left(lookups_left(left - 1, made), taken);
+                left = lookups_left(left, full);
                 rest = before
             }
             Block::Forward { before, port: _ } => rest = before,
@@ -57,43 +73,50 @@ fn lookups_left(room: u32, block: &Block) -> Option<u32>
     }
 }
 
-/// What is left of so many `new`, where a block has no more.
-fn news_left(room: u32, block: &Block) -> Option<u32>
-    ensures { MatchOption result (room < news (block_of block.now)) (λ left. left + news (block_of block.now) ≡ room) }
+/// How many more `new` may come behind a block, of so many.
+pub fn news_left(room: u32, block: &Block) -> u32
+    ensures { result ≡ room - news (block_of block.now) }
 {
     let mut left = room;
     let mut rest = block;
     loop {
+        if left == 0 {
+            return 0;
+        }
         match rest {
-            Block::Start => return Some(left),
-            Block::Missing => return Some(left),
+            Block::Start => return left,
+            Block::Missing => return left,
             Block::Touch {
                 before,
                 variable: _,
             } => rest = before,
             Block::Get {
                 before,
+                place: _,
                 variable: _,
                 chain: _,
                 map: _,
                 key: _,
+                close: _,
                 hit,
                 miss,
             } => {
-                left = news_left(news_left(left, hit)?, miss)?;
+                left = news_left(news_left(left, hit), miss);
                 rest = before
             }
             Block::New {
                 before,
+                place: _,
                 variable: _,
                 chain: _,
                 given: _,
+                close: _,
                 made,
                 taken,
                 full,
             } => {
-                left = news_left(news_left(left.checked_sub(1)?, made)?, taken)?;
-                left = news_left(left, full)?;
+                left = news_left(news_left(left - 1, made), taken);
+                left = news_left(left, full);
                 rest = before
             }
             Block::Forward { before, port: _ } => rest = before,
@@ -107,15 +130,39 @@ pub fn lookups(block: &Block) -> u32
     requires { lookups (block_of block.now) ≤ 32 }
     ensures { result ≡ lookups (block_of block.now) }
 {
-    match lookups_left(MOST_LOOKUPS, block) {
-        Some(left) => MOST_LOOKUPS - left,
-        None => unreachable!(),
-    }
+    MOST_LOOKUPS - lookups_left(MOST_LOOKUPS, block)
 }
 
-/// Whether a block has no more of them than a handler may have.
-pub fn is_small(block: &Block) -> bool
-    ensures { result ≡ is_small (block_of block.now) }
-{
-    news_left(MOST_NEWS, block).is_some() && lookups_left(MOST_LOOKUPS, block).is_some()
+impl Room {
+    ghost use Rattle.nf_types.specs.Counts.{behind, behind_get, behind_new};
+
+    /// What may still come behind a block.
+    pub fn behind(self, block: &Block) -> Room
+        ensures { result ≡ behind self (block_of block.now) }
+    {
+        Room {
+            lookups: lookups_left(self.lookups, block),
+            news: news_left(self.news, block),
+        }
+    }
+
+    /// What may still come behind a `get`.
+    pub fn behind_get(self) -> Room
+        ensures { result ≡ behind_get self }
+    {
+        Room {
+            lookups: self.lookups.saturating_sub(1),
+            news: self.news,
+        }
+    }
+
+    /// What may still come behind a `new`.
+    pub fn behind_new(self) -> Room
+        ensures { result ≡ behind_new self }
+    {
+        Room {
+            lookups: self.lookups.saturating_sub(1),
+            news: self.news.saturating_sub(1),
+        }
+    }
 }

@@ -1,14 +1,14 @@
 //! Names, and look-ups by name.
 
 ghost use Rattle.std.specs.Prelude.{◌≡◌, ◌≤◌, length, map};
-ghost use Rattle.nf_types.specs.Names.{is_among, are_distinct, named, only};
-ghost use Rattle.nf_types.specs.Declarations.{name_of};
+ghost use Rattle.std.specs.Option.{option_map};
+ghost use Rattle.nf_types.specs.Names.{is_among, named};
+ghost use Rattle.nf_types.specs.Faults.{length_faults};
 ghost use Rattle.nf_types.specs.Answers.{Finds};
 
-use crate::fault::Stop;
-use nf_base::decl::{ChainDecl, ColumnDecl, MapDecl, Name};
-use nf_base::seq::Seq;
-use nf_syntax::{ChainTree, Given, Label};
+use crate::fault::{Stop, TypingKind, refuse_if};
+use nf_base::decl::{ChainDecl, ColumnDecl, MapDecl, Name as Declared};
+use nf_tree::{ChainTree, Label, Name};
 use std::alloc::Global;
 
 /// The longest name, in bytes.
@@ -25,26 +25,18 @@ pub trait Named {
 }
 
 impl Named for Label {
-    ghost name_of = { λ x. x.name };
+    ghost name_of = { λ x. x.name.bytes };
 
     fn name(&self) -> &[u8] {
-        self.name.as_slice()
+        self.name.bytes.as_slice()
     }
 }
 
 impl Named for ChainTree {
-    ghost name_of = { λ x. x.name };
+    ghost name_of = { λ x. x.name.bytes };
 
     fn name(&self) -> &[u8] {
-        self.name.as_slice()
-    }
-}
-
-impl Named for Given {
-    ghost name_of = { λ x. x.name };
-
-    fn name(&self) -> &[u8] {
-        self.name.as_slice()
+        self.name.bytes.as_slice()
     }
 }
 
@@ -73,14 +65,12 @@ impl Named for ChainDecl {
 }
 
 /// A name that is declared, of at most 32 bytes.
-pub fn declared(alloc: Global, name: &Seq<u8>) -> Result<Name, Stop>
-    ensures { Finds (λ x. x) (name_of name.now) result }
+pub fn declared(alloc: Global, name: &Name) -> Result<Declared, Stop>
+    ensures { Finds (λ x. x) (length_faults name.now) name.now.bytes result }
 {
-    if name.len() > LONGEST {
-        return Err(Stop::Broken);
-    }
-    let bytes = name.as_slice().to_vec(alloc)?;
-    Ok(Name::from_vec(bytes))
+    refuse_if(name.bytes.len() > LONGEST, TypingKind::Limit, name.place)?;
+    let bytes = name.bytes.as_slice().to_vec(alloc)?;
+    Ok(Declared::from_vec(bytes))
 }
 
 pub fn is_among<T: Named>(name: &[u8], items: &[T]) -> bool
@@ -94,47 +84,15 @@ pub fn is_among<T: Named>(name: &[u8], items: &[T]) -> bool
     false
 }
 
-/// Whether no name stands twice.
-pub fn are_distinct<T: Named>(items: &[T]) -> bool
-    ensures { result ≡ are_distinct (map T.name_of items.now) }
-{
-    let mut rest = items;
-    while let [first, others @ ..] = rest {
-        if is_among(first.name(), others) {
-            return false;
-        }
-        rest = others;
-    }
-    true
-}
-
 /// The first item with a name, and its number.
-pub fn first_named<'a, T: Named>(name: &[u8], items: &'a [T]) -> Result<(u32, &'a T), Stop>
+pub fn first_named<'a, T: Named>(name: &[u8], items: &'a [T]) -> Option<(u32, &'a T)>
     requires { length items.now ≤ 65536 }
-    ensures { Finds (λ found. (found.0, found.1.now)) (named T.name_of name.now items.now) result }
+    ensures { option_map (λ found. (found.0, found.1.now)) result ≡ named T.name_of name.now items.now }
 {
     for (i, item) in items.iter().enumerate() {
         if name == item.name() {
-            return Ok((i as u32, item));
+            return Some((i as u32, item));
         }
     }
-    Err(Stop::Broken)
-}
-
-/// The item with a name, where there is just one.
-pub fn only_named<'a, T: Named>(name: &[u8], items: &'a [T]) -> Result<&'a T, Stop>
-    ensures { Finds (λ found. found.now) (only T.name_of name.now items.now) result }
-{
-    let mut rest = items;
-    while let [first, others @ ..] = rest {
-        if name == first.name() {
-            return if is_among(name, others) {
-                Err(Stop::Broken)
-            } else {
-                Ok(first)
-            };
-        }
-        rest = others;
-    }
-    Err(Stop::Broken)
+    None
 }

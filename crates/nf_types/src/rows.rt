@@ -1,15 +1,25 @@
 //! Worked rows: what the definitions make of a few trees.
 
-ghost use Rattle.nf_types.specs.Rows.{NoPortIsTooFew, AnUnknownVariableIsNone, AnyPortMayBeForwardedTo, TheFirewallIsChecked, HandlersStandByPort};
+ghost use Rattle.nf_types.specs.Rows.{NoPortIsTooFew, APortHasNoHandler, AVariableIsNotInScope, FaultsStandInTextOrder, AnyPortMayBeForwardedTo, AGetLooksWhereItCan, ANewGivesEachLabelOnce, TheFirewallIsAFunction, HandlersStandByPort};
 
-/// `nf x { ports 0; }` is no function.
+/// `nf x { ports 0; }` has its fault at the number.
 pub fn no_port_is_too_few()
     ensures { NoPortIsTooFew }
 {}
 
-/// `nf x { ports 1; on 0 { touch e; } }` is no function.
-pub fn an_unknown_variable_is_none()
-    ensures { AnUnknownVariableIsNone }
+/// `nf x { ports 1; }` has its fault at the last brace.
+pub fn a_port_has_no_handler()
+    ensures { APortHasNoHandler }
+{}
+
+/// `nf x { ports 1; on 0 { touch e; } }` has its fault at the variable.
+pub fn a_variable_is_not_in_scope()
+    ensures { AVariableIsNotInScope }
+{}
+
+/// Five faults of one text.
+pub fn faults_stand_in_text_order()
+    ensures { FaultsStandInTextOrder }
 {}
 
 /// `nf x { ports 1; on 0 { forward 7; } }` is a function.
@@ -17,9 +27,19 @@ pub fn any_port_may_be_forwarded_to()
     ensures { AnyPortMayBeForwardedTo }
 {}
 
+/// A chain and a map that are not declared, and a value too few.
+pub fn a_get_looks_where_it_can()
+    ensures { AGetLooksWhereItCan }
+{}
+
+/// A `new` with four faults.
+pub fn a_new_gives_each_label_once()
+    ensures { ANewGivesEachLabelOnce }
+{}
+
 /// A firewall, declaration by declaration and statement by statement.
-pub fn the_firewall_is_checked()
-    ensures { TheFirewallIsChecked }
+pub fn the_firewall_is_a_function()
+    ensures { TheFirewallIsAFunction }
 {}
 
 /// Handlers stand by port, and places count along the text.

@@ -1,21 +1,17 @@
 //! The fronts of statements: which chain, which map, which values.
 
-ghost use Rattle.std.specs.Prelude.{◌≡◌, ◌≤◌, length, map, Some, IfOk};
-ghost use Rattle.std.specs.List.{list_all, zip};
+ghost use Rattle.std.specs.Prelude.{◌≡◌, ◌≤◌, length, map, IfOk};
 ghost use Rattle.nf_base.specs.View as checked;
-ghost use Rattle.nf_syntax.specs.View as syntax;
-ghost use Rattle.nf_types.specs.Names.{each, is_among};
-ghost use Rattle.nf_types.specs.Statements.{given_to, key_of, look_in, look_up, value_for, labels_from, making};
+ghost use Rattle.nf_tree.specs.View as syntax;
+ghost use Rattle.nf_types.specs.Statements.{parts_of, key_of, look_at, map_named, look_up, value_for, making};
 ghost use Rattle.nf_types.specs.View.{look_up_of, making_of};
-ghost use Rattle.nf_types.specs.Answers.{Finds};
 
-use crate::fault::Stop;
-use crate::name::{Named, first_named, is_among, only_named};
+use crate::name::first_named;
 use crate::value::given_to;
-use nf_base::decl::{ChainDecl, ColumnDecl};
-use nf_base::expr::Given;
+use nf_base::decl::{ChainDecl, ColumnDecl, MapDecl};
+use nf_base::expr::{Expr, Given};
 use nf_base::seq::Seq;
-use nf_syntax::{Expr as Value, Given as Assigned};
+use nf_tree::{Expr as Value, Given as Assigned};
 use std::alloc::{AllocError, Global};
 
 /// Where a `get` looks.
@@ -33,27 +29,26 @@ pub struct Making {
     pub labels: Seq<Given>,
 }
 
-/// Each label with its value.
-fn each_part(alloc: Global, labels: &[ColumnDecl], key: &[Value]) -> Result<Seq<Given>, AllocError>
-    requires { length key.now ≡ length labels.now }
-    ensures { IfOk result (λ gs. map checked.given_of gs ≡ map (λ p. given_to p.0 p.1) (zip labels.now (map syntax.expression_of key.now))) }
+/// The labels that are the parts of a map's key.
+pub fn parts<'a>(chain: &'a ChainDecl, map: &MapDecl) -> &'a [ColumnDecl]
+    ensures { result.now ≡ parts_of chain.now map.now }
 {
-    let mut all = Seq::new(alloc);
-    for i in 0..labels.len() {
-        all.push(given_to(&labels[i], &key[i]))?;
-    }
-    Ok(all)
+    let labels = chain.labels.as_slice();
+    let first = labels.len().min(map.first as usize);
+    let behind = &labels[first..];
+    let parts = behind.len().min(map.parts as usize);
+    &behind[..parts]
 }
 
-/// A key has a value for each label.
-fn key(alloc: Global, labels: &[ColumnDecl], key: &[Value]) -> Result<Seq<Given>, Stop>
-    ensures { Finds (λ gs. map checked.given_of gs) (key_of labels.now (map syntax.expression_of key.now)) result }
+/// Each part of a key with its value.
+fn key(alloc: Global, parts: &[ColumnDecl], key: &[Value]) -> Result<Seq<Given>, AllocError>
+    ensures { IfOk result (λ gs. map checked.given_of gs ≡ key_of parts.now (map syntax.expression_of key.now)) }
 {
-    if key.len() != labels.len() {
-        return Err(Stop::Broken);
+    let mut all = Seq::new(alloc);
+    for i in 0..parts.len().min(key.len()) {
+        all.push(given_to(&parts[i], &key[i]))?;
     }
-    let parts = each_part(alloc, labels, key)?;
-    Ok(parts)
+    Ok(all)
 }
 
 /// Where a `get` looks in the chain with this number.
@@ -63,16 +58,24 @@ fn look_in(
     chain: &ChainDecl,
     wanted: &Seq<u8>,
     values: &Seq<Value>,
-) -> Result<LookUp, Stop>
-    ensures { Finds look_up_of (look_in number chain.now wanted.now (map syntax.expression_of values.now)) result }
+) -> Result<LookUp, AllocError>
+    ensures { IfOk result (λ at. look_up_of at ≡ look_at number chain.now (map_named chain.now wanted.now) (map syntax.expression_of values.now)) }
 {
-    let (map, _) = first_named(wanted.as_slice(), chain.maps.as_slice())?;
-    let key = key(alloc, chain.labels.as_slice(), values.as_slice())?;
-    Ok(LookUp {
-        chain: number,
-        map,
-        key,
-    })
+    match first_named(wanted.as_slice(), chain.maps.as_slice()) {
+        Some((map, found)) => {
+            let key = key(alloc, parts(chain, found), values.as_slice())?;
+            Ok(LookUp {
+                chain: number,
+                map,
+                key,
+            })
+        }
+        None => Ok(LookUp {
+            chain: number,
+            map: 0,
+            key: Seq::new(alloc),
+        }),
+    }
 }
 
 /// Where a `get` looks.
@@ -82,54 +85,48 @@ pub fn look_up(
     chain: &Seq<u8>,
     wanted: &Seq<u8>,
     values: &Seq<Value>,
-) -> Result<LookUp, Stop>
+) -> Result<LookUp, AllocError>
     requires { length chains.now ≤ 8 }
-    ensures { Finds look_up_of (look_up chains.now chain.now wanted.now (map syntax.expression_of values.now)) result }
+    ensures { IfOk result (λ at. look_up_of at ≡ look_up chains.now chain.now wanted.now (map syntax.expression_of values.now)) }
 {
-    let (number, found) = first_named(chain.as_slice(), chains)?;
-    look_in(alloc, number, found, wanted, values)
+    match first_named(chain.as_slice(), chains) {
+        Some((number, found)) => look_in(alloc, number, found, wanted, values),
+        None => Ok(LookUp {
+            chain: 0,
+            map: 0,
+            key: Seq::new(alloc),
+        }),
+    }
 }
 
-/// Whether each name is a label's.
-fn are_labels(given: &[Assigned], labels: &[ColumnDecl]) -> bool
-    ensures { result ≡ list_all (λ g. is_among g.name (map (λ l. l.name) labels.now)) (map syntax.given_of given.now) }
+/// The value that a label is given first.
+fn value_for(given: &[Assigned], label: &ColumnDecl) -> Given
+    ensures { checked.given_of result ≡ value_for (map syntax.given_of given.now) label.now }
 {
     for one in given {
-        if !is_among(one.name.as_slice(), labels) {
-            return false;
+        if label.name.as_slice() == one.name.bytes.as_slice() {
+            return given_to(label, &one.value);
         }
     }
-    true
-}
-
-/// The value of a label, where it is given just one.
-#[tactic(auto, using(crate::proofs::Named::same_value))]
-fn value_for(given: &[Assigned], label: &ColumnDecl) -> Result<Given, Stop>
-    ensures { Finds checked.given_of (value_for (map syntax.given_of given.now) label.now) result }
-{
-    let one = only_named(label.name(), given)?;
-    Ok(given_to(label, &one.value))
+    Given {
+        width: label.width,
+        value: Expr::Number(0),
+    }
 }
 
 /// The values of the labels one by one.
-fn each_value(alloc: Global, given: &[Assigned], labels: &[ColumnDecl]) -> Result<Seq<Given>, Stop>
-    ensures { Finds (λ gs. map checked.given_of gs) (each (value_for (map syntax.given_of given.now)) labels.now) result }
+fn values(
+    alloc: Global,
+    given: &[Assigned],
+    labels: &[ColumnDecl],
+) -> Result<Seq<Given>, AllocError>
+    ensures { IfOk result (λ gs. map checked.given_of gs ≡ map (value_for (map syntax.given_of given.now)) labels.now) }
 {
     let mut all = Seq::new(alloc);
     for label in labels {
-        all.push(value_for(given, label)?)?;
+        all.push(value_for(given, label))?;
     }
     Ok(all)
-}
-
-/// A `new` gives each label just one value, in any order.
-fn labels_from(alloc: Global, given: &[Assigned], labels: &[ColumnDecl]) -> Result<Seq<Given>, Stop>
-    ensures { Finds (λ gs. map checked.given_of gs) (labels_from (map syntax.given_of given.now) labels.now) result }
-{
-    if !are_labels(given, labels) {
-        return Err(Stop::Broken);
-    }
-    each_value(alloc, given, labels)
 }
 
 /// What a `new` makes.
@@ -138,11 +135,21 @@ pub fn make(
     chains: &[ChainDecl],
     chain: &Seq<u8>,
     given: &Seq<Assigned>,
-) -> Result<Making, Stop>
+) -> Result<Making, AllocError>
     requires { length chains.now ≤ 8 }
-    ensures { Finds making_of (making chains.now chain.now (map syntax.given_of given.now)) result }
+    ensures { IfOk result (λ at. making_of at ≡ making chains.now chain.now (map syntax.given_of given.now)) }
 {
-    let (chain, declared) = first_named(chain.as_slice(), chains)?;
-    let labels = labels_from(alloc, given.as_slice(), declared.labels.as_slice())?;
-    Ok(Making { chain, labels })
+    match first_named(chain.as_slice(), chains) {
+        Some((number, found)) => {
+            let labels = values(alloc, given.as_slice(), found.labels.as_slice())?;
+            Ok(Making {
+                chain: number,
+                labels,
+            })
+        }
+        None => Ok(Making {
+            chain: 0,
+            labels: Seq::new(alloc),
+        }),
+    }
 }

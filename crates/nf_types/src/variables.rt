@@ -2,13 +2,9 @@
 
 ghost use Rattle.std.specs.Prelude.{◌≡◌, ◌<◌, ◌^◌, length};
 ghost use Rattle.nf_types.specs.Names.{is_among};
-ghost use Rattle.nf_types.specs.Statements.{variable_of, fresh};
+ghost use Rattle.nf_types.specs.Statements.{variable_of};
 ghost use Rattle.nf_types.specs.View.{variables_of};
-ghost use Rattle.nf_types.specs.Answers.{Finds};
 
-use crate::fault::Stop;
-use crate::name;
-use nf_base::decl::ChainDecl;
 use nf_base::seq::Seq;
 
 /// The variables in scope, the innermost first. A variable's number is how many stand behind it.
@@ -22,7 +18,7 @@ pub enum Variables<'a> {
 }
 
 /// How many are in scope.
-fn count(variables: &Variables) -> u32
+pub fn count(variables: &Variables) -> u32
     requires { length (variables_of variables.now) < 2 ^ 32 }
     ensures { result ≡ length (variables_of variables.now) }
 {
@@ -36,21 +32,21 @@ fn count(variables: &Variables) -> u32
 }
 
 /// The number of a variable in scope.
-pub fn number_of(variables: &Variables, name: &Seq<u8>) -> Result<u32, Stop>
+pub fn number_of(variables: &Variables, name: &Seq<u8>) -> u32
     requires { length (variables_of variables.now) < 2 ^ 32 }
-    ensures { Finds (λ n. n) (variable_of (variables_of variables.now) name.now) result }
+    ensures { result ≡ variable_of (variables_of variables.now) name.now }
 {
     let mut rest = variables;
     while let Variables::Bound { name: bound, outer } = rest {
         if name.as_slice() == bound.as_slice() {
-            return Ok(count(outer));
+            return count(outer);
         }
         rest = outer;
     }
-    Err(Stop::Broken)
+    0
 }
 
-fn is_in_scope(variables: &Variables, name: &Seq<u8>) -> bool
+pub fn is_in_scope(variables: &Variables, name: &Seq<u8>) -> bool
     ensures { result ≡ is_among name.now (variables_of variables.now) }
 {
     let mut rest = variables;
@@ -61,15 +57,4 @@ fn is_in_scope(variables: &Variables, name: &Seq<u8>) -> bool
         rest = outer;
     }
     false
-}
-
-/// The number of a variable that is to be bound. It differs from every chain and every variable in scope.
-pub fn fresh(chains: &[ChainDecl], variables: &Variables, name: &Seq<u8>) -> Result<u32, Stop>
-    requires { length (variables_of variables.now) < 2 ^ 32 }
-    ensures { Finds (λ n. n) (fresh chains.now (variables_of variables.now) name.now) result }
-{
-    if name::is_among(name.as_slice(), chains) || is_in_scope(variables, name) {
-        return Err(Stop::Broken);
-    }
-    Ok(count(variables))
 }

@@ -1,6 +1,6 @@
 use Rattle.std.proofs.Common.{◌≡◌, [], ◌≤◌, List, length, map}
-use Rattle.nf_syntax.specs.Tree.{Handler}
-use Rattle.nf_syntax.specs.View.{handler_of}
+use Rattle.nf_tree.specs.Tree.{Handler}
+use Rattle.nf_tree.specs.View.{handler_of}
 use Rattle.nf_syntax.specs.Machine.{Place, HandlersAt, run}
 use Rattle.nf_syntax.proofs.declaration.handlers.Given as goal
 

@@ -1,5 +1,5 @@
 use Rattle.std.proofs.Common.{map}
-use Rattle.nf_syntax.specs.View.{given_of}
+use Rattle.nf_tree.specs.View.{given_of}
 use Rattle.nf_syntax.proofs.Steps.{by_name}
 use Rattle.nf_syntax.proofs.list.given.Goals as goal
 

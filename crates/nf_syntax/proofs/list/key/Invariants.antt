@@ -1,6 +1,6 @@
 use Rattle.std.proofs.Common.{◌≡◌, ◌∷◌, [], ◌<◌, List, length, map}
-use Rattle.nf_syntax.specs.Tree.{Expression}
-use Rattle.nf_syntax.specs.View.{expression_of}
+use Rattle.nf_tree.specs.Tree.{Expression}
+use Rattle.nf_tree.specs.View.{expression_of}
 use Rattle.nf_syntax.specs.Machine.{Place, ValueAt, MoreAt, run}
 use Rattle.nf_syntax.proofs.list.key.Given as goal
 

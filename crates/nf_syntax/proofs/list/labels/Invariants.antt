@@ -1,5 +1,5 @@
 use Rattle.std.proofs.Common.{◌≡◌, ◌<◌, List, length}
-use Rattle.nf_syntax.specs.declared.tree.Label.{Label}
+use Rattle.nf_tree.specs.declared.tree.Label.{Label}
 use Rattle.nf_syntax.specs.Machine.{Place, MoreLabelsAt, labels_at, run}
 use Rattle.nf_syntax.proofs.list.labels.Given as goal
 

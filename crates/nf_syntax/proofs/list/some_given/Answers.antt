@@ -3,7 +3,7 @@ use Rattle.std.proofs.lemmas.Grind.{common_steps}
 use Rattle.std.proofs.lemmas.List.{map-append}
 use Rattle.nf_tokens.specs.declared.token.Sign.TheVariants as signs
 use Rattle.nf_tokens.specs.declared.token.Token.TheVariants as tokens
-use Rattle.nf_syntax.specs.View.{given_of}
+use Rattle.nf_tree.specs.View.{given_of}
 use Rattle.nf_syntax.specs.Machine.{MoreGivenAt, run}
 use Rattle.nf_syntax.proofs.Steps.{comma_given, shorter_behind}
 use Rattle.nf_syntax.proofs.list.some_given.Goals as goal

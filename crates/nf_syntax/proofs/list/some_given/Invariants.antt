@@ -1,6 +1,6 @@
 use Rattle.std.proofs.Common.{◌≡◌, ◌<◌, List, length, map}
-use Rattle.nf_syntax.specs.Tree.{Given}
-use Rattle.nf_syntax.specs.View.{given_of}
+use Rattle.nf_tree.specs.Tree.{Given}
+use Rattle.nf_tree.specs.View.{given_of}
 use Rattle.nf_syntax.specs.Machine.{Place, MoreGivenAt, some_given_at, run}
 use Rattle.nf_syntax.proofs.list.some_given.Given as goal
 

@@ -1,6 +1,6 @@
 use Rattle.std.proofs.Common.{◌≡◌, ◌+◌, ◌*◌, ◌≤◌, length}
-use Rattle.nf_syntax.specs.Tree.{Block, Start}
-use Rattle.nf_syntax.specs.View.{block_of}
+use Rattle.nf_tree.specs.Tree.{Block, Start}
+use Rattle.nf_tree.specs.View.{block_of}
 use Rattle.nf_syntax.specs.Machine.{Place, BodyAt, run}
 use Rattle.nf_syntax.proofs.statement.+blocks.Given as goal
 

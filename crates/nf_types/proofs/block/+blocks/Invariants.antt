@@ -2,9 +2,9 @@
 use Rattle.std.proofs.Common.{◌≡◌, ◌+◌, ◌*◌, ◌≤◌, max}
 use Rattle.nf_base.specs.Text.{End}
 use Rattle.nf_base.specs.View as checked
-use Rattle.nf_syntax.specs.declared.tree.Block.{size-Block}
-use Rattle.nf_syntax.specs.View as syntax
-use Rattle.nf_types.specs.Blocks.{checked_block}
+use Rattle.nf_tree.specs.declared.tree.Block.{size-Block}
+use Rattle.nf_tree.specs.View as syntax
+use Rattle.nf_types.specs.Blocks.{code_of}
 use Rattle.nf_types.specs.Counts.{lookups}
 use Rattle.nf_types.specs.View.{variables_of}
 use Rattle.nf_types.proofs.block.+blocks.Given as goal
@@ -22,6 +22,6 @@ abbrev pub invariant-block-loop-rest : goal.invariant-block-loop-rest
 invariant-block-loop-rest l = record {
   smaller : size-Block l.rest ≤ size-Block l.block;
   fewer : lookups (syntax.block_of l.rest) ≤ lookups (syntax.block_of l.block);
-  so_far : checked_block l.place l.chains (variables_of l.scope) (syntax.block_of l.rest) (checked.block_of l.next)
-      ≡ checked_block l.place l.chains (variables_of l.scope) (syntax.block_of l.block) End;
+  so_far : code_of l.place l.chains (variables_of l.scope) (syntax.block_of l.rest) (checked.block_of l.next)
+      ≡ code_of l.place l.chains (variables_of l.scope) (syntax.block_of l.block) End;
 }

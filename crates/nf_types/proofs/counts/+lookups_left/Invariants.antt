@@ -1,12 +1,17 @@
--- what was counted and what is left are the whole
-use Rattle.std.proofs.Common.{◌≡◌, ◌+◌, ◌≤◌}
-use Rattle.nf_syntax.specs.declared.tree.Block.{size-Block}
-use Rattle.nf_syntax.specs.View.{block_of}
+use Rattle.std.proofs.Common.{◌≡◌, ◌-◌, ◌≤◌}
+use Rattle.nf_tree.specs.declared.tree.Block.{size-Block}
+use Rattle.nf_tree.specs.View.{block_of}
 use Rattle.nf_types.specs.Counts.{lookups}
 use Rattle.nf_types.proofs.counts.+lookups_left.Given as goal
 
-abbrev pub invariant-loop-rest : goal.invariant-loop-rest
-invariant-loop-rest l = record {
+abbrev pub decreases-lookups_left : goal.decreases-lookups_left
+decreases-lookups_left l = size-Block l.block.now
+
+abbrev pub invariant-loop-left : goal.invariant-loop-left
+invariant-loop-left l = record {
   smaller : size-Block l.rest ≤ size-Block l.block;
-  counted : l.left + lookups (block_of l.block) ≡ l.room + lookups (block_of l.rest);
+  same : l.left - lookups (block_of l.rest) ≡ l.room - lookups (block_of l.block);
 }
+
+abbrev pub decreases-loop-left : goal.decreases-loop-left
+decreases-loop-left l = size-Block l.rest

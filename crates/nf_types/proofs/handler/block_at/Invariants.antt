@@ -1,7 +1,7 @@
 -- what is left decides
 use Rattle.std.proofs.Common.{◌≡◌, ◌+◌, ◌*◌, ◌≤◌, length, map}
-use Rattle.nf_syntax.specs.View.{handler_of}
-use Rattle.nf_types.specs.Checked.{block_at}
+use Rattle.nf_tree.specs.View.{handler_of}
+use Rattle.nf_types.specs.Function.{block_at}
 use Rattle.nf_types.specs.Small.{AreSmall}
 use Rattle.nf_types.proofs.handler.block_at.Given as goal
 

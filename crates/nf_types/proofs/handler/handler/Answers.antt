@@ -1,9 +1,9 @@
 use Rattle.nf_base.specs.View as checked
-use Rattle.nf_syntax.specs.View as syntax
-use Rattle.nf_types.proofs.Fits.{within}
+use Rattle.nf_tree.specs.View as syntax
+use Rattle.nf_types.proofs.Counted.{within}
 use Rattle.nf_types.proofs.handler.handler.Goals as goal
 
 pub invariant_of-result : goal.invariant_of-result
 invariant_of-result c = record {
-  within = within c.in_ok-before.before c.args.chains.now (syntax.block_of c.in_ok-before.text.now) (checked.block_of c.in_ok-code.code) c.in_ok-code.ensures c.in_ok-before.ensures.small;
+  within = within c.in-Some.before c.args.chains.now (syntax.block_of c.in-Some.text.now) (checked.block_of c.in_ok-code-in-Some.code) c.in_ok-code-in-Some.ensures c.in-Some.ensures.small;
 }

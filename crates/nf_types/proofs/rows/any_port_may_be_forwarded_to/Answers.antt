@@ -1,9 +1,11 @@
 use Rattle.std.proofs.Common.{refl}
 use Rattle.nf_types.specs.Declarations.{chain_of}
-use Rattle.nf_types.specs.Blocks.{got, made}
-use Rattle.nf_types.specs.Checked.{handler_at}
+use Rattle.nf_types.specs.DeclarationFaults.{label_faults, chain_faults}
+use Rattle.nf_types.specs.BlockFaults.{get_faults, new_faults}
+use Rattle.nf_types.specs.Function.{handler_at}
+use Rattle.nf_types.specs.TextFaults.{handler_faults}
 use Rattle.nf_types.proofs.rows.any_port_may_be_forwarded_to.Goals as goal
 
 pub returns : goal.returns
-unfolding chain_of got made handler_at
-returns c = refl
+unfolding chain_of label_faults chain_faults get_faults new_faults handler_at handler_faults
+returns c = (refl, refl)

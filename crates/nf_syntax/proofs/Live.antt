@@ -1,0 +1,63 @@
+-- From every place some items lead to an end, and nothing that may be left out begins with them.
+use Rattle.std.proofs.Common.{◌≡◌, ◌∙◌, ◌∷◌, ◌==◌, false, Some, List, [], refl, ap, eq-eqb}
+use Rattle.nf_tokens.specs.Signs.{number_of}
+use Rattle.nf_tokens.specs.Tokens.{start}
+use Rattle.nf_tokens.specs.declared.token.Sign.{Sign}
+use Rattle.nf_tokens.specs.declared.token.Sign.TheVariants as signs
+use Rattle.nf_tree.specs.declared.place.Name.{Name}
+use Rattle.nf_tree.specs.declared.place.Literal.{Literal}
+use Rattle.nf_tree.specs.Tree.{Tree, Number, Start, Missing}
+use Rattle.nf_syntax.specs.Items.{ASign, Marked, name, number, sign, word}
+use Rattle.nf_syntax.specs.Machine.{Place, End, NameAt, NumberAt, ValueAt, SignAt, CloseAt, MapAt, MoreAt, GivenAt, MoreGivenAt, MoreLabelsAt, BlockAt, BodyAt, OptionalAt, ChainsAt, HandlersAt, go_if, given_one}
+use Rattle.nf_syntax.proofs.Going.{goes, on_row, agree_itself, IsFirm, misses, skip_optional, skip_more, skip_more_given, skip_more_labels, skip_chains}
+
+-- an end that can be reached
+pub record Ending (place : Place) : Type 0 where
+  pub more : List Marked
+  pub tree : Tree
+  pub firm : IsFirm more
+  pub reached : goes place more ≡ Some tree
+
+pass : (s : Sign) (k : Place) (ms : List Marked) → goes (SignAt s k) (sign s ∷ ms) ≡ goes k ms
+pass s k ms = ap (λ b. on_row (go_if b k) false (λ next. goes next ms)) (eq-eqb (number_of s) (number_of s) refl)
+
+no_name : Name
+no_name = record { bytes = []; place = start }
+
+zero_here : Literal
+zero_here = record { value = 0; place = start }
+
+pub live : (place : Place) → Ending place
+live (End t) = record { more = []; tree = t; firm = tt; reached = refl }
+live (NameAt k) = let e = live (k no_name) in record { more = name no_name ∷ e.more; tree = e.tree; firm = tt; reached = e.reached }
+live (NumberAt k) = let e = live (k zero_here) in record { more = number zero_here ∷ e.more; tree = e.tree; firm = tt; reached = e.reached }
+live (ValueAt k) = let e = live (k (Number zero_here)) in record { more = number zero_here ∷ e.more; tree = e.tree; firm = tt; reached = e.reached }
+live (SignAt s k) = let e = live k in record { more = sign s ∷ e.more; tree = e.tree; firm = tt; reached = pass s k e.more ∙ e.reached }
+live (CloseAt k) = let e = live (k start) in record { more = word signs.CloseParenthesis start ∷ e.more; tree = e.tree; firm = tt; reached = e.reached }
+live (MapAt k) = let e = live (k start) in record { more = word signs.Map start ∷ e.more; tree = e.tree; firm = tt; reached = e.reached }
+live (MoreAt vs k) = let e = live (k vs) in record { more = e.more; tree = e.tree; firm = e.firm; reached = skip_more vs k e.more e.firm ∙ e.reached }
+live (GivenAt k) =
+    let g = given_one no_name (Number zero_here) in
+    let e = live (k (g ∷ [])) in record {
+      more = name no_name ∷ sign signs.Assign ∷ number zero_here ∷ e.more;
+      tree = e.tree;
+      firm = tt;
+      reached = skip_more_given (g ∷ []) k e.more e.firm ∙ e.reached;
+    }
+live (MoreGivenAt gs k) = let e = live (k gs) in record { more = e.more; tree = e.tree; firm = e.firm; reached = skip_more_given gs k e.more e.firm ∙ e.reached }
+live (MoreLabelsAt ls k) = let e = live (k ls) in record { more = e.more; tree = e.tree; firm = e.firm; reached = skip_more_labels ls k e.more e.firm ∙ e.reached }
+live (BlockAt room k) = let e = live (k Start) in record {
+  more = record { item = ASign signs.OpenBrace; past = room == 0 } ∷ sign signs.CloseBrace ∷ e.more;
+  tree = e.tree;
+  firm = tt;
+  reached = agree_itself (room == 0) _ ∙ e.reached;
+}
+live (BodyAt room b k) = let e = live (k b) in record { more = sign signs.CloseBrace ∷ e.more; tree = e.tree; firm = tt; reached = e.reached }
+live (OptionalAt s room k) = let e = live (k Missing) in record {
+  more = e.more;
+  tree = e.tree;
+  firm = e.firm;
+  reached = skip_optional s room k e.more (misses s e.more e.firm) ∙ e.reached;
+}
+live (ChainsAt k) = let e = live (k []) in record { more = e.more; tree = e.tree; firm = e.firm; reached = skip_chains k e.more e.firm ∙ e.reached }
+live (HandlersAt hs k) = let e = live (k hs) in record { more = sign signs.CloseBrace ∷ e.more; tree = e.tree; firm = tt; reached = e.reached }

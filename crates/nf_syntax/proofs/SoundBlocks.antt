@@ -1,0 +1,263 @@
+-- What goes through is spelled so: blocks and their statements.
+use Rattle.std.proofs.Common.{◌≡◌, ◌∙◌, ◌∷◌, ◌++◌, ◌<◌, ◌-◌, ◌==◌, ℕ, zero, suc, Bool, true, false, nat_eq, Option, Some, List, [], length, refl, ap, sym, subst, append_assoc, append-nil, arith}
+use Rattle.nf_tokens.specs.Signs.{number_of}
+use Rattle.nf_tokens.specs.declared.token.Place as places
+use Rattle.nf_tokens.specs.declared.token.Sign.{Sign}
+use Rattle.nf_tokens.specs.declared.token.Sign.TheVariants as signs
+use Rattle.nf_tree.specs.declared.place.Name.{Name}
+use Rattle.nf_tree.specs.Tree.{Tree, Expression, Given, Block, Start, Missing, Touch, Get, New, Forward, Discard}
+use Rattle.nf_syntax.specs.declared.head.GetHead.{GetHead}
+use Rattle.nf_syntax.specs.declared.head.NewHead.{NewHead}
+use Rattle.nf_syntax.specs.Items.{Item, ASign, AWord, AJoin, Marked, name, sign, word, join}
+use Rattle.nf_syntax.specs.Grammar.{Opened, Body, Optional, Is, value, values, given, braced, optional, body, get_head, new_head}
+use Rattle.nf_syntax.specs.Machine.{Place, NameAt, SignAt, CloseAt, GivenAt, BlockAt, BodyAt, OptionalAt, go_or, step, values_at, get_head_at, new_head_at, get_at, new_at, touch_at, forward_at, discard_at}
+use Rattle.nf_syntax.specs.Language.{Spells}
+use Rattle.nf_syntax.proofs.Going.{goes, on_row, agree}
+use Rattle.nf_syntax.proofs.Complete.{written}
+use Rattle.nf_syntax.proofs.SameSign.{same_sign}
+use Rattle.nf_syntax.proofs.SoundTokens.{Good, mark, front, less, moved, good_name, good_value, good_sign, good_close}
+use Rattle.nf_syntax.proofs.SoundLists.{good_values, good_given}
+
+-- how the tokens of a statement are grouped as they are read, and as they are spelled
+regroup3 : (s b : List Marked) (x y z : Marked) → s ++ (b ++ x ∷ y ∷ z ∷ []) ≡ (((s ++ b) ++ x ∷ []) ++ y ∷ []) ++ z ∷ []
+regroup3 s b x y z = simp append_assoc
+
+regroup3' : (s b : List Marked) (x y z : Marked) → s ++ ((b ++ x ∷ y ∷ []) ++ z ∷ []) ≡ (((s ++ b) ++ x ∷ []) ++ y ∷ []) ++ z ∷ []
+regroup3' s b x y z = simp append_assoc
+
+regroup4 : (s b : List Marked) (x y z u : Marked) → s ++ ((b ++ x ∷ y ∷ z ∷ []) ++ u ∷ []) ≡ ((((s ++ b) ++ x ∷ []) ++ y ∷ []) ++ z ∷ []) ++ u ∷ []
+regroup4 s b x y z u = simp append_assoc
+
+got : (s b h v i e : List Marked) (g c : Marked) →
+    s ++ (b ++ (g ∷ h ++ (v ++ (c ∷ [] ++ (i ++ e))))) ≡ (((((s ++ b) ++ g ∷ []) ++ h) ++ v) ++ c ∷ []) ++ i ++ e
+got s b h v i e g c = simp append_assoc
+
+made_new : (s b h v i t f : List Marked) (g c : Marked) →
+    s ++ (b ++ (g ∷ h ++ (v ++ (c ∷ [] ++ (i ++ (t ++ f)))))) ≡ ((((((s ++ b) ++ g ∷ []) ++ h) ++ v) ++ c ∷ []) ++ i ++ t) ++ f
+made_new s b h v i t f g c = simp append_assoc
+
+four : (s : List Marked) (a b c d : Marked) → s ++ a ∷ b ∷ c ∷ d ∷ [] ≡ (((s ++ a ∷ []) ++ b ∷ []) ++ c ∷ []) ++ d ∷ []
+four s a b c d = simp append_assoc
+
+six : (s : List Marked) (a b c d e f : Marked) → s ++ a ∷ b ∷ c ∷ d ∷ e ∷ f ∷ [] ≡ (((((s ++ a ∷ []) ++ b ∷ []) ++ c ∷ []) ++ d ∷ []) ++ e ∷ []) ++ f ∷ []
+six s a b c d e f = simp append_assoc
+
+-- blocks
+abbrev pub BlockGood : ℕ → ℕ → List Marked → (Block → Place) → Type 0
+BlockGood n room seen k = (c : Block) → Is Body c → Good n (seen ++ braced room (body (room - 1) c)) (k c)
+
+abbrev pub Blocks : ℕ → Type 0
+Blocks n = (room : ℕ) (seen : List Marked) (k : Block → Place) → BlockGood n room seen k → Good n seen (BlockAt room k)
+
+abbrev BodyGood : ℕ → ℕ → List Marked → (Block → Place) → Type 0
+BodyGood n room seen k = (c : Block) → Is Body c → Good n (seen ++ (body room c ++ sign signs.CloseBrace ∷ [])) (k c)
+
+abbrev Bodies : ℕ → Type 0
+Bodies n = (room : ℕ) (seen : List Marked) (b : Block) (k : Block → Place) → Is Opened b → BodyGood n room seen k → Good n (seen ++ body room b) (BodyAt room b k)
+
+is_body : (b : Block) → Is Opened b → Is Body b
+is_body Start g = g
+is_body Missing g = absurd g
+is_body (Touch b x) g = g
+is_body (Get b at x c m key close hit miss) g = g
+is_body (New b at x c gs close made taken full) g = g
+is_body (Forward b v) g = absurd g
+is_body (Discard b) g = absurd g
+
+is_optional : (b : Block) → Is Body b → Is Optional b
+is_optional Start g = g
+is_optional Missing g = absurd g
+is_optional (Touch b x) g = g
+is_optional (Get b at x c m key close hit miss) g = g
+is_optional (New b at x c gs close made taken full) g = g
+is_optional (Forward b v) g = g
+is_optional (Discard b) g = g
+
+abbrev OptionalGood : ℕ → Sign → ℕ → List Marked → (Block → Place) → Type 0
+OptionalGood n o room seen k = (c : Block) → Is Optional c → Good n (seen ++ optional o room c (body (room - 1) c)) (k c)
+
+optional_row : (n : ℕ) (o : Sign) (room : ℕ) (seen : List Marked) (k : Block → Place) → Blocks n → OptionalGood n o room seen k → Good n seen (k Missing) →
+    (t : Sign) (b past : Bool) (ms : List Marked) (tree : Tree) → (b ≡ true → t ≡ o) → length (mark (AJoin t) past ∷ ms) < n →
+    on_row (go_or b (BlockAt room k) (step (k Missing) (AJoin t))) past (λ next. goes next ms) ≡ Some tree → Spells (seen ++ mark (AJoin t) past ∷ ms) tree
+optional_row n o room seen k blocks f none t true false ms tree same few h =
+    subst (λ s. Spells (seen ++ join s ∷ ms) tree) (sym (same refl))
+    (front n seen (join o) (BlockAt room k) (blocks room (seen ++ join o ∷ []) k (λ c g.
+    moved n (seen ++ optional o room c (body (room - 1) c)) ((seen ++ join o ∷ []) ++ braced room (body (room - 1) c)) (k c)
+    (ap (λ x. seen ++ x) (written o room c (body (room - 1) c) g) ∙ sym (append_assoc seen (join o ∷ []) (braced room (body (room - 1) c)))) (f c (is_optional c g)))) ms tree (omega arith) h)
+optional_row n o room seen k blocks f none t true true ms tree same few h = absurd cc
+optional_row n o room seen k blocks f none t false past ms tree same few h = none (mark (AJoin t) past ∷ ms) tree few h
+
+optional_token : (n : ℕ) (o : Sign) (room : ℕ) (seen : List Marked) (k : Block → Place) → Blocks n → OptionalGood n o room seen k → Good n seen (k Missing) →
+    (t : Item) (past : Bool) (ms : List Marked) (tree : Tree) → length (mark t past ∷ ms) < n → goes (OptionalAt o room k) (mark t past ∷ ms) ≡ Some tree → Spells (seen ++ mark t past ∷ ms) tree
+optional_token n o room seen k blocks f none (AJoin t) past ms tree few h =
+    optional_row n o room seen k blocks f none t (nat_eq (number_of t) (number_of o)) past ms tree (same_sign o t) few h
+optional_token n o room seen k blocks f none t past ms tree few h = none (mark t past ∷ ms) tree few h
+
+good_optional : (n : ℕ) (o : Sign) (room : ℕ) (seen : List Marked) (k : Block → Place) → Blocks n → OptionalGood n o room seen k →
+    (ms : List Marked) (tree : Tree) → length ms < n → goes (OptionalAt o room k) ms ≡ Some tree → Spells (seen ++ ms) tree
+good_optional n o room seen k blocks f [] tree few h = moved n (seen ++ []) seen (k Missing) (append-nil seen) (f Missing tt) [] tree few h
+good_optional n o room seen k blocks f (m ∷ ms) tree few h =
+    optional_token n o room seen k blocks f (moved n (seen ++ []) seen (k Missing) (append-nil seen) (f Missing tt)) m.item m.past ms tree few h
+
+good_get_head : (n : ℕ) (seen : List Marked) (k : GetHead → Place) → ((h : GetHead) → Good n (seen ++ get_head h.variable h.chain h.map) (k h)) → Good n seen (get_head_at k)
+good_get_head n seen k f =
+    let k3 = λ (x c m : Name). k (record { variable = x; chain = c; map = m }) in
+    let k2 = λ (x c : Name). NameAt (λ m. SignAt signs.OpenParenthesis (k3 x c m)) in
+    let k1 = λ (x : Name). NameAt (λ c. SignAt signs.Dot (k2 x c)) in
+    good_name n seen (λ x. SignAt signs.Assign (k1 x)) (λ x.
+    let s1 = seen ++ name x ∷ [] in
+    good_sign n s1 signs.Assign (k1 x) (
+    let s2 = s1 ++ sign signs.Assign ∷ [] in
+    good_name n s2 (λ c. SignAt signs.Dot (k2 x c)) (λ c.
+    let s3 = s2 ++ name c ∷ [] in
+    good_sign n s3 signs.Dot (k2 x c) (
+    let s4 = s3 ++ sign signs.Dot ∷ [] in
+    good_name n s4 (λ m. SignAt signs.OpenParenthesis (k3 x c m)) (λ m.
+    let s5 = s4 ++ name m ∷ [] in
+    good_sign n s5 signs.OpenParenthesis (k3 x c m) (
+    moved n (seen ++ get_head x c m) (s5 ++ sign signs.OpenParenthesis ∷ []) (k3 x c m)
+    (six seen (name x) (sign signs.Assign) (name c) (sign signs.Dot) (name m) (sign signs.OpenParenthesis)) (f (record { variable = x; chain = c; map = m }))))))))
+
+good_new_head : (n : ℕ) (seen : List Marked) (k : NewHead → Place) → ((h : NewHead) → Good n (seen ++ new_head h.variable h.chain) (k h)) → Good n seen (new_head_at k)
+good_new_head n seen k f =
+    let k2 = λ (x c : Name). k (record { variable = x; chain = c }) in
+    let k1 = λ (x : Name). NameAt (λ c. SignAt signs.OpenParenthesis (k2 x c)) in
+    good_name n seen (λ x. SignAt signs.Assign (k1 x)) (λ x.
+    let s1 = seen ++ name x ∷ [] in
+    good_sign n s1 signs.Assign (k1 x) (
+    let s2 = s1 ++ sign signs.Assign ∷ [] in
+    good_name n s2 (λ c. SignAt signs.OpenParenthesis (k2 x c)) (λ c.
+    let s3 = s2 ++ name c ∷ [] in
+    good_sign n s3 signs.OpenParenthesis (k2 x c) (
+    moved n (seen ++ new_head x c) (s3 ++ sign signs.OpenParenthesis ∷ []) (k2 x c)
+    (four seen (name x) (sign signs.Assign) (name c) (sign signs.OpenParenthesis)) (f (record { variable = x; chain = c }))))))
+
+good_get : (n room : ℕ) (seen : List Marked) (b : Block) (at : places.Place) (k : Block → Place) → Is Opened b → Blocks n → Bodies n → BodyGood n room seen k →
+    Good n ((seen ++ body room b) ++ word signs.Get at ∷ []) (get_at room b at k)
+good_get n room seen b at k g blocks bodies f =
+    let s0 = (seen ++ body room b) ++ word signs.Get at ∷ [] in
+    let head = λ (h : GetHead). get_head h.variable h.chain h.map in
+    let last = λ (h : GetHead) (key : List Expression) (close : places.Place) (hit miss : Block). Get b at h.variable h.chain h.map key close hit miss in
+    let missed = λ (miss : Block). optional signs.Else room miss (body (room - 1) miss) in
+    good_get_head n s0 (λ h. values_at (λ key. CloseAt (λ p. BlockAt room (λ hit. OptionalAt signs.Else room (λ miss. BodyAt room (last h key p hit miss) k))))) (λ h.
+    let s1 = s0 ++ head h in
+    good_values n s1 (λ key. CloseAt (λ p. BlockAt room (λ hit. OptionalAt signs.Else room (λ miss. BodyAt room (last h key p hit miss) k)))) (λ key hk.
+    let s2 = s1 ++ values key in
+    good_close n s2 (λ p. BlockAt room (λ hit. OptionalAt signs.Else room (λ miss. BodyAt room (last h key p hit miss) k))) (λ p.
+    let s3 = s2 ++ word signs.CloseParenthesis p ∷ [] in
+    blocks room s3 (λ hit. OptionalAt signs.Else room (λ miss. BodyAt room (last h key p hit miss) k)) (λ hit gh.
+    let s4 = s3 ++ braced room (body (room - 1) hit) in
+    good_optional n signs.Else room s4 (λ miss. BodyAt room (last h key p hit miss) k) blocks (λ miss gm.
+    moved n (seen ++ body room (last h key p hit miss)) (s4 ++ missed miss) (BodyAt room (last h key p hit miss) k)
+    (got seen (body room b) (head h) (values key) (braced room (body (room - 1) hit)) (missed miss) (word signs.Get at) (word signs.CloseParenthesis p))
+    (bodies room seen (last h key p hit miss) k (g, hk, gh, gm) f))))))
+
+good_new : (n room : ℕ) (seen : List Marked) (b : Block) (at : places.Place) (k : Block → Place) → Is Opened b → Blocks n → Bodies n → BodyGood n room seen k →
+    Good n ((seen ++ body room b) ++ word signs.New at ∷ []) (new_at room b at k)
+good_new n room seen b at k g blocks bodies f =
+    let s0 = (seen ++ body room b) ++ word signs.New at ∷ [] in
+    let head = λ (h : NewHead). new_head h.variable h.chain in
+    let last = λ (h : NewHead) (gs : List Given) (close : places.Place) (made taken full : Block). New b at h.variable h.chain gs close made taken full in
+    let takes = λ (taken : Block). optional signs.Taken room taken (body (room - 1) taken) in
+    let fills = λ (full : Block). optional signs.Full room full (body (room - 1) full) in
+    good_new_head n s0 (λ h. GivenAt (λ gs. CloseAt (λ p. BlockAt room (λ made. OptionalAt signs.Taken room (λ taken. OptionalAt signs.Full room (λ full. BodyAt room (last h gs p made taken full) k)))))) (λ h.
+    let s1 = s0 ++ head h in
+    good_given n s1 (λ gs. CloseAt (λ p. BlockAt room (λ made. OptionalAt signs.Taken room (λ taken. OptionalAt signs.Full room (λ full. BodyAt room (last h gs p made taken full) k))))) (λ gs.
+    let s2 = s1 ++ given gs in
+    good_close n s2 (λ p. BlockAt room (λ made. OptionalAt signs.Taken room (λ taken. OptionalAt signs.Full room (λ full. BodyAt room (last h gs p made taken full) k)))) (λ p.
+    let s3 = s2 ++ word signs.CloseParenthesis p ∷ [] in
+    blocks room s3 (λ made. OptionalAt signs.Taken room (λ taken. OptionalAt signs.Full room (λ full. BodyAt room (last h gs p made taken full) k))) (λ made gm.
+    let s4 = s3 ++ braced room (body (room - 1) made) in
+    good_optional n signs.Taken room s4 (λ taken. OptionalAt signs.Full room (λ full. BodyAt room (last h gs p made taken full) k)) blocks (λ taken gt.
+    let s5 = s4 ++ takes taken in
+    good_optional n signs.Full room s5 (λ full. BodyAt room (last h gs p made taken full) k) blocks (λ full gf.
+    moved n (seen ++ body room (last h gs p made taken full)) (s5 ++ fills full) (BodyAt room (last h gs p made taken full) k)
+    (made_new seen (body room b) (head h) (given gs) (braced room (body (room - 1) made)) (takes taken) (fills full) (word signs.New at) (word signs.CloseParenthesis p))
+    (bodies room seen (last h gs p made taken full) k (g, gm, gt, gf) f)))))))
+
+good_touch : (n room : ℕ) (seen : List Marked) (b : Block) (k : Block → Place) → Is Opened b → Bodies n → BodyGood n room seen k →
+    Good n ((seen ++ body room b) ++ sign signs.Touch ∷ []) (touch_at room b k)
+good_touch n room seen b k g bodies f =
+    let s0 = (seen ++ body room b) ++ sign signs.Touch ∷ [] in
+    good_name n s0 (λ x. SignAt signs.Semicolon (BodyAt room (Touch b x) k)) (λ x.
+    good_sign n (s0 ++ name x ∷ []) signs.Semicolon (BodyAt room (Touch b x) k) (
+    moved n (seen ++ body room (Touch b x)) ((s0 ++ name x ∷ []) ++ sign signs.Semicolon ∷ []) (BodyAt room (Touch b x) k)
+    (regroup3 seen (body room b) (sign signs.Touch) (name x) (sign signs.Semicolon)) (bodies room seen (Touch b x) k g f)))
+
+good_forward : (n room : ℕ) (seen : List Marked) (b : Block) (k : Block → Place) → Is Opened b → BodyGood n room seen k →
+    Good n ((seen ++ body room b) ++ sign signs.Forward ∷ []) (forward_at b k)
+good_forward n room seen b k g f =
+    let s0 = (seen ++ body room b) ++ sign signs.Forward ∷ [] in
+    good_value n s0 (λ v. SignAt signs.Semicolon (SignAt signs.CloseBrace (k (Forward b v)))) (λ v.
+    good_sign n (s0 ++ value v ∷ []) signs.Semicolon (SignAt signs.CloseBrace (k (Forward b v))) (
+    good_sign n ((s0 ++ value v ∷ []) ++ sign signs.Semicolon ∷ []) signs.CloseBrace (k (Forward b v)) (
+    moved n (seen ++ (body room (Forward b v) ++ sign signs.CloseBrace ∷ [])) (((s0 ++ value v ∷ []) ++ sign signs.Semicolon ∷ []) ++ sign signs.CloseBrace ∷ []) (k (Forward b v))
+    (regroup4 seen (body room b) (sign signs.Forward) (value v) (sign signs.Semicolon) (sign signs.CloseBrace)) (f (Forward b v) g))))
+
+good_discard : (n room : ℕ) (seen : List Marked) (b : Block) (k : Block → Place) → Is Opened b → BodyGood n room seen k →
+    Good n ((seen ++ body room b) ++ sign signs.Discard ∷ []) (discard_at b k)
+good_discard n room seen b k g f =
+    let s0 = (seen ++ body room b) ++ sign signs.Discard ∷ [] in
+    good_sign n s0 signs.Semicolon (SignAt signs.CloseBrace (k (Discard b))) (
+    good_sign n (s0 ++ sign signs.Semicolon ∷ []) signs.CloseBrace (k (Discard b)) (
+    moved n (seen ++ (body room (Discard b) ++ sign signs.CloseBrace ∷ [])) ((s0 ++ sign signs.Semicolon ∷ []) ++ sign signs.CloseBrace ∷ []) (k (Discard b))
+    (regroup3' seen (body room b) (sign signs.Discard) (sign signs.Semicolon) (sign signs.CloseBrace)) (f (Discard b) g)))
+
+body_token : (n room : ℕ) (seen : List Marked) (b : Block) (k : Block → Place) → Is Opened b → Blocks n → Bodies n → BodyGood n room seen k →
+    (t : Item) (past : Bool) (ms : List Marked) (tree : Tree) → length ms < n → goes (BodyAt room b k) (mark t past ∷ ms) ≡ Some tree → Spells ((seen ++ body room b) ++ mark t past ∷ ms) tree
+body_token n room seen b k g blocks bodies f (AWord signs.Get at) false ms tree few h =
+    front n (seen ++ body room b) (word signs.Get at) (get_at room b at k) (good_get n room seen b at k g blocks bodies f) ms tree few h
+body_token n room seen b k g blocks bodies f (AWord signs.New at) false ms tree few h =
+    front n (seen ++ body room b) (word signs.New at) (new_at room b at k) (good_new n room seen b at k g blocks bodies f) ms tree few h
+body_token n room seen b k g blocks bodies f (ASign signs.Touch) false ms tree few h =
+    front n (seen ++ body room b) (sign signs.Touch) (touch_at room b k) (good_touch n room seen b k g bodies f) ms tree few h
+body_token n room seen b k g blocks bodies f (ASign signs.Forward) false ms tree few h =
+    front n (seen ++ body room b) (sign signs.Forward) (forward_at b k) (good_forward n room seen b k g f) ms tree few h
+body_token n room seen b k g blocks bodies f (ASign signs.Discard) false ms tree few h =
+    front n (seen ++ body room b) (sign signs.Discard) (discard_at b k) (good_discard n room seen b k g f) ms tree few h
+body_token n room seen b k g blocks bodies f (ASign signs.CloseBrace) false ms tree few h =
+    front n (seen ++ body room b) (sign signs.CloseBrace) (k b) (moved n (seen ++ (body room b ++ sign signs.CloseBrace ∷ [])) ((seen ++ body room b) ++ sign signs.CloseBrace ∷ []) (k b)
+    (sym (append_assoc seen (body room b) (sign signs.CloseBrace ∷ []))) (f b (is_body b g))) ms tree few h
+body_token n room seen b k g blocks bodies f t past ms tree few h = absurd cc
+
+agreed : (a b : Bool) (o : Option Tree) (x : Tree) → agree a b o ≡ Some x → (a ≡ b) × (o ≡ Some x)
+agreed true true o x h = (refl, h)
+agreed false false o x h = (refl, h)
+agreed true false o x h = absurd cc
+agreed false true o x h = absurd cc
+
+block_token : (n room : ℕ) (seen : List Marked) (k : Block → Place) → Bodies n → BlockGood n room seen k →
+    (t : Item) (past : Bool) (ms : List Marked) (tree : Tree) → length ms < n → goes (BlockAt room k) (mark t past ∷ ms) ≡ Some tree → Spells (seen ++ mark t past ∷ ms) tree
+block_token n room seen k bodies f (ASign signs.OpenBrace) past ms tree few h =
+    let a = agreed (room == 0) past _ tree h in
+    front n seen (mark (ASign signs.OpenBrace) past) (BodyAt (room - 1) Start k)
+    (moved n ((seen ++ mark (ASign signs.OpenBrace) (room == 0) ∷ []) ++ []) (seen ++ mark (ASign signs.OpenBrace) past ∷ []) (BodyAt (room - 1) Start k)
+    (append-nil (seen ++ mark (ASign signs.OpenBrace) (room == 0) ∷ []) ∙ ap (λ x. seen ++ mark (ASign signs.OpenBrace) x ∷ []) a.0)
+    (bodies (room - 1) (seen ++ mark (ASign signs.OpenBrace) (room == 0) ∷ []) Start k tt (λ c g.
+    moved n (seen ++ braced room (body (room - 1) c)) ((seen ++ mark (ASign signs.OpenBrace) (room == 0) ∷ []) ++ (body (room - 1) c ++ sign signs.CloseBrace ∷ [])) (k c)
+    (sym (append_assoc seen (mark (ASign signs.OpenBrace) (room == 0) ∷ []) (body (room - 1) c ++ sign signs.CloseBrace ∷ []))) (f c g))))
+    ms tree few a.1
+block_token n room seen k bodies f t past ms tree few h = absurd cc
+
+record Both (n : ℕ) : Type 0 where
+  blocks : Blocks n
+  bodies : Bodies n
+
+blocks_next : (n : ℕ) → Bodies n → (room : ℕ) (seen : List Marked) (k : Block → Place) → BlockGood (suc n) room seen k →
+    (ms : List Marked) (tree : Tree) → length ms < suc n → goes (BlockAt room k) ms ≡ Some tree → Spells (seen ++ ms) tree
+blocks_next n bodies room seen k f [] tree few h = absurd cc
+blocks_next n bodies room seen k f (m ∷ ms) tree few h =
+    block_token n room seen k bodies (λ c g. less n (seen ++ braced room (body (room - 1) c)) (k c) (f c g)) m.item m.past ms tree (omega arith) h
+
+bodies_next : (n : ℕ) → Blocks n → Bodies n → (room : ℕ) (seen : List Marked) (b : Block) (k : Block → Place) → Is Opened b → BodyGood (suc n) room seen k →
+    (ms : List Marked) (tree : Tree) → length ms < suc n → goes (BodyAt room b k) ms ≡ Some tree → Spells ((seen ++ body room b) ++ ms) tree
+bodies_next n blocks bodies room seen b k g f [] tree few h = absurd cc
+bodies_next n blocks bodies room seen b k g f (m ∷ ms) tree few h =
+    body_token n room seen b k g blocks bodies (λ c gc. less n (seen ++ (body room c ++ sign signs.CloseBrace ∷ [])) (k c) (f c gc)) m.item m.past ms tree (omega arith) h
+
+both : (n : ℕ) → Both n
+both zero = record { blocks = λ room seen k f ms tree few h. absurd (omega arith); bodies = λ room seen b k g f ms tree few h. absurd (omega arith) }
+both (suc n) = let i = both n in record { blocks = blocks_next n i.bodies; bodies = bodies_next n i.blocks i.bodies }
+
+pub all_blocks : (n : ℕ) → Blocks n
+all_blocks n = (both n).blocks

@@ -1,0 +1,37 @@
+-- What the declared types of the tree stand for.
+use Rattle.std.specs.Prelude.{map}
+use Rattle.nf_tree.specs.declared.tree.Expr.{Expr}
+use Rattle.nf_tree.specs.declared.tree.Expr.TheVariants as expr
+use Rattle.nf_tree.specs.declared.tree.Given as declared_given
+use Rattle.nf_tree.specs.declared.tree.Block as declared_block
+use Rattle.nf_tree.specs.declared.tree.Block.TheVariants as blocks
+use Rattle.nf_tree.specs.declared.tree.HandlerTree.{HandlerTree}
+use Rattle.nf_tree.specs.declared.tree.Tree as declared_tree
+use Rattle.nf_tree.specs.Tree.{Expression, Number, Read, Given, Block, Start, Missing, Touch, Get, New, Forward, Discard, Handler, Tree}
+
+-- a value, as it is written
+abbrev pub expression_of : Expr → Expression
+expression_of (expr.Number n) = Number n
+expression_of (expr.Field field place) = Read field place
+
+-- a name and the value that is given to it
+abbrev pub given_of : declared_given.Given → Given
+given_of g = record { name = g.name; value = expression_of g.value }
+
+-- a block, without the addresses of its boxes
+abbrev pub block_of : declared_block.Block → Block
+block_of blocks.Start = Start
+block_of blocks.Missing = Missing
+block_of (blocks.Touch' p b x) = Touch (block_of b) x
+block_of (blocks.Get' p b at x c m key close q hit r miss) = Get (block_of b) at x c m (map expression_of key) close (block_of hit) (block_of miss)
+block_of (blocks.New' p b at x c given close q made r taken s full) = New (block_of b) at x c (map given_of given) close (block_of made) (block_of taken) (block_of full)
+block_of (blocks.Forward' p b port) = Forward (block_of b) (expression_of port)
+block_of (blocks.Discard' p b) = Discard (block_of b)
+
+-- a handler with its block
+abbrev pub handler_of : HandlerTree → Handler
+handler_of h = record { place = h.place; port = h.port; block = block_of h.block }
+
+-- a whole text
+abbrev pub tree_of : declared_tree.Tree → Tree
+tree_of t = record { name = t.name; ports = t.ports; chains = t.chains; handlers = map handler_of t.handlers; end = t.end }

@@ -1,0 +1,35 @@
+-- What is wrong with the types of a text, in text order; at one token the least kind first.
+use Rattle.std.specs.Prelude.{ℕ, nat_le, Bool, not, List, [], ◌++◌}
+use Rattle.std.specs.List.{list_any, range_with_len}
+use Rattle.nf_base.specs.declared.decl.ChainDecl.{ChainDecl}
+use Rattle.nf_tree.specs.Tree as tree
+use Rattle.nf_types.specs.declared.fault.TypingKind.TheVariants.{Twice, Limit, NoHandler}
+use Rattle.nf_types.specs.declared.fault.Fault.{Fault}
+use Rattle.nf_types.specs.Faults.{fault_if, each_behind, length_faults}
+use Rattle.nf_types.specs.Counts.{whole_room}
+use Rattle.nf_types.specs.Declarations.{chains_of}
+use Rattle.nf_types.specs.DeclarationFaults.{port_faults, chain_faults}
+use Rattle.nf_types.specs.BlockFaults.{block_faults}
+use Rattle.nf_types.specs.Function.{is_at}
+
+abbrev pub is_handled : ℕ → List tree.Handler → Bool
+is_handled port hs = list_any (is_at port) hs
+
+-- a handler is the first of its port, and its port is declared
+unfoldable pub handler_faults : ℕ → List ChainDecl → List tree.Handler → tree.Handler → List Fault
+handler_faults ports ds before h =
+    fault_if (is_handled h.port.value before) Twice h.port.place
+    ++ (fault_if (nat_le ports h.port.value) Limit h.port.place
+    ++ block_faults whole_room ds [] h.block)
+
+-- whether some port has no handler
+abbrev pub lacks_handler : ℕ → List tree.Handler → Bool
+lacks_handler ports hs = list_any (λ port. not (is_handled port hs)) (range_with_len 0 ports)
+
+abbrev pub faults : tree.Tree → List Fault
+faults t =
+    length_faults t.name
+    ++ (port_faults t.ports
+    ++ (each_behind chain_faults [] t.chains
+    ++ (each_behind (handler_faults t.ports.value (chains_of t.chains)) [] t.handlers
+    ++ fault_if (lacks_handler t.ports.value t.handlers) NoHandler t.end)))

@@ -1,0 +1,89 @@
+//! What is wrong with the handlers of a function.
+
+ghost use Rattle.std.specs.Prelude.{◌≡◌, ◌≤◌, ◌++◌, [], length, map, IfOk};
+ghost use Rattle.nf_tree.specs.View as syntax;
+ghost use Rattle.nf_types.specs.declared.fault.TypingKind.TheVariants.{NoHandler};
+ghost use Rattle.nf_types.specs.Faults.{first, fault_in, fault_if, each_behind};
+ghost use Rattle.nf_types.specs.Small.{AreSmall};
+ghost use Rattle.nf_types.specs.TextFaults.{is_handled, lacks_handler, handler_faults};
+
+use crate::block_rules::block;
+use crate::counts::{MOST_LOOKUPS, MOST_NEWS, Room};
+use crate::fault::{Fault, TypingKind, refuse_if};
+use crate::variables::Variables;
+use nf_base::decl::ChainDecl;
+use nf_tokens::Place;
+use nf_tree::HandlerTree;
+
+/// Whether a port has a handler among these.
+fn is_handled(handlers: &[HandlerTree], port: u64) -> bool
+    ensures { result ≡ is_handled port (map syntax.handler_of handlers.now) }
+{
+    for one in handlers {
+        if one.port.value == port {
+            return true;
+        }
+    }
+    false
+}
+
+/// A handler behind those before it.
+#[tactic(auto, using(crate::proofs::First::first_append), unfolding(crate::specs::TextFaults::handler_faults))]
+fn handler(
+    ports: u64,
+    chains: &[ChainDecl],
+    before: &[HandlerTree],
+    one: &HandlerTree,
+) -> Result<(), Fault>
+    requires few_chains { length chains.now ≤ 8 }
+    ensures { first (handler_faults ports chains.now (map syntax.handler_of before.now) (syntax.handler_of one.now)) ≡ fault_in result }
+{
+    let port = one.port.value;
+    refuse_if(is_handled(before, port), TypingKind::Twice, one.port.place)?;
+    refuse_if(ports <= port, TypingKind::Limit, one.port.place)?;
+    let room = Room {
+        lookups: MOST_LOOKUPS,
+        news: MOST_NEWS,
+    };
+    block(chains, room, &Variables::Empty, &one.block)
+}
+
+/// The handlers one by one.
+fn each_handler(ports: u64, chains: &[ChainDecl], handlers: &[HandlerTree]) -> Result<(), Fault>
+    requires few_chains { length chains.now ≤ 8 }
+    ensures { first (each_behind (handler_faults ports chains.now) [] (map syntax.handler_of handlers.now)) ≡ fault_in result }
+{
+    for (i, one) in handlers.iter().enumerate() {
+        handler(ports, chains, &handlers[..i], one)?;
+    }
+    Ok(())
+}
+
+/// Whether some port has no handler.
+fn lacks_handler(ports: u64, handlers: &[HandlerTree]) -> bool
+    ensures { result ≡ lacks_handler ports (map syntax.handler_of handlers.now) }
+{
+    for port in 0..ports {
+        if !is_handled(handlers, port) {
+            return true;
+        }
+    }
+    false
+}
+
+/// The handlers of a function: one for each port.
+#[tactic(auto, using(crate::proofs::First::first_append, crate::proofs::Small::are_small, crate::proofs::Few::few_handlers))]
+pub fn handlers(
+    ports: u64,
+    chains: &[ChainDecl],
+    handlers: &[HandlerTree],
+    end: Place,
+) -> Result<(), Fault>
+    requires few_chains { length chains.now ≤ 8 }
+    ensures fault { first (each_behind (handler_faults ports chains.now) [] (map syntax.handler_of handlers.now) ++ fault_if (lacks_handler ports (map syntax.handler_of handlers.now)) NoHandler end) ≡ fault_in result }
+    ensures small { IfOk result (λ _. AreSmall (map syntax.handler_of handlers.now)) }
+    ensures few { IfOk result (λ _. length handlers.now ≤ ports) }
+{
+    each_handler(ports, chains, handlers)?;
+    refuse_if(lacks_handler(ports, handlers), TypingKind::NoHandler, end)
+}
