@@ -6,4 +6,5 @@ pub mod Stages
 pub mod Reaching
 pub mod Printing
 pub mod Causes
+pub mod Endings
 pub mod Ending

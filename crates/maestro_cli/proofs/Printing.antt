@@ -76,3 +76,20 @@ fronts_of_all start a base file count s = record {
 
 pub fronts_of_cut : (start a : Told) (base : ℕ) (file : ℕ → Created) (made : ℕ) → Cut start a base file made → HoldsFronts start a base file made
 fronts_of_cut start a base file made s = record { next = s.next; names = s.names; fronts = s.fronts; contents = s.contents }
+
+-- nothing was given to a file
+writes_nothing : (t : Told) (file : ℕ) → Writes t t file []
+writes_nothing t file = record {
+  gained = gains_nothing (t.given file);
+  current = λ n h. h;
+  rests = λ g. refl;
+  latest_same = λ n. refl;
+  next_same = refl;
+  givens = λ g other. refl;
+  names = λ g. refl;
+  contents = λ n other. refl;
+}
+
+-- memory ran out before a line was given
+pub nothing_said : (t : Told) (file : ℕ) (line : List ℕ) → Says {T = Unit {0}} t t file line (Err Memory)
+nothing_said t file line = (tt, record { count = 0; within = omega arith; wrote = writes_nothing t file })

@@ -52,9 +52,11 @@ told_length told (x ∷ xs) (b ∷ bs) h = ap suc (told_length told xs bs h.1)
 -- a text that was read is that of a name
 pub finds_function : (told : Told) (name text : List ℕ) (r : Result Func Status) → IsToldAs text (told.content name) → Reads text r → FindsFunction told name r
 finds_function told name text (Ok func) here reads = record { text = text; text_told = here; is_function = reads }
-finds_function told name text (Err (Refused line column)) here reads = record { text = text; text_told = here; none = reads.2; at_line = reads.0; at_column = reads.1 }
+finds_function told name text (Err (Refused kind line column)) here reads = record { text = text; text_told = here; fault = reads }
 finds_function told name text (Err (FileFault file)) here reads = tt
 finds_function told name text (Err Memory) here reads = tt
 finds_function told name text (Err Done) here reads = reads
 finds_function told name text (Err Usage) here reads = reads
 finds_function told name text (Err (NotCapture port)) here reads = reads
+finds_function told name text (Err (Torn port offset)) here reads = reads
+finds_function told name text (Err (TooMany most)) here reads = reads

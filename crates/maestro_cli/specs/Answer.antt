@@ -17,11 +17,15 @@ use Rattle.maestro_cli.specs.Texts.{error_line, ran_line}
 use Rattle.maestro_cli.specs.Endings.{ending_of}
 use Rattle.maestro_cli.specs.Hashing.{hash_line}
 
+-- how many captures a command has
+abbrev pub captures_of : Option Command → ℕ
+captures_of None = 0
+captures_of (Some (RunCommand c)) = length c.captures
+captures_of (Some (HashCommand c)) = 0
+
 -- what is told as a command begins
 abbrev pub start_of : Told → Option Command → Start
-start_of before None = record { told = before; captures = 0 }
-start_of before (Some (RunCommand c)) = record { told = before; captures = length c.captures }
-start_of before (Some (HashCommand c)) = record { told = before; captures = 0 }
+start_of before command = record { told = before; captures = captures_of command }
 
 -- the number of the first file that a command's run creates
 abbrev pub base_of : Told → RunAsked → ℕ
@@ -79,7 +83,7 @@ pub record IsUnread (before after : Told) : Type 0 where
 abbrev pub Runs : RunAsked → Told → Told → Status → Type 0
 Runs c before after Done = IsFinished c before after Done
 Runs c before after Usage = HasOtherPorts c before × SaysOnly before after Usage
-Runs c before after (Refused line column) = IsNoFunctionUnder before c.function line column × SaysOnly before after (Refused line column)
+Runs c before after (Refused kind line column) = IsNoFunctionUnder before c.function kind line column × SaysOnly before after (Refused kind line column)
 Runs c before after (FileFault file) = IsStopped c before after
 Runs c before after (NotCapture port) = HasNoCapture c before port × SaysOnly before after (NotCapture port)
 Runs c before after (Torn port offset) = IsFinished c before after (Torn port offset)
@@ -104,7 +108,7 @@ Hashes c before after Done = IsHashed c before after
 Hashes c before after (FileFault file) = IsUnhashed c before after
 Hashes c before after Memory = IsUnhashed c before after
 Hashes c before after Usage = ⊥
-Hashes c before after (Refused line column) = ⊥
+Hashes c before after (Refused kind line column) = ⊥
 Hashes c before after (NotCapture port) = ⊥
 Hashes c before after (Torn port offset) = ⊥
 Hashes c before after (TooMany most) = ⊥
@@ -115,7 +119,7 @@ Declines before after Usage = SaysOnly before after Usage
 Declines before after (FileFault file) = IsUnread before after
 Declines before after Memory = IsUnread before after
 Declines before after Done = ⊥
-Declines before after (Refused line column) = ⊥
+Declines before after (Refused kind line column) = ⊥
 Declines before after (NotCapture port) = ⊥
 Declines before after (Torn port offset) = ⊥
 Declines before after (TooMany most) = ⊥

@@ -10,6 +10,7 @@ pub mod Opened
 pub mod Created
 pub mod Stages
 pub mod Texts
+pub mod Hashing
 pub mod Answer
 pub mod Report
 pub mod Printed

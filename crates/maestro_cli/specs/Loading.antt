@@ -16,7 +16,7 @@ use Rattle.maestro_cli.specs.Endings.{ending_of}
 -- what reading the function under a name comes to; faults of files and want of memory are said by the cause
 abbrev pub FindsFunction : Told → List ℕ → Result Func Status → Type 0
 FindsFunction told name (Ok func) = IsFunctionUnder told name (function_of func)
-FindsFunction told name (Err (Refused line column)) = IsNoFunctionUnder told name line column
+FindsFunction told name (Err (Refused kind line column)) = IsNoFunctionUnder told name kind line column
 FindsFunction told name (Err (FileFault file)) = Unit {0}
 FindsFunction told name (Err Memory) = Unit {0}
 FindsFunction told name (Err Done) = ⊥
@@ -30,6 +30,7 @@ pub record ArePacketsUnder (told : Told) (names : List (List ℕ)) (most : ℕ) 
   pub captures_told : AreTold told.content names (all_bytes packets.captures.items)
   pub loaded : IsLoaded (all_bytes packets.captures.items) most packets.arrivals.items
   pub within : AllByRecursion (IsWithin (all_bytes packets.captures.items)) packets.arrivals.items
+  pub at_most : packets.most ≡ most
   pub ending : packets.ending ≡ ending_of most (all_bytes packets.captures.items)
 
 -- what reading the captures under some names comes to; likewise
@@ -40,6 +41,6 @@ FindsPackets told names most (Err (FileFault file)) = Unit {0}
 FindsPackets told names most (Err Memory) = Unit {0}
 FindsPackets told names most (Err Done) = ⊥
 FindsPackets told names most (Err Usage) = ⊥
-FindsPackets told names most (Err (Refused line column)) = ⊥
+FindsPackets told names most (Err (Refused kind line column)) = ⊥
 FindsPackets told names most (Err (Torn port offset)) = ⊥
 FindsPackets told names most (Err (TooMany n)) = ⊥

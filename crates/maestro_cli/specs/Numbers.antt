@@ -31,7 +31,7 @@ abbrev pub HasStatusCause : Start → Counted → Counted → Status → Type 0
 HasStatusCause s old new (FileFault file) = Faulted old new (number_of s file)
 HasStatusCause s old new Done = new ≡ old
 HasStatusCause s old new Usage = new ≡ old
-HasStatusCause s old new (Refused line column) = new ≡ old
+HasStatusCause s old new (Refused kind line column) = new ≡ old
 HasStatusCause s old new (NotCapture port) = new ≡ old
 HasStatusCause s old new (Torn port offset) = new ≡ old
 HasStatusCause s old new (TooMany most) = new ≡ old

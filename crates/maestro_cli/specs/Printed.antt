@@ -3,6 +3,8 @@ use Rattle.std.specs.Prelude.{◌≡◌, ℕ, List, ◌++◌, Result, Ok, Err}
 use Rattle.nf_files.specs.Told.{Told}
 use Rattle.nf_files.specs.Pieces.{Gains}
 use Rattle.nf_files.specs.Writes.{Writes, WritesFront}
+use Rattle.maestro_cli.specs.declared.status.RunFile.{RunFile}
+use Rattle.maestro_cli.specs.declared.status.RunFile.TheVariants.{Stderr}
 use Rattle.maestro_cli.specs.declared.status.Status.{Status}
 use Rattle.maestro_cli.specs.declared.status.Status.TheVariants.{Done, Usage, Refused, FileFault, NotCapture, Torn, TooMany, Memory}
 use Rattle.maestro_cli.specs.Stages.{IsFrontOf}
@@ -24,10 +26,32 @@ IsStop (FileFault file) = Unit {0}
 IsStop Memory = Unit {0}
 IsStop Done = ⊥
 IsStop Usage = ⊥
-IsStop (Refused line column) = ⊥
+IsStop (Refused kind line column) = ⊥
 IsStop (NotCapture port) = ⊥
 IsStop (Torn port offset) = ⊥
 IsStop (TooMany most) = ⊥
+
+-- the same, of one file
+abbrev pub IsStopAt : RunFile → Status → Type 0
+IsStopAt which (FileFault file) = file ≡ which
+IsStopAt which Memory = Unit {0}
+IsStopAt which Done = ⊥
+IsStopAt which Usage = ⊥
+IsStopAt which (Refused kind line column) = ⊥
+IsStopAt which (NotCapture port) = ⊥
+IsStopAt which (Torn port offset) = ⊥
+IsStopAt which (TooMany most) = ⊥
+
+-- how a call ends that begins nothing: its words are no command, memory ran out, or standard error failed
+abbrev pub IsEarly : Status → Type 0
+IsEarly Usage = Unit {0}
+IsEarly (FileFault file) = file ≡ Stderr
+IsEarly Memory = Unit {0}
+IsEarly Done = ⊥
+IsEarly (Refused kind line column) = ⊥
+IsEarly (NotCapture port) = ⊥
+IsEarly (Torn port offset) = ⊥
+IsEarly (TooMany most) = ⊥
 
 -- a line was given whole, or a front of it where the call was refused
 abbrev pub Says : {T : Type 0} → Told → Told → ℕ → List ℕ → Result T Status → Type 0

@@ -90,7 +90,7 @@ Ends start now out f captures most (Err (FileFault file)) = IsUntouched start.to
 Ends start now out f captures most (Err Memory) = IsUntouched start.told now ⊎ EndsShort start now out f captures most
 Ends start now out f captures most (Err Done) = ⊥
 Ends start now out f captures most (Err Usage) = ⊥
-Ends start now out f captures most (Err (Refused line column)) = ⊥
+Ends start now out f captures most (Err (Refused kind line column)) = ⊥
 Ends start now out f captures most (Err (NotCapture port)) = ⊥
 
 -- a run whose files are whole, of which standard error says nothing yet
@@ -110,7 +110,7 @@ StopsSilently c before now = IsUntouched before now ⊎ (IsCutShort c before now
 abbrev pub RunsTo : {T : Type 0} → RunAsked → Told → Told → Result T Status → Type 0
 RunsTo c before now (Ok x) = IsFinished c before now Done
 RunsTo c before now (Err Usage) = HasOtherPorts c before × IsUntouched before now
-RunsTo c before now (Err (Refused line column)) = IsNoFunctionUnder before c.function line column × IsUntouched before now
+RunsTo c before now (Err (Refused kind line column)) = IsNoFunctionUnder before c.function kind line column × IsUntouched before now
 RunsTo c before now (Err (FileFault file)) = StopsSilently c before now
 RunsTo c before now (Err (NotCapture port)) = HasNoCapture c before port × IsUntouched before now
 RunsTo c before now (Err (Torn port offset)) = IsWhole c before now (Torn port offset)

@@ -7,7 +7,7 @@ use Rattle.maestro_cli.specs.declared.status.Status.TheVariants.{Done, Usage, Re
 abbrev pub number_of_status : Status → ℕ
 number_of_status Done = 0
 number_of_status Usage = 1
-number_of_status (Refused line column) = 2
+number_of_status (Refused kind line column) = 2
 number_of_status (FileFault file) = 3
 number_of_status (NotCapture port) = 4
 number_of_status (Torn port offset) = 5

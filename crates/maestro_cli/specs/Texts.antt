@@ -1,5 +1,9 @@
 -- What is printed.
 use Rattle.std.specs.Prelude.{ℕ, List, [], ◌++◌, codes, decimal}
+use Rattle.nf_syntax.specs.declared.fault.SyntaxKind.TheVariants as syntax
+use Rattle.nf_types.specs.declared.fault.TypingKind.TheVariants as typing
+use Rattle.maestro_cli.specs.declared.status.Fault.{Fault}
+use Rattle.maestro_cli.specs.declared.status.Fault.TheVariants as kinds
 use Rattle.maestro_cli.specs.declared.status.RunFile.{RunFile}
 use Rattle.maestro_cli.specs.declared.status.RunFile.TheVariants.{Nf, Capture, Output, OutJournal, State, Stdout, Stderr}
 use Rattle.maestro_cli.specs.declared.status.Status.{Status}
@@ -19,11 +23,27 @@ file_text Stderr = codes "stderr"
 unfoldable pub fault_title : List ℕ
 fault_title = codes "file fault: "
 
+-- the name of a kind of fault
+abbrev pub kind_text : Fault → List ℕ
+kind_text (kinds.Syntax syntax.Byte) = codes "S1"
+kind_text (kinds.Syntax syntax.Number) = codes "S2"
+kind_text (kinds.Syntax syntax.Token) = codes "S3"
+kind_text (kinds.Syntax syntax.End) = codes "S4"
+kind_text (kinds.Syntax syntax.Limit) = codes "S5"
+kind_text (kinds.Typing typing.Unknown) = codes "T01"
+kind_text (kinds.Typing typing.Twice) = codes "T02"
+kind_text (kinds.Typing typing.Amount) = codes "T03"
+kind_text (kinds.Typing typing.FreeColumn) = codes "T04"
+kind_text (kinds.Typing typing.ReadOnly) = codes "T05"
+kind_text (kinds.Typing typing.NotInScope) = codes "T06"
+kind_text (kinds.Typing typing.Limit) = codes "T07"
+kind_text (kinds.Typing typing.NoHandler) = codes "T08"
+
 -- what a status says
 abbrev pub status_words : Status → List ℕ
 status_words Done = []
 status_words Usage = codes "bad command line"
-status_words (Refused line column) = codes "refused N0 at " ++ decimal line ++ codes ":" ++ decimal column
+status_words (Refused kind line column) = codes "refused " ++ kind_text kind ++ codes " at " ++ decimal line ++ codes ":" ++ decimal column
 status_words (FileFault file) = fault_title ++ file_text file
 status_words (NotCapture port) = codes "capture " ++ decimal port ++ codes " has no pcap header"
 status_words (Torn port offset) = codes "capture " ++ decimal port ++ codes " is torn at byte " ++ decimal offset

@@ -2,7 +2,7 @@
 ghost use Rattle.std.specs.Prelude.{◌≡◌};
 ghost use Rattle.maestro_cli.specs.Source.{Reads};
 
-use crate::status::Status;
+use crate::status::{Fault, Status};
 use nf_base::func::Func;
 use nf_syntax::{ParseFault, parse};
 use nf_types::{CheckFault, check};
@@ -16,12 +16,16 @@ pub fn function_in(alloc: Global, text: &[u8]) -> Result<Func, Status>
         Ok(tree) => tree,
         Err(
             ParseFault::Syntax {
-                kind: _,
+                kind,
                 line,
                 column,
             },
         ) => {
-            return Err(Status::Refused { line, column });
+            return Err(Status::Refused {
+                kind: Fault::Syntax(kind),
+                line,
+                column,
+            });
         }
         Err(ParseFault::Memory) => return Err(Status::Memory),
     };
@@ -29,11 +33,15 @@ pub fn function_in(alloc: Global, text: &[u8]) -> Result<Func, Status>
         Ok(func) => Ok(func),
         Err(
             CheckFault::Typing {
-                kind: _,
+                kind,
                 line,
                 column,
             },
-        ) => Err(Status::Refused { line, column }),
+        ) => Err(Status::Refused {
+            kind: Fault::Typing(kind),
+            line,
+            column,
+        }),
         Err(CheckFault::Memory) => Err(Status::Memory),
     }
 }

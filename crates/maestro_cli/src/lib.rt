@@ -6,6 +6,7 @@ mod command;
 mod fault;
 mod function;
 mod handling;
+mod hashing;
 mod loading;
 mod names;
 mod program;
@@ -19,4 +20,4 @@ mod text;
 mod writing;
 
 pub use program::maestro;
-pub use status::{RunFile, Status};
+pub use status::{Fault, RunFile, Status};

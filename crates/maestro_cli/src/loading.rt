@@ -25,6 +25,8 @@ use std::alloc::Global;
 pub struct Packets {
     pub captures: Vec<Vec<u8>>,
     pub arrivals: Vec<Arrival>,
+    /// So many packets are loaded at most.
+    pub most: u32,
     /// How a run over them ends that the outside doesn't stop.
     pub ending: Status,
 }
@@ -133,6 +135,7 @@ pub fn read_packets<F: Files>(
     Ok(Packets {
         captures,
         arrivals: loaded.arrivals,
+        most,
         ending,
     })
 }

@@ -1,9 +1,11 @@
 //! The whole program.
-ghost use Rattle.std.specs.Prelude.{◌≡◌, ◌≤◌, map, length, string_bytes};
+ghost use Rattle.std.specs.Prelude.{◌≡◌, ◌≤◌, map, length, string_bytes, Some};
 ghost use Rattle.command_words.specs.Commands.{command_of};
-ghost use Rattle.command_words.specs.View.{hash};
+ghost use Rattle.command_words.specs.View as view;
 ghost use Rattle.maestro_cli.specs.Asked.{asked};
-ghost use Rattle.maestro_cli.specs.Numbers.{HasStatusCause};
+ghost use Rattle.maestro_cli.specs.Hashing.{hash_line};
+ghost use Rattle.maestro_cli.specs.Printed.{Says, IsEarly};
+ghost use Rattle.maestro_cli.specs.Numbers.{Start, HasStatusCause, HasStepCause};
 ghost use Rattle.maestro_cli.specs.Answer.{Answers, Runs, Hashes, start_of};
 ghost use Rattle.maestro_cli.specs.Running.{Begun, Tells};
 
@@ -12,7 +14,7 @@ use crate::hashing::hash_line;
 use crate::running::run;
 use crate::say::{complain, print};
 use crate::status::Status;
-use command_words::{HashCommand, command_of};
+use command_words::{Command as Asked, HashCommand, RunCommand, command_of};
 use nf_files::Files;
 use std::alloc::Global;
 
@@ -31,6 +33,22 @@ fn tell<F: Files>(alloc: Global, files: &mut F, status: Status) -> Status
             Status::FileFault(file) => Status::FileFault(file),
             _ => stop,
         },
+    }
+}
+
+// Says on standard error how a call ended that began nothing.
+fn decline<F: Files>(alloc: Global, files: &mut F, status: Status) -> Status
+    ghost begun: { Begun }
+    requires counts { F.counted files.old ≡ begun.counted }
+    requires early { IsEarly status }
+    requires quiet { HasStatusCause begun.start begun.counted begun.counted status }
+    ensures tells { Tells (F.told files.old) (F.told files.new) status result }
+    ensures cause { HasStatusCause begun.start begun.counted (F.counted files.new) result }
+    ensures early { IsEarly result }
+{
+    match complain(alloc, files, status) {
+        Ok(()) => status,
+        Err(stop) => stop,
     }
 }
 
@@ -57,9 +75,9 @@ fn print_hash<F: Files>(
     files: &mut F,
     command: &HashCommand,
 ) -> Result<(), Status>
-    ghost begun: { Begun }
-    ensures prints { PrintsHash (hash command.now) (F.told files.old) (F.told files.new) result }
-    ensures cause { HasStepCause begun.start (F.counted files.old) (F.counted files.new) result }
+    ghost start: { Start }
+    ensures prints { Says (F.told files.old) (F.told files.new) 0 (hash_line (view.hash command.now)) result }
+    ensures cause { HasStepCause start (F.counted files.old) (F.counted files.new) result }
 {
     match hash_line(alloc, command) {
         Ok(line) => print(files, line.as_bytes()),
@@ -71,7 +89,7 @@ fn print_hash<F: Files>(
 fn hash_and_tell<F: Files>(alloc: Global, files: &mut F, command: &HashCommand) -> Status
     ghost begun: { Begun }
     requires counts { F.counted files.old ≡ begun.counted }
-    ensures hashes { Hashes (hash command.now) (F.told files.old) (F.told files.new) result }
+    ensures hashes { Hashes (view.hash command.now) (F.told files.old) (F.told files.new) result }
     ensures cause { HasStatusCause begun.start begun.counted (F.counted files.new) result }
 {
     match print_hash(alloc, files, command) {
@@ -80,27 +98,39 @@ fn hash_and_tell<F: Files>(alloc: Global, files: &mut F, command: &HashCommand) 
     }
 }
 
-// Does what a command asks for.
-fn obey<F: Files>(alloc: Global, files: &mut F, command: &command_words::Command) -> Status
+// Does the run that is asked for.
+fn run_and_tell<F: Files>(alloc: Global, files: &mut F, asked: &RunCommand) -> Status
     ghost begun: { Begun }
     requires begins { F.told files.old ≡ begun.start.told }
     requires counts { F.counted files.old ≡ begun.counted }
-    requires start { begun.start ≡ start_of begun.start.told (Some (command_asked command.now)) }
-    requires few { HasFew command.now }
-    ensures answer { Answers (Some (command_asked command.now)) begun.start.told (F.told files.new) result }
+    requires ports { begun.start.captures ≡ length asked.now.captures.items }
+    requires some { 1 ≤ length asked.now.captures.items }
+    requires few { length asked.now.captures.items ≤ 4 }
+    ensures runs { Runs (view.run asked.now) begun.start.told (F.told files.new) result }
+    ensures cause { HasStatusCause begun.start begun.counted (F.counted files.new) result }
+{
+    let command = Command {
+        function: &asked.function,
+        out: &asked.out,
+        captures: asked.captures.as_slice(),
+        most: asked.most,
+    };
+    carry_out(alloc, files, &command)
+}
+
+// Does what a command asks for.
+fn obey<F: Files>(alloc: Global, files: &mut F, command: &Asked) -> Status
+    ghost begun: { Begun }
+    requires begins { F.told files.old ≡ begun.start.told }
+    requires counts { F.counted files.old ≡ begun.counted }
+    requires start { begun.start ≡ start_of begun.start.told (Some (view.asked command.now)) }
+    requires few { view.HasFew command.now }
+    ensures answer { Answers (Some (view.asked command.now)) begun.start.told (F.told files.new) result }
     ensures cause { HasStatusCause begun.start begun.counted (F.counted files.new) result }
 {
     match command {
-        command_words::Command::Run(asked) => {
-            let command = Command {
-                function: &asked.function,
-                out: &asked.out,
-                captures: asked.captures.as_slice(),
-                most: asked.most,
-            };
-            carry_out(alloc, files, &command)
-        }
-        command_words::Command::Hash(asked) => hash_and_tell(alloc, files, asked),
+        Asked::Run(asked) => run_and_tell(alloc, files, asked),
+        Asked::Hash(asked) => hash_and_tell(alloc, files, asked),
     }
 }
 
@@ -115,9 +145,12 @@ pub fn maestro<F: Files>(alloc: Global, words: &[String], files: &mut F) -> Stat
     ensures answer { Answers (command_of (map string_bytes words.now)) (F.told files.old) (F.told files.new) result }
     ensures cause { HasStatusCause (start_of (F.told files.old) (command_of (map string_bytes words.now))) (F.counted files.old) (F.counted files.new) result }
 {
-    match command_of(alloc, words) {
-        Err(_) => tell(alloc, files, Status::Memory),
-        Ok(None) => tell(alloc, files, Status::Usage),
-        Ok(Some(command)) => obey(alloc, files, &command),
+    let asked = match command_of(alloc, words) {
+        Ok(asked) => asked,
+        Err(_) => return decline(alloc, files, Status::Memory),
+    };
+    match asked {
+        None => decline(alloc, files, Status::Usage),
+        Some(command) => obey(alloc, files, &command),
     }
 }

@@ -1,5 +1,5 @@
 //! A run, from its files to the files that it leaves.
-ghost use Rattle.std.specs.Prelude.{◌≡◌, ◌≤◌, ℕ, map, length, IfErr, string_bytes};
+ghost use Rattle.std.specs.Prelude.{◌≡◌, ◌≤◌, map, length, IfErr, string_bytes};
 ghost use Rattle.std.specs.List.{AllByRecursion};
 ghost use Rattle.nf_base.specs.Functions.{function_of};
 ghost use Rattle.capture_order.specs.Arrivals.{IsWithin, all_bytes};
@@ -56,16 +56,15 @@ fn handle_and_leave<F: Files>(
     packets: &Packets,
 ) -> Result<(), Status>
     ghost start: { Start }
-    ghost most: { ℕ }
     requires next { (F.told files.old).next ≡ first_created start }
     requires untouched { IsUntouched start.told (F.told files.old) }
     requires ports { start.captures ≡ length packets.now.captures.items }
     requires few { length packets.now.captures.items ≤ 4 }
     requires some { 1 ≤ length packets.now.captures.items }
     requires as_many { length packets.now.captures.items ≡ length func.now.handlers }
-    requires loaded { IsLoaded (all_bytes packets.now.captures.items) most packets.now.arrivals.items }
+    requires loaded { IsLoaded (all_bytes packets.now.captures.items) packets.now.most packets.now.arrivals.items }
     requires within { AllByRecursion (IsWithin (all_bytes packets.now.captures.items)) packets.now.arrivals.items }
-    ensures ends { EndsWell start (F.told files.new) (string_bytes out.now) (function_of func.now) (all_bytes packets.now.captures.items) most result }
+    ensures ends { EndsWell start (F.told files.new) (string_bytes out.now) (function_of func.now) (all_bytes packets.now.captures.items) packets.now.most result }
     ensures cause { HasStepCause start (F.counted files.old) (F.counted files.new) result }
     ensures stops { IfErr result IsStop }
 {
@@ -92,17 +91,16 @@ fn finish<F: Files>(
     packets: &Packets,
 ) -> Result<(), Status>
     ghost start: { Start }
-    ghost most: { ℕ }
     requires next { (F.told files.old).next ≡ first_created start }
     requires untouched { IsUntouched start.told (F.told files.old) }
     requires ports { start.captures ≡ length packets.now.captures.items }
     requires few { length packets.now.captures.items ≤ 4 }
     requires some { 1 ≤ length packets.now.captures.items }
     requires as_many { length packets.now.captures.items ≡ length func.now.handlers }
-    requires loaded { IsLoaded (all_bytes packets.now.captures.items) most packets.now.arrivals.items }
+    requires loaded { IsLoaded (all_bytes packets.now.captures.items) packets.now.most packets.now.arrivals.items }
     requires within { AllByRecursion (IsWithin (all_bytes packets.now.captures.items)) packets.now.arrivals.items }
-    requires ending { packets.now.ending ≡ ending_of most (all_bytes packets.now.captures.items) }
-    ensures ends { Ends start (F.told files.new) (string_bytes out.now) (function_of func.now) (all_bytes packets.now.captures.items) most result }
+    requires ending { packets.now.ending ≡ ending_of packets.now.most (all_bytes packets.now.captures.items) }
+    ensures ends { Ends start (F.told files.new) (string_bytes out.now) (function_of func.now) (all_bytes packets.now.captures.items) packets.now.most result }
     ensures cause { HasStepCause start (F.counted files.old) (F.counted files.new) result }
 {
     match handle_and_leave(alloc, files, out, func, packets) {

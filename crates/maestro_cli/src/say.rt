@@ -1,8 +1,9 @@
 //! What is printed, given to the standard outputs.
-ghost use Rattle.std.specs.Prelude.{◌≡◌, ◌<◌};
+ghost use Rattle.std.specs.Prelude.{◌≡◌, ◌<◌, IfErr};
 ghost use Rattle.maestro_cli.specs.Texts.{error_line};
 ghost use Rattle.maestro_cli.specs.declared.status.Status.TheVariants.{Memory};
-ghost use Rattle.maestro_cli.specs.Printed.{Says, Complains};
+ghost use Rattle.maestro_cli.specs.Printed.{IsStopAt, Says, Complains};
+ghost use Rattle.maestro_cli.specs.declared.status.RunFile.TheVariants.{Stderr};
 ghost use Rattle.maestro_cli.specs.Numbers.{Start, HasStepCause, number_of};
 
 use crate::fault::outcome_of;
@@ -16,6 +17,7 @@ fn say<F: Files>(files: &mut F, file: u32, which: RunFile, line: &[u8]) -> Resul
     requires number { file ≡ number_of start which }
     requires standard { file < 2 }
     ensures wrote { Says (F.told files.old) (F.told files.new) file line.now result }
+    ensures at { IfErr result (IsStopAt which) }
     ensures cause { HasStepCause start (F.counted files.old) (F.counted files.new) result }
 {
     let wrote = write_whole(files, file, line);
@@ -34,6 +36,7 @@ pub fn print<F: Files>(files: &mut F, line: &[u8]) -> Result<(), Status>
 fn print_error<F: Files>(files: &mut F, line: &[u8]) -> Result<(), Status>
     ghost start: { Start }
     ensures wrote { Says (F.told files.old) (F.told files.new) 1 line.now result }
+    ensures at { IfErr result (IsStopAt Stderr) }
     ensures cause { HasStepCause start (F.counted files.old) (F.counted files.new) result }
 {
     say(files, 1, RunFile::Stderr, line)
@@ -42,6 +45,7 @@ fn print_error<F: Files>(files: &mut F, line: &[u8]) -> Result<(), Status>
 fn print_want_of_memory<F: Files>(files: &mut F) -> Result<(), Status>
     ghost start: { Start }
     ensures wrote { Says (F.told files.old) (F.told files.new) 1 (error_line Memory) result }
+    ensures at { IfErr result (IsStopAt Stderr) }
     ensures cause { HasStepCause start (F.counted files.old) (F.counted files.new) result }
 {
     print_error(files, b"maestro: out of memory\n")
@@ -51,6 +55,7 @@ fn print_want_of_memory<F: Files>(files: &mut F) -> Result<(), Status>
 pub fn complain<F: Files>(alloc: Global, files: &mut F, status: Status) -> Result<(), Status>
     ghost start: { Start }
     ensures wrote { Complains (F.told files.old) (F.told files.new) status result }
+    ensures at { IfErr result (IsStopAt Stderr) }
     ensures cause { HasStepCause start (F.counted files.old) (F.counted files.new) result }
 {
     match error_line(alloc, status) {

@@ -3,6 +3,8 @@ ghost use Rattle.std.specs.Prelude.{◌≡◌};
 ghost use Rattle.maestro_cli.specs.Statuses.{number_of_status};
 ghost use Rattle.maestro_cli.specs.declared.status.Status.TheVariants.{Memory};
 
+use nf_syntax::SyntaxKind;
+use nf_types::TypingKind;
 use std::alloc::AllocError;
 
 /// A file of a run.
@@ -21,14 +23,27 @@ pub enum RunFile {
     Stderr,
 }
 
+/// What is wrong with a network function's text.
+#[derive(Clone, Copy, Debug, PartialEq, Eq)]
+pub enum Fault {
+    /// It breaks the grammar.
+    Syntax(SyntaxKind),
+    /// It breaks a type rule.
+    Typing(TypingKind),
+}
+
 /// How a call of the program ended.
 #[derive(Clone, Copy, Debug, PartialEq, Eq)]
 pub enum Status {
     Done,
     /// The words are no command, or the captures are not as many as the function's ports.
     Usage,
-    /// The text is no network function. Lines and columns count from 1.
-    Refused { line: u32, column: u32 },
+    /// The text is no network function; this is its first fault. Lines and columns count from 1.
+    Refused {
+        kind: Fault,
+        line: u32,
+        column: u32,
+    },
     /// A call on a file failed; this was the first.
     FileFault(RunFile),
     /// This is the least port whose file is no capture.

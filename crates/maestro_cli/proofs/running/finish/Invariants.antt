@@ -1,4 +1,4 @@
 use Rattle.maestro_cli.proofs.running.finish.Given as goal
 
-abbrev pub ghost-leave_and_print : goal.ghost-leave_and_print
-ghost-leave_and_print g a = g.start
+abbrev pub ghost-handle_and_leave : goal.ghost-handle_and_leave
+ghost-handle_and_leave g a = g.start

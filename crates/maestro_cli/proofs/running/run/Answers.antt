@@ -1,8 +1,11 @@
-use Rattle.std.proofs.Common.{◌≡◌, ◌∙◌, ◌≤◌, List, length, map, string_bytes, arith}
+use Rattle.std.proofs.Common.{◌≡◌, ◌∙◌, ◌≤◌, ℕ, List, length, map, string_bytes, ap, sym, subst, arith}
 use Rattle.std.proofs.lemmas.List.{length-map}
 use Rattle.nf_base.specs.Functions.{function_of}
 use Rattle.nf_base.specs.View.{block_of}
 use Rattle.capture_order.specs.Arrivals.{all_bytes}
+use Rattle.capture_order.specs.Loaded.{IsLoaded}
+use Rattle.maestro_cli.specs.Endings.{ending_of}
+use Rattle.maestro_cli.specs.Running.{Ends}
 use Rattle.maestro_cli.specs.Asked.{asked}
 use Rattle.maestro_cli.proofs.Readings.{told_length}
 use Rattle.maestro_cli.proofs.Ending.{runs_ended}
@@ -29,8 +32,11 @@ finish-requires g c κs within =
                 (
                   count ∙ c.if-command-len.false ∙ c.len.ensures.value,
                   (
-                    read.finds.loaded,
-                    read.finds.within,
+                    subst (λ (m : ℕ). IsLoaded (all_bytes items) m c.in-Ok-read_packets.packets.arrivals.items) (sym read.finds.at_most) read.finds.loaded,
+                    (
+                      read.finds.within,
+                      read.finds.ending ∙ ap (λ (m : ℕ). ending_of m (all_bytes items)) (sym read.finds.at_most),
+                    ),
                   ),
                 ),
               ),
@@ -50,4 +56,4 @@ returns-clause-runs g c =
     (omega (arith, length-map names string_bytes, length-map func.handlers (λ h. block_of h.code), c.if-command-len.false, c.len.ensures.value))
     c.in-Ok-read_packets.ensures.finds.captures_told
     (omega (arith, length-map names string_bytes, pre.1.0))
-    c.finish.ensures.stops c.finish.ensures.ends
+    (subst (λ (m : ℕ). Ends g.start (g.F.Files.told c.finish.new.files) (string_bytes c.args.command.now.out.now) (function_of func) (all_bytes c.in-Ok-read_packets.packets.captures.items) m c.finish.result) c.in-Ok-read_packets.ensures.finds.at_most c.finish.ensures.ends)
