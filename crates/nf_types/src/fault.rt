@@ -42,7 +42,7 @@ pub enum TypingKind {
 #[derive(Clone, Copy, Debug, PartialEq, Eq, Error)]
 pub enum CheckFault {
     /// The first fault in text order. Lines and columns count from 1, a column counts bytes.
-    #[error("type fault {kind} at {line}:{column}")]
+    #[error("{kind} at {line}:{column}")]
     Typing {
         kind: TypingKind,
         line: u32,

@@ -18,3 +18,6 @@ mod variables;
 
 pub use fault::{CheckFault, TypingKind};
 pub use function::check;
+
+#[cfg(test)]
+mod tests;
