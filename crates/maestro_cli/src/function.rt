@@ -14,13 +14,7 @@ pub fn function_in(alloc: Global, text: &[u8]) -> Result<Func, Status>
 {
     let tree = match parse(alloc, text) {
         Ok(tree) => tree,
-        Err(
-            ParseFault::Syntax {
-                kind,
-                line,
-                column,
-            },
-        ) => {
+        Err(ParseFault::Syntax { kind, line, column }) => {
             return Err(Status::Refused {
                 kind: Fault::Syntax(kind),
                 line,
@@ -31,13 +25,7 @@ pub fn function_in(alloc: Global, text: &[u8]) -> Result<Func, Status>
     };
     match check(alloc, &tree) {
         Ok(func) => Ok(func),
-        Err(
-            CheckFault::Typing {
-                kind,
-                line,
-                column,
-            },
-        ) => Err(Status::Refused {
+        Err(CheckFault::Typing { kind, line, column }) => Err(Status::Refused {
             kind: Fault::Typing(kind),
             line,
             column,

@@ -70,11 +70,7 @@ fn carry_out<F: Files>(alloc: Global, files: &mut F, command: &Command) -> Statu
 }
 
 // Prints the line of a hash.
-fn print_hash<F: Files>(
-    alloc: Global,
-    files: &mut F,
-    command: &HashCommand,
-) -> Result<(), Status>
+fn print_hash<F: Files>(alloc: Global, files: &mut F, command: &HashCommand) -> Result<(), Status>
     ghost start: { Start }
     ensures prints { Says (F.told files.old) (F.told files.new) 0 (hash_line (view.hash command.now)) result }
     ensures cause { HasStepCause start (F.counted files.old) (F.counted files.new) result }

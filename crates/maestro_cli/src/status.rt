@@ -39,11 +39,7 @@ pub enum Status {
     /// The words are no command, or the captures are not as many as the function's ports.
     Usage,
     /// The text is no network function; this is its first fault. Lines and columns count from 1.
-    Refused {
-        kind: Fault,
-        line: u32,
-        column: u32,
-    },
+    Refused { kind: Fault, line: u32, column: u32 },
     /// A call on a file failed; this was the first.
     FileFault(RunFile),
     /// This is the least port whose file is no capture.

@@ -71,12 +71,7 @@ fn kind_text(kind: Fault) -> &'static str
     }
 }
 
-fn push_refusal(
-    text: &mut String,
-    kind: Fault,
-    line: u32,
-    column: u32,
-) -> Result<(), AllocError>
+fn push_refusal(text: &mut String, kind: Fault, line: u32, column: u32) -> Result<(), AllocError>
     ensures { OnOk result (string_bytes text.new ≡ string_bytes text.old ++ (codes "refused " ++ meant.kind_text kind ++ codes " at " ++ decimal line ++ codes ":" ++ decimal column)) }
 {
     text.push_str("refused ")?;

@@ -1,4 +1,4 @@
-// Texts that are no function.
+// Texts that are no function, and where each is first at fault.
 use super::calls::call;
 use super::captures::{Frame, capture};
 use super::firewall::run_one;
@@ -6,68 +6,160 @@ use crate::Status;
 use std::alloc::{AllocError, Global};
 use std::test::Fail;
 
-const BAD_TEXTS: [&[u8]; 40] = [
-    b"",
-    b" \t\r\n# nothing",
-    b"\xff\xfe\x00\x01",
-    b"\xef\xbb\xbfnf x { ports 1; on 0 { drop; } }",
-    b"nf x { ports 1; on 0 { drop; } }\x00",
-    b"nf x { ports 1; on 0 { drop; }",
-    b"nf x { ports 1; # on 0 { drop; } }",
-    b"nf x { ports 1; on 0 { drop; } } nf",
-    b"nf x { ports 1; on 0 { drop } }",
-    b"nf x { ports 1; on 0 { drop; drop; } }",
-    b"nf drop { ports 1; on 0 { drop; } }",
-    b"nf x { ports 0; }",
-    b"nf x { ports 1; }",
-    b"nf x { ports 5; on 0 { } on 1 { } on 2 { } on 3 { } on 4 { } }",
-    b"nf x { ports 2; on 0 { } }",
-    b"nf x { ports 1; on 0 { } on 0 { } }",
-    b"nf x { ports 1; on 0 { } on 1 { } }",
-    b"nf x { ports 01; on 0 { } }",
-    b"nf x { ports 1; on 0 { forward 18446744073709551616; } }",
-    b"nf x { ports 1; on 0 { forward 0xA; } }",
-    b"nf x { ports 1; on 0 { forward 0.0.0; } }",
-    b"nf x { ports 1; on 0 { touch e; } }",
-    b"nf x { ports 1; on 0 { get e = c.m(1) { } } }",
-    b"nf x { ports 1; chain c 0 lifetime 1 { map m(a: 8); } on 0 { } }",
-    b"nf x { ports 1; chain c 65537 lifetime 1 { map m(a: 8); } on 0 { } }",
-    b"nf x { ports 1; chain c 1 lifetime 1 { map m(a: 24); } on 0 { } }",
-    b"nf x { ports 1; chain c 1 lifetime 1 { map m(a: 8, a: 8); } on 0 { } }",
-    b"nf x { ports 1; chain c 1 lifetime 1 { map m(a: 8); } on 0 { get e = c.m(1, 2) { } } }",
-    b"nf x { ports 1; chain c 1 lifetime 1 { map m(a: 8); } on 0 { new e = c() { } } }",
-    b"nf x { ports 1; chain c 1 lifetime 1 { map m(a: 8); } on 0 { new e = c(b = 1) { } } }",
-    b"nf x { ports 1; chain c 1 lifetime 1 { map m(a: 8); } on 0 { new c = c(a = 1) { } } }",
-    b"nf x { ports 1; chain c 1 lifetime 1 { map m(a: 8); } chain d 1 lifetime 1 { map m(a: 8); } on 0 { } }",
-    b"nf x { ports 1; chain c 1 lifetime 1 { map m(a: 8); free b: 8; } on 0 { } }",
-    b"nf x { ports 1; array c 1 : 8; on 0 { } }",
-    b"nf x { ports 1; on 0 { if ttl == 1 { } } }",
-    b"nf x { ports 1; on 0 { set ttl = 1; } }",
-    b"nf x { ports 1; on 0 { flood; } }",
-    b"nf x { ports 1; on 0 { forward 0 + 0; } }",
-    b"nf x { ports 1; on 0 { forward (0); } }",
-    b"nf a23456789012345678901234567890123 { ports 1; on 0 { } }",
+// A text, and what is said of it; the places were counted by hand.
+const BAD_TEXTS: [(&[u8], &str); 41] = [
+    (b"", "refused S4 at 1:1"),
+    (b" \t\r\n# nothing", "refused S4 at 2:10"),
+    (b"\xff\xfe\x00\x01", "refused S1 at 1:1"),
+    (
+        b"\xef\xbb\xbfnf x { ports 1; on 0 { drop; } }",
+        "refused S1 at 1:1",
+    ),
+    (
+        b"nf x { ports 1; on 0 { drop; } }\x00",
+        "refused S1 at 1:33",
+    ),
+    (b"nf x { ports 1; on 0 { drop; }", "refused S4 at 1:31"),
+    (b"nf x { ports 1; # on 0 { drop; } }", "refused S4 at 1:35"),
+    (b"nf x { ports 1; on 0 { drop; } } nf", "refused S3 at 1:34"),
+    (b"nf x { ports 1; on 0 { drop } }", "refused S3 at 1:29"),
+    (
+        b"nf x { ports 1; on 0 { drop; drop; } }",
+        "refused S3 at 1:30",
+    ),
+    (b"nf drop { ports 1; on 0 { drop; } }", "refused S3 at 1:4"),
+    (b"nf x { ports 0; }", "refused T07 at 1:14"),
+    (b"nf x { ports 1; }", "refused T08 at 1:17"),
+    (
+        b"nf x { ports 5; on 0 { } on 1 { } on 2 { } on 3 { } on 4 { } }",
+        "refused T07 at 1:14",
+    ),
+    (b"nf x { ports 2; on 0 { } }", "refused T08 at 1:26"),
+    (
+        b"nf x { ports 1; on 0 { } on 0 { } }",
+        "refused T02 at 1:29",
+    ),
+    (
+        b"nf x { ports 1; on 0 { } on 1 { } }",
+        "refused T07 at 1:29",
+    ),
+    (b"nf x { ports 01; on 0 { } }", "refused S2 at 1:14"),
+    (
+        b"nf x { ports 1; on 0 { forward 18446744073709551616; } }",
+        "refused S2 at 1:32",
+    ),
+    (
+        b"nf x { ports 1; on 0 { forward 0xA; } }",
+        "refused S2 at 1:32",
+    ),
+    (
+        b"nf x { ports 1; on 0 { forward 0.0.0; } }",
+        "refused S2 at 1:32",
+    ),
+    (
+        b"nf x { ports 1; on 0 { touch e; } }",
+        "refused T06 at 1:30",
+    ),
+    (
+        b"nf x { ports 1; on 0 { get e = c.m(1) { } } }",
+        "refused T01 at 1:32",
+    ),
+    (
+        b"nf x { ports 1; chain c 0 lifetime 1 { map m(a: 8); } on 0 { } }",
+        "refused T07 at 1:25",
+    ),
+    (
+        b"nf x { ports 1; chain c 65537 lifetime 1 { map m(a: 8); } on 0 { } }",
+        "refused T07 at 1:25",
+    ),
+    (
+        b"nf x { ports 1; chain c 1 lifetime 1 { map m(a: 24); } on 0 { } }",
+        "refused T07 at 1:49",
+    ),
+    (
+        b"nf x { ports 1; chain c 1 lifetime 1 { map m(a: 8, a: 8); } on 0 { } }",
+        "refused T02 at 1:52",
+    ),
+    (
+        b"nf x { ports 1; chain c 1 lifetime 1 { map m(a: 8); } on 0 { get e = c.m(1, 2) { } } }",
+        "refused T03 at 1:78",
+    ),
+    (
+        b"nf x { ports 1; chain c 1 lifetime 1 { map m(a: 8); } on 0 { new e = c() { } } }",
+        "refused T03 at 1:72",
+    ),
+    (
+        b"nf x { ports 1; chain c 1 lifetime 1 { map m(a: 8); } on 0 { new e = c(b = 1) { } } }",
+        "refused T01 at 1:72",
+    ),
+    (
+        b"nf x { ports 1; chain c 1 lifetime 1 { map m(a: 8); } on 0 { new c = c(a = 1) { } } }",
+        "refused T02 at 1:66",
+    ),
+    (
+        b"nf x { ports 1; chain c 1 lifetime 1 { map m(a: 8); } chain d 1 lifetime 1 { map m(a: 8); } on 0 { } }",
+        "refused S3 at 1:55",
+    ),
+    (
+        b"nf x { ports 1; chain c 1 lifetime 1 { map m(a: 8); free b: 8; } on 0 { } }",
+        "refused S3 at 1:53",
+    ),
+    (
+        b"nf x { ports 1; array c 1 : 8; on 0 { } }",
+        "refused S3 at 1:17",
+    ),
+    (
+        b"nf x { ports 1; on 0 { if ttl == 1 { } } }",
+        "refused S3 at 1:24",
+    ),
+    (
+        b"nf x { ports 1; on 0 { set ttl = 1; } }",
+        "refused S3 at 1:24",
+    ),
+    (b"nf x { ports 1; on 0 { flood; } }", "refused S3 at 1:24"),
+    (
+        b"nf x { ports 1; on 0 { forward 0 + 0; } }",
+        "refused S3 at 1:34",
+    ),
+    (
+        b"nf x { ports 1; on 0 { forward (0); } }",
+        "refused S3 at 1:32",
+    ),
+    (
+        b"nf a23456789012345678901234567890123 { ports 1; on 0 { } }",
+        "refused S5 at 1:4",
+    ),
+    (b"nf x {\n  ports 1;\n}\n", "refused T08 at 3:1"),
 ];
 
-fn bad_texts() -> &'static [&'static [u8]] {
+fn bad_texts() -> &'static [(&'static [u8], &'static str)] {
     &BAD_TEXTS
 }
 
+fn line_of(alloc: Global, said: &str) -> Result<String, AllocError> {
+    let mut line = String::from_str(alloc, "maestro: ")?;
+    line.push_str(said)?;
+    line.push_str("\n")?;
+    Ok(line)
+}
+
+fn is_refusal(status: Status) -> bool {
+    matches!(status, Status::Refused { .. })
+}
+
 // The text alone is read.
-fn is_refused(alloc: Global, text: &[u8]) -> Result<bool, AllocError> {
+fn is_refused(alloc: Global, text: &[u8], said: &str) -> Result<bool, AllocError> {
     let captures = [capture(alloc, &[(1, Frame::Query)])?];
     let got = call(alloc, run_one(), "out", text, &captures, &[])?;
-    let refused = Status::Refused { line: 1, column: 1 };
-    Ok(got.is_stop(refused, "maestro: refused N0 at 1:1\n", 1, 0))
+    let line = line_of(alloc, said)?;
+    Ok(is_refusal(got.status) && got.is_stop(got.status, line.as_str(), 1, 0))
 }
 
 #[test]
 fn texts_that_are_no_function(rt: HostRuntime) -> Result<(), Fail> {
-    let mut number: u64 = 0;
-    for text in bad_texts() {
-        let met = is_refused(rt.alloc(), text)?;
-        assert!(rt; met, "text {number}");
-        number = number.saturating_add(1);
+    for (text, said) in bad_texts() {
+        let met = is_refused(rt.alloc(), text, said)?;
+        assert!(rt; met, "{said}");
     }
     Ok(())
 }

@@ -1,18 +1,19 @@
 // Words that are no run, and files that are not there.
 use super::calls::{Outcome, call, call_nothing};
 use super::firewall::{firewall, query_and_reply};
-use crate::{RunFile, Status};
+use crate::{Fault, RunFile, Status};
+use nf_syntax::SyntaxKind;
+use nf_types::TypingKind;
 use std::alloc::{AllocError, Global};
 use std::test::Fail;
 
-const BAD_LINES: [&str; 42] = [
+const BAD_LINES: [&str; 38] = [
     "",
     "maestro",
     "maestro run",
     "maestro run x.nf",
     "maestro run x.nf out",
     "maestro run x.nf out --workers 1",
-    "maestro run x.nf out a.pcap b.pcap",
     "maestro run x.nf out a.pcap b.pcap --workers",
     "maestro run x.nf out a.pcap b.pcap a.pcap b.pcap a.pcap --workers 1",
     "maestro run x.nf out a.pcap b.pcap --workers 0",
@@ -23,24 +24,15 @@ const BAD_LINES: [&str; 42] = [
     "maestro run x.nf out a.pcap b.pcap --workers -1",
     "maestro run x.nf out a.pcap b.pcap --workers one",
     "maestro run x.nf out a.pcap b.pcap --workers ",
-    "maestro run x.nf out a.pcap b.pcap --workers=1",
-    "maestro run x.nf out a.pcap b.pcap --workers=1 1",
     "maestro run x.nf out a.pcap b.pcap --worker 1",
     "maestro run x.nf out a.pcap b.pcap --Workers 1",
     "maestro run x.nf out a.pcap b.pcap -w 1",
-    "maestro run x.nf out a.pcap b.pcap workers 1",
-    "maestro run x.nf out a.pcap b.pcap --workers 1 ",
-    "maestro run x.nf out a.pcap b.pcap --workers 1 c.pcap",
     "maestro run x.nf out a.pcap b.pcap --workers 1 --workers 1",
-    "maestro run x.nf out a.pcap b.pcap --workers 1 --max-packets 9",
     "maestro run x.nf out a.pcap b.pcap --mode auto --workers 1",
-    "maestro run x.nf out --workers 1 a.pcap b.pcap",
-    "maestro run --workers 1 x.nf out a.pcap b.pcap",
     "maestro --workers 1 run x.nf out a.pcap b.pcap",
     "maestro run -x.nf out a.pcap b.pcap --workers 1",
     "maestro run x.nf --out a.pcap b.pcap --workers 1",
     "maestro run x.nf out -a.pcap b.pcap --workers 1",
-    "maestro run x.nf out a.pcap - --workers 1",
     "maestro Run x.nf out a.pcap b.pcap --workers 1",
     "maestro  x.nf out a.pcap b.pcap --workers 1",
     "maestro x.nf out a.pcap b.pcap --workers 1",
@@ -48,6 +40,12 @@ const BAD_LINES: [&str; 42] = [
     "maestro --help",
     "maestro --version",
     "maestro check x.nf",
+    "maestro run x.nf out a.pcap b.pcap --max-packets -1",
+    "maestro run x.nf out a.pcap b.pcap --max-packets 4294967296",
+    "maestro hash 1.2.3.4:5",
+    "maestro hash 1.2.3.4:5 6.7.8.9:65536",
+    "maestro hash 1.2.3.4:5 6.7.8.9:10 --workers 17",
+    "maestro hash 1.2.3.4:5 6.7.8.9:10 --key 00",
 ];
 
 fn bad_lines() -> &'static [&'static str] {
@@ -81,7 +79,10 @@ fn no_words(rt: HostRuntime) -> Result<(), Fail> {
 }
 
 // Captures that are not there: they are counted before they are opened.
-const OTHER_COUNTS: [&str; 4] = [
+const OTHER_COUNTS: [&str; 7] = [
+    "maestro run x.nf out a.pcap b.pcap workers",
+    "maestro run x.nf out a.pcap b.pcap --workers=1 1",
+    "maestro run x.nf out a.pcap b.pcap --workers 1 c.pcap",
     "maestro run x.nf out a.pcap --workers 1",
     "maestro run x.nf out gone.pcap --workers 1",
     "maestro run x.nf out a.pcap b.pcap gone.pcap --workers 1",
@@ -155,14 +156,37 @@ fn a_missing_file_is_named(rt: HostRuntime) -> Result<(), Fail> {
     Ok(())
 }
 
-const NUMBERS: [(Status, u8); 8] = [
+const NUMBERS: [(Status, u8); 11] = [
     (Status::Done, 0),
     (Status::Usage, 1),
-    (Status::Refused { line: 1, column: 1 }, 2),
+    (
+        Status::Refused {
+            kind: Fault::Syntax(SyntaxKind::End),
+            line: 1,
+            column: 1,
+        },
+        2,
+    ),
+    (
+        Status::Refused {
+            kind: Fault::Typing(TypingKind::Unknown),
+            line: 1,
+            column: 1,
+        },
+        2,
+    ),
     (Status::FileFault(RunFile::Nf), 3),
     (Status::FileFault(RunFile::Output(3)), 3),
     (Status::FileFault(RunFile::Stderr), 3),
     (Status::NotCapture { port: 3 }, 4),
+    (
+        Status::Torn {
+            port: 3,
+            offset: 24,
+        },
+        5,
+    ),
+    (Status::TooMany { most: 3 }, 7),
     (Status::Memory, 9),
 ];
 
