@@ -1,0 +1,4 @@
+pub mod Stamps
+pub mod Shares
+pub mod Rings
+pub mod Kept

@@ -1,0 +1,249 @@
+//! The chain.
+ghost use Rattle.std.specs.Prelude.{◌≡◌, ℕ, ◌<◌, ◌≤◌, length, IsTrue, IsSome, IfSome, IfNone, IfOk, MatchBool, MatchOption, ◌↔◌, ◌⊎◌, ◌+◌, None, Some, replicate};
+ghost use Rattle.std.specs.Bool.{OnTrue, OnFalse};
+ghost use Rattle.vig_chain.specs.Rings.{apart, AreLinked};
+ghost use Rattle.vig_chain.specs.Shares.{owns};
+ghost use Rattle.vig_chain.specs.Stamps.{opened, stamp_at, is_own, is_empty, is_free, is_past, is_past_at, Somewhere, Nowhere, IsOldest, NoneAbove, put, freed};
+
+use crate::links::Links;
+use nf_base::share::Share;
+use nf_base::size::Size;
+use std::alloc::{AllocError, Global};
+use std::marker::Model;
+
+/// The indices of a chain, of which its share's own are given out, each with a stamp.
+///
+/// Contracts see it as the list, by index, of the stamp of its entry or none, beside the greatest stamp
+/// given so far and the share. Times, stamps and lifetimes are in nanoseconds. No call but `new` takes
+/// memory, and each goes a bounded number of steps, whatever the chain's size.
+#[derive(Drop)]
+pub struct Chain {
+    /// By index the stamp of its entry.
+    stamps: Vec<Option<u64>>,
+    /// A cell for each index, then the one where the ring of the entries begins, in the order of their
+    /// stamps, and then the one where the ring of the free own indices does.
+    links: Links,
+    /// How many indices there are.
+    size: u32,
+    greatest: u64,
+    share: Share,
+}
+
+impl Model for Chain {
+    ghost use Rattle.vig_chain.specs.Stamps.{Stamps, stamps_of};
+    ghost use Rattle.vig_chain.specs.Kept.{IsKept};
+
+    ghost Value = { Stamps };
+
+    ghost view = { λ a. stamps_of a.stamps.items a.greatest a.share.queue a.share.of };
+
+    ghost invariant = { λ a. IsKept a.size (stamps_of a.stamps.items a.greatest a.share.queue a.share.of) a.links };
+}
+
+impl Chain {
+    /// A chain of so many indices, all of them free, whose share's own are given out.
+    pub fn new(alloc: Global, size: Size, share: Share) -> Result<Chain, AllocError>
+        ensures { IfOk result (λ chain. chain ≡ opened size share.queue share.of) }
+    {
+        let count = size.get();
+        let stamps = no_stamps(alloc, count)?;
+        let mut links = Links::new(alloc, count + 2)?;
+        link_free(&mut links, count, share);
+        Ok(Chain {
+            stamps,
+            links,
+            size: count,
+            greatest: 0,
+            share,
+        })
+    }
+
+    /// The stamp of the entry at an index: none where the index is free or past the end.
+    pub fn stamp(&self, index: u32) -> Option<u64>
+        ensures value { result ≡ stamp_at self.now.slots index }
+        ensures own { IsSome result → IsTrue (is_own self.now index) }
+    {
+        *self.stamps.get(index as usize)?
+    }
+
+    /// The greatest stamp given so far, 0 before the first.
+    pub fn greatest(&self) -> u64
+        ensures value { result ≡ self.now.greatest }
+        ensures above { NoneAbove result self.now }
+    {
+        self.greatest
+    }
+
+    /// Whether no own index is free.
+    pub fn is_full(&self) -> bool
+        ensures { MatchBool result (Nowhere (is_free self.now)) (Somewhere (is_free self.now)) }
+    {
+        let free = self.size + 1;
+        self.links.next(free) == free
+    }
+
+    /// The entry with the least stamp, as its index and that stamp: none where there are no entries.
+    fn oldest(&self) -> Option<(u32, u64)>
+        ensures some { IfSome result (λ entry. stamp_at self.now.slots entry.0 ≡ Some entry.1) }
+        ensures oldest { IfSome result (λ entry. IsOldest self.now entry.0) }
+        ensures none { IfNone result ((i s : ℕ) → stamp_at self.now.slots i ≡ Some s → ⊥) }
+    {
+        let first = self.links.next(self.size);
+        match self.stamp(first) {
+            Some(stamp) => Some((first, stamp)),
+            None => None,
+        }
+    }
+
+    /// Whether an index is own and free.
+    fn is_free(&self, index: u32) -> bool
+        ensures { result ≡ is_free self.now index }
+    {
+        index % self.share.of == self.share.queue && self.is_empty(index)
+    }
+
+    /// Whether there is room at an index.
+    fn is_empty(&self, index: u32) -> bool
+        ensures { result ≡ is_empty self.now.slots index }
+    {
+        match self.stamps.get(index as usize) {
+            Some(stamp) => stamp.is_none(),
+            None => false,
+        }
+    }
+
+    /// Puts an entry at an own free index, or gives the one there the next stamp.
+    fn put(&mut self, index: u32, time: u64)
+        requires { IsTrue (is_free self.old index) ⊎ IsSome (stamp_at self.old.slots index) }
+        ensures { self.new ≡ put time index self.old }
+    {
+        let stamp = time.max(self.greatest);
+        self.links.unlink(index);
+        self.links.append(index, self.size);
+        self.stamps[index as usize] = Some(stamp);
+        self.greatest = stamp;
+    }
+
+    /// Gives up the entry at an index.
+    fn give_up(&mut self, index: u32)
+        requires { IsSome (stamp_at self.old.slots index) }
+        ensures { self.new ≡ freed index self.old }
+    {
+        self.links.unlink(index);
+        self.links.append(index, self.size + 1);
+        self.stamps[index as usize] = None;
+    }
+
+    /// Makes an entry at a free own index: none where no own index is free.
+    ///
+    /// Its stamp is the time, or the greatest stamp so far where that is later.
+    pub fn allocate(&mut self, time: u64) -> Option<u32>
+        ensures cause { MatchOption result (Nowhere (is_free self.old)) (λ i. IsTrue (is_free self.old i)) }
+        ensures put { IfSome result (λ i. self.new ≡ put time i self.old) }
+        ensures unchanged { IfNone result (self.new ≡ self.old) }
+    {
+        let free = self.size + 1;
+        let index = self.links.next(free);
+        if index == free {
+            return None;
+        }
+        self.put(index, time);
+        Some(index)
+    }
+
+    /// Makes an entry at an index, with the stamp that `allocate` gives: false where the index is not own or
+    /// is live.
+    pub fn take(&mut self, index: u32, time: u64) -> bool
+        ensures cause { result ≡ is_free self.old index }
+        ensures put { OnTrue result (self.new ≡ put time index self.old) }
+        ensures unchanged { OnFalse result (self.new ≡ self.old) }
+    {
+        let is_free = self.is_free(index);
+        if is_free {
+            self.put(index, time);
+        }
+        is_free
+    }
+
+    /// Gives a live index the stamp that `allocate` gives.
+    pub fn touch(&mut self, index: u32, time: u64)
+        requires { IsSome (stamp_at self.old.slots index) }
+        ensures { self.new ≡ put time index self.old }
+    {
+        self.put(index, time);
+    }
+
+    /// Gives up the entry at an index: false where there is none.
+    pub fn free(&mut self, index: u32) -> bool
+        ensures cause { IsTrue result ↔ IsSome (stamp_at self.old.slots index) }
+        ensures freed { OnTrue result (self.new ≡ freed index self.old) }
+        ensures unchanged { OnFalse result (self.new ≡ self.old) }
+    {
+        let is_live = self.stamp(index).is_some();
+        if is_live {
+            self.give_up(index);
+        }
+        is_live
+    }
+
+    /// Whether some entry is past its lifetime: its stamp and the lifetime, added exactly, come before the time.
+    pub fn due(&self, time: u64, lifetime: u64) -> bool
+        ensures { let past = is_past_at time lifetime self.now in
+            MatchBool result (Somewhere past) (Nowhere past) }
+    {
+        match self.oldest() {
+            Some((_, stamp)) => is_past(stamp, time, lifetime),
+            None => false,
+        }
+    }
+
+    /// Gives up an entry with the least stamp, if it is past its lifetime, and says at which index: none where
+    /// no entry is past its lifetime.
+    pub fn expire_one(&mut self, time: u64, lifetime: u64) -> Option<u32>
+        ensures cause { let past = is_past_at time lifetime self.old in
+            MatchOption result (Nowhere past) (λ i. IsTrue (past i)) }
+        ensures oldest { IfSome result (λ i. IsOldest self.old i) }
+        ensures freed { IfSome result (λ i. self.new ≡ freed i self.old) }
+        ensures unchanged { IfNone result (self.new ≡ self.old) }
+    {
+        let (index, stamp) = self.oldest()?;
+        if !is_past(stamp, time, lifetime) {
+            return None;
+        }
+        self.give_up(index);
+        Some(index)
+    }
+}
+
+/// Whether a stamp and a lifetime, added exactly, come before a time.
+fn is_past(stamp: u64, time: u64, lifetime: u64) -> bool
+    ensures { result ≡ is_past time lifetime stamp }
+{
+    stamp < time && lifetime < time - stamp
+}
+
+/// So many indices without an entry.
+fn no_stamps(alloc: Global, count: u32) -> Result<Vec<Option<u64>>, AllocError>
+    ensures { IfOk result (λ stamps. stamps.items ≡ replicate count None) }
+{
+    let mut stamps = Vec::with_capacity(alloc, count as usize)?;
+    for _index in 0..count {
+        stamps.push(None)?;
+    }
+    Ok(stamps)
+}
+
+/// Puts a share's indices, of so many, in the ring of the free ones.
+fn link_free(links: &mut Links, size: u32, share: Share)
+    requires some { 1 ≤ size }
+    requires most { size ≤ 65536 }
+    requires apart { links.old ≡ apart (size + 2) }
+    ensures linked { AreLinked size (owns share) (replicate size None) links.new }
+    ensures cells { length links.new.next ≡ size + 2 }
+{
+    for index in 0..size {
+        if index % share.of == share.queue {
+            links.append(index, size + 1);
+        }
+    }
+}

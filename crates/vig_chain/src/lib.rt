@@ -1,0 +1,11 @@
+//! A chain of indices with expiry: indices are given out, renewed, and given up by age, each in a
+//! bounded number of steps, in memory taken once.
+#![tactic(auto)]
+
+mod chain;
+mod links;
+
+pub use chain::Chain;
+
+#[cfg(test)]
+mod tests;

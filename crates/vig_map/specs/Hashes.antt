@@ -1,0 +1,14 @@
+-- Where the search for a key begins. No clause of the map speaks of it.
+use Rattle.std.specs.Prelude.{ℕ, ◌*◌, ◌/◌, ◌%◌, ◌^◌, List, bit_xor, fold}
+
+-- a hash with a key's part mixed in
+abbrev pub mixed : ℕ → ℕ → ℕ
+mixed hash part = bit_xor hash part * 0x9E3779B97F4A7C15 % 2 ^ 64
+
+-- the hash of a key, part by part
+abbrev pub hash_of : List ℕ → ℕ
+hash_of key = fold mixed 0 key
+
+-- the slot at which the search for a key begins, of so many, by the hash's high half
+unfoldable pub home : ℕ → List ℕ → ℕ
+home homes key = hash_of key / 2 ^ 32 % homes

@@ -1,0 +1,4 @@
+pub mod Bindings
+pub mod Hashes
+pub mod Slots
+pub mod Kept

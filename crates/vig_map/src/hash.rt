@@ -1,0 +1,28 @@
+//! Where the search for a key begins.
+ghost use Rattle.std.specs.Prelude.{◌≡◌, ◌<◌};
+ghost use Rattle.vig_map.specs.Hashes.{mixed, home};
+
+use nf_base::key::Key;
+
+/// An odd number near 2^64 divided by the golden ratio: a product with it spreads every bit over the high half.
+const MULTIPLIER: u64 = 0x9e37_79b9_7f4a_7c15;
+
+/// A hash with a key's part mixed in.
+fn mix(hash: u64, part: u64) -> u64
+    ensures { result ≡ mixed hash part }
+{
+    (hash ^ part).wrapping_mul(MULTIPLIER)
+}
+
+/// The slot at which the search for a key begins, of so many.
+pub fn home(key: &Key, homes: u32) -> u32
+    requires { 0 < homes }
+    ensures value { result ≡ home homes key.now }
+    ensures within { result < homes }
+{
+    let mut hash = 0;
+    for part in key.as_slice() {
+        hash = mix(hash, *part);
+    }
+    (hash >> 32) as u32 % homes
+}

@@ -1,0 +1,48 @@
+use crate::Map;
+use nf_base::key::Key;
+use nf_base::size::Size;
+use std::test::Fail;
+
+fn key(first: u64, second: u64) -> Key {
+    let mut key = Key::new();
+    key.push(first);
+    key.push(second);
+    key
+}
+
+#[test]
+fn pairs_are_found_until_they_are_erased(rt: HostRuntime) -> Result<(), Fail> {
+    let mut map = Map::new(rt.alloc(), Size::new(3))?;
+    assert_eq!(rt; map.get(&key(1, 2)), None);
+    assert!(rt; map.put(key(1, 2), 7));
+    assert!(rt; !map.put(key(1, 2), 8));
+    assert!(rt; map.put(key(2, 1), 9));
+    assert!(rt; map.put(Key::new(), 5));
+    assert!(rt; !map.put(key(3, 3), 1), "three pairs stand");
+    assert_eq!(rt; map.get(&key(1, 2)), Some(7));
+    assert_eq!(rt; map.erase(&key(1, 2)), Some(7));
+    assert_eq!(rt; map.erase(&key(1, 2)), None);
+    assert_eq!(rt; map.get(&key(1, 2)), None);
+    assert_eq!(rt; map.get(&key(2, 1)), Some(9));
+    assert_eq!(rt; map.get(&Key::new()), Some(5));
+    assert!(rt; map.put(key(3, 3), 1));
+    Ok(())
+}
+
+#[test]
+fn the_others_are_found_when_half_are_erased(rt: HostRuntime) -> Result<(), Fail> {
+    let mut map = Map::new(rt.alloc(), Size::new(2000))?;
+    for i in 0..2000u32 {
+        assert!(rt; map.put(key(0x0a00_0000, u64::from(i)), i));
+    }
+    for i in 0..2000u32 {
+        if i % 3 != 1 {
+            assert_eq!(rt; map.erase(&key(0x0a00_0000, u64::from(i))), Some(i));
+        }
+    }
+    for i in 0..2000u32 {
+        let value = if i % 3 == 1 { Some(i) } else { None };
+        assert_eq!(rt; map.get(&key(0x0a00_0000, u64::from(i))), value);
+    }
+    Ok(())
+}
