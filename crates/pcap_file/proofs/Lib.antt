@@ -2,3 +2,8 @@ pub mod Steps
 pub mod Placing
 pub mod Numbers
 pub mod Spelling
+pub mod Reaching
+pub mod Growing
+pub mod Heading
+pub mod Stepping
+pub mod Fronts

@@ -17,7 +17,7 @@ use Rattle.pcap_file.proofs.Steps.{either_way, whole, steps, stops, ends}
 abbrev pub found_then : List Place → ℕ → Capture → Placed
 found_then places offset c = record { form = c.form; places = places ++ places_from c.form.unit offset c.records; torn = c.torn }
 
-frame_long : (order : Endian) (offset : ℕ) (bytes : List ℕ) → is_whole order offset bytes ≡ true → length (record_in order bytes).frame ≡ captured_in order bytes
+pub frame_long : (order : Endian) (offset : ℕ) (bytes : List ℕ) → is_whole order offset bytes ≡ true → length (record_in order bytes).frame ≡ captured_in order bytes
 frame_long order offset bytes e =
     let w = whole order offset bytes e in
     omega (arith, length-take (captured_in order bytes) (drop 16 bytes), length-drop 16 bytes)
@@ -38,7 +38,7 @@ within_form (suc most) form offset bytes =
     (λ e. within_form most form (offset + size) (drop size bytes))
     (λ e. none_form form offset bytes)
 
-form_kept : (form : Form) (offset : ℕ) (bytes : List ℕ) → (capture_from form offset bytes).form ≡ form
+pub form_kept : (form : Form) (offset : ℕ) (bytes : List ℕ) → (capture_from form offset bytes).form ≡ form
 unfolding capture_from
 form_kept form offset bytes = within_form (length bytes) form offset bytes
 

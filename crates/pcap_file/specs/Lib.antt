@@ -3,3 +3,6 @@ pub mod Record
 pub mod Capture
 pub mod Spelled
 pub mod Placed
+pub mod Held
+pub mod Reading
+pub mod Writing

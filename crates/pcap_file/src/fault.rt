@@ -1,5 +1,8 @@
 //! Why a capture can't be read or written.
+ghost use Rattle.std.specs.Prelude.{◌≡◌};
+ghost use Rattle.pcap_file.specs.Held.{cap_fault};
 
+use nf_files::FilesFault;
 use thiserror::Error;
 
 /// Why a capture can't be read or written.
@@ -14,4 +17,15 @@ pub enum CapFault {
     /// Memory ran out.
     #[error("out of memory")]
     Memory,
+}
+
+impl From<FilesFault> for CapFault {
+    ghost from_gives = { λ fault e. e ≡ cap_fault fault };
+
+    fn from(fault: FilesFault) -> Self {
+        match fault {
+            FilesFault::Failed => CapFault::File,
+            FilesFault::Memory(_) => CapFault::Memory,
+        }
+    }
 }

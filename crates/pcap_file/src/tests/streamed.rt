@@ -1,0 +1,119 @@
+use crate::{CapFault, Head, Next, Reader, Writer};
+use nf_files::{Files, MemoryFiles};
+use std::alloc::Global;
+use std::test::Fail;
+
+/// A header of the form big-endian in microseconds, and a record of a frame of 3 bytes.
+const BIG: [u8; 43] = [
+    0xa1, 0xb2, 0xc3, 0xd4, 0, 2, 0, 4, 0, 0, 0, 0, 0, 0, 0, 0, 0, 0, 0, 96, 0, 0, 0, 1, 0, 0, 0,
+    1, 0, 0, 0, 2, 0, 0, 0, 3, 0, 0, 0, 60, 7, 8, 9,
+];
+
+/// The head of that record.
+const HEAD: Head = Head {
+    time: 1_000_002_000,
+    captured: 3,
+    original: 60,
+};
+
+fn files_with(alloc: Global, bytes: &[u8], fails: &[u64]) -> Result<MemoryFiles, Fail> {
+    let fails = Vec::from_slice(alloc, fails)?;
+    let mut files = MemoryFiles::new(alloc, fails);
+    files.put("a", bytes)?;
+    Ok(files)
+}
+
+#[test]
+fn records_are_given_one_by_one(rt: HostRuntime) -> Result<(), Fail> {
+    let alloc = rt.alloc();
+    let mut files = files_with(alloc, &BIG, &[])?;
+    let file = files.open_in("a")?;
+    let mut reader = Reader::header(alloc, &mut files, file)?;
+    let mut frame = Vec::new(alloc);
+    assert_eq!(rt; reader.next(&mut files, &mut frame), Ok(Next::Frame(HEAD)));
+    assert_eq!(rt; frame.as_slice(), [7, 8, 9].as_slice());
+    assert_eq!(rt; reader.next(&mut files, &mut frame), Ok(Next::End));
+    assert_eq!(rt; reader.next(&mut files, &mut frame), Ok(Next::End), "still");
+    Ok(())
+}
+
+#[test]
+fn a_torn_record_is_named_by_its_offset(rt: HostRuntime) -> Result<(), Fail> {
+    let alloc = rt.alloc();
+    for cut in 0..43 {
+        let mut files = files_with(alloc, &BIG[..cut], &[])?;
+        let file = files.open_in("a")?;
+        let mut frame = Vec::new(alloc);
+        match Reader::header(alloc, &mut files, file) {
+            Err(e) => assert_eq!(rt; (e, cut < 24), (CapFault::NotCapture, true), "{cut} bytes"),
+            Ok(mut reader) => {
+                let expected = if cut == 24 { Next::End } else { Next::Torn(24) };
+                assert_eq!(rt;
+                    reader.next(&mut files, &mut frame),
+                    Ok(expected),
+                    "{cut} bytes"
+                );
+                assert_eq!(rt;
+                    reader.next(&mut files, &mut frame),
+                    Ok(expected),
+                    "{cut} bytes"
+                );
+            }
+        }
+    }
+    Ok(())
+}
+
+#[test]
+fn a_written_capture_is_read_again(rt: HostRuntime) -> Result<(), Fail> {
+    let alloc = rt.alloc();
+    let mut files = MemoryFiles::new(alloc, Vec::new(alloc));
+    let out = files.create_out("a")?;
+    let mut writer = Writer::header(alloc, &mut files, out)?;
+    // Long frames, so that records lie across the pieces that are read.
+    let mut long = Vec::new(alloc);
+    long.resize(50_000, 7)?;
+    for i in 0..10 {
+        long[0] = i;
+        writer.put(&mut files, 1_000_000_000 * u64::from(i) + 5, 60_000, &long)?;
+    }
+    let file = files.open_in("a")?;
+    let mut reader = Reader::header(alloc, &mut files, file)?;
+    let mut frame = Vec::new(alloc);
+    for i in 0..10 {
+        let head = Head {
+            time: 1_000_000_000 * u64::from(i) + 5,
+            captured: 50_000,
+            original: 60_000,
+        };
+        assert_eq!(rt; reader.next(&mut files, &mut frame), Ok(Next::Frame(head)));
+        long[0] = i;
+        assert!(rt; frame.as_slice() == long.as_slice(), "frame {i}");
+    }
+    assert_eq!(rt; reader.next(&mut files, &mut frame), Ok(Next::End));
+    Ok(())
+}
+
+#[test]
+fn faults_are_told(rt: HostRuntime) -> Result<(), Fail> {
+    let alloc = rt.alloc();
+    let mut files = files_with(alloc, &BIG, &[1])?;
+    let file = files.open_in("a")?;
+    assert!(rt; Reader::header(alloc, &mut files, file).is_err_and(|e| e == CapFault::File));
+    let mut files = files_with(alloc, &BIG, &[2])?;
+    let file = files.open_in("a")?;
+    let mut reader = Reader::header(alloc, &mut files, file)?;
+    let mut frame = Vec::new(alloc);
+    assert_eq!(rt;
+        reader.next(&mut files, &mut frame),
+        Ok(Next::Frame(HEAD)),
+        "read ahead"
+    );
+    assert_eq!(rt; reader.next(&mut files, &mut frame), Err(CapFault::File));
+    let mut files = files_with(alloc, &BIG, &[2])?;
+    let out = files.create_out("b")?;
+    let mut writer = Writer::header(alloc, &mut files, out)?;
+    assert_eq!(rt; writer.put(&mut files, 0, 3, &[1]), Err(CapFault::File));
+    assert_eq!(rt; files.given(out).len(), 24);
+    Ok(())
+}
