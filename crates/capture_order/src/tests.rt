@@ -86,7 +86,9 @@ fn the_least_port_without_a_capture_is_named(rt: HostRuntime) {
     let mut short = capture(rt.alloc(), &[]).expect(&rt, "memory");
     short.pop();
     let captures = [whole, short, Vec::new(rt.alloc())];
-    assert!(rt; load(rt.alloc(), &captures, 100).is_err_and(|e| e == LoadFault::NotCapture { port: 1 }));
+    assert!(rt;
+        load(rt.alloc(), &captures, 100).is_err_and(|e| e == LoadFault::NotCapture { port: 1 })
+    );
     assert!(rt; load(rt.alloc(), &captures[..1]).is_ok_and(|loaded| loaded.arrivals.len() == 1));
     assert!(rt; load(rt.alloc(), &captures[..0]).is_ok_and(|loaded| loaded.arrivals.is_empty()));
 }
