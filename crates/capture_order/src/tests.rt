@@ -89,8 +89,12 @@ fn the_least_port_without_a_capture_is_named(rt: HostRuntime) {
     assert!(rt;
         load(rt.alloc(), &captures, 100).is_err_and(|e| e == LoadFault::NotCapture { port: 1 })
     );
-    assert!(rt; load(rt.alloc(), &captures[..1]).is_ok_and(|loaded| loaded.arrivals.len() == 1));
-    assert!(rt; load(rt.alloc(), &captures[..0]).is_ok_and(|loaded| loaded.arrivals.is_empty()));
+    assert!(rt;
+        load(rt.alloc(), &captures[..1], 100).is_ok_and(|loaded| loaded.arrivals.len() == 1)
+    );
+    assert!(rt;
+        load(rt.alloc(), &captures[..0], 100).is_ok_and(|loaded| loaded.arrivals.is_empty())
+    );
 }
 
 #[test]

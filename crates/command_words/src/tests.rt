@@ -145,14 +145,17 @@ fn hash_of(
     alloc: Global,
     line: &str,
 ) -> Result<Option<(Endpoint, Endpoint, Option<(u8, u8)>, u32)>, AllocError> {
-    match asked(alloc, line)? {
-        Some(Command::Hash(hash)) => Ok(Some((
+    let Some(command) = asked(alloc, line)? else {
+        return Ok(None);
+    };
+    match &command {
+        Command::Hash(hash) => Ok(Some((
             hash.source,
             hash.destination,
             hash.key.map(|key| (key[0], key[39])),
             hash.workers.get(),
         ))),
-        _ => Ok(None),
+        Command::Run(_) => Ok(None),
     }
 }
 
