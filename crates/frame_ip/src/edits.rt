@@ -12,8 +12,9 @@
 //! | IP header checksum | 24 | 2 | |
 //! | UDP checksum | 14 + 4 IHL + 6 | 2 | |
 //! | TCP checksum | 14 + 4 IHL + 16 | 2 | |
-ghost use Rattle.std.specs.Prelude.{◌≡◌, ◌+◌, ◌-◌, ◌*◌, ◌%◌, ◌≤◌, ◌<◌, ◌^◌, ◌++◌, length, IsTrue, slice_index};
+ghost use Rattle.std.specs.Prelude.{◌≡◌, ◌≢◌, true, ◌+◌, ◌-◌, ◌*◌, ◌%◌, ◌≤◌, ◌<◌, ◌^◌, ◌++◌, length, IsTrue, slice_index};
 ghost use Rattle.frame_ip.specs.Frame.{is_handled, transport_at, number_at};
+ghost use Rattle.frame_ip.specs.Sums.{KeepsRight};
 ghost use Rattle.frame_ip.specs.Edit.{put, put_all, mac_words, address_words, port_words, ttl_words, macs, ttl, addresses, ports, value_of, change, changes, fold, updated, is_udp, checksum_at, udp_checksum, ip_checksum, transport_checksum, edited};
 
 use crate::layout::{transport, u16_at};
@@ -155,7 +156,8 @@ fn updated(old: u16, sum: u32) -> u16
 
 fn ip_checksum(frame: &[u8], edits: &Edits) -> u16
     requires { 42 ≤ length frame.now }
-    ensures { result ≡ ip_checksum edits.now frame.now }
+    ensures value { result ≡ ip_checksum edits.now frame.now }
+    ensures right { KeepsRight frame.now (ttl edits.now frame.now ++ addresses edits.now) (number_at frame.now 24 2) (ip_checksum edits.now frame.now) }
 {
     let values = &edits.values;
     let addresses = address_change(frame, 26, values[2]) + address_change(frame, 30, values[3]);
@@ -206,7 +208,8 @@ fn recomputed(frame: &[u8], edits: &Edits) -> u16
 
 fn transport_checksum(frame: &[u8], edits: &Edits) -> u16
     requires { IsTrue (is_handled frame.now) }
-    ensures { result ≡ transport_checksum edits.now frame.now }
+    ensures value { result ≡ transport_checksum edits.now frame.now }
+    ensures right { (is_udp frame.now ≡ true → number_at frame.now (checksum_at frame.now) 2 ≢ 0) → KeepsRight frame.now (addresses edits.now ++ ports edits.now (transport_at frame.now)) (number_at frame.now (checksum_at frame.now) 2) (transport_checksum edits.now frame.now) }
 {
     let at = checksum_at(frame);
     let new = recomputed(frame, edits);
@@ -225,6 +228,10 @@ fn transport_checksum(frame: &[u8], edits: &Edits) -> u16
 pub fn edit(frame: &mut [u8], edits: &Edits)
     requires handled { IsTrue (is_handled frame.old) }
     ensures edited { frame.new ≡ edited edits.now frame.old }
+    // A checksum that was right is right, in each sum of which it and the words that are written are a
+    // part: the IP header's, and that of TCP or UDP, where UDP has one.
+    ensures ip_right { KeepsRight frame.old (ttl edits.now frame.old ++ addresses edits.now) (number_at frame.old 24 2) (ip_checksum edits.now frame.old) }
+    ensures transport_right { (is_udp frame.old ≡ true → number_at frame.old (checksum_at frame.old) 2 ≢ 0) → KeepsRight frame.old (addresses edits.now ++ ports edits.now (transport_at frame.old)) (number_at frame.old (checksum_at frame.old) 2) (transport_checksum edits.now frame.old) }
 {
     let ip = ip_checksum(frame, edits);
     let checksum = transport_checksum(frame, edits);

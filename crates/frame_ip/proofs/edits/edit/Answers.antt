@@ -9,9 +9,9 @@ use Rattle.frame_ip.proofs.edits.edit.Goals as goal
 abbrev words : Edits → List ℕ → ℕ → ℕ → ℕ → ℕ → List Write
 words e f ports at ip checksum = macs e ++ (ttl e f ++ (addresses e ++ ((port_words ports (value_of e 5) ++ port_words (ports + 2) (value_of e 6)) ++ (record { at = 24; word = ip } ∷ record { at = at; word = checksum } ∷ []))))
 
-pub returns : goal.returns
+pub returns-clause-edited : goal.returns-clause-edited
 unfolding edited
-returns c =
+returns-clause-edited c =
     let e = c.args.edits.now in
     let f = c.args.frame.now in
     let base : c.put-2.new.frame ≡ put_all (words e f c.transport-ports.result c.checksum_at-at.result c.ip_checksum-ip.result c.transport_checksum-checksum.result) f =
@@ -20,5 +20,11 @@ returns c =
     c.put_mac.ensures c.put_mac-2.ensures c.put_ttl.ensures c.put_address.ensures c.put_address-2.ensures c.put_port.ensures c.put_port-2.ensures c.put.ensures c.put-2.ensures in
     let with_ports = subst (λ (n : ℕ). c.put-2.new.frame ≡ put_all (words e f n c.checksum_at-at.result c.ip_checksum-ip.result c.transport_checksum-checksum.result) f) c.transport-ports.ensures base in
     let with_place = subst (λ (n : ℕ). c.put-2.new.frame ≡ put_all (words e f (transport_at f) n c.ip_checksum-ip.result c.transport_checksum-checksum.result) f) c.checksum_at-at.ensures.value with_ports in
-    let with_ip = subst (λ (n : ℕ). c.put-2.new.frame ≡ put_all (words e f (transport_at f) (checksum_at f) n c.transport_checksum-checksum.result) f) c.ip_checksum-ip.ensures with_place in
-    record { edited = subst (λ (n : ℕ). c.put-2.new.frame ≡ put_all (words e f (transport_at f) (checksum_at f) (ip_checksum e f) n) f) c.transport_checksum-checksum.ensures with_ip }
+    let with_ip = subst (λ (n : ℕ). c.put-2.new.frame ≡ put_all (words e f (transport_at f) (checksum_at f) n c.transport_checksum-checksum.result) f) c.ip_checksum-ip.ensures.value with_place in
+    subst (λ (n : ℕ). c.put-2.new.frame ≡ put_all (words e f (transport_at f) (checksum_at f) (ip_checksum e f) n) f) c.transport_checksum-checksum.ensures.value with_ip
+
+pub returns-clause-ip_right : goal.returns-clause-ip_right
+returns-clause-ip_right c = c.ip_checksum-ip.ensures.right
+
+pub returns-clause-transport_right : goal.returns-clause-transport_right
+returns-clause-transport_right c = c.transport_checksum-checksum.ensures.right
