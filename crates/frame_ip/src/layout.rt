@@ -16,7 +16,7 @@
 //!
 //! All numbers stand in network order (RFC 791 section 3.1, RFC 768, RFC 9293 section 3.1).
 ghost use Rattle.std.specs.Prelude.{◌≡◌, ◌+◌, ◌≤◌, length, is_some, IfSome, IsTrue, Some};
-ghost use Rattle.frame_ip.specs.Frame.{number_at, header_words, is_handled, has_transport, fields_in, fields_at};
+ghost use Rattle.frame_ip.specs.Frame.{number_at, header_words, is_handled, transport_at, has_transport, fields_in, fields_at};
 
 use crate::handled::View;
 use nf_base::packet::Fields;
@@ -30,7 +30,7 @@ const UDP: u8 = 17;
 /// An Ethernet header, the least IPv4 header and a UDP header, in bytes.
 const SHORTEST: usize = 42;
 
-fn u16_at(frame: &[u8], at: usize) -> u16
+pub(crate) fn u16_at(frame: &[u8], at: usize) -> u16
     requires { at + 2 ≤ length frame.now }
     ensures { result ≡ number_at frame.now at 2 }
 {
@@ -62,11 +62,19 @@ fn words(frame: &[u8]) -> usize
     usize::from(frame[14] % 16)
 }
 
+/// Where the TCP or UDP header begins.
+pub(crate) fn transport(frame: &[u8]) -> usize
+    requires { 15 ≤ length frame.now }
+    ensures { result ≡ transport_at frame.now }
+{
+    14 + 4 * words(frame)
+}
+
 fn reaches_ports(frame: &[u8]) -> bool
     requires { 42 ≤ length frame.now }
     ensures { result ≡ has_transport frame.now }
 {
-    let transport = 14 + 4 * words(frame);
+    let transport = transport(frame);
     match frame[23] {
         TCP => transport + 20 <= frame.len(),
         UDP => transport + 8 <= frame.len(),
@@ -104,7 +112,7 @@ pub fn fields(view: &View) -> Fields
     ensures { fields_in view.now.frame view.now.original ≡ Some result }
 {
     let frame = view.frame;
-    let transport = 14 + 4 * words(frame);
+    let transport = transport(frame);
     Fields {
         length: view.original,
         src_mac: u48_at(frame, 6),

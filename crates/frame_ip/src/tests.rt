@@ -1,6 +1,7 @@
 ghost use Rattle.std.specs.Prelude.{◌<◌};
 
-use crate::{fields, fields_of, view};
+use crate::{edit, fields, fields_of, view};
+use nf_base::done::Edits;
 use nf_base::packet::Fields;
 
 /// A datagram from 10.0.0.0, port 1024, to 192.168.0.0, port 80.
@@ -85,4 +86,90 @@ fn options_move_the_ports(rt: HostRuntime) {
     frame[40] = 1;
     assert!(rt; fields_of(&frame[..45], 46).is_none(), "45 bytes");
     assert!(rt; fields_of(&frame, 46).is_some_and(|f| f.src_port == 9 && f.dst_port == 256));
+}
+
+/// A datagram from 85.85.0.1, both of whose checksums are 0xdd2f.
+const SUMMED: [u8; 42] = [
+    0x02, 0, 0, 0, 0, 0x02, 0x02, 0, 0, 0, 0, 0x01, 0x08, 0x00, 0x45, 0x00, 0x00, 0x1c, 0, 0, 0, 0,
+    0x40, 0x11, 0xdd, 0x2f, 0x55, 0x55, 0, 1, 192, 168, 0, 0, 0x04, 0x00, 0x00, 0x50, 0x00, 0x08,
+    0xdd, 0x2f,
+];
+
+/// One value, at its place among the edits.
+fn one_edit(place: usize, value: u64) -> Edits
+    requires { place < 7 }
+{
+    let mut values = [None; 7];
+    values[place] = Some(value);
+    Edits { values }
+}
+
+// 0xdd2f with 0x5555 changed to 0x3285 comes out as 0 (RFC 1624 section 4).
+#[test]
+fn a_udp_checksum_of_0_is_sent_as_ffff(rt: HostRuntime) {
+    let to = one_edit(2, 0x3285_0001);
+    let mut frame = SUMMED;
+    if view(&frame, 42).is_some() {
+        edit(&mut frame, &to);
+    }
+    assert_eq!(rt;
+        (frame[24], frame[25], frame[40], frame[41]),
+        (0, 0, 0xff, 0xff)
+    );
+    let mut none = SUMMED;
+    none[40] = 0;
+    none[41] = 0;
+    if view(&none, 42).is_some() {
+        edit(&mut none, &to);
+    }
+    assert_eq!(rt;
+        (none[24], none[25], none[40], none[41]),
+        (0, 0, 0, 0),
+        "no checksum"
+    );
+    let mut segment = [0; 54];
+    for (i, byte) in SUMMED.iter().enumerate() {
+        segment[i] = *byte;
+    }
+    segment[23] = 6;
+    segment[50] = 0xdd;
+    segment[51] = 0x2f;
+    if view(&segment, 54).is_some() {
+        edit(&mut segment, &to);
+    }
+    assert_eq!(rt; (segment[50], segment[51]), (0, 0), "TCP");
+}
+
+#[test]
+fn each_field_counts_where_it_should(rt: HostRuntime) {
+    let cases: [(usize, u64, usize, bool, bool); 7] = [
+        (0, 0xaabb_ccdd_eeff, 6, false, false),
+        (1, 0xaabb_ccdd_eeff, 0, false, false),
+        (2, 0x0a00_0001, 26, true, true),
+        (3, 0x0a00_0001, 30, true, true),
+        (4, 7, 22, true, false),
+        (5, 9, 34, false, true),
+        (6, 9, 36, false, true),
+    ];
+    for (place, value, at, ip, udp) in cases {
+        let mut frame = SUMMED;
+        if view(&frame, 42).is_some() && place < 7 {
+            edit(&mut frame, &one_edit(place, value));
+        }
+        assert_eq!(rt; (frame[24], frame[25]) != (0xdd, 0x2f), ip, "place {place}");
+        assert_eq!(rt;
+            (frame[40], frame[41]) != (0xdd, 0x2f),
+            udp,
+            "place {place}"
+        );
+        for (i, byte) in frame.iter().enumerate() {
+            let written = i >= at && i < at + 6 || i == 24 || i == 25 || i == 40 || i == 41;
+            assert!(rt; written || *byte == SUMMED[i], "place {place}, byte {i}");
+        }
+        let mut again = frame;
+        if view(&again, 42).is_some() {
+            edit(&mut again, &Edits { values: [None; 7] });
+        }
+        assert!(rt; again.as_slice() == frame.as_slice(), "no edit");
+    }
 }

@@ -1,0 +1,30 @@
+-- Folding a sum to 16 bits.
+use Rattle.std.proofs.Common.{◌≡◌, ℕ, zero, suc, ◌+◌, ◌*◌, ◌/◌, ◌%◌, ◌<◌, ◌≤◌, ◌^◌, ltb, inl, inr, refl, sym, ◌∙◌, arith}
+use Rattle.std.proofs.lemmas.Bool.{cases_lt, lt-ltb, le-ltb}
+use Rattle.frame_ip.specs.Edit.{halves, folded, fold}
+
+fits : (most sum : ℕ) → sum < 65536 → folded most sum ≡ sum
+unfolding folded
+fits zero sum lt = refl
+fits (suc most) sum lt = rw (lt-ltb sum 65536 lt) refl
+
+goes_on : (most sum : ℕ) → 65536 ≤ sum → folded (suc most) sum ≡ folded most (halves sum)
+unfolding folded
+goes_on most sum le = rw (le-ltb sum 65536 le) refl
+
+two : (most sum : ℕ) → 2 ≤ most → sum < 2 ^ 24 → folded most sum ≡ halves (halves sum)
+two zero sum le lt = absurd (omega arith)
+two (suc zero) sum le lt = absurd (omega arith)
+two (suc (suc most)) sum le lt = elim (cases_lt sum 65536) [
+  | inl small ↦ fits (suc (suc most)) sum small ∙ omega arith
+  | inr large ↦ elim (cases_lt (halves sum) 65536) [
+    | inl small ↦ goes_on (suc most) sum large ∙ fits (suc most) (halves sum) small ∙ omega arith
+    | inr more ↦ goes_on (suc most) sum large ∙ goes_on most (halves sum) more ∙ fits most (halves (halves sum)) (omega arith)
+  ]
+]
+
+pub twice : (sum : ℕ) → sum < 2 ^ 24 → fold sum ≡ halves (halves sum)
+twice sum lt = elim (cases_lt sum 65536) [
+  | inl small ↦ fits sum sum small ∙ omega arith
+  | inr large ↦ two sum sum (omega arith) lt
+]

@@ -1,0 +1,30 @@
+use Rattle.std.proofs.Common.{ℕ, ◌≡◌, ◌+◌, ◌++◌, List, [], ◌∷◌, slice_index, subst}
+use Rattle.nf_base.specs.declared.done.Edits.{Edits}
+use Rattle.frame_ip.specs.Frame.{transport_at}
+use Rattle.frame_ip.specs.Edit.{Write, put_all, mac_words, address_words, port_words, ttl_words, value_of, macs, ttl, addresses, ip_checksum, transport_checksum, checksum_at, edited}
+use Rattle.frame_ip.proofs.Writing.{in_turn}
+use Rattle.frame_ip.proofs.edits.edit.Goals as goal
+
+-- the words that are written, by the offset of the ports and of the checksum, and the two checksums
+abbrev words : Edits → List ℕ → ℕ → ℕ → ℕ → ℕ → List Write
+words e f ports at ip checksum = macs e ++ (ttl e f ++ (addresses e ++ ((port_words ports (value_of e 5) ++ port_words (ports + 2) (value_of e 6)) ++ (record { at = 24; word = ip } ∷ record { at = at; word = checksum } ∷ []))))
+
+pub returns-clause-edited : goal.returns-clause-edited
+unfolding edited
+returns-clause-edited c =
+    let e = c.args.edits.now in
+    let f = c.args.frame.now in
+    let base : c.put-2.new.frame ≡ put_all (words e f c.transport-ports.result c.checksum_at-at.result c.ip_checksum-ip.result c.transport_checksum-checksum.result) f =
+    in_turn f c.put_mac.new.frame c.put_mac-2.new.frame c.put_ttl.new.frame c.put_address.new.frame c.put_address-2.new.frame c.put_port.new.frame c.put_port-2.new.frame c.put.new.frame c.put-2.new.frame
+    (mac_words 6 (value_of e 0)) (mac_words 0 (value_of e 1)) (ttl_words (slice_index f 23) (value_of e 4)) (address_words 26 (value_of e 2)) (address_words 30 (value_of e 3)) (port_words c.transport-ports.result (value_of e 5)) (port_words (c.transport-ports.result + 2) (value_of e 6)) _ _
+    c.put_mac.ensures c.put_mac-2.ensures c.put_ttl.ensures c.put_address.ensures c.put_address-2.ensures c.put_port.ensures c.put_port-2.ensures c.put.ensures c.put-2.ensures in
+    let with_ports = subst (λ (n : ℕ). c.put-2.new.frame ≡ put_all (words e f n c.checksum_at-at.result c.ip_checksum-ip.result c.transport_checksum-checksum.result) f) c.transport-ports.ensures base in
+    let with_place = subst (λ (n : ℕ). c.put-2.new.frame ≡ put_all (words e f (transport_at f) n c.ip_checksum-ip.result c.transport_checksum-checksum.result) f) c.checksum_at-at.ensures.value with_ports in
+    let with_ip = subst (λ (n : ℕ). c.put-2.new.frame ≡ put_all (words e f (transport_at f) (checksum_at f) n c.transport_checksum-checksum.result) f) c.ip_checksum-ip.ensures.value with_place in
+    subst (λ (n : ℕ). c.put-2.new.frame ≡ put_all (words e f (transport_at f) (checksum_at f) (ip_checksum e f) n) f) c.transport_checksum-checksum.ensures.value with_ip
+
+pub returns-clause-ip_right : goal.returns-clause-ip_right
+returns-clause-ip_right c = c.ip_checksum-ip.ensures.right
+
+pub returns-clause-transport_right : goal.returns-clause-transport_right
+returns-clause-transport_right c = c.transport_checksum-checksum.ensures.right

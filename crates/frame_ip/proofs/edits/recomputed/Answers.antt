@@ -1,0 +1,19 @@
+use Rattle.std.proofs.Common.{ℕ, ◌≡◌, ◌+◌, ◌-◌, ◌++◌, ◌∙◌, List, ap, subst}
+use Rattle.frame_ip.specs.Frame.{number_at, transport_at}
+use Rattle.frame_ip.specs.Edit.{address_words, port_words, value_of, addresses, ports, changes, fold}
+use Rattle.frame_ip.proofs.Writing.{four_changes}
+use Rattle.frame_ip.proofs.edits.recomputed.Goals as goal
+
+pub returns : goal.returns
+returns c =
+    let e = c.args.edits.now in
+    let f = c.args.frame.now in
+    let t = c.transport-ports.result in
+    let sum : (c.address_change.result + c.address_change-2.result) + (c.port_change.result + c.port_change-2.result) ≡ changes f (addresses e ++ ports e t) =
+    four_changes f (address_words 26 (value_of e 2)) (address_words 30 (value_of e 3)) (port_words t (value_of e 5)) (port_words (t + 2) (value_of e 6)) c.address_change.result c.address_change-2.result c.port_change.result c.port_change-2.result
+    c.address_change.ensures.value c.address_change-2.ensures.value c.port_change.ensures.value c.port_change-2.ensures.value in
+    let there = subst (λ (n : ℕ). (c.address_change.result + c.address_change-2.result) + (c.port_change.result + c.port_change-2.result) ≡ changes f (addresses e ++ ports e n)) c.transport-ports.ensures sum in
+    c.updated.ensures
+    ∙ ap (λ (o : ℕ). 65535 - fold ((65535 - o) + ((c.address_change.result + c.address_change-2.result) + (c.port_change.result + c.port_change-2.result)))) c.u16_at.ensures
+    ∙ ap (λ (n : ℕ). 65535 - fold ((65535 - number_at f c.checksum_at-at.result 2) + n)) there
+    ∙ ap (λ (at : ℕ). 65535 - fold ((65535 - number_at f at 2) + changes f (addresses e ++ ports e (transport_at f)))) c.checksum_at-at.ensures.value

@@ -1,0 +1,21 @@
+-- Checksums of the Internet (RFC 1071): the one's complement sum of all 16-bit words, the checksum among
+-- them, folded to 16 bits, is 0xffff.
+use Rattle.std.specs.Prelude.{◌≡◌, ℕ, ◌+◌, ◌<◌, List, [], ◌∷◌}
+use Rattle.frame_ip.specs.Frame.{number_at}
+use Rattle.frame_ip.specs.Edit.{Write, fold}
+
+-- the sum of the words that stand where words are to be written
+abbrev pub old_words : List ℕ → List Write → ℕ
+old_words frame [] = 0
+old_words frame (w ∷ ws) = number_at frame w.at 2 + old_words frame ws
+
+-- the sum of the words that are written
+abbrev pub new_words : List Write → ℕ
+new_words [] = 0
+new_words (w ∷ ws) = w.word + new_words ws
+
+-- Where a checksum and the words that are written are exchanged for new ones, a sum that was right is
+-- right, whatever the other words of the sum come to.
+abbrev pub KeepsRight : List ℕ → List Write → ℕ → ℕ → Type 0
+KeepsRight frame ws old new =
+    (others : ℕ) → 0 < others → fold (others + (old_words frame ws + old)) ≡ 65535 → fold (others + (new_words ws + new)) ≡ 65535
