@@ -13,7 +13,7 @@ use Rattle.nf_syntax.specs.Machine.{Place, Row, Go, No, step, finished, ended, j
 use Rattle.nf_syntax.specs.Language.{marked, Spells, CanGoOn, last_place, IsTreeOf, IsFirstStuck, IsFirstPast, IsShort, IsFirstFault, Finds}
 use Rattle.nf_syntax.specs.Reads.{Answers, without_end}
 use Rattle.nf_syntax.proofs.Going.{goes, goes_go, goes_no, accepted, went}
-use Rattle.nf_syntax.proofs.Complete.{spelled_goes}
+use Rattle.nf_syntax.proofs.CompleteText.{spelled_goes}
 use Rattle.nf_syntax.proofs.Sound.{sound}
 use Rattle.nf_syntax.proofs.Live.{live}
 
@@ -170,7 +170,7 @@ same_tree : (a b : Tree) → without_end a ≡ without_end b → a.end ≡ b.end
 same_tree a b h e = ap (λ t. with_end t a.end) h ∙ ap (with_end b) e
   where
     with_end : Tree → places.Place → Tree
-    with_end t at = record { name = t.name; ports = t.ports; chains = t.chains; handlers = t.handlers; end = at }
+    with_end t at = record { name = t.name; ports = t.ports; declarations = t.declarations; handlers = t.handlers; end = at }
 
 same_accepted : (a b : Tree) → Accepted a ≡ Accepted b → a ≡ b
 same_accepted a b h = cc

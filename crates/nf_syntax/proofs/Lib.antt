@@ -2,12 +2,16 @@ pub mod SameSign
 pub mod Steps
 pub mod Going
 pub mod Live
+pub mod CompleteExpressions
 pub mod CompleteLists
 pub mod Complete
+pub mod CompleteText
 pub mod SoundTokens
+pub mod SoundExpressions
 pub mod SoundLists
 pub mod SoundBlocks
+pub mod SoundDeclarations
 pub mod Sound
 pub mod First
-pub mod Marks
 pub mod Explained
+pub mod Marks

@@ -6,7 +6,7 @@ use Rattle.nf_syntax.specs.Machine.{Place, Row, Go, No, step, whole}
 use Rattle.nf_syntax.specs.Language.{marked, CanGoOn}
 use Rattle.nf_syntax.specs.Reads.{without_end}
 use Rattle.nf_syntax.proofs.Going.{goes, on_row}
-use Rattle.nf_syntax.proofs.Complete.{spelled_goes}
+use Rattle.nf_syntax.proofs.CompleteText.{spelled_goes}
 
 one_row : (row : Row) (f g : Place → Option Tree) (x y : Tree) → on_row row true f ≡ Some x → on_row row false g ≡ Some y → ⊥
 one_row (Go true place) f g x y h k = cc

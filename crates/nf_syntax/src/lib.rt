@@ -1,8 +1,11 @@
 //! The syntax tree of a network function, read from its text.
 #![tactic(auto)]
 
+mod action;
 mod declaration;
+mod expression;
 mod fault;
+mod function;
 mod head;
 mod list;
 mod single;

@@ -1,6 +1,6 @@
 use super::*;
 use nf_tokens::Place;
-use nf_tree::{Block, Expr};
+use nf_tree::{Block, Declaration, Expr, Part};
 use std::alloc::{AllocError, Global};
 use std::test::*;
 
@@ -229,45 +229,76 @@ fn tokens_that_no_statement_has(rt: HostRuntime) {
 }
 
 #[test]
-fn forms_that_are_not_of_the_cut(rt: HostRuntime) {
-    let faults: [(&[u8], u32, u32); 13] = [
+fn tokens_that_no_expression_has(rt: HostRuntime) {
+    let faults: [(&[u8], u32, u32); 28] = [
+        (b"nf x { ports 1; on 0 { if 1 { } } }".as_slice(), 1, 29),
+        (b"nf x { ports 1; on 0 { forward x; } }".as_slice(), 1, 33),
+        (b"nf x { ports 1; on 0 { x; } }".as_slice(), 1, 25),
+        (b"nf x { ports 1; on 0 { x = 1; } }".as_slice(), 1, 26),
+        (b"nf x { ports 1; on 0 { x.1 = 2; } }".as_slice(), 1, 26),
+        (b"nf x { ports 1; on 0 { x.index = 1; } }".as_slice(), 1, 26),
+        (b"nf x { ports 1; on 0 { x[1; } }".as_slice(), 1, 27),
+        (b"nf x { ports 1; on 0 { x[1] ; } }".as_slice(), 1, 29),
+        (b"nf x { ports 1; on 0 { forward (1; } }".as_slice(), 1, 34),
+        (b"nf x { ports 1; on 0 { forward 1 2; } }".as_slice(), 1, 34),
         (
-            b"nf x { ports 1; chain c 1 lifetime 1 { map m(a: 8); } chain d 1 lifetime 1 { map m(a: 8); } }".as_slice(),
+            b"nf x { ports 1; on 0 { forward 1 + ; } }".as_slice(),
             1,
-            55,
+            36,
         ),
+        (b"nf x { ports 1; on 0 { forward + 1; } }".as_slice(), 1, 32),
         (
-            b"nf x { ports 1; chain c 1 lifetime 1 { map m(a: 8); map k(a: 8); } }".as_slice(),
+            b"nf x { ports 1; on 0 { forward 1 + * 2; } }".as_slice(),
             1,
-            53,
+            36,
         ),
+        (b"nf x { ports 1; on 0 { forward (); } }".as_slice(), 1, 33),
         (
-            b"nf x { ports 1; chain c 1 lifetime 1 { map m(a: 8); fixed f: 8; } }".as_slice(),
-            1,
-            53,
-        ),
-        (
-            b"nf x { ports 1; chain c 1 lifetime 1 { } }".as_slice(),
-            1,
-            40,
-        ),
-        (b"nf x { ports 1; array a 1: 8; }".as_slice(), 1, 17),
-        (b"nf x { ports 1; on 0 { forward (1); } }".as_slice(), 1, 32),
-        (
-            b"nf x { ports 1; on 0 { forward 1 + 2; } }".as_slice(),
+            b"nf x { ports 1; on 0 { forward x.time; } }".as_slice(),
             1,
             34,
         ),
-        (b"nf x { ports 1; on 0 { forward y; } }".as_slice(), 1, 32),
-        (b"nf x { ports 1; on 0 { x; } }".as_slice(), 1, 24),
+        (b"nf x { ports 1; on 0 { forward x[]; } }".as_slice(), 1, 34),
+        (b"nf x { ports 1; on 0 { if 1 = 1 { } } }".as_slice(), 1, 29),
+        (b"nf x { ports 1; on 0 { if 1 == { } } }".as_slice(), 1, 32),
         (
-            b"nf x { ports 1; on 0 { if 1 == 1 { } } }".as_slice(),
+            b"nf x { ports 1; on 0 { if 1 < 2 < 3 { } } }".as_slice(),
             1,
-            24,
+            33,
         ),
-        (b"nf x { ports 1; on 0 { flood; } }".as_slice(), 1, 24),
-        (b"nf x { ports 1; on 0 { free e; } }".as_slice(), 1, 24),
+        (
+            b"nf x { ports 1; on 0 { find e = c(1) { } } }".as_slice(),
+            1,
+            34,
+        ),
+        (
+            b"nf x { ports 1; on 0 { find e = c[1] where { } } }".as_slice(),
+            1,
+            44,
+        ),
+        (
+            b"nf x { ports 1; on 0 { find e = c[1] where () { } } }".as_slice(),
+            1,
+            45,
+        ),
+        (
+            b"nf x { ports 1; on 0 { find e = c[1] where (a == 1) { } } }".as_slice(),
+            1,
+            47,
+        ),
+        (b"nf x { ports 1; on 0 { free 1; } }".as_slice(), 1, 29),
+        (b"nf x { ports 1; on 0 { flood 1; } }".as_slice(), 1, 30),
+        (
+            b"nf x { ports 1; on 0 { flood; flood; } }".as_slice(),
+            1,
+            31,
+        ),
         (b"nf x { ports 1; on 0 { set ttl = 1; } }".as_slice(), 1, 24),
+        (
+            b"nf x { ports 1; on 0 { if 1 == 1 { } else { } else { } } }".as_slice(),
+            1,
+            47,
+        ),
     ];
     for (text, line, column) in faults.iter() {
         assert!(rt; is_fault(rt.alloc(), text, SyntaxKind::Token, *line, *column));
@@ -275,8 +306,131 @@ fn forms_that_are_not_of_the_cut(rt: HostRuntime) {
 }
 
 #[test]
+fn tokens_that_no_declaration_has(rt: HostRuntime) {
+    let faults: [(&[u8], u32, u32); 13] = [
+        (
+            b"nf x { ports 1; chain c 1 lifetime 1 { chain } }".as_slice(),
+            1,
+            40,
+        ),
+        (
+            b"nf x { ports 1; chain c 1 lifetime 1 { map m(); } }".as_slice(),
+            1,
+            46,
+        ),
+        (
+            b"nf x { ports 1; chain c 1 lifetime 1 { fixed f 8; } }".as_slice(),
+            1,
+            48,
+        ),
+        (
+            b"nf x { ports 1; chain c 1 lifetime 1 { free f: 8, } }".as_slice(),
+            1,
+            49,
+        ),
+        (
+            b"nf x { ports 1; chain c 1 lifetime 1 { } ; }".as_slice(),
+            1,
+            42,
+        ),
+        (
+            b"nf x { ports 1; chain c lifetime 1 { } }".as_slice(),
+            1,
+            25,
+        ),
+        (b"nf x { ports 1; array a 1 8; }".as_slice(), 1, 27),
+        (b"nf x { ports 1; array a 1: 8 = 1; }".as_slice(), 1, 32),
+        (b"nf x { ports 1; array a 1: 8 = { } ; }".as_slice(), 1, 34),
+        (
+            b"nf x { ports 1; array a 1: 8 = { 1, } ; }".as_slice(),
+            1,
+            37,
+        ),
+        (b"nf x { ports 1; array a 1: 8 = { 1 } }".as_slice(), 1, 38),
+        (
+            b"nf x { ports 1; on 0 { } array a 1: 8; }".as_slice(),
+            1,
+            26,
+        ),
+        (b"nf x { ports 1; fixed f: 8; }".as_slice(), 1, 17),
+    ];
+    for (text, line, column) in faults.iter() {
+        assert!(rt; is_fault(rt.alloc(), text, SyntaxKind::Token, *line, *column));
+    }
+}
+
+#[test]
+fn limits_of_an_expression(rt: HostRuntime) {
+    let faults: [(&[u8], u32, u32); 12] = [
+        (
+            b"nf x { ports 1; on 0 { forward (((((((((((((((((((((((((((((((((1".as_slice(),
+            1,
+            64,
+        ),
+        (
+            b"nf x { ports 1; on 0 { forward x[x[x[x[x[x[x[x[x[x[x[x[x[x[x[x[x[x[x[x[x[x[x[x[x[x[x[x[x[x[x[x[x[1".as_slice(),
+            1,
+            97,
+        ),
+        (
+            b"nf x { ports 1; on 0 { forward (x[(x[(x[(x[(x[(x[(x[(x[(x[(x[(x[(x[(x[(x[(x[(x[(1".as_slice(),
+            1,
+            80,
+        ),
+        (
+            b"nf x { ports 1; on 0 { if ((((((((((((((((((((((((((((((((1)))))))))))))))))))))))))))))))) == (((((((((((((((((((((((((((((((((1".as_slice(),
+            1,
+            128,
+        ),
+        (
+            b"nf x { ports 1; on 0 { x[(((((((((((((((((((((((((((((((((1".as_slice(),
+            1,
+            58,
+        ),
+        (
+            b"nf x { ports 1; on 0 { forward 1+1+1+1+1+1+1+1+1+1+1+1+1+1+1+1+1+1+1+1+1+1+1+1+1+1+1+1+1+1+1+1+1+1+1+1+1+1+1+1+1+1+1+1+1+1+1+1+1+1+1+1+1+1+1+1+1+1+1+1+1+1+1+1+1; } }".as_slice(),
+            1,
+            160,
+        ),
+        (
+            b"nf x { ports 1; on 0 { forward 1*1*1*1*1*1*1*1*1*1*1*1*1*1*1*1*1*1*1*1*1*1*1*1*1*1*1*1*1*1*1*1*1*1*1*1*1*1*1*1*1*1*1*1*1*1*1*1*1*1*1*1*1*1*1*1*1*1*1*1*1*1*1*1*y; } }".as_slice(),
+            1,
+            160,
+        ),
+        (
+            b"nf x { ports 1; on 0 { forward a[1]&a[1]&a[1]&a[1]&a[1]&a[1]&a[1]&a[1]&a[1]&a[1]&a[1]&a[1]&a[1]&a[1]&a[1]&a[1]&a[1]&a[1]&a[1]&a[1]&a[1]&a[1]&a[1]&a[1]&a[1]&a[1]&a[1]&a[1]&a[1]&a[1]&a[1]&a[1]&ttl; } }".as_slice(),
+            1,
+            192,
+        ),
+        (
+            b"nf x { ports 1; on 0 { forward a[1]-a[1]-a[1]-a[1]-a[1]-a[1]-a[1]-a[1]-a[1]-a[1]-a[1]-a[1]-a[1]-a[1]-a[1]-a[1]-a[1]-a[1]-a[1]-a[1]-a[1]-a[1]-a[1]-a[1]-a[1]-a[1]-a[1]-a[1]-a[1]-a[1]-a[1]-1-a[1]; } }".as_slice(),
+            1,
+            191,
+        ),
+        (
+            b"nf x { ports 1; on 0 { forward e.x+e.x+e.x+e.x+e.x+e.x+e.x+e.x+e.x+e.x+e.x+e.x+e.x+e.x+e.x+e.x+e.x+e.x+e.x+e.x+e.x+e.x+e.x+e.x+e.x+e.x+e.x+e.x+e.x+e.x+e.x+e.x+e.x+e.x+e.x+e.x+e.x+e.x+e.x+e.x+e.x+e.x+e.x+e.x+e.x+e.x+e.x+e.x+e.x+e.x+e.x+e.x+e.x+e.x+e.x+e.x+e.x+e.x+e.x+e.x+(e.index+1)+b[1]+9; } }".as_slice(),
+            1,
+            289,
+        ),
+        (
+            b"nf x { ports 1; on 0 { forward 1+1+1+1+1+1+1+1+1+1+1+1+1+1+1+1+1+1+1+1+1+1+1+1+1+1+1+1+1+1+1+1+1+1+1+1+1+1+1+1+1+1+1+1+1+1+1+1+1+1+1+1+1+1+1+1+1+1+1+1+1+1+1+1+0; } }".as_slice(),
+            1,
+            160,
+        ),
+        (
+            b"nf x { ports 1; on 0 { forward 1+1+1+1+1+1+1+1+1+1+1+1+1+1+1+1+1+1+1+1+1+1+1+1+1+1+1+1+1+1+1+1+1+1+1+1+1+1+1+1+1+1+1+1+1+1+1+1+1+1+1+1+1+1+1+1+1+1+1+1+1+1+1+1+a33456789012345678901234567890123; } }".as_slice(),
+            1,
+            160,
+        ),
+    ];
+    for (text, line, column) in faults.iter() {
+        assert!(rt; is_fault(rt.alloc(), text, SyntaxKind::Limit, *line, *column));
+    }
+}
+
+#[test]
 fn texts_that_end_too_early(rt: HostRuntime) {
-    let faults: [(&[u8], u32, u32); 14] = [
+    let faults: [(&[u8], u32, u32); 24] = [
         (b"".as_slice(), 1, 1),
         (b"\n".as_slice(), 2, 1),
         (b"\r".as_slice(), 1, 2),
@@ -299,6 +453,16 @@ fn texts_that_end_too_early(rt: HostRuntime) {
             1,
             50,
         ),
+        (b"nf x { ports 1; on 0 { forward x".as_slice(), 1, 33),
+        (b"nf x { ports 1; on 0 { forward x.".as_slice(), 1, 34),
+        (b"nf x { ports 1; on 0 { forward (1 +".as_slice(), 1, 36),
+        (b"nf x { ports 1; on 0 { if 1 ==".as_slice(), 1, 31),
+        (b"nf x { ports 1; on 0 { x".as_slice(), 1, 25),
+        (b"nf x { ports 1; on 0 { x[1]".as_slice(), 1, 28),
+        (b"nf x { ports 1; on 0 { find e = c[1]".as_slice(), 1, 37),
+        (b"nf x { ports 1; array a 1: 8".as_slice(), 1, 29),
+        (b"nf x { ports 1; array a 1: 8 = {".as_slice(), 1, 33),
+        (b"nf x { ports 1; chain c 1 lifetime 1 {".as_slice(), 1, 39),
     ];
     for (text, line, column) in faults.iter() {
         assert!(rt; is_fault(rt.alloc(), text, SyntaxKind::End, *line, *column));
@@ -329,7 +493,7 @@ fn declarations_have_their_places(rt: HostRuntime) {
     assert_eq!(rt; tree.ports.value, 2);
     assert!(rt; stands(tree.ports.place, 2, 7));
     assert!(rt; stands(tree.end, 7, 1));
-    let [chain] = tree.chains.as_slice() else {
+    let [Declaration::Chain(chain)] = tree.declarations.as_slice() else {
         assert!(rt; false);
         return;
     };
@@ -337,10 +501,14 @@ fn declarations_have_their_places(rt: HostRuntime) {
     assert!(rt; stands(chain.name.place, 3, 7));
     assert!(rt; stands(chain.size.place, 3, 13));
     assert!(rt; stands(chain.lifetime.place, 3, 24));
-    assert!(rt; stands(chain.map.place, 3, 29));
-    assert!(rt; stands(chain.map.name.place, 3, 33));
-    assert!(rt; stands(chain.map.close, 3, 53));
-    let [_, label] = chain.map.labels.as_slice() else {
+    let [Part::Map(map)] = chain.parts.as_slice() else {
+        assert!(rt; false);
+        return;
+    };
+    assert!(rt; stands(map.place, 3, 29));
+    assert!(rt; stands(map.name.place, 3, 33));
+    assert!(rt; stands(map.close, 3, 53));
+    let [_, label] = map.labels.as_slice() else {
         assert!(rt; false);
         return;
     };
@@ -389,6 +557,63 @@ fn statements_have_their_places(rt: HostRuntime) {
     assert!(rt; stands(chain.place, 4, 22));
     assert!(rt; stands(map.place, 4, 28));
     assert!(rt; stands(*close, 4, 45));
+}
+
+#[test]
+fn every_form_is_read(rt: HostRuntime) {
+    let texts: [&[u8]; 3] = [
+        b"nf policer {\n\
+ports 2;\n\
+chain hosts 5 lifetime 10 { map by_dst(d: 32); free used: 64; }\n\
+on 0 { forward 1; }\n\
+on 1 {\n\
+get e = hosts.by_dst(dst_ip) {\n\
+e.used = e.used + length;\n\
+if e.used > 1000 { drop; }\n\
+forward 0;\n\
+} else {\n\
+new f = hosts(d = dst_ip) { f.used = length; forward 0; }\n\
+}\n\
+drop;\n\
+}\n\
+}\n\
+"
+            .as_slice(),
+        b"nf count { ports 1; array hits 65536 : 64; on 0 { hits[dst_port] = hits[dst_port] + 1; forward 0; } }".as_slice(),
+        b"nf all {\n\
+ports 2;\n\
+array seen 4: 8 = { 1, 0x2, 0.0.0.3 };\n\
+chain c 8 lifetime 0 { map m(a: 32, b: 16); map n(a: 32); fixed f: 8; free u: 16; }\n\
+chain empty 1 lifetime 1 { }\n\
+array more 1: 1;\n\
+on 1 {\n\
+find e = c[dst_port - 1024] where (f = 1, a = src_ip & 0xff) { touch e; free e; } else { flood; }\n\
+find g = c[seen[seen[0] * 2 % 3]] { }\n\
+if (1 + 2) * e.index / 3 != e.u { } else { if 1 == 2 { } if 1 < 2 { } if 1 <= 2 { } if 1 > 2 { } if 1 >= 2 { } }\n\
+new h = c(a = 1) { } taken { } full { flood; }\n\
+seen[seen[1]] = seen[2] - 1;\n\
+e.u = ((7));\n\
+forward e.u + 1 - 2;\n\
+}\n\
+}\n\
+"
+            .as_slice(),
+    ];
+    for text in texts.iter() {
+        assert!(rt; parse(rt.alloc(), text).is_ok());
+    }
+}
+
+#[test]
+fn limits_of_an_expression_are_reached(rt: HostRuntime) {
+    let texts: [&[u8]; 3] = [
+        b"nf x { ports 1; on 0 { forward ((((((((((((((((((((((((((((((((1)))))))))))))))))))))))))))))))); } }".as_slice(),
+        b"nf x { ports 1; on 0 { forward a[1]+a[1]+a[1]+a[1]+a[1]+a[1]+a[1]+a[1]+a[1]+a[1]+a[1]+a[1]+a[1]+a[1]+a[1]+a[1]+a[1]+a[1]+a[1]+a[1]+a[1]+a[1]+a[1]+a[1]+a[1]+a[1]+a[1]+a[1]+a[1]+a[1]+a[1]+1*1; } }".as_slice(),
+        b"nf x { ports 1; on 0 { x[x[x[x[x[x[x[x[x[x[x[x[x[x[x[x[x[x[x[x[x[x[x[x[x[x[x[x[x[x[x[x[x[1]]]]]]]]]]]]]]]]]]]]]]]]]]]]]]]]] = ((((((((((((((((((((((((((((((((1)))))))))))))))))))))))))))))))); } }".as_slice(),
+    ];
+    for text in texts.iter() {
+        assert!(rt; parse(rt.alloc(), text).is_ok());
+    }
 }
 
 #[test]

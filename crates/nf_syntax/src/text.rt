@@ -6,8 +6,8 @@ ghost use Rattle.nf_syntax.specs.declared.fault.ParseFault.TheVariants.{Syntax};
 ghost use Rattle.nf_syntax.specs.Items.{Item, Marked};
 ghost use Rattle.nf_syntax.specs.Language.{SyntaxTree, marked, CanGoOn, IsTreeOf, IsTextOf, IsFirstFault, Gives, Finds, Explains};
 
-use crate::declaration::whole;
 use crate::fault::{ParseFault, Stop, SyntaxKind};
+use crate::function::whole;
 use nf_tokens::{Place, Placed, end_of, tokens};
 use nf_tree::Tree;
 use std::alloc::Global;
