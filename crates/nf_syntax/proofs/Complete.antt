@@ -1,5 +1,5 @@
 -- What a block is spelled like goes through, whatever follows.
-use Rattle.std.proofs.Common.{◌≡◌, ◌∙◌, ◌∷◌, ◌++◌, ◌-◌, ℕ, ◌==◌, nat_eq, false, List, [], refl, ap, append_assoc, eq-eqb}
+use Rattle.std.proofs.Common.{◌≡◌, ◌∙◌, ◌∷◌, ◌++◌, ◌-◌, ℕ, ◌==◌, false, List, [], refl, ap, append_assoc, eq-eqb}
 use Rattle.nf_base.specs.declared.expr.Comparison.{Comparison}
 use Rattle.nf_base.specs.declared.expr.Comparison.TheVariants as comparisons
 use Rattle.nf_tokens.specs.Signs.{number_of}

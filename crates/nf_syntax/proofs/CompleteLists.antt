@@ -7,7 +7,7 @@ use Rattle.nf_tree.specs.Tree.{Expression, Given, Guards, Unguarded, Where}
 use Rattle.nf_syntax.specs.Items.{Marked, sign, word}
 use Rattle.nf_syntax.specs.Expressions.{value}
 use Rattle.nf_syntax.specs.Grammar.{IsNotEmpty, AreValues, AreGiven, AreGuards, values, values_more, given, given_more, guards, labels, labels_more, numbers_more, contents}
-use Rattle.nf_syntax.specs.Machine.{Place, MoreAt, MoreGivenAt, MoreLabelsAt, MoreNumbersAt, ContentsAt, WhereAt, CloseAt, SignAt, value_at, values_at, giving, some_given_at, guards_at, labels_at}
+use Rattle.nf_syntax.specs.Machine.{Place, MoreAt, MoreGivenAt, MoreLabelsAt, MoreNumbersAt, ContentsAt, WhereAt, CloseAt, SignAt, value_at, values_at, giving, some_given_at, labels_at}
 use Rattle.nf_syntax.proofs.Going.{goes, IsFirm, HasNoFactor, HasNoTerm, no_factor, no_term, skip_more, skip_more_given, skip_more_labels, skip_more_numbers, skip_where}
 use Rattle.nf_syntax.proofs.CompleteExpressions.{one_value}
 

@@ -9,8 +9,6 @@ use Rattle.nf_tree.specs.declared.tree.ColumnKind.TheVariants as columns
 use Rattle.nf_tree.specs.declared.tree.Label.{Label}
 use Rattle.nf_tree.specs.declared.tree.Part.{Part}
 use Rattle.nf_tree.specs.declared.tree.Part.TheVariants as part_of
-use Rattle.nf_tree.specs.declared.tree.ChainTree.{ChainTree}
-use Rattle.nf_tree.specs.declared.tree.ArrayTree.{ArrayTree}
 use Rattle.nf_tree.specs.declared.tree.Declaration.{Declaration}
 use Rattle.nf_tree.specs.declared.tree.Declaration.TheVariants as declared
 use Rattle.nf_tree.specs.Tree.{Block, Handler, Tree}
@@ -18,8 +16,8 @@ use Rattle.nf_syntax.specs.declared.head.ChainHead.{ChainHead}
 use Rattle.nf_syntax.specs.declared.head.ArrayHead.{ArrayHead}
 use Rattle.nf_syntax.specs.declared.head.TextHead.{TextHead}
 use Rattle.nf_syntax.specs.Items.{Marked, name, number, sign, word}
-use Rattle.nf_syntax.specs.Grammar.{Body, IsPart, AreParts, IsDeclaration, AreDeclarations, AreHandlers, IsText, labels, braced, body, column_word, part, parts, contents, declaration, declarations, handlers, spelling}
-use Rattle.nf_syntax.specs.Machine.{Place, End, CloseAt, SignAt, ContentsAt, BlockAt, PartsAt, DeclarationsAt, HandlersAt, labels_at, map_one, column_one, chain_one, array_one, tree_one, whole}
+use Rattle.nf_syntax.specs.Grammar.{Body, IsPart, AreParts, IsDeclaration, AreDeclarations, AreHandlers, IsText, labels, braced, body, column_word, part, parts, declaration, declarations, handlers, spelling}
+use Rattle.nf_syntax.specs.Machine.{Place, End, CloseAt, SignAt, BlockAt, PartsAt, DeclarationsAt, HandlersAt, labels_at, map_one, column_one, chain_one, array_one, tree_one, whole}
 use Rattle.nf_syntax.specs.Reads.{without_end}
 use Rattle.nf_syntax.proofs.Going.{goes, IsFirm, skip_declarations}
 use Rattle.nf_syntax.proofs.CompleteLists.{all_labels, all_contents}

@@ -8,7 +8,7 @@ use Rattle.nf_tree.specs.declared.place.Literal.{Literal}
 use Rattle.nf_tree.specs.declared.tree.Label.{Label}
 use Rattle.nf_tree.specs.declared.tree.Declaration.{Declaration}
 use Rattle.nf_tree.specs.Tree.{Tree, Expression, Given, Guards, Unguarded, Block, Missing}
-use Rattle.nf_syntax.specs.Items.{Item, AName, ANumber, AField, ASign, AWord, AJoin, Unfit, item, Marked, unmarked}
+use Rattle.nf_syntax.specs.Items.{Item, AWord, AJoin, item, Marked, unmarked}
 use Rattle.nf_syntax.specs.Expressions.{sum_operator, product_operator}
 use Rattle.nf_syntax.specs.Machine.{Place, FactorsAt, TermsAt, MoreAt, MoreGivenAt, MoreLabelsAt, MoreNumbersAt, WhereAt, OptionalAt, BlockAt, DeclarationsAt, factor_at, term_at, Row, Go, No, go_or, go_some, step, finished, ended, judged, run, Verdict, Accepted}
 

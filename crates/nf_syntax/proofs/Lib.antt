@@ -15,3 +15,4 @@ pub mod Sound
 pub mod First
 pub mod Explained
 pub mod Marks
+pub mod OneFault

@@ -25,7 +25,7 @@ one_from at [] i m n x y h k = one_row (step at i) (λ next. goes next m) (λ ne
 one_from at (q ∷ front) i m n x y h k =
     on_row_on (step at q.item) q.past (λ next. goes next (front ++ marked i true ∷ m)) (λ next. goes next (front ++ marked i false ∷ n)) x y (λ next. one_from next front i m n x y) h k
 
-went_on : (front : List Marked) (m : Marked) (c : CanGoOn (front ++ m ∷ [])) → goes whole (front ++ m ∷ c.more) ≡ Some (without_end c.tree)
+pub went_on : (front : List Marked) (m : Marked) (c : CanGoOn (front ++ m ∷ [])) → goes whole (front ++ m ∷ c.more) ≡ Some (without_end c.tree)
 went_on front m c = ap (goes whole) (sym (c.tokens ∙ append_assoc front (m ∷ []) c.more)) ∙ spelled_goes c.tree c.well_formed
 
 pub one_mark : (front : List Marked) (i : Item) → CanGoOn (front ++ marked i true ∷ []) → CanGoOn (front ++ marked i false ∷ []) → ⊥

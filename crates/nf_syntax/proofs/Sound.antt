@@ -1,10 +1,9 @@
 -- What goes through is spelled so: handlers and the whole text.
-use Rattle.std.proofs.Common.{◌≡◌, ◌∙◌, ◌∷◌, ◌++◌, ◌<◌, ℕ, zero, suc, Bool, true, false, Some, List, [], length, refl, ap, sym, subst, append_assoc, append-nil, arith}
+use Rattle.std.proofs.Common.{◌≡◌, ◌∙◌, ◌∷◌, ◌++◌, ◌<◌, ℕ, zero, suc, Bool, false, Some, List, [], length, ap, sym, subst, append_assoc, append-nil, arith}
 use Rattle.nf_tokens.specs.declared.token.Place as places
 use Rattle.nf_tokens.specs.declared.token.Sign.TheVariants as signs
 use Rattle.nf_tree.specs.declared.place.Name.{Name}
 use Rattle.nf_tree.specs.declared.place.Literal.{Literal}
-use Rattle.nf_tree.specs.declared.tree.Declaration.{Declaration}
 use Rattle.nf_tree.specs.Tree.{Tree, Block, Handler}
 use Rattle.nf_syntax.specs.declared.head.TextHead.{TextHead}
 use Rattle.nf_syntax.specs.Items.{Item, ASign, AWord, Marked, name, number, sign, word}

@@ -1,6 +1,5 @@
 -- What goes through is spelled so: blocks and their statements.
 use Rattle.std.proofs.Common.{◌≡◌, ◌∙◌, ◌∷◌, ◌++◌, ◌<◌, ◌-◌, ◌==◌, ℕ, zero, suc, Bool, true, false, nat_eq, Some, List, [], length, refl, ap, sym, subst, append_assoc, append-nil, arith}
-use Rattle.nf_base.specs.declared.expr.Comparison.{Comparison}
 use Rattle.nf_tokens.specs.Signs.{number_of}
 use Rattle.nf_tokens.specs.declared.token.Place as places
 use Rattle.nf_tokens.specs.declared.token.Sign.{Sign}

@@ -1,5 +1,5 @@
 -- What goes through is spelled so: chains and arrays.
-use Rattle.std.proofs.Common.{◌≡◌, ◌∙◌, ◌∷◌, ◌++◌, ◌<◌, ℕ, zero, suc, Bool, true, false, Some, List, [], length, refl, ap, sym, subst, append_assoc, append-nil, arith}
+use Rattle.std.proofs.Common.{◌≡◌, ◌∙◌, ◌∷◌, ◌++◌, ◌<◌, ℕ, zero, suc, Bool, true, false, Some, List, [], length, ap, sym, append_assoc, append-nil, arith}
 use Rattle.nf_tokens.specs.declared.token.Place as places
 use Rattle.nf_tokens.specs.declared.token.Sign.TheVariants as signs
 use Rattle.nf_tree.specs.declared.place.Name.{Name}
@@ -19,7 +19,7 @@ use Rattle.nf_syntax.specs.declared.head.ChainHead.{ChainHead}
 use Rattle.nf_syntax.specs.declared.head.ArrayHead.{ArrayHead}
 use Rattle.nf_syntax.specs.Items.{Item, ASign, AWord, Marked, name, number, sign, word}
 use Rattle.nf_syntax.specs.Grammar.{IsNotEmpty, IsPart, AreParts, IsDeclaration, AreDeclarations, labels, map, column_word, column, part, parts, chain, contents, array, declaration, declarations}
-use Rattle.nf_syntax.specs.Machine.{Place, NameAt, NumberAt, SignAt, CloseAt, ContentsAt, PartsAt, DeclarationsAt, labels_at, map_at, map_one, column_at, column_one, chain_head_at, chain_at, chain_one, array_head_at, array_at, array_one, no_declarations_yet}
+use Rattle.nf_syntax.specs.Machine.{Place, NumberAt, SignAt, CloseAt, ContentsAt, PartsAt, DeclarationsAt, labels_at, map_at, map_one, column_at, column_one, chain_head_at, chain_at, chain_one, array_head_at, array_at, array_one, no_declarations_yet}
 use Rattle.nf_syntax.specs.Language.{Spells}
 use Rattle.nf_syntax.proofs.Going.{goes}
 use Rattle.nf_syntax.proofs.SoundTokens.{Good, mark, front, less, moved, good_name, good_number, good_sign, good_close}

@@ -1,6 +1,5 @@
 -- What goes through is spelled so: expressions.
-use Rattle.std.proofs.Common.{◌≡◌, ◌∙◌, ◌∷◌, ◌++◌, ◌<◌, ◌-◌, ◌==◌, nat_le, ℕ, zero, suc, Bool, true, false, Option, Some, None, List, [], length, refl, ap, sym, subst, append_assoc, arith}
-use Rattle.nf_tokens.specs.declared.token.Place as places
+use Rattle.std.proofs.Common.{◌≡◌, ◌∷◌, ◌++◌, ◌<◌, ◌-◌, ◌==◌, nat_le, ℕ, zero, suc, Bool, true, false, Option, Some, None, List, [], length, refl, ap, sym, subst, append_assoc, arith}
 use Rattle.nf_tokens.specs.declared.token.Sign.{Sign}
 use Rattle.nf_tokens.specs.declared.token.Sign.TheVariants as signs
 use Rattle.nf_tree.specs.declared.place.Name.{Name}

@@ -1,5 +1,5 @@
 -- What goes through is spelled so: single tokens.
-use Rattle.std.proofs.Common.{◌≡◌, ◌∙◌, ◌∷◌, ◌++◌, ◌<◌, ℕ, zero, suc, Bool, true, false, nat_eq, Option, Some, None, List, [], length, refl, ap, sym, subst, append_assoc, arith}
+use Rattle.std.proofs.Common.{◌≡◌, ◌∷◌, ◌++◌, ◌<◌, ℕ, suc, Bool, true, false, nat_eq, Option, Some, List, [], length, refl, ap, sym, subst, append_assoc, arith}
 use Rattle.nf_base.specs.declared.expr.Comparison.{Comparison}
 use Rattle.nf_base.specs.declared.expr.Comparison.TheVariants as comparisons
 use Rattle.nf_tokens.specs.Signs.{number_of}

@@ -1,7 +1,6 @@
 -- A token that a place goes on behind.
 use Rattle.std.proofs.Common.{◌≡◌, false, ◌∙◌, ◌-◌, ◌≤◌, ◌<◌, ◌∷◌, ℕ, suc, Result, Ok, Err, List, [], length, take, drop, get_or, ap, sym, subst, arith}
 use Rattle.std.proofs.lemmas.List.{take_all}
-use Rattle.nf_tokens.specs.declared.token.Place as places
 use Rattle.nf_tokens.specs.declared.token.Token.{Token}
 use Rattle.nf_tokens.specs.declared.token.Token.TheVariants as tokens
 use Rattle.nf_tokens.specs.declared.token.Placed.{Placed}

@@ -1,6 +1,6 @@
 -- What the grammar sees of a token. Names, numbers, fields, the words that begin something, and `)` have their
 -- places; other signs have none. A token may be marked as one that passes a limit.
-use Rattle.std.specs.Prelude.{ℕ, ◌==◌, nat_le, Bool, true, false, List, map}
+use Rattle.std.specs.Prelude.{ℕ, ◌==◌, nat_le, Bool, false, List, map}
 use Rattle.nf_base.specs.declared.packet.Field.{Field}
 use Rattle.nf_tokens.specs.declared.token.Flaw.TheVariants as flaws
 use Rattle.nf_tokens.specs.declared.token.Sign.{Sign}

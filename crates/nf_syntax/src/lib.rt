@@ -13,7 +13,7 @@ mod statement;
 mod text;
 
 pub use fault::{ParseFault, SyntaxKind};
-pub use text::{one_mark, parse};
+pub use text::{one_fault, one_mark, parse};
 
 #[cfg(test)]
 mod tests;

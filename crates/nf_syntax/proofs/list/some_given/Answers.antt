@@ -1,4 +1,4 @@
-use Rattle.std.proofs.Common.{◌≡◌, ◌∙◌, ◌++◌, ◌∷◌, [], map, ap, sym, arith}
+use Rattle.std.proofs.Common.{◌∙◌, ◌++◌, ◌∷◌, [], map, ap, sym, arith}
 use Rattle.std.proofs.lemmas.List.{map-append}
 use Rattle.nf_tree.specs.View.{given_of}
 use Rattle.nf_syntax.specs.Machine.{MoreGivenAt, run}
