@@ -16,4 +16,6 @@ pub use fault::{ParseFault, SyntaxKind};
 pub use text::{one_fault, one_mark, parse};
 
 #[cfg(test)]
+mod fault_tests;
+#[cfg(test)]
 mod tests;
