@@ -1,5 +1,5 @@
 -- The fault of a text, from where the reading of its tokens stops.
-use Rattle.std.proofs.Common.{◌≡◌, ◌∙◌, ◌≤◌, ℕ, List, length, refl, sym, subst}
+use Rattle.std.proofs.Common.{◌≡◌, ◌≤◌, ℕ, List, length, refl, sym, subst}
 use Rattle.nf_tokens.specs.Tokens.{tokens_of, start, behind_all}
 use Rattle.nf_tokens.specs.declared.token.Place.{Place}
 use Rattle.nf_tokens.specs.declared.token.Placed.{Placed}

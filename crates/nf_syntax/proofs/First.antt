@@ -1,6 +1,5 @@
 -- Where the table stops is the first fault, and the contract of the parser from the verdict of the table.
-use Rattle.std.proofs.Common.{◌≡◌, ◌∙◌, ◌∷◌, ◌++◌, Bool, true, false, Option, Some, None, Result, Ok, Err, IfOk, IfErr, List, [], refl, ap, sym, append_assoc}
-use Rattle.nf_tokens.specs.Tokens.{start}
+use Rattle.std.proofs.Common.{◌≡◌, ◌∙◌, ◌∷◌, ◌++◌, true, false, Option, Some, None, Result, Ok, Err, IfOk, IfErr, List, [], refl, ap, sym, append_assoc}
 use Rattle.nf_tokens.specs.declared.token.Place as places
 use Rattle.nf_tokens.specs.declared.token.Placed.{Placed}
 use Rattle.nf_tokens.specs.declared.token.Token.{Token}
@@ -10,14 +9,14 @@ use Rattle.nf_syntax.specs.declared.fault.Stop.{Stop}
 use Rattle.nf_syntax.specs.declared.fault.Stop.TheVariants as stops
 use Rattle.nf_syntax.specs.Items.{item, kind_of, Marked, unmarked}
 use Rattle.nf_syntax.specs.Machine.{Place, Row, Go, No, step, finished, ended, judged, Accepted, Stuck, Past, Short, run, whole}
-use Rattle.nf_syntax.specs.Language.{marked, Spells, CanGoOn, last_place, IsTreeOf, IsFirstStuck, IsFirstPast, IsShort, IsFirstFault, Finds}
+use Rattle.nf_syntax.specs.Language.{marked, Spells, CanGoOn, IsTreeOf, IsFirstStuck, IsFirstPast, IsShort, IsFirstFault, Finds}
 use Rattle.nf_syntax.specs.Reads.{Answers, without_end}
 use Rattle.nf_syntax.proofs.Going.{goes, goes_go, goes_no, accepted, went}
-use Rattle.nf_syntax.proofs.Complete.{spelled_goes}
+use Rattle.nf_syntax.proofs.CompleteText.{spelled_goes}
 use Rattle.nf_syntax.proofs.Sound.{sound}
 use Rattle.nf_syntax.proofs.Live.{live}
 
-abbrev placed : Token → places.Place → Placed
+abbrev pub placed : Token → places.Place → Placed
 placed t at = record { token = t; place = at }
 
 -- the table comes to a place in front of a token, which has this row there
@@ -109,7 +108,7 @@ short at [] h = record { stop = at; there = λ ms. refl }
 short at (q ∷ ps) h = short_row at q ps (step at (item q.token q.place)) (λ next. short next ps) refl h
 
 -- what comes to a place begins a text of the grammar
-can_go_on : (at : Place) (front : List Marked) → ((ms : List Marked) → goes whole (front ++ ms) ≡ goes at ms) → CanGoOn front
+pub can_go_on : (at : Place) (front : List Marked) → ((ms : List Marked) → goes whole (front ++ ms) ≡ goes at ms) → CanGoOn front
 can_go_on at front there =
     let l = live at in
     let s = sound (front ++ l.more) l.tree (there l.more ∙ l.reached) in
@@ -151,7 +150,7 @@ first_past ps p h =
           (λ ms. ap (goes whole) (append_assoc (unmarked s.front) (m ∷ []) ms) ∙ s.there (m ∷ ms) ∙ goes_go s.stop (item s.token p) true x.next ms s.at_it);
     }
 
-spelled_run : (ps : List Placed) (t : Tree) → Spells (unmarked ps) t → run whole ps ≡ Accepted (without_end t)
+pub spelled_run : (ps : List Placed) (t : Tree) → Spells (unmarked ps) t → run whole ps ≡ Accepted (without_end t)
 spelled_run ps t s = accepted whole ps (without_end t) (ap (goes whole) (sym s.tokens) ∙ spelled_goes t s.well_formed)
 
 first_short : (ps : List Placed) → run whole ps ≡ Short → IsShort ps
@@ -170,7 +169,7 @@ same_tree : (a b : Tree) → without_end a ≡ without_end b → a.end ≡ b.end
 same_tree a b h e = ap (λ t. with_end t a.end) h ∙ ap (with_end b) e
   where
     with_end : Tree → places.Place → Tree
-    with_end t at = record { name = t.name; ports = t.ports; chains = t.chains; handlers = t.handlers; end = at }
+    with_end t at = record { name = t.name; ports = t.ports; declarations = t.declarations; handlers = t.handlers; end = at }
 
 same_accepted : (a b : Tree) → Accepted a ≡ Accepted b → a ≡ b
 same_accepted a b h = cc

@@ -4,11 +4,13 @@ use Rattle.nf_tokens.specs.Signs.{number_of}
 use Rattle.nf_tokens.specs.declared.token.Placed.{Placed}
 use Rattle.nf_tokens.specs.declared.token.Sign.{Sign}
 use Rattle.nf_tokens.specs.declared.token.Sign.TheVariants as signs
+use Rattle.nf_tree.specs.declared.place.Literal.{Literal}
 use Rattle.nf_tree.specs.declared.tree.Label.{Label}
-use Rattle.nf_tree.specs.declared.tree.ChainTree.{ChainTree}
-use Rattle.nf_tree.specs.Tree.{Tree, Expression, Given, Block, Missing}
-use Rattle.nf_syntax.specs.Items.{Item, AName, ANumber, AField, ASign, AWord, AJoin, Unfit, item, Marked, unmarked}
-use Rattle.nf_syntax.specs.Machine.{Place, MoreAt, MoreGivenAt, MoreLabelsAt, OptionalAt, BlockAt, ChainsAt, Row, Go, No, go_or, step, finished, ended, judged, run, Verdict, Accepted}
+use Rattle.nf_tree.specs.declared.tree.Declaration.{Declaration}
+use Rattle.nf_tree.specs.Tree.{Tree, Expression, Given, Guards, Unguarded, Block, Missing}
+use Rattle.nf_syntax.specs.Items.{Item, AWord, AJoin, item, Marked, unmarked}
+use Rattle.nf_syntax.specs.Expressions.{sum_operator, product_operator}
+use Rattle.nf_syntax.specs.Machine.{Place, FactorsAt, TermsAt, MoreAt, MoreGivenAt, MoreLabelsAt, MoreNumbersAt, WhereAt, OptionalAt, BlockAt, DeclarationsAt, factor_at, term_at, Row, Go, No, go_or, go_some, step, finished, ended, judged, run, Verdict, Accepted}
 
 abbrev pub agree : Bool → Bool → Option Tree → Option Tree
 agree true true o = o
@@ -32,11 +34,45 @@ goes place (m ∷ ms) = on_row (step place m.item) m.past (λ next. goes next ms
 abbrev pub IsFirmItem : Item → Type 0
 IsFirmItem (AJoin s) = ⊥
 IsFirmItem (AWord signs.Chain at) = ⊥
+IsFirmItem (AWord signs.Array at) = ⊥
 IsFirmItem i = Unit {0}
 
 abbrev pub IsFirm : List Marked → Type 0
 IsFirm [] = Unit {0}
 IsFirm (m ∷ ms) = IsFirmItem m.item
+
+-- an item that is no operator of a product, and one that is none of a sum either
+abbrev pub IsNoFactorItem : Item → Type 0
+IsNoFactorItem (AJoin s) = product_operator s ≡ None
+IsNoFactorItem i = Unit {0}
+
+abbrev pub IsNoTermItem : Item → Type 0
+IsNoTermItem (AJoin s) = sum_operator s ≡ None
+IsNoTermItem i = Unit {0}
+
+abbrev pub HasNoFactor : List Marked → Type 0
+HasNoFactor [] = Unit {0}
+HasNoFactor (m ∷ ms) = IsNoFactorItem m.item
+
+abbrev pub HasNoTerm : List Marked → Type 0
+HasNoTerm [] = Unit {0}
+HasNoTerm (m ∷ ms) = IsNoTermItem m.item
+
+no_factor_item : (i : Item) → IsFirmItem i → IsNoFactorItem i
+no_factor_item (AJoin s) h = absurd h
+no_factor_item i h = tt
+
+no_term_item : (i : Item) → IsFirmItem i → IsNoTermItem i
+no_term_item (AJoin s) h = absurd h
+no_term_item i h = tt
+
+pub no_factor : (ms : List Marked) → IsFirm ms → HasNoFactor ms
+no_factor [] h = tt
+no_factor (m ∷ ms) h = no_factor_item m.item h
+
+pub no_term : (ms : List Marked) → IsFirm ms → HasNoTerm ms
+no_term [] h = tt
+no_term (m ∷ ms) h = no_term_item m.item h
 
 -- another item than this word of an optional block, and items that do not begin with it
 abbrev pub IsOther : Sign → Item → Type 0
@@ -71,9 +107,26 @@ step_more_labels : (ls : List Label) (k : List Label → Place) (i : Item) → I
 step_more_labels ls k (AJoin t) h = absurd h
 step_more_labels ls k i h = refl
 
-step_chains : (k : List ChainTree → Place) (i : Item) → IsFirmItem i → step (ChainsAt k) i ≡ step (k []) i
-step_chains k (AWord signs.Chain at) h = absurd h
-step_chains k i h = refl
+step_more_numbers : (ns : List Literal) (k : List Literal → Place) (i : Item) → IsFirmItem i → step (MoreNumbersAt ns k) i ≡ step (k ns) i
+step_more_numbers ns k (AJoin t) h = absurd h
+step_more_numbers ns k i h = refl
+
+step_factors : (room n : ℕ) (e : Expression) (k : Expression → Place) (i : Item) → IsNoFactorItem i → step (FactorsAt room n e k) i ≡ step (k e) i
+step_factors room n e k (AJoin s) h = ap (λ o. go_some o (factor_at room n e k) (step (k e) (AJoin s))) h
+step_factors room n e k i h = refl
+
+step_terms : (room n : ℕ) (e : Expression) (k : Expression → Place) (i : Item) → IsNoTermItem i → step (TermsAt room n e k) i ≡ step (k e) i
+step_terms room n e k (AJoin s) h = ap (λ o. go_some o (term_at room n e k) (step (k e) (AJoin s))) h
+step_terms room n e k i h = refl
+
+step_where : (k : Guards → Place) (i : Item) → IsFirmItem i → step (WhereAt k) i ≡ step (k Unguarded) i
+step_where k (AJoin t) h = absurd h
+step_where k i h = refl
+
+step_declarations : (ds : List Declaration) (k : List Declaration → Place) (i : Item) → IsFirmItem i → step (DeclarationsAt ds k) i ≡ step (k ds) i
+step_declarations ds k (AWord signs.Chain at) h = absurd h
+step_declarations ds k (AWord signs.Array at) h = absurd h
+step_declarations ds k i h = refl
 
 -- two places that go on alike with this item
 alike : (at by : Place) (m : Marked) (ms : List Marked) → step at m.item ≡ step by m.item → goes at (m ∷ ms) ≡ goes by (m ∷ ms)
@@ -95,9 +148,25 @@ pub skip_more_labels : (ls : List Label) (k : List Label → Place) (ms : List M
 skip_more_labels ls k [] h = refl
 skip_more_labels ls k (m ∷ ms) h = alike (MoreLabelsAt ls k) (k ls) m ms (step_more_labels ls k m.item h)
 
-pub skip_chains : (k : List ChainTree → Place) (ms : List Marked) → IsFirm ms → goes (ChainsAt k) ms ≡ goes (k []) ms
-skip_chains k [] h = refl
-skip_chains k (m ∷ ms) h = alike (ChainsAt k) (k []) m ms (step_chains k m.item h)
+pub skip_more_numbers : (ns : List Literal) (k : List Literal → Place) (ms : List Marked) → IsFirm ms → goes (MoreNumbersAt ns k) ms ≡ goes (k ns) ms
+skip_more_numbers ns k [] h = refl
+skip_more_numbers ns k (m ∷ ms) h = alike (MoreNumbersAt ns k) (k ns) m ms (step_more_numbers ns k m.item h)
+
+pub skip_factors : (room n : ℕ) (e : Expression) (k : Expression → Place) (ms : List Marked) → HasNoFactor ms → goes (FactorsAt room n e k) ms ≡ goes (k e) ms
+skip_factors room n e k [] h = refl
+skip_factors room n e k (m ∷ ms) h = alike (FactorsAt room n e k) (k e) m ms (step_factors room n e k m.item h)
+
+pub skip_terms : (room n : ℕ) (e : Expression) (k : Expression → Place) (ms : List Marked) → HasNoTerm ms → goes (TermsAt room n e k) ms ≡ goes (k e) ms
+skip_terms room n e k [] h = refl
+skip_terms room n e k (m ∷ ms) h = alike (TermsAt room n e k) (k e) m ms (step_terms room n e k m.item h)
+
+pub skip_where : (k : Guards → Place) (ms : List Marked) → IsFirm ms → goes (WhereAt k) ms ≡ goes (k Unguarded) ms
+skip_where k [] h = refl
+skip_where k (m ∷ ms) h = alike (WhereAt k) (k Unguarded) m ms (step_where k m.item h)
+
+pub skip_declarations : (ds : List Declaration) (k : List Declaration → Place) (ms : List Marked) → IsFirm ms → goes (DeclarationsAt ds k) ms ≡ goes (k ds) ms
+skip_declarations ds k [] h = refl
+skip_declarations ds k (m ∷ ms) h = alike (DeclarationsAt ds k) (k ds) m ms (step_declarations ds k m.item h)
 
 pub goes_go : (place : Place) (i : Item) (past : Bool) (next : Place) (ms : List Marked) →
     step place i ≡ Go past next → goes place (record { item = i; past = past } ∷ ms) ≡ goes next ms

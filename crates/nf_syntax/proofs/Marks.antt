@@ -6,7 +6,7 @@ use Rattle.nf_syntax.specs.Machine.{Place, Row, Go, No, step, whole}
 use Rattle.nf_syntax.specs.Language.{marked, CanGoOn}
 use Rattle.nf_syntax.specs.Reads.{without_end}
 use Rattle.nf_syntax.proofs.Going.{goes, on_row}
-use Rattle.nf_syntax.proofs.Complete.{spelled_goes}
+use Rattle.nf_syntax.proofs.CompleteText.{spelled_goes}
 
 one_row : (row : Row) (f g : Place → Option Tree) (x y : Tree) → on_row row true f ≡ Some x → on_row row false g ≡ Some y → ⊥
 one_row (Go true place) f g x y h k = cc
@@ -25,7 +25,7 @@ one_from at [] i m n x y h k = one_row (step at i) (λ next. goes next m) (λ ne
 one_from at (q ∷ front) i m n x y h k =
     on_row_on (step at q.item) q.past (λ next. goes next (front ++ marked i true ∷ m)) (λ next. goes next (front ++ marked i false ∷ n)) x y (λ next. one_from next front i m n x y) h k
 
-went_on : (front : List Marked) (m : Marked) (c : CanGoOn (front ++ m ∷ [])) → goes whole (front ++ m ∷ c.more) ≡ Some (without_end c.tree)
+pub went_on : (front : List Marked) (m : Marked) (c : CanGoOn (front ++ m ∷ [])) → goes whole (front ++ m ∷ c.more) ≡ Some (without_end c.tree)
 went_on front m c = ap (goes whole) (sym (c.tokens ∙ append_assoc front (m ∷ []) c.more)) ∙ spelled_goes c.tree c.well_formed
 
 pub one_mark : (front : List Marked) (i : Item) → CanGoOn (front ++ marked i true ∷ []) → CanGoOn (front ++ marked i false ∷ []) → ⊥

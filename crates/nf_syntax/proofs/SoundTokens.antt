@@ -1,17 +1,19 @@
 -- What goes through is spelled so: single tokens.
-use Rattle.std.proofs.Common.{◌≡◌, ◌∙◌, ◌∷◌, ◌++◌, ◌<◌, ℕ, zero, suc, Bool, true, false, nat_eq, Some, List, [], length, refl, ap, sym, subst, append_assoc, append-nil, arith}
+use Rattle.std.proofs.Common.{◌≡◌, ◌∷◌, ◌++◌, ◌<◌, ℕ, suc, Bool, true, false, nat_eq, Option, Some, List, [], length, refl, ap, sym, subst, append_assoc, arith}
+use Rattle.nf_base.specs.declared.expr.Comparison.{Comparison}
+use Rattle.nf_base.specs.declared.expr.Comparison.TheVariants as comparisons
 use Rattle.nf_tokens.specs.Signs.{number_of}
 use Rattle.nf_tokens.specs.declared.token.Place as places
 use Rattle.nf_tokens.specs.declared.token.Sign.{Sign}
 use Rattle.nf_tokens.specs.declared.token.Sign.TheVariants as signs
 use Rattle.nf_tree.specs.declared.place.Name.{Name}
 use Rattle.nf_tree.specs.declared.place.Literal.{Literal}
-use Rattle.nf_tree.specs.Tree.{Tree, Expression, Number, Read}
-use Rattle.nf_syntax.specs.Items.{Item, AName, ANumber, AField, ASign, AWord, Marked, name, number, sign, word}
-use Rattle.nf_syntax.specs.Grammar.{value}
-use Rattle.nf_syntax.specs.Machine.{Place, NameAt, NumberAt, ValueAt, SignAt, CloseAt, MapAt, go_if}
+use Rattle.nf_tree.specs.Tree.{Tree}
+use Rattle.nf_syntax.specs.Items.{Item, AName, ANumber, ASign, AWord, Marked, name, number, sign, word}
+use Rattle.nf_syntax.specs.Grammar.{comparing, comparison_of}
+use Rattle.nf_syntax.specs.Machine.{Place, NameAt, NumberAt, SignAt, CloseAt, ComparisonAt, No, go_if, go_some}
 use Rattle.nf_syntax.specs.Language.{Spells}
-use Rattle.nf_syntax.proofs.Going.{goes, on_row}
+use Rattle.nf_syntax.proofs.Going.{goes, on_row, agree}
 use Rattle.nf_syntax.proofs.SameSign.{same_sign}
 
 -- behind `seen`, fewer than n tokens that go through from the place complete a text of the grammar
@@ -55,17 +57,6 @@ pub good_number : (n : ℕ) (seen : List Marked) (k : Literal → Place) → ((x
 good_number n seen k f [] tree few h = absurd cc
 good_number n seen k f (m ∷ ms) tree few h = number_token n seen k f m.item m.past ms tree (omega arith) h
 
-value_token : (n : ℕ) (seen : List Marked) (k : Expression → Place) → ((x : Expression) → Good n (seen ++ value x ∷ []) (k x)) →
-    (t : Item) (past : Bool) (ms : List Marked) (tree : Tree) → length ms < n → goes (ValueAt k) (mark t past ∷ ms) ≡ Some tree → Spells (seen ++ mark t past ∷ ms) tree
-value_token n seen k f (ANumber x) false ms tree few h = front n seen (value (Number x)) (k (Number x)) (f (Number x)) ms tree few h
-value_token n seen k f (AField x at) false ms tree few h = front n seen (value (Read x at)) (k (Read x at)) (f (Read x at)) ms tree few h
-value_token n seen k f t past ms tree few h = absurd cc
-
-pub good_value : (n : ℕ) (seen : List Marked) (k : Expression → Place) → ((x : Expression) → Good n (seen ++ value x ∷ []) (k x)) →
-    (ms : List Marked) (tree : Tree) → length ms < n → goes (ValueAt k) ms ≡ Some tree → Spells (seen ++ ms) tree
-good_value n seen k f [] tree few h = absurd cc
-good_value n seen k f (m ∷ ms) tree few h = value_token n seen k f m.item m.past ms tree (omega arith) h
-
 sign_row : (n : ℕ) (seen : List Marked) (s t : Sign) (k : Place) (b past : Bool) (ms : List Marked) (tree : Tree) → (b ≡ true → t ≡ s) → Good n (seen ++ sign s ∷ []) k →
     length ms < n → on_row (go_if b k) past (λ next. goes next ms) ≡ Some tree → Spells (seen ++ mark (ASign t) past ∷ ms) tree
 sign_row n seen s t k true false ms tree same g few h = front n seen (sign t) k (moved n (seen ++ sign s ∷ []) (seen ++ sign t ∷ []) k (ap (λ x. seen ++ sign x ∷ []) (sym (same refl))) g) ms tree few h
@@ -91,12 +82,44 @@ pub good_close : (n : ℕ) (seen : List Marked) (k : places.Place → Place) →
 good_close n seen k f [] tree few h = absurd cc
 good_close n seen k f (m ∷ ms) tree few h = close_token n seen k f m.item m.past ms tree (omega arith) h
 
-map_token : (n : ℕ) (seen : List Marked) (k : places.Place → Place) → ((at : places.Place) → Good n (seen ++ word signs.Map at ∷ []) (k at)) →
-    (t : Item) (past : Bool) (ms : List Marked) (tree : Tree) → length ms < n → goes (MapAt k) (mark t past ∷ ms) ≡ Some tree → Spells (seen ++ mark t past ∷ ms) tree
-map_token n seen k f (AWord signs.Map at) false ms tree few h = front n seen (word signs.Map at) (k at) (f at) ms tree few h
-map_token n seen k f t past ms tree few h = absurd cc
+pub agreed : (a b : Bool) (o : Option Tree) (x : Tree) → agree a b o ≡ Some x → (a ≡ b) × (o ≡ Some x)
+agreed true true o x h = (refl, h)
+agreed false false o x h = (refl, h)
+agreed true false o x h = absurd cc
+agreed false true o x h = absurd cc
 
-pub good_map_word : (n : ℕ) (seen : List Marked) (k : places.Place → Place) → ((at : places.Place) → Good n (seen ++ word signs.Map at ∷ []) (k at)) →
-    (ms : List Marked) (tree : Tree) → length ms < n → goes (MapAt k) ms ≡ Some tree → Spells (seen ++ ms) tree
-good_map_word n seen k f [] tree few h = absurd cc
-good_map_word n seen k f (m ∷ ms) tree few h = map_token n seen k f m.item m.past ms tree (omega arith) h
+-- an item whose mark is that of its row
+pub front_marked : (n : ℕ) (seen : List Marked) (i : Item) (limit past : Bool) (place : Place) → Good n (seen ++ mark i limit ∷ []) place →
+    (ms : List Marked) (tree : Tree) → length ms < n → agree limit past (goes place ms) ≡ Some tree → Spells (seen ++ mark i past ∷ ms) tree
+front_marked n seen i limit past place g ms tree few h =
+    let a = agreed limit past (goes place ms) tree h in
+    front n seen (mark i past) place (moved n (seen ++ mark i limit ∷ []) (seen ++ mark i past ∷ []) place (ap (λ x. seen ++ mark i x ∷ []) a.0) g) ms tree few a.1
+
+pub same_some : {A : Type 0} → (x y : A) → Some x ≡ Some y → x ≡ y
+same_some x y h = cc
+
+compared : (s : Sign) (c : Comparison) → comparison_of s ≡ Some c → s ≡ comparing c
+compared signs.Equal c h = ap comparing (same_some comparisons.Equal c h)
+compared signs.NotEqual c h = ap comparing (same_some comparisons.NotEqual c h)
+compared signs.Less c h = ap comparing (same_some comparisons.Less c h)
+compared signs.LessOrEqual c h = ap comparing (same_some comparisons.LessOrEqual c h)
+compared signs.Greater c h = ap comparing (same_some comparisons.Greater c h)
+compared signs.GreaterOrEqual c h = ap comparing (same_some comparisons.GreaterOrEqual c h)
+compared s c h = absurd cc
+
+comparison_row : (n : ℕ) (seen : List Marked) (s : Sign) (k : Comparison → Place) (o : Option Comparison) (past : Bool) (ms : List Marked) (tree : Tree) →
+    ((c : Comparison) → o ≡ Some c → s ≡ comparing c) → ((c : Comparison) → Good n (seen ++ sign (comparing c) ∷ []) (k c)) →
+    length ms < n → on_row (go_some o k No) past (λ next. goes next ms) ≡ Some tree → Spells (seen ++ mark (ASign s) past ∷ ms) tree
+comparison_row n seen s k (Some c) false ms tree same f few h =
+    subst (λ x. Spells (seen ++ sign x ∷ ms) tree) (sym (same c refl)) (front n seen (sign (comparing c)) (k c) (f c) ms tree few h)
+comparison_row n seen s k o past ms tree same f few h = absurd cc
+
+comparison_token : (n : ℕ) (seen : List Marked) (k : Comparison → Place) → ((c : Comparison) → Good n (seen ++ sign (comparing c) ∷ []) (k c)) →
+    (t : Item) (past : Bool) (ms : List Marked) (tree : Tree) → length ms < n → goes (ComparisonAt k) (mark t past ∷ ms) ≡ Some tree → Spells (seen ++ mark t past ∷ ms) tree
+comparison_token n seen k f (ASign s) past ms tree few h = comparison_row n seen s k (comparison_of s) past ms tree (compared s) f few h
+comparison_token n seen k f t past ms tree few h = absurd cc
+
+pub good_comparison : (n : ℕ) (seen : List Marked) (k : Comparison → Place) → ((c : Comparison) → Good n (seen ++ sign (comparing c) ∷ []) (k c)) →
+    (ms : List Marked) (tree : Tree) → length ms < n → goes (ComparisonAt k) ms ≡ Some tree → Spells (seen ++ ms) tree
+good_comparison n seen k f [] tree few h = absurd cc
+good_comparison n seen k f (m ∷ ms) tree few h = comparison_token n seen k f m.item m.past ms tree (omega arith) h

@@ -1,19 +1,17 @@
--- A comma, and a name, at the front of tokens.
-use Rattle.std.proofs.Common.{◌≡◌, false, ◌∙◌, ◌-◌, ◌≤◌, ◌<◌, ◌∷◌, ◌++◌, ℕ, suc, Result, Ok, Err, List, [], length, take, drop, get_or, refl, ap, sym, subst, arith}
+-- A token that a place goes on behind.
+use Rattle.std.proofs.Common.{◌≡◌, false, ◌∙◌, ◌-◌, ◌≤◌, ◌<◌, ◌∷◌, ℕ, suc, Result, Ok, Err, List, [], length, take, drop, get_or, ap, sym, subst, arith}
 use Rattle.std.proofs.lemmas.List.{take_all}
-use Rattle.nf_tokens.specs.declared.token.Sign.TheVariants as signs
 use Rattle.nf_tokens.specs.declared.token.Token.{Token}
 use Rattle.nf_tokens.specs.declared.token.Token.TheVariants as tokens
 use Rattle.nf_tokens.specs.declared.token.Placed.{Placed}
-use Rattle.nf_tree.specs.declared.tree.Label.{Label}
-use Rattle.nf_tree.specs.Tree.{Given}
+use Rattle.nf_tree.specs.Tree.{Given, Block}
 use Rattle.nf_syntax.specs.declared.fault.Stop.{Stop}
 use Rattle.nf_syntax.specs.Items.{item}
-use Rattle.nf_syntax.specs.Machine.{Place, GivenAt, MoreGivenAt, MoreLabelsAt, one_given_at, some_given_at, one_label_at, Go, step, judged, run}
-use Rattle.nf_syntax.specs.Reads.{Reads, ReadsOn, Fails}
+use Rattle.nf_syntax.specs.Machine.{Place, GivenAt, some_given_at, Go, step, judged, run}
+use Rattle.nf_syntax.specs.Reads.{Reads, ReadsOn, Extends, Fails}
 
 -- a place with this row at the first token goes on behind it
-gone_on : (at next : Place) (ps : List Placed) (p : Placed) (t : Token) → 1 ≤ length ps → p ≡ get_or ps 0 p → p.token ≡ t → step at (item t p.place) ≡ Go false next →
+pub gone_on : (at next : Place) (ps : List Placed) (p : Placed) (t : Token) → 1 ≤ length ps → p ≡ get_or ps 0 p → p.token ≡ t → step at (item t p.place) ≡ Go false next →
     run at ps ≡ run next (take (length ps - 1) (drop 1 ps))
 gone_on at next [] p t one h e s = absurd (omega arith)
 gone_on at next (q ∷ ps) p t one h e s =
@@ -21,17 +19,17 @@ gone_on at next (q ∷ ps) p t one h e s =
     let f : q.token ≡ t = sym (ap (λ x. x.token) h) ∙ e in
     ap (λ row. judged row q (λ n. run n ps)) (ap (λ x. step at (item x q.place)) f ∙ ap (λ x. step at (item t x.place)) (sym h) ∙ s) ∙ ap (run next) (sym all)
 
-pub comma_labels : (ls : List Label) (k : List Label → Place) (ps : List Placed) (p : Placed) → 1 ≤ length ps → p ≡ get_or ps 0 p → p.token ≡ tokens.Sign signs.Comma →
-    run (MoreLabelsAt ls k) ps ≡ run (one_label_at (λ l. MoreLabelsAt (ls ++ l ∷ []) k)) (take (length ps - 1) (drop 1 ps))
-comma_labels ls k ps p one h e = gone_on (MoreLabelsAt ls k) (one_label_at (λ l. MoreLabelsAt (ls ++ l ∷ []) k)) ps p (tokens.Sign signs.Comma) one h e refl
+pub shorter_behind : (ps : List Placed) → 1 ≤ length ps → length (take (length ps - 1) (drop 1 ps)) < length ps
+shorter_behind [] one = absurd (omega arith)
+shorter_behind (p ∷ ps) one = let all : take (suc (length ps) - 1) ps ≡ ps = take_all (suc (length ps) - 1) ps (omega arith) in let e = ap length all in omega (arith, e)
 
-pub comma_given : (gs : List Given) (k : List Given → Place) (ps : List Placed) (p : Placed) → 1 ≤ length ps → p ≡ get_or ps 0 p → p.token ≡ tokens.Sign signs.Comma →
-    run (MoreGivenAt gs k) ps ≡ run (one_given_at (λ g. MoreGivenAt (gs ++ g ∷ []) k)) (take (length ps - 1) (drop 1 ps))
-comma_given gs k ps p one h e = gone_on (MoreGivenAt gs k) (one_given_at (λ g. MoreGivenAt (gs ++ g ∷ []) k)) ps p (tokens.Sign signs.Comma) one h e refl
-
-pub shorter_behind : (ps : List Placed) → length (take (length ps - 1) (drop 1 ps)) ≤ length ps
-shorter_behind [] = omega arith
-shorter_behind (p ∷ ps) = let all : take (suc (length ps) - 1) ps ≡ ps = take_all (suc (length ps) - 1) ps (omega arith) in let e = ap length all in omega (arith, e)
+-- what is read behind the first token is read from it on
+pub extends_on : {X : Type 0} → (room : ℕ) (wanted behind : (Block → Place) → Place) (part : X → Block) (rest : X → List Placed) (r : Result X Stop) (ps : List Placed) (p : Placed) (t : Token) →
+    1 ≤ length ps → p ≡ get_or ps 0 p → p.token ≡ t → ((k : Block → Place) → step (wanted k) (item t p.place) ≡ Go false (behind k)) →
+    Extends room behind part rest r (take (length ps - 1) (drop 1 ps)) → Extends room wanted part rest r ps
+extends_on room wanted behind part rest (Ok x) ps p t one h e s r =
+    (let l = r.0 in let b = shorter_behind ps one in omega (arith, l, b), λ k. gone_on (wanted k) (behind k) ps p t one h e (s k) ∙ r.1 k)
+extends_on room wanted behind part rest (Err f) ps p t one h e s r = λ k. subst (λ v. Fails f v) (sym (gone_on (wanted k) (behind k) ps p t one h e (s k))) (r k)
 
 same_run : (k : List Given → Place) (ps : List Placed) (p : Placed) (x : List ℕ) → 1 ≤ length ps → p ≡ get_or ps 0 p → p.token ≡ tokens.Name x → run (GivenAt k) ps ≡ run (some_given_at k) ps
 same_run k [] p x one h e = absurd (omega arith)
@@ -39,6 +37,7 @@ same_run k (q ∷ ps) p x one h e =
     let f : q.token ≡ tokens.Name x = sym (ap (λ y. y.token) h) ∙ e in
     ap (λ t. judged (step (GivenAt k) (item t q.place)) q (λ n. run n ps)) f ∙ sym (ap (λ t. judged (step (some_given_at k) (item t q.place)) q (λ n. run n ps)) f)
 
+-- a name at the front of what is given
 pub by_name : {X : Type 0} → (part : X → List Given) (rest : X → List Placed) (r : Result X Stop) (ps : List Placed) (p : Placed) (x : List ℕ) → 1 ≤ length ps → p ≡ get_or ps 0 p → p.token ≡ tokens.Name x →
     Reads some_given_at part rest r ps → ReadsOn (λ k. GivenAt k) part rest r ps
 by_name part rest (Ok y) ps p x one h e r = (let l = r.0 in omega (arith, l), λ k. same_run k ps p x one h e ∙ r.1 k)

@@ -1,15 +1,25 @@
 -- The grammar: what each tree is spelled like, and which trees are well formed.
-use Rattle.std.specs.Prelude.{ℕ, ◌-◌, List, [], ◌∷◌, ◌++◌, ◌==◌}
-use Rattle.nf_tokens.specs.declared.token.Place as places
+use Rattle.std.specs.Prelude.{ℕ, ◌-◌, Option, Some, None, List, [], ◌∷◌, ◌++◌}
+use Rattle.nf_base.specs.declared.expr.Comparison.{Comparison}
+use Rattle.nf_base.specs.declared.expr.Comparison.TheVariants as comparisons
 use Rattle.nf_tokens.specs.declared.token.Sign.{Sign}
 use Rattle.nf_tokens.specs.declared.token.Sign.TheVariants as signs
 use Rattle.nf_tree.specs.declared.place.Name.{Name}
 use Rattle.nf_tree.specs.declared.place.Literal.{Literal}
 use Rattle.nf_tree.specs.declared.tree.Label.{Label}
 use Rattle.nf_tree.specs.declared.tree.MapTree.{MapTree}
+use Rattle.nf_tree.specs.declared.tree.ColumnKind.{ColumnKind}
+use Rattle.nf_tree.specs.declared.tree.ColumnKind.TheVariants as columns
+use Rattle.nf_tree.specs.declared.tree.ColumnTree.{ColumnTree}
+use Rattle.nf_tree.specs.declared.tree.Part.{Part}
+use Rattle.nf_tree.specs.declared.tree.Part.TheVariants as part_of
 use Rattle.nf_tree.specs.declared.tree.ChainTree.{ChainTree}
-use Rattle.nf_tree.specs.Tree.{Expression, Number, Read, Given, Block, Start, Missing, Touch, Get, New, Forward, Discard, Handler, Tree}
-use Rattle.nf_syntax.specs.Items.{AField, ASign, Marked, plain, sign, word, join, name, number}
+use Rattle.nf_tree.specs.declared.tree.ArrayTree.{ArrayTree}
+use Rattle.nf_tree.specs.declared.tree.Declaration.{Declaration}
+use Rattle.nf_tree.specs.declared.tree.Declaration.TheVariants as declared
+use Rattle.nf_tree.specs.Tree.{Expression, Given, Guards, Unguarded, Where, Block, Start, Missing, Touch, Get, Find, New, If, Free, Write, Store, Forward, Flood, Discard, Handler, Tree}
+use Rattle.nf_syntax.specs.Items.{Marked, sign, word, join, name, number, opening}
+use Rattle.nf_syntax.specs.Expressions.{IsValue, value}
 
 -- what stands at a place of the grammar: statements that more may follow, a body, a body or nothing
 pub data Kind : Type 0 where
@@ -21,52 +31,81 @@ abbrev pub IsNotEmpty : {A : Type 0} → List A → Type 0
 IsNotEmpty [] = ⊥
 IsNotEmpty (x ∷ xs) = Unit {0}
 
+abbrev pub AreValues : List Expression → Type 0
+AreValues [] = Unit {0}
+AreValues (v ∷ vs) = IsValue v × AreValues vs
+
+abbrev pub AreGiven : List Given → Type 0
+AreGiven [] = Unit {0}
+AreGiven (g ∷ gs) = IsValue g.value × AreGiven gs
+
+abbrev pub AreGuards : Guards → Type 0
+AreGuards Unguarded = Unit {0}
+AreGuards (Where gs close) = IsNotEmpty gs × AreGiven gs
+
 -- an action ends its body, and a key is not empty
 abbrev pub Is : Kind → Block → Type 0
 Is kind Start = Unit {0}
 Is Optional Missing = Unit {0}
 Is kind Missing = ⊥
 Is kind (Touch b x) = Is Opened b
-Is kind (Get b at x c m key close hit miss) = Is Opened b × IsNotEmpty key × Is Body hit × Is Optional miss
-Is kind (New b at x c gs close made taken full) = Is Opened b × Is Body made × Is Optional taken × Is Optional full
+Is kind (Get b at x c m key close hit miss) = Is Opened b × IsNotEmpty key × AreValues key × Is Body hit × Is Optional miss
+Is kind (Find b at x c i gs hit miss) = Is Opened b × IsValue i × AreGuards gs × Is Body hit × Is Optional miss
+Is kind (New b at x c gs close made taken full) = Is Opened b × AreGiven gs × Is Body made × Is Optional taken × Is Optional full
+Is kind (If b l comparison r holds fails) = Is Opened b × IsValue l × IsValue r × Is Body holds × Is Optional fails
+Is kind (Free b at x) = Is Opened b
+Is kind (Write b x c v) = Is Opened b × IsValue v
+Is kind (Store b x i v) = Is Opened b × IsValue i × IsValue v
 Is Opened (Forward b v) = ⊥
-Is kind (Forward b v) = Is Opened b
+Is kind (Forward b v) = Is Opened b × IsValue v
+Is Opened (Flood b) = ⊥
+Is kind (Flood b) = Is Opened b
 Is Opened (Discard b) = ⊥
 Is kind (Discard b) = Is Opened b
 
--- at most one chain, whose map has a label
-abbrev pub AreChains : List ChainTree → Type 0
-AreChains [] = Unit {0}
-AreChains (c ∷ []) = IsNotEmpty c.map.labels
-AreChains (c ∷ d ∷ cs) = ⊥
+-- a map has a label
+abbrev pub IsPart : Part → Type 0
+IsPart (part_of.Map m) = IsNotEmpty m.labels
+IsPart (part_of.Column c) = Unit {0}
+
+abbrev pub AreParts : List Part → Type 0
+AreParts [] = Unit {0}
+AreParts (p ∷ ps) = IsPart p × AreParts ps
+
+abbrev pub IsDeclaration : Declaration → Type 0
+IsDeclaration (declared.Chain c) = AreParts c.parts
+IsDeclaration (declared.Array a) = Unit {0}
+
+abbrev pub AreDeclarations : List Declaration → Type 0
+AreDeclarations [] = Unit {0}
+AreDeclarations (d ∷ ds) = IsDeclaration d × AreDeclarations ds
 
 abbrev pub AreHandlers : List Handler → Type 0
 AreHandlers [] = Unit {0}
 AreHandlers (h ∷ hs) = Is Body h.block × AreHandlers hs
 
 abbrev pub IsText : Tree → Type 0
-IsText t = AreChains t.chains × AreHandlers t.handlers
-
-abbrev pub value : Expression → Marked
-value (Number n) = number n
-value (Read field at) = plain (AField field at)
+IsText t = AreDeclarations t.declarations × AreHandlers t.handlers
 
 -- what follows the first of several, each behind a comma
 abbrev pub values_more : List Expression → List Marked
 values_more [] = []
-values_more (v ∷ vs) = join signs.Comma ∷ value v ∷ values_more vs
+values_more (v ∷ vs) = join signs.Comma ∷ (value v ++ values_more vs)
 
 abbrev pub values : List Expression → List Marked
 values [] = []
-values (v ∷ vs) = value v ∷ values_more vs
+values (v ∷ vs) = value v ++ values_more vs
+
+abbrev pub one_given : Given → List Marked
+one_given g = name g.name ∷ sign signs.Assign ∷ value g.value
 
 abbrev pub given_more : List Given → List Marked
 given_more [] = []
-given_more (g ∷ gs) = join signs.Comma ∷ name g.name ∷ sign signs.Assign ∷ value g.value ∷ given_more gs
+given_more (g ∷ gs) = join signs.Comma ∷ (one_given g ++ given_more gs)
 
 abbrev pub given : List Given → List Marked
 given [] = []
-given (g ∷ gs) = name g.name ∷ sign signs.Assign ∷ value g.value ∷ given_more gs
+given (g ∷ gs) = one_given g ++ given_more gs
 
 abbrev pub labels_more : List Label → List Marked
 labels_more [] = []
@@ -76,9 +115,13 @@ abbrev pub labels : List Label → List Marked
 labels [] = []
 labels (l ∷ ls) = name l.name ∷ sign signs.Colon ∷ number l.width ∷ labels_more ls
 
+abbrev pub numbers_more : List Literal → List Marked
+numbers_more [] = []
+numbers_more (n ∷ ns) = join signs.Comma ∷ number n ∷ numbers_more ns
+
 -- braces round the tokens of a body, where so many more blocks may be open
 abbrev pub braced : ℕ → List Marked → List Marked
-braced room inside = record { item = ASign signs.OpenBrace; past = room == 0 } ∷ (inside ++ sign signs.CloseBrace ∷ [])
+braced room inside = opening signs.OpenBrace room ∷ (inside ++ sign signs.CloseBrace ∷ [])
 
 -- a block behind its word, or nothing
 abbrev pub optional : Sign → ℕ → Block → List Marked → List Marked
@@ -88,8 +131,30 @@ optional s room written inside = join s ∷ braced room inside
 abbrev pub get_head : Name → Name → Name → List Marked
 get_head x c m = name x ∷ sign signs.Assign ∷ name c ∷ sign signs.Dot ∷ name m ∷ sign signs.OpenParenthesis ∷ []
 
-abbrev pub new_head : Name → Name → List Marked
-new_head x c = name x ∷ sign signs.Assign ∷ name c ∷ sign signs.OpenParenthesis ∷ []
+abbrev pub entry_head : Sign → Name → Name → List Marked
+entry_head s x c = name x ∷ sign signs.Assign ∷ name c ∷ sign s ∷ []
+
+abbrev pub guards : Guards → List Marked
+guards Unguarded = []
+guards (Where gs close) = join signs.Where ∷ sign signs.OpenParenthesis ∷ (given gs ++ word signs.CloseParenthesis close ∷ [])
+
+abbrev pub comparing : Comparison → Sign
+comparing comparisons.Equal = signs.Equal
+comparing comparisons.NotEqual = signs.NotEqual
+comparing comparisons.Less = signs.Less
+comparing comparisons.LessOrEqual = signs.LessOrEqual
+comparing comparisons.Greater = signs.Greater
+comparing comparisons.GreaterOrEqual = signs.GreaterOrEqual
+
+-- which comparison a sign is
+abbrev pub comparison_of : Sign → Option Comparison
+comparison_of signs.Equal = Some comparisons.Equal
+comparison_of signs.NotEqual = Some comparisons.NotEqual
+comparison_of signs.Less = Some comparisons.Less
+comparison_of signs.LessOrEqual = Some comparisons.LessOrEqual
+comparison_of signs.Greater = Some comparisons.Greater
+comparison_of signs.GreaterOrEqual = Some comparisons.GreaterOrEqual
+comparison_of s = None
 
 -- the tokens of a body, where so many more blocks may be open in it
 abbrev pub body : ℕ → Block → List Marked
@@ -99,23 +164,62 @@ body room (Touch b x) = body room b ++ sign signs.Touch ∷ name x ∷ sign sign
 body room (Get b at x c m key close hit miss) = body room b ++ (word signs.Get at ∷ get_head x c m
     ++ (values key ++ (word signs.CloseParenthesis close ∷ []
     ++ (braced room (body (room - 1) hit) ++ optional signs.Else room miss (body (room - 1) miss)))))
-body room (New b at x c gs close made taken full) = body room b ++ (word signs.New at ∷ new_head x c
+body room (Find b at x c i gs hit miss) = body room b ++ (word signs.Find at ∷ entry_head signs.OpenBracket x c
+    ++ (value i ++ (sign signs.CloseBracket ∷ guards gs
+    ++ (braced room (body (room - 1) hit) ++ optional signs.Else room miss (body (room - 1) miss)))))
+body room (New b at x c gs close made taken full) = body room b ++ (word signs.New at ∷ entry_head signs.OpenParenthesis x c
     ++ (given gs ++ (word signs.CloseParenthesis close ∷ []
     ++ (braced room (body (room - 1) made) ++ (optional signs.Taken room taken (body (room - 1) taken)
     ++ optional signs.Full room full (body (room - 1) full))))))
-body room (Forward b v) = body room b ++ sign signs.Forward ∷ value v ∷ sign signs.Semicolon ∷ []
+body room (If b l comparison r holds fails) = body room b ++ (sign signs.If ∷ value l
+    ++ (sign (comparing comparison) ∷ value r
+    ++ (braced room (body (room - 1) holds) ++ optional signs.Else room fails (body (room - 1) fails))))
+body room (Free b at x) = body room b ++ word signs.Free at ∷ name x ∷ sign signs.Semicolon ∷ []
+body room (Write b x c v) = body room b ++ (name x ∷ sign signs.Dot ∷ name c ∷ sign signs.Assign ∷ []
+    ++ (value v ++ sign signs.Semicolon ∷ []))
+body room (Store b x i v) = body room b ++ (name x ∷ sign signs.OpenBracket ∷ value i
+    ++ (sign signs.CloseBracket ∷ sign signs.Assign ∷ value v ++ sign signs.Semicolon ∷ []))
+body room (Forward b v) = body room b ++ (sign signs.Forward ∷ value v ++ sign signs.Semicolon ∷ [])
+body room (Flood b) = body room b ++ sign signs.Flood ∷ sign signs.Semicolon ∷ []
 body room (Discard b) = body room b ++ sign signs.Discard ∷ sign signs.Semicolon ∷ []
 
-abbrev pub chain_head : ChainTree → List Marked
-chain_head c = name c.name ∷ number c.size ∷ sign signs.Lifetime ∷ number c.lifetime ∷ sign signs.OpenBrace
-    ∷ word signs.Map c.map.place ∷ name c.map.name ∷ sign signs.OpenParenthesis ∷ []
+abbrev pub map : MapTree → List Marked
+map m = word signs.Map m.place ∷ name m.name ∷ sign signs.OpenParenthesis ∷ (labels m.labels
+    ++ word signs.CloseParenthesis m.close ∷ sign signs.Semicolon ∷ [])
 
-abbrev pub chain_tail : MapTree → List Marked
-chain_tail m = word signs.CloseParenthesis m.close ∷ sign signs.Semicolon ∷ sign signs.CloseBrace ∷ []
+abbrev pub column_word : ColumnKind → Sign
+column_word columns.Fixed = signs.Fixed
+column_word columns.Free = signs.Free
 
-abbrev pub chains : List ChainTree → List Marked
-chains [] = []
-chains (c ∷ cs) = word signs.Chain c.place ∷ chain_head c ++ (labels c.map.labels ++ (chain_tail c.map ++ chains cs))
+abbrev pub column : ColumnTree → List Marked
+column c = word (column_word c.kind) c.place ∷ name c.name ∷ sign signs.Colon ∷ number c.width ∷ sign signs.Semicolon ∷ []
+
+abbrev pub part : Part → List Marked
+part (part_of.Map m) = map m
+part (part_of.Column c) = column c
+
+abbrev pub parts : List Part → List Marked
+parts [] = []
+parts (p ∷ ps) = part p ++ parts ps
+
+abbrev pub chain : ChainTree → List Marked
+chain c = word signs.Chain c.place ∷ name c.name ∷ number c.size ∷ sign signs.Lifetime ∷ number c.lifetime ∷ sign signs.OpenBrace
+    ∷ (parts c.parts ++ sign signs.CloseBrace ∷ [])
+
+abbrev pub contents : List Literal → List Marked
+contents [] = []
+contents (n ∷ ns) = sign signs.Assign ∷ sign signs.OpenBrace ∷ number n ∷ (numbers_more ns ++ sign signs.CloseBrace ∷ [])
+
+abbrev pub array : ArrayTree → List Marked
+array a = word signs.Array a.place ∷ name a.name ∷ number a.size ∷ sign signs.Colon ∷ number a.width ∷ (contents a.contents ++ sign signs.Semicolon ∷ [])
+
+abbrev pub declaration : Declaration → List Marked
+declaration (declared.Chain c) = chain c
+declaration (declared.Array a) = array a
+
+abbrev pub declarations : List Declaration → List Marked
+declarations [] = []
+declarations (d ∷ ds) = declaration d ++ declarations ds
 
 -- at most 64 blocks are open
 abbrev pub handlers : List Handler → List Marked
@@ -127,4 +231,4 @@ text_head x ports = sign signs.Nf ∷ name x ∷ sign signs.OpenBrace ∷ sign s
 
 -- the tokens of a whole text
 abbrev pub spelling : Tree → List Marked
-spelling t = text_head t.name t.ports ++ (chains t.chains ++ (handlers t.handlers ++ sign signs.CloseBrace ∷ []))
+spelling t = text_head t.name t.ports ++ (declarations t.declarations ++ (handlers t.handlers ++ sign signs.CloseBrace ∷ []))

@@ -1,6 +1,6 @@
 -- What the grammar sees of a token. Names, numbers, fields, the words that begin something, and `)` have their
 -- places; other signs have none. A token may be marked as one that passes a limit.
-use Rattle.std.specs.Prelude.{Bool, true, false, List, map}
+use Rattle.std.specs.Prelude.{ℕ, ◌==◌, nat_le, Bool, false, List, map}
 use Rattle.nf_base.specs.declared.packet.Field.{Field}
 use Rattle.nf_tokens.specs.declared.token.Flaw.TheVariants as flaws
 use Rattle.nf_tokens.specs.declared.token.Sign.{Sign}
@@ -41,6 +41,7 @@ class_of signs.And = Joins
 class_of signs.Else = Joins
 class_of signs.Taken = Joins
 class_of signs.Full = Joins
+class_of signs.Where = Joins
 class_of s = Plain
 
 -- a token, as the grammar sees it
@@ -58,9 +59,12 @@ seen_as Plain s at = ASign s
 seen_as Begins s at = AWord s at
 seen_as Joins s at = AJoin s
 
+abbrev pub named : List ℕ → Place → Name
+named x at = record { bytes = x; place = at }
+
 -- what the grammar sees of a token at its place; it has no bad token
 abbrev pub item : Token → Place → Item
-item (tokens.Name x) at = AName (record { bytes = x; place = at })
+item (tokens.Name x) at = AName (named x at)
 item (tokens.Number n) at = ANumber (record { value = n; place = at })
 item (tokens.Field field) at = AField field at
 item (tokens.Sign s) at = seen_as (class_of s) s at
@@ -93,6 +97,14 @@ word s at = plain (AWord s at)
 
 abbrev pub join : Sign → Marked
 join s = plain (AJoin s)
+
+-- a sign that opens what only so many more may stand in
+abbrev pub opening : Sign → ℕ → Marked
+opening s room = record { item = ASign s; past = room == 0 }
+
+-- the first item of an operand, with so many operands before it
+abbrev pub operand : ℕ → Item → Marked
+operand n i = record { item = i; past = nat_le 64 n }
 
 abbrev pub name : Name → Marked
 name x = plain (AName x)

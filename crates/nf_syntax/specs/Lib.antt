@@ -1,4 +1,5 @@
 pub mod Items
+pub mod Expressions
 pub mod Grammar
 pub mod Machine
 pub mod Reads

@@ -1,5 +1,6 @@
 -- What may still come, read token by token.
-use Rattle.std.specs.Prelude.{ℕ, ◌-◌, ◌==◌, nat_eq, Bool, true, false, Option, Some, None, List, [], ◌∷◌, ◌++◌}
+use Rattle.std.specs.Prelude.{ℕ, suc, ◌-◌, ◌==◌, nat_eq, nat_le, Bool, true, false, Option, Some, None, List, [], ◌∷◌, ◌++◌}
+use Rattle.nf_base.specs.declared.expr.Comparison.{Comparison}
 use Rattle.nf_tokens.specs.Signs.{number_of}
 use Rattle.nf_tokens.specs.Tokens.{start}
 use Rattle.nf_tokens.specs.declared.token.Sign.{Sign}
@@ -8,35 +9,64 @@ use Rattle.nf_tokens.specs.declared.token.Placed.{Placed}
 use Rattle.nf_tokens.specs.declared.token.Place as places
 use Rattle.nf_tree.specs.declared.place.Name.{Name}
 use Rattle.nf_tree.specs.declared.place.Literal.{Literal}
+use Rattle.nf_tree.specs.declared.tree.SumOperator.{SumOperator}
+use Rattle.nf_tree.specs.declared.tree.ProductOperator.{ProductOperator}
 use Rattle.nf_tree.specs.declared.tree.Label.{Label}
 use Rattle.nf_tree.specs.declared.tree.MapTree.{MapTree}
+use Rattle.nf_tree.specs.declared.tree.ColumnKind.{ColumnKind}
+use Rattle.nf_tree.specs.declared.tree.ColumnKind.TheVariants as columns
+use Rattle.nf_tree.specs.declared.tree.ColumnTree.{ColumnTree}
+use Rattle.nf_tree.specs.declared.tree.Part.{Part}
+use Rattle.nf_tree.specs.declared.tree.Part.TheVariants as part_of
 use Rattle.nf_tree.specs.declared.tree.ChainTree.{ChainTree}
-use Rattle.nf_tree.specs.Tree.{Expression, Number, Read, Given, Block, Start, Missing, Touch, Get, New, Forward, Discard, Handler, Tree}
+use Rattle.nf_tree.specs.declared.tree.ArrayTree.{ArrayTree}
+use Rattle.nf_tree.specs.declared.tree.Declaration.{Declaration}
+use Rattle.nf_tree.specs.declared.tree.Declaration.TheVariants as declared
+use Rattle.nf_tree.specs.Tree.{Expression, Number, Read, Column, Index, Cell, Group, Sum, Product, Given, Guards, Unguarded, Where, Block, Start, Missing, Touch, Get, Find, New, If, Free, Write, Store, Forward, Flood, Discard, Handler, Tree}
 use Rattle.nf_syntax.specs.declared.fault.SyntaxKind.{SyntaxKind}
 use Rattle.nf_syntax.specs.declared.head.GetHead.{GetHead}
-use Rattle.nf_syntax.specs.declared.head.NewHead.{NewHead}
+use Rattle.nf_syntax.specs.declared.head.EntryHead.{EntryHead}
 use Rattle.nf_syntax.specs.declared.head.ChainHead.{ChainHead}
+use Rattle.nf_syntax.specs.declared.head.ArrayHead.{ArrayHead}
 use Rattle.nf_syntax.specs.declared.head.TextHead.{TextHead}
 use Rattle.nf_syntax.specs.Items.{Item, AName, ANumber, AField, ASign, AWord, AJoin, item, kind_of}
+use Rattle.nf_syntax.specs.Expressions.{sum_operator, product_operator, operands}
+use Rattle.nf_syntax.specs.Grammar.{comparison_of}
 
 -- a place in a text: what has to come next, and the place behind it
 pub data Place : Type 0 where
   End : Tree → Place
   NameAt : (Name → Place) → Place
   NumberAt : (Literal → Place) → Place
-  ValueAt : (Expression → Place) → Place
   SignAt : Sign → Place → Place
   CloseAt : (places.Place → Place) → Place
-  MapAt : (places.Place → Place) → Place
+  AtomAt : ℕ → ℕ → (Expression → Place) → Place
+  NamedAt : ℕ → ℕ → Name → (Expression → Place) → Place
+  ColumnAt : Name → (Expression → Place) → Place
+  FactorsAt : ℕ → ℕ → Expression → (Expression → Place) → Place
+  TermsAt : ℕ → ℕ → Expression → (Expression → Place) → Place
+  ComparisonAt : (Comparison → Place) → Place
   MoreAt : List Expression → (List Expression → Place) → Place
   GivenAt : (List Given → Place) → Place
   MoreGivenAt : List Given → (List Given → Place) → Place
   MoreLabelsAt : List Label → (List Label → Place) → Place
+  MoreNumbersAt : List Literal → (List Literal → Place) → Place
+  ContentsAt : (List Literal → Place) → Place
+  WhereAt : (Guards → Place) → Place
   BlockAt : ℕ → (Block → Place) → Place
   BodyAt : ℕ → Block → (Block → Place) → Place
+  WrittenAt : ℕ → Block → Name → (Block → Place) → Place
   OptionalAt : Sign → ℕ → (Block → Place) → Place
-  ChainsAt : (List ChainTree → Place) → Place
+  PartsAt : List Part → (List Part → Place) → Place
+  DeclarationsAt : List Declaration → (List Declaration → Place) → Place
   HandlersAt : List Handler → (List Handler → Place) → Place
+
+-- where nothing is read yet
+abbrev pub no_parts_yet : (List Part → Place) → Place
+no_parts_yet k = PartsAt [] k
+
+abbrev pub no_declarations_yet : (List Declaration → Place) → Place
+no_declarations_yet k = DeclarationsAt [] k
 
 abbrev pub no_handlers_yet : (List Handler → Place) → Place
 no_handlers_yet k = HandlersAt [] k
@@ -54,21 +84,53 @@ abbrev pub go_or : Bool → Place → Row → Row
 go_or true k row = Go false k
 go_or false k row = row
 
+abbrev pub go_some : {A : Type 0} → Option A → (A → Place) → Row → Row
+go_some None k row = row
+go_some (Some a) k row = Go false (k a)
+
+-- an expression, where so many more signs `(` and `[` may be open, and so many operands stand before it
+abbrev pub product_at : ℕ → ℕ → (Expression → Place) → Place
+product_at room n k = AtomAt room n (λ a. FactorsAt room n a k)
+
+abbrev pub sum_at : ℕ → ℕ → (Expression → Place) → Place
+sum_at room n k = product_at room n (λ p. TermsAt room n p k)
+
+abbrev pub factor_at : ℕ → ℕ → Expression → (Expression → Place) → ProductOperator → Place
+factor_at room n e k op = AtomAt room (operands n e) (λ a. FactorsAt room n (Product op e a) k)
+
+abbrev pub term_at : ℕ → ℕ → Expression → (Expression → Place) → SumOperator → Place
+term_at room n e k op = product_at room (operands n e) (λ p. TermsAt room n (Sum op e p) k)
+
+abbrev pub value_at : (Expression → Place) → Place
+value_at k = sum_at 32 0 k
+
+-- an index of its own, up to its `]`
+abbrev pub index_at : (Expression → Place) → Place
+index_at k = value_at (λ i. SignAt signs.CloseBracket (k i))
+
+-- behind `(`, and behind the `[` of an array
+abbrev pub group_at : ℕ → ℕ → (Expression → Place) → Place
+group_at room n k = sum_at (room - 1) n (λ e. CloseAt (λ p. k (Group e p)))
+
+abbrev pub cell_at : ℕ → ℕ → Name → (Expression → Place) → Place
+cell_at room n x k = sum_at (room - 1) (suc n) (λ i. SignAt signs.CloseBracket (k (Cell x i)))
+
 abbrev pub get_head_at : (GetHead → Place) → Place
 get_head_at k = NameAt (λ x. SignAt signs.Assign (NameAt (λ c. SignAt signs.Dot (NameAt (λ m. SignAt signs.OpenParenthesis (k (record { variable = x; chain = c; map = m })))))))
 
-abbrev pub new_head_at : (NewHead → Place) → Place
-new_head_at k = NameAt (λ x. SignAt signs.Assign (NameAt (λ c. SignAt signs.OpenParenthesis (k (record { variable = x; chain = c })))))
+-- what a `find` and a `new` bind, and in which chain, up to this sign
+abbrev pub entry_head_at : Sign → (EntryHead → Place) → Place
+entry_head_at s k = NameAt (λ x. SignAt signs.Assign (NameAt (λ c. SignAt s (k (record { variable = x; chain = c })))))
 
 abbrev pub values_at : (List Expression → Place) → Place
-values_at k = ValueAt (λ v. MoreAt (v ∷ []) k)
+values_at k = value_at (λ v. MoreAt (v ∷ []) k)
 
-abbrev pub given_one : Name → Expression → Given
-given_one x v = record { name = x; value = v }
+abbrev pub giving : Name → Expression → Given
+giving x v = record { name = x; value = v }
 
 -- a value behind its name
 abbrev pub one_given_at : (Given → Place) → Place
-one_given_at k = NameAt (λ x. SignAt signs.Assign (ValueAt (λ v. k (given_one x v))))
+one_given_at k = NameAt (λ x. SignAt signs.Assign (value_at (λ v. k (giving x v))))
 
 -- one value at least
 abbrev pub some_given_at : (List Given → Place) → Place
@@ -83,41 +145,83 @@ one_label_at k = NameAt (λ x. SignAt signs.Colon (NumberAt (λ n. k (label_one 
 abbrev pub labels_at : (List Label → Place) → Place
 labels_at k = one_label_at (λ l. MoreLabelsAt (l ∷ []) k)
 
--- behind `get`, `new`, `touch`, `forward`, `drop`
-abbrev pub get_at : ℕ → Block → places.Place → (Block → Place) → Place
+abbrev pub numbers_at : (List Literal → Place) → Place
+numbers_at k = NumberAt (λ n. MoreNumbersAt (n ∷ []) k)
+
+-- behind the `=` of contents
+abbrev pub contents_at : (List Literal → Place) → Place
+contents_at k = SignAt signs.OpenBrace (numbers_at (λ ns. SignAt signs.CloseBrace (SignAt signs.Semicolon (k ns))))
+
+-- behind `where`
+abbrev pub guards_at : (Guards → Place) → Place
+guards_at k = SignAt signs.OpenParenthesis (some_given_at (λ gs. CloseAt (λ p. k (Where gs p))))
+
+-- behind `get`, `find`, `new`, `if`, `touch`, `free`, a name, `forward`, `flood`, `drop`
+unfoldable pub get_at : ℕ → Block → places.Place → (Block → Place) → Place
 get_at room b at k = get_head_at (λ h. values_at (λ key. CloseAt (λ close. BlockAt room (λ hit. OptionalAt signs.Else room (λ miss. BodyAt room (Get b at h.variable h.chain h.map key close hit miss) k)))))
 
-abbrev pub new_at : ℕ → Block → places.Place → (Block → Place) → Place
-new_at room b at k = new_head_at (λ h. GivenAt (λ gs. CloseAt (λ close. BlockAt room (λ made. OptionalAt signs.Taken room (λ taken. OptionalAt signs.Full room (λ full. BodyAt room (New b at h.variable h.chain gs close made taken full) k))))))
+unfoldable pub find_at : ℕ → Block → places.Place → (Block → Place) → Place
+find_at room b at k = entry_head_at signs.OpenBracket (λ h. index_at (λ i. WhereAt (λ gs. BlockAt room (λ hit. OptionalAt signs.Else room (λ miss. BodyAt room (Find b at h.variable h.chain i gs hit miss) k)))))
+
+unfoldable pub new_at : ℕ → Block → places.Place → (Block → Place) → Place
+new_at room b at k = entry_head_at signs.OpenParenthesis (λ h. GivenAt (λ gs. CloseAt (λ close. BlockAt room (λ made. OptionalAt signs.Taken room (λ taken. OptionalAt signs.Full room (λ full. BodyAt room (New b at h.variable h.chain gs close made taken full) k))))))
+
+unfoldable pub if_at : ℕ → Block → (Block → Place) → Place
+if_at room b k = value_at (λ l. ComparisonAt (λ c. value_at (λ r. BlockAt room (λ holds. OptionalAt signs.Else room (λ fails. BodyAt room (If b l c r holds fails) k)))))
 
 abbrev pub touch_at : ℕ → Block → (Block → Place) → Place
 touch_at room b k = NameAt (λ x. SignAt signs.Semicolon (BodyAt room (Touch b x) k))
 
-abbrev pub forward_at : Block → (Block → Place) → Place
-forward_at b k = ValueAt (λ v. SignAt signs.Semicolon (SignAt signs.CloseBrace (k (Forward b v))))
+abbrev pub free_at : ℕ → Block → places.Place → (Block → Place) → Place
+free_at room b at k = NameAt (λ x. SignAt signs.Semicolon (BodyAt room (Free b at x) k))
+
+abbrev pub write_at : ℕ → Block → Name → (Block → Place) → Place
+write_at room b x k = NameAt (λ c. SignAt signs.Assign (value_at (λ v. SignAt signs.Semicolon (BodyAt room (Write b x c v) k))))
+
+abbrev pub store_at : ℕ → Block → Name → (Block → Place) → Place
+store_at room b x k = index_at (λ i. SignAt signs.Assign (value_at (λ v. SignAt signs.Semicolon (BodyAt room (Store b x i v) k))))
+
+unfoldable pub forward_at : Block → (Block → Place) → Place
+forward_at b k = value_at (λ v. SignAt signs.Semicolon (SignAt signs.CloseBrace (k (Forward b v))))
+
+abbrev pub flood_at : Block → (Block → Place) → Place
+flood_at b k = SignAt signs.Semicolon (SignAt signs.CloseBrace (k (Flood b)))
 
 abbrev pub discard_at : Block → (Block → Place) → Place
 discard_at b k = SignAt signs.Semicolon (SignAt signs.CloseBrace (k (Discard b)))
 
--- behind `map`: its name and labels, up to its `;`
+-- behind `map`, `fixed`, `free`: up to the `;`
 abbrev pub map_one : places.Place → Name → List Label → places.Place → MapTree
 map_one at x ls close = record { place = at; name = x; labels = ls; close = close }
 
 abbrev pub map_at : places.Place → (MapTree → Place) → Place
 map_at at k = NameAt (λ x. SignAt signs.OpenParenthesis (labels_at (λ ls. CloseAt (λ close. SignAt signs.Semicolon (k (map_one at x ls close))))))
 
--- behind `chain`: its name, its size, its lifetime, and its map
+abbrev pub column_one : ColumnKind → places.Place → Name → Literal → ColumnTree
+column_one kind at x n = record { kind = kind; place = at; name = x; width = n }
+
+abbrev pub column_at : ColumnKind → places.Place → (ColumnTree → Place) → Place
+column_at kind at k = NameAt (λ x. SignAt signs.Colon (NumberAt (λ n. SignAt signs.Semicolon (k (column_one kind at x n)))))
+
+-- behind `chain`
 abbrev pub chain_head_at : (ChainHead → Place) → Place
 chain_head_at k = NameAt (λ x. NumberAt (λ n. SignAt signs.Lifetime (NumberAt (λ life. SignAt signs.OpenBrace (k (record { name = x; size = n; lifetime = life }))))))
 
-abbrev pub chain_one : places.Place → ChainHead → MapTree → ChainTree
-chain_one at h m = record { place = at; name = h.name; size = h.size; lifetime = h.lifetime; map = m }
+abbrev pub chain_one : places.Place → ChainHead → List Part → ChainTree
+chain_one at h ps = record { place = at; name = h.name; size = h.size; lifetime = h.lifetime; parts = ps }
 
 abbrev pub chain_at : places.Place → (ChainTree → Place) → Place
-chain_at at k = chain_head_at (λ h. MapAt (λ p. map_at p (λ m. SignAt signs.CloseBrace (k (chain_one at h m)))))
+chain_at at k = chain_head_at (λ h. PartsAt [] (λ ps. k (chain_one at h ps)))
 
-abbrev pub only_chain_at : places.Place → (List ChainTree → Place) → Place
-only_chain_at at k = chain_at at (λ c. k (c ∷ []))
+-- behind `array`: up to the `;`
+abbrev pub array_head_at : (ArrayHead → Place) → Place
+array_head_at k = NameAt (λ x. NumberAt (λ n. SignAt signs.Colon (NumberAt (λ w. k (record { name = x; size = n; width = w })))))
+
+abbrev pub array_one : places.Place → ArrayHead → List Literal → ArrayTree
+array_one at h ns = record { place = at; name = h.name; size = h.size; width = h.width; contents = ns }
+
+abbrev pub array_at : places.Place → (ArrayTree → Place) → Place
+array_at at k = array_head_at (λ h. ContentsAt (λ ns. k (array_one at h ns)))
 
 -- behind `on`
 abbrev pub handler_one : places.Place → Literal → Block → Handler
@@ -130,40 +234,68 @@ abbrev pub text_head_at : (TextHead → Place) → Place
 text_head_at k = SignAt signs.Nf (NameAt (λ x. SignAt signs.OpenBrace (SignAt signs.Ports (NumberAt (λ n. SignAt signs.Semicolon (k (record { name = x; ports = n })))))))
 
 -- a tree whose end is not said
-abbrev pub tree_one : TextHead → List ChainTree → List Handler → Tree
-tree_one h cs hs = record { name = h.name; ports = h.ports; chains = cs; handlers = hs; end = start }
+abbrev pub tree_one : TextHead → List Declaration → List Handler → Tree
+tree_one h ds hs = record { name = h.name; ports = h.ports; declarations = ds; handlers = hs; end = start }
 
 -- a text, and nothing behind it
 abbrev pub whole : Place
-whole = text_head_at (λ h. ChainsAt (λ cs. HandlersAt [] (λ hs. End (tree_one h cs hs))))
+whole = text_head_at (λ h. DeclarationsAt [] (λ ds. HandlersAt [] (λ hs. End (tree_one h ds hs))))
 
 abbrev pub step : Place → Item → Row
 step (NameAt k) (AName x) = Go false (k x)
 step (NumberAt k) (ANumber n) = Go false (k n)
-step (ValueAt k) (ANumber n) = Go false (k (Number n))
-step (ValueAt k) (AField field at) = Go false (k (Read field at))
 step (SignAt s k) (ASign t) = go_if (nat_eq (number_of t) (number_of s)) k
 step (CloseAt k) (AWord signs.CloseParenthesis at) = Go false (k at)
-step (MapAt k) (AWord signs.Map at) = Go false (k at)
-step (MoreAt vs k) (AJoin signs.Comma) = Go false (ValueAt (λ v. MoreAt (vs ++ v ∷ []) k))
+step (AtomAt room n k) (ANumber l) = Go (nat_le 64 n) (k (Number l))
+step (AtomAt room n k) (AField field at) = Go (nat_le 64 n) (k (Read field at))
+step (AtomAt room n k) (AName x) = Go (nat_le 64 n) (NamedAt room n x k)
+step (AtomAt room n k) (ASign signs.OpenParenthesis) = Go (room == 0) (group_at room n k)
+step (NamedAt room n x k) (ASign signs.Dot) = Go false (ColumnAt x k)
+step (NamedAt room n x k) (ASign signs.OpenBracket) = Go (room == 0) (cell_at room n x k)
+step (ColumnAt x k) (AName c) = Go false (k (Column x c))
+step (ColumnAt x k) (ASign signs.Index) = Go false (k (Index x))
+step (FactorsAt room n e k) (AJoin s) = go_some (product_operator s) (factor_at room n e k) (step (k e) (AJoin s))
+step (FactorsAt room n e k) i = step (k e) i
+step (TermsAt room n e k) (AJoin s) = go_some (sum_operator s) (term_at room n e k) (step (k e) (AJoin s))
+step (TermsAt room n e k) i = step (k e) i
+step (ComparisonAt k) (ASign s) = go_some (comparison_of s) k No
+step (MoreAt vs k) (AJoin signs.Comma) = Go false (value_at (λ v. MoreAt (vs ++ v ∷ []) k))
 step (MoreAt vs k) i = step (k vs) i
-step (GivenAt k) (AName x) = Go false (SignAt signs.Assign (ValueAt (λ v. MoreGivenAt (given_one x v ∷ []) k)))
+step (GivenAt k) (AName x) = Go false (SignAt signs.Assign (value_at (λ v. MoreGivenAt (giving x v ∷ []) k)))
 step (GivenAt k) i = step (k []) i
 step (MoreGivenAt gs k) (AJoin signs.Comma) = Go false (one_given_at (λ g. MoreGivenAt (gs ++ g ∷ []) k))
 step (MoreGivenAt gs k) i = step (k gs) i
 step (MoreLabelsAt ls k) (AJoin signs.Comma) = Go false (one_label_at (λ l. MoreLabelsAt (ls ++ l ∷ []) k))
 step (MoreLabelsAt ls k) i = step (k ls) i
+step (MoreNumbersAt ns k) (AJoin signs.Comma) = Go false (NumberAt (λ n. MoreNumbersAt (ns ++ n ∷ []) k))
+step (MoreNumbersAt ns k) i = step (k ns) i
+step (ContentsAt k) (ASign signs.Assign) = Go false (contents_at k)
+step (ContentsAt k) (ASign signs.Semicolon) = Go false (k [])
+step (WhereAt k) (AJoin signs.Where) = Go false (guards_at k)
+step (WhereAt k) i = step (k Unguarded) i
 step (BlockAt room k) (ASign signs.OpenBrace) = Go (room == 0) (BodyAt (room - 1) Start k)
 step (BodyAt room b k) (AWord signs.Get at) = Go false (get_at room b at k)
+step (BodyAt room b k) (AWord signs.Find at) = Go false (find_at room b at k)
 step (BodyAt room b k) (AWord signs.New at) = Go false (new_at room b at k)
+step (BodyAt room b k) (AWord signs.Free at) = Go false (free_at room b at k)
+step (BodyAt room b k) (ASign signs.If) = Go false (if_at room b k)
 step (BodyAt room b k) (ASign signs.Touch) = Go false (touch_at room b k)
+step (BodyAt room b k) (AName x) = Go false (WrittenAt room b x k)
 step (BodyAt room b k) (ASign signs.Forward) = Go false (forward_at b k)
+step (BodyAt room b k) (ASign signs.Flood) = Go false (flood_at b k)
 step (BodyAt room b k) (ASign signs.Discard) = Go false (discard_at b k)
 step (BodyAt room b k) (ASign signs.CloseBrace) = Go false (k b)
+step (WrittenAt room b x k) (ASign signs.Dot) = Go false (write_at room b x k)
+step (WrittenAt room b x k) (ASign signs.OpenBracket) = Go false (store_at room b x k)
 step (OptionalAt s room k) (AJoin t) = go_or (nat_eq (number_of t) (number_of s)) (BlockAt room k) (step (k Missing) (AJoin t))
 step (OptionalAt s room k) i = step (k Missing) i
-step (ChainsAt k) (AWord signs.Chain at) = Go false (only_chain_at at k)
-step (ChainsAt k) i = step (k []) i
+step (PartsAt ps k) (AWord signs.Map at) = Go false (map_at at (λ m. PartsAt (ps ++ part_of.Map m ∷ []) k))
+step (PartsAt ps k) (AWord signs.Fixed at) = Go false (column_at columns.Fixed at (λ c. PartsAt (ps ++ part_of.Column c ∷ []) k))
+step (PartsAt ps k) (AWord signs.Free at) = Go false (column_at columns.Free at (λ c. PartsAt (ps ++ part_of.Column c ∷ []) k))
+step (PartsAt ps k) (ASign signs.CloseBrace) = Go false (k ps)
+step (DeclarationsAt ds k) (AWord signs.Chain at) = Go false (chain_at at (λ c. DeclarationsAt (ds ++ declared.Chain c ∷ []) k))
+step (DeclarationsAt ds k) (AWord signs.Array at) = Go false (array_at at (λ a. DeclarationsAt (ds ++ declared.Array a ∷ []) k))
+step (DeclarationsAt ds k) i = step (k ds) i
 step (HandlersAt hs k) (AWord signs.On at) = Go false (handler_at at (λ h. HandlersAt (hs ++ h ∷ []) k))
 step (HandlersAt hs k) (ASign signs.CloseBrace) = Go false (k hs)
 step place i = No
@@ -177,12 +309,16 @@ pub data Verdict : Type 0 where
 -- the tree, where no more is needed
 abbrev pub finished : Place → Option Tree
 finished (End t) = Some t
+finished (FactorsAt room n e k) = finished (k e)
+finished (TermsAt room n e k) = finished (k e)
 finished (MoreAt vs k) = finished (k vs)
 finished (GivenAt k) = finished (k [])
 finished (MoreGivenAt gs k) = finished (k gs)
 finished (MoreLabelsAt ls k) = finished (k ls)
+finished (MoreNumbersAt ns k) = finished (k ns)
+finished (WhereAt k) = finished (k Unguarded)
 finished (OptionalAt s room k) = finished (k Missing)
-finished (ChainsAt k) = finished (k [])
+finished (DeclarationsAt ds k) = finished (k ds)
 finished place = None
 
 abbrev pub ended : Option Tree → Verdict

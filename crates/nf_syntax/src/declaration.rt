@@ -1,24 +1,87 @@
-//! Chains, handlers, and a whole text.
+//! Chains and arrays.
 
-ghost use Rattle.std.specs.Prelude.{◌≡◌, map};
-ghost use Rattle.nf_tokens.specs.Tokens.{start};
-ghost use Rattle.nf_tree.specs.View.{handler_of, tree_of};
-ghost use Rattle.nf_syntax.specs.Language.{last_place};
-ghost use Rattle.nf_syntax.specs.Machine.{ChainsAt, chain_head_at, map_at, chain_at, only_chain_at, handler_at, text_head_at, no_handlers_yet};
-ghost use Rattle.nf_syntax.specs.Reads.{Reads, ReadsOn, Answers};
+ghost use Rattle.std.specs.Prelude.{◌≡◌};
+ghost use Rattle.nf_syntax.specs.Machine.{map_at, column_at, chain_head_at, chain_at, array_head_at, array_at, no_parts_yet, no_declarations_yet};
+ghost use Rattle.nf_syntax.specs.Reads.{Reads, ReadsOn};
 
 use crate::fault::{Stop, stuck};
-use crate::head::{ChainHead, TextHead};
-use crate::list::labels;
-use crate::single::{close, map_word, name, number, sign};
-use crate::statement::block;
+use crate::head::{ArrayHead, ChainHead};
+use crate::list::{contents, labels};
+use crate::single::{close, name, number, sign};
 use nf_base::seq::Seq;
 use nf_tokens::{Place, Placed, Sign, Token};
-use nf_tree::{ChainTree, HandlerTree, MapTree, Tree};
+use nf_tree::{ArrayTree, ChainTree, ColumnKind, ColumnTree, Declaration, MapTree, Part};
 use std::alloc::Global;
 
-/// How many blocks may be open.
-const DEEPEST: u32 = 64;
+/// A map behind its word, which stands at `place`.
+fn map(alloc: Global, place: Place, tokens: &[Placed]) -> Result<(MapTree, &[Placed]), Stop>
+    ensures { Reads (λ k. map_at place k) (λ x. x.0) (λ x. x.1.now) result tokens.now }
+{
+    let (name, rest) = name(alloc, tokens)?;
+    let rest = sign(rest, Sign::OpenParenthesis)?;
+    let (labels, rest) = labels(alloc, rest)?;
+    let (close, rest) = close(rest)?;
+    let rest = sign(rest, Sign::Semicolon)?;
+    let map = MapTree {
+        place,
+        name,
+        labels,
+        close,
+    };
+    Ok((map, rest))
+}
+
+/// A column behind its word, which stands at `place`.
+fn column(
+    alloc: Global,
+    kind: ColumnKind,
+    place: Place,
+    tokens: &[Placed],
+) -> Result<(ColumnTree, &[Placed]), Stop>
+    ensures { Reads (λ k. column_at kind place k) (λ x. x.0) (λ x. x.1.now) result tokens.now }
+{
+    let (name, rest) = name(alloc, tokens)?;
+    let rest = sign(rest, Sign::Colon)?;
+    let (width, rest) = number(rest)?;
+    let rest = sign(rest, Sign::Semicolon)?;
+    let column = ColumnTree {
+        kind,
+        place,
+        name,
+        width,
+    };
+    Ok((column, rest))
+}
+
+/// The maps and columns of a chain, up to its `}`.
+fn parts(alloc: Global, tokens: &[Placed]) -> Result<(Seq<Part>, &[Placed]), Stop>
+    ensures { Reads no_parts_yet (λ x. x.0) (λ x. x.1.now) result tokens.now }
+{
+    let mut all = Seq::new(alloc);
+    let mut rest = tokens;
+    'parts: while let [first, after @ ..] = rest {
+        match &first.token {
+            Token::Sign(Sign::Map) => {
+                let (another, behind) = map(alloc, first.place, after)?;
+                all.push(Part::Map(another))?;
+                rest = behind;
+            }
+            Token::Sign(Sign::Fixed) => {
+                let (another, behind) = column(alloc, ColumnKind::Fixed, first.place, after)?;
+                all.push(Part::Column(another))?;
+                rest = behind;
+            }
+            Token::Sign(Sign::Free) => {
+                let (another, behind) = column(alloc, ColumnKind::Free, first.place, after)?;
+                all.push(Part::Column(another))?;
+                rest = behind;
+            }
+            Token::Sign(Sign::CloseBrace) => return Ok((all, after)),
+            _ => return Err(stuck(first)),
+        }
+    }
+    Err(Stop::Short)
+}
 
 /// The name, the size and the lifetime of a chain, up to its `{`.
 fn chain_head(alloc: Global, tokens: &[Placed]) -> Result<(ChainHead, &[Placed]), Stop>
@@ -39,32 +102,12 @@ fn chain_head(alloc: Global, tokens: &[Placed]) -> Result<(ChainHead, &[Placed])
     ))
 }
 
-/// A map behind its word, which stands at `place`.
-fn map(alloc: Global, place: Place, tokens: &[Placed]) -> Result<(MapTree, &[Placed]), Stop>
-    ensures { Reads (λ k. map_at place k) (λ x. x.0) (λ x. x.1.now) result tokens.now }
-{
-    let (name, rest) = name(alloc, tokens)?;
-    let rest = sign(rest, Sign::OpenParenthesis)?;
-    let (labels, rest) = labels(alloc, rest)?;
-    let (close, rest) = close(rest)?;
-    let rest = sign(rest, Sign::Semicolon)?;
-    let map = MapTree {
-        place,
-        name,
-        labels,
-        close,
-    };
-    Ok((map, rest))
-}
-
 /// A chain behind its word, which stands at `place`.
 fn chain(alloc: Global, place: Place, tokens: &[Placed]) -> Result<(ChainTree, &[Placed]), Stop>
     ensures { Reads (λ k. chain_at place k) (λ x. x.0) (λ x. x.1.now) result tokens.now }
 {
     let (head, rest) = chain_head(alloc, tokens)?;
-    let (word, rest) = map_word(rest)?;
-    let (map, rest) = map(alloc, word, rest)?;
-    let rest = sign(rest, Sign::CloseBrace)?;
+    let (parts, rest) = parts(alloc, rest)?;
     let ChainHead {
         name,
         size,
@@ -75,112 +118,59 @@ fn chain(alloc: Global, place: Place, tokens: &[Placed]) -> Result<(ChainTree, &
         name,
         size,
         lifetime,
-        map,
+        parts,
     };
     Ok((chain, rest))
 }
 
-/// The chain alone, as a list.
-fn only_chain(
-    alloc: Global,
-    place: Place,
-    tokens: &[Placed],
-) -> Result<(Seq<ChainTree>, &[Placed]), Stop>
-    ensures { Reads (λ k. only_chain_at place k) (λ x. x.0) (λ x. x.1.now) result tokens.now }
+/// The name, the size and the width of an array.
+fn array_head(alloc: Global, tokens: &[Placed]) -> Result<(ArrayHead, &[Placed]), Stop>
+    ensures { Reads array_head_at (λ x. x.0) (λ x. x.1.now) result tokens.now }
 {
-    let (only, rest) = chain(alloc, place, tokens)?;
-    let mut all = Seq::new(alloc);
-    all.push(only)?;
-    Ok((all, rest))
+    let (name, rest) = name(alloc, tokens)?;
+    let (size, rest) = number(rest)?;
+    let rest = sign(rest, Sign::Colon)?;
+    let (width, rest) = number(rest)?;
+    Ok((ArrayHead { name, size, width }, rest))
 }
 
-/// The chains, of which there is at most one.
-fn chains(alloc: Global, tokens: &[Placed]) -> Result<(Seq<ChainTree>, &[Placed]), Stop>
-    ensures { ReadsOn ChainsAt (λ x. x.0) (λ x. x.1.now) result tokens.now }
+/// An array behind its word, which stands at `place`.
+fn array(alloc: Global, place: Place, tokens: &[Placed]) -> Result<(ArrayTree, &[Placed]), Stop>
+    ensures { Reads (λ k. array_at place k) (λ x. x.0) (λ x. x.1.now) result tokens.now }
 {
-    match tokens {
-        [first, rest @ ..] => match &first.token {
-            Token::Sign(Sign::Chain) => {
-                let (all, behind) = only_chain(alloc, first.place, rest)?;
-                Ok((all, behind))
-            }
-            _ => Ok((Seq::new(alloc), tokens)),
-        },
-        [] => Ok((Seq::new(alloc), tokens)),
-    }
+    let (head, rest) = array_head(alloc, tokens)?;
+    let (contents, rest) = contents(alloc, rest)?;
+    let ArrayHead { name, size, width } = head;
+    let array = ArrayTree {
+        place,
+        name,
+        size,
+        width,
+        contents,
+    };
+    Ok((array, rest))
 }
 
-/// A handler behind its word, which stands at `place`.
-fn handler(alloc: Global, place: Place, tokens: &[Placed]) -> Result<(HandlerTree, &[Placed]), Stop>
-    ensures { Reads (λ k. handler_at place k) (λ x. handler_of x.0) (λ x. x.1.now) result tokens.now }
-{
-    let (port, rest) = number(tokens)?;
-    let (block, rest) = block(alloc, rest, DEEPEST)?;
-    let handler = HandlerTree { place, port, block };
-    Ok((handler, rest))
-}
-
-/// The handlers up to the `}` of the text.
-fn handlers(alloc: Global, tokens: &[Placed]) -> Result<(Seq<HandlerTree>, &[Placed]), Stop>
-    ensures { Reads no_handlers_yet (λ x. map handler_of x.0) (λ x. x.1.now) result tokens.now }
+/// The chains and arrays in front of the handlers.
+pub fn declarations(alloc: Global, tokens: &[Placed]) -> Result<(Seq<Declaration>, &[Placed]), Stop>
+    ensures { ReadsOn no_declarations_yet (λ x. x.0) (λ x. x.1.now) result tokens.now }
 {
     let mut all = Seq::new(alloc);
     let mut rest = tokens;
-    'handlers: while let [first, after @ ..] = rest {
+    'declarations: while let [first, after @ ..] = rest {
         match &first.token {
-            Token::Sign(Sign::On) => {
-                let (another, behind) = handler(alloc, first.place, after)?;
-                all.push(another)?;
+            Token::Sign(Sign::Chain) => {
+                let (another, behind) = chain(alloc, first.place, after)?;
+                all.push(Declaration::Chain(another))?;
                 rest = behind;
             }
-            Token::Sign(Sign::CloseBrace) => return Ok((all, after)),
-            _ => return Err(stuck(first)),
+            Token::Sign(Sign::Array) => {
+                let (another, behind) = array(alloc, first.place, after)?;
+                all.push(Declaration::Array(another))?;
+                rest = behind;
+            }
+            _ => return Ok((all, rest)),
         }
     }
-    Err(Stop::Short)
-}
-
-/// The name and the ports of a function.
-fn text_head(alloc: Global, tokens: &[Placed]) -> Result<(TextHead, &[Placed]), Stop>
-    ensures { Reads text_head_at (λ x. x.0) (λ x. x.1.now) result tokens.now }
-{
-    let rest = sign(tokens, Sign::Nf)?;
-    let (name, rest) = name(alloc, rest)?;
-    let rest = sign(rest, Sign::OpenBrace)?;
-    let rest = sign(rest, Sign::Ports)?;
-    let (ports, rest) = number(rest)?;
-    let rest = sign(rest, Sign::Semicolon)?;
-    Ok((TextHead { name, ports }, rest))
-}
-
-/// Where the last token stands.
-fn last_place(tokens: &[Placed]) -> Place
-    ensures { result ≡ last_place start tokens.now }
-{
-    let mut place = Place { line: 1, column: 1 };
-    for token in tokens {
-        place = token.place;
-    }
-    place
-}
-
-/// The tree that all the tokens spell.
-pub fn whole(alloc: Global, tokens: &[Placed]) -> Result<Tree, Stop>
-    ensures exact { Answers tree_of result tokens.now }
-{
-    let (head, rest) = text_head(alloc, tokens)?;
-    let (chains, rest) = chains(alloc, rest)?;
-    let (handlers, rest) = handlers(alloc, rest)?;
-    let TextHead { name, ports } = head;
-    let tree = Tree {
-        name,
-        ports,
-        chains,
-        handlers,
-        end: last_place(tokens),
-    };
-    match rest {
-        [] => Ok(tree),
-        [first, ..] => Err(stuck(first)),
-    }
+    Ok((all, rest))
 }

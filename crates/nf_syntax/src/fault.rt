@@ -23,8 +23,8 @@ pub enum SyntaxKind {
     /// The text ends where more is needed; just past its last byte.
     #[error("S4")]
     End,
-    /// A limit is passed: by a text over 1,048,576 bytes (the place is 1:1), by a name over 32 bytes, or by
-    /// the `{` of a 65th open block.
+    /// A limit is passed: by a text over 1,048,576 bytes (the place is 1:1), by a name over 32 bytes, by the
+    /// `{` of a 65th open block, by the 33rd open `(` or `[` of an expression, or by its 65th operand.
     #[error("S5")]
     Limit,
 }

@@ -10,9 +10,9 @@ pub struct GetHead {
     pub map: Name,
 }
 
-/// What a `new` binds, and in which chain.
+/// What a `find` or a `new` binds, and in which chain.
 #[derive(Drop)]
-pub struct NewHead {
+pub struct EntryHead {
     pub variable: Name,
     pub chain: Name,
 }
@@ -23,6 +23,14 @@ pub struct ChainHead {
     pub name: Name,
     pub size: Literal,
     pub lifetime: Literal,
+}
+
+/// An array's name, size and width in bits.
+#[derive(Drop)]
+pub struct ArrayHead {
+    pub name: Name,
+    pub size: Literal,
+    pub width: Literal,
 }
 
 /// A function's name and number of ports.

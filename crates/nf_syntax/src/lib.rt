@@ -1,8 +1,11 @@
 //! The syntax tree of a network function, read from its text.
 #![tactic(auto)]
 
+mod action;
 mod declaration;
+mod expression;
 mod fault;
+mod function;
 mod head;
 mod list;
 mod single;
@@ -10,7 +13,9 @@ mod statement;
 mod text;
 
 pub use fault::{ParseFault, SyntaxKind};
-pub use text::{one_mark, parse};
+pub use text::{one_fault, one_mark, parse};
 
+#[cfg(test)]
+mod fault_tests;
 #[cfg(test)]
 mod tests;

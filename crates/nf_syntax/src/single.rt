@@ -1,16 +1,15 @@
-//! One token, or a few in a row.
+//! One token.
 
 ghost use Rattle.std.specs.Prelude.{◌≡◌, IfOk};
-ghost use Rattle.nf_tree.specs.View.{expression_of, given_of};
-ghost use Rattle.nf_syntax.specs.Items.{class_of, Plain};
-ghost use Rattle.nf_syntax.specs.Machine.{NameAt, NumberAt, ValueAt, SignAt, CloseAt, MapAt, get_head_at, new_head_at, one_given_at, one_label_at};
-ghost use Rattle.nf_syntax.specs.Reads.{Reads, Passes};
+ghost use Rattle.nf_syntax.specs.Items.{class_of, Plain, named};
+ghost use Rattle.nf_syntax.specs.Machine.{NameAt, NumberAt, SignAt, CloseAt, ComparisonAt};
+ghost use Rattle.nf_syntax.specs.Reads.{Reads, Passes, PassesComma, PassesFactor, PassesTerm};
 
 use crate::fault::{Stop, stuck};
-use crate::head::{GetHead, NewHead};
+use nf_base::expr::Comparison;
 use nf_base::seq::Seq;
 use nf_tokens::{Place, Placed, Sign, Token};
-use nf_tree::{Expr, Given, Label, Literal, Name};
+use nf_tree::{Literal, Name, ProductOperator, SumOperator};
 use std::alloc::{AllocError, Global};
 
 fn copied(alloc: Global, name: &Seq<u8>) -> Result<Seq<u8>, AllocError>
@@ -20,6 +19,14 @@ fn copied(alloc: Global, name: &Seq<u8>) -> Result<Seq<u8>, AllocError>
     Ok(Seq::from_vec(bytes))
 }
 
+/// A name of these bytes at this place.
+pub fn named(alloc: Global, bytes: &Seq<u8>, place: Place) -> Result<Name, AllocError>
+    ensures { IfOk result (λ name. name ≡ named bytes.now place) }
+{
+    let bytes = copied(alloc, bytes)?;
+    Ok(Name { bytes, place })
+}
+
 pub fn name(alloc: Global, tokens: &[Placed]) -> Result<(Name, &[Placed]), Stop>
     ensures { Reads NameAt (λ x. x.0) (λ x. x.1.now) result tokens.now }
 {
@@ -27,11 +34,7 @@ pub fn name(alloc: Global, tokens: &[Placed]) -> Result<(Name, &[Placed]), Stop>
         [] => Err(Stop::Short),
         [first, rest @ ..] => match &first.token {
             Token::Name(found) => {
-                let bytes = copied(alloc, found)?;
-                let name = Name {
-                    bytes,
-                    place: first.place,
-                };
+                let name = named(alloc, found, first.place)?;
                 Ok((name, rest))
             }
             _ => Err(stuck(first)),
@@ -51,31 +54,6 @@ pub fn number(tokens: &[Placed]) -> Result<(Literal, &[Placed]), Stop>
                     place: first.place,
                 };
                 Ok((number, rest))
-            }
-            _ => Err(stuck(first)),
-        },
-    }
-}
-
-pub fn value(tokens: &[Placed]) -> Result<(Expr, &[Placed]), Stop>
-    ensures { Reads ValueAt (λ x. expression_of x.0) (λ x. x.1.now) result tokens.now }
-{
-    match tokens {
-        [] => Err(Stop::Short),
-        [first, rest @ ..] => match &first.token {
-            Token::Number(found) => {
-                let number = Literal {
-                    value: *found,
-                    place: first.place,
-                };
-                Ok((Expr::Number(number), rest))
-            }
-            Token::Field(found) => {
-                let read = Expr::Field {
-                    field: *found,
-                    place: first.place,
-                };
-                Ok((read, rest))
             }
             _ => Err(stuck(first)),
         },
@@ -115,66 +93,63 @@ pub fn close(tokens: &[Placed]) -> Result<(Place, &[Placed]), Stop>
     }
 }
 
-/// The place of the word `map`.
-pub fn map_word(tokens: &[Placed]) -> Result<(Place, &[Placed]), Stop>
-    ensures { Reads MapAt (λ x. x.0) (λ x. x.1.now) result tokens.now }
+/// How two values are compared.
+pub fn comparison(tokens: &[Placed]) -> Result<(Comparison, &[Placed]), Stop>
+    ensures { Reads ComparisonAt (λ x. x.0) (λ x. x.1.now) result tokens.now }
 {
     match tokens {
         [] => Err(Stop::Short),
         [first, rest @ ..] => match &first.token {
-            Token::Sign(Sign::Map) => Ok((first.place, rest)),
+            Token::Sign(Sign::Equal) => Ok((Comparison::Equal, rest)),
+            Token::Sign(Sign::NotEqual) => Ok((Comparison::NotEqual, rest)),
+            Token::Sign(Sign::Less) => Ok((Comparison::Less, rest)),
+            Token::Sign(Sign::LessOrEqual) => Ok((Comparison::LessOrEqual, rest)),
+            Token::Sign(Sign::Greater) => Ok((Comparison::Greater, rest)),
+            Token::Sign(Sign::GreaterOrEqual) => Ok((Comparison::GreaterOrEqual, rest)),
             _ => Err(stuck(first)),
         },
     }
 }
 
-/// The names and signs of a `get` up to its `(`.
-pub fn get_head(alloc: Global, tokens: &[Placed]) -> Result<(GetHead, &[Placed]), Stop>
-    ensures { Reads get_head_at (λ x. x.0) (λ x. x.1.now) result tokens.now }
+/// What stands behind a comma, if one stands at the front.
+pub fn comma(tokens: &[Placed]) -> Option<&[Placed]>
+    ensures { PassesComma (λ x. x.now) result tokens.now }
 {
-    let (variable, rest) = name(alloc, tokens)?;
-    let rest = sign(rest, Sign::Assign)?;
-    let (chain, rest) = name(alloc, rest)?;
-    let rest = sign(rest, Sign::Dot)?;
-    let (map, rest) = name(alloc, rest)?;
-    let rest = sign(rest, Sign::OpenParenthesis)?;
-    Ok((
-        GetHead {
-            variable,
-            chain,
-            map,
+    match tokens {
+        [first, rest @ ..] => match &first.token {
+            Token::Sign(Sign::Comma) => Some(rest),
+            _ => None,
         },
-        rest,
-    ))
+        [] => None,
+    }
 }
 
-/// The names and signs of a `new` up to its `(`.
-pub fn new_head(alloc: Global, tokens: &[Placed]) -> Result<(NewHead, &[Placed]), Stop>
-    ensures { Reads new_head_at (λ x. x.0) (λ x. x.1.now) result tokens.now }
+/// The operator of a product and what stands behind it, if one stands at the front.
+pub fn factor(tokens: &[Placed]) -> Option<(ProductOperator, &[Placed])>
+    ensures { PassesFactor (λ x. x.0) (λ x. x.1.now) result tokens.now }
 {
-    let (variable, rest) = name(alloc, tokens)?;
-    let rest = sign(rest, Sign::Assign)?;
-    let (chain, rest) = name(alloc, rest)?;
-    let rest = sign(rest, Sign::OpenParenthesis)?;
-    Ok((NewHead { variable, chain }, rest))
+    match tokens {
+        [first, rest @ ..] => match &first.token {
+            Token::Sign(Sign::Times) => Some((ProductOperator::Times, rest)),
+            Token::Sign(Sign::Over) => Some((ProductOperator::Over, rest)),
+            Token::Sign(Sign::Modulo) => Some((ProductOperator::Modulo, rest)),
+            Token::Sign(Sign::And) => Some((ProductOperator::And, rest)),
+            _ => None,
+        },
+        [] => None,
+    }
 }
 
-/// A value behind its name.
-pub fn one_given(alloc: Global, tokens: &[Placed]) -> Result<(Given, &[Placed]), Stop>
-    ensures { Reads one_given_at (λ x. given_of x.0) (λ x. x.1.now) result tokens.now }
+/// The operator of a sum and what stands behind it, if one stands at the front.
+pub fn term(tokens: &[Placed]) -> Option<(SumOperator, &[Placed])>
+    ensures { PassesTerm (λ x. x.0) (λ x. x.1.now) result tokens.now }
 {
-    let (name, rest) = name(alloc, tokens)?;
-    let rest = sign(rest, Sign::Assign)?;
-    let (value, rest) = value(rest)?;
-    Ok((Given { name, value }, rest))
-}
-
-/// A label with its width.
-pub fn one_label(alloc: Global, tokens: &[Placed]) -> Result<(Label, &[Placed]), Stop>
-    ensures { Reads one_label_at (λ x. x.0) (λ x. x.1.now) result tokens.now }
-{
-    let (name, rest) = name(alloc, tokens)?;
-    let rest = sign(rest, Sign::Colon)?;
-    let (width, rest) = number(rest)?;
-    Ok((Label { name, width }, rest))
+    match tokens {
+        [first, rest @ ..] => match &first.token {
+            Token::Sign(Sign::Plus) => Some((SumOperator::Plus, rest)),
+            Token::Sign(Sign::Minus) => Some((SumOperator::Minus, rest)),
+            _ => None,
+        },
+        [] => None,
+    }
 }

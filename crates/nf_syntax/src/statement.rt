@@ -1,66 +1,61 @@
-//! Blocks and their statements.
+//! Blocks and the statements that hold blocks.
 
 ghost use Rattle.std.specs.Prelude.{◌≡◌};
 ghost use Rattle.nf_tree.specs.Tree.{Start};
 ghost use Rattle.nf_tree.specs.View.{block_of};
-ghost use Rattle.nf_syntax.specs.Items.{class_of, Joins};
-ghost use Rattle.nf_syntax.specs.Machine.{BlockAt, BodyAt, OptionalAt, get_at, new_at, touch_at, forward_at, discard_at};
+ghost use Rattle.nf_syntax.specs.Items.{class_of, Plain, Joins};
+ghost use Rattle.nf_syntax.specs.Machine.{BlockAt, BodyAt, OptionalAt, get_head_at, entry_head_at, get_at, find_at, new_at, if_at};
 ghost use Rattle.nf_syntax.specs.Reads.{Reads, ReadsOn, Extends};
 
+use crate::action::{discard, flood, forward, free, touch, written};
+use crate::expression::{index, value};
 use crate::fault::{Stop, stuck};
-use crate::head::{GetHead, NewHead};
-use crate::list::{given, key};
-use crate::single::{close, get_head, name, new_head, sign, value};
+use crate::head::{EntryHead, GetHead};
+use crate::list::{given, guards, key};
+use crate::single::{close, comparison, name, named, sign};
 use nf_tokens::{Place, Placed, Sign, Token};
 use nf_tree::Block;
 use std::alloc::Global;
 
-/// The body with a `touch` behind it.
-fn touch(
-    alloc: Global,
-    before: Block,
-    tokens: &[Placed],
-    room: u32,
-) -> Result<(Block, &[Placed]), Stop>
-    ensures { Extends room (λ k. touch_at room (block_of before) k) (λ x. block_of x.0) (λ x. x.1.now) result tokens.now }
+/// The names and signs of a `get` up to its `(`.
+fn get_head(alloc: Global, tokens: &[Placed]) -> Result<(GetHead, &[Placed]), Stop>
+    ensures { Reads get_head_at (λ x. x.0) (λ x. x.1.now) result tokens.now }
 {
     let (variable, rest) = name(alloc, tokens)?;
-    let rest = sign(rest, Sign::Semicolon)?;
-    let block = Block::Touch {
-        before: Box::new(alloc, before)?,
-        variable,
-    };
-    Ok((block, rest))
+    let rest = sign(rest, Sign::Assign)?;
+    let (chain, rest) = name(alloc, rest)?;
+    let rest = sign(rest, Sign::Dot)?;
+    let (map, rest) = name(alloc, rest)?;
+    let rest = sign(rest, Sign::OpenParenthesis)?;
+    Ok((
+        GetHead {
+            variable,
+            chain,
+            map,
+        },
+        rest,
+    ))
 }
 
-/// The body that ends with a `forward`.
-fn forward(alloc: Global, before: Block, tokens: &[Placed]) -> Result<(Block, &[Placed]), Stop>
-    ensures { Reads (λ k. forward_at (block_of before) k) (λ x. block_of x.0) (λ x. x.1.now) result tokens.now }
+/// The names and signs of a `find` or a `new` up to the sign that opens what follows.
+fn entry_head(
+    alloc: Global,
+    tokens: &[Placed],
+    opening: Sign,
+) -> Result<(EntryHead, &[Placed]), Stop>
+    requires { class_of opening ≡ Plain }
+    ensures { Reads (λ k. entry_head_at opening k) (λ x. x.0) (λ x. x.1.now) result tokens.now }
 {
-    let (port, rest) = value(tokens)?;
-    let rest = sign(rest, Sign::Semicolon)?;
-    let rest = sign(rest, Sign::CloseBrace)?;
-    let block = Block::Forward {
-        before: Box::new(alloc, before)?,
-        port,
-    };
-    Ok((block, rest))
-}
-
-/// The body that ends with a `drop`.
-fn discard(alloc: Global, before: Block, tokens: &[Placed]) -> Result<(Block, &[Placed]), Stop>
-    ensures { Reads (λ k. discard_at (block_of before) k) (λ x. block_of x.0) (λ x. x.1.now) result tokens.now }
-{
-    let rest = sign(tokens, Sign::Semicolon)?;
-    let rest = sign(rest, Sign::CloseBrace)?;
-    let block = Block::Discard {
-        before: Box::new(alloc, before)?,
-    };
-    Ok((block, rest))
+    let (variable, rest) = name(alloc, tokens)?;
+    let rest = sign(rest, Sign::Assign)?;
+    let (chain, rest) = name(alloc, rest)?;
+    let rest = sign(rest, opening)?;
+    Ok((EntryHead { variable, chain }, rest))
 }
 
 /// The body with a `get` behind it.
 #[cycle(blocks)]
+#[tactic(auto, unfolding(crate::specs::Machine::get_at))]
 fn get(
     alloc: Global,
     before: Block,
@@ -94,8 +89,67 @@ fn get(
     Ok((block, rest))
 }
 
+/// The body with a `find` behind it.
+#[cycle(blocks)]
+#[tactic(auto, unfolding(crate::specs::Machine::find_at))]
+fn find(
+    alloc: Global,
+    before: Block,
+    place: Place,
+    tokens: &[Placed],
+    room: u32,
+) -> Result<(Block, &[Placed]), Stop>
+    ensures { Extends room (λ k. find_at room (block_of before) place k) (λ x. block_of x.0) (λ x. x.1.now) result tokens.now }
+{
+    let (head, rest) = entry_head(alloc, tokens, Sign::OpenBracket)?;
+    let (index, rest) = index(alloc, rest)?;
+    let (guards, rest) = guards(alloc, rest)?;
+    let (hit, rest) = block(alloc, rest, room)?;
+    let (miss, rest) = optional(alloc, rest, Sign::Else, room)?;
+    let EntryHead { variable, chain } = head;
+    let block = Block::Find {
+        before: Box::new(alloc, before)?,
+        place,
+        variable,
+        chain,
+        index,
+        guards,
+        hit: Box::new(alloc, hit)?,
+        miss: Box::new(alloc, miss)?,
+    };
+    Ok((block, rest))
+}
+
+/// The body with an `if` behind it.
+#[cycle(blocks)]
+#[tactic(auto, unfolding(crate::specs::Machine::if_at))]
+fn condition(
+    alloc: Global,
+    before: Block,
+    tokens: &[Placed],
+    room: u32,
+) -> Result<(Block, &[Placed]), Stop>
+    ensures { Extends room (λ k. if_at room (block_of before) k) (λ x. block_of x.0) (λ x. x.1.now) result tokens.now }
+{
+    let (left, rest) = value(alloc, tokens)?;
+    let (comparison, rest) = comparison(rest)?;
+    let (right, rest) = value(alloc, rest)?;
+    let (holds, rest) = block(alloc, rest, room)?;
+    let (fails, rest) = optional(alloc, rest, Sign::Else, room)?;
+    let block = Block::If {
+        before: Box::new(alloc, before)?,
+        left,
+        comparison,
+        right,
+        holds: Box::new(alloc, holds)?,
+        fails: Box::new(alloc, fails)?,
+    };
+    Ok((block, rest))
+}
+
 /// The body with a `new` behind it.
 #[cycle(blocks)]
+#[tactic(auto, unfolding(crate::specs::Machine::new_at))]
 fn new(
     alloc: Global,
     before: Block,
@@ -105,13 +159,13 @@ fn new(
 ) -> Result<(Block, &[Placed]), Stop>
     ensures { Extends room (λ k. new_at room (block_of before) place k) (λ x. block_of x.0) (λ x. x.1.now) result tokens.now }
 {
-    let (head, rest) = new_head(alloc, tokens)?;
+    let (head, rest) = entry_head(alloc, tokens, Sign::OpenParenthesis)?;
     let (given, rest) = given(alloc, rest)?;
     let (close, rest) = close(rest)?;
     let (made, rest) = block(alloc, rest, room)?;
     let (taken, rest) = optional(alloc, rest, Sign::Taken, room)?;
     let (full, rest) = optional(alloc, rest, Sign::Full, room)?;
-    let NewHead { variable, chain } = head;
+    let EntryHead { variable, chain } = head;
     let block = Block::New {
         before: Box::new(alloc, before)?,
         place,
@@ -185,8 +239,18 @@ fn body(alloc: Global, tokens: &[Placed], room: u32) -> Result<(Block, &[Placed]
                 block = longer;
                 rest = behind;
             }
+            Token::Sign(Sign::Find) => {
+                let (longer, behind) = find(alloc, block, first.place, after, room)?;
+                block = longer;
+                rest = behind;
+            }
             Token::Sign(Sign::New) => {
                 let (longer, behind) = new(alloc, block, first.place, after, room)?;
+                block = longer;
+                rest = behind;
+            }
+            Token::Sign(Sign::If) => {
+                let (longer, behind) = condition(alloc, block, after, room)?;
                 block = longer;
                 rest = behind;
             }
@@ -195,7 +259,19 @@ fn body(alloc: Global, tokens: &[Placed], room: u32) -> Result<(Block, &[Placed]
                 block = longer;
                 rest = behind;
             }
+            Token::Sign(Sign::Free) => {
+                let (longer, behind) = free(alloc, block, first.place, after, room)?;
+                block = longer;
+                rest = behind;
+            }
+            Token::Name(found) => {
+                let name = named(alloc, found, first.place)?;
+                let (longer, behind) = written(alloc, block, name, after, room)?;
+                block = longer;
+                rest = behind;
+            }
             Token::Sign(Sign::Forward) => return forward(alloc, block, after),
+            Token::Sign(Sign::Flood) => return flood(alloc, block, after),
             Token::Sign(Sign::Discard) => return discard(alloc, block, after),
             Token::Sign(Sign::CloseBrace) => return Ok((block, after)),
             _ => return Err(stuck(first)),

@@ -1,21 +1,9 @@
 use super::*;
+use crate::fault_tests::is_fault;
 use nf_tokens::Place;
-use nf_tree::{Block, Expr};
+use nf_tree::{Block, Declaration, Expr, Part};
 use std::alloc::{AllocError, Global};
 use std::test::*;
-
-fn is_fault(alloc: Global, text: &[u8], kind: SyntaxKind, line: u32, column: u32) -> bool {
-    match parse(alloc, text) {
-        Err(
-            ParseFault::Syntax {
-                kind: found,
-                line: l,
-                column: c,
-            },
-        ) => found == kind && l == line && c == column,
-        _ => false,
-    }
-}
 
 fn repeated(
     alloc: Global,
@@ -31,278 +19,6 @@ fn repeated(
     }
     text.extend_from_slice(end)?;
     Ok(text)
-}
-
-#[test]
-fn bytes_that_begin_no_token(rt: HostRuntime) {
-    let faults: [(&[u8], u32, u32); 10] = [
-        (b"\xef\xbb\xbfnf x { ports 1; }".as_slice(), 1, 1),
-        (b"nf x\0 { ports 1; }".as_slice(), 1, 5),
-        (b"nf x { ports 1; ! }".as_slice(), 1, 17),
-        (b"nf x {\t\r\r$".as_slice(), 1, 10),
-        (b"nf x { ports 1;\x0b}".as_slice(), 1, 16),
-        (b"nf \xc3\xa9 { ports 1; }".as_slice(), 1, 4),
-        (
-            b"nf x { # \xff\0 ! $\n  ports 1;\n  \x80 }".as_slice(),
-            3,
-            3,
-        ),
-        (b"nf x {\r\n  ports 1;\r\n\t\"".as_slice(), 3, 2),
-        (b"nf x { ports 1; on 0 { forward 1!2; } }".as_slice(), 1, 33),
-        (
-            b"nf x { ports 1; on 0 { forward 1 ! = 2; } }".as_slice(),
-            1,
-            34,
-        ),
-    ];
-    for (text, line, column) in faults.iter() {
-        assert!(rt; is_fault(rt.alloc(), text, SyntaxKind::Byte, *line, *column));
-    }
-}
-
-#[test]
-fn numbers_of_no_form(rt: HostRuntime) {
-    let faults: [(&[u8], u32, u32); 16] = [
-        (b"nf x { ports 00; }".as_slice(), 1, 14),
-        (b"nf x { ports 01; }".as_slice(), 1, 14),
-        (b"nf x { ports 5a; }".as_slice(), 1, 14),
-        (b"nf x { ports 1.; }".as_slice(), 1, 14),
-        (b"nf x { ports 1.5; }".as_slice(), 1, 14),
-        (b"nf x { ports 0X1; }".as_slice(), 1, 14),
-        (b"nf x { ports 0xA; }".as_slice(), 1, 14),
-        (b"nf x { ports 0x; }".as_slice(), 1, 14),
-        (b"nf x { ports 0x11111111111111111; }".as_slice(), 1, 14),
-        (b"nf x { ports 1.2.3.256; }".as_slice(), 1, 14),
-        (b"nf x { ports 1.2.3.04; }".as_slice(), 1, 14),
-        (b"nf x { ports 1.2.3.4.5; }".as_slice(), 1, 14),
-        (b"nf x { ports 18446744073709551616; }".as_slice(), 1, 14),
-        (b"nf 5a { ports 1; }".as_slice(), 1, 4),
-        (b"nf x { ports 1; on 0 { drop; 1_ } }".as_slice(), 1, 30),
-        (b"7up".as_slice(), 1, 1),
-    ];
-    for (text, line, column) in faults.iter() {
-        assert!(rt; is_fault(rt.alloc(), text, SyntaxKind::Number, *line, *column));
-    }
-}
-
-#[test]
-fn long_names(rt: HostRuntime) {
-    let faults: [(&[u8], u32, u32); 4] = [
-        (
-            b"nf a23456789012345678901234567890123 { ports 1; }".as_slice(),
-            1,
-            4,
-        ),
-        (
-            b"nf x { ports a23456789012345678901234567890123; }".as_slice(),
-            1,
-            14,
-        ),
-        (
-            b"nf x { ports 1; on 0 { drop; a23456789012345678901234567890123 } }".as_slice(),
-            1,
-            30,
-        ),
-        (
-            b"nf x { ports 1; } a23456789012345678901234567890123".as_slice(),
-            1,
-            19,
-        ),
-    ];
-    for (text, line, column) in faults.iter() {
-        assert!(rt; is_fault(rt.alloc(), text, SyntaxKind::Limit, *line, *column));
-    }
-}
-
-#[test]
-fn tokens_where_none_may_stand(rt: HostRuntime) {
-    let faults: [(&[u8], u32, u32); 16] = [
-        (b"x".as_slice(), 1, 1),
-        (b"nf nf { ports 1; }".as_slice(), 1, 4),
-        (b"nf ttl { ports 1; }".as_slice(), 1, 4),
-        (b"nf x [ ports 1; }".as_slice(), 1, 6),
-        (b"nf x { on 0 { } }".as_slice(), 1, 8),
-        (b"nf x { ports x; }".as_slice(), 1, 14),
-        (b"nf x { ports 1, }".as_slice(), 1, 15),
-        (b"nf x { ports 1; ; }".as_slice(), 1, 17),
-        (b"nf x { ports 1; } nf".as_slice(), 1, 19),
-        (b"nf x { ports 1; }\n}".as_slice(), 2, 1),
-        (
-            b"nf x { ports 1; on 0 { } chain c 1 lifetime 1 { map m(a: 8); } }".as_slice(),
-            1,
-            26,
-        ),
-        (b"nf x { ports 1; on 0 { drop; drop; } }".as_slice(), 1, 30),
-        (
-            b"nf x { ports 1; on 0 { drop; touch e; } }".as_slice(),
-            1,
-            30,
-        ),
-        (b"nf x { ports 1; on 0 { drop } }".as_slice(), 1, 29),
-        (b"nf x { ports 1; on 0 { forward ; } }".as_slice(), 1, 32),
-        (b"nf x { ports 1; on 0 { else { } } }".as_slice(), 1, 24),
-    ];
-    for (text, line, column) in faults.iter() {
-        assert!(rt; is_fault(rt.alloc(), text, SyntaxKind::Token, *line, *column));
-    }
-}
-
-#[test]
-fn tokens_that_no_statement_has(rt: HostRuntime) {
-    let faults: [(&[u8], u32, u32); 16] = [
-        (b"nf x { ports 1; on 0 { touch 7; } }".as_slice(), 1, 30),
-        (b"nf x { ports 1; on 0 { touch e: } }".as_slice(), 1, 31),
-        (
-            b"nf x { ports 1; on 0 { get e = c.touch(1) { } } }".as_slice(),
-            1,
-            34,
-        ),
-        (
-            b"nf x { ports 1; on 0 { get e = c.m() { } } }".as_slice(),
-            1,
-            36,
-        ),
-        (
-            b"nf x { ports 1; on 0 { get e = c.m(src_ip dst_ip) { } } }".as_slice(),
-            1,
-            43,
-        ),
-        (
-            b"nf x { ports 1; on 0 { get e = c.m(1,) { } } }".as_slice(),
-            1,
-            38,
-        ),
-        (
-            b"nf x { ports 1; on 0 { get e == c.m(1) { } } }".as_slice(),
-            1,
-            30,
-        ),
-        (
-            b"nf x { ports 1; on 0 { get e = c.m(1) ; } }".as_slice(),
-            1,
-            39,
-        ),
-        (
-            b"nf x { ports 1; on 0 { new e = c(a = 1,) { } } }".as_slice(),
-            1,
-            40,
-        ),
-        (
-            b"nf x { ports 1; on 0 { new e = c(a : 1) { } } }".as_slice(),
-            1,
-            36,
-        ),
-        (
-            b"nf x { ports 1; on 0 { new e = c(1) { } } }".as_slice(),
-            1,
-            34,
-        ),
-        (
-            b"nf x { ports 1; on 0 { new e = c() { } full { } taken { } } }".as_slice(),
-            1,
-            49,
-        ),
-        (
-            b"nf x { ports 1; on 0 { new e = c() { } else { } } }".as_slice(),
-            1,
-            40,
-        ),
-        (
-            b"nf x { ports 1; on 0 { new e = c() { } taken { } taken { } } }".as_slice(),
-            1,
-            50,
-        ),
-        (
-            b"nf x { y ! 00 a23456789012345678901234567890123".as_slice(),
-            1,
-            8,
-        ),
-        (
-            b"nf x { ports 1; # a comment\n # another\n\tx".as_slice(),
-            3,
-            2,
-        ),
-    ];
-    for (text, line, column) in faults.iter() {
-        assert!(rt; is_fault(rt.alloc(), text, SyntaxKind::Token, *line, *column));
-    }
-}
-
-#[test]
-fn forms_that_are_not_of_the_cut(rt: HostRuntime) {
-    let faults: [(&[u8], u32, u32); 13] = [
-        (
-            b"nf x { ports 1; chain c 1 lifetime 1 { map m(a: 8); } chain d 1 lifetime 1 { map m(a: 8); } }".as_slice(),
-            1,
-            55,
-        ),
-        (
-            b"nf x { ports 1; chain c 1 lifetime 1 { map m(a: 8); map k(a: 8); } }".as_slice(),
-            1,
-            53,
-        ),
-        (
-            b"nf x { ports 1; chain c 1 lifetime 1 { map m(a: 8); fixed f: 8; } }".as_slice(),
-            1,
-            53,
-        ),
-        (
-            b"nf x { ports 1; chain c 1 lifetime 1 { } }".as_slice(),
-            1,
-            40,
-        ),
-        (b"nf x { ports 1; array a 1: 8; }".as_slice(), 1, 17),
-        (b"nf x { ports 1; on 0 { forward (1); } }".as_slice(), 1, 32),
-        (
-            b"nf x { ports 1; on 0 { forward 1 + 2; } }".as_slice(),
-            1,
-            34,
-        ),
-        (b"nf x { ports 1; on 0 { forward y; } }".as_slice(), 1, 32),
-        (b"nf x { ports 1; on 0 { x; } }".as_slice(), 1, 24),
-        (
-            b"nf x { ports 1; on 0 { if 1 == 1 { } } }".as_slice(),
-            1,
-            24,
-        ),
-        (b"nf x { ports 1; on 0 { flood; } }".as_slice(), 1, 24),
-        (b"nf x { ports 1; on 0 { free e; } }".as_slice(), 1, 24),
-        (b"nf x { ports 1; on 0 { set ttl = 1; } }".as_slice(), 1, 24),
-    ];
-    for (text, line, column) in faults.iter() {
-        assert!(rt; is_fault(rt.alloc(), text, SyntaxKind::Token, *line, *column));
-    }
-}
-
-#[test]
-fn texts_that_end_too_early(rt: HostRuntime) {
-    let faults: [(&[u8], u32, u32); 14] = [
-        (b"".as_slice(), 1, 1),
-        (b"\n".as_slice(), 2, 1),
-        (b"\r".as_slice(), 1, 2),
-        (b"\t ".as_slice(), 1, 3),
-        (b"nf".as_slice(), 1, 3),
-        (b"nf x {\n# a comment\n  ".as_slice(), 3, 3),
-        (b"nf x { # a comment".as_slice(), 1, 19),
-        (b"nf x { ports 1; on 0 { drop; }".as_slice(), 1, 31),
-        (b"nf x { ports 1; on 0 { drop; }\n\n".as_slice(), 3, 1),
-        (b"nf x { ports 1; on 0 { get e = c.m(1".as_slice(), 1, 37),
-        (
-            b"nf x { ports 1; on 0 { new e = c(a = 1) { }".as_slice(),
-            1,
-            44,
-        ),
-        (b"nf x { ports 1; on 0 { new e = c(".as_slice(), 1, 34),
-        (b"nf x { ports 1; on 0 { forward 1".as_slice(), 1, 33),
-        (
-            b"nf x { ports 1; chain c 1 lifetime 1 { map m(a: 8".as_slice(),
-            1,
-            50,
-        ),
-    ];
-    for (text, line, column) in faults.iter() {
-        assert!(rt; is_fault(rt.alloc(), text, SyntaxKind::End, *line, *column));
-    }
 }
 
 fn stands(place: Place, line: u32, column: u32) -> bool {
@@ -329,7 +45,7 @@ fn declarations_have_their_places(rt: HostRuntime) {
     assert_eq!(rt; tree.ports.value, 2);
     assert!(rt; stands(tree.ports.place, 2, 7));
     assert!(rt; stands(tree.end, 7, 1));
-    let [chain] = tree.chains.as_slice() else {
+    let [Declaration::Chain(chain)] = tree.declarations.as_slice() else {
         assert!(rt; false);
         return;
     };
@@ -337,10 +53,14 @@ fn declarations_have_their_places(rt: HostRuntime) {
     assert!(rt; stands(chain.name.place, 3, 7));
     assert!(rt; stands(chain.size.place, 3, 13));
     assert!(rt; stands(chain.lifetime.place, 3, 24));
-    assert!(rt; stands(chain.map.place, 3, 29));
-    assert!(rt; stands(chain.map.name.place, 3, 33));
-    assert!(rt; stands(chain.map.close, 3, 53));
-    let [_, label] = chain.map.labels.as_slice() else {
+    let [Part::Map(map)] = chain.parts.as_slice() else {
+        assert!(rt; false);
+        return;
+    };
+    assert!(rt; stands(map.place, 3, 29));
+    assert!(rt; stands(map.name.place, 3, 33));
+    assert!(rt; stands(map.close, 3, 53));
+    let [_, label] = map.labels.as_slice() else {
         assert!(rt; false);
         return;
     };
@@ -389,6 +109,63 @@ fn statements_have_their_places(rt: HostRuntime) {
     assert!(rt; stands(chain.place, 4, 22));
     assert!(rt; stands(map.place, 4, 28));
     assert!(rt; stands(*close, 4, 45));
+}
+
+#[test]
+fn every_form_is_read(rt: HostRuntime) {
+    let texts: [&[u8]; 3] = [
+        b"nf policer {\n\
+ports 2;\n\
+chain hosts 5 lifetime 10 { map by_dst(d: 32); free used: 64; }\n\
+on 0 { forward 1; }\n\
+on 1 {\n\
+get e = hosts.by_dst(dst_ip) {\n\
+e.used = e.used + length;\n\
+if e.used > 1000 { drop; }\n\
+forward 0;\n\
+} else {\n\
+new f = hosts(d = dst_ip) { f.used = length; forward 0; }\n\
+}\n\
+drop;\n\
+}\n\
+}\n\
+"
+            .as_slice(),
+        b"nf count { ports 1; array hits 65536 : 64; on 0 { hits[dst_port] = hits[dst_port] + 1; forward 0; } }".as_slice(),
+        b"nf all {\n\
+ports 2;\n\
+array seen 4: 8 = { 1, 0x2, 0.0.0.3 };\n\
+chain c 8 lifetime 0 { map m(a: 32, b: 16); map n(a: 32); fixed f: 8; free u: 16; }\n\
+chain empty 1 lifetime 1 { }\n\
+array more 1: 1;\n\
+on 1 {\n\
+find e = c[dst_port - 1024] where (f = 1, a = src_ip & 0xff) { touch e; free e; } else { flood; }\n\
+find g = c[seen[seen[0] * 2 % 3]] { }\n\
+if (1 + 2) * e.index / 3 != e.u { } else { if 1 == 2 { } if 1 < 2 { } if 1 <= 2 { } if 1 > 2 { } if 1 >= 2 { } }\n\
+new h = c(a = 1) { } taken { } full { flood; }\n\
+seen[seen[1]] = seen[2] - 1;\n\
+e.u = ((7));\n\
+forward e.u + 1 - 2;\n\
+}\n\
+}\n\
+"
+            .as_slice(),
+    ];
+    for text in texts.iter() {
+        assert!(rt; parse(rt.alloc(), text).is_ok());
+    }
+}
+
+#[test]
+fn limits_of_an_expression_are_reached(rt: HostRuntime) {
+    let texts: [&[u8]; 3] = [
+        b"nf x { ports 1; on 0 { forward ((((((((((((((((((((((((((((((((1)))))))))))))))))))))))))))))))); } }".as_slice(),
+        b"nf x { ports 1; on 0 { forward a[1]+a[1]+a[1]+a[1]+a[1]+a[1]+a[1]+a[1]+a[1]+a[1]+a[1]+a[1]+a[1]+a[1]+a[1]+a[1]+a[1]+a[1]+a[1]+a[1]+a[1]+a[1]+a[1]+a[1]+a[1]+a[1]+a[1]+a[1]+a[1]+a[1]+a[1]+1*1; } }".as_slice(),
+        b"nf x { ports 1; on 0 { x[x[x[x[x[x[x[x[x[x[x[x[x[x[x[x[x[x[x[x[x[x[x[x[x[x[x[x[x[x[x[x[x[1]]]]]]]]]]]]]]]]]]]]]]]]]]]]]]]]] = ((((((((((((((((((((((((((((((((1)))))))))))))))))))))))))))))))); } }".as_slice(),
+    ];
+    for text in texts.iter() {
+        assert!(rt; parse(rt.alloc(), text).is_ok());
+    }
 }
 
 #[test]

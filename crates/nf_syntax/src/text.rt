@@ -1,13 +1,15 @@
 //! From a text to its tree.
 
-ghost use Rattle.std.specs.Prelude.{◌≡◌, ◌++◌, ◌∷◌, [], List, true, false, IfOk, IfErr};
+ghost use Rattle.std.specs.Prelude.{◌≡◌, ◌++◌, ◌∷◌, [], List, ℕ, true, false, IfOk, IfErr};
+ghost use Rattle.nf_tokens.specs.declared.token.Place.{Place};
 ghost use Rattle.nf_tree.specs.View.{tree_of};
+ghost use Rattle.nf_syntax.specs.declared.fault.SyntaxKind.{SyntaxKind};
 ghost use Rattle.nf_syntax.specs.declared.fault.ParseFault.TheVariants.{Syntax};
 ghost use Rattle.nf_syntax.specs.Items.{Item, Marked};
-ghost use Rattle.nf_syntax.specs.Language.{SyntaxTree, marked, CanGoOn, IsTreeOf, IsTextOf, IsFirstFault, Gives, Finds, Explains};
+ghost use Rattle.nf_syntax.specs.Language.{SyntaxTree, marked, CanGoOn, IsTreeOf, IsTextOf, IsFirstFault, IsFault, Gives, Finds, Explains};
 
-use crate::declaration::whole;
 use crate::fault::{ParseFault, Stop, SyntaxKind};
+use crate::function::whole;
 use nf_tokens::{Place, Placed, end_of, tokens};
 use nf_tree::Tree;
 use std::alloc::Global;
@@ -68,4 +70,11 @@ pub fn parse(alloc: Global, text: &[u8]) -> Result<Tree, ParseFault>
 /// limit that is passed is the first that passes it, and no fault stands before it.
 pub fn one_mark()
     ensures { (front : List Marked) (i : Item) → CanGoOn (front ++ marked i true ∷ []) → CanGoOn (front ++ marked i false ∷ []) → ⊥ }
+{}
+
+/// A law: a text has one fault at most, and none where it has a tree. So what `first` says of a fault
+/// names its kind and its place.
+pub fn one_fault()
+    ensures one { (k l : SyntaxKind) (p q : Place) (text : List ℕ) → IsFault k p text → IsFault l q text → (k ≡ l) × (p ≡ q) }
+    ensures none { (k : SyntaxKind) (p : Place) (text : List ℕ) (tree : SyntaxTree) → IsTextOf text tree → IsFault k p text → ⊥ }
 {}

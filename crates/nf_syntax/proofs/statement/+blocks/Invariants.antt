@@ -10,6 +10,12 @@ decreases-get l = 4 * l.room + 2
 abbrev pub decreases-new : goal.decreases-new
 decreases-new l = 4 * l.room + 2
 
+abbrev pub decreases-find : goal.decreases-find
+decreases-find l = 4 * l.room + 2
+
+abbrev pub decreases-condition : goal.decreases-condition
+decreases-condition l = 4 * l.room + 2
+
 abbrev pub decreases-optional : goal.decreases-optional
 decreases-optional l = 4 * l.room + 1
 

@@ -2,7 +2,7 @@ use Rattle.std.proofs.Common.{◌≡◌, [], ◌≤◌, List, length, map}
 use Rattle.nf_tree.specs.Tree.{Handler}
 use Rattle.nf_tree.specs.View.{handler_of}
 use Rattle.nf_syntax.specs.Machine.{Place, HandlersAt, run}
-use Rattle.nf_syntax.proofs.declaration.handlers.Given as goal
+use Rattle.nf_syntax.proofs.function.handlers.Given as goal
 
 abbrev pub invariant-handlers : goal.invariant-handlers
 invariant-handlers l = record {

@@ -1,0 +1,262 @@
+//! Expressions: sums of products of atoms. An operand is an atom that is no parenthesis; those of an array's
+//! index count in the expression round it.
+
+ghost use Rattle.std.specs.Prelude.{◌≡◌, ◌≤◌, ◌<◌, IfOk};
+ghost use Rattle.nf_tree.specs.View.{expression_of};
+ghost use Rattle.nf_syntax.specs.Machine.{AtomAt, NamedAt, ColumnAt, product_at, sum_at, group_at, cell_at, value_at, index_at};
+ghost use Rattle.nf_syntax.specs.Reads.{Reads, Counts};
+
+use crate::fault::{Stop, stuck};
+use crate::single::{close, factor, named, sign, term};
+use nf_tokens::{Placed, Sign, Token};
+use nf_tree::{Expr, Literal, Name};
+use std::alloc::Global;
+
+/// How many signs `(` and `[` may be open in an expression.
+const DEEPEST: u32 = 32;
+
+/// How many operands an expression may have.
+const MOST: u32 = 64;
+
+/// An expression, and how many operands stand up to its end.
+#[derive(Drop)]
+struct Counted {
+    pub tree: Expr,
+    pub operands: u32,
+}
+
+/// What stands behind the `.` of a variable.
+fn column(
+    alloc: Global,
+    variable: Name,
+    tokens: &[Placed],
+    before: u32,
+) -> Result<(Counted, &[Placed]), Stop>
+    requires { before < 64 }
+    ensures reads { Reads (λ k. ColumnAt variable k) (λ x. expression_of x.0.tree) (λ x. x.1.now) result tokens.now }
+    ensures counts { IfOk result (λ x. Counts before (expression_of x.0.tree) x.0.operands) }
+{
+    let operands = before + 1;
+    match tokens {
+        [] => Err(Stop::Short),
+        [first, rest @ ..] => match &first.token {
+            Token::Name(found) => {
+                let column = named(alloc, found, first.place)?;
+                let tree = Expr::Column { variable, column };
+                Ok((Counted { tree, operands }, rest))
+            }
+            Token::Sign(Sign::Index) => {
+                let tree = Expr::Index { variable };
+                Ok((Counted { tree, operands }, rest))
+            }
+            _ => Err(stuck(first)),
+        },
+    }
+}
+
+/// What stands behind the `[` of an array.
+#[cycle(expressions)]
+fn cell(
+    alloc: Global,
+    array: Name,
+    tokens: &[Placed],
+    room: u32,
+    before: u32,
+) -> Result<(Counted, &[Placed]), Stop>
+    requires room { 1 ≤ room }
+    requires before { before < 64 }
+    ensures reads { Reads (λ k. cell_at room before array k) (λ x. expression_of x.0.tree) (λ x. x.1.now) result tokens.now }
+    ensures counts { IfOk result (λ x. Counts before (expression_of x.0.tree) x.0.operands) }
+{
+    let (index, rest) = sum(alloc, tokens, room - 1, before + 1)?;
+    let rest = sign(rest, Sign::CloseBracket)?;
+    let Counted { tree, operands } = index;
+    let tree = Expr::Cell {
+        array,
+        index: Box::new(alloc, tree)?,
+    };
+    Ok((Counted { tree, operands }, rest))
+}
+
+/// What stands behind a `(`.
+#[cycle(expressions)]
+fn group(
+    alloc: Global,
+    tokens: &[Placed],
+    room: u32,
+    before: u32,
+) -> Result<(Counted, &[Placed]), Stop>
+    requires room { 1 ≤ room }
+    requires before { before ≤ 64 }
+    ensures reads { Reads (λ k. group_at room before k) (λ x. expression_of x.0.tree) (λ x. x.1.now) result tokens.now }
+    ensures counts { IfOk result (λ x. Counts before (expression_of x.0.tree) x.0.operands) }
+{
+    let (inner, rest) = sum(alloc, tokens, room - 1, before)?;
+    let (close, rest) = close(rest)?;
+    let Counted { tree, operands } = inner;
+    let tree = Expr::Group {
+        inner: Box::new(alloc, tree)?,
+        close,
+    };
+    Ok((Counted { tree, operands }, rest))
+}
+
+/// What stands behind the name of a variable or an array.
+#[cycle(expressions)]
+fn behind_name(
+    alloc: Global,
+    name: Name,
+    tokens: &[Placed],
+    room: u32,
+    before: u32,
+) -> Result<(Counted, &[Placed]), Stop>
+    requires { before < 64 }
+    ensures reads { Reads (λ k. NamedAt room before name k) (λ x. expression_of x.0.tree) (λ x. x.1.now) result tokens.now }
+    ensures counts { IfOk result (λ x. Counts before (expression_of x.0.tree) x.0.operands) }
+{
+    match tokens {
+        [] => Err(Stop::Short),
+        [first, rest @ ..] => match &first.token {
+            Token::Sign(Sign::Dot) => column(alloc, name, rest, before),
+            Token::Sign(Sign::OpenBracket) => {
+                if room == 0 {
+                    return Err(Stop::Past(first.place));
+                }
+                cell(alloc, name, rest, room, before)
+            }
+            _ => Err(stuck(first)),
+        },
+    }
+}
+
+/// An operand, at whose first token a limit may be passed.
+#[cycle(expressions)]
+fn atom(
+    alloc: Global,
+    tokens: &[Placed],
+    room: u32,
+    before: u32,
+) -> Result<(Counted, &[Placed]), Stop>
+    requires { before ≤ 64 }
+    ensures reads { Reads (λ k. AtomAt room before k) (λ x. expression_of x.0.tree) (λ x. x.1.now) result tokens.now }
+    ensures counts { IfOk result (λ x. Counts before (expression_of x.0.tree) x.0.operands) }
+{
+    match tokens {
+        [] => Err(Stop::Short),
+        [first, rest @ ..] => match &first.token {
+            Token::Number(found) => {
+                if before >= MOST {
+                    return Err(Stop::Past(first.place));
+                }
+                let tree = Expr::Number(Literal {
+                    value: *found,
+                    place: first.place,
+                });
+                let operands = before + 1;
+                Ok((Counted { tree, operands }, rest))
+            }
+            Token::Field(found) => {
+                if before >= MOST {
+                    return Err(Stop::Past(first.place));
+                }
+                let tree = Expr::Field {
+                    field: *found,
+                    place: first.place,
+                };
+                let operands = before + 1;
+                Ok((Counted { tree, operands }, rest))
+            }
+            Token::Name(found) => {
+                if before >= MOST {
+                    return Err(Stop::Past(first.place));
+                }
+                let name = named(alloc, found, first.place)?;
+                behind_name(alloc, name, rest, room, before)
+            }
+            Token::Sign(Sign::OpenParenthesis) => {
+                if room == 0 {
+                    return Err(Stop::Past(first.place));
+                }
+                group(alloc, rest, room, before)
+            }
+            _ => Err(stuck(first)),
+        },
+    }
+}
+
+#[cycle(expressions)]
+fn product(
+    alloc: Global,
+    tokens: &[Placed],
+    room: u32,
+    before: u32,
+) -> Result<(Counted, &[Placed]), Stop>
+    requires { before ≤ 64 }
+    ensures reads { Reads (λ k. product_at room before k) (λ x. expression_of x.0.tree) (λ x. x.1.now) result tokens.now }
+    ensures counts { IfOk result (λ x. Counts before (expression_of x.0.tree) x.0.operands) }
+{
+    let (first, mut rest) = atom(alloc, tokens, room, before)?;
+    let Counted {
+        tree: mut left,
+        mut operands,
+    } = first;
+    'factors: while let Some((operator, after)) = factor(rest) {
+        let (right, behind) = atom(alloc, after, room, operands)?;
+        left = Expr::Product {
+            operator,
+            left: Box::new(alloc, left)?,
+            right: Box::new(alloc, right.tree)?,
+        };
+        operands = right.operands;
+        rest = behind;
+    }
+    let tree = left;
+    Ok((Counted { tree, operands }, rest))
+}
+
+#[cycle(expressions)]
+fn sum(
+    alloc: Global,
+    tokens: &[Placed],
+    room: u32,
+    before: u32,
+) -> Result<(Counted, &[Placed]), Stop>
+    requires { before ≤ 64 }
+    ensures reads { Reads (λ k. sum_at room before k) (λ x. expression_of x.0.tree) (λ x. x.1.now) result tokens.now }
+    ensures counts { IfOk result (λ x. Counts before (expression_of x.0.tree) x.0.operands) }
+{
+    let (first, mut rest) = product(alloc, tokens, room, before)?;
+    let Counted {
+        tree: mut left,
+        mut operands,
+    } = first;
+    'terms: while let Some((operator, after)) = term(rest) {
+        let (right, behind) = product(alloc, after, room, operands)?;
+        left = Expr::Sum {
+            operator,
+            left: Box::new(alloc, left)?,
+            right: Box::new(alloc, right.tree)?,
+        };
+        operands = right.operands;
+        rest = behind;
+    }
+    let tree = left;
+    Ok((Counted { tree, operands }, rest))
+}
+
+/// An outermost expression.
+pub fn value(alloc: Global, tokens: &[Placed]) -> Result<(Expr, &[Placed]), Stop>
+    ensures { Reads value_at (λ x. expression_of x.0) (λ x. x.1.now) result tokens.now }
+{
+    let (all, rest) = sum(alloc, tokens, DEEPEST, 0)?;
+    Ok((all.tree, rest))
+}
+
+/// An outermost expression, up to the `]` behind it.
+pub fn index(alloc: Global, tokens: &[Placed]) -> Result<(Expr, &[Placed]), Stop>
+    ensures { Reads index_at (λ x. expression_of x.0) (λ x. x.1.now) result tokens.now }
+{
+    let (index, rest) = value(alloc, tokens)?;
+    let rest = sign(rest, Sign::CloseBracket)?;
+    Ok((index, rest))
+}
