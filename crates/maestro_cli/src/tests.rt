@@ -6,6 +6,7 @@ mod faults;
 mod firewall;
 mod forms;
 mod functions;
+mod language;
 mod runs;
 mod texts;
 mod words;

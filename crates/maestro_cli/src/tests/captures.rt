@@ -46,6 +46,32 @@ pub enum Frame {
     Segment,
     /// The same without its last byte.
     ShortSegment,
+    /// A UDP frame of 42 bytes without a UDP checksum.
+    Udp(Udp),
+}
+
+/// The header fields of a UDP frame.
+#[derive(Clone, Copy)]
+pub struct Udp {
+    /// MAC addresses.
+    pub macs: Ends<u64>,
+    /// IP addresses.
+    pub hosts: Ends<u32>,
+    pub ports: Ends<u16>,
+    /// The checksum of the IP header.
+    pub sum: u16,
+}
+
+/// Where a frame comes from and where it goes.
+#[derive(Clone, Copy)]
+pub struct Ends<T> {
+    pub from: T,
+    pub to: T,
+}
+
+/// Two ends.
+pub const fn ends<T>(from: T, to: T) -> Ends<T> {
+    Ends { from, to }
 }
 
 /// A time in nanoseconds, and the frame that came then.
@@ -78,6 +104,26 @@ fn without_last(alloc: Global, bytes: &[u8]) -> Result<Vec<u8>, AllocError> {
     Ok(shorter)
 }
 
+fn push_mac(out: &mut Vec<u8>, mac: u64) -> Result<(), AllocError> {
+    let [_, _, bytes @ ..] = mac.to_be_bytes();
+    out.extend_from_slice(&bytes)
+}
+
+// The frame whose header fields these are (RFC 791, RFC 768).
+fn udp_bytes(alloc: Global, udp: Udp) -> Result<Vec<u8>, AllocError> {
+    let mut out = Vec::new(alloc);
+    push_mac(&mut out, udp.macs.to)?;
+    push_mac(&mut out, udp.macs.from)?;
+    out.extend_from_slice(b"\x08\x00\x45\x00\x00\x1c\x00\x00\x00\x00\x40\x11")?;
+    out.extend_from_slice(&udp.sum.to_be_bytes())?;
+    out.extend_from_slice(&udp.hosts.from.to_be_bytes())?;
+    out.extend_from_slice(&udp.hosts.to.to_be_bytes())?;
+    out.extend_from_slice(&udp.ports.from.to_be_bytes())?;
+    out.extend_from_slice(&udp.ports.to.to_be_bytes())?;
+    out.extend_from_slice(b"\x00\x08\x00\x00")?;
+    Ok(out)
+}
+
 fn frame_bytes(alloc: Global, frame: Frame) -> Result<Vec<u8>, AllocError> {
     match frame {
         Frame::Query => Vec::from_slice(alloc, query()),
@@ -87,6 +133,7 @@ fn frame_bytes(alloc: Global, frame: Frame) -> Result<Vec<u8>, AllocError> {
         Frame::Cut => Vec::from_slice(alloc, query()),
         Frame::Segment => Vec::from_slice(alloc, segment()),
         Frame::ShortSegment => without_last(alloc, segment()),
+        Frame::Udp(udp) => udp_bytes(alloc, udp),
     }
 }
 

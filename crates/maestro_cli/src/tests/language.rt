@@ -1,0 +1,293 @@
+// Functions with several tables, expressions and written state, and what runs of them leave.
+use super::calls::call;
+use super::captures::{Frame, Record, Udp, captures, ends};
+use super::firewall::{RUN_ONE, RUN_TWO, run_two};
+use super::runs::{Ran, wrong_part};
+use crate::Status;
+use std::alloc::{AllocError, Global};
+use std::test::Fail;
+
+const COUNTER: &str = "nf count {\n\
+  ports 1;\n\
+  array hits 65536 : 64;\n\
+  on 0 { hits[dst_port] = hits[dst_port] + 1; forward 0; }\n\
+}\n\
+";
+
+const STOPPING: &str = "nf v { ports 1; on 0 { if 3 - 5 == 0 { if 7 / 0 == 0 { if 7 % 0 == 0 \
+{ forward 0; } } } drop; } }";
+
+// A test for each rule of expressions, which goes on where it holds.
+const ARITHMETIC: &str = "nf v { ports 1; array a 2 : 8 = { 7, 300 }; on 0 {
+    if 0xffffffffffffffff + 1 != 18446744073709551615 { drop; }
+    if 0x100000000 * 0x100000000 != 0xffffffffffffffff { drop; }
+    if 10 - 3 - 4 != 3 { drop; }
+    if 2 + 3 * 4 != 14 { drop; }
+    if (2 + 3) * 4 != 20 { drop; }
+    if 100 / 7 / 2 != 7 { drop; }
+    if 29 % 10 & 5 != 1 { drop; }
+    if a[0] + a[1] != 51 { drop; }
+    if a[2] + a[65536] != 7 { drop; }
+    if a[a[0] - 6] != 44 { drop; }
+    if 1 < 1 { drop; } if 1 > 1 { drop; } if 2 <= 1 { drop; } if 1 >= 2 { drop; }
+    a[65537] = 511; a[2] = 1;
+    forward 0;
+} }";
+
+// An entry that was freed reads 0 and takes nothing more, also through a second variable.
+const FREED: &str = "nf v { ports 1; chain c 1 lifetime 9 { map m(k: 16); fixed x: 8; free y: 8; }
+    array seen 4 : 16; on 0 {
+    new e = c(k = src_port, x = 300) {
+        e.y = 258; seen[0] = e.x * 256 + e.y;
+        find f = c[e.index] where (x = 44, k = src_port) {
+            free f; e.y = 9; touch e; seen[1] = e.y + e.x + e.k + e.index + 1;
+        }
+        get g = c.m(src_port) { seen[2] = 1; } else { seen[2] = 2; }
+        new h = c(k = src_port, x = 1) { seen[3] = h.x; }
+    }
+    flood;
+} }";
+
+const POLICER: &str = "nf policer {\n\
+  ports 2;\n\
+  chain hosts 5 lifetime 10 { map by_dst(d: 32); free used: 64; }\n\
+  on 0 { forward 1; }\n\
+  on 1 {\n\
+    get e = hosts.by_dst(dst_ip) {\n\
+      e.used = e.used + length;\n\
+      if e.used > 1000 { drop; }\n\
+      forward 0;\n\
+    } else {\n\
+      new f = hosts(d = dst_ip) { f.used = length; forward 0; }\n\
+    }\n\
+    drop;\n\
+  }\n\
+}\n\
+";
+
+const BRIDGE: &str = "nf bridge {\n\
+  ports 2;\n\
+  chain macs 4 lifetime 10 { map by_mac(m: 48); free at: 8; }\n\
+  on 0 {\n\
+    get e = macs.by_mac(src_mac) { touch e; e.at = 0; }\n\
+    else { new f = macs(m = src_mac) { f.at = 0; } }\n\
+    get g = macs.by_mac(dst_mac) { forward g.at; }\n\
+    flood;\n\
+  }\n\
+  on 1 {\n\
+    get e = macs.by_mac(src_mac) { touch e; e.at = 1; }\n\
+    else { new f = macs(m = src_mac) { f.at = 1; } }\n\
+    get g = macs.by_mac(dst_mac) { forward g.at; }\n\
+    flood;\n\
+  }\n\
+}\n\
+";
+
+// From 9.9.9.9:1 to 128.0.0.N:2.
+const fn to_host(n: u8) -> Frame {
+    Frame::Udp(Udp {
+        macs: ends(0x0200_0000_0001, 0x0200_0000_0002),
+        hosts: ends(0x0909_0909, 0x8000_0000 + n as u32),
+        ports: ends(1, 2),
+        sum: 0xe8bf - n as u16,
+    })
+}
+
+// From 1.1.1.1:N to 2.2.2.2:80.
+const fn from_port(n: u16) -> Frame {
+    Frame::Udp(Udp {
+        macs: ends(0x0200_0000_0001, 0x0200_0000_0002),
+        hosts: ends(0x0101_0101, 0x0202_0202),
+        ports: ends(n, 80),
+        sum: 0x74cc,
+    })
+}
+
+// From one MAC address to another.
+const fn between(from: u64, to: u64) -> Frame {
+    Frame::Udp(Udp {
+        macs: ends(from, to),
+        hosts: ends(0x0101_0101, 0x0202_0202),
+        ports: ends(1, 2),
+        sum: 0x74cc,
+    })
+}
+
+static RUNS: [Ran; 4] = [
+    Ran {
+        shows: "an array counts by port",
+        line: RUN_ONE,
+        out: "out",
+        text: COUNTER,
+        captures: &[&[(1, from_port(1)), (2, from_port(1))]],
+        said: "ran 2 one 1\n",
+        journal: "maestro journal 1 one 1\n0 0 0 to:0 -\n0 1 0 to:0 -\n",
+        state: "array hits\n80 2\n",
+        outputs: &[&[(1, from_port(1)), (2, from_port(1))]],
+    },
+    Ran {
+        shows: "differences stop at 0, and what is divided by 0 is 0",
+        line: RUN_ONE,
+        out: "out",
+        text: STOPPING,
+        captures: &[&[(1, Frame::Query), (2, Frame::Changed(13, 0x06))]],
+        said: "ran 2 one 1\n",
+        journal: "maestro journal 1 one 1\n0 0 0 to:0 -\n0 1 0 skip -\n",
+        state: "",
+        outputs: &[&[(1, Frame::Query)]],
+    },
+    Ran {
+        shows: "numbers stop at the greatest, and operators bind as written",
+        line: RUN_ONE,
+        out: "out",
+        text: ARITHMETIC,
+        captures: &[&[(1, Frame::Query)]],
+        said: "ran 1 one 1\n",
+        journal: "maestro journal 1 one 1\n0 0 0 to:0 -\n",
+        state: "array a\n1 255\n",
+        outputs: &[&[(1, Frame::Query)]],
+    },
+    Ran {
+        shows: "an entry that was freed is gone",
+        line: RUN_ONE,
+        out: "out",
+        text: FREED,
+        captures: &[&[(1, from_port(5))]],
+        said: "ran 1 one 1\n",
+        journal: "maestro journal 1 one 1\n0 0 0 flood 0,0\n",
+        state: "chain c greatest 1\n0 1 k=5 x=1 y=0\narray seen\n0 11266\n1 1\n2 2\n3 1\n",
+        outputs: &[&[]],
+    },
+];
+
+fn runs() -> &'static [Ran] {
+    &RUNS
+}
+
+#[test]
+fn runs_of_the_whole_language(rt: HostRuntime) -> Result<(), Fail> {
+    for ran in runs() {
+        let wrong = wrong_part(rt.alloc(), ran)?;
+        assert!(rt; wrong.is_empty(), "{}: {wrong}", ran.shows);
+    }
+    Ok(())
+}
+
+const SIX: &[Record] = &[
+    (1, to_host(1)),
+    (2, to_host(2)),
+    (3, to_host(3)),
+    (4, to_host(4)),
+    (5, to_host(5)),
+    (6, to_host(6)),
+];
+
+fn six() -> &'static [&'static [Record]] {
+    &[&[], SIX]
+}
+
+// The journal, its first five choices being left open.
+const SIX_LINES: &[u8] = b"maestro journal 1 one 1\n1 0 0 to:0 ?\n1 1 0 to:0 ?\n1 2 0 to:0 ?\n\
+1 3 0 to:0 ?\n1 4 0 to:0 ?\n1 5 0 drop -\n";
+
+fn six_lines() -> &'static [u8] {
+    SIX_LINES
+}
+
+// Where the choice of a line stands.
+const CHOICES: [usize; 5] = [35, 48, 61, 74, 87];
+
+fn choice_places() -> &'static [usize] {
+    &CHOICES
+}
+
+// Takes the choices out of a journal.
+fn taken_choices(alloc: Global, journal: &mut Vec<u8>) -> Result<Vec<u8>, AllocError> {
+    let mut choices = Vec::new(alloc);
+    for at in choice_places() {
+        if let Some(place) = journal.as_mut_slice().get_mut(*at) {
+            choices.push(*place)?;
+            *place = b'?';
+        }
+    }
+    Ok(choices)
+}
+
+fn has_each_digit(choices: &[u8]) -> bool {
+    choices.contains(&b'0')
+        && choices.contains(&b'1')
+        && choices.contains(&b'2')
+        && choices.contains(&b'3')
+        && choices.contains(&b'4')
+}
+
+fn are_six_lines(alloc: Global, journal: Option<Vec<u8>>) -> Result<bool, AllocError> {
+    let Some(mut journal) = journal else {
+        return Ok(false);
+    };
+    let choices = taken_choices(alloc, &mut journal)?;
+    Ok(has_each_digit(choices.as_slice()) && journal.as_slice() == six_lines())
+}
+
+fn policer() -> &'static [u8] {
+    POLICER.as_bytes()
+}
+
+fn policer_fills(alloc: Global) -> Result<bool, AllocError> {
+    let captures = captures(alloc, six())?;
+    let got = call(alloc, run_two(), "out", policer(), captures.as_slice(), &[])?;
+    Ok(got.status == Status::Done && are_six_lines(alloc, got.journal)?)
+}
+
+#[test]
+fn a_chain_gives_each_index_once(rt: HostRuntime) -> Result<(), Fail> {
+    let met = policer_fills(rt.alloc())?;
+    assert!(rt; met);
+    Ok(())
+}
+
+// Which free index an entry gets is left open.
+static RISING: Ran = Ran {
+    shows: "the first entry has the first index",
+    line: RUN_TWO,
+    out: "out",
+    text: BRIDGE,
+    captures: &[&[(5, between(10, 11))], &[(9, between(11, 10))]],
+    said: "ran 2 one 1\n",
+    journal: "maestro journal 1 one 1\n0 0 0 flood 0\n1 0 0 to:0 1\n",
+    state: "chain macs greatest 9\n0 5 m=10 at=0\n1 9 m=11 at=1\n",
+    outputs: &[&[(9, between(11, 10))], &[(5, between(10, 11))]],
+};
+
+static FALLING: Ran = Ran {
+    shows: "the first entry has a later index",
+    line: RUN_TWO,
+    out: "out",
+    text: BRIDGE,
+    captures: &[&[(5, between(10, 11))], &[(9, between(11, 10))]],
+    said: "ran 2 one 1\n",
+    journal: "maestro journal 1 one 1\n0 0 0 flood 3\n1 0 0 to:0 2\n",
+    state: "chain macs greatest 9\n2 9 m=11 at=1\n3 5 m=10 at=0\n",
+    outputs: &[&[(9, between(11, 10))], &[(5, between(10, 11))]],
+};
+
+fn rising() -> &'static Ran {
+    &RISING
+}
+
+fn falling() -> &'static Ran {
+    &FALLING
+}
+
+fn bridge_learns(alloc: Global) -> Result<bool, AllocError> {
+    let rising = wrong_part(alloc, rising())?;
+    let falling = wrong_part(alloc, falling())?;
+    Ok(rising.is_empty() || falling.is_empty())
+}
+
+#[test]
+fn a_bridge_learns_where_hosts_are(rt: HostRuntime) -> Result<(), Fail> {
+    let met = bridge_learns(rt.alloc())?;
+    assert!(rt; met);
+    Ok(())
+}
