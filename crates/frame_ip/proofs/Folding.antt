@@ -1,5 +1,5 @@
 -- Folding a sum to 16 bits.
-use Rattle.std.proofs.Common.{◌≡◌, ℕ, zero, suc, ◌+◌, ◌*◌, ◌/◌, ◌%◌, ◌<◌, ◌≤◌, ◌^◌, ltb, inl, inr, refl, sym, ◌∙◌, arith}
+use Rattle.std.proofs.Common.{◌≡◌, ℕ, zero, suc, ◌<◌, ◌≤◌, ◌^◌, inl, inr, refl, ◌∙◌, arith}
 use Rattle.std.proofs.lemmas.Bool.{cases_lt, lt-ltb, le-ltb}
 use Rattle.frame_ip.specs.Edit.{halves, folded, fold}
 
@@ -7,6 +7,9 @@ fits : (most sum : ℕ) → sum < 65536 → folded most sum ≡ sum
 unfolding folded
 fits zero sum lt = refl
 fits (suc most) sum lt = rw (lt-ltb sum 65536 lt) refl
+
+pub fold_small : (sum : ℕ) → sum < 65536 → fold sum ≡ sum
+fold_small sum lt = fits sum sum lt
 
 goes_on : (most sum : ℕ) → 65536 ≤ sum → folded (suc most) sum ≡ folded most (halves sum)
 unfolding folded

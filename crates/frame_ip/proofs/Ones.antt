@@ -1,10 +1,10 @@
 -- One's complement sums under an update.
-use Rattle.std.proofs.Common.{◌≡◌, ℕ, zero, suc, ◌+◌, ◌-◌, ◌*◌, ◌/◌, ◌%◌, ◌<◌, ◌≤◌, ◌^◌, Bool, true, false, cond, eqb, ltb, List, [], ◌∷◌, ◌++◌, length, get_or, slice_index, Option, Some, None, inl, inr, refl, ap, sym, subst, ◌∙◌, arith}
+use Rattle.std.proofs.Common.{◌≡◌, ℕ, zero, suc, ◌+◌, ◌-◌, ◌*◌, ◌/◌, ◌<◌, ◌≤◌, Bool, true, false, cond, eqb, List, [], ◌∷◌, ◌++◌, slice_index, Option, Some, None, inl, inr, refl, subst, arith}
 use Rattle.std.specs.List.{AllByRecursion}
-use Rattle.std.proofs.lemmas.Bool.{cases_lt, lt-ltb, le-ltb, eqb-true, eqb-false}
+use Rattle.std.proofs.lemmas.Bool.{cases_lt, lt-ltb, le-ltb, eqb-true}
 use Rattle.frame_ip.specs.Frame.{number_at, transport_at}
 use Rattle.nf_base.specs.declared.done.Edits.{Edits}
-use Rattle.frame_ip.specs.Edit.{Write, halves, folded, fold, change, changes, updated, udp_checksum, address_words, port_words, ttl_words, value_of, ttl, addresses, ports, is_udp, checksum_at, ip_checksum, transport_checksum}
+use Rattle.frame_ip.specs.Edit.{Write, halves, folded, fold, changes, updated, udp_checksum, address_words, port_words, ttl_words, value_of, ttl, addresses, ports, is_udp, checksum_at, ip_checksum, transport_checksum}
 use Rattle.frame_ip.specs.Sums.{old_words, new_words, KeepsRight}
 
 -- what a folded sum is: the sum less a multiple of 65535, within 16 bits, and 0 for 0 alone

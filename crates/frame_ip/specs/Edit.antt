@@ -1,6 +1,6 @@
 -- The edits of a packet, written into its frame: 16-bit words at offsets, and the two checksums brought
 -- up to date by what changed (RFC 1624 equation 3). All numbers stand in network order.
-use Rattle.std.specs.Prelude.{ℕ, zero, suc, ◌+◌, ◌-◌, ◌*◌, ◌/◌, ◌%◌, ◌^◌, Bool, List, [], ◌∷◌, ◌++◌, nat_eq, nat_lt, slice_index, slice_index_or, slice_set, if◌then◌else◌, Option, Some, None}
+use Rattle.std.specs.Prelude.{◌≡◌, ℕ, zero, suc, ◌+◌, ◌-◌, ◌*◌, ◌/◌, ◌%◌, ◌^◌, Bool, List, [], ◌∷◌, ◌++◌, nat_eq, nat_lt, slice_index, slice_index_or, slice_set, if◌then◌else◌, Option, Some, None}
 use Rattle.nf_base.specs.declared.done.Edits.{Edits}
 use Rattle.frame_ip.specs.Frame.{number_at, transport_at}
 
@@ -42,9 +42,13 @@ ttl_words proto (Some v) = record { at = 22; word = v % 256 * 256 + proto } ∷ 
 abbrev pub value_of : Edits → ℕ → Option ℕ
 value_of edits field = slice_index_or edits.values field None
 
+-- nothing is edited
+abbrev pub IsUnedited : Edits → Type 0
+IsUnedited edits = (field : ℕ) → value_of edits field ≡ None
+
 -- the words of all MAC addresses, of the TTL, of all IP addresses and of all ports that are written
 abbrev pub macs : Edits → List Write
-macs edits = mac_words 6 (value_of edits 0) ++ mac_words 0 (value_of edits 1)
+macs edits = mac_words 0 (value_of edits 1) ++ mac_words 6 (value_of edits 0)
 
 abbrev pub ttl : Edits → List ℕ → List Write
 ttl edits frame = ttl_words (slice_index frame 23) (value_of edits 4)
@@ -103,11 +107,11 @@ transport_checksum edits frame =
     let new : ℕ = updated frame (checksum_at frame) (addresses edits ++ ports edits (transport_at frame)) in
     if is_udp frame then udp_checksum (number_at frame (checksum_at frame) 2) new else new
 
--- the words that are written, checksums last
+-- the words that are written, in the order in which they stand
 abbrev pub writes : Edits → List ℕ → List Write
 writes edits frame =
-    macs edits ++ (ttl edits frame ++ (addresses edits ++ (ports edits (transport_at frame)
-    ++ (record { at = 24; word = ip_checksum edits frame } ∷ record { at = checksum_at frame; word = transport_checksum edits frame } ∷ []))))
+    macs edits ++ (ttl edits frame ++ (record { at = 24; word = ip_checksum edits frame } ∷ (addresses edits ++ (ports edits (transport_at frame)
+    ++ (record { at = checksum_at frame; word = transport_checksum edits frame } ∷ [])))))
 
 -- a handled frame with the edits in it
 unfoldable pub edited : Edits → List ℕ → List ℕ

@@ -13,9 +13,9 @@
 //! | UDP checksum | 14 + 4 IHL + 6 | 2 | |
 //! | TCP checksum | 14 + 4 IHL + 16 | 2 | |
 ghost use Rattle.std.specs.Prelude.{◌≡◌, ◌≢◌, true, ◌+◌, ◌-◌, ◌*◌, ◌%◌, ◌≤◌, ◌<◌, ◌^◌, ◌++◌, length, IsTrue, slice_index};
-ghost use Rattle.frame_ip.specs.Frame.{is_handled, transport_at, number_at};
-ghost use Rattle.frame_ip.specs.Sums.{KeepsRight};
-ghost use Rattle.frame_ip.specs.Edit.{put, put_all, mac_words, address_words, port_words, ttl_words, macs, ttl, addresses, ports, value_of, change, changes, fold, updated, is_udp, checksum_at, udp_checksum, ip_checksum, transport_checksum, edited};
+ghost use Rattle.frame_ip.specs.Frame.{is_handled, header_words, transport_at, number_at};
+ghost use Rattle.frame_ip.specs.Sums.{KeepsRight, IsIpRight, IsTransportRight};
+ghost use Rattle.frame_ip.specs.Edit.{put, put_all, mac_words, address_words, port_words, ttl_words, IsUnedited, macs, ttl, addresses, ports, value_of, change, changes, fold, updated, is_udp, checksum_at, udp_checksum, ip_checksum, transport_checksum, edited};
 
 use crate::layout::{transport, u16_at};
 use nf_base::done::Edits;
@@ -158,6 +158,7 @@ fn ip_checksum(frame: &[u8], edits: &Edits) -> u16
     requires { 42 ≤ length frame.now }
     ensures value { result ≡ ip_checksum edits.now frame.now }
     ensures right { KeepsRight frame.now (ttl edits.now frame.now ++ addresses edits.now) (number_at frame.now 24 2) (ip_checksum edits.now frame.now) }
+    ensures unchanged { IsUnedited edits.now → put (record { at = 24; word = ip_checksum edits.now frame.now }) frame.now ≡ frame.now }
 {
     let values = &edits.values;
     let addresses = address_change(frame, 26, values[2]) + address_change(frame, 30, values[3]);
@@ -172,6 +173,10 @@ fn checksum_at(frame: &[u8]) -> usize
     ensures within { result + 2 ≤ length frame.now }
     ensures ports { transport_at frame.now + 8 ≤ length frame.now }
     ensures header { 42 ≤ length frame.now }
+    ensures words { 5 ≤ header_words frame.now }
+    ensures version { 0 < slice_index frame.now 14 }
+    ensures some_proto { 0 < slice_index frame.now 23 }
+    ensures proto { slice_index frame.now 23 < 256 }
 {
     if frame[23] == UDP {
         transport(frame) + 6
@@ -210,6 +215,7 @@ fn transport_checksum(frame: &[u8], edits: &Edits) -> u16
     requires { IsTrue (is_handled frame.now) }
     ensures value { result ≡ transport_checksum edits.now frame.now }
     ensures right { (is_udp frame.now ≡ true → number_at frame.now (checksum_at frame.now) 2 ≢ 0) → KeepsRight frame.now (addresses edits.now ++ ports edits.now (transport_at frame.now)) (number_at frame.now (checksum_at frame.now) 2) (transport_checksum edits.now frame.now) }
+    ensures unchanged { IsUnedited edits.now → put (record { at = checksum_at frame.now; word = transport_checksum edits.now frame.now }) frame.now ≡ frame.now }
 {
     let at = checksum_at(frame);
     let new = recomputed(frame, edits);
@@ -228,8 +234,11 @@ fn transport_checksum(frame: &[u8], edits: &Edits) -> u16
 pub fn edit(frame: &mut [u8], edits: &Edits)
     requires handled { IsTrue (is_handled frame.old) }
     ensures edited { frame.new ≡ edited edits.now frame.old }
-    // A checksum that was right is right, in each sum of which it and the words that are written are a
-    // part: the IP header's, and that of TCP or UDP, where UDP has one.
+    ensures unchanged { IsUnedited edits.now → frame.new ≡ frame.old }
+    // A frame whose checksums were right has right ones, whatever is edited (RFC 1071).
+    ensures ip_stays_right { IsIpRight frame.old → IsIpRight frame.new }
+    ensures transport_stays_right { IsTransportRight frame.old → IsTransportRight frame.new }
+    // The same of each sum of which a checksum and the words that are written are a part.
     ensures ip_right { KeepsRight frame.old (ttl edits.now frame.old ++ addresses edits.now) (number_at frame.old 24 2) (ip_checksum edits.now frame.old) }
     ensures transport_right { (is_udp frame.old ≡ true → number_at frame.old (checksum_at frame.old) 2 ≢ 0) → KeepsRight frame.old (addresses edits.now ++ ports edits.now (transport_at frame.old)) (number_at frame.old (checksum_at frame.old) 2) (transport_checksum edits.now frame.old) }
 {
@@ -239,13 +248,13 @@ pub fn edit(frame: &mut [u8], edits: &Edits)
     let ports = transport(frame);
     let proto = frame[23];
     let values = &edits.values;
-    put_mac(frame, 6, values[0]);
     put_mac(frame, 0, values[1]);
+    put_mac(frame, 6, values[0]);
     put_ttl(frame, proto, values[4]);
+    put(frame, IP_CHECKSUM, ip);
     put_address(frame, 26, values[2]);
     put_address(frame, 30, values[3]);
     put_port(frame, ports, values[5]);
     put_port(frame, ports + 2, values[6]);
-    put(frame, IP_CHECKSUM, ip);
     put(frame, at, checksum);
 }

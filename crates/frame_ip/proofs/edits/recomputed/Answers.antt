@@ -1,4 +1,4 @@
-use Rattle.std.proofs.Common.{ℕ, ◌≡◌, ◌+◌, ◌-◌, ◌++◌, ◌∙◌, List, ap, subst}
+use Rattle.std.proofs.Common.{ℕ, ◌≡◌, ◌+◌, ◌-◌, ◌++◌, ◌∙◌, ap, subst}
 use Rattle.frame_ip.specs.Frame.{number_at, transport_at}
 use Rattle.frame_ip.specs.Edit.{address_words, port_words, value_of, addresses, ports, changes, fold}
 use Rattle.frame_ip.proofs.Writing.{four_changes}

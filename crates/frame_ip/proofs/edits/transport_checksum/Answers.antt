@@ -2,6 +2,7 @@ use Rattle.std.proofs.Common.{ℕ, ◌∙◌, ap, sym, arith}
 use Rattle.frame_ip.specs.Frame.{number_at}
 use Rattle.frame_ip.specs.Edit.{udp_checksum}
 use Rattle.frame_ip.proofs.Ones.{transport_keeps}
+use Rattle.frame_ip.proofs.Unedited.{transport_none}
 use Rattle.frame_ip.proofs.Writing.{with_udp, with_tcp}
 use Rattle.frame_ip.proofs.edits.transport_checksum.Goals as goal
 
@@ -20,3 +21,9 @@ returns-then-frame-eq-UDP-clause-right c = transport_keeps c.args.edits.now c.ar
 
 pub returns-else-frame-eq-UDP-clause-right : goal.returns-else-frame-eq-UDP-clause-right
 returns-else-frame-eq-UDP-clause-right c = transport_keeps c.args.edits.now c.args.frame.now (λ i. omega (arith, c.type_inv.frame i))
+
+pub returns-then-frame-eq-UDP-clause-unchanged : goal.returns-then-frame-eq-UDP-clause-unchanged
+returns-then-frame-eq-UDP-clause-unchanged c = transport_none c.args.edits.now c.args.frame.now (λ i. omega (arith, c.type_inv.frame i))
+
+pub returns-else-frame-eq-UDP-clause-unchanged : goal.returns-else-frame-eq-UDP-clause-unchanged
+returns-else-frame-eq-UDP-clause-unchanged c = transport_none c.args.edits.now c.args.frame.now (λ i. omega (arith, c.type_inv.frame i))
