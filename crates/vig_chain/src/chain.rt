@@ -14,8 +14,8 @@ use std::marker::Model;
 /// The indices of a chain, of which its share's own are given out, each with a stamp.
 ///
 /// Contracts see it as the list, by index, of the stamp of its entry or none, beside the greatest stamp
-/// given so far and the share. Times, stamps and lifetimes are in nanoseconds. No call but `new` takes
-/// memory, and each goes a bounded number of steps, whatever the chain's size.
+/// given so far and the share. Times, stamps and lifetimes are in nanoseconds. No call but `new` and `copy`
+/// takes memory, and every other one goes a bounded number of steps, whatever the chain's size.
 #[derive(Drop)]
 pub struct Chain {
     /// By index the stamp of its entry.
@@ -55,6 +55,21 @@ impl Chain {
             size: count,
             greatest: 0,
             share,
+        })
+    }
+
+    /// The same chain once more.
+    pub fn copy(&self, alloc: Global) -> Result<Chain, AllocError>
+        ensures { IfOk result (λ copy. copy ≡ self.now) }
+    {
+        let stamps = Vec::from_slice(alloc, self.stamps.as_slice())?;
+        let links = self.links.copy(alloc)?;
+        Ok(Chain {
+            stamps,
+            links,
+            size: self.size,
+            greatest: self.greatest,
+            share: self.share,
         })
     }
 

@@ -35,6 +35,16 @@ impl Links {
         Ok(Links { next, prev })
     }
 
+    /// The same links once more.
+    pub fn copy(&self, alloc: Global) -> Result<Links, AllocError>
+        ensures { IfOk result (λ copy. copy ≡ self.now) }
+    {
+        Ok(Links {
+            next: Vec::from_slice(alloc, self.next.as_slice())?,
+            prev: Vec::from_slice(alloc, self.prev.as_slice())?,
+        })
+    }
+
     /// The next cell in a cell's ring.
     pub fn next(&self, cell: u32) -> u32
         requires { cell < length self.now.next }

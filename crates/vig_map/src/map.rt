@@ -3,7 +3,7 @@ ghost use Rattle.std.specs.Prelude.{◌≡◌, ◌≤◌, [], length, IfOk, IfNo
 ghost use Rattle.std.specs.Bool.{OnTrue, OnFalse};
 ghost use Rattle.vig_map.specs.Bindings.{bindings_of, value_of, is_bindable, IsPut, IsErased};
 
-use crate::slots::{Pair, close_gap, empty_slots, search, value_at};
+use crate::slots::{Pair, close_gap, copied_slots, empty_slots, search, value_at};
 use nf_base::key::Key;
 use nf_base::size::Size;
 use std::alloc::{AllocError, Global};
@@ -11,8 +11,8 @@ use std::marker::Model;
 
 /// A finite map from keys to numbers, of so many pairs at most.
 ///
-/// Contracts see it as a list of its pairs, of whose order they say nothing. No call but `new` takes memory.
-/// A look-up goes past as many slots as there are pairs at most, whatever was erased before.
+/// Contracts see it as a list of its pairs, of whose order they say nothing. No call but `new` and `copy` takes
+/// memory. A look-up goes past as many slots as there are pairs at most, whatever was erased before.
 #[derive(Drop)]
 pub struct Map {
     /// Three for each pair that may stand: two in which keys have their homes, and one behind these.
@@ -46,6 +46,18 @@ impl Map {
             slots,
             held: 0,
             most,
+        })
+    }
+
+    /// The same map once more.
+    pub fn copy(&self, alloc: Global) -> Result<Map, AllocError>
+        ensures { IfOk result (λ copy. copy ≡ self.now) }
+    {
+        let slots = copied_slots(alloc, self.slots.as_slice())?;
+        Ok(Map {
+            slots,
+            held: self.held,
+            most: self.most,
         })
     }
 

@@ -26,6 +26,33 @@ pub fn empty_slots(alloc: Global, count: u32) -> Result<Vec<Option<Pair>>, Alloc
     Ok(slots)
 }
 
+/// What a slot holds, once more.
+fn copied(slot: &Option<Pair>) -> Option<Pair>
+    ensures { result ≡ slot.now }
+{
+    match slot {
+        Some(pair) => Some(Pair {
+            key: pair.key.again(),
+            value: pair.value,
+        }),
+        None => None,
+    }
+}
+
+/// The same slots once more.
+pub fn copied_slots(
+    alloc: Global,
+    slots: &[Option<Pair>],
+) -> Result<Vec<Option<Pair>>, AllocError>
+    ensures { IfOk result (λ copy. copy.items ≡ slots.now) }
+{
+    let mut copy = Vec::with_capacity(alloc, slots.len())?;
+    for slot in slots {
+        copy.push(copied(slot))?;
+    }
+    Ok(copy)
+}
+
 /// Whether two keys are equal.
 fn is_same(a: &Key, b: &Key) -> bool
     ensures { IsTrue result ↔ (a.now ≡ b.now) }
