@@ -8,8 +8,8 @@ use Rattle.run_files.specs.declared.handled.Handled.{Handled}
 use Rattle.run_files.specs.Written.{arrival_in, is_sent, record_of, sent_bytes, output_bytes}
 
 -- a list of at most one record, put in front of others
-chosen : (b : Bool) (captures : List (List ℕ)) (h : Handled) (hs : List Handled) → flat_map written_bytes (map (record_of captures) (map arrival_in (cond b (h ∷ hs) hs))) ≡ flat_map written_bytes (map (record_of captures) (map arrival_in (cond b (h ∷ []) []))) ++ flat_map written_bytes (map (record_of captures) (map arrival_in hs))
-chosen true captures h hs = ap (λ (r : List ℕ). r ++ flat_map written_bytes (map (record_of captures) (map arrival_in hs))) (sym (append-nil (written_bytes (record_of captures h.arrival))))
+chosen : (b : Bool) (captures : List (List ℕ)) (h : Handled) (hs : List Handled) → flat_map written_bytes (map (record_of captures) (cond b (h ∷ hs) hs)) ≡ flat_map written_bytes (map (record_of captures) (cond b (h ∷ []) [])) ++ flat_map written_bytes (map (record_of captures) hs)
+chosen true captures h hs = ap (λ (r : List ℕ). r ++ flat_map written_bytes (map (record_of captures) hs)) (sym (append-nil (written_bytes (record_of captures h))))
 chosen false captures h hs = refl
 
 sent_more : (port : ℕ) (captures : List (List ℕ)) (h : Handled) (hs : List Handled) → sent_bytes port captures (h ∷ hs) ≡ sent_bytes port captures (h ∷ []) ++ sent_bytes port captures hs
@@ -26,13 +26,13 @@ pub sent_end : (port : ℕ) (captures : List (List ℕ)) (hs : List Handled) (i 
 unfolding sent_bytes
 sent_end port captures hs i past = ap (sent_bytes port captures) (drop_all i hs past)
 
-pub sent_one : (port : ℕ) (captures : List (List ℕ)) (h : Handled) → is_sent port h ≡ true → sent_bytes port captures (h ∷ []) ≡ written_bytes (record_of captures h.arrival)
+pub sent_one : (port : ℕ) (captures : List (List ℕ)) (h : Handled) → is_sent port h ≡ true → sent_bytes port captures (h ∷ []) ≡ written_bytes (record_of captures h)
 unfolding sent_bytes
-sent_one port captures h e = ap (λ (b : Bool). flat_map written_bytes (map (record_of captures) (map arrival_in (cond b (h ∷ []) [])))) e ∙ append-nil (written_bytes (record_of captures h.arrival))
+sent_one port captures h e = ap (λ (b : Bool). flat_map written_bytes (map (record_of captures) (cond b (h ∷ []) []))) e ∙ append-nil (written_bytes (record_of captures h))
 
 pub sent_none : (bytes : List ℕ) (port : ℕ) (captures : List (List ℕ)) (h : Handled) → is_sent port h ≡ false → bytes ++ sent_bytes port captures (h ∷ []) ≡ bytes
 unfolding sent_bytes
-sent_none bytes port captures h e = ap (λ (b : Bool). bytes ++ flat_map written_bytes (map (record_of captures) (map arrival_in (cond b (h ∷ []) [])))) e ∙ append-nil bytes
+sent_none bytes port captures h e = ap (λ (b : Bool). bytes ++ flat_map written_bytes (map (record_of captures) (cond b (h ∷ []) []))) e ∙ append-nil bytes
 
 pub output_starts : (port : ℕ) (captures : List (List ℕ)) (hs : List Handled) → header_bytes ++ sent_bytes port captures hs ≡ output_bytes port captures hs
 unfolding output_bytes sent_bytes

@@ -1,8 +1,11 @@
 -- The bytes of the files that a run leaves.
-use Rattle.std.specs.Prelude.{ℕ, Bool, false, not, ◌==◌, List, [], ◌∷◌, ◌++◌, map, filter}
+use Rattle.std.specs.Prelude.{ℕ, Bool, false, not, ◌==◌, List, [], ◌∷◌, ◌++◌, map, filter, if◌then◌else◌}
 use Rattle.std.specs.List.{flat_map}
 use Rattle.nf_base.specs.declared.done.Action.{Action}
 use Rattle.nf_base.specs.declared.done.Action.TheVariants.{Skip, Drop, To, Flood}
+use Rattle.nf_base.specs.declared.done.Edits.{Edits}
+use Rattle.frame_ip.specs.Frame.{is_handled}
+use Rattle.frame_ip.specs.Edit.{edited}
 use Rattle.pcap_file.specs.Record.{Record, record_at}
 use Rattle.pcap_file.specs.Spelled.{written_bytes, capture_bytes}
 use Rattle.run_history.specs.Line.{header_line, packet_line}
@@ -36,13 +39,17 @@ sends Flood from port = not (from == port)
 abbrev pub is_sent : ℕ → Handled → Bool
 is_sent port h = sends h.done.action h.arrival.packet.id.port port
 
--- the record of a packet that is sent: the packet's time, and its frame as it came
-abbrev pub record_of : List (List ℕ) → Arrival → Record
-record_of captures arrival = record_at arrival.packet.time arrival.original (frame_in captures arrival)
+-- a frame with the edits of its packet in it; one that isn't handled has none, and stays as it came
+unfoldable pub with_edits : Edits → List ℕ → List ℕ
+with_edits edits frame = if is_handled frame then edited edits frame else frame
+
+-- the record of a packet that is sent: the packet's time, and its frame with its own edits
+abbrev pub record_of : List (List ℕ) → Handled → Record
+record_of captures h = record_at h.arrival.packet.time h.arrival.original (with_edits h.done.edits (frame_in captures h.arrival))
 
 -- the records of the packets that are sent out at a port, in the order in which they were handled
 abbrev pub sent_records : ℕ → List (List ℕ) → List Handled → List Record
-sent_records port captures hs = map (record_of captures) (map arrival_in (filter (is_sent port) hs))
+sent_records port captures hs = map (record_of captures) (filter (is_sent port) hs)
 
 -- their bytes
 unfoldable pub sent_bytes : ℕ → List (List ℕ) → List Handled → List ℕ

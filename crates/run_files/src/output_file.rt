@@ -1,17 +1,18 @@
 // The output captures of a run.
-ghost use Rattle.std.specs.Prelude.{◌≡◌, ◌<◌, ◌⊎◌, ℕ, [], ◌∷◌, ◌++◌, map, OnOk, OnErr, IfOk, vec_len};
+ghost use Rattle.std.specs.Prelude.{◌≡◌, ◌≤◌, ◌<◌, ◌⊎◌, ℕ, [], ◌∷◌, ◌++◌, length, map, take, drop, OnOk, OnErr, IfOk, vec_len};
 ghost use Rattle.std.specs.List.{AllByRecursion};
 ghost use Rattle.pcap_file.specs.Spelled.{header_bytes, written_bytes};
 ghost use Rattle.capture_order.specs.Arrivals.{IsWithin, all_bytes};
 ghost use Rattle.nf_files.specs.Causes.{HasCause};
 ghost use Rattle.nf_files.specs.Writes.{WritesAll, WritesFront};
 ghost use Rattle.run_files.specs.Pending.{Flushes};
-ghost use Rattle.run_files.specs.Written.{arrival_in, record_of, sends, sent_bytes, output_bytes};
+ghost use Rattle.run_files.specs.Written.{arrival_in, with_edits, record_of, sends, sent_bytes, output_bytes};
 
 use crate::flush::{PIECE, flush_when_large};
 use crate::handled::Handled;
-use capture_order::{Arrival, frame};
-use nf_base::done::Action;
+use capture_order::frame;
+use frame_ip::{edit, view};
+use nf_base::done::{Action, Edits};
 use nf_files::{Files, FilesFault, write_whole};
 use pcap_file::{push_header, push_record};
 use std::alloc::{AllocError, Global};
@@ -28,17 +29,41 @@ pub(crate) fn sends(action: Action, from: u32, port: u32) -> bool
     }
 }
 
-// Gathers the record of a packet.
+// Writes a packet's edits into its frame, where it is handled.
+#[tactic(auto, unfolding(crate::specs::Written::with_edits))]
+fn edit_handled(frame: &mut [u8], edits: &Edits)
+    ensures edited { frame.new ≡ with_edits edits.now frame.old }
+    ensures long { length (with_edits edits.now frame.old) ≡ length frame.old }
+{
+    if view(frame, 0).is_some() {
+        edit(frame, edits);
+    }
+}
+
+// Writes a packet's edits into its frame, which stands last.
+fn edit_last(bytes: &mut [u8], start: usize, edits: &Edits)
+    requires { start ≤ length bytes.old }
+    ensures edited { bytes.new ≡ take start bytes.old ++ with_edits edits.now (drop start bytes.old) }
+    ensures long { length (with_edits edits.now (drop start bytes.old)) ≡ length (drop start bytes.old) }
+{
+    edit_handled(&mut bytes[start..], edits);
+}
+
+// Gathers the record of a packet; its frame is edited where it is gathered.
 fn push_packet(
     buffer: &mut Vec<u8>,
     captures: &[Vec<u8>],
-    arrival: &Arrival,
+    handled: &Handled,
 ) -> Result<(), AllocError>
-    requires { IsWithin (all_bytes captures.now) arrival.now }
-    ensures { OnOk result (buffer.new.items ≡ buffer.old.items ++ written_bytes (record_of (all_bytes captures.now) arrival.now)) }
+    requires { IsWithin (all_bytes captures.now) handled.now.arrival }
+    ensures { OnOk result (buffer.new.items ≡ buffer.old.items ++ written_bytes (record_of (all_bytes captures.now) handled.now)) }
 {
+    let arrival = &handled.arrival;
     let frame = frame(captures, arrival);
-    push_record(buffer, arrival.packet.time, arrival.original, frame)
+    push_record(buffer, arrival.packet.time, arrival.original, frame)?;
+    let start = buffer.len() - frame.len();
+    edit_last(buffer.as_mut_slice(), start, &handled.done.edits);
+    Ok(())
 }
 
 // Gathers a packet's record, where it is sent out at a port.
@@ -52,9 +77,8 @@ pub(crate) fn push_sent(
     requires { IsWithin (all_bytes captures.now) handled.now.arrival }
     ensures { OnOk result (buffer.new.items ≡ buffer.old.items ++ sent_bytes port (all_bytes captures.now) (handled.now ∷ [])) }
 {
-    let arrival = &handled.arrival;
-    if sends(handled.done.action, arrival.packet.id.port, port) {
-        push_packet(buffer, captures, arrival)
+    if sends(handled.done.action, handled.arrival.packet.id.port, port) {
+        push_packet(buffer, captures, handled)
     } else {
         Ok(())
     }
@@ -98,8 +122,8 @@ fn header(alloc: Global) -> Result<Vec<u8>, AllocError>
 /// the order in which they were handled.
 ///
 /// A record has the packet's time in nanoseconds, the frame's original length in bytes, and the
-/// captured bytes of the frame as they came: the edits of its packet are not put in yet. The capture
-/// at index `i` is that of port `i`.
+/// captured bytes of the frame with the edits of its own packet. The capture at index `i` is that of
+/// port `i`.
 pub fn write_output<F: Files>(
     alloc: Global,
     files: &mut F,
