@@ -3,4 +3,6 @@
 
 pub mod line;
 pub mod state_text;
+#[cfg(test)]
+mod tests;
 mod text;

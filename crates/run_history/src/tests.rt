@@ -1,0 +1,176 @@
+ghost use Rattle.std.specs.Prelude.{◌≡◌, ◌≤◌, IfOk, length};
+
+use crate::line::{JournalLine, Mode, write_line};
+use crate::state_text::state_text;
+use nf_base::code::Code;
+use nf_base::decl::{ArrayDecl, ChainDecl, ColumnDecl, ColumnId, Name};
+use nf_base::done::Action;
+use nf_base::func::{Func, Handler};
+use nf_base::indexed::Indexed;
+use nf_base::limited::Limited;
+use nf_base::packet::PacketId;
+use nf_base::picks::Picks;
+use nf_base::seq::Seq;
+use nf_base::size::Size;
+use nf_base::state::{Chain, Entry, State};
+use nf_base::width::Width;
+use nf_base::workers::Workers;
+use std::alloc::{AllocError, Global};
+
+#[test]
+fn a_header_names_the_mode_and_the_workers(rt: HostRuntime) {
+    let cases: [(Mode, Workers, &str); 3] = [
+        (Mode::One, Workers::new(1), "maestro journal 1 one 1\n"),
+        (Mode::Shard, Workers::new(2), "maestro journal 1 shard 2\n"),
+        (Mode::Lock, Workers::new(16), "maestro journal 1 lock 16\n"),
+    ];
+    for (mode, workers, text) in cases {
+        let line = JournalLine::Header { mode, workers };
+        let bytes = write_line(rt.alloc(), &line).expect(&rt, "memory");
+        assert!(rt; bytes.as_slice() == text.as_bytes(), "{text}");
+    }
+}
+
+fn two_picks() -> Picks {
+    let mut picks = Picks::new();
+    picks.push(65_535);
+    picks.push(0);
+    picks
+}
+
+fn one_pick() -> Picks {
+    let mut picks = Picks::new();
+    picks.push(7);
+    picks
+}
+
+#[test]
+fn a_packet_has_five_words(rt: HostRuntime) {
+    let cases: [(Action, u8, &str); 5] = [
+        (Action::Skip, 0, "3 4294967295 15 skip -\n"),
+        (Action::Drop, 0, "3 4294967295 15 drop -\n"),
+        (Action::Flood, 1, "3 4294967295 15 flood 7\n"),
+        (Action::To(0), 2, "3 4294967295 15 to:0 65535,0\n"),
+        (Action::To(3), 0, "3 4294967295 15 to:3 -\n"),
+    ];
+    for (action, choices, text) in cases {
+        let line = JournalLine::Packet {
+            id: PacketId {
+                port: 3,
+                seq: 4_294_967_295,
+            },
+            worker: 15,
+            action,
+            picks: match choices {
+                0 => Picks::new(),
+                1 => one_pick(),
+                _ => two_picks(),
+            },
+        };
+        let bytes = write_line(rt.alloc(), &line).expect(&rt, "memory");
+        assert!(rt; bytes.as_slice() == text.as_bytes(), "{text}");
+    }
+}
+
+fn name(alloc: Global, text: [u8; 4]) -> Result<Name, AllocError> {
+    Ok(Limited::from_vec(Vec::from_slice(alloc, &text)?))
+}
+
+fn column<const MOST: u32>(
+    alloc: Global,
+    columns: &mut Limited<ColumnDecl, MOST>,
+    text: [u8; 4],
+) -> Result<(), AllocError> {
+    if columns.len() < MOST {
+        columns.push(ColumnDecl {
+            name: name(alloc, text)?,
+            width: Width::W32,
+        })
+    } else {
+        Ok(())
+    }
+}
+
+// Two labels, and between them, in the text, a free column.
+fn flows(alloc: Global) -> Result<ChainDecl, AllocError>
+    ensures { IfOk result (λ decl. length decl.maps ≡ 0) }
+{
+    let mut labels = Limited::new(alloc);
+    column(alloc, &mut labels, *b"addr")?;
+    column(alloc, &mut labels, *b"port")?;
+    let mut free = Limited::new(alloc);
+    column(alloc, &mut free, *b"seen")?;
+    let order = [ColumnId::Label(0), ColumnId::Free(0), ColumnId::Label(1)];
+    Ok(ChainDecl {
+        name: name(alloc, *b"flow")?,
+        size: Size::new(3),
+        lifetime: 1,
+        labels,
+        free,
+        maps: Limited::new(alloc),
+        columns: Limited::from_vec(Vec::from_slice(alloc, &order)?),
+    })
+}
+
+// A chain, and an array whose cells open as 0, 5 and 0.
+fn function(alloc: Global) -> Result<Func, AllocError> {
+    let mut chains = Vec::new(alloc);
+    chains.push(flows(alloc)?)?;
+    let mut arrays = Vec::new(alloc);
+    arrays.push(ArrayDecl {
+        name: name(alloc, *b"load")?,
+        width: Width::W32,
+        cells: Indexed::from_vec(Vec::from_slice(alloc, &[0, 5, 0])?),
+    })?;
+    let mut handlers = Vec::new(alloc);
+    handlers.push(Handler { code: Code::End })?;
+    Ok(Func {
+        name: Name::new(alloc),
+        chains: Limited::from_vec(chains),
+        arrays: Limited::from_vec(arrays),
+        handlers: Limited::from_vec(handlers),
+    })
+}
+
+// Of three indices the first and the last are live.
+fn flow_slots(alloc: Global) -> Result<Indexed<Option<Entry>>, AllocError> {
+    let mut slots = Vec::new(alloc);
+    slots.push(Some(Entry {
+        stamp: 7,
+        labels: Seq::from_vec(Vec::from_slice(alloc, &[4_294_967_295, 53])?),
+        free: Seq::from_vec(Vec::from_slice(alloc, &[0])?),
+    }))?;
+    slots.push(None)?;
+    slots.push(Some(Entry {
+        stamp: 18_446_744_073_709_551_615,
+        labels: Seq::from_vec(Vec::from_slice(alloc, &[1, 2])?),
+        free: Seq::from_vec(Vec::from_slice(alloc, &[3])?),
+    }))?;
+    Ok(Indexed::from_vec(slots))
+}
+
+fn state(alloc: Global) -> Result<State, AllocError> {
+    let mut chains = Seq::new(alloc);
+    chains.push(Chain {
+        slots: flow_slots(alloc)?,
+        greatest: 18_446_744_073_709_551_615,
+    })?;
+    let mut arrays = Seq::new(alloc);
+    arrays.push(Indexed::from_vec(Vec::from_slice(alloc, &[0, 0, 6])?))?;
+    Ok(State { chains, arrays })
+}
+
+#[test]
+fn a_state_lists_live_entries_and_changed_cells(rt: HostRuntime) {
+    let alloc = rt.alloc();
+    let func = function(alloc).expect(&rt, "memory");
+    let state = state(alloc).expect(&rt, "memory");
+    let text = state_text(alloc, &func, &state).expect(&rt, "memory");
+    let expected = "chain flow greatest 18446744073709551615\n\
+        0 7 addr=4294967295 seen=0 port=53\n\
+        2 18446744073709551615 addr=1 seen=3 port=2\n\
+        array load\n\
+        1 0\n\
+        2 6\n";
+    assert!(rt; text.as_slice() == expected.as_bytes());
+}
