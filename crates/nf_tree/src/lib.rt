@@ -7,4 +7,7 @@ mod place;
 mod tree;
 
 pub use place::{Literal, Name};
-pub use tree::{Block, ChainTree, Expr, Given, HandlerTree, Label, MapTree, Tree};
+pub use tree::{
+    ArrayTree, Block, ChainTree, ColumnKind, ColumnTree, Declaration, Expr, Given, Guards,
+    HandlerTree, Label, MapTree, Part, ProductOperator, SumOperator, Tree,
+};
