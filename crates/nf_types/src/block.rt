@@ -15,7 +15,7 @@ use crate::code::{
     chain_with_name, find_code, free, get_code, if_code, new_code, store, touch, write,
 };
 use crate::objects::Objects;
-use crate::places::places;
+use crate::places::{find_places, places};
 use crate::statement::{asked, find as seek, look_up, make};
 use crate::text::{FindText, GetText, IfText, NewText};
 use crate::value::value;
@@ -247,7 +247,7 @@ pub fn block(
                     hit,
                     miss,
                 };
-                end -= 1 + cells(index) + given_cells(asked(guards)) + places(hit) + places(miss);
+                end -= find_places(index, guards, hit, miss);
                 next = find(alloc, end, objects, scope, &x, next)?;
                 rest = before
             }

@@ -1,12 +1,14 @@
 //! How many places a block has: its look-ups, and the arrays that it reads and writes.
 
 ghost use Rattle.std.specs.Prelude.{◌≡◌, ◌+◌, ◌<◌, ◌^◌, MatchOption};
-ghost use Rattle.nf_tree.specs.View.{block_of};
+ghost use Rattle.nf_tree.specs.View.{block_of, expression_of, guards_of};
 ghost use Rattle.nf_types.specs.Counts.{places};
+ghost use Rattle.nf_types.specs.Expressions.{cells};
+ghost use Rattle.nf_types.specs.Statements.{given_cells, asked};
 
-use crate::cells::{given_left, key_left, value_left};
+use crate::cells::{cells, given_cells, given_left, key_left, value_left};
 use crate::statement::asked;
-use nf_tree::Block;
+use nf_tree::{Block, Expr, Guards};
 
 /// What is left of so many places behind two blocks.
 #[cycle(places)]
@@ -129,4 +131,12 @@ pub fn places(block: &Block) -> u32
         Some(left) => u32::MAX - left,
         None => unreachable!(),
     }
+}
+
+/// How many places a `find` has, with its blocks.
+pub fn find_places(index: &Expr, guards: &Guards, hit: &Block, miss: &Block) -> u32
+    requires { 1 + cells (expression_of index.now) + given_cells (asked (guards_of guards.now)) + places (block_of hit.now) + places (block_of miss.now) < 2 ^ 32 }
+    ensures { result ≡ 1 + cells (expression_of index.now) + given_cells (asked (guards_of guards.now)) + places (block_of hit.now) + places (block_of miss.now) }
+{
+    1 + cells(index) + given_cells(asked(guards)) + places(hit) + places(miss)
 }
