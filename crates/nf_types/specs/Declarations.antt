@@ -43,8 +43,8 @@ abbrev pub with_label : ChainDecl → ColumnDecl → ChainDecl
 with_label d l = record d { labels = d.labels ++ l ∷ []; columns = d.columns ++ ids.Label (length d.labels) ∷ [] }
 
 -- a chain with one map more, whose key is so many labels from a first one on
-abbrev pub with_map : ChainDecl → Name → (first parts : ℕ) → ChainDecl
-with_map d m first parts = record d { maps = d.maps ++ record { name = m.bytes; first = first; parts = parts } ∷ [] }
+abbrev pub with_map : ChainDecl → List ℕ → (first parts : ℕ) → ChainDecl
+with_map d m first parts = record d { maps = d.maps ++ record { name = m; first = first; parts = parts } ∷ [] }
 
 abbrev pub with_label_of : ChainDecl → declared_label.Label → ChainDecl
 with_label_of d l = with_label d (column_of l.name l.width)
@@ -56,7 +56,7 @@ with_column Free d c = record d { free = d.free ++ c ∷ []; columns = d.columns
 
 -- a chain with one part more: the labels of a map are its key
 abbrev pub with_part : ChainDecl → Part → ChainDecl
-with_part d (parts.Map m) = with_map (fold with_label_of d m.labels) m.name (length d.labels) (length m.labels)
+with_part d (parts.Map m) = with_map (fold with_label_of d m.labels) m.name.bytes (length d.labels) (length m.labels)
 with_part d (parts.Column c) = with_column c.kind d (column_of c.name c.width)
 
 abbrev pub with_no_parts : ChainTree → ChainDecl

@@ -56,7 +56,7 @@ fn part(
         Part::Map(tree) => map(alloc, maps, fixed, chain, tree),
         Part::Column(tree) => {
             let one = column(alloc, fixed, &chain, tree)?;
-            let made = with_column(chain, tree.kind, one)?;
+            let made = with_column(fixed, chain, tree.kind, one)?;
             Ok(made)
         }
     }

@@ -1,15 +1,16 @@
 //! The labels, maps and columns of a chain.
 
 ghost use Rattle.std.specs.Prelude.{◌≡◌, ◌+◌, ◌<◌, ◌≤◌, [], ◌∷◌, ◌++◌, length, map, fold, IfOk};
+ghost use Rattle.nf_tree.specs.declared.tree.ColumnKind.TheVariants as kinds;
 ghost use Rattle.nf_tree.specs.declared.tree.Part.TheVariants as parts;
 ghost use Rattle.nf_types.specs.Answers.{Finds};
-ghost use Rattle.nf_types.specs.Declarations.{width_of, column_of, with_label, with_label_of, with_column, with_part};
-ghost use Rattle.nf_types.specs.DeclarationFaults.{width_faults, names_column, names_map, label_faults, labels_faults, map_faults, columns_before, column_faults};
+ghost use Rattle.nf_types.specs.Declarations.{width_of, column_of, with_label, with_label_of, with_map, with_column, with_part};
+ghost use Rattle.nf_types.specs.DeclarationFaults.{width_faults, names_column, names_map, label_faults, labels_faults, map_faults, columns_before, one_if_fixed, column_faults};
 ghost use Rattle.nf_types.specs.Roomy.{IsRoomy};
 
 use crate::fault::{Fault, Stop, TypingKind, refuse_if};
 use crate::name::{declared, is_among};
-use nf_base::decl::{ChainDecl, ColumnDecl, ColumnId, MapDecl};
+use nf_base::decl::{ChainDecl, ColumnDecl, ColumnId, MapDecl, Name};
 use nf_base::width::Width;
 use nf_tree::{ColumnKind, ColumnTree, Label, Literal, MapTree};
 use std::alloc::{AllocError, Global};
@@ -90,12 +91,17 @@ fn labels(alloc: Global, mut chain: ChainDecl, labels: &[Label]) -> Result<Chain
     Ok(chain)
 }
 
-/// A chain with one map more.
-fn with_map(mut chain: ChainDecl, map: MapDecl) -> Result<ChainDecl, AllocError>
+/// A chain with one map more, whose key is so many labels from a first one on.
+fn with_map(
+    mut chain: ChainDecl,
+    name: Name,
+    first: u32,
+    parts: u32,
+) -> Result<ChainDecl, AllocError>
     requires maps { length chain.maps < 16 }
-    ensures { IfOk result (λ d. d ≡ record chain { maps = chain.maps ++ map ∷ [] }) }
+    ensures { IfOk result (λ d. d ≡ with_map chain name first parts) }
 {
-    chain.maps.push(map)?;
+    chain.maps.push(MapDecl { name, first, parts })?;
     Ok(chain)
 }
 
@@ -130,28 +136,39 @@ pub fn map(
     let first = chain.labels.len();
     let chain = labels(alloc, chain, tree.labels.as_slice())?;
     let parts = tree.labels.len() as u32;
-    let made = with_map(chain, MapDecl { name, first, parts })?;
+    let made = with_map(chain, name, first, parts)?;
     Ok(made)
 }
 
-/// A chain with one column more.
+/// A chain with one free column more.
+fn with_free(mut chain: ChainDecl, column: ColumnDecl) -> Result<ChainDecl, AllocError>
+    requires free { length chain.free < 8 }
+    requires columns { length chain.columns < 144 }
+    ensures { IfOk result (λ d. d ≡ with_column kinds.Free chain column) }
+{
+    chain.columns.push(ColumnId::Free(chain.free.len()))?;
+    chain.free.push(column)?;
+    Ok(chain)
+}
+
+/// A chain of so many fixed columns with one column more.
 pub fn with_column(
-    mut chain: ChainDecl,
+    fixed: u32,
+    chain: ChainDecl,
     kind: ColumnKind,
     column: ColumnDecl,
 ) -> Result<ChainDecl, AllocError>
-    requires labels { length chain.labels < 136 }
-    requires free { length chain.free < 8 }
-    requires columns { length chain.columns < 144 }
-    ensures { IfOk result (λ d. d ≡ with_column kind chain column) }
+    requires few { columns_before kind fixed chain ≤ 7 }
+    requires fixed { fixed ≤ 8 }
+    requires roomy { IsRoomy fixed chain }
+    requires maps { length chain.maps ≤ 16 }
+    requires free { length chain.free ≤ 8 }
+    ensures found { IfOk result (λ d. d ≡ with_column kind chain column) }
+    ensures roomy { IfOk result (λ d. IsRoomy (fixed + one_if_fixed kind) d) }
 {
     match kind {
         ColumnKind::Fixed => with_label(chain, column),
-        ColumnKind::Free => {
-            chain.columns.push(ColumnId::Free(chain.free.len()))?;
-            chain.free.push(column)?;
-            Ok(chain)
-        }
+        ColumnKind::Free => with_free(chain, column),
     }
 }
 
