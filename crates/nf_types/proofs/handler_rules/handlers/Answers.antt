@@ -10,6 +10,6 @@ always (Err e) p = tt
 
 pub returns-clause-few : goal.returns-clause-few
 returns-clause-few c =
-    let few = few_handlers c.args.ports c.args.chains.now (map syntax.handler_of c.args.handlers.now) c.in_ok-each_handler.ensures in
+    let few = few_handlers c.args.ports c.args.objects.now (map syntax.handler_of c.args.handlers.now) c.in_ok-each_handler.ensures in
     let within : length c.args.handlers.now ≤ c.args.ports = omega (arith, few, length-map c.args.handlers.now syntax.handler_of) in
     always c.refuse_if.result within
