@@ -1,5 +1,5 @@
 -- The code of a block has no more look-ups than its text.
-use Rattle.std.proofs.Common.{◌≡◌, ℕ, ◌+◌, ◌≤◌, List, [], ◌∷◌, length, refl, arith}
+use Rattle.std.proofs.Common.{◌≡◌, ℕ, ◌+◌, ◌≤◌, List, [], length, arith}
 use Rattle.nf_base.specs.Text.{Block, End, Forward, Flood, Discard, If, Touch, Free}
 use Rattle.nf_base.specs.Limits as limits
 use Rattle.nf_tree.specs.Tree as tree

@@ -1,19 +1,16 @@
 -- Handlers of different ports, all of them declared, are no more than the ports.
-use Rattle.std.proofs.Common.{◌≡◌, ◌∙◌, ℕ, ◌+◌, ◌==◌, ◌≤◌, ◌<◌, List, [], ◌∷◌, ◌++◌, Bool, true, false, ◌||◌, ◌⊎◌, inl, inr, eqb, None, length, map, nat_le, arith, refl, sym, ap, subst, length-append}
+use Rattle.std.proofs.Common.{◌≡◌, ◌∙◌, ℕ, ◌+◌, ◌≤◌, ◌<◌, List, [], ◌∷◌, ◌++◌, Bool, true, false, ◌||◌, ◌⊎◌, inl, inr, eqb, None, length, map, nat_le, arith, refl, sym, ap, length-append}
 use Rattle.std.specs.List.{list_any, IsDistinct, AllByRecursion}
-use Rattle.std.proofs.lemmas.Grind.{common_steps}
 use Rattle.std.proofs.lemmas.Bool.Decides.{nat_tests}
 use Rattle.std.proofs.lemmas.List.{map-append, length-map}
 use Rattle.std.proofs.lemmas.List.Folds.{list_any-append}
 use Rattle.std.proofs.lemmas.Map.Steps.{length-le_from_distinct_below}
 use Rattle.nf_types.specs.declared.objects.Objects.{Objects}
-use Rattle.nf_types.specs.Variables.{Variable}
 use Rattle.nf_tree.specs.Tree as tree
 use Rattle.nf_types.specs.declared.fault.TypingKind.TheVariants.{Limit, Twice}
 use Rattle.nf_types.specs.Faults.{first, fault_if, each_behind}
 use Rattle.nf_types.specs.Counts.{whole_room}
 use Rattle.nf_types.specs.BlockFaults.{block_faults}
-use Rattle.nf_types.specs.Function.{is_at}
 use Rattle.nf_types.specs.TextFaults.{handler_faults, is_handled}
 use Rattle.nf_types.proofs.First.{front_none, back_none, test_none}
 

@@ -6,3 +6,4 @@ pub mod Ranges
 pub mod Few
 pub mod Small
 pub mod Counted
+pub mod Steps

@@ -1,5 +1,5 @@
 -- Where nothing is wrong with a block, it has no more look-ups than may come.
-use Rattle.std.proofs.Common.{◌≡◌, ℕ, ◌+◌, ◌-◌, ◌==◌, ◌||◌, ◌≤◌, ◌<◌, List, [], ◌∷◌, ◌++◌, Bool, true, false, None, nat_le, arith}
+use Rattle.std.proofs.Common.{◌≡◌, ℕ, ◌==◌, ◌||◌, ◌≤◌, List, [], ◌∷◌, ◌++◌, None, nat_le, arith}
 use Rattle.std.proofs.lemmas.Grind.{common_steps}
 use Rattle.std.proofs.lemmas.Bool.Decides.{nat_tests}
 use Rattle.nf_base.specs.declared.expr.Comparison.{Comparison}
@@ -161,9 +161,10 @@ small ports o before h e =
 
 each_small : (ports : ℕ) (o : Objects) (before hs : List tree.Handler) → first (each_behind (handler_faults ports o) before hs) ≡ None → AreSmall hs
 each_small ports o before [] e = tt
-each_small ports o before (h ∷ hs) e =
-    (small ports o before h (front_none (handler_faults ports o before h) (each_behind (handler_faults ports o) (before ++ h ∷ []) hs) e),
-    each_small ports o (before ++ h ∷ []) hs (back_none (handler_faults ports o before h) (each_behind (handler_faults ports o) (before ++ h ∷ []) hs) e))
+each_small ports o before (h ∷ hs) e = (
+  small ports o before h (front_none (handler_faults ports o before h) (each_behind (handler_faults ports o) (before ++ h ∷ []) hs) e),
+  each_small ports o (before ++ h ∷ []) hs (back_none (handler_faults ports o before h) (each_behind (handler_faults ports o) (before ++ h ∷ []) hs) e),
+)
 
 pub are_small : (ports : ℕ) (o : Objects) (hs : List tree.Handler) → first (each_behind (handler_faults ports o) [] hs) ≡ None → AreSmall hs
 are_small ports o hs e = each_small ports o [] hs e

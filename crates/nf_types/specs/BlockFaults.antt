@@ -1,5 +1,5 @@
 -- What is wrong with a block of the text.
-use Rattle.std.specs.Prelude.{ℕ, ◌==◌, ◌||◌, List, [], ◌∷◌, ◌++◌}
+use Rattle.std.specs.Prelude.{◌==◌, ◌||◌, List, [], ◌++◌}
 use Rattle.nf_tokens.specs.declared.token.Place.{Place}
 use Rattle.nf_tree.specs.declared.place.Name.{Name}
 use Rattle.nf_tree.specs.Tree as tree

@@ -1,12 +1,10 @@
 -- The code that a block of the text stands for.
 use Rattle.std.specs.Prelude.{ℕ, ◌+◌, List, ◌∷◌, Option, Some, None, length}
-use Rattle.nf_base.specs.Text.{Block, End, Forward, Flood, Discard, Get, Find, New, If, Touch, Free, Write, Store, Expression, Given}
+use Rattle.nf_base.specs.Text.{Block, End, Forward, Flood, Discard, Get, Find, New, If, Touch, Free, Write, Store}
 use Rattle.nf_base.specs.declared.expr.Comparison.{Comparison}
 use Rattle.nf_base.specs.declared.width.Width.{Width}
 use Rattle.nf_base.specs.declared.width.Width.TheVariants.{W64}
 use Rattle.nf_base.specs.declared.decl.ColumnDecl.{ColumnDecl}
-use Rattle.nf_base.specs.declared.decl.ColumnId.{ColumnId}
-use Rattle.nf_base.specs.declared.decl.ColumnId.TheVariants as ids
 use Rattle.nf_base.specs.declared.decl.ChainDecl.{ChainDecl}
 use Rattle.nf_base.specs.declared.decl.ArrayDecl.{ArrayDecl}
 use Rattle.nf_tree.specs.declared.place.Name.{Name}

@@ -1,5 +1,5 @@
 -- What is wrong with the declarations of a text, each by those before it.
-use Rattle.std.specs.Prelude.{ℕ, ◌+◌, nat_le, nat_lt, Bool, true, false, ◌||◌, not, List, [], ◌∷◌, ◌++◌, length, map, drop}
+use Rattle.std.specs.Prelude.{ℕ, ◌+◌, nat_le, nat_lt, Bool, true, ◌||◌, not, List, [], ◌∷◌, ◌++◌, length, map, drop}
 use Rattle.nf_base.specs.declared.decl.ColumnDecl.{ColumnDecl}
 use Rattle.nf_base.specs.declared.decl.MapDecl.{MapDecl}
 use Rattle.nf_base.specs.declared.decl.ChainDecl.{ChainDecl}
@@ -55,12 +55,15 @@ labels_faults d n [] = []
 labels_faults d n (l ∷ ls) = label_faults d n l ++ labels_faults (with_label_of d l) (n + 1) ls
 
 -- a map is the sixteenth of all chains at most; so many stand in the chains before
-unfoldable pub map_faults : ℕ → ChainDecl → MapTree → List Fault
-map_faults maps d m =
+unfoldable pub map_name_faults : ℕ → ChainDecl → MapTree → List Fault
+map_name_faults maps d m =
     fault_if (nat_le 16 (maps + length d.maps)) Limit m.place
     ++ (fault_if (names_map d m.name.bytes) Twice m.name.place
-    ++ (length_faults m.name
-    ++ labels_faults d 0 m.labels))
+    ++ length_faults m.name)
+
+-- a map with its labels
+unfoldable pub map_faults : ℕ → ChainDecl → MapTree → List Fault
+map_faults maps d m = map_name_faults maps d m ++ labels_faults d 0 m.labels
 
 -- how many columns of a kind stand before
 abbrev pub columns_before : ColumnKind → (fixed : ℕ) → ChainDecl → ℕ

@@ -1,10 +1,9 @@
 -- What the declarations of a text stand for.
-use Rattle.std.specs.Prelude.{ℕ, ◌==◌, ◌-◌, Bool, true, false, ◌||◌, List, [], ◌∷◌, ◌++◌, if◌then◌else◌, length, map, take, replicate, fold, flat_map}
+use Rattle.std.specs.Prelude.{ℕ, ◌==◌, ◌-◌, Bool, ◌||◌, List, [], ◌∷◌, ◌++◌, if◌then◌else◌, length, map, take, replicate, fold}
 use Rattle.nf_base.specs.declared.width.Width.{Width}
 use Rattle.nf_base.specs.declared.width.Width.TheVariants.{W8, W16, W32, W48, W64}
 use Rattle.nf_base.specs.declared.decl.ColumnDecl.{ColumnDecl}
 use Rattle.nf_base.specs.declared.decl.ColumnId.TheVariants as ids
-use Rattle.nf_base.specs.declared.decl.MapDecl.{MapDecl}
 use Rattle.nf_base.specs.declared.decl.ChainDecl.{ChainDecl}
 use Rattle.nf_base.specs.declared.decl.ArrayDecl.{ArrayDecl}
 use Rattle.nf_base.specs.Values.{narrowed}
@@ -12,10 +11,8 @@ use Rattle.nf_types.specs.declared.objects.Objects.{Objects}
 use Rattle.nf_tree.specs.declared.place.Name.{Name}
 use Rattle.nf_tree.specs.declared.place.Literal.{Literal}
 use Rattle.nf_tree.specs.declared.tree.Label as declared_label
-use Rattle.nf_tree.specs.declared.tree.MapTree.{MapTree}
 use Rattle.nf_tree.specs.declared.tree.ColumnKind.{ColumnKind}
 use Rattle.nf_tree.specs.declared.tree.ColumnKind.TheVariants.{Fixed, Free}
-use Rattle.nf_tree.specs.declared.tree.ColumnTree.{ColumnTree}
 use Rattle.nf_tree.specs.declared.tree.Part.{Part}
 use Rattle.nf_tree.specs.declared.tree.Part.TheVariants as parts
 use Rattle.nf_tree.specs.declared.tree.ChainTree.{ChainTree}

@@ -1,5 +1,5 @@
 -- What the check's own fronts of statements stand for.
-use Rattle.std.specs.Prelude.{ℕ, List, map, Option, Some, None}
+use Rattle.std.specs.Prelude.{ℕ, map, Option, Some, None}
 use denote.Ref.{Bor}
 use Rattle.nf_tree.specs.declared.tree.Block as declared_block
 use Rattle.nf_tree.specs.View as tree

@@ -1,6 +1,6 @@
 -- What the fronts of statements stand for: which chain, which map, which values. What is not declared has the
 -- number 0, and no labels. The first argument counts the look-ups and cells before a part in the text.
-use Rattle.std.specs.Prelude.{ℕ, ◌+◌, List, [], ◌∷◌, Option, Some, None, if◌then◌else◌, length, map, take, drop}
+use Rattle.std.specs.Prelude.{ℕ, ◌+◌, List, [], ◌∷◌, Option, Some, None, if◌then◌else◌, map, take, drop}
 use Rattle.std.specs.Str.{bytes_eq}
 use Rattle.nf_base.specs.Text.{Expression, Number, Given, Guard}
 use Rattle.nf_base.specs.declared.width.Width.TheVariants.{W64}

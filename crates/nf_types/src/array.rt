@@ -49,11 +49,7 @@ fn contents(size: u32, contents: &[Literal]) -> Result<(), Fault>
 }
 
 /// Numbers taken to a width.
-fn all_narrowed(
-    alloc: Global,
-    width: Width,
-    contents: &[Literal],
-) -> Result<Vec<u64>, AllocError>
+fn all_narrowed(alloc: Global, width: Width, contents: &[Literal]) -> Result<Vec<u64>, AllocError>
     ensures { IfOk result (λ all. all.items ≡ map (λ n. narrowed width n.value) contents.now) }
 {
     let mut all = Vec::new(alloc);

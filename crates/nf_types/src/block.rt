@@ -95,7 +95,15 @@ fn find(
     requires in_scope { length (variables_of scope.now) ≤ place }
     ensures { IfOk result (λ code. checked.block_of code ≡ sought_in place objects.now (variables_of scope.now) x.now.variable.now x.now.chain.now (syntax.expression_of x.now.index.now) (syntax.guards_of x.now.guards.now) (syntax.block_of x.now.hit.now) (syntax.block_of x.now.miss.now) (checked.block_of next)) }
 {
-    let at = seek(alloc, place + 1, objects, scope, &x.chain.bytes, x.index, x.guards)?;
+    let at = seek(
+        alloc,
+        place + 1,
+        objects,
+        scope,
+        &x.chain.bytes,
+        x.index,
+        x.guards,
+    )?;
     let inner = Variables::Bound {
         name: &x.variable.bytes,
         chain: chain_with_name(objects, x.chain),

@@ -8,6 +8,7 @@ ghost use Rattle.nf_types.specs.Counts.{behind, behind_get, behind_new};
 ghost use Rattle.nf_types.specs.Faults.{first, fault_in};
 ghost use Rattle.nf_types.specs.View.{variables_of};
 
+use crate::code::chain_with_name;
 use crate::counts::{Room, lookups_left};
 use crate::fault::{Fault, TypingKind, refuse_if};
 use crate::objects::Objects;
@@ -15,7 +16,6 @@ use crate::statement_rules::{binding, find as seek, look_up, make, store, write}
 use crate::text::{FindText, GetText, IfText, NewText};
 use crate::value_rules::{in_scope, value};
 use crate::variables::Variables;
-use crate::code::chain_with_name;
 use nf_tree::Block;
 
 /// Of two faults the one that stands earlier in the text.
@@ -30,12 +30,7 @@ fn earlier(front: Result<(), Fault>, later: Result<(), Fault>) -> Result<(), Fau
 
 /// The front of a `get`, and what may still come behind it.
 #[tactic(auto, using(crate::proofs::First::first_append), unfolding(crate::specs::BlockFaults::get_faults))]
-fn get_front(
-    objects: &Objects,
-    room: Room,
-    scope: &Variables,
-    x: &GetText,
-) -> Result<Room, Fault>
+fn get_front(objects: &Objects, room: Room, scope: &Variables, x: &GetText) -> Result<Room, Fault>
     ensures fault { first (get_faults (behind room (syntax.block_of x.now.before.now)) objects.now (variables_of scope.now) x.now.place x.now.variable.now x.now.chain.now x.now.wanted.now (map syntax.expression_of x.now.key.now) x.now.close) ≡ fault_in result }
     ensures left { IfOk result (λ left. left ≡ behind_get (behind room (syntax.block_of x.now.before.now))) }
 {
@@ -48,12 +43,7 @@ fn get_front(
 
 /// The front of a `find`, and what may still come behind it.
 #[tactic(auto, using(crate::proofs::First::first_append), unfolding(crate::specs::BlockFaults::find_faults))]
-fn find_front(
-    objects: &Objects,
-    room: Room,
-    scope: &Variables,
-    x: &FindText,
-) -> Result<Room, Fault>
+fn find_front(objects: &Objects, room: Room, scope: &Variables, x: &FindText) -> Result<Room, Fault>
     ensures fault { first (find_faults (behind room (syntax.block_of x.now.before.now)) objects.now (variables_of scope.now) x.now.place x.now.variable.now x.now.chain.now (syntax.expression_of x.now.index.now) (syntax.guards_of x.now.guards.now)) ≡ fault_in result }
     ensures left { IfOk result (λ left. left ≡ behind_get (behind room (syntax.block_of x.now.before.now))) }
 {
@@ -66,12 +56,7 @@ fn find_front(
 
 /// The front of a `new`, and what may still come behind it.
 #[tactic(auto, using(crate::proofs::First::first_append), unfolding(crate::specs::BlockFaults::new_faults))]
-fn new_front(
-    objects: &Objects,
-    room: Room,
-    scope: &Variables,
-    x: &NewText,
-) -> Result<Room, Fault>
+fn new_front(objects: &Objects, room: Room, scope: &Variables, x: &NewText) -> Result<Room, Fault>
     ensures fault { first (new_faults (behind room (syntax.block_of x.now.before.now)) objects.now (variables_of scope.now) x.now.place x.now.variable.now x.now.chain.now (map syntax.given_of x.now.given.now) x.now.close) ≡ fault_in result }
     ensures left { IfOk result (λ left. left ≡ behind_new (behind room (syntax.block_of x.now.before.now))) }
 {
@@ -151,12 +136,7 @@ fn new(objects: &Objects, room: Room, scope: &Variables, x: &NewText) -> Result<
 /// the text takes the place of what was found.
 #[cycle(rules)]
 #[tactic(auto, using(crate::proofs::First::first_append))]
-pub fn block(
-    objects: &Objects,
-    room: Room,
-    scope: &Variables,
-    block: &Block,
-) -> Result<(), Fault>
+pub fn block(objects: &Objects, room: Room, scope: &Variables, block: &Block) -> Result<(), Fault>
     ensures { first (block_faults room objects.now (variables_of scope.now) (syntax.block_of block.now)) ≡ fault_in result }
 {
     let mut found = Ok(());

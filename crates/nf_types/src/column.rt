@@ -5,7 +5,7 @@ ghost use Rattle.nf_tree.specs.declared.tree.ColumnKind.TheVariants as kinds;
 ghost use Rattle.nf_tree.specs.declared.tree.Part.TheVariants as parts;
 ghost use Rattle.nf_types.specs.Answers.{Finds};
 ghost use Rattle.nf_types.specs.Declarations.{width_of, column_of, with_label, with_label_of, with_map, with_column, with_part};
-ghost use Rattle.nf_types.specs.DeclarationFaults.{width_faults, names_column, names_map, label_faults, labels_faults, map_faults, columns_before, one_if_fixed, column_faults};
+ghost use Rattle.nf_types.specs.DeclarationFaults.{width_faults, names_column, names_map, label_faults, labels_faults, map_name_faults, map_faults, columns_before, one_if_fixed, column_faults};
 ghost use Rattle.nf_types.specs.Roomy.{IsRoomy};
 
 use crate::fault::{Fault, Stop, TypingKind, refuse_if};
@@ -111,6 +111,20 @@ fn names_map(chain: &ChainDecl, name: &[u8]) -> bool
     is_among(name, chain.maps.as_slice())
 }
 
+/// The name of a map, behind so many maps of other chains.
+#[tactic(auto, using(crate::proofs::First::first_append), unfolding(crate::specs::DeclarationFaults::map_name_faults))]
+fn map_name(alloc: Global, maps: u32, chain: &ChainDecl, tree: &MapTree) -> Result<Name, Stop>
+    requires maps { maps ≤ 16 }
+    ensures found { Finds (λ x. x) (map_name_faults maps chain.now tree.now) tree.now.name.bytes result }
+    ensures few { IfOk result (λ x. maps + length chain.now.maps ≤ 15) }
+{
+    let is_many = maps + chain.maps.len() >= MOST_MAPS;
+    refuse_if(is_many, TypingKind::Limit, tree.place)?;
+    let is_taken = names_map(chain, tree.name.bytes.as_slice());
+    refuse_if(is_taken, TypingKind::Twice, tree.name.place)?;
+    declared(alloc, &tree.name)
+}
+
 /// A chain with one map more, behind so many maps of other chains.
 #[tactic(auto, using(crate::proofs::First::first_append), unfolding(crate::specs::DeclarationFaults::map_faults))]
 pub fn map(
@@ -128,11 +142,7 @@ pub fn map(
     ensures few { IfOk result (λ d. maps + length d.maps ≤ 16) }
     ensures roomy { IfOk result (λ d. IsRoomy fixed d) }
 {
-    let place = tree.place;
-    refuse_if(maps + chain.maps.len() >= MOST_MAPS, TypingKind::Limit, place)?;
-    let is_taken = names_map(&chain, tree.name.bytes.as_slice());
-    refuse_if(is_taken, TypingKind::Twice, tree.name.place)?;
-    let name = declared(alloc, &tree.name)?;
+    let name = map_name(alloc, maps, &chain, tree)?;
     let first = chain.labels.len();
     let chain = labels(alloc, chain, tree.labels.as_slice())?;
     let parts = tree.labels.len() as u32;
@@ -184,7 +194,12 @@ fn columns_before(kind: ColumnKind, fixed: u32, chain: &ChainDecl) -> u32
 
 /// A column behind so many fixed ones of its chain.
 #[tactic(auto, using(crate::proofs::First::first_append), unfolding(crate::specs::DeclarationFaults::column_faults))]
-pub fn column(alloc: Global, fixed: u32, chain: &ChainDecl, tree: &ColumnTree) -> Result<ColumnDecl, Stop>
+pub fn column(
+    alloc: Global,
+    fixed: u32,
+    chain: &ChainDecl,
+    tree: &ColumnTree,
+) -> Result<ColumnDecl, Stop>
     ensures found { Finds (λ c. c) (column_faults fixed chain.now tree.now) (column_of tree.now.name tree.now.width) result }
     ensures few { IfOk result (λ c. columns_before tree.now.kind fixed chain.now ≤ 7) }
 {

@@ -80,12 +80,7 @@ pub fn array_number(objects: &Objects, name: &Name) -> u32
     }
 }
 
-fn both(
-    alloc: Global,
-    operator: Operator,
-    left: Expr,
-    right: Expr,
-) -> Result<Expr, AllocError>
+fn both(alloc: Global, operator: Operator, left: Expr, right: Expr) -> Result<Expr, AllocError>
     ensures { IfOk result (λ e. checked.expression_of e ≡ text.Both operator (checked.expression_of left) (checked.expression_of right)) }
 {
     Ok(Expr::Both {

@@ -68,10 +68,7 @@ pub fn value(objects: &Objects, scope: &Variables, value: &Value) -> Result<(), 
         Value::Field { field: _, place: _ } => Ok(()),
         Value::Column { variable, column } => read(scope, variable, column),
         Value::Index { variable } => in_scope(scope, variable),
-        Value::Cell {
-            array: name,
-            index,
-        } => {
+        Value::Cell { array: name, index } => {
             array(objects, name)?;
             self::value(objects, scope, index)
         }

@@ -1,6 +1,5 @@
 -- what was made is what comes of the ports so far
 use Rattle.std.proofs.Common.{◌≡◌, length, map}
-use Rattle.std.specs.List.{range_with_len}
 use Rattle.nf_base.specs.View as checked
 use Rattle.nf_tree.specs.View as syntax
 use Rattle.nf_types.specs.Function.{handlers_of}

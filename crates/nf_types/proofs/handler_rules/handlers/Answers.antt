@@ -1,4 +1,4 @@
-use Rattle.std.proofs.Common.{◌≡◌, ◌≤◌, ℕ, length, map, None, Result, Ok, Err, IfOk, arith}
+use Rattle.std.proofs.Common.{◌≤◌, length, map, Result, Ok, Err, IfOk, arith}
 use Rattle.std.proofs.lemmas.List.{length-map}
 use Rattle.nf_tree.specs.View as syntax
 use Rattle.nf_types.proofs.Few.{few_handlers}

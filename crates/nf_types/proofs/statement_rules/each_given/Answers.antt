@@ -1,7 +1,7 @@
-use Rattle.std.proofs.Common.{◌≡◌, ◌<◌, ◌∙◌, sym, length, arith, get_or, None, Some, map, take, ap, refl}
+use Rattle.std.proofs.Common.{◌≡◌, ◌<◌, ◌∙◌, sym, length, arith, get_or, None, Some, map, take}
 use Rattle.std.proofs.lemmas.Grind.{common_steps}
 use Rattle.nf_tree.specs.View as syntax
-use Rattle.nf_types.specs.Faults.{first, fault_in}
+use Rattle.nf_types.specs.Faults.{first}
 use Rattle.nf_types.specs.StatementFaults.{given_faults}
 use Rattle.nf_types.specs.View.{variables_of}
 use Rattle.nf_types.proofs.Behind.{seen_ok, seen_err}
