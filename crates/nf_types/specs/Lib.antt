@@ -16,3 +16,5 @@ pub mod View
 pub mod Answers
 pub mod Fronts
 pub mod Roomy
+pub mod Rows
+pub mod Samples

@@ -17,6 +17,7 @@ mod handler_rules;
 mod name;
 mod objects;
 mod places;
+pub mod rows;
 mod statement;
 mod statement_rules;
 mod text;
@@ -26,3 +27,8 @@ mod variables;
 
 pub use fault::{CheckFault, TypingKind};
 pub use function::check;
+
+#[cfg(test)]
+mod fault_tests;
+#[cfg(test)]
+mod tests;
