@@ -3,16 +3,19 @@ use Rattle.std.proofs.Common.{◌≡◌, ℕ, zero, suc, ◌≤◌, min, List, [
 use Rattle.nf_base.specs.declared.decl.ColumnDecl.{ColumnDecl}
 use Rattle.nf_tree.specs.declared.tree.Expr.{Expr}
 use Rattle.nf_tree.specs.View.{expression_of}
+use Rattle.nf_types.specs.declared.objects.Objects.{Objects}
+use Rattle.nf_types.specs.Variables.{Variable}
 use Rattle.nf_types.specs.Statements.{key_of}
 
-no_value : (parts : List ColumnDecl) → key_of parts [] ≡ []
-no_value [] = refl
-no_value (p ∷ ps) = refl
+no_value : (place : ℕ) (o : Objects) (xs : List Variable) (parts : List ColumnDecl) → key_of place o xs parts [] ≡ []
+no_value place o xs [] = refl
+no_value place o xs (p ∷ ps) = refl
 
-pub ended : (i : ℕ) (parts : List ColumnDecl) (key : List Expr) → min (length parts) (length key) ≤ i → key_of (drop i parts) (map expression_of (drop i key)) ≡ []
-ended zero [] key h = refl
-ended zero (p ∷ ps) [] h = refl
-ended zero (p ∷ ps) (k ∷ ks) h = absurd (omega arith)
-ended (suc i) [] key h = refl
-ended (suc i) (p ∷ ps) [] h = no_value (drop i ps)
-ended (suc i) (p ∷ ps) (k ∷ ks) h = ended i ps ks (omega arith)
+pub ended : (place : ℕ) (o : Objects) (xs : List Variable) (i : ℕ) (parts : List ColumnDecl) (key : List Expr) → min (length parts) (length key) ≤ i →
+    key_of place o xs (drop i parts) (map expression_of (drop i key)) ≡ []
+ended place o xs zero [] key h = refl
+ended place o xs zero (p ∷ ps) [] h = refl
+ended place o xs zero (p ∷ ps) (k ∷ ks) h = absurd (omega arith)
+ended place o xs (suc i) [] key h = refl
+ended place o xs (suc i) (p ∷ ps) [] h = no_value place o xs (drop i ps)
+ended place o xs (suc i) (p ∷ ps) (k ∷ ks) h = ended place o xs i ps ks (omega arith)

@@ -1,18 +1,16 @@
 -- Handlers of different ports, all of them declared, are no more than the ports.
-use Rattle.std.proofs.Common.{◌≡◌, ◌∙◌, ℕ, ◌+◌, ◌==◌, ◌≤◌, ◌<◌, List, [], ◌∷◌, ◌++◌, Bool, true, false, ◌||◌, ◌⊎◌, inl, inr, eqb, None, length, map, nat_le, arith, refl, sym, ap, subst, length-append}
+use Rattle.std.proofs.Common.{◌≡◌, ◌∙◌, ℕ, ◌+◌, ◌≤◌, ◌<◌, List, [], ◌∷◌, ◌++◌, Bool, true, false, ◌||◌, ◌⊎◌, inl, inr, eqb, None, length, map, nat_le, arith, refl, sym, ap, length-append}
 use Rattle.std.specs.List.{list_any, IsDistinct, AllByRecursion}
-use Rattle.std.proofs.lemmas.Grind.{common_steps}
 use Rattle.std.proofs.lemmas.Bool.Decides.{nat_tests}
 use Rattle.std.proofs.lemmas.List.{map-append, length-map}
 use Rattle.std.proofs.lemmas.List.Folds.{list_any-append}
 use Rattle.std.proofs.lemmas.Map.Steps.{length-le_from_distinct_below}
-use Rattle.nf_base.specs.declared.decl.ChainDecl.{ChainDecl}
+use Rattle.nf_types.specs.declared.objects.Objects.{Objects}
 use Rattle.nf_tree.specs.Tree as tree
 use Rattle.nf_types.specs.declared.fault.TypingKind.TheVariants.{Limit, Twice}
 use Rattle.nf_types.specs.Faults.{first, fault_if, each_behind}
 use Rattle.nf_types.specs.Counts.{whole_room}
 use Rattle.nf_types.specs.BlockFaults.{block_faults}
-use Rattle.nf_types.specs.Function.{is_at}
 use Rattle.nf_types.specs.TextFaults.{handler_faults, is_handled}
 use Rattle.nf_types.proofs.First.{front_none, back_none, test_none}
 
@@ -58,7 +56,7 @@ same_test : (port : ℕ) (hs : List tree.Handler) → list_any (λ q. eqb q port
 same_test port [] = refl
 same_test port (h ∷ hs) = ap (λ b. eqb h.port.value port || b) (same_test port hs)
 
-declared : (ports : ℕ) (ds : List ChainDecl) (before : List tree.Handler) (h : tree.Handler) → first (handler_faults ports ds before h) ≡ None →
+declared : (ports : ℕ) (ds : Objects) (before : List tree.Handler) (h : tree.Handler) → first (handler_faults ports ds before h) ≡ None →
     (is_handled h.port.value before ≡ false) × (h.port.value < ports)
 unfolding handler_faults
 declared ports ds before h e =
@@ -69,7 +67,7 @@ declared ports ds before h e =
     let within = test_none (nat_le ports h.port.value) Limit h.port.place (front_none limit inner (back_none twice (limit ++ inner) e)) in
     (new, grind (arith, nat_tests, within))
 
-each_few : (ports : ℕ) (ds : List ChainDecl) (before hs : List tree.Handler) → AreApart ports (map port_of before) →
+each_few : (ports : ℕ) (ds : Objects) (before hs : List tree.Handler) → AreApart ports (map port_of before) →
     first (each_behind (handler_faults ports ds) before hs) ≡ None → length before + length hs ≤ ports
 each_few ports ds before [] a e =
     let few : length (map port_of before) ≤ ports = length-le_from_distinct_below (map port_of before) ports a.distinct a.below in
@@ -88,5 +86,5 @@ none_apart : (n : ℕ) → AreApart n []
 unfolding IsDistinct
 none_apart n = record { distinct = tt; below = λ q e. cc }
 
-pub few_handlers : (ports : ℕ) (ds : List ChainDecl) (hs : List tree.Handler) → first (each_behind (handler_faults ports ds) [] hs) ≡ None → length hs ≤ ports
+pub few_handlers : (ports : ℕ) (ds : Objects) (hs : List tree.Handler) → first (each_behind (handler_faults ports ds) [] hs) ≡ None → length hs ≤ ports
 few_handlers ports ds hs e = let few : 0 + length hs ≤ ports = each_few ports ds [] hs (none_apart ports) e in omega (arith, few)

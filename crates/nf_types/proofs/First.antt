@@ -1,5 +1,5 @@
 -- The first fault of lists one behind the other.
-use Rattle.std.proofs.Common.{◌≡◌, List, [], ◌∷◌, ◌++◌, Option, Some, None, Bool, true, false, refl}
+use Rattle.std.proofs.Common.{◌≡◌, List, [], ◌∷◌, ◌++◌, None, Bool, true, false, refl}
 use Rattle.std.specs.Option.{option_or}
 use Rattle.nf_types.specs.declared.fault.Fault.{Fault}
 use Rattle.nf_tokens.specs.declared.token.Place.{Place}

@@ -1,8 +1,9 @@
 pub mod First
 pub mod Behind
 pub mod Ended
-pub mod Small
-pub mod Few
 pub mod Maps
-pub mod Counted
 pub mod Ranges
+pub mod Few
+pub mod Small
+pub mod Counted
+pub mod Steps

@@ -1,5 +1,5 @@
 -- A test of the numbers from i up to n, one number further.
-use Rattle.std.proofs.Common.{◌≡◌, ◌∙◌, ℕ, ◌+◌, ◌-◌, ◌<◌, Bool, true, false, ◌||◌, suc, sym, ap, arith}
+use Rattle.std.proofs.Common.{◌≡◌, ◌∙◌, ℕ, ◌+◌, ◌-◌, ◌<◌, Bool, false, ◌||◌, suc, sym, ap, arith}
 use Rattle.std.specs.List.{list_any, range_with_len}
 
 pub any_more : (p : ℕ → Bool) (i n : ℕ) → i < n → p i ≡ false →

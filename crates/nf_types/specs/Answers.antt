@@ -1,5 +1,5 @@
 -- What the check answers.
-use Rattle.std.specs.Prelude.{◌≡◌, List, [], Option, Some, None, Result, Ok, Err}
+use Rattle.std.specs.Prelude.{◌≡◌, List, [], Some, None, Result, Ok, Err}
 use Rattle.nf_base.specs.declared.func.Func.{Func}
 use Rattle.nf_base.specs.Functions.{function_of}
 use Rattle.nf_tree.specs.Tree.{Tree}

@@ -1,14 +1,24 @@
 -- What the declarations of a text stand for.
-use Rattle.std.specs.Prelude.{ℕ, ◌==◌, Bool, ◌||◌, List, [], ◌∷◌, if◌then◌else◌, length, map}
-use Rattle.std.specs.List.{range_with_len}
+use Rattle.std.specs.Prelude.{ℕ, ◌==◌, ◌-◌, Bool, ◌||◌, List, [], ◌∷◌, ◌++◌, if◌then◌else◌, length, map, take, replicate, fold}
 use Rattle.nf_base.specs.declared.width.Width.{Width}
 use Rattle.nf_base.specs.declared.width.Width.TheVariants.{W8, W16, W32, W48, W64}
 use Rattle.nf_base.specs.declared.decl.ColumnDecl.{ColumnDecl}
 use Rattle.nf_base.specs.declared.decl.ColumnId.TheVariants as ids
-use Rattle.nf_base.specs.declared.decl.MapDecl.{MapDecl}
 use Rattle.nf_base.specs.declared.decl.ChainDecl.{ChainDecl}
+use Rattle.nf_base.specs.declared.decl.ArrayDecl.{ArrayDecl}
+use Rattle.nf_base.specs.Values.{narrowed}
+use Rattle.nf_types.specs.declared.objects.Objects.{Objects}
+use Rattle.nf_tree.specs.declared.place.Name.{Name}
+use Rattle.nf_tree.specs.declared.place.Literal.{Literal}
 use Rattle.nf_tree.specs.declared.tree.Label as declared_label
+use Rattle.nf_tree.specs.declared.tree.ColumnKind.{ColumnKind}
+use Rattle.nf_tree.specs.declared.tree.ColumnKind.TheVariants.{Fixed, Free}
+use Rattle.nf_tree.specs.declared.tree.Part.{Part}
+use Rattle.nf_tree.specs.declared.tree.Part.TheVariants as parts
 use Rattle.nf_tree.specs.declared.tree.ChainTree.{ChainTree}
+use Rattle.nf_tree.specs.declared.tree.ArrayTree.{ArrayTree}
+use Rattle.nf_tree.specs.declared.tree.Declaration.{Declaration}
+use Rattle.nf_tree.specs.declared.tree.Declaration.TheVariants as declarations
 
 -- the five widths, in bits
 abbrev pub is_width : ℕ → Bool
@@ -21,23 +31,54 @@ width_of n =
     if n == 32 then W32 else
     if n == 48 then W48 else W64
 
-abbrev pub label_of : declared_label.Label → ColumnDecl
-label_of l = record { name = l.name.bytes; width = width_of l.width.value }
+-- a label or a column, with its width
+abbrev pub column_of : Name → Literal → ColumnDecl
+column_of x n = record { name = x.bytes; width = width_of n.value }
 
--- a chain whose labels are the key parts of its one map
-abbrev pub chain_with : List ℕ → ℕ → ℕ → List ℕ → List ColumnDecl → ChainDecl
-chain_with x size lifetime m labels = record {
-  name = x;
-  size = size;
-  lifetime = lifetime;
-  labels = labels;
-  free = [];
-  maps = record { name = m; first = 0; parts = length labels } ∷ [];
-  columns = map ids.Label (range_with_len 0 (length labels));
+-- a chain with one label more
+abbrev pub with_label : ChainDecl → ColumnDecl → ChainDecl
+with_label d l = record d { labels = d.labels ++ l ∷ []; columns = d.columns ++ ids.Label (length d.labels) ∷ [] }
+
+-- a chain with one map more, whose key is so many labels from a first one on
+abbrev pub with_map : ChainDecl → List ℕ → (first parts : ℕ) → ChainDecl
+with_map d m first parts = record d { maps = d.maps ++ record { name = m; first = first; parts = parts } ∷ [] }
+
+abbrev pub with_label_of : ChainDecl → declared_label.Label → ChainDecl
+with_label_of d l = with_label d (column_of l.name l.width)
+
+-- a chain with one column more
+abbrev pub with_column : ColumnKind → ChainDecl → ColumnDecl → ChainDecl
+with_column Fixed d c = with_label d c
+with_column Free d c = record d { free = d.free ++ c ∷ []; columns = d.columns ++ ids.Free (length d.free) ∷ [] }
+
+-- a chain with one part more: the labels of a map are its key
+abbrev pub with_part : ChainDecl → Part → ChainDecl
+with_part d (parts.Map m) = with_map (fold with_label_of d m.labels) m.name.bytes (length d.labels) (length m.labels)
+with_part d (parts.Column c) = with_column c.kind d (column_of c.name c.width)
+
+abbrev pub with_no_parts : ChainTree → ChainDecl
+with_no_parts c = record { name = c.name.bytes; size = c.size.value; lifetime = c.lifetime.value; labels = []; free = []; maps = []; columns = [] }
+
+-- the labels are the key parts of the maps and the fixed columns, in text order
+unfoldable pub chain_of : ChainTree → ChainDecl
+chain_of c = fold with_part (with_no_parts c) c.parts
+
+-- the opening contents are taken to the width; cells without one are 0
+unfoldable pub array_of : ArrayTree → ArrayDecl
+array_of a = record {
+  name = a.name.bytes;
+  width = width_of a.width.value;
+  cells = map (λ (n : Literal). narrowed (width_of a.width.value) n.value) (take a.size.value a.contents) ++ replicate (a.size.value - length a.contents) 0;
 }
 
-unfoldable pub chain_of : ChainTree → ChainDecl
-chain_of c = chain_with c.name.bytes c.size.value c.lifetime.value c.map.name.bytes (map label_of c.map.labels)
+-- the chains and arrays so far, with one declaration more
+abbrev pub with_declaration : Objects → Declaration → Objects
+with_declaration o (declarations.Chain c) = record { chains = o.chains ++ chain_of c ∷ []; arrays = o.arrays }
+with_declaration o (declarations.Array a) = record { chains = o.chains; arrays = o.arrays ++ array_of a ∷ [] }
 
-abbrev pub chains_of : List ChainTree → List ChainDecl
-chains_of cs = map chain_of cs
+abbrev pub no_objects : Objects
+no_objects = record { chains = []; arrays = [] }
+
+-- the chains and arrays that a handler's text may name
+abbrev pub objects_of : List Declaration → Objects
+objects_of ds = fold with_declaration no_objects ds

@@ -1,5 +1,5 @@
 -- Type faults, and lists of them in text order.
-use Rattle.std.specs.Prelude.{ℕ, Bool, nat_lt, List, [], ◌∷◌, ◌++◌, Option, Some, None, Result, Ok, Err, if◌then◌else◌, length}
+use Rattle.std.specs.Prelude.{Bool, nat_lt, List, [], ◌∷◌, ◌++◌, Option, Some, None, Result, Ok, Err, if◌then◌else◌, length}
 use Rattle.nf_tokens.specs.declared.token.Place.{Place}
 use Rattle.nf_tree.specs.declared.place.Name.{Name}
 use Rattle.nf_types.specs.declared.fault.TypingKind.{TypingKind}

@@ -3,7 +3,7 @@ use Rattle.std.specs.Prelude.{◌≤◌, List, [], ◌∷◌}
 use Rattle.nf_tree.specs.Tree.{Block, Handler}
 use Rattle.nf_types.specs.Counts.{news, lookups}
 
--- at most 16 `new`, and at most 32 of `get` and `new` together
+-- at most 16 `new`, and at most 32 of `get`, `find` and `new` together
 pub record IsSmall (b : Block) : Type 0 where
   pub news : news b ≤ 16
   pub lookups : lookups b ≤ 32

@@ -1,12 +1,12 @@
-//! How many `get` and `new` a block has, and how many more may come.
+//! How many look-ups a block has, and how many more may come.
 
-ghost use Rattle.std.specs.Prelude.{◌≡◌, ◌+◌, ◌-◌, ◌≤◌};
+ghost use Rattle.std.specs.Prelude.{◌≡◌, ◌-◌};
 ghost use Rattle.nf_tree.specs.View.{block_of};
 ghost use Rattle.nf_types.specs.Counts.{news, lookups};
 
 use nf_tree::Block;
 
-/// How many `get` and `new` together a handler may have.
+/// How many `get`, `find` and `new` together a handler may have.
 pub const MOST_LOOKUPS: u32 = 32;
 
 /// How many `new` a handler may have.
@@ -15,13 +15,13 @@ pub const MOST_NEWS: u32 = 16;
 /// What may still come in a handler.
 #[derive(Clone, Copy, Debug, PartialEq, Eq)]
 pub struct Room {
-    /// How many `get` and `new` together.
+    /// How many `get`, `find` and `new` together.
     pub lookups: u32,
     /// How many `new`.
     pub news: u32,
 }
 
-/// How many more `get` and `new` may come behind a block, of so many.
+/// How many more `get`, `find` and `new` may come behind a block, of so many.
 pub fn lookups_left(room: u32, block: &Block) -> u32
     ensures { result ≡ room - lookups (block_of block.now) }
 {
@@ -52,6 +52,19 @@ pub fn lookups_left(room: u32, block: &Block) -> u32
                 left = lookups_left(lookups_left(left - 1, hit), miss);
                 rest = before
             }
+            Block::Find {
+                before,
+                place: _,
+                variable: _,
+                chain: _,
+                index: _,
+                guards: _,
+                hit,
+                miss,
+            } => {
+                left = lookups_left(lookups_left(left - 1, hit), miss);
+                rest = before
+            }
             Block::New {
                 before,
                 place: _,
@@ -67,7 +80,36 @@ pub fn lookups_left(room: u32, block: &Block) -> u32
                 left = lookups_left(left, full);
                 rest = before
             }
+            Block::If {
+                before,
+                left: _,
+                comparison: _,
+                right: _,
+                holds,
+                fails,
+            } => {
+                left = lookups_left(lookups_left(left, holds), fails);
+                rest = before
+            }
+            Block::Free {
+                before,
+                place: _,
+                variable: _,
+            } => rest = before,
+            Block::Write {
+                before,
+                variable: _,
+                column: _,
+                value: _,
+            } => rest = before,
+            Block::Store {
+                before,
+                array: _,
+                index: _,
+                value: _,
+            } => rest = before,
             Block::Forward { before, port: _ } => rest = before,
+            Block::Flood { before } => rest = before,
             Block::Discard { before } => rest = before,
         }
     }
@@ -104,6 +146,19 @@ pub fn news_left(room: u32, block: &Block) -> u32
                 left = news_left(news_left(left, hit), miss);
                 rest = before
             }
+            Block::Find {
+                before,
+                place: _,
+                variable: _,
+                chain: _,
+                index: _,
+                guards: _,
+                hit,
+                miss,
+            } => {
+                left = news_left(news_left(left, hit), miss);
+                rest = before
+            }
             Block::New {
                 before,
                 place: _,
@@ -119,18 +174,39 @@ pub fn news_left(room: u32, block: &Block) -> u32
                 left = news_left(left, full);
                 rest = before
             }
+            Block::If {
+                before,
+                left: _,
+                comparison: _,
+                right: _,
+                holds,
+                fails,
+            } => {
+                left = news_left(news_left(left, holds), fails);
+                rest = before
+            }
+            Block::Free {
+                before,
+                place: _,
+                variable: _,
+            } => rest = before,
+            Block::Write {
+                before,
+                variable: _,
+                column: _,
+                value: _,
+            } => rest = before,
+            Block::Store {
+                before,
+                array: _,
+                index: _,
+                value: _,
+            } => rest = before,
             Block::Forward { before, port: _ } => rest = before,
+            Block::Flood { before } => rest = before,
             Block::Discard { before } => rest = before,
         }
     }
-}
-
-/// How many `get` and `new` a block has that has no more than a handler may have.
-pub fn lookups(block: &Block) -> u32
-    requires { lookups (block_of block.now) ≤ 32 }
-    ensures { result ≡ lookups (block_of block.now) }
-{
-    MOST_LOOKUPS - lookups_left(MOST_LOOKUPS, block)
 }
 
 impl Room {
@@ -146,7 +222,7 @@ impl Room {
         }
     }
 
-    /// What may still come behind a `get`.
+    /// What may still come behind a `get` or a `find`.
     pub fn behind_get(self) -> Room
         ensures { result ≡ behind_get self }
     {

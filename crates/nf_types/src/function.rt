@@ -8,13 +8,13 @@ ghost use Rattle.nf_types.specs.Function.{function};
 ghost use Rattle.nf_types.specs.TextFaults.{faults};
 ghost use Rattle.nf_types.specs.Answers.{Finds, Answers};
 
-use crate::declaration::chains;
+use crate::declaration::declarations;
 use crate::fault::{CheckFault, Stop, TypingKind, refuse_if};
-use crate::handler::handlers;
+use crate::handler::{can_be_numbered, handlers};
 use crate::handler_rules;
 use crate::name::declared;
+use crate::objects::Objects;
 use nf_base::func::Func;
-use nf_base::limited::Limited;
 use nf_tree::{Literal, Tree};
 use std::alloc::Global;
 
@@ -35,20 +35,25 @@ fn ports(ports: &Literal) -> Result<u32, Stop>
     Ok(number as u32)
 }
 
-#[tactic(auto, using(crate::proofs::First::first_append, crate::proofs::Maps::few_maps))]
+/// More places than 32 bits can number count as want of memory.
+#[tactic(auto, using(crate::proofs::First::first_append))]
 fn function(alloc: Global, tree: &Tree) -> Result<Func, Stop>
     ensures { Finds function_of (faults (tree_of tree.now)) (function (tree_of tree.now)) result }
 {
     let name = declared(alloc, &tree.name)?;
     let ports = ports(&tree.ports)?;
-    let chains = chains(alloc, tree.chains.as_slice())?;
+    let objects = declarations(alloc, tree.declarations.as_slice())?;
     let all = tree.handlers.as_slice();
-    handler_rules::handlers(u64::from(ports), chains.as_slice(), all, tree.end)?;
-    let handlers = handlers(alloc, chains.as_slice(), ports, all)?;
+    handler_rules::handlers(u64::from(ports), &objects, all, tree.end)?;
+    if !can_be_numbered(all) {
+        return Err(Stop::Memory);
+    }
+    let handlers = handlers(alloc, &objects, ports, all)?;
+    let Objects { chains, arrays } = objects;
     Ok(Func {
         name,
         chains,
-        arrays: Limited::new(alloc),
+        arrays,
         handlers,
     })
 }

@@ -1,31 +1,45 @@
 //! The code of a function's handlers, by port.
 
-ghost use Rattle.std.specs.Prelude.{◌≡◌, ◌+◌, ◌≤◌, length, map, IfOk, IfSome};
+ghost use Rattle.std.specs.Prelude.{◌≡◌, ◌+◌, ◌<◌, ◌≤◌, ◌^◌, nat_lt, length, map, IfOk, IfSome};
 ghost use Rattle.std.specs.List.{range_with_len};
 ghost use Rattle.nf_base.specs.View as checked;
 ghost use Rattle.nf_tree.specs.View as syntax;
-ghost use Rattle.nf_types.specs.Counts.{lookups};
-ghost use Rattle.nf_types.specs.Function.{block_at, handler_at, handlers_of};
+ghost use Rattle.nf_types.specs.Counts.{places};
+ghost use Rattle.nf_types.specs.Function.{all_places, block_at, handler_at, handlers_of};
 ghost use Rattle.nf_types.specs.Small.{IsSmall, AreSmall};
-ghost use Rattle.nf_types.specs.View.{found_of};
+ghost use Rattle.nf_types.specs.Fronts.{found_of};
 
 use crate::block::block;
-use crate::counts::lookups;
+use crate::objects::Objects;
+use crate::places::{places, places_left};
 use crate::variables::Variables;
 use nf_base::code::Code;
-use nf_base::decl::ChainDecl;
 use nf_base::func::Handler;
 use nf_base::limited::Limited;
 use nf_tree::{Block, HandlerTree};
 use std::alloc::{AllocError, Global};
 
-/// A port's block, and how many `get` and `new` stand before it.
+/// Whether the places of all handlers are less than 2^32.
+pub fn can_be_numbered(handlers: &[HandlerTree]) -> bool
+    ensures { result ≡ nat_lt (all_places (map syntax.handler_of handlers.now)) (2 ^ 32) }
+{
+    let mut left = u32::MAX;
+    for one in handlers {
+        match places_left(left, &one.block) {
+            Some(behind) => left = behind,
+            None => return false,
+        }
+    }
+    true
+}
+
+/// A port's block, and how many places stand before it.
 fn block_at(handlers: &[HandlerTree], port: u64) -> Option<(u32, &Block)>
-    requires few { length handlers.now ≤ 4 }
+    requires places { all_places (map syntax.handler_of handlers.now) < 2 ^ 32 }
     requires small { AreSmall (map syntax.handler_of handlers.now) }
     ensures found { found_of result ≡ block_at port 0 (map syntax.handler_of handlers.now) }
     ensures small { IfSome result (λ x. IsSmall (syntax.block_of x.1.now)) }
-    ensures places { IfSome result (λ x. x.0 + lookups (syntax.block_of x.1.now) ≤ 128) }
+    ensures places { IfSome result (λ x. x.0 + places (syntax.block_of x.1.now) < 2 ^ 32) }
 {
     let mut before = 0;
     let mut rest = handlers;
@@ -33,7 +47,7 @@ fn block_at(handlers: &[HandlerTree], port: u64) -> Option<(u32, &Block)>
         if first.port.value == port {
             return Some((before, &first.block));
         }
-        before += lookups(&first.block);
+        before += places(&first.block);
         rest = others;
     }
     None
@@ -42,18 +56,17 @@ fn block_at(handlers: &[HandlerTree], port: u64) -> Option<(u32, &Block)>
 #[tactic(auto, unfolding(crate::specs::Function::handler_at))]
 fn handler(
     alloc: Global,
-    chains: &[ChainDecl],
+    objects: &Objects,
     handlers: &[HandlerTree],
     port: u32,
 ) -> Result<Handler, AllocError>
-    requires few_chains { length chains.now ≤ 8 }
-    requires few { length handlers.now ≤ 4 }
+    requires places { all_places (map syntax.handler_of handlers.now) < 2 ^ 32 }
     requires small { AreSmall (map syntax.handler_of handlers.now) }
-    ensures { IfOk result (λ h. checked.block_of h.code ≡ handler_at chains.now (map syntax.handler_of handlers.now) port) }
+    ensures { IfOk result (λ h. checked.block_of h.code ≡ handler_at objects.now (map syntax.handler_of handlers.now) port) }
 {
     match block_at(handlers, u64::from(port)) {
         Some((before, text)) => {
-            let code = block(alloc, before, chains, &Variables::Empty, text)?;
+            let code = block(alloc, before, objects, &Variables::Empty, text)?;
             Ok(Handler { code })
         }
         None => Ok(Handler { code: Code::End }),
@@ -63,20 +76,19 @@ fn handler(
 /// The handlers of a function, one for each port.
 pub fn handlers(
     alloc: Global,
-    chains: &[ChainDecl],
+    objects: &Objects,
     ports: u32,
     handlers: &[HandlerTree],
 ) -> Result<Limited<Handler, 4>, AllocError>
-    requires few_chains { length chains.now ≤ 8 }
     requires few_ports { ports ≤ 4 }
-    requires few { length handlers.now ≤ 4 }
+    requires places { all_places (map syntax.handler_of handlers.now) < 2 ^ 32 }
     requires small { AreSmall (map syntax.handler_of handlers.now) }
-    ensures found { IfOk result (λ hs. map (λ h. checked.block_of h.code) hs ≡ handlers_of chains.now ports (map syntax.handler_of handlers.now)) }
+    ensures found { IfOk result (λ hs. map (λ h. checked.block_of h.code) hs ≡ handlers_of objects.now ports (map syntax.handler_of handlers.now)) }
     ensures all { IfOk result (λ hs. length hs ≡ ports) }
 {
     let mut all = Limited::new(alloc);
     for port in 0..ports {
-        all.push(handler(alloc, chains, handlers, port)?)?;
+        all.push(handler(alloc, objects, handlers, port)?)?;
     }
     Ok(all)
 }

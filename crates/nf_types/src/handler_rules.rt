@@ -10,8 +10,8 @@ ghost use Rattle.nf_types.specs.TextFaults.{is_handled, lacks_handler, handler_f
 use crate::block_rules::block;
 use crate::counts::{MOST_LOOKUPS, MOST_NEWS, Room};
 use crate::fault::{Fault, TypingKind, refuse_if};
+use crate::objects::Objects;
 use crate::variables::Variables;
-use nf_base::decl::ChainDecl;
 use nf_tokens::Place;
 use nf_tree::HandlerTree;
 
@@ -31,12 +31,11 @@ fn is_handled(handlers: &[HandlerTree], port: u64) -> bool
 #[tactic(auto, using(crate::proofs::First::first_append), unfolding(crate::specs::TextFaults::handler_faults))]
 fn handler(
     ports: u64,
-    chains: &[ChainDecl],
+    objects: &Objects,
     before: &[HandlerTree],
     one: &HandlerTree,
 ) -> Result<(), Fault>
-    requires few_chains { length chains.now ≤ 8 }
-    ensures { first (handler_faults ports chains.now (map syntax.handler_of before.now) (syntax.handler_of one.now)) ≡ fault_in result }
+    ensures { first (handler_faults ports objects.now (map syntax.handler_of before.now) (syntax.handler_of one.now)) ≡ fault_in result }
 {
     let port = one.port.value;
     refuse_if(is_handled(before, port), TypingKind::Twice, one.port.place)?;
@@ -45,16 +44,15 @@ fn handler(
         lookups: MOST_LOOKUPS,
         news: MOST_NEWS,
     };
-    block(chains, room, &Variables::Empty, &one.block)
+    block(objects, room, &Variables::Empty, &one.block)
 }
 
 /// The handlers one by one.
-fn each_handler(ports: u64, chains: &[ChainDecl], handlers: &[HandlerTree]) -> Result<(), Fault>
-    requires few_chains { length chains.now ≤ 8 }
-    ensures { first (each_behind (handler_faults ports chains.now) [] (map syntax.handler_of handlers.now)) ≡ fault_in result }
+fn each_handler(ports: u64, objects: &Objects, handlers: &[HandlerTree]) -> Result<(), Fault>
+    ensures { first (each_behind (handler_faults ports objects.now) [] (map syntax.handler_of handlers.now)) ≡ fault_in result }
 {
     for (i, one) in handlers.iter().enumerate() {
-        handler(ports, chains, &handlers[..i], one)?;
+        handler(ports, objects, &handlers[..i], one)?;
     }
     Ok(())
 }
@@ -75,15 +73,14 @@ fn lacks_handler(ports: u64, handlers: &[HandlerTree]) -> bool
 #[tactic(auto, using(crate::proofs::First::first_append, crate::proofs::Small::are_small, crate::proofs::Few::few_handlers))]
 pub fn handlers(
     ports: u64,
-    chains: &[ChainDecl],
+    objects: &Objects,
     handlers: &[HandlerTree],
     end: Place,
 ) -> Result<(), Fault>
-    requires few_chains { length chains.now ≤ 8 }
-    ensures fault { first (each_behind (handler_faults ports chains.now) [] (map syntax.handler_of handlers.now) ++ fault_if (lacks_handler ports (map syntax.handler_of handlers.now)) NoHandler end) ≡ fault_in result }
+    ensures fault { first (each_behind (handler_faults ports objects.now) [] (map syntax.handler_of handlers.now) ++ fault_if (lacks_handler ports (map syntax.handler_of handlers.now)) NoHandler end) ≡ fault_in result }
     ensures small { IfOk result (λ _. AreSmall (map syntax.handler_of handlers.now)) }
     ensures few { IfOk result (λ _. length handlers.now ≤ ports) }
 {
-    each_handler(ports, chains, handlers)?;
+    each_handler(ports, objects, handlers)?;
     refuse_if(lacks_handler(ports, handlers), TypingKind::NoHandler, end)
 }

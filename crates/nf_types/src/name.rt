@@ -7,8 +7,8 @@ ghost use Rattle.nf_types.specs.Faults.{length_faults};
 ghost use Rattle.nf_types.specs.Answers.{Finds};
 
 use crate::fault::{Stop, TypingKind, refuse_if};
-use nf_base::decl::{ChainDecl, ColumnDecl, MapDecl, Name as Declared};
-use nf_tree::{ChainTree, Label, Name};
+use nf_base::decl::{ArrayDecl, ChainDecl, ColumnDecl, MapDecl, Name as Declared};
+use nf_tree::{Label, Name};
 use std::alloc::Global;
 
 /// The longest name, in bytes.
@@ -25,14 +25,6 @@ pub trait Named {
 }
 
 impl Named for Label {
-    ghost name_of = { λ x. x.name.bytes };
-
-    fn name(&self) -> &[u8] {
-        self.name.bytes.as_slice()
-    }
-}
-
-impl Named for ChainTree {
     ghost name_of = { λ x. x.name.bytes };
 
     fn name(&self) -> &[u8] {
@@ -57,6 +49,14 @@ impl Named for MapDecl {
 }
 
 impl Named for ChainDecl {
+    ghost name_of = { λ x. x.name };
+
+    fn name(&self) -> &[u8] {
+        self.name.as_slice()
+    }
+}
+
+impl Named for ArrayDecl {
     ghost name_of = { λ x. x.name };
 
     fn name(&self) -> &[u8] {

@@ -1,6 +1,7 @@
 //! Worked rows: what the definitions make of a few trees.
 
-ghost use Rattle.nf_types.specs.Rows.{NoPortIsTooFew, APortHasNoHandler, AVariableIsNotInScope, FaultsStandInTextOrder, AnyPortMayBeForwardedTo, AGetLooksWhereItCan, ANewGivesEachLabelOnce, TheFirewallIsAFunction, HandlersStandByPort};
+ghost use Rattle.nf_types.specs.Rows.{NoPortIsTooFew, APortHasNoHandler, AVariableIsNotInScope, FaultsStandInTextOrder, AnyPortMayBeForwardedTo, AGetLooksWhereItCan, ANewGivesEachLabelOnce, AFindAsksLabels, NumbersPastTheSizeAreTooMany, ContentsAreTakenToTheWidth, TheFirewallIsAFunction, HandlersStandByPort};
+ghost use Rattle.nf_types.specs.Samples.{ThePolicerIsAFunction, PlacesCountAlongTheText};
 
 /// `nf x { ports 0; }` has its fault at the number.
 pub fn no_port_is_too_few()
@@ -32,9 +33,24 @@ pub fn a_get_looks_where_it_can()
     ensures { AGetLooksWhereItCan }
 {}
 
-/// A `new` with four faults.
+/// A `new` with five faults.
 pub fn a_new_gives_each_label_once()
     ensures { ANewGivesEachLabelOnce }
+{}
+
+/// A `find` with three faults, and three writes that may not be.
+pub fn a_find_asks_labels()
+    ensures { AFindAsksLabels }
+{}
+
+/// Of the numbers past an array's size the first is too many.
+pub fn numbers_past_the_size_are_too_many()
+    ensures { NumbersPastTheSizeAreTooMany }
+{}
+
+/// Opening contents are taken to the width, and what is left is 0.
+pub fn contents_are_taken_to_the_width()
+    ensures { ContentsAreTakenToTheWidth }
 {}
 
 /// A firewall, declaration by declaration and statement by statement.
@@ -45,4 +61,14 @@ pub fn the_firewall_is_a_function()
 /// Handlers stand by port, and places count along the text.
 pub fn handlers_stand_by_port()
     ensures { HandlersStandByPort }
+{}
+
+/// A policer: a free column is read and written.
+pub fn the_policer_is_a_function()
+    ensures { ThePolicerIsAFunction }
+{}
+
+/// Two chains and an array, with look-ups of each kind and cells in each part of them.
+pub fn places_count_along_the_text()
+    ensures { PlacesCountAlongTheText }
 {}

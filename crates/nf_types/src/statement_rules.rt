@@ -1,75 +1,76 @@
 //! What is wrong with the fronts of statements.
 
-ghost use Rattle.std.specs.Prelude.{◌≡◌, ◌≤◌, [], length, map};
-ghost use Rattle.nf_base.specs.View as checked;
+ghost use Rattle.std.specs.Prelude.{◌≡◌, [], length, map};
 ghost use Rattle.nf_tree.specs.View as syntax;
+ghost use Rattle.nf_types.specs.Expressions.{value_faults};
 ghost use Rattle.nf_types.specs.Faults.{each_behind, first, fault_in};
-ghost use Rattle.nf_types.specs.Statements.{map_named};
-ghost use Rattle.nf_types.specs.StatementFaults.{binding_faults, use_faults, look_at_faults, look_up_faults, is_given, given_faults, lacks_label, make_in_faults, making_faults};
+ghost use Rattle.nf_types.specs.Statements.{chain_named, map_named};
+ghost use Rattle.nf_types.specs.StatementFaults.{binding_faults, map_faults_at, amount_faults, look_in_faults, look_up_faults, is_given, is_column_in, given_faults, lacks_label, making_faults, finding_faults, write_at_faults, write_faults, store_faults};
+ghost use Rattle.nf_types.specs.Variables.{variable_named};
 ghost use Rattle.nf_types.specs.View.{variables_of};
 
 use crate::fault::{Fault, TypingKind, refuse_if};
 use crate::name::{Named, first_named, is_among};
-use crate::statement::parts;
-use crate::variables::{Variables, is_in_scope};
-use nf_base::decl::{ChainDecl, ColumnDecl};
-use nf_base::seq::Seq;
+use crate::objects::{Objects, is_object};
+use crate::statement::{asked, parts};
+use crate::value::column_named;
+use crate::value_rules::{array, value, values, wrong};
+use crate::variables::{Variables, chain_of, is_in_scope};
+use nf_base::decl::{ChainDecl, ColumnDecl, ColumnId};
 use nf_tokens::Place;
-use nf_tree::{Expr as Value, Given as Assigned, Name};
+use nf_tree::{Expr as Value, Given as Assigned, Guards, Name};
 
-/// A new variable differs from every chain and every variable in scope.
-pub fn binding(chains: &[ChainDecl], scope: &Variables, name: &Name) -> Result<(), Fault>
-    ensures { first (binding_faults chains.now (variables_of scope.now) name.now) ≡ fault_in result }
+/// A new variable differs from every chain and array, and from every variable in scope.
+pub fn binding(objects: &Objects, scope: &Variables, name: &Name) -> Result<(), Fault>
+    ensures { first (binding_faults objects.now (variables_of scope.now) name.now) ≡ fault_in result }
 {
-    let is_chain = is_among(name.bytes.as_slice(), chains);
-    let is_taken = is_chain || is_in_scope(scope, &name.bytes);
+    let is_named = is_object(objects, name.bytes.as_slice());
+    let is_taken = is_named || is_in_scope(scope, &name.bytes);
     refuse_if(is_taken, TypingKind::Twice, name.place)
 }
 
-/// A variable that is used is in scope.
-pub fn in_scope(scope: &Variables, name: &Name) -> Result<(), Fault>
-    ensures { first (use_faults (variables_of scope.now) name.now) ≡ fault_in result }
-{
-    let is_there = is_in_scope(scope, &name.bytes);
-    refuse_if(!is_there, TypingKind::NotInScope, name.place)
-}
-
-fn unknown(name: &Name) -> Result<(), Fault>
-    ensures { fault_in result ≡ Some (record { kind = TypingKind.Unknown; place = name.now.place }) }
-{
-    Err(Fault {
-        kind: TypingKind::Unknown,
-        place: name.place,
-    })
-}
-
-/// A `get` in a chain: a map of it, with as many values as its key has parts.
-fn look_at(chain: &ChainDecl, wanted: &Name, key: &[Value], close: Place) -> Result<(), Fault>
-    ensures { first (look_at_faults chain.now (map_named chain.now wanted.now.bytes) wanted.now (map syntax.expression_of key.now) close) ≡ fault_in result }
+/// A map of a chain.
+fn map_of(chain: &ChainDecl, wanted: &Name) -> Result<(), Fault>
+    ensures { first (map_faults_at (map_named chain.now wanted.now.bytes) wanted.now) ≡ fault_in result }
 {
     match first_named(wanted.bytes.as_slice(), chain.maps.as_slice()) {
-        None => unknown(wanted),
+        Some(_) => Ok(()),
+        None => wrong(TypingKind::Unknown, wanted),
+    }
+}
+
+/// As many values as the key of a map has parts.
+fn amount(chain: &ChainDecl, wanted: &Name, values: usize, close: Place) -> Result<(), Fault>
+    ensures { first (amount_faults chain.now (map_named chain.now wanted.now.bytes) values close) ≡ fault_in result }
+{
+    match first_named(wanted.bytes.as_slice(), chain.maps.as_slice()) {
         Some((_, found)) => {
-            let is_wrong = key.len() != parts(chain, found).len();
+            let is_wrong = values != parts(chain, found).len();
             refuse_if(is_wrong, TypingKind::Amount, close)
         }
+        None => Ok(()),
     }
 }
 
 /// Where a `get` looks.
+#[tactic(auto, using(crate::proofs::First::first_append))]
 pub fn look_up(
-    chains: &[ChainDecl],
+    objects: &Objects,
+    scope: &Variables,
     chain: &Name,
     wanted: &Name,
     key: &[Value],
     close: Place,
 ) -> Result<(), Fault>
-    requires { length chains.now ≤ 8 }
-    ensures { first (look_up_faults chains.now chain.now wanted.now (map syntax.expression_of key.now) close) ≡ fault_in result }
+    ensures { first (look_up_faults objects.now (variables_of scope.now) chain.now wanted.now (map syntax.expression_of key.now) close) ≡ fault_in result }
 {
-    match first_named(chain.bytes.as_slice(), chains) {
-        None => unknown(chain),
-        Some((_, found)) => look_at(found, wanted, key, close),
+    match first_named(chain.bytes.as_slice(), objects.chains.as_slice()) {
+        None => wrong(TypingKind::Unknown, chain),
+        Some((_, found)) => {
+            map_of(found, wanted)?;
+            values(objects, scope, key)?;
+            amount(found, wanted, key.len(), close)
+        }
     }
 }
 
@@ -84,23 +85,38 @@ fn is_given(given: &[Assigned], name: &[u8]) -> bool
     false
 }
 
-/// A name that a `new` gives is a label's, and stands once.
-#[tactic(auto, using(crate::proofs::First::first_append))]
-fn given(labels: &[ColumnDecl], before: &[Assigned], one: &Assigned) -> Result<(), Fault>
-    ensures { first (given_faults labels.now (map syntax.given_of before.now) (syntax.given_of one.now)) ≡ fault_in result }
+/// A name that a `new` or a `where` gives is a label's, and stands once.
+#[tactic(auto, using(crate::proofs::First::first_append), unfolding(crate::specs::StatementFaults::given_faults))]
+fn given(
+    objects: &Objects,
+    scope: &Variables,
+    chain: &ChainDecl,
+    before: &[Assigned],
+    one: &Assigned,
+) -> Result<(), Fault>
+    ensures { first (given_faults objects.now (variables_of scope.now) chain.now (map syntax.given_of before.now) (syntax.given_of one.now)) ≡ fault_in result }
 {
     let name = one.name.bytes.as_slice();
-    refuse_if(!is_among(name, labels), TypingKind::Unknown, one.name.place)?;
-    refuse_if(is_given(before, name), TypingKind::Twice, one.name.place)
+    let place = one.name.place;
+    let is_label = is_among(name, chain.labels.as_slice());
+    let is_free = is_among(name, chain.free.as_slice());
+    refuse_if(!is_label && !is_free, TypingKind::Unknown, place)?;
+    refuse_if(is_given(before, name), TypingKind::Twice, place)?;
+    refuse_if(!is_label && is_free, TypingKind::FreeColumn, place)?;
+    value(objects, scope, &one.value)
 }
 
-/// The names that a `new` gives, one by one.
-#[tactic(auto, using(crate::proofs::Behind::behind_ok, crate::proofs::Behind::behind_err))]
-fn each_given(labels: &[ColumnDecl], all: &[Assigned]) -> Result<(), Fault>
-    ensures { first (each_behind (given_faults labels.now) [] (map syntax.given_of all.now)) ≡ fault_in result }
+/// What a `new` or a `where` gives, one by one.
+fn each_given(
+    objects: &Objects,
+    scope: &Variables,
+    chain: &ChainDecl,
+    all: &[Assigned],
+) -> Result<(), Fault>
+    ensures { first (each_behind (given_faults objects.now (variables_of scope.now) chain.now) [] (map syntax.given_of all.now)) ≡ fault_in result }
 {
     for (i, one) in all.iter().enumerate() {
-        given(labels, &all[..i], one)?;
+        given(objects, scope, chain, &all[..i], one)?;
     }
     Ok(())
 }
@@ -120,20 +136,86 @@ fn lacks_label(given: &[Assigned], labels: &[ColumnDecl]) -> bool
 /// What a `new` makes.
 #[tactic(auto, using(crate::proofs::First::first_append))]
 pub fn make(
-    chains: &[ChainDecl],
+    objects: &Objects,
+    scope: &Variables,
     chain: &Name,
     given: &[Assigned],
     close: Place,
 ) -> Result<(), Fault>
-    requires { length chains.now ≤ 8 }
-    ensures { first (making_faults chains.now chain.now (map syntax.given_of given.now) close) ≡ fault_in result }
+    ensures { first (making_faults objects.now (variables_of scope.now) chain.now (map syntax.given_of given.now) close) ≡ fault_in result }
 {
-    match first_named(chain.bytes.as_slice(), chains) {
-        None => unknown(chain),
+    match first_named(chain.bytes.as_slice(), objects.chains.as_slice()) {
+        None => wrong(TypingKind::Unknown, chain),
         Some((_, found)) => {
-            let labels = found.labels.as_slice();
-            each_given(labels, given)?;
-            refuse_if(lacks_label(given, labels), TypingKind::Amount, close)
+            each_given(objects, scope, found, given)?;
+            let lacks = lacks_label(given, found.labels.as_slice());
+            refuse_if(lacks, TypingKind::Amount, close)
         }
     }
+}
+
+/// What a `find` looks for.
+#[tactic(auto, using(crate::proofs::First::first_append))]
+pub fn find(
+    objects: &Objects,
+    scope: &Variables,
+    chain: &Name,
+    index: &Value,
+    guards: &Guards,
+) -> Result<(), Fault>
+    ensures { first (finding_faults objects.now (variables_of scope.now) chain.now (syntax.expression_of index.now) (syntax.guards_of guards.now)) ≡ fault_in result }
+{
+    match first_named(chain.bytes.as_slice(), objects.chains.as_slice()) {
+        None => wrong(TypingKind::Unknown, chain),
+        Some((_, found)) => {
+            value(objects, scope, index)?;
+            each_given(objects, scope, found, asked(guards))
+        }
+    }
+}
+
+/// A column that is written is a free one of a variable's entry.
+fn written(scope: &Variables, variable: &Name, column: &Name) -> Result<(), Fault>
+    ensures { first (write_at_faults (variable_named (variables_of scope.now) variable.now.bytes) variable.now column.now) ≡ fault_in result }
+{
+    match chain_of(scope, &variable.bytes) {
+        None => wrong(TypingKind::NotInScope, variable),
+        Some(None) => Ok(()),
+        Some(Some(chain)) => match column_named(chain, &column.bytes) {
+            Some(ColumnId::Free(_)) => Ok(()),
+            Some(ColumnId::Label(_)) => wrong(TypingKind::ReadOnly, column),
+            None => wrong(TypingKind::Unknown, column),
+        },
+    }
+}
+
+/// A free column of a variable's entry is given a value.
+#[tactic(auto, using(crate::proofs::First::first_append))]
+pub fn write(
+    objects: &Objects,
+    scope: &Variables,
+    variable: &Name,
+    column: &Name,
+    given: &Value,
+) -> Result<(), Fault>
+    ensures { first (write_faults objects.now (variables_of scope.now) variable.now column.now (syntax.expression_of given.now)) ≡ fault_in result }
+{
+    written(scope, variable, column)?;
+    value(objects, scope, given)
+}
+
+/// A cell of an array is given a value.
+#[tactic(auto, using(crate::proofs::First::first_append))]
+pub fn store(
+    objects: &Objects,
+    scope: &Variables,
+    name: &Name,
+    index: &Value,
+    given: &Value,
+) -> Result<(), Fault>
+    ensures { first (store_faults objects.now (variables_of scope.now) name.now (syntax.expression_of index.now) (syntax.expression_of given.now)) ≡ fault_in result }
+{
+    array(objects, name)?;
+    value(objects, scope, index)?;
+    value(objects, scope, given)
 }

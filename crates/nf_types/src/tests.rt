@@ -1,4 +1,5 @@
 use super::*;
+use crate::fault_tests::is_fault;
 use nf_base::code::Code;
 use nf_base::func::Func;
 use nf_syntax::parse;
@@ -24,7 +25,7 @@ const FIREWALL: &[u8] = b"nf fw {\n\
 
 /// The function of a text, or the fault of its types; None where the text is none of the language, or
 /// memory ran out.
-fn checked(alloc: Global, text: &[u8]) -> Option<Result<Func, CheckFault>> {
+pub fn checked(alloc: Global, text: &[u8]) -> Option<Result<Func, CheckFault>> {
     let Ok(tree) = parse(alloc, text) else {
         return None;
     };
@@ -35,15 +36,18 @@ fn is_good(alloc: Global, text: &[u8]) -> bool {
     matches!(checked(alloc, text), Some(Ok(_)))
 }
 
-/// Whether a text has a tree, and this is the first fault of its types.
-fn is_fault(alloc: Global, text: &[u8], kind: TypingKind, line: u32, column: u32) -> bool {
-    match checked(alloc, text) {
-        Some(Err(fault)) => fault == CheckFault::Typing { kind, line, column },
-        _ => false,
+/// The first text that is no function.
+fn first_refused(alloc: Global, texts: &[&[u8]]) -> Option<usize> {
+    for (i, text) in texts.iter().enumerate() {
+        if !is_good(alloc, text) {
+            return Some(i);
+        }
     }
+    None
 }
 
-fn repeated(
+/// A part so many times, between a front and an end.
+pub fn repeated(
     alloc: Global,
     front: &[u8],
     part: &[u8],
@@ -59,6 +63,17 @@ fn repeated(
     Ok(text)
 }
 
+/// Whether a handler's code begins with a look-up at this place.
+fn looks_up_at(func: &Func, port: u32, wanted: u32) -> bool {
+    if port >= func.handlers.len() {
+        return false;
+    }
+    match &func.handlers.item(port).code {
+        Code::Get { place, .. } => *place == wanted,
+        _ => false,
+    }
+}
+
 #[test]
 fn the_firewall_is_a_function(rt: HostRuntime) {
     match checked(rt.alloc(), FIREWALL) {
@@ -66,28 +81,8 @@ fn the_firewall_is_a_function(rt: HostRuntime) {
             assert!(rt; func.name.as_slice() == b"fw".as_slice());
             assert_eq!(rt; func.chains.len(), 1);
             assert_eq!(rt; func.handlers.len(), 2);
-            assert!(rt;
-                matches!(
-                    func.handlers.item(0).code,
-                    Code::Get {
-                        place: 0,
-                        chain: 0,
-                        map: 0,
-                        ..
-                    }
-                )
-            );
-            assert!(rt;
-                matches!(
-                    func.handlers.item(1).code,
-                    Code::Get {
-                        place: 2,
-                        chain: 0,
-                        map: 0,
-                        ..
-                    }
-                )
-            );
+            assert!(rt; looks_up_at(&func, 0, 0));
+            assert!(rt; looks_up_at(&func, 1, 2));
         }
         _ => assert!(rt; false),
     }
@@ -109,340 +104,101 @@ fn a_function_is_copied(rt: HostRuntime) {
 }
 
 #[test]
+fn known_functions_are_good(rt: HostRuntime) {
+    let texts: [&[u8]; 5] = [
+        b"nf policer {\n\
+ports 2;\n\
+chain hosts 5 lifetime 10 { map by_dst(d: 32); free used: 64; }\n\
+on 0 { forward 1; }\n\
+on 1 {\n\
+get e = hosts.by_dst(dst_ip) { e.used = e.used + length; if e.used > 1000 { drop; } forward 0; }\n\
+else { new f = hosts(d = dst_ip) { f.used = length; forward 0; } }\n\
+drop;\n\
+}\n\
+}\n\
+"
+            .as_slice(),
+        b"nf answers {\n\
+ports 2;\n\
+chain conns 60000 lifetime 60000000000 {\n\
+map by_in(sip: 32, sp: 16, dip: 32, dp: 16); fixed rip: 32; fixed rp: 16;\n\
+}\n\
+on 0 {\n\
+get e = conns.by_in(src_ip, src_port, dst_ip, dst_port) { touch e; forward 1; }\n\
+else { new f = conns(sip = src_ip, sp = src_port, dip = dst_ip, dp = dst_port, rip = dst_ip, rp = dst_port) { forward 1; } }\n\
+drop;\n\
+}\n\
+on 1 {\n\
+if dst_port < 1024 { drop; }\n\
+find e = conns[dst_port - 1024] where (rip = src_ip, rp = src_port) { touch e; forward 0; }\n\
+drop;\n\
+}\n\
+}\n\
+"
+            .as_slice(),
+        b"nf bridge {\n\
+ports 2;\n\
+chain macs 4 lifetime 10 { map by_mac(m: 48); free at: 8; }\n\
+on 0 {\n\
+get e = macs.by_mac(src_mac) { touch e; e.at = 0; } else { new f = macs(m = src_mac) { f.at = 0; } }\n\
+get g = macs.by_mac(dst_mac) { forward g.at; }\n\
+flood;\n\
+}\n\
+on 1 {\n\
+get e = macs.by_mac(src_mac) { touch e; e.at = 1; } else { new f = macs(m = src_mac) { f.at = 1; } }\n\
+get g = macs.by_mac(dst_mac) { forward g.at; }\n\
+flood;\n\
+}\n\
+}\n\
+"
+            .as_slice(),
+        b"nf both {\n\
+ports 1;\n\
+chain s 4 lifetime 10 { map m(x: 32); }\n\
+chain d 4 lifetime 10 { map m(y: 32); }\n\
+on 0 {\n\
+get e = s.m(src_ip) { touch e; } else { new f = s(x = src_ip) { } }\n\
+get g = d.m(dst_ip) { touch g; } else { new h = d(y = dst_ip) { } }\n\
+forward 0;\n\
+}\n\
+}\n\
+"
+            .as_slice(),
+        b"nf count { ports 1; array hits 65536 : 64; on 0 { hits[dst_port] = hits[dst_port] + 1; forward 0; } }".as_slice(),
+    ];
+    assert_eq!(rt; first_refused(rt.alloc(), &texts), None);
+}
+
+#[test]
 fn texts_at_their_limits_are_functions(rt: HostRuntime) {
     let texts: [&[u8]; 9] = [
         b"nf x { ports 1; on 0 { } }".as_slice(),
         b"nf x { ports 0.0.0.2; on 0.0.0.1 { } on 0x0 { } }".as_slice(),
         b"nf x { ports 4; on 3 { } on 1 { } on 0 { } on 2 { } }".as_slice(),
         b"nf x { ports 1; chain c 65536 lifetime 18446744073709551615 { map m(a: 8, b: 16, c: 32, d: 48, e: 64, f: 8, g: 8, h: 8); } on 0 { } }".as_slice(),
-        b"nf x { ports 1; on 0 { forward 99; } }".as_slice(),
-        b"nf x { ports 1; chain c 1 lifetime 1 { map c(c: 8); } on 0 { get m = c.c(time) { } } }".as_slice(),
-        b"nf x { ports 1; chain c 1 lifetime 1 { map m(a: 8); } on 0 { get x = c.m(256) { } get m = c.m(2) { touch m; } get a = c.m(3) { touch a; } } }".as_slice(),
-        b"nf x { ports 1; chain c 1 lifetime 1 { map m(a: 8); } on 0 { get e = c.m(1) { } else { new e = c(a = 1) { touch e; } } } }".as_slice(),
-        b"nf x { ports 1; chain c 1 lifetime 1 { map m(a: 8, b: 8); } on 0 { new e = c(b = 1, a = 2) { get f = c.m(1, 2) { touch e; touch f; } } } }".as_slice(),
+        b"nf x { ports 1; chain a 1 lifetime 0 { } chain b 1 lifetime 0 { } chain c 1 lifetime 0 { } chain d 1 lifetime 0 { } chain e 1 lifetime 0 { } chain f 1 lifetime 0 { } chain g 1 lifetime 0 { } chain h 1 lifetime 0 { } array i 1: 8; array j 1: 8; array k 1: 8; array l 1: 8; array m 1: 8; array n 1: 8; array o 1: 8; array p 1: 8; on 0 { } }".as_slice(),
+        b"nf x { ports 1; chain a 1 lifetime 0 { map m(a: 8); map n(b: 8); } chain b 1 lifetime 0 { map m(a: 8); map n(b: 8); } chain c 1 lifetime 0 { map m(a: 8); map n(b: 8); } chain d 1 lifetime 0 { map m(a: 8); map n(b: 8); } chain e 1 lifetime 0 { map m(a: 8); map n(b: 8); } chain f 1 lifetime 0 { map m(a: 8); map n(b: 8); } chain g 1 lifetime 0 { map m(a: 8); map n(b: 8); } chain h 1 lifetime 0 { map m(a: 8); map n(b: 8); } on 0 { } }".as_slice(),
+        b"nf x { ports 1; chain c 1 lifetime 0 { map a(a: 8); map b(b: 8); map c(c: 8); map d(d: 8); map e(e: 8); map f(f: 8); map g(g: 8); map h(h: 8); map i(i: 8); map j(j: 8); map k(k: 8); map l(l: 8); map m(m: 8); map n(n: 8); map o(o: 8); map p(p: 8); } on 0 { } }".as_slice(),
+        b"nf x { ports 1; chain c 1 lifetime 0 { map m(a: 8); fixed b: 16; fixed c: 16; fixed d: 16; fixed e: 16; fixed f: 16; fixed g: 16; fixed h: 16; fixed i: 16; free j: 48; free k: 48; free l: 48; free m: 48; free n: 48; free o: 48; free p: 48; free q: 48; } on 0 { } }".as_slice(),
+        b"nf x { ports 1; array a 65536: 8; array b 3: 64 = { 300, 0xff, 1.2.3.4 }; array c 2: 16 = { 70000 }; on 0 { } }".as_slice(),
     ];
-    for text in texts.iter() {
-        assert!(rt; is_good(rt.alloc(), text));
-    }
+    assert_eq!(rt; first_refused(rt.alloc(), &texts), None);
 }
 
 #[test]
-fn unknown_names(rt: HostRuntime) {
-    let faults: [(&[u8], u32, u32); 9] = [
-        (
-            b"nf x { ports 1; chain c 1 lifetime 1 { map m(a: 8, b: 8); } on 0 { get e = d.m(1, 2) { } } }".as_slice(),
-            1,
-            76,
-        ),
-        (
-            b"nf x { ports 1; chain c 1 lifetime 1 { map m(a: 8, b: 8); } on 0 { get e = c.n(1, 2) { } } }".as_slice(),
-            1,
-            78,
-        ),
-        (
-            b"nf x { ports 1; chain c 1 lifetime 1 { map m(a: 8, b: 8); } on 0 { get e = c.c(1, 2) { } } }".as_slice(),
-            1,
-            78,
-        ),
-        (
-            b"nf x { ports 1; chain c 1 lifetime 1 { map m(a: 8, b: 8); } on 0 { new e = d(a = 1, b = 2) { } } }".as_slice(),
-            1,
-            76,
-        ),
-        (
-            b"nf x { ports 1; chain c 1 lifetime 1 { map m(a: 8, b: 8); } on 0 { new e = c(a = 1, b = 2, m = 3) { } } }".as_slice(),
-            1,
-            92,
-        ),
-        (
-            b"nf x { ports 1; chain c 1 lifetime 1 { map m(a: 8, b: 8); } on 0 { get e = c.m(1, 2) { get f = e.m(1, 2) { } } } }".as_slice(),
-            1,
-            96,
-        ),
-        (
-            b"nf x { ports 1; chain c 1 lifetime 1 { map m(a: 8, b: 8); } on 0 { get e = c.m(1, 2) { } else { new e = m(a = 1) { } } } }".as_slice(),
-            1,
-            105,
-        ),
-        (
-            b"nf x { ports 1; chain c 1 lifetime 1 { map m(a: 8, b: 8); } on 0 { new e = c(z = 1, z = 2) { } } }".as_slice(),
-            1,
-            78,
-        ),
-        (
-            b"nf x {\n  ports 1;\n  on 0 {\n    get e = c.m(src_ip) { touch f; }\n  }\n}\n".as_slice(),
-            4,
-            13,
-        ),
+fn names_go_by_their_roles(rt: HostRuntime) {
+    let texts: [&[u8]; 9] = [
+        b"nf x { ports 1; chain c 8 lifetime 0 { map m(a: 8, b: 8); map n(k: 32); fixed f: 8; free u: 16; } chain d 8 lifetime 0 { map o(y: 8); } array v 4: 8; on 0 { forward 99; } }".as_slice(),
+        b"nf x { ports 1; chain c 8 lifetime 0 { map m(a: 8, b: 8); map n(k: 32); fixed f: 8; free u: 16; } chain d 8 lifetime 0 { map o(y: 8); } array v 4: 8; on 0 { get m = c.m(256, 1) { touch m; } get u = c.n(1) { forward u.u; } } }".as_slice(),
+        b"nf x { ports 1; chain c 8 lifetime 0 { map m(a: 8, b: 8); map n(k: 32); fixed f: 8; free u: 16; } chain d 8 lifetime 0 { map o(y: 8); } array v 4: 8; on 0 { get x = d.o(time) { touch x; } find o = d[0] { free o; } } }".as_slice(),
+        b"nf x { ports 1; chain c 8 lifetime 0 { map m(a: 8, b: 8); map n(k: 32); fixed f: 8; free u: 16; } chain d 8 lifetime 0 { map o(y: 8); } array v 4: 8; on 0 { get e = c.m(1, 2) { } else { new e = d(y = 1) { touch e; } } } }".as_slice(),
+        b"nf x { ports 1; chain c 8 lifetime 0 { map m(a: 8, b: 8); map n(k: 32); fixed f: 8; free u: 16; } chain d 8 lifetime 0 { map o(y: 8); } array v 4: 8; on 0 { if 1 < 2 { find e = c[0] { } } else { find e = d[70000] { } } } }".as_slice(),
+        b"nf x { ports 1; chain c 8 lifetime 0 { map m(a: 8, b: 8); map n(k: 32); fixed f: 8; free u: 16; } chain d 8 lifetime 0 { map o(y: 8); } array v 4: 8; on 0 { find e = c[v[0]] where (f = 1, a = 2, k = 3) { e.u = e.u + e.f; v[e.index] = e.a; free e; forward e.u; } else { flood; } } }".as_slice(),
+        b"nf x { ports 1; chain c 8 lifetime 0 { map m(a: 8, b: 8); map n(k: 32); fixed f: 8; free u: 16; } chain d 8 lifetime 0 { map o(y: 8); } array v 4: 8; on 0 { new e = c(f = 1, k = 2, b = 3, a = 4) { e.u = 1; } taken { find e = d[0] { } } full { get e = c.n(7) { } } } }".as_slice(),
+        b"nf x { ports 1; chain c 8 lifetime 0 { map m(a: 8, b: 8); map n(k: 32); fixed f: 8; free u: 16; } chain d 8 lifetime 0 { map o(y: 8); } array v 4: 8; on 0 { v[9] = 300; v[v[v[0]]] = v[1] * 2; } }".as_slice(),
+        b"nf x { ports 1; chain c 8 lifetime 0 { map m(a: 8, b: 8); map n(k: 32); fixed f: 8; free u: 16; } chain d 8 lifetime 0 { map o(y: 8); } array v 4: 8; on 0 { get e = c.m(1, 2) { new g = d(y = e.a) { touch e; touch g; e.u = g.y; } } } }".as_slice(),
     ];
-    for (text, line, column) in faults.iter() {
-        assert!(rt; is_fault(rt.alloc(), text, TypingKind::Unknown, *line, *column));
-    }
-}
-
-#[test]
-fn what_stands_twice(rt: HostRuntime) {
-    let faults: [(&[u8], u32, u32); 11] = [
-        (
-            b"nf x { ports 1; chain c 1 lifetime 1 { map m(a: 8, b: 8, a: 8); } on 0 { } }".as_slice(),
-            1,
-            58,
-        ),
-        (
-            b"nf x { ports 1; chain c 1 lifetime 1 { map m(a: 8, b: 8); } on 0 { get c = c.m(1, 2) { } } }".as_slice(),
-            1,
-            72,
-        ),
-        (
-            b"nf x { ports 1; chain c 1 lifetime 1 { map m(a: 8, b: 8); } on 0 { get c = d.m(1) { } } }".as_slice(),
-            1,
-            72,
-        ),
-        (
-            b"nf x { ports 1; chain c 1 lifetime 1 { map m(a: 8, b: 8); } on 0 { new c = c(a = 1, b = 2) { } } }".as_slice(),
-            1,
-            72,
-        ),
-        (
-            b"nf x { ports 1; chain c 1 lifetime 1 { map m(a: 8, b: 8); } on 0 { get e = c.m(1, 2) { get e = c.m(1, 2) { } } } }".as_slice(),
-            1,
-            92,
-        ),
-        (
-            b"nf x { ports 1; chain c 1 lifetime 1 { map m(a: 8, b: 8); } on 0 { new e = c(a = 1, b = 2) { new f = c(a = 1, b = 2) { } full { get e = c.m(1, 2) { } } } } }".as_slice(),
-            1,
-            133,
-        ),
-        (
-            b"nf x { ports 1; chain c 1 lifetime 1 { map m(a: 8, b: 8); } on 0 { new e = c(a = 1, a = 2, b = 3) { } } }".as_slice(),
-            1,
-            85,
-        ),
-        (
-            b"nf x { ports 1; chain c 1 lifetime 1 { map m(a: 8, b: 8); } on 0 { new e = c(b = 1, a = 2, b = 3, z = 4) { } } }".as_slice(),
-            1,
-            92,
-        ),
-        (b"nf x { ports 1; on 0 { } on 0 { } }".as_slice(), 1, 29),
-        (
-            b"nf x { ports 2; on 0 { } on 0x0 { touch e; } on 7 { } }".as_slice(),
-            1,
-            29,
-        ),
-        (
-            b"nf x {\n  ports 1; # one\n  chain c 1 lifetime 1 {\n    map m(a: 8,\n      a: 8);\n  }\n  on 0 { }\n}\n".as_slice(),
-            5,
-            7,
-        ),
-    ];
-    for (text, line, column) in faults.iter() {
-        assert!(rt; is_fault(rt.alloc(), text, TypingKind::Twice, *line, *column));
-    }
-}
-
-#[test]
-fn wrong_amounts(rt: HostRuntime) {
-    let faults: [(&[u8], u32, u32); 8] = [
-        (
-            b"nf x { ports 1; chain c 1 lifetime 1 { map m(a: 8, b: 8); } on 0 { get e = c.m(1) { } } }".as_slice(),
-            1,
-            81,
-        ),
-        (
-            b"nf x { ports 1; chain c 1 lifetime 1 { map m(a: 8, b: 8); } on 0 { get e = c.m(1, 2, 3) { } } }".as_slice(),
-            1,
-            87,
-        ),
-        (
-            b"nf x { ports 1; chain c 1 lifetime 1 { map m(a: 8, b: 8); } on 0 { get e = c.m(1, 2, 3, 4, 5, 6, 7, 8, 9) { touch f; } } }".as_slice(),
-            1,
-            105,
-        ),
-        (
-            b"nf x { ports 1; chain c 1 lifetime 1 { map m(a: 8, b: 8); } on 0 { new e = c() { } } }".as_slice(),
-            1,
-            78,
-        ),
-        (
-            b"nf x { ports 1; chain c 1 lifetime 1 { map m(a: 8, b: 8); } on 0 { new e = c(b = 1) { } } }".as_slice(),
-            1,
-            83,
-        ),
-        (
-            b"nf x { ports 1; chain c 1 lifetime 1 { map m(a: 8, b: 8); } on 0 { new e = c(a = 1 ) { touch f; } } }".as_slice(),
-            1,
-            84,
-        ),
-        (
-            b"nf x { ports 1; chain c 1 lifetime 1 { map m(a: 8, b: 8); } on 0 { get e = c.m(1, 2) { } get f = c.m(1) { } touch e; } }".as_slice(),
-            1,
-            103,
-        ),
-        (
-            b"nf x {\n  ports 1;\n  chain c 1 lifetime 1 { map m(a: 8); }\n  on 0 {\n    get e = c.m(\n      src_ip, dst_ip\n    ) { }\n  }\n}\n".as_slice(),
-            7,
-            5,
-        ),
-    ];
-    for (text, line, column) in faults.iter() {
-        assert!(rt; is_fault(rt.alloc(), text, TypingKind::Amount, *line, *column));
-    }
-}
-
-#[test]
-fn variables_that_are_not_in_scope(rt: HostRuntime) {
-    let faults: [(&[u8], u32, u32); 12] = [
-        (b"nf x { ports 1; on 0 { touch e; } }".as_slice(), 1, 30),
-        (
-            b"nf x { ports 1; chain c 1 lifetime 1 { map m(a: 8, b: 8); } on 0 { touch c; } }".as_slice(),
-            1,
-            74,
-        ),
-        (
-            b"nf x { ports 1; chain c 1 lifetime 1 { map m(a: 8, b: 8); } on 0 { touch a; } }".as_slice(),
-            1,
-            74,
-        ),
-        (
-            b"nf x { ports 1; chain c 1 lifetime 1 { map m(a: 8, b: 8); } on 0 { get e = c.m(1, 2) { } touch e; } }".as_slice(),
-            1,
-            96,
-        ),
-        (
-            b"nf x { ports 1; chain c 1 lifetime 1 { map m(a: 8, b: 8); } on 0 { get e = c.m(1, 2) { } else { touch e; } } }".as_slice(),
-            1,
-            103,
-        ),
-        (
-            b"nf x { ports 1; chain c 1 lifetime 1 { map m(a: 8, b: 8); } on 0 { new e = c(a = 1, b = 2) { } taken { touch e; } } }".as_slice(),
-            1,
-            110,
-        ),
-        (
-            b"nf x { ports 1; chain c 1 lifetime 1 { map m(a: 8, b: 8); } on 0 { new e = c(a = 1, b = 2) { } full { touch e; } } }".as_slice(),
-            1,
-            109,
-        ),
-        (
-            b"nf x { ports 1; chain c 1 lifetime 1 { map m(a: 8, b: 8); } on 0 { get e = c.m(1, 2) { touch e; touch f; } touch g; } }".as_slice(),
-            1,
-            103,
-        ),
-        (
-            b"nf x { ports 1; chain c 1 lifetime 1 { map m(a: 8, b: 8); } on 0 { get e = c.m(1, 2) { new f = c(a = 1, b = 2) { touch e; touch f; } taken { touch e; touch f; } } } }".as_slice(),
-            1,
-            157,
-        ),
-        (
-            b"nf x { ports 2; on 0 { touch e; } on 0 { } }".as_slice(),
-            1,
-            30,
-        ),
-        (b"nf x { ports 2; on 1 { touch e; } }".as_slice(), 1, 30),
-        (
-            b"nf x {\n  ports 1;\n  on 0 {\n\ttouch\n\t  e; touch f;\n  }\n}\n".as_slice(),
-            5,
-            4,
-        ),
-    ];
-    for (text, line, column) in faults.iter() {
-        assert!(rt; is_fault(rt.alloc(), text, TypingKind::NotInScope, *line, *column));
-    }
-}
-
-#[test]
-fn limits(rt: HostRuntime) {
-    let faults: [(&[u8], u32, u32); 13] = [
-        (b"nf x { ports 0; }".as_slice(), 1, 14),
-        (
-            b"nf x { ports 5; on 0 { } on 1 { } on 2 { } on 3 { } on 4 { } }".as_slice(),
-            1,
-            14,
-        ),
-        (b"nf x { ports 0.0.0.9; }".as_slice(), 1, 14),
-        (
-            b"nf x { ports 18446744073709551615; on 0 { touch e; } }".as_slice(),
-            1,
-            14,
-        ),
-        (
-            b"nf x { ports 1; chain c 0 lifetime 1 { map m(a: 8); } on 0 { } }".as_slice(),
-            1,
-            25,
-        ),
-        (
-            b"nf x { ports 1; chain c 65537 lifetime 1 { map m(a: 7); } on 0 { } }".as_slice(),
-            1,
-            25,
-        ),
-        (
-            b"nf x { ports 1; chain c 1 lifetime 1 { map m(a: 24); } on 0 { } }".as_slice(),
-            1,
-            49,
-        ),
-        (
-            b"nf x { ports 1; chain c 1 lifetime 1 { map m(a: 64, b: 0); } on 0 { } }".as_slice(),
-            1,
-            56,
-        ),
-        (
-            b"nf x { ports 1; chain c 1 lifetime 1 { map m(a: 128, a: 8); } on 0 { } }".as_slice(),
-            1,
-            49,
-        ),
-        (
-            b"nf x { ports 1; chain c 1 lifetime 1 { map m(a: 8, b: 8, c: 8, d: 8, e: 8, f: 8, g: 8, h: 8, i: 9); } on 0 { } }".as_slice(),
-            1,
-            94,
-        ),
-        (b"nf x { ports 1; on 1 { } }".as_slice(), 1, 20),
-        (
-            b"nf x { ports 1; on 0 { } on 1 { } on 1 { } }".as_slice(),
-            1,
-            29,
-        ),
-        (
-            b"nf x { ports 4; on 0 { } on 4 { touch e; } }".as_slice(),
-            1,
-            29,
-        ),
-    ];
-    for (text, line, column) in faults.iter() {
-        assert!(rt; is_fault(rt.alloc(), text, TypingKind::Limit, *line, *column));
-    }
-}
-
-#[test]
-fn ports_without_a_handler(rt: HostRuntime) {
-    let faults: [(&[u8], u32, u32); 4] = [
-        (b"nf x { ports 1; }".as_slice(), 1, 17),
-        (b"nf x { ports 2; on 1 { } }".as_slice(), 1, 26),
-        (
-            b"nf x { ports 4; on 3 { } on 0 { } on 1 { drop; } }".as_slice(),
-            1,
-            50,
-        ),
-        (
-            b"nf x {\n  ports 3; on 2 { }\n  on 0 { } # 1\n} # the end\n".as_slice(),
-            4,
-            1,
-        ),
-    ];
-    for (text, line, column) in faults.iter() {
-        assert!(rt; is_fault(rt.alloc(), text, TypingKind::NoHandler, *line, *column));
-    }
-}
-
-#[test]
-fn at_one_token_the_least_kind(rt: HostRuntime) {
-    let faults: [(&[u8], u32, u32); 1] = [(
-        b"nf x { ports 1; chain c 1 lifetime 1 { map m(a: 8, b: 8, c: 8, d: 8, e: 8, f: 8, g: 8, h: 8, a: 8); } on 0 { } }".as_slice(),
-        1,
-        94,
-    )];
-    for (text, line, column) in faults.iter() {
-        assert!(rt; is_fault(rt.alloc(), text, TypingKind::Twice, *line, *column));
-    }
+    assert_eq!(rt; first_refused(rt.alloc(), &texts), None);
 }
 
 /// Whether a handler of so many parts, the first at column 53 and each 20 bytes long, has a part too many
@@ -460,17 +216,27 @@ fn has_one_too_many(alloc: Global, part: &[u8; 20], times: u32, end: &[u8], colu
 }
 
 #[test]
-fn a_handler_has_at_most_32_lookups_and_16_new(rt: HostRuntime) {
+fn a_handler_has_at_most_32_lookups(rt: HostRuntime) {
     let alloc = rt.alloc();
     let get = b"get e = c.m(1) { }  ";
-    let new = b"new e = c(a = 1) { }";
+    let find = b"find e = c[0] { }   ";
     let end = b"} }";
     assert!(rt; has_one_too_many(alloc, get, 32, end, 0));
     assert!(rt; has_one_too_many(alloc, get, 33, end, 53 + 32 * 20));
+    assert!(rt; has_one_too_many(alloc, find, 32, end, 0));
+    assert!(rt; has_one_too_many(alloc, find, 33, end, 53 + 32 * 20));
+    assert!(rt; has_one_too_many(alloc, find, 32, b"get c = d.n(1) { } } }", 53 + 32 * 20));
+    assert!(rt; has_one_too_many(alloc, get, 32, b"find c = d[1] { } } }", 53 + 32 * 20));
+    assert!(rt; has_one_too_many(alloc, get, 32, b"new c = d(a = 1) { } } }", 53 + 32 * 20));
     assert!(rt; has_one_too_many(alloc, get, 32, b"get c = d.n() { } } }", 0) == false);
-    assert!(rt; has_one_too_many(alloc, get, 32, b"get c = d.n(1) { } } }", 53 + 32 * 20));
-    assert!(rt; has_one_too_many(alloc, new, 16, end, 0));
-    assert!(rt; has_one_too_many(alloc, new, 17, end, 53 + 16 * 20));
+}
+
+#[test]
+fn a_handler_has_at_most_16_new(rt: HostRuntime) {
+    let alloc = rt.alloc();
+    let new = b"new e = c(a = 1) { }";
+    assert!(rt; has_one_too_many(alloc, new, 16, b"} }", 0));
+    assert!(rt; has_one_too_many(alloc, new, 17, b"} }", 53 + 16 * 20));
     assert!(rt;
         has_one_too_many(
             alloc,
@@ -478,6 +244,15 @@ fn a_handler_has_at_most_32_lookups_and_16_new(rt: HostRuntime) {
             16,
             b"get e = c.m(1) { } else { new c = d() { } } } }",
             53 + 16 * 20 + 26
+        )
+    );
+    assert!(rt;
+        has_one_too_many(
+            alloc,
+            new,
+            16,
+            b"if 1 == 1 { } else { find e = c[0] { new f = c(a = 1) { } } } } }",
+            53 + 16 * 20 + 37
         )
     );
     assert!(rt; has_one_too_many(alloc, new, 16, b"touch z; new e = c(a = 1) { } } }", 0) == false);

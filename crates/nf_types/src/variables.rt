@@ -2,9 +2,10 @@
 
 ghost use Rattle.std.specs.Prelude.{◌≡◌, ◌<◌, ◌^◌, length};
 ghost use Rattle.nf_types.specs.Names.{is_among};
-ghost use Rattle.nf_types.specs.Statements.{variable_of};
-ghost use Rattle.nf_types.specs.View.{variables_of};
+ghost use Rattle.nf_types.specs.Variables.{names_of, variable_of, variable_named};
+ghost use Rattle.nf_types.specs.View.{variables_of, chain_found_of};
 
+use nf_base::decl::ChainDecl;
 use nf_base::seq::Seq;
 
 /// The variables in scope, the innermost first. A variable's number is how many stand behind it.
@@ -13,6 +14,8 @@ pub enum Variables<'a> {
     Empty,
     Bound {
         name: &'a Seq<u8>,
+        /// The chain of its entry, where that is declared.
+        chain: Option<&'a ChainDecl>,
         outer: &'a Variables<'a>,
     },
 }
@@ -24,7 +27,12 @@ pub fn count(variables: &Variables) -> u32
 {
     let mut all = 0;
     let mut rest = variables;
-    while let Variables::Bound { name: _, outer } = rest {
+    while let Variables::Bound {
+        name: _,
+        chain: _,
+        outer,
+    } = rest
+    {
         all += 1;
         rest = outer;
     }
@@ -37,7 +45,12 @@ pub fn number_of(variables: &Variables, name: &Seq<u8>) -> u32
     ensures { result ≡ variable_of (variables_of variables.now) name.now }
 {
     let mut rest = variables;
-    while let Variables::Bound { name: bound, outer } = rest {
+    while let Variables::Bound {
+        name: bound,
+        chain: _,
+        outer,
+    } = rest
+    {
         if name.as_slice() == bound.as_slice() {
             return count(outer);
         }
@@ -46,11 +59,35 @@ pub fn number_of(variables: &Variables, name: &Seq<u8>) -> u32
     0
 }
 
-pub fn is_in_scope(variables: &Variables, name: &Seq<u8>) -> bool
-    ensures { result ≡ is_among name.now (variables_of variables.now) }
+/// The chain of the entry of a variable in scope, where that is declared.
+pub fn chain_of<'a>(variables: &Variables<'a>, name: &Seq<u8>) -> Option<Option<&'a ChainDecl>>
+    ensures { chain_found_of result ≡ variable_named (variables_of variables.now) name.now }
 {
     let mut rest = variables;
-    while let Variables::Bound { name: bound, outer } = rest {
+    while let Variables::Bound {
+        name: bound,
+        chain,
+        outer,
+    } = rest
+    {
+        if name.as_slice() == bound.as_slice() {
+            return Some(*chain);
+        }
+        rest = outer;
+    }
+    None
+}
+
+pub fn is_in_scope(variables: &Variables, name: &Seq<u8>) -> bool
+    ensures { result ≡ is_among name.now (names_of (variables_of variables.now)) }
+{
+    let mut rest = variables;
+    while let Variables::Bound {
+        name: bound,
+        chain: _,
+        outer,
+    } = rest
+    {
         if name.as_slice() == bound.as_slice() {
             return true;
         }

@@ -14,12 +14,18 @@ decreases-get l = 2 * max (size-Block l.x.now.hit.now) (size-Block l.x.now.miss.
 abbrev pub decreases-new : goal.decreases-new
 decreases-new l = 2 * max (size-Block l.x.now.made.now) (max (size-Block l.x.now.taken.now) (size-Block l.x.now.full.now)) + 1
 
+abbrev pub decreases-find : goal.decreases-find
+decreases-find l = 2 * max (size-Block l.x.now.hit.now) (size-Block l.x.now.miss.now) + 1
+
+abbrev pub decreases-if_then : goal.decreases-if_then
+decreases-if_then l = 2 * max (size-Block l.x.now.holds.now) (size-Block l.x.now.fails.now) + 1
+
 abbrev pub decreases-block : goal.decreases-block
 decreases-block l = 2 * size-Block l.block.now
 
 abbrev pub invariant-block-loop-rest : goal.invariant-block-loop-rest
 invariant-block-loop-rest l = record {
   smaller : size-Block l.rest ≤ size-Block l.block;
-  so_far : option_or (first (block_faults l.room l.chains (variables_of l.scope) (syntax.block_of l.rest))) (fault_in l.found)
-      ≡ first (block_faults l.room l.chains (variables_of l.scope) (syntax.block_of l.block));
+  so_far : option_or (first (block_faults l.room l.objects (variables_of l.scope) (syntax.block_of l.rest))) (fault_in l.found)
+      ≡ first (block_faults l.room l.objects (variables_of l.scope) (syntax.block_of l.block));
 }

@@ -1,13 +1,13 @@
 -- what is left decides
-use Rattle.std.proofs.Common.{◌≡◌, ◌+◌, ◌*◌, ◌≤◌, length, map}
+use Rattle.std.proofs.Common.{◌≡◌, ◌+◌, ◌<◌, ◌^◌, length, map}
 use Rattle.nf_tree.specs.View.{handler_of}
-use Rattle.nf_types.specs.Function.{block_at}
+use Rattle.nf_types.specs.Function.{all_places, block_at}
 use Rattle.nf_types.specs.Small.{AreSmall}
 use Rattle.nf_types.proofs.handler.block_at.Given as goal
 
 abbrev pub invariant-loop-rest : goal.invariant-loop-rest
 invariant-loop-rest l = record {
-  places : l.before + 32 * length l.rest ≤ 128;
+  places : l.before + all_places (map handler_of l.rest) < 2 ^ 32;
   small : AreSmall (map handler_of l.rest);
   same : block_at l.port l.before (map handler_of l.rest) ≡ block_at l.port 0 (map handler_of l.handlers);
 }

@@ -7,5 +7,5 @@ use Rattle.nf_types.proofs.handler_rules.each_handler.Given as goal
 
 abbrev pub invariant-loop-i : goal.invariant-loop-i
 invariant-loop-i l =
-    first (each_behind (handler_faults l.ports l.chains) (map syntax.handler_of (take l.i l.handlers)) (map syntax.handler_of (drop l.i l.handlers)))
-    ≡ first (each_behind (handler_faults l.ports l.chains) [] (map syntax.handler_of l.handlers))
+    first (each_behind (handler_faults l.ports l.objects) (map syntax.handler_of (take l.i l.handlers)) (map syntax.handler_of (drop l.i l.handlers)))
+    ≡ first (each_behind (handler_faults l.ports l.objects) [] (map syntax.handler_of l.handlers))

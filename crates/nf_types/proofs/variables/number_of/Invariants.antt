@@ -1,6 +1,6 @@
 -- what is left decides
 use Rattle.std.proofs.Common.{◌≡◌, ◌≤◌, length}
-use Rattle.nf_types.specs.Statements.{variable_of}
+use Rattle.nf_types.specs.Variables.{variable_of}
 use Rattle.nf_types.specs.View.{variables_of}
 use Rattle.nf_types.proofs.variables.number_of.Given as goal
 

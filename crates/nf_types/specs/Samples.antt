@@ -1,0 +1,140 @@
+-- Worked rows: functions with free columns, guards, arrays and several chains.
+use Rattle.std.specs.Prelude.{◌≡◌, ℕ, List, [], ◌∷◌, codes}
+use Rattle.nf_base.specs.Text as code
+use Rattle.nf_base.specs.declared.width.Width.TheVariants.{W8, W16, W32, W48, W64}
+use Rattle.nf_base.specs.declared.expr.Operator.TheVariants as operators
+use Rattle.nf_base.specs.declared.expr.Comparison.TheVariants.{Greater}
+use Rattle.nf_base.specs.declared.packet.Field.TheVariants.{Length, DstIp, SrcPort, DstPort}
+use Rattle.nf_base.specs.declared.decl.ColumnId.TheVariants as ids
+use Rattle.nf_tree.specs.declared.tree.SumOperator.TheVariants.{Plus, Minus}
+use Rattle.nf_tree.specs.declared.tree.ColumnKind.TheVariants.{Fixed, Free}
+use Rattle.nf_tree.specs.declared.tree.Declaration.{Declaration}
+use Rattle.nf_tree.specs.declared.tree.Declaration.TheVariants.{Array}
+use Rattle.nf_tree.specs.Tree as tree
+use Rattle.nf_types.specs.Function.{function}
+use Rattle.nf_types.specs.TextFaults.{faults}
+use Rattle.nf_types.specs.Rows.{at, number, plain, text, handler, constant, field, label, map_part, column_part, chain, column, map_of, given, read}
+
+-- a column of the variable e
+abbrev pub entry : List ℕ → tree.Expression
+entry x = tree.Column (plain (codes "e")) (plain x)
+
+-- chain hosts 5 lifetime 10 { map by_dst(d: 32); free used: 64; }
+abbrev pub hosts : Declaration
+hosts = chain (codes "hosts") 5 10 (map_part (codes "by_dst") (label (codes "d") 32 ∷ []) ∷ column_part Free (codes "used") 64 ∷ [])
+
+-- get e = hosts.by_dst(dst_ip) { e.used = e.used + length; if e.used > 1000 { drop; } forward 0; }
+-- else { new f = hosts(d = dst_ip) { f.used = length; forward 0; } } drop;
+abbrev pub policed_text : tree.Block
+policed_text =
+    tree.Discard (tree.Get tree.Start (at 6 1) (plain (codes "e")) (plain (codes "hosts")) (plain (codes "by_dst")) (field DstIp ∷ []) (at 6 9)
+    (tree.Forward
+    (tree.If
+    (tree.Write tree.Start (plain (codes "e")) (plain (codes "used")) (tree.Sum Plus (entry (codes "used")) (field Length)))
+    (entry (codes "used")) Greater (constant 1000) (tree.Discard tree.Start) tree.Missing)
+    (constant 0))
+    (tree.New tree.Start (at 7 1) (plain (codes "f")) (plain (codes "hosts")) (record { name = plain (codes "d"); value = field DstIp } ∷ []) (at 7 9)
+    (tree.Forward (tree.Write tree.Start (plain (codes "f")) (plain (codes "used")) (field Length)) (constant 0))
+    tree.Missing tree.Missing))
+
+abbrev pub policer_text : tree.Tree
+policer_text = text 2 (hosts ∷ []) (handler 0 (at 4 4) (tree.Forward tree.Start (constant 1)) ∷ handler 1 (at 5 4) policed_text ∷ []) (at 9 1)
+
+abbrev pub policed : code.Block
+policed =
+    code.Get 0 0 0 (read W32 DstIp ∷ []) 0
+    (code.Write 0 0 (given W64 (code.Both operators.Plus (code.Column 0 0) (code.Read Length)))
+    (code.If Greater (code.Column 0 0) (code.Number 1000) code.Discard code.End (code.Forward (code.Number 0))))
+    (code.New 1 0 (read W32 DstIp ∷ []) 0 (code.Write 0 0 (read W64 Length) (code.Forward (code.Number 0))) code.End code.End code.End)
+    code.Discard
+
+abbrev pub ThePolicerIsAFunction : Type 0
+ThePolicerIsAFunction =
+    (faults policer_text ≡ [])
+    × (function policer_text ≡ record {
+      name = codes "x";
+      chains = record {
+        name = codes "hosts";
+        size = 5;
+        lifetime = 10;
+        labels = column (codes "d") W32 ∷ [];
+        free = column (codes "used") W64 ∷ [];
+        maps = map_of (codes "by_dst") 0 1 ∷ [];
+        columns = ids.Label 0 ∷ ids.Free 0 ∷ [];
+      } ∷ [];
+      arrays = [];
+      handlers = code.Forward (code.Number 1) ∷ policed ∷ [];
+    })
+
+-- array v 3: 16; chain d 1 lifetime 0 { } chain c 8 lifetime 0 { fixed r: 16; map m(a: 32); free t: 8; map n(s: 48, p: 16); free u: 64; }
+abbrev pub mixed : List Declaration
+mixed =
+    Array (record { place = at 2 1; name = plain (codes "v"); size = number 3 (at 2 9); width = number 16 (at 2 12); contents = [] })
+    ∷ chain (codes "d") 1 0 []
+    ∷ chain (codes "c") 8 0
+    (column_part Fixed (codes "r") 16
+    ∷ map_part (codes "m") (label (codes "a") 32 ∷ [])
+    ∷ column_part Free (codes "t") 8
+    ∷ map_part (codes "n") (label (codes "s") 48 ∷ label (codes "p") 16 ∷ [])
+    ∷ column_part Free (codes "u") 64 ∷ [])
+    ∷ []
+
+-- find e = c[v[dst_port - 7]] where (p = src_port, r = v[0]) { e.u = e.s; v[v[1]] = e.index + v[2]; free e; } else { flood; }
+-- new e = c(s = v[3], r = 1, p = 2, a = v[4]) { } get e = c.n(v[5], v[6]) { forward e.t; }
+abbrev pub cell : ℕ → tree.Expression
+cell n = tree.Cell (plain (codes "v")) (constant n)
+
+abbrev pub mixed_text : tree.Block
+mixed_text =
+    tree.Get
+    (tree.New
+    (tree.Find tree.Start (at 6 1) (plain (codes "e")) (plain (codes "c")) (tree.Cell (plain (codes "v")) (tree.Sum Minus (field DstPort) (constant 7)))
+    (tree.Where (record { name = plain (codes "p"); value = field SrcPort } ∷ record { name = plain (codes "r"); value = cell 0 } ∷ []) (at 6 9))
+    (tree.Free
+    (tree.Store
+    (tree.Write tree.Start (plain (codes "e")) (plain (codes "u")) (entry (codes "s")))
+    (plain (codes "v")) (cell 1) (tree.Sum Plus (tree.Index (plain (codes "e"))) (cell 2)))
+    (at 6 20) (plain (codes "e")))
+    (tree.Flood tree.Start))
+    (at 7 1) (plain (codes "e")) (plain (codes "c"))
+    (record { name = plain (codes "s"); value = cell 3 } ∷ record { name = plain (codes "r"); value = constant 1 }
+    ∷ record { name = plain (codes "p"); value = constant 2 } ∷ record { name = plain (codes "a"); value = cell 4 } ∷ []) (at 7 9)
+    tree.Start tree.Missing tree.Missing)
+    (at 8 1) (plain (codes "e")) (plain (codes "c")) (plain (codes "n")) (cell 5 ∷ cell 6 ∷ []) (at 8 9)
+    (tree.Forward tree.Start (entry (codes "t"))) tree.Missing
+
+abbrev pub mixed_tree : tree.Tree
+mixed_tree = text 1 mixed (handler 0 (at 5 4) mixed_text ∷ []) (at 9 1)
+
+abbrev pub cell_at : ℕ → ℕ → code.Expression
+cell_at place n = code.Cell place 0 (code.Number n)
+
+-- the labels stand in text order, r, a, s and p; places count along the text, at an array that is written its name
+abbrev pub mixed_code : code.Block
+mixed_code =
+    code.Find 0 1 (code.Cell 1 0 (code.Both operators.Minus (code.Read DstPort) (code.Number 7)))
+    (record { label = 3; given = read W16 SrcPort } ∷ record { label = 0; given = given W16 (cell_at 2 0) } ∷ []) 0
+    (code.Write 0 1 (given W64 (code.Label 0 2))
+    (code.Store 3 0 (cell_at 4 1) (given W16 (code.Both operators.Plus (code.Index 0) (cell_at 5 2)))
+    (code.Free 0 code.End)))
+    code.Flood
+    (code.New 6 1 (given W16 (code.Number 1) ∷ given W32 (cell_at 8 4) ∷ given W48 (cell_at 7 3) ∷ given W16 (code.Number 2) ∷ []) 0
+    code.End code.End code.End
+    (code.Get 9 1 1 (given W48 (cell_at 10 5) ∷ given W16 (cell_at 11 6) ∷ []) 0 (code.Forward (code.Column 0 0)) code.End code.End))
+
+abbrev pub PlacesCountAlongTheText : Type 0
+PlacesCountAlongTheText =
+    (faults mixed_tree ≡ [])
+    × ((function mixed_tree).chains ≡
+    record { name = codes "d"; size = 1; lifetime = 0; labels = []; free = []; maps = []; columns = [] }
+    ∷ record {
+      name = codes "c";
+      size = 8;
+      lifetime = 0;
+      labels = column (codes "r") W16 ∷ column (codes "a") W32 ∷ column (codes "s") W48 ∷ column (codes "p") W16 ∷ [];
+      free = column (codes "t") W8 ∷ column (codes "u") W64 ∷ [];
+      maps = map_of (codes "m") 1 1 ∷ map_of (codes "n") 2 2 ∷ [];
+      columns = ids.Label 0 ∷ ids.Label 1 ∷ ids.Free 0 ∷ ids.Label 2 ∷ ids.Label 3 ∷ ids.Free 1 ∷ [];
+    } ∷ [])
+    × ((function mixed_tree).arrays ≡ record { name = codes "v"; width = W16; cells = 0 ∷ 0 ∷ 0 ∷ [] } ∷ [])
+    × ((function mixed_tree).handlers ≡ mixed_code ∷ [])
