@@ -1,7 +1,7 @@
 //! Type faults of texts, by kind and place.
 
-use super::*;
 use crate::tests::{checked, repeated};
+use nf_types::{CheckFault, TypingKind};
 use std::alloc::Global;
 
 /// Whether a text has a tree, and this is the first fault of its types.
@@ -258,8 +258,15 @@ fn free_columns_that_are_given(rt: HostRuntime) {
 }
 
 #[test]
-fn labels_that_are_written(rt: HostRuntime) {
-    let faults: [(&[u8], u32); 6] = [
+fn what_is_never_written(rt: HostRuntime) {
+    let faults: [(&[u8], u32); 10] = [
+        (b"set time = 1;".as_slice(), 5),
+        (b"set length = 1;".as_slice(), 5),
+        (b"set proto = z[0];".as_slice(), 5),
+        (
+            b"set ttl = 1; if 1 == 1 { set proto = ttl; }".as_slice(),
+            30,
+        ),
         (b"find e = c[0] { e.a = 1; }".as_slice(), 19),
         (b"find e = c[0] { e.k = 1; }".as_slice(), 19),
         (b"find e = c[0] { e.f = z[0]; }".as_slice(), 19),
@@ -281,7 +288,8 @@ fn labels_that_are_written(rt: HostRuntime) {
 
 #[test]
 fn variables_that_are_not_in_scope(rt: HostRuntime) {
-    let faults: [(&[u8], u32); 26] = [
+    let faults: [(&[u8], u32); 27] = [
+        (b"set src_ip = e.a + z[0];".as_slice(), 14),
         (b"touch c;".as_slice(), 7),
         (b"touch a;".as_slice(), 7),
         (b"free e;".as_slice(), 6),

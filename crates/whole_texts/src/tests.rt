@@ -1,8 +1,8 @@
-use super::*;
 use crate::fault_tests::is_fault;
 use nf_base::code::Code;
 use nf_base::func::Func;
 use nf_syntax::parse;
+use nf_types::{CheckFault, TypingKind, check};
 use std::alloc::{AllocError, Global};
 
 const FIREWALL: &[u8] = b"nf fw {\n\
@@ -118,19 +118,19 @@ drop;\n\
 }\n\
 "
             .as_slice(),
-        b"nf answers {\n\
+        b"nf nat {\n\
 ports 2;\n\
 chain conns 60000 lifetime 60000000000 {\n\
 map by_in(sip: 32, sp: 16, dip: 32, dp: 16); fixed rip: 32; fixed rp: 16;\n\
 }\n\
 on 0 {\n\
-get e = conns.by_in(src_ip, src_port, dst_ip, dst_port) { touch e; forward 1; }\n\
-else { new f = conns(sip = src_ip, sp = src_port, dip = dst_ip, dp = dst_port, rip = dst_ip, rp = dst_port) { forward 1; } }\n\
+get e = conns.by_in(src_ip, src_port, dst_ip, dst_port) { touch e; set src_ip = 203.0.113.1; set src_port = e.index + 1024; forward 1; }\n\
+else { new f = conns(sip = src_ip, sp = src_port, dip = dst_ip, dp = dst_port, rip = dst_ip, rp = dst_port) { set src_ip = 203.0.113.1; set src_port = f.index + 1024; forward 1; } }\n\
 drop;\n\
 }\n\
 on 1 {\n\
 if dst_port < 1024 { drop; }\n\
-find e = conns[dst_port - 1024] where (rip = src_ip, rp = src_port) { touch e; forward 0; }\n\
+find e = conns[dst_port - 1024] where (rip = src_ip, rp = src_port) { touch e; set dst_ip = e.sip; set dst_port = e.sp; forward 0; }\n\
 drop;\n\
 }\n\
 }\n\
