@@ -17,9 +17,9 @@ use Rattle.maestro_cli.specs.Source.{IsFunctionUnder}
 use Rattle.maestro_cli.specs.Runs.{Run, IsRunOf, IsUndivided, AreTold}
 use Rattle.maestro_cli.specs.Numbers.{Start, first_created}
 use Rattle.maestro_cli.specs.Opened.{IsUntouched}
-use Rattle.maestro_cli.specs.Created.{created_file, files_created}
+use Rattle.maestro_cli.specs.Created.{Created, created_file, files_created}
 use Rattle.maestro_cli.specs.Stages.{HoldsAll, HoldsFronts}
-use Rattle.maestro_cli.specs.Printed.{Printed, PrintedFront, Says, IsStop, ComplainsFront}
+use Rattle.maestro_cli.specs.Printed.{Printed, PrintedFront, PrintedLast, Says, IsStop, ComplainsFront}
 use Rattle.maestro_cli.specs.Report.{run_in, file_in, all_files, IsStage}
 use Rattle.maestro_cli.specs.Texts.{error_line, ran_line}
 use Rattle.maestro_cli.specs.Answer.{IsFinished, IsUnbegun, SaysOnly, IsCutShort, SaysFront, IsStopped, IsUnread, IsHashed, IsUnhashed, Runs, Hashes, Declines, Answers, said_of}
@@ -45,7 +45,10 @@ leaves_printed start a b r line (Err status) some s unnamed is said =
       made = all_files r;
       within = omega arith;
       files = fronts_printed start.told a b (first_created start) (file_in r) (all_files r) 0 _ (omega (arith, some)) (omega arith) (unnamed 0 (omega arith)) (fronts_of_all start.told a (first_created start) (file_in r) (all_files r) (all_of_stage start.told a (first_created start) (file_in r) (all_files r) s)) h.wrote;
-      stdout = subst (λ (p : List ℕ). PrintedFront start.told b 0 p) is (printed_front start.told a b 0 line (s.standard 0 (omega arith)) h);
+      stdout = inr (
+        all_printed start.told a b (first_created start) (file_in r) (all_files r) 0 _ (omega (arith, some)) (omega arith) (unnamed 0 (omega arith)) (all_of_stage start.told a (first_created start) (file_in r) (all_files r) s) h.wrote,
+        subst (λ (p : List ℕ). PrintedFront start.told b 0 p) is (printed_front start.told a b 0 line (s.standard 0 (omega arith)) h),
+      );
       stderr = h.wrote.givens 1 (λ e. omega (arith, e)) ∙ s.standard 1 (omega arith);
     }
 
@@ -64,7 +67,7 @@ ends_left start now r out f captures most (Err status) named is over loaded undi
   made = left.made;
   within = left.within;
   files = subst (λ (o : List ℕ). HoldsFronts start.told now (first_created start) (created_file o (run_in r)) left.made) named left.files;
-  stdout = left.stdout;
+  stdout = subst (λ (o : List ℕ). PrintedLast start.told now (first_created start) (created_file o (run_in r)) (files_created (run_in r)) (ran_line (length r.handled.now))) named left.stdout;
   stderr = left.stderr;
 })
 
@@ -90,7 +93,7 @@ stops c start now f captures is many told same h = elim h [
       made = short.made;
       within = short.within;
       files = subst (λ (b : ℕ). HoldsFronts start.told now b (created_file c.out short.run) short.made) (base_same c start same) short.files;
-      stdout = short.stdout;
+      stdout = subst (λ (b : ℕ). PrintedLast start.told now b (created_file c.out short.run) (files_created short.run) (ran_line (length short.run.handled))) (base_same c start same) short.stdout;
     },
     short.stderr,
   )
@@ -186,6 +189,18 @@ stopped_early c before mid after result unnamed u stop h = stopped c before afte
   stderr = says_front before mid after (u.standard 1 (omega arith)) h;
 })
 
+-- what is printed on standard error changes nothing of that
+last_told : (before mid after : Told) (base : ℕ) (file : ℕ → Created) (count : ℕ) (line : List ℕ) → 2 ≤ base → mid.name 1 ≡ None → ComplainsFront mid after → PrintedLast before mid base file count line → PrintedLast before after base file count line
+last_told before mid after base file count line two unnamed told h =
+    let same = told.wrote.wrote.givens 0 (λ e. omega (arith, e)) in
+    elim h [
+      | inl none ↦ inl (rw same none)
+      | inr last ↦ inr (
+        all_printed before mid after base file count 1 _ two (omega arith) unnamed last.0 told.wrote.wrote,
+        record { front = last.1.front; is_front = last.1.is_front; printed = rw same last.1.printed },
+      )
+    ]
+
 -- a run cut short, of which standard error has a front of a line
 cut_told : (c : RunAsked) (before mid after : Told) → 1 ≤ length c.captures → mid.name 1 ≡ None → StopsSilently c before mid → ComplainsFront mid after → IsStopped c before after
 cut_told c before mid after some unnamed h told = elim h [
@@ -202,7 +217,7 @@ cut_told c before mid after some unnamed h told = elim h [
           made = s.made;
           within = s.within;
           files = fronts_printed before mid after _ (created_file c.out s.run) s.made 1 _ (omega (arith, some)) (omega arith) unnamed s.files told.wrote.wrote;
-          stdout = record { front = s.stdout.front; is_front = s.stdout.is_front; printed = rw (told.wrote.wrote.givens 0 (λ e. omega (arith, e))) s.stdout.printed };
+          stdout = last_told before mid after _ (created_file c.out s.run) (files_created s.run) _ (omega (arith, some)) unnamed told s.stdout;
         });
         stderr = says_front before mid after cut.1 told;
       }
@@ -220,7 +235,7 @@ cut_of_whole c before mid status h = record {
   made = files_created h.run;
   within = omega arith;
   files = fronts_of_all before mid _ (created_file c.out h.run) (files_created h.run) h.files;
-  stdout = front_of_printed before mid 0 _ h.stdout;
+  stdout = inr (h.files, front_of_printed before mid 0 _ h.stdout);
 }
 
 -- a whole run, once its end is told

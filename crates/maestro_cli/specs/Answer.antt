@@ -12,7 +12,7 @@ use Rattle.maestro_cli.specs.Numbers.{Start, first_created}
 use Rattle.maestro_cli.specs.Opened.{IsUntouched}
 use Rattle.maestro_cli.specs.Created.{created_file, files_created}
 use Rattle.maestro_cli.specs.Stages.{HoldsAll, HoldsFronts}
-use Rattle.maestro_cli.specs.Printed.{Printed, PrintedFront, IsStop, ComplainsFront}
+use Rattle.maestro_cli.specs.Printed.{Printed, PrintedFront, PrintedLast, IsStop, ComplainsFront}
 use Rattle.maestro_cli.specs.Texts.{error_line, ran_line}
 use Rattle.maestro_cli.specs.Endings.{ending_of}
 use Rattle.maestro_cli.specs.Hashing.{hash_line}
@@ -55,14 +55,14 @@ pub record SaysOnly (before after : Told) (status : Status) : Type 0 where
   pub unbegun : IsUnbegun before after
   pub stderr : Printed before after 1 (error_line status)
 
--- Some of a run's files were created, and each holds a front of what that one run leaves there.
+-- Some of a run's files were created, and each holds a front of what that one run leaves there. Nothing was printed on standard output before all were whole.
 pub record IsCutShort (c : RunAsked) (before after : Told) : Type 0 where
   pub run : Run
   pub is_run : IsRunOf c before run
   pub made : ℕ
   pub within : made ≤ files_created run
   pub files : HoldsFronts before after (base_of before c) (created_file c.out run) made
-  pub stdout : PrintedFront before after 0 (ran_line (length run.handled))
+  pub stdout : PrintedLast before after (base_of before c) (created_file c.out run) (files_created run) (ran_line (length run.handled))
 
 -- a front of a status's line on standard error
 pub record SaysFront (before after : Told) : Type 0 where

@@ -1,5 +1,5 @@
 -- What was printed on a standard output.
-use Rattle.std.specs.Prelude.{◌≡◌, ℕ, List, ◌++◌, Result, Ok, Err}
+use Rattle.std.specs.Prelude.{◌≡◌, ◌⊎◌, ℕ, List, [], ◌++◌, Result, Ok, Err}
 use Rattle.nf_files.specs.Told.{Told}
 use Rattle.nf_files.specs.Pieces.{Gains}
 use Rattle.nf_files.specs.Writes.{Writes, WritesFront}
@@ -7,7 +7,8 @@ use Rattle.maestro_cli.specs.declared.status.RunFile.{RunFile}
 use Rattle.maestro_cli.specs.declared.status.RunFile.TheVariants.{Stderr}
 use Rattle.maestro_cli.specs.declared.status.Status.{Status}
 use Rattle.maestro_cli.specs.declared.status.Status.TheVariants.{Done, Usage, Refused, FileFault, NotCapture, Torn, TooMany, Memory}
-use Rattle.maestro_cli.specs.Stages.{IsFrontOf}
+use Rattle.maestro_cli.specs.Created.{Created}
+use Rattle.maestro_cli.specs.Stages.{IsFrontOf, HoldsAll}
 use Rattle.maestro_cli.specs.Texts.{error_line}
 
 -- these bytes were put behind what a file was given
@@ -19,6 +20,10 @@ pub record PrintedFront (before after : Told) (file : ℕ) (bytes : List ℕ) : 
   pub front : List ℕ
   pub is_front : IsFrontOf bytes front
   pub printed : Printed before after file front
+
+-- Nothing was put on standard output, or all of so many files are whole, and a front of a line was.
+abbrev pub PrintedLast : Told → Told → (base : ℕ) → (file : ℕ → Created) → (count : ℕ) → List ℕ → Type 0
+PrintedLast before after base file count line = Printed before after 0 [] ⊎ (HoldsAll before after base file count × PrintedFront before after 0 line)
 
 -- the status of a call that is refused by the outside or for want of memory
 abbrev pub IsStop : Status → Type 0

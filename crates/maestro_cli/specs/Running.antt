@@ -17,7 +17,7 @@ use Rattle.maestro_cli.specs.Numbers.{Start, first_created}
 use Rattle.maestro_cli.specs.Opened.{IsUntouched}
 use Rattle.maestro_cli.specs.Created.{created_file, files_created}
 use Rattle.maestro_cli.specs.Stages.{HoldsAll, HoldsFronts}
-use Rattle.maestro_cli.specs.Printed.{Printed, PrintedFront, IsStop, ComplainsFront}
+use Rattle.maestro_cli.specs.Printed.{Printed, PrintedLast, IsStop, ComplainsFront}
 use Rattle.maestro_cli.specs.Report.{run_in, file_in, all_files}
 use Rattle.maestro_cli.specs.Texts.{error_line, ran_line}
 use Rattle.maestro_cli.specs.Answer.{IsFinished, IsCutShort, base_of}
@@ -33,12 +33,12 @@ pub record LeftAll (start : Start) (now : Told) (r : Report) : Type 0 where
   pub stdout : Printed start.told now 0 (ran_line (length r.handled.now))
   pub stderr : now.given 1 ≡ start.told.given 1
 
--- some of its files were created, and each holds a front of its bytes
+-- some of its files were created, and each holds a front of its bytes; nothing is printed before all are whole
 pub record LeftSome (start : Start) (now : Told) (r : Report) : Type 0 where
   pub made : ℕ
   pub within : made ≤ all_files r
   pub files : HoldsFronts start.told now (first_created start) (file_in r) made
-  pub stdout : PrintedFront start.told now 0 (ran_line (length r.handled.now))
+  pub stdout : PrintedLast start.told now (first_created start) (file_in r) (all_files r) (ran_line (length r.handled.now))
   pub stderr : now.given 1 ≡ start.told.given 1
 
 -- what leaving the files of a report comes to
@@ -61,14 +61,14 @@ pub record EndsWhole (start : Start) (now : Told) (out : List ℕ) (f : Function
   pub stdout : Printed start.told now 0 (ran_line (length run.handled))
   pub stderr : now.given 1 ≡ start.told.given 1
 
--- some of its files were created, and each holds a front of its bytes
+-- some of its files were created, and each holds a front of its bytes; nothing is printed before all are whole
 pub record EndsShort (start : Start) (now : Told) (out : List ℕ) (f : Function) (captures : List (List ℕ)) (most : ℕ) : Type 0 where
   pub run : Run
   pub is_run : IsRunWith f captures most run
   pub made : ℕ
   pub within : made ≤ files_created run
   pub files : HoldsFronts start.told now (first_created start) (created_file out run) made
-  pub stdout : PrintedFront start.told now 0 (ran_line (length run.handled))
+  pub stdout : PrintedLast start.told now (first_created start) (created_file out run) (files_created run) (ran_line (length run.handled))
   pub stderr : now.given 1 ≡ start.told.given 1
 
 -- what handling all packets and leaving the files comes to
