@@ -1,0 +1,5 @@
+pub mod Grid
+pub mod Keyed
+pub mod Slots
+pub mod Table
+pub mod Joined

@@ -1,0 +1,11 @@
+//! The tables of a network function: by chain the entries by index and by key, and by array the cells,
+//! in memory taken once.
+#![tactic(auto)]
+
+mod chain_tables;
+mod created;
+mod key_map;
+mod rows;
+
+pub use chain_tables::ChainTables;
+pub use created::Created;
