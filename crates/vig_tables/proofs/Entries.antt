@@ -1,7 +1,7 @@
 -- Entries by index, and by their parts.
-use Rattle.std.proofs.Common.{◌≡◌, ◌≢◌, ◌∙◌, ap, sym, refl, arith, ℕ, zero, suc, ◌+◌, ◌<◌, ◌≤◌, Bool, true, false, List, [], ◌∷◌, length, get_or, replicate}
+use Rattle.std.proofs.Common.{◌≡◌, ◌≢◌, ◌∙◌, ap, sym, refl, arith, ℕ, zero, suc, ◌+◌, ◌<◌, ◌≤◌, Bool, true, false, List, [], ◌∷◌, ◌++◌, length, get_or, take, replicate}
 use Rattle.std.specs.Prelude.{Option, Some, None, slice_set, IsTrue}
-use Rattle.std.proofs.lemmas.List.{set-get_or}
+use Rattle.std.proofs.lemmas.List.{set-get_or, take_more}
 use Rattle.std.proofs.lemmas.Option.{none-some}
 use Rattle.nf_base.specs.declared.state.Entry.{Entry}
 use Rattle.nf_base.specs.Chains.{entry_at, is_free}
@@ -25,10 +25,15 @@ entry_within [] i e here = absurd (none-some e here)
 entry_within (s ∷ slots) zero e here = omega arith
 entry_within (s ∷ slots) (suc i) e here = omega (arith, entry_within slots i e here)
 
-pub entry_or : (slots : List (Option Entry)) (i : ℕ) → get_or slots i None ≡ entry_at slots i
+entry_or : (slots : List (Option Entry)) (i : ℕ) → get_or slots i None ≡ entry_at slots i
 entry_or [] i = refl
 entry_or (s ∷ slots) zero = refl
 entry_or (s ∷ slots) (suc i) = entry_or slots i
+
+-- one more entry behind the first ones
+pub one_more : (slots front new : List (Option Entry)) (i : ℕ) (x : Option Entry) → new ≡ front ++ x ∷ [] → front ≡ take i slots → x ≡ entry_at slots i → i < length slots → new ≡ take (i + 1) slots
+one_more slots front new i x pushed so_far here lt =
+    pushed ∙ ap (λ (xs : List (Option Entry)). xs ++ x ∷ []) so_far ∙ ap (λ (y : Option Entry). take i slots ++ y ∷ []) (here ∙ sym (entry_or slots i)) ∙ sym (take_more slots i None lt)
 
 -- a free index is within the list, and has no entry
 pub free_parts : (slots : List (Option Entry)) (i : ℕ) → IsTrue (is_free slots i) → (i < length slots) × (entry_at slots i ≡ None)

@@ -70,6 +70,13 @@ impl ChainTables {
         })
     }
 
+    /// How many maps the chain has.
+    pub fn map_count(&self) -> u32
+        ensures { result ≡ length self.now.decl.maps }
+    {
+        self.decl.maps.len()
+    }
+
     /// The index to which a key is bound in a map, by the map's number in the chain.
     pub fn lookup(&self, map: u32, key: &Key) -> Option<u32>
         ensures { result ≡ found self.now.decl self.now.chain map key.now }

@@ -6,6 +6,7 @@ mod chain_tables;
 mod created;
 mod key_map;
 mod rows;
+mod tables;
 
-pub use chain_tables::ChainTables;
 pub use created::Created;
+pub use tables::Tables;

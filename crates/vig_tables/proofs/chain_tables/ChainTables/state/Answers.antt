@@ -1,9 +1,7 @@
-use Rattle.std.proofs.Common.{◌≡◌, ◌∙◌, ap, sym, refl, arith, ◌<◌, ◌≤◌, List, [], ◌∷◌, ◌++◌, length, take}
-use Rattle.std.specs.Prelude.{Option, None}
-use Rattle.std.proofs.lemmas.List.{take_more, take_all}
-use Rattle.nf_base.specs.declared.state.Entry.{Entry}
+use Rattle.std.proofs.Common.{◌≡◌, ◌∙◌, ap, sym, refl, arith, ◌<◌, ◌≤◌, length}
+use Rattle.std.proofs.lemmas.List.{take_all}
 use Rattle.vig_tables.specs.Table.{Table}
-use Rattle.vig_tables.proofs.Entries.{entry_or}
+use Rattle.vig_tables.proofs.Entries.{one_more}
 use Rattle.vig_tables.proofs.Reading.{length_is}
 use Rattle.vig_tables.proofs.chain_tables.ChainTables.state.Goals as goal
 
@@ -13,10 +11,7 @@ loop-i-preserved c =
     let i = c.loop-i.i in
     let size = ap (λ (t : Table). length t.chain.slots) (sym c.self.view_is) ∙ length_is _ _ _ _ _ c.self.invariant in
     let lt : i < length slots = omega (arith, size, c.get-size.ensures.value, c.loop-i-test.true) in
-    c.in_ok-push.ensures.items
-    ∙ ap (λ (xs : List (Option Entry)). xs ++ c.in_ok-entry.field-0 ∷ []) c.loop-i.invariant
-    ∙ ap (λ (x : Option Entry). take i slots ++ x ∷ []) (c.in_ok-entry.ensures ∙ sym (entry_or slots i))
-    ∙ sym (take_more slots i None lt)
+    one_more slots c.loop-i.slots.items c.push.new.self.items i c.in_ok-entry.field-0 c.in_ok-push.ensures.items c.loop-i.invariant c.in_ok-entry.ensures lt
 
 pub returns : goal.returns
 returns c =
