@@ -77,6 +77,13 @@ impl ChainTables {
         self.decl.maps.len()
     }
 
+    /// How many labels each entry has.
+    pub fn label_count(&self) -> u32
+        ensures { result ≡ length self.now.decl.labels }
+    {
+        self.decl.labels.len()
+    }
+
     /// The index to which a key is bound in a map, by the map's number in the chain.
     pub fn lookup(&self, map: u32, key: &Key) -> Option<u32>
         ensures { result ≡ found self.now.decl self.now.chain map key.now }

@@ -68,6 +68,24 @@ impl Tables {
         self.share
     }
 
+    /// How many chains there are.
+    pub fn chain_count(&self) -> usize
+        ensures decls { result ≡ length self.now.decls }
+        ensures chains { result ≡ length self.now.state.chains }
+    {
+        self.chains.len()
+    }
+
+    /// How many labels each entry of a chain has, 0 where there is no such chain.
+    pub fn label_count(&self, chain: u32) -> u32
+        ensures { result ≡ number_of (λ t. length t.decl.labels) (table_at self.now chain) }
+    {
+        match self.chains.as_slice().get(chain as usize) {
+            Some(tables) => tables.label_count(),
+            None => 0,
+        }
+    }
+
     /// The index to which a key is bound in a map, by the map's number over all chains.
     pub fn lookup(&self, map: u32, key: &Key) -> Option<u32>
         ensures { result ≡ found_in self.now.decls self.now.state.chains map key.now }
