@@ -40,10 +40,7 @@ fn copied(slot: &Option<Pair>) -> Option<Pair>
 }
 
 /// The same slots once more.
-pub fn copied_slots(
-    alloc: Global,
-    slots: &[Option<Pair>],
-) -> Result<Vec<Option<Pair>>, AllocError>
+pub fn copied_slots(alloc: Global, slots: &[Option<Pair>]) -> Result<Vec<Option<Pair>>, AllocError>
     ensures { IfOk result (λ copy. copy.items ≡ slots.now) }
 {
     let mut copy = Vec::with_capacity(alloc, slots.len())?;

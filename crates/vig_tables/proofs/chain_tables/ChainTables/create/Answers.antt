@@ -1,0 +1,40 @@
+use Rattle.std.proofs.Common.{◌∙◌, ap, sym, refl, true, List}
+use Rattle.std.specs.List.{list_any}
+use Rattle.vig_tables.specs.Keyed.{Keyed, is_bound}
+use Rattle.vig_tables.proofs.Reading.{full_is, open_is}
+use Rattle.vig_tables.proofs.Making.{bindable, open_rows, entered_joined, entered_is, bound_taken}
+use Rattle.vig_tables.proofs.chain_tables.ChainTables.create.Goals as goal
+
+pub returns-then-is_any_bound : goal.returns-then-is_any_bound
+returns-then-is_any_bound c =
+    let bound = ap (list_any (is_bound c.args.labels.now)) (sym c.as_slice.ensures.value) ∙ sym c.is_any_bound.ensures ∙ c.if-is_any_bound.true in
+    (rw (← c.self.view_is) (sym (bound_taken _ _ _ _ _ c.args.labels.now c.self.invariant) ∙ bound), refl)
+
+pub returns-in-None : goal.returns-in-None
+returns-in-None c =
+    let unbound = ap (list_any (is_bound c.args.labels.now)) (sym c.as_slice.ensures.value) ∙ sym c.is_any_bound.ensures ∙ c.if-is_any_bound.false in
+    rw (← c.self.view_is, c.in-None.ensures.unchanged)
+    (sym (bound_taken _ _ _ _ _ c.args.labels.now c.self.invariant) ∙ unbound, (full_is _ _ _ _ _ c.self.invariant true c.in-None.ensures.cause, refl))
+
+pub set_row-requires-clause-within : goal.set_row-requires-clause-within
+set_row-requires-clause-within c = (open_rows _ _ _ _ _ c.in-Some.i c.self.invariant c.in-Some.ensures.cause).0
+
+pub clear_row-requires : goal.clear_row-requires
+clear_row-requires c = (open_rows _ _ _ _ _ c.in-Some.i c.self.invariant c.in-Some.ensures.cause).1
+
+pub bind_all-requires : goal.bind_all-requires
+bind_all-requires c =
+    let unbound = ap (list_any (is_bound c.args.labels.now)) (sym c.as_slice.ensures.value) ∙ sym c.is_any_bound.ensures ∙ c.if-is_any_bound.false in
+    bindable _ _ _ _ _ c.in-Some.i c.args.labels.now c.self.invariant c.in-Some.ensures.cause unbound
+
+pub invariant_of-self-2 : goal.invariant_of-self-2
+invariant_of-self-2 c =
+    let unbound = ap (list_any (is_bound c.args.labels.now)) (sym c.as_slice.ensures.value) ∙ sym c.is_any_bound.ensures ∙ c.if-is_any_bound.false in
+    rw (c.in-Some.ensures.put, c.set_row.ensures, c.clear_row.ensures)
+    (entered_joined _ _ _ _ _ _ c.args.time c.in-Some.i c.args.labels.now _ c.self.invariant c.in-Some.ensures.cause unbound c.bind_all.ensures)
+
+pub returns : goal.returns
+returns c =
+    let unbound = ap (list_any (is_bound c.args.labels.now)) (sym c.as_slice.ensures.value) ∙ sym c.is_any_bound.ensures ∙ c.if-is_any_bound.false in
+    rw (← c.self.view_is, c.in-Some.ensures.put, c.set_row.ensures, c.clear_row.ensures)
+    (sym (bound_taken _ _ _ _ _ c.args.labels.now c.self.invariant) ∙ unbound, (open_is _ _ _ _ _ c.self.invariant c.in-Some.i ∙ c.in-Some.ensures.cause, entered_is _ _ _ _ _ c.args.time c.in-Some.i c.args.labels.now c.self.invariant))

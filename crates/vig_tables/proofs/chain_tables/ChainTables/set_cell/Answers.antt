@@ -1,0 +1,21 @@
+use Rattle.std.proofs.Common.{◌-◌, length}
+use Rattle.std.specs.Prelude.{slice_set}
+use Rattle.vig_tables.specs.Grid.{row_at}
+use Rattle.vig_tables.proofs.Reading.{stamped, unstamped}
+use Rattle.vig_tables.proofs.Changing.{written_joined, written_is, not_written}
+use Rattle.vig_tables.proofs.chain_tables.ChainTables.set_cell.Goals as goal
+
+pub invariant_of-self : goal.invariant_of-self
+invariant_of-self c =
+    let at = stamped c.self.inside.chain c.args.i c.stamp.result c.is_some.result c.stamp.ensures.value c.is_some.ensures c.if-is_some.true in
+    rw c.set.ensures (written_joined _ _ _ _ _ c.args.i at.0 _ c.self.invariant at.1)
+
+pub returns-then-is_some : goal.returns-then-is_some
+returns-then-is_some c =
+    let at = stamped c.self.inside.chain c.args.i c.stamp.result c.is_some.result c.stamp.ensures.value c.is_some.ensures c.if-is_some.true in
+    rw (← c.self.view_is, c.set.ensures, c.len.ensures.value) (written_is _ _ _ _ _ c.args.i c.args.column c.args.value at.0 c.self.invariant at.1)
+
+pub returns-else-is_some : goal.returns-else-is_some
+returns-else-is_some c =
+    let none = unstamped c.self.inside.chain c.args.i c.stamp.result c.is_some.result c.stamp.ensures.value c.is_some.ensures c.if-is_some.false in
+    rw (← c.self.view_is) (not_written _ _ _ _ _ c.args.i c.args.column c.args.value c.self.invariant none)

@@ -1,0 +1,8 @@
+-- what is left decides
+use Rattle.std.proofs.Common.{◌≡◌, drop}
+use Rattle.nf_base.specs.Chains.{has_labels}
+use Rattle.vig_tables.specs.Slots.{labelled}
+use Rattle.vig_tables.proofs.chain_tables.has_labels.Given as goal
+
+abbrev pub invariant-loop-guard : goal.invariant-loop-guard
+invariant-loop-guard l = has_labels (drop l.guard-index l.guards) (labelled l.labels) ≡ has_labels l.guards (labelled l.labels)

@@ -1,0 +1,6 @@
+-- those so far are changed
+use Rattle.vig_tables.specs.Keyed.{AreChangedBelow, IsBoundTo}
+use Rattle.vig_tables.proofs.key_map.bind_all.Given as goal
+
+abbrev pub invariant-loop-k : goal.invariant-loop-k
+invariant-loop-k l = AreChangedBelow l.k (IsBoundTo l.labels l.i) l.initial.maps.items l.maps.items

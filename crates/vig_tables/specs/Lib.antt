@@ -1,0 +1,6 @@
+pub mod Grid
+pub mod Keyed
+pub mod Slots
+pub mod Table
+pub mod Joined
+pub mod Whole

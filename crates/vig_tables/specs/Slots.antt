@@ -1,0 +1,25 @@
+-- The entries of a chain, by their parts.
+use Rattle.std.specs.Prelude.{◌≡◌, ℕ, ◌+◌, Bool, IsTrue, List, [], ◌∷◌, Option, Some, None}
+use Rattle.nf_base.specs.declared.state.Entry.{Entry}
+
+-- what stands at an index, by its stamp, its labels and its free columns
+abbrev pub slot_of : Option ℕ → List ℕ → List ℕ → Option Entry
+slot_of None labels free = None
+slot_of (Some stamp) labels free = Some (record { stamp = stamp; labels = labels; free = free })
+
+-- the same of each index
+abbrev pub slots_of : List (Option ℕ) → List (List ℕ) → List (List ℕ) → List (Option Entry)
+slots_of [] labels free = []
+slots_of (stamp ∷ stamps) [] free = []
+slots_of (stamp ∷ stamps) (l ∷ labels) [] = []
+slots_of (stamp ∷ stamps) (l ∷ labels) (f ∷ free) = slot_of stamp l f ∷ slots_of stamps labels free
+
+-- how many indices are live
+abbrev pub live : List (Option Entry) → ℕ
+live [] = 0
+live (None ∷ slots) = live slots
+live (Some entry ∷ slots) = live slots + 1
+
+-- an entry with these labels, of which nothing else is said
+abbrev pub labelled : List ℕ → Entry
+labelled labels = record { stamp = 0; labels = labels; free = [] }

@@ -1,0 +1,329 @@
+//! The tables of one chain.
+ghost use Rattle.std.specs.Prelude.{◌≡◌, ◌≤◌, ◌<◌, length, not, IsTrue, IfOk, MatchBool, slice_get, replicate};
+ghost use Rattle.std.specs.Bool.{OnTrue, OnFalse};
+ghost use Rattle.std.specs.Option.{option_map};
+ghost use Rattle.nf_base.specs.Chains.{has_label, has_labels, touched, freed};
+ghost use Rattle.nf_base.specs.Context.{or_zero};
+ghost use Rattle.nf_base.specs.Runs.{none_past};
+ghost use Rattle.vig_chain.specs.Stamps.{Somewhere, Nowhere};
+ghost use Rattle.vig_tables.specs.Keyed.{HaveShortKeys};
+ghost use Rattle.vig_tables.specs.Table.{opened, with_chain, entry, is_open, found, found_at, Creates, can_enter, entered, column_of, with_column, without_past};
+ghost use Rattle.vig_tables.specs.Slots.{labelled, live};
+
+use crate::created::Created;
+use crate::key_map::{KeyMap, bind_all, copied_maps, is_any_bound, new_maps, unbind_all};
+use crate::rows::Rows;
+use nf_base::decl::ChainDecl;
+use nf_base::indexed::Indexed;
+use nf_base::key::Key;
+use nf_base::seq::Seq;
+use nf_base::share::Share;
+use nf_base::state::{self, Entry};
+use std::alloc::{AllocError, Global};
+use std::marker::Model;
+use vig_chain::Chain;
+
+/// The entries of one chain, by index and by the keys of its maps.
+///
+/// Contracts see them as a chain of the state, by index, beside the chain's declaration and the share whose
+/// indices are given out. Times and stamps are in nanoseconds.
+#[derive(Drop)]
+pub struct ChainTables {
+    decl: ChainDecl,
+    chain: Chain,
+    /// In the order of their declarations.
+    maps: Vec<KeyMap>,
+    /// By index the labels of its entry, and its free columns.
+    labels: Rows,
+    free: Rows,
+}
+
+impl Model for ChainTables {
+    ghost use Rattle.vig_tables.specs.Table.{Table};
+    ghost use Rattle.vig_tables.specs.Joined.{AreJoined, table_of};
+
+    ghost Value = { Table };
+
+    ghost view = { λ a. table_of a.decl a.chain a.labels a.free };
+
+    ghost invariant = { λ a. AreJoined a.decl a.chain a.maps.items a.labels a.free };
+}
+
+impl ChainTables {
+    /// The tables of a chain without entries.
+    pub fn new(alloc: Global, decl: &ChainDecl, share: Share) -> Result<ChainTables, AllocError>
+        requires { HaveShortKeys decl.now.maps }
+        ensures { IfOk result (λ tables. tables ≡ opened decl.now share.queue share.of) }
+    {
+        let size = decl.size.get();
+        let chain = Chain::new(alloc, decl.size, share)?;
+        let maps = new_maps(alloc, decl.maps.as_slice(), decl.size)?;
+        let labels = Rows::new(alloc, size, decl.labels.len())?;
+        let free = Rows::new(alloc, size, decl.free.len())?;
+        let decl = decl.copy(alloc)?;
+        Ok(ChainTables {
+            decl,
+            chain,
+            maps,
+            labels,
+            free,
+        })
+    }
+
+    /// How many maps the chain has.
+    pub fn map_count(&self) -> u32
+        ensures { result ≡ length self.now.decl.maps }
+    {
+        self.decl.maps.len()
+    }
+
+    /// How many labels each entry has.
+    pub fn label_count(&self) -> u32
+        ensures { result ≡ length self.now.decl.labels }
+    {
+        self.decl.labels.len()
+    }
+
+    /// The index to which a key is bound in a map, by the map's number in the chain.
+    pub fn lookup(&self, map: u32, key: &Key) -> Option<u32>
+        ensures { result ≡ found self.now.decl self.now.chain map key.now }
+    {
+        match self.maps.get(map as usize) {
+            Some(map) => map.get(key),
+            None => None,
+        }
+    }
+
+    /// The stamp of the entry at an index: none where there is no entry.
+    pub fn stamp(&self, i: u32) -> Option<u64>
+        ensures { result ≡ option_map (λ e. e.stamp) (entry self.now i) }
+    {
+        self.chain.stamp(i)
+    }
+
+    /// The greatest stamp given so far, 0 before the first.
+    pub fn greatest(&self) -> u64
+        ensures { result ≡ self.now.chain.greatest }
+    {
+        self.chain.greatest()
+    }
+
+    /// Whether no own index is free.
+    pub fn is_full(&self) -> bool
+        ensures { MatchBool result (Nowhere (is_open self.now)) (Somewhere (is_open self.now)) }
+    {
+        self.chain.is_full()
+    }
+
+    /// Whether some entry is past its lifetime.
+    pub fn due(&self, time: u64) -> bool
+        ensures { result ≡ not (none_past time self.now.decl.lifetime self.now.chain.slots) }
+    {
+        self.chain.due(time, self.decl.lifetime)
+    }
+
+    /// Makes an entry with these labels at an own free index, and with zeros in its free columns.
+    ///
+    /// Its stamp is the time, or the greatest stamp so far where that is later.
+    pub fn create(&mut self, labels: &[u64], time: u64) -> Created
+        requires { length labels.now ≡ length self.old.decl.labels }
+        ensures { Creates time labels.now self.old result self.new }
+    {
+        if is_any_bound(self.maps.as_slice(), labels) {
+            return Created::Taken;
+        }
+        let i = match self.chain.allocate(time) {
+            Some(i) => i,
+            None => return Created::Full,
+        };
+        self.labels.set_row(i, labels);
+        self.free.clear_row(i);
+        bind_all(&mut self.maps, labels, i);
+        Created::Made(i)
+    }
+
+    /// Makes an entry at an index, as `create` does: false where the index is not own or is live, or a key is
+    /// bound.
+    pub fn create_at(&mut self, i: u32, labels: &[u64], time: u64) -> bool
+        requires { length labels.now ≡ length self.old.decl.labels }
+        ensures cause { result ≡ can_enter self.old i labels.now }
+        ensures entered { OnTrue result (self.new ≡ entered time i labels.now self.old) }
+        ensures unchanged { OnFalse result (self.new ≡ self.old) }
+    {
+        if is_any_bound(self.maps.as_slice(), labels) {
+            return false;
+        }
+        if !self.chain.take(i, time) {
+            return false;
+        }
+        self.labels.set_row(i, labels);
+        self.free.clear_row(i);
+        bind_all(&mut self.maps, labels, i);
+        true
+    }
+
+    /// Gives the entry at an index the stamp that `create` gives; where there is none, nothing changes.
+    pub fn touch(&mut self, i: u32, time: u64)
+        ensures { self.new ≡ with_chain (touched time i self.old.chain) self.old }
+    {
+        if self.chain.stamp(i).is_some() {
+            self.chain.touch(i, time);
+        }
+    }
+
+    /// Gives up the entry at an index, if there is one.
+    pub fn free(&mut self, i: u32)
+        ensures { self.new ≡ with_chain (freed i self.old.chain) self.old }
+    {
+        if self.chain.free(i) {
+            unbind_all(&mut self.maps, self.labels.row(i));
+        }
+    }
+
+    /// A column of the entry at an index, 0 where there is none: the labels come first, then the free columns.
+    pub fn cell(&self, i: u32, column: u32) -> u64
+        ensures { result ≡ column_of self.now.decl column (entry self.now i) }
+    {
+        if self.chain.stamp(i).is_none() {
+            return 0;
+        }
+        let labels = self.decl.labels.len();
+        if column < labels {
+            number_at(self.labels.row(i), column)
+        } else {
+            number_at(self.free.row(i), column - labels)
+        }
+    }
+
+    /// Writes a free column of the entry at an index, if there are both.
+    pub fn set_cell(&mut self, i: u32, column: u32, value: u64)
+        requires { length self.old.decl.labels ≤ column }
+        ensures { self.new ≡ with_column i column value self.old }
+    {
+        if self.chain.stamp(i).is_some() {
+            let free = column - self.decl.labels.len();
+            self.free.set(i, free, value);
+        }
+    }
+
+    /// An index, if it is one of the chain, is live and its entry has these labels, each with its number.
+    pub fn find_at(&self, index: u64, guards: &[(u32, u64)]) -> Option<u32>
+        ensures { result ≡ found_at self.now index guards.now }
+    {
+        if index >= u64::from(self.decl.size.get()) {
+            return None;
+        }
+        let i = index as u32;
+        if self.chain.stamp(i).is_none() {
+            return None;
+        }
+        if has_labels(guards, self.labels.row(i)) {
+            Some(i)
+        } else {
+            None
+        }
+    }
+
+    /// Gives up one entry that is past its lifetime: false where there is none.
+    fn expire_one(&mut self, time: u64) -> bool
+        ensures same { without_past time self.new ≡ without_past time self.old }
+        ensures fewer { OnTrue result (live self.new.chain.slots < live self.old.chain.slots) }
+        ensures done { OnFalse result (self.new ≡ without_past time self.old) }
+    {
+        let i = match self.chain.expire_one(time, self.decl.lifetime) {
+            Some(i) => i,
+            None => return false,
+        };
+        unbind_all(&mut self.maps, self.labels.row(i));
+        true
+    }
+
+    /// Gives up each entry that is past its lifetime at a time.
+    pub fn expire(&mut self, time: u64)
+        ensures { self.new ≡ without_past time self.old }
+    {
+        'past: while self.expire_one(time) {}
+    }
+
+    /// The entry at an index.
+    fn entry(&self, alloc: Global, i: u32) -> Result<Option<Entry>, AllocError>
+        ensures { IfOk result (λ e. e ≡ entry self.now i) }
+    {
+        let stamp = match self.chain.stamp(i) {
+            Some(stamp) => stamp,
+            None => return Ok(None),
+        };
+        let labels = Vec::from_slice(alloc, self.labels.row(i))?;
+        let free = Vec::from_slice(alloc, self.free.row(i))?;
+        Ok(Some(Entry {
+            stamp,
+            labels: Seq::from_vec(labels),
+            free: Seq::from_vec(free),
+        }))
+    }
+
+    /// The chain of the state that this is.
+    pub fn state(&self, alloc: Global) -> Result<state::Chain, AllocError>
+        ensures { IfOk result (λ chain. chain ≡ self.now.chain) }
+    {
+        let size = self.decl.size.get();
+        let mut slots = Vec::with_capacity(alloc, size as usize)?;
+        for i in 0..size {
+            slots.push(self.entry(alloc, i)?)?;
+        }
+        Ok(state::Chain {
+            slots: Indexed::from_vec(slots),
+            greatest: self.chain.greatest(),
+        })
+    }
+
+    /// The same tables once more.
+    pub fn copy(&self, alloc: Global) -> Result<ChainTables, AllocError>
+        ensures { IfOk result (λ copy. copy ≡ self.now) }
+    {
+        let chain = self.chain.copy(alloc)?;
+        let maps = copied_maps(alloc, self.maps.as_slice())?;
+        let labels = self.labels.copy(alloc)?;
+        let free = self.free.copy(alloc)?;
+        let decl = self.decl.copy(alloc)?;
+        Ok(ChainTables {
+            decl,
+            chain,
+            maps,
+            labels,
+            free,
+        })
+    }
+}
+
+/// A number of a row, 0 past its end.
+fn number_at(row: &[u64], column: u32) -> u64
+    ensures { result ≡ or_zero (slice_get row.now column) }
+{
+    match row.get(column as usize) {
+        Some(number) => *number,
+        None => 0,
+    }
+}
+
+/// Whether a label has a value.
+fn has_label(guard: &(u32, u64), labels: &[u64]) -> bool
+    ensures { result ≡ has_label guard.now (labelled labels.now) }
+{
+    match labels.get(guard.0 as usize) {
+        Some(value) => *value == guard.1,
+        None => false,
+    }
+}
+
+/// Whether labels have these values, each with the label's number.
+fn has_labels(guards: &[(u32, u64)], labels: &[u64]) -> bool
+    ensures { result ≡ has_labels guards.now (labelled labels.now) }
+{
+    for guard in guards {
+        if !has_label(guard, labels) {
+            return false;
+        }
+    }
+    true
+}

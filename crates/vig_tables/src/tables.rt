@@ -1,0 +1,382 @@
+//! The tables of a function.
+ghost use Rattle.std.specs.Prelude.{◌≡◌, ◌≤◌, ◌<◌, length, map, IfOk, option_and_then, slice_get, slice_set};
+ghost use Rattle.std.specs.Bool.{OnTrue, OnFalse};
+ghost use Rattle.std.specs.Option.{option_map};
+ghost use Rattle.nf_base.specs.Chains.{touched, freed};
+ghost use Rattle.nf_base.specs.Context.{cell_at, or_zero};
+ghost use Rattle.nf_base.specs.Functions.{function_of};
+ghost use Rattle.nf_base.specs.Step.{opening_cells, expired_state};
+ghost use Rattle.vig_tables.specs.Table.{Table, opened, entry, found, found_at, column_of, entered, with_chain, with_column, without_past};
+ghost use Rattle.vig_tables.specs.Whole.{opened_whole, with_state, table_at, changed, found_in, found_among, Fits, CreatesIn, can_enter_in, IsFull, is_due, number_of, with_cell, HaveAllShortKeys};
+
+use crate::chain_tables::ChainTables;
+use crate::created::Created;
+use nf_base::decl::{ArrayDecl, ChainDecl};
+use nf_base::func::Func;
+use nf_base::indexed::Indexed;
+use nf_base::key::Key;
+use nf_base::seq::Seq;
+use nf_base::share::Share;
+use nf_base::state::{Chain, State};
+use std::alloc::{AllocError, Global};
+use std::marker::Model;
+
+/// What a function remembers, in tables.
+///
+/// Contracts see them as a state, by index, beside the declarations of its chains and the share whose indices are
+/// given out. Chains and arrays go by number, from 0, in text order, and maps over all chains. Times and stamps are
+/// in nanoseconds. No call but `new`, `state` and `copy` takes memory.
+#[derive(Drop)]
+pub struct Tables {
+    chains: Seq<ChainTables>,
+    arrays: Seq<Indexed<u64>>,
+    share: Share,
+}
+
+impl Model for Tables {
+    ghost use Rattle.std.specs.Prelude.{All};
+    ghost use Rattle.vig_tables.specs.Whole.{Whole, whole_of, IsOfShare};
+
+    ghost Value = { Whole };
+
+    ghost view = { λ a. whole_of a.chains a.arrays a.share.queue a.share.of };
+
+    ghost invariant = { λ a. All (IsOfShare a.share.queue a.share.of) a.chains };
+}
+
+impl Tables {
+    /// The tables of a function that has handled nothing yet.
+    pub fn new(alloc: Global, func: &Func, share: Share) -> Result<Tables, AllocError>
+        requires { HaveAllShortKeys func.now.chains }
+        ensures { IfOk result (λ tables.
+            tables ≡ opened_whole (function_of func.now) share.queue share.of) }
+    {
+        let chains = new_chains(alloc, func.chains.as_slice(), share)?;
+        let arrays = new_arrays(alloc, func.arrays.as_slice())?;
+        Ok(Tables {
+            chains,
+            arrays,
+            share,
+        })
+    }
+
+    /// The share whose indices are given out.
+    pub fn share(&self) -> Share
+        ensures queue { result.queue ≡ self.now.queue }
+        ensures of { result.of ≡ self.now.of }
+    {
+        self.share
+    }
+
+    /// How many chains there are.
+    pub fn chain_count(&self) -> usize
+        ensures decls { result ≡ length self.now.decls }
+        ensures chains { result ≡ length self.now.state.chains }
+    {
+        self.chains.len()
+    }
+
+    /// How many labels each entry of a chain has, 0 where there is no such chain.
+    pub fn label_count(&self, chain: u32) -> u32
+        ensures { result ≡ number_of (λ t. length t.decl.labels) (table_at self.now chain) }
+    {
+        match self.chains.as_slice().get(chain as usize) {
+            Some(tables) => tables.label_count(),
+            None => 0,
+        }
+    }
+
+    /// The index to which a key is bound in a map, by the map's number over all chains.
+    pub fn lookup(&self, map: u32, key: &Key) -> Option<u32>
+        ensures { result ≡ found_in self.now.decls self.now.state.chains map key.now }
+    {
+        lookup(self.chains.as_slice(), map, key)
+    }
+
+    /// The index to which a key is bound in a map of a chain, by the map's number in the chain.
+    pub fn lookup_in(&self, chain: u32, map: u32, key: &Key) -> Option<u32>
+        ensures { result ≡ option_and_then (λ t. found t.decl t.chain map key.now) (table_at self.now chain) }
+    {
+        match self.chains.as_slice().get(chain as usize) {
+            Some(tables) => tables.lookup(map, key),
+            None => None,
+        }
+    }
+
+    /// An index of a chain, if it is one of the chain's, is live and its entry has these labels, each with its
+    /// number.
+    pub fn find_at(&self, chain: u32, index: u64, guards: &[(u32, u64)]) -> Option<u32>
+        ensures { result ≡ option_and_then (λ t. found_at t index guards.now) (table_at self.now chain) }
+    {
+        match self.chains.as_slice().get(chain as usize) {
+            Some(tables) => tables.find_at(index, guards),
+            None => None,
+        }
+    }
+
+    /// Whether no own index of a chain is free.
+    pub fn is_full(&self, chain: u32) -> bool
+        ensures { IsFull (table_at self.now chain) result }
+    {
+        match self.chains.as_slice().get(chain as usize) {
+            Some(tables) => tables.is_full(),
+            None => true,
+        }
+    }
+
+    /// Whether some entry of a chain is past its lifetime.
+    pub fn due(&self, chain: u32, time: u64) -> bool
+        ensures { result ≡ is_due time (table_at self.now chain) }
+    {
+        match self.chains.as_slice().get(chain as usize) {
+            Some(tables) => tables.due(time),
+            None => false,
+        }
+    }
+
+    /// The stamp of the entry at an index of a chain: none where there is no entry.
+    pub fn stamp(&self, chain: u32, i: u32) -> Option<u64>
+        ensures { result ≡ option_and_then (λ t. option_map (λ e. e.stamp) (entry t i)) (table_at self.now chain) }
+    {
+        match self.chains.as_slice().get(chain as usize) {
+            Some(tables) => tables.stamp(i),
+            None => None,
+        }
+    }
+
+    /// The greatest stamp that a chain gave so far, 0 before the first.
+    pub fn greatest(&self, chain: u32) -> u64
+        ensures { result ≡ number_of (λ t. t.chain.greatest) (table_at self.now chain) }
+    {
+        match self.chains.as_slice().get(chain as usize) {
+            Some(tables) => tables.greatest(),
+            None => 0,
+        }
+    }
+
+    /// A column of the entry at an index of a chain, 0 where there is none: the labels come first, then the free
+    /// columns.
+    pub fn cell(&self, chain: u32, i: u32, column: u32) -> u64
+        ensures { result ≡ number_of (λ t. column_of t.decl column (entry t i)) (table_at self.now chain) }
+    {
+        match self.chains.as_slice().get(chain as usize) {
+            Some(tables) => tables.cell(i, column),
+            None => 0,
+        }
+    }
+
+    /// A cell of an array, 0 where there is none.
+    pub fn read(&self, array: u32, i: u64) -> u64
+        ensures { result ≡ or_zero (cell_at self.now.state.arrays array i) }
+    {
+        match self.arrays.as_slice().get(array as usize) {
+            Some(cells) => read(cells, i),
+            None => 0,
+        }
+    }
+
+    /// Makes an entry of a chain with these labels at an own free index, and with zeros in its free columns.
+    ///
+    /// Its stamp is the time, or the chain's greatest stamp so far where that is later.
+    pub fn create(&mut self, chain: u32, labels: &[u64], time: u64) -> Created
+        requires { Fits labels.now (table_at self.old chain) }
+        ensures { CreatesIn chain time labels.now self.old result self.new }
+    {
+        if (chain as usize) < self.chains.len() {
+            self.chains.item_mut(chain as usize).create(labels, time)
+        } else {
+            Created::Full
+        }
+    }
+
+    /// Makes an entry of a chain at an index, as `create` does: false where the index is not own or is live, where
+    /// a key is bound, or where there is no such chain.
+    pub fn create_at(&mut self, chain: u32, i: u32, labels: &[u64], time: u64) -> bool
+        requires { Fits labels.now (table_at self.old chain) }
+        ensures cause { result ≡ can_enter_in (table_at self.old chain) i labels.now }
+        ensures entered { OnTrue result (self.new ≡ changed chain (entered time i labels.now) self.old) }
+        ensures unchanged { OnFalse result (self.new ≡ self.old) }
+    {
+        if (chain as usize) < self.chains.len() {
+            self.chains
+                .item_mut(chain as usize)
+                .create_at(i, labels, time)
+        } else {
+            false
+        }
+    }
+
+    /// Gives the entry at an index of a chain the stamp that `create` gives; where there is none, nothing changes.
+    pub fn touch(&mut self, chain: u32, i: u32, time: u64)
+        ensures { self.new ≡ changed chain (λ t. with_chain (touched time i t.chain) t) self.old }
+    {
+        if (chain as usize) < self.chains.len() {
+            self.chains.item_mut(chain as usize).touch(i, time);
+        }
+    }
+
+    /// Gives up the entry at an index of a chain, if there is one.
+    pub fn free(&mut self, chain: u32, i: u32)
+        ensures { self.new ≡ changed chain (λ t. with_chain (freed i t.chain) t) self.old }
+    {
+        if (chain as usize) < self.chains.len() {
+            self.chains.item_mut(chain as usize).free(i);
+        }
+    }
+
+    /// Writes a free column of the entry at an index of a chain, if there are both; the labels come before the free
+    /// columns.
+    pub fn set_cell(&mut self, chain: u32, i: u32, column: u32, value: u64)
+        requires { number_of (λ t. length t.decl.labels) (table_at self.old chain) ≤ column }
+        ensures { self.new ≡ changed chain (with_column i column value) self.old }
+    {
+        if (chain as usize) < self.chains.len() {
+            self.chains
+                .item_mut(chain as usize)
+                .set_cell(i, column, value);
+        }
+    }
+
+    /// Writes a cell of an array, if there is one.
+    pub fn write(&mut self, array: u32, i: u64, value: u64)
+        ensures { let state = self.old.state in
+            self.new ≡ with_state (record state { arrays = with_cell array i value state.arrays }) self.old }
+    {
+        if (array as usize) < self.arrays.len() {
+            write(self.arrays.item_mut(array as usize), i, value);
+        }
+    }
+
+    /// Gives up each entry that is past its lifetime at a time.
+    pub fn expire(&mut self, time: u64)
+        ensures { self.new ≡ with_state (expired_state time self.old.decls self.old.state) self.old }
+    {
+        expire_all(&mut self.chains, time);
+    }
+
+    /// The state that this is.
+    pub fn state(&self, alloc: Global) -> Result<State, AllocError>
+        ensures { IfOk result (λ state. state ≡ self.now.state) }
+    {
+        let chains = states(alloc, self.chains.as_slice())?;
+        let arrays = copied_arrays(alloc, self.arrays.as_slice())?;
+        Ok(State { chains, arrays })
+    }
+
+    /// The same tables once more.
+    pub fn copy(&self, alloc: Global) -> Result<Tables, AllocError>
+        ensures { IfOk result (λ copy. copy ≡ self.now) }
+    {
+        let chains = copied_chains(alloc, self.chains.as_slice())?;
+        let arrays = copied_arrays(alloc, self.arrays.as_slice())?;
+        Ok(Tables {
+            chains,
+            arrays,
+            share: self.share,
+        })
+    }
+}
+
+/// The index to which a key is bound in a map, by the map's number over some chains.
+fn lookup(chains: &[ChainTables], map: u32, key: &Key) -> Option<u32>
+    ensures { result ≡ found_among chains.now map key.now }
+{
+    let mut left = map;
+    for chain in chains {
+        let maps = chain.map_count();
+        if left < maps {
+            return chain.lookup(left, key);
+        }
+        left -= maps;
+    }
+    None
+}
+
+/// A cell, 0 past the end.
+fn read(cells: &Indexed<u64>, i: u64) -> u64
+    ensures { result ≡ or_zero (slice_get cells.now i) }
+{
+    if i < u64::from(cells.len()) {
+        *cells.item(i as u32)
+    } else {
+        0
+    }
+}
+
+/// Writes a cell; past the end nothing.
+fn write(cells: &mut Indexed<u64>, i: u64, value: u64)
+    ensures { cells.new ≡ slice_set cells.old i value }
+{
+    if i < u64::from(cells.len()) {
+        cells.set(i as u32, value);
+    }
+}
+
+/// Gives up each entry that is past its lifetime at a time, chain by chain.
+fn expire_all(chains: &mut Seq<ChainTables>, time: u64)
+    ensures { chains.new ≡ map (without_past time) chains.old }
+{
+    for k in 0..chains.len() {
+        chains.item_mut(k).expire(time);
+    }
+}
+
+/// The chains of the state.
+fn states(alloc: Global, chains: &[ChainTables]) -> Result<Seq<Chain>, AllocError>
+    ensures { IfOk result (λ states. states ≡ map (λ t. t.chain) chains.now) }
+{
+    let mut states = Seq::new(alloc);
+    for chain in chains {
+        states.push(chain.state(alloc)?)?;
+    }
+    Ok(states)
+}
+
+/// The same chains once more.
+fn copied_chains(alloc: Global, chains: &[ChainTables]) -> Result<Seq<ChainTables>, AllocError>
+    ensures { IfOk result (λ copy. copy ≡ chains.now) }
+{
+    let mut copy = Seq::new(alloc);
+    for chain in chains {
+        copy.push(chain.copy(alloc)?)?;
+    }
+    Ok(copy)
+}
+
+/// The same arrays once more.
+fn copied_arrays(alloc: Global, arrays: &[Indexed<u64>]) -> Result<Seq<Indexed<u64>>, AllocError>
+    ensures { IfOk result (λ copy. copy ≡ arrays.now) }
+{
+    let mut copy = Seq::new(alloc);
+    for cells in arrays {
+        copy.push(cells.copy(alloc)?)?;
+    }
+    Ok(copy)
+}
+
+/// Tables without entries, for each chain.
+fn new_chains(
+    alloc: Global,
+    decls: &[ChainDecl],
+    share: Share,
+) -> Result<Seq<ChainTables>, AllocError>
+    requires { HaveAllShortKeys decls.now }
+    ensures { IfOk result (λ chains. chains ≡ map (λ decl. opened decl share.queue share.of) decls.now) }
+{
+    let mut chains = Seq::new(alloc);
+    for decl in decls {
+        chains.push(ChainTables::new(alloc, decl, share)?)?;
+    }
+    Ok(chains)
+}
+
+/// The opening cells of each array.
+fn new_arrays(alloc: Global, decls: &[ArrayDecl]) -> Result<Seq<Indexed<u64>>, AllocError>
+    ensures { IfOk result (λ arrays. arrays ≡ map opening_cells decls.now) }
+{
+    let mut arrays = Seq::new(alloc);
+    for decl in decls {
+        arrays.push(decl.cells.copy(alloc)?)?;
+    }
+    Ok(arrays)
+}
