@@ -27,3 +27,8 @@ mod variables;
 
 pub use fault::{CheckFault, TypingKind};
 pub use function::check;
+
+#[cfg(test)]
+mod fault_tests;
+#[cfg(test)]
+mod tests;

@@ -1,8 +1,8 @@
+use super::*;
 use crate::fault_tests::is_fault;
 use nf_base::code::Code;
 use nf_base::func::Func;
 use nf_syntax::parse;
-use nf_types::{CheckFault, TypingKind, check};
 use std::alloc::{AllocError, Global};
 
 const FIREWALL: &[u8] = b"nf fw {\n\

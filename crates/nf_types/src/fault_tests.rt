@@ -1,7 +1,7 @@
 //! Type faults of texts, by kind and place.
 
+use super::*;
 use crate::tests::{checked, repeated};
-use nf_types::{CheckFault, TypingKind};
 use std::alloc::Global;
 
 /// Whether a text has a tree, and this is the first fault of its types.
