@@ -2,10 +2,9 @@
 use Rattle.std.specs.Prelude.{ℕ, ◌+◌, List, ◌∷◌, Option, Some, None, length}
 use Rattle.nf_base.specs.Text.{Block, End, Forward, Flood, Discard, Get, Find, New, If, Touch, Free, Set, Write, Store}
 use Rattle.nf_base.specs.declared.expr.Comparison.{Comparison}
-use Rattle.nf_base.specs.declared.width.Width.{Width}
-use Rattle.nf_base.specs.declared.width.Width.TheVariants.{W8, W16, W32, W48, W64}
 use Rattle.nf_base.specs.declared.packet.Field.{Field}
-use Rattle.nf_base.specs.declared.packet.Field.TheVariants.{Time, Length, SrcMac, DstMac, SrcIp, DstIp, Proto, Ttl, SrcPort, DstPort}
+use Rattle.nf_base.specs.declared.width.Width.{Width}
+use Rattle.nf_base.specs.declared.width.Width.TheVariants.{W64}
 use Rattle.nf_base.specs.declared.decl.ColumnDecl.{ColumnDecl}
 use Rattle.nf_base.specs.declared.decl.ChainDecl.{ChainDecl}
 use Rattle.nf_base.specs.declared.decl.ArrayDecl.{ArrayDecl}
@@ -13,6 +12,7 @@ use Rattle.nf_tree.specs.declared.place.Name.{Name}
 use Rattle.nf_tree.specs.Tree as tree
 use Rattle.nf_types.specs.Names.{named}
 use Rattle.nf_types.specs.Counts.{places}
+use Rattle.nf_types.specs.Fields.{field_width}
 use Rattle.nf_types.specs.declared.objects.Objects.{Objects}
 use Rattle.nf_types.specs.Variables.{Variable, variable_of, variable_named}
 use Rattle.nf_types.specs.Expressions.{cells, number_of, array_named, value_of, given_to}
@@ -49,22 +49,9 @@ abbrev pub cell_width : Option (ℕ × ArrayDecl) → Width
 cell_width None = W64
 cell_width (Some found) = found.1.width
 
--- how wide a field is
-abbrev pub field_width : Field → Width
-field_width Time = W64
-field_width Length = W32
-field_width SrcMac = W48
-field_width DstMac = W48
-field_width SrcIp = W32
-field_width DstIp = W32
-field_width Proto = W8
-field_width Ttl = W8
-field_width SrcPort = W16
-field_width DstPort = W16
-
--- a field of the sent frame is given a value
-abbrev pub set_to : ℕ → Objects → List Variable → Field → tree.Expression → (next : Block) → Block
-set_to place o xs f v next = Set f (given_to place o xs (field_width f) v) next
+-- a field of the outgoing frame is given a value
+abbrev pub set : ℕ → Objects → List Variable → Field → tree.Expression → (next : Block) → Block
+set place o xs f v next = Set f (given_to place o xs (field_width f) v) next
 
 -- a free column of a variable's entry is given a value
 abbrev pub wrote : ℕ → Objects → List Variable → (x y : Name) → tree.Expression → (next : Block) → Block
@@ -103,7 +90,7 @@ code_of place o xs (tree.If b l comparison r holds fails) next =
     (code_of (place + places b + cells l + cells r) o xs holds End)
     (code_of (place + places b + cells l + cells r + places holds) o xs fails End) next)
 code_of place o xs (tree.Free b at x) next = code_of place o xs b (Free (variable_of xs x.bytes) next)
-code_of place o xs (tree.Set b f at v) next = code_of place o xs b (set_to (place + places b) o xs f v next)
+code_of place o xs (tree.Set b f at v) next = code_of place o xs b (set (place + places b) o xs f v next)
 code_of place o xs (tree.Write b x y v) next = code_of place o xs b (wrote (place + places b) o xs x y v next)
 code_of place o xs (tree.Store b a i v) next = code_of place o xs b (stored (place + places b) o xs a i v next)
 code_of place o xs (tree.Forward b v) next = code_of place o xs b (Forward (value_of (place + places b) o xs v))

@@ -1,19 +1,19 @@
 -- What is wrong with the fronts of statements.
-use Rattle.std.specs.Prelude.{ℕ, ◌==◌, Bool, true, false, not, ◌&&◌, ◌||◌, List, [], ◌++◌, Option, Some, None, length, map}
+use Rattle.std.specs.Prelude.{ℕ, ◌==◌, Bool, true, not, ◌&&◌, ◌||◌, List, [], ◌++◌, Option, Some, None, length, map}
 use Rattle.std.specs.List.{list_any}
+use Rattle.nf_base.specs.declared.packet.Field.{Field}
 use Rattle.nf_base.specs.declared.decl.ColumnDecl.{ColumnDecl}
 use Rattle.nf_base.specs.declared.decl.ColumnId.{ColumnId}
 use Rattle.nf_base.specs.declared.decl.ColumnId.TheVariants as ids
 use Rattle.nf_base.specs.declared.decl.MapDecl.{MapDecl}
 use Rattle.nf_base.specs.declared.decl.ChainDecl.{ChainDecl}
 use Rattle.nf_base.specs.declared.decl.ArrayDecl.{ArrayDecl}
-use Rattle.nf_base.specs.declared.packet.Field.{Field}
-use Rattle.nf_base.specs.declared.packet.Field.TheVariants.{Time, Length, SrcMac, DstMac, SrcIp, DstIp, Proto, Ttl, SrcPort, DstPort}
 use Rattle.nf_tokens.specs.declared.token.Place.{Place}
 use Rattle.nf_tree.specs.declared.place.Name.{Name}
 use Rattle.nf_tree.specs.Tree as tree
 use Rattle.nf_types.specs.declared.fault.TypingKind.TheVariants.{Unknown, Twice, Amount, FreeColumn, ReadOnly, NotInScope}
 use Rattle.nf_types.specs.declared.fault.Fault.{Fault}
+use Rattle.nf_types.specs.Fields.{is_settable}
 use Rattle.nf_types.specs.Names.{is_among}
 use Rattle.nf_types.specs.Faults.{fault_if, each_behind}
 use Rattle.nf_types.specs.declared.objects.Objects.{Objects}
@@ -88,22 +88,9 @@ find_in_faults o xs (Some found) c i gs = value_faults o xs i ++ each_behind (gi
 abbrev pub finding_faults : Objects → List Variable → Name → tree.Expression → tree.Guards → List Fault
 finding_faults o xs c i gs = find_in_faults o xs (chain_named o.chains c.bytes) c i (asked gs)
 
--- whether a field is never written
-abbrev pub is_read_only : Field → Bool
-is_read_only Time = true
-is_read_only Length = true
-is_read_only SrcMac = false
-is_read_only DstMac = false
-is_read_only SrcIp = false
-is_read_only DstIp = false
-is_read_only Proto = true
-is_read_only Ttl = false
-is_read_only SrcPort = false
-is_read_only DstPort = false
-
--- a field is given a value
+-- a field that is set is none of the time, the length and the protocol
 abbrev pub set_faults : Objects → List Variable → Field → (at : Place) → tree.Expression → List Fault
-set_faults o xs f at v = fault_if (is_read_only f) ReadOnly at ++ value_faults o xs v
+set_faults o xs f at v = fault_if (not (is_settable f)) ReadOnly at ++ value_faults o xs v
 
 -- a column that is written is a free one
 abbrev pub written_faults : Option ColumnId → Name → List Fault

@@ -4,7 +4,7 @@ ghost use Rattle.std.specs.Prelude.{◌≡◌, ◌+◌, ◌<◌, ◌≤◌, ◌^
 ghost use Rattle.nf_base.specs.Text as text;
 ghost use Rattle.nf_base.specs.View as checked;
 ghost use Rattle.nf_tree.specs.View as syntax;
-ghost use Rattle.nf_types.specs.Blocks.{got, sought, made, field_width, set_to, wrote, stored, free_of_variable, cell_width};
+ghost use Rattle.nf_types.specs.Blocks.{got, sought, made, set, wrote, stored, free_of_variable, cell_width};
 ghost use Rattle.nf_types.specs.Expressions.{cells, array_named};
 ghost use Rattle.nf_types.specs.Fronts.{look_up_of, finding_of, making_of};
 ghost use Rattle.nf_types.specs.Statements.{chain_named, chain_found};
@@ -13,6 +13,7 @@ ghost use Rattle.nf_types.specs.View.{variables_of, chain_seen};
 ghost use Rattle.std.specs.Option.{option_map};
 
 use crate::cells::cells;
+use crate::field::field_width;
 use crate::name::first_named;
 use crate::objects::Objects;
 use crate::statement::{Finding, LookUp, Making};
@@ -159,20 +160,7 @@ pub fn free(
     Ok(Code::Free { var, next })
 }
 
-/// How wide a field is.
-fn field_width(field: Field) -> Width
-    ensures { result ≡ field_width field }
-{
-    match field {
-        Field::Time => Width::W64,
-        Field::SrcMac | Field::DstMac => Width::W48,
-        Field::Length | Field::SrcIp | Field::DstIp => Width::W32,
-        Field::SrcPort | Field::DstPort => Width::W16,
-        Field::Proto | Field::Ttl => Width::W8,
-    }
-}
-
-/// A field of the sent frame that is given a value, in front of what follows.
+/// A field of the outgoing frame that is given a value, in front of what follows.
 pub fn set(
     alloc: Global,
     place: u32,
@@ -184,7 +172,7 @@ pub fn set(
 ) -> Result<Code, AllocError>
     requires places { place + cells (syntax.expression_of given.now) < 2 ^ 32 }
     requires in_scope { length (variables_of scope.now) < 2 ^ 32 }
-    ensures { IfOk result (λ code. checked.block_of code ≡ set_to place objects.now (variables_of scope.now) field (syntax.expression_of given.now) (checked.block_of next)) }
+    ensures { IfOk result (λ code. checked.block_of code ≡ set place objects.now (variables_of scope.now) field (syntax.expression_of given.now) (checked.block_of next)) }
 {
     let given = given_to(alloc, place, objects, scope, field_width(field), given)?;
     Ok(Code::Set {
