@@ -2,13 +2,14 @@
 use Rattle.std.proofs.Common.{◌≡◌, ◌∙◌, ◌∷◌, ◌++◌, ◌-◌, ℕ, ◌==◌, false, List, [], refl, ap, append_assoc, eq-eqb}
 use Rattle.nf_base.specs.declared.expr.Comparison.{Comparison}
 use Rattle.nf_base.specs.declared.expr.Comparison.TheVariants as comparisons
+use Rattle.nf_base.specs.declared.packet.Field.{Field}
 use Rattle.nf_tokens.specs.Signs.{number_of}
 use Rattle.nf_tokens.specs.declared.token.Place as places
 use Rattle.nf_tokens.specs.declared.token.Sign.{Sign}
 use Rattle.nf_tokens.specs.declared.token.Sign.TheVariants as signs
 use Rattle.nf_tree.specs.declared.place.Name.{Name}
-use Rattle.nf_tree.specs.Tree.{Expression, Given, Guards, Block, Start, Missing, Touch, Get, Find, New, If, Free, Write, Store, Forward, Flood, Discard}
-use Rattle.nf_syntax.specs.Items.{AJoin, Marked, name, sign, word, join}
+use Rattle.nf_tree.specs.Tree.{Expression, Given, Guards, Block, Start, Missing, Touch, Get, Find, New, If, Free, Set, Write, Store, Forward, Flood, Discard}
+use Rattle.nf_syntax.specs.Items.{AJoin, Marked, name, field, sign, word, join}
 use Rattle.nf_syntax.specs.Expressions.{IsValue, value}
 use Rattle.nf_syntax.specs.Grammar.{Kind, Opened, Body, Optional, Is, IsNotEmpty, AreValues, AreGiven, AreGuards, values, given, guards, braced, optional, body, get_head, entry_head, comparing}
 use Rattle.nf_syntax.specs.Machine.{Place, GivenAt, WhereAt, CloseAt, ComparisonAt, BlockAt, BodyAt, OptionalAt, SignAt, go_or, step, value_at, values_at, get_at, find_at, new_at, if_at, forward_at}
@@ -54,6 +55,16 @@ free : (b : Block) (at : places.Place) (x : Name) → Complete Opened b → Comp
 free b at x c = λ room k w n.
     ap (goes (BodyAt room Start k)) (append_assoc (body room b) (word signs.Free at ∷ name x ∷ sign signs.Semicolon ∷ []) w)
     ∙ c room k (word signs.Free at ∷ name x ∷ sign signs.Semicolon ∷ w) tt
+
+set : (b : Block) (f : Field) (at : places.Place) (v : Expression) → IsValue v → Complete Opened b → Complete Opened (Set b f at v)
+set b f at v gv c = λ room k w n.
+    let front = sign signs.Set ∷ field f at ∷ sign signs.Assign ∷ [] in
+    let end = sign signs.Semicolon ∷ [] in
+    let k1 = λ (u : Expression). SignAt signs.Semicolon (BodyAt room (Set b f at u) k) in
+    ap (goes (BodyAt room Start k)) (append_assoc (body room b) (front ++ (value v ++ end)) w)
+    ∙ c room k (front ++ (value v ++ end) ++ w) tt
+    ∙ ap (goes (value_at k1)) (append_assoc (value v) end w)
+    ∙ one_value v gv k1 (sign signs.Semicolon ∷ w) tt tt
 
 write : (b : Block) (x c : Name) (v : Expression) → IsValue v → Complete Opened b → Complete Opened (Write b x c v)
 write b x c v gv cb = λ room k w n.
@@ -214,6 +225,7 @@ complete kind (New b at x c gs close made taken full) g =
 complete kind (If b l c r holds fails) g =
     at_kind kind (If b l c r holds fails) g (condition b l c r holds fails g.1 g.2 (complete Opened b g.0) (complete Body holds g.3) (complete Optional fails g.4))
 complete kind (Free b at x) g = at_kind kind (Free b at x) g (free b at x (complete Opened b g))
+complete kind (Set b f at v) g = at_kind kind (Set b f at v) g (set b f at v g.1 (complete Opened b g.0))
 complete kind (Write b x c v) g = at_kind kind (Write b x c v) g (write b x c v g.1 (complete Opened b g.0))
 complete kind (Store b x i v) g = at_kind kind (Store b x i v) g (store b x i v g.1 g.2 (complete Opened b g.0))
 complete Opened (Forward b v) g = absurd g

@@ -1,6 +1,7 @@
 -- From every place some items lead to an end, and nothing that may be left out begins with them.
 use Rattle.std.proofs.Common.{◌≡◌, ◌∙◌, ◌∷◌, false, Some, List, [], refl, ap, eq-eqb, nat_le, ◌==◌}
 use Rattle.nf_base.specs.declared.expr.Comparison.TheVariants as comparisons
+use Rattle.nf_base.specs.declared.packet.Field.TheVariants as fields
 use Rattle.nf_tokens.specs.Signs.{number_of}
 use Rattle.nf_tokens.specs.Tokens.{start}
 use Rattle.nf_tokens.specs.declared.token.Sign.{Sign}
@@ -8,8 +9,9 @@ use Rattle.nf_tokens.specs.declared.token.Sign.TheVariants as signs
 use Rattle.nf_tree.specs.declared.place.Name.{Name}
 use Rattle.nf_tree.specs.declared.place.Literal.{Literal}
 use Rattle.nf_tree.specs.Tree.{Tree, Expression, Number, Index, Unguarded, Write, Start, Missing}
-use Rattle.nf_syntax.specs.Items.{ANumber, Marked, name, number, sign, word, opening, operand}
-use Rattle.nf_syntax.specs.Machine.{Place, End, NameAt, NumberAt, SignAt, CloseAt, AtomAt, NamedAt, ColumnAt, FactorsAt, TermsAt, ComparisonAt, MoreAt, GivenAt, MoreGivenAt, MoreLabelsAt, MoreNumbersAt, ContentsAt, WhereAt, BlockAt, BodyAt, WrittenAt, OptionalAt, PartsAt, DeclarationsAt, HandlersAt, go_if, giving}
+use Rattle.nf_syntax.specs.declared.head.SetHead.{SetHead}
+use Rattle.nf_syntax.specs.Items.{ANumber, Marked, name, number, field, sign, word, opening, operand}
+use Rattle.nf_syntax.specs.Machine.{Place, End, NameAt, NumberAt, FieldAt, SignAt, CloseAt, AtomAt, NamedAt, ColumnAt, FactorsAt, TermsAt, ComparisonAt, MoreAt, GivenAt, MoreGivenAt, MoreLabelsAt, MoreNumbersAt, ContentsAt, WhereAt, BlockAt, BodyAt, WrittenAt, OptionalAt, PartsAt, DeclarationsAt, HandlersAt, go_if, giving}
 use Rattle.nf_syntax.proofs.Going.{goes, on_row, agree_itself, IsFirm, misses, no_factor, no_term, skip_optional, skip_more, skip_more_given, skip_more_labels, skip_more_numbers, skip_factors, skip_terms, skip_where, skip_declarations}
 
 -- an end that can be reached
@@ -28,10 +30,14 @@ no_name = record { bytes = []; place = start }
 zero_here : Literal
 zero_here = record { value = 0; place = start }
 
+abbrev ttl_here : SetHead
+ttl_here = record { field = fields.Ttl; place = start }
+
 pub live : (place : Place) → Ending place
 live (End t) = record { more = []; tree = t; firm = tt; reached = refl }
 live (NameAt k) = let e = live (k no_name) in record { more = name no_name ∷ e.more; tree = e.tree; firm = tt; reached = e.reached }
 live (NumberAt k) = let e = live (k zero_here) in record { more = number zero_here ∷ e.more; tree = e.tree; firm = tt; reached = e.reached }
+live (FieldAt k) = let e = live (k ttl_here) in record { more = field fields.Ttl start ∷ e.more; tree = e.tree; firm = tt; reached = e.reached }
 live (SignAt s k) = let e = live k in record { more = sign s ∷ e.more; tree = e.tree; firm = tt; reached = pass s k e.more ∙ e.reached }
 live (CloseAt k) = let e = live (k start) in record { more = word signs.CloseParenthesis start ∷ e.more; tree = e.tree; firm = tt; reached = e.reached }
 live (AtomAt room n k) = let e = live (k (Number zero_here)) in record { more = operand n (ANumber zero_here) ∷ e.more; tree = e.tree; firm = tt; reached = agree_itself (nat_le 64 n) _ ∙ e.reached }

@@ -5,18 +5,18 @@ use Rattle.nf_tokens.specs.declared.token.Place as places
 use Rattle.nf_tokens.specs.declared.token.Sign.{Sign}
 use Rattle.nf_tokens.specs.declared.token.Sign.TheVariants as signs
 use Rattle.nf_tree.specs.declared.place.Name.{Name}
-use Rattle.nf_tree.specs.Tree.{Tree, Expression, Given, Guards, Block, Start, Missing, Touch, Get, Find, New, If, Free, Write, Store, Forward, Flood, Discard}
+use Rattle.nf_tree.specs.Tree.{Tree, Expression, Given, Guards, Block, Start, Missing, Touch, Get, Find, New, If, Free, Set, Write, Store, Forward, Flood, Discard}
 use Rattle.nf_syntax.specs.declared.head.GetHead.{GetHead}
 use Rattle.nf_syntax.specs.declared.head.EntryHead.{EntryHead}
-use Rattle.nf_syntax.specs.Items.{Item, AName, ASign, AWord, AJoin, Marked, name, sign, word, join, opening}
+use Rattle.nf_syntax.specs.Items.{Item, AName, ASign, AWord, AJoin, Marked, name, field, sign, word, join, opening}
 use Rattle.nf_syntax.specs.Expressions.{value}
 use Rattle.nf_syntax.specs.Grammar.{Opened, Body, Optional, Is, values, given, guards, comparing, braced, optional, body, get_head, entry_head}
-use Rattle.nf_syntax.specs.Machine.{Place, NameAt, SignAt, CloseAt, ComparisonAt, GivenAt, WhereAt, BlockAt, BodyAt, WrittenAt, OptionalAt, go_or, step, value_at, values_at, get_head_at, entry_head_at, get_at, find_at, new_at, if_at, touch_at, free_at, write_at, store_at, forward_at, flood_at, discard_at}
+use Rattle.nf_syntax.specs.Machine.{Place, NameAt, SignAt, CloseAt, ComparisonAt, GivenAt, WhereAt, BlockAt, BodyAt, WrittenAt, OptionalAt, go_or, step, value_at, values_at, get_head_at, entry_head_at, get_at, find_at, new_at, if_at, touch_at, free_at, set_at, write_at, store_at, forward_at, flood_at, discard_at}
 use Rattle.nf_syntax.specs.Language.{Spells}
 use Rattle.nf_syntax.proofs.Going.{goes, on_row}
 use Rattle.nf_syntax.proofs.Complete.{written}
 use Rattle.nf_syntax.proofs.SameSign.{same_sign}
-use Rattle.nf_syntax.proofs.SoundTokens.{Good, mark, front, front_marked, less, moved, good_name, good_sign, good_close, good_comparison}
+use Rattle.nf_syntax.proofs.SoundTokens.{Good, mark, front, front_marked, less, moved, good_name, good_field, good_sign, good_close, good_comparison}
 use Rattle.nf_syntax.proofs.SoundExpressions.{good_value}
 use Rattle.nf_syntax.proofs.SoundLists.{good_values, good_given, good_guards}
 
@@ -30,6 +30,9 @@ regroup3' s b x y z = simp append_assoc
 -- a value between two signs, with a brace behind it
 valued_end : (s b v : List Marked) (x y z : Marked) → s ++ ((b ++ (x ∷ v ++ y ∷ [])) ++ z ∷ []) ≡ ((((s ++ b) ++ x ∷ []) ++ v) ++ y ∷ []) ++ z ∷ []
 valued_end s b v x y z = simp append_assoc
+
+put : (s b v : List Marked) (x f a e : Marked) → s ++ (b ++ (x ∷ f ∷ a ∷ [] ++ (v ++ e ∷ []))) ≡ (((((s ++ b) ++ x ∷ []) ++ f ∷ []) ++ a ∷ []) ++ v) ++ e ∷ []
+put s b v x f a e = simp append_assoc
 
 wrote : (s b v : List Marked) (x d c a e : Marked) → s ++ (b ++ (x ∷ d ∷ c ∷ a ∷ [] ++ (v ++ e ∷ []))) ≡ ((((((s ++ b) ++ x ∷ []) ++ d ∷ []) ++ c ∷ []) ++ a ∷ []) ++ v) ++ e ∷ []
 wrote s b v x d c a e = simp append_assoc
@@ -81,6 +84,7 @@ is_body (New b at x c gs close made taken full) g = g
 is_body (Find b at x c i gs hit miss) g = g
 is_body (If b l c r holds fails) g = g
 is_body (Free b at x) g = g
+is_body (Set b f at v) g = g
 is_body (Write b x c v) g = g
 is_body (Store b x i v) g = g
 is_body (Forward b v) g = absurd g
@@ -96,6 +100,7 @@ is_optional (New b at x c gs close made taken full) g = g
 is_optional (Find b at x c i gs hit miss) g = g
 is_optional (If b l c r holds fails) g = g
 is_optional (Free b at x) g = g
+is_optional (Set b f at v) g = g
 is_optional (Write b x c v) g = g
 is_optional (Store b x i v) g = g
 is_optional (Forward b v) g = g
@@ -266,6 +271,20 @@ good_free n room seen b at k g bodies f =
     moved n (seen ++ body room (Free b at x)) ((s0 ++ name x ∷ []) ++ sign signs.Semicolon ∷ []) (BodyAt room (Free b at x) k)
     (regroup3 seen (body room b) (word signs.Free at) (name x) (sign signs.Semicolon)) (bodies room seen (Free b at x) k g f)))
 
+good_set : (n room : ℕ) (seen : List Marked) (b : Block) (k : Block → Place) → Is Opened b → Bodies n → BodyGood n room seen k →
+    Good n ((seen ++ body room b) ++ sign signs.Set ∷ []) (set_at room b k)
+good_set n room seen b k g bodies f =
+    let s0 = (seen ++ body room b) ++ sign signs.Set ∷ [] in
+    good_field n s0 (λ h. SignAt signs.Assign (value_at (λ v. SignAt signs.Semicolon (BodyAt room (Set b h.field h.place v) k)))) (λ h.
+    let last = λ (v : Expression). Set b h.field h.place v in
+    let s1 = s0 ++ field h.field h.place ∷ [] in
+    good_sign n s1 signs.Assign (value_at (λ v. SignAt signs.Semicolon (BodyAt room (last v) k))) (
+    let s2 = s1 ++ sign signs.Assign ∷ [] in
+    good_value n s2 (λ v. SignAt signs.Semicolon (BodyAt room (last v) k)) (λ v gv.
+    good_sign n (s2 ++ value v) signs.Semicolon (BodyAt room (last v) k) (
+    moved n (seen ++ body room (last v)) ((s2 ++ value v) ++ sign signs.Semicolon ∷ []) (BodyAt room (last v) k)
+    (put seen (body room b) (value v) (sign signs.Set) (field h.field h.place) (sign signs.Assign) (sign signs.Semicolon)) (bodies room seen (last v) k (g, gv) f)))))
+
 good_write : (n room : ℕ) (seen : List Marked) (b : Block) (x : Name) (k : Block → Place) → Is Opened b → Bodies n → BodyGood n room seen k →
     Good n (((seen ++ body room b) ++ name x ∷ []) ++ sign signs.Dot ∷ []) (write_at room b x k)
 good_write n room seen b x k g bodies f =
@@ -348,6 +367,8 @@ body_token n room seen b k g blocks bodies f (AWord signs.Free at) false ms tree
     front n (seen ++ body room b) (word signs.Free at) (free_at room b at k) (good_free n room seen b at k g bodies f) ms tree few h
 body_token n room seen b k g blocks bodies f (ASign signs.If) false ms tree few h =
     front n (seen ++ body room b) (sign signs.If) (if_at room b k) (good_if n room seen b k g blocks bodies f) ms tree few h
+body_token n room seen b k g blocks bodies f (ASign signs.Set) false ms tree few h =
+    front n (seen ++ body room b) (sign signs.Set) (set_at room b k) (good_set n room seen b k g bodies f) ms tree few h
 body_token n room seen b k g blocks bodies f (AName x) false ms tree few h =
     front n (seen ++ body room b) (name x) (WrittenAt room b x k) (good_written n room seen b x k g bodies f) ms tree few h
 body_token n room seen b k g blocks bodies f (ASign signs.Flood) false ms tree few h =

@@ -9,9 +9,10 @@ use Rattle.nf_tokens.specs.declared.token.Sign.TheVariants as signs
 use Rattle.nf_tree.specs.declared.place.Name.{Name}
 use Rattle.nf_tree.specs.declared.place.Literal.{Literal}
 use Rattle.nf_tree.specs.Tree.{Tree}
-use Rattle.nf_syntax.specs.Items.{Item, AName, ANumber, ASign, AWord, Marked, name, number, sign, word}
+use Rattle.nf_syntax.specs.declared.head.SetHead.{SetHead}
+use Rattle.nf_syntax.specs.Items.{Item, AName, ANumber, AField, ASign, AWord, Marked, name, number, field, sign, word}
 use Rattle.nf_syntax.specs.Grammar.{comparing, comparison_of}
-use Rattle.nf_syntax.specs.Machine.{Place, NameAt, NumberAt, SignAt, CloseAt, ComparisonAt, No, go_if, go_some}
+use Rattle.nf_syntax.specs.Machine.{Place, NameAt, NumberAt, FieldAt, SignAt, CloseAt, ComparisonAt, No, go_if, go_some}
 use Rattle.nf_syntax.specs.Language.{Spells}
 use Rattle.nf_syntax.proofs.Going.{goes, on_row, agree}
 use Rattle.nf_syntax.proofs.SameSign.{same_sign}
@@ -56,6 +57,18 @@ pub good_number : (n : ℕ) (seen : List Marked) (k : Literal → Place) → ((x
     (ms : List Marked) (tree : Tree) → length ms < n → goes (NumberAt k) ms ≡ Some tree → Spells (seen ++ ms) tree
 good_number n seen k f [] tree few h = absurd cc
 good_number n seen k f (m ∷ ms) tree few h = number_token n seen k f m.item m.past ms tree (omega arith) h
+
+field_token : (n : ℕ) (seen : List Marked) (k : SetHead → Place) → ((h : SetHead) → Good n (seen ++ field h.field h.place ∷ []) (k h)) →
+    (t : Item) (past : Bool) (ms : List Marked) (tree : Tree) → length ms < n → goes (FieldAt k) (mark t past ∷ ms) ≡ Some tree → Spells (seen ++ mark t past ∷ ms) tree
+field_token n seen k f (AField x at) false ms tree few h =
+    let y : SetHead = record { field = x; place = at } in
+    front n seen (field x at) (k y) (f y) ms tree few h
+field_token n seen k f t past ms tree few h = absurd cc
+
+pub good_field : (n : ℕ) (seen : List Marked) (k : SetHead → Place) → ((h : SetHead) → Good n (seen ++ field h.field h.place ∷ []) (k h)) →
+    (ms : List Marked) (tree : Tree) → length ms < n → goes (FieldAt k) ms ≡ Some tree → Spells (seen ++ ms) tree
+good_field n seen k f [] tree few h = absurd cc
+good_field n seen k f (m ∷ ms) tree few h = field_token n seen k f m.item m.past ms tree (omega arith) h
 
 sign_row : (n : ℕ) (seen : List Marked) (s t : Sign) (k : Place) (b past : Bool) (ms : List Marked) (tree : Tree) → (b ≡ true → t ≡ s) → Good n (seen ++ sign s ∷ []) k →
     length ms < n → on_row (go_if b k) past (λ next. goes next ms) ≡ Some tree → Spells (seen ++ mark (ASign t) past ∷ ms) tree

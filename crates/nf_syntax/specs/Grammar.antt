@@ -17,8 +17,8 @@ use Rattle.nf_tree.specs.declared.tree.ChainTree.{ChainTree}
 use Rattle.nf_tree.specs.declared.tree.ArrayTree.{ArrayTree}
 use Rattle.nf_tree.specs.declared.tree.Declaration.{Declaration}
 use Rattle.nf_tree.specs.declared.tree.Declaration.TheVariants as declared
-use Rattle.nf_tree.specs.Tree.{Expression, Given, Guards, Unguarded, Where, Block, Start, Missing, Touch, Get, Find, New, If, Free, Write, Store, Forward, Flood, Discard, Handler, Tree}
-use Rattle.nf_syntax.specs.Items.{Marked, sign, word, join, name, number, opening}
+use Rattle.nf_tree.specs.Tree.{Expression, Given, Guards, Unguarded, Where, Block, Start, Missing, Touch, Get, Find, New, If, Free, Set, Write, Store, Forward, Flood, Discard, Handler, Tree}
+use Rattle.nf_syntax.specs.Items.{Marked, sign, word, join, name, number, field, opening}
 use Rattle.nf_syntax.specs.Expressions.{IsValue, value}
 
 -- what stands at a place of the grammar: statements that more may follow, a body, a body or nothing
@@ -54,6 +54,7 @@ Is kind (Find b at x c i gs hit miss) = Is Opened b × IsValue i × AreGuards gs
 Is kind (New b at x c gs close made taken full) = Is Opened b × AreGiven gs × Is Body made × Is Optional taken × Is Optional full
 Is kind (If b l comparison r holds fails) = Is Opened b × IsValue l × IsValue r × Is Body holds × Is Optional fails
 Is kind (Free b at x) = Is Opened b
+Is kind (Set b f at v) = Is Opened b × IsValue v
 Is kind (Write b x c v) = Is Opened b × IsValue v
 Is kind (Store b x i v) = Is Opened b × IsValue i × IsValue v
 Is Opened (Forward b v) = ⊥
@@ -175,6 +176,8 @@ body room (If b l comparison r holds fails) = body room b ++ (sign signs.If ∷ 
     ++ (sign (comparing comparison) ∷ value r
     ++ (braced room (body (room - 1) holds) ++ optional signs.Else room fails (body (room - 1) fails))))
 body room (Free b at x) = body room b ++ word signs.Free at ∷ name x ∷ sign signs.Semicolon ∷ []
+body room (Set b f at v) = body room b ++ (sign signs.Set ∷ field f at ∷ sign signs.Assign ∷ []
+    ++ (value v ++ sign signs.Semicolon ∷ []))
 body room (Write b x c v) = body room b ++ (name x ∷ sign signs.Dot ∷ name c ∷ sign signs.Assign ∷ []
     ++ (value v ++ sign signs.Semicolon ∷ []))
 body room (Store b x i v) = body room b ++ (name x ∷ sign signs.OpenBracket ∷ value i

@@ -111,3 +111,6 @@ name x = plain (AName x)
 
 abbrev pub number : Literal → Marked
 number n = plain (ANumber n)
+
+abbrev pub field : Field → Place → Marked
+field f at = plain (AField f at)

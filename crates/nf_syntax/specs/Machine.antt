@@ -22,9 +22,10 @@ use Rattle.nf_tree.specs.declared.tree.ChainTree.{ChainTree}
 use Rattle.nf_tree.specs.declared.tree.ArrayTree.{ArrayTree}
 use Rattle.nf_tree.specs.declared.tree.Declaration.{Declaration}
 use Rattle.nf_tree.specs.declared.tree.Declaration.TheVariants as declared
-use Rattle.nf_tree.specs.Tree.{Expression, Number, Read, Column, Index, Cell, Group, Sum, Product, Given, Guards, Unguarded, Where, Block, Start, Missing, Touch, Get, Find, New, If, Free, Write, Store, Forward, Flood, Discard, Handler, Tree}
+use Rattle.nf_tree.specs.Tree.{Expression, Number, Read, Column, Index, Cell, Group, Sum, Product, Given, Guards, Unguarded, Where, Block, Start, Missing, Touch, Get, Find, New, If, Free, Set, Write, Store, Forward, Flood, Discard, Handler, Tree}
 use Rattle.nf_syntax.specs.declared.fault.SyntaxKind.{SyntaxKind}
 use Rattle.nf_syntax.specs.declared.head.GetHead.{GetHead}
+use Rattle.nf_syntax.specs.declared.head.SetHead.{SetHead}
 use Rattle.nf_syntax.specs.declared.head.EntryHead.{EntryHead}
 use Rattle.nf_syntax.specs.declared.head.ChainHead.{ChainHead}
 use Rattle.nf_syntax.specs.declared.head.ArrayHead.{ArrayHead}
@@ -38,6 +39,7 @@ pub data Place : Type 0 where
   End : Tree → Place
   NameAt : (Name → Place) → Place
   NumberAt : (Literal → Place) → Place
+  FieldAt : (SetHead → Place) → Place
   SignAt : Sign → Place → Place
   CloseAt : (places.Place → Place) → Place
   AtomAt : ℕ → ℕ → (Expression → Place) → Place
@@ -156,7 +158,7 @@ contents_at k = SignAt signs.OpenBrace (numbers_at (λ ns. SignAt signs.CloseBra
 abbrev pub guards_at : (Guards → Place) → Place
 guards_at k = SignAt signs.OpenParenthesis (some_given_at (λ gs. CloseAt (λ p. k (Where gs p))))
 
--- behind `get`, `find`, `new`, `if`, `touch`, `free`, a name, `forward`, `flood`, `drop`
+-- behind `get`, `find`, `new`, `if`, `touch`, `free`, `set`, a name, `forward`, `flood`, `drop`
 unfoldable pub get_at : ℕ → Block → places.Place → (Block → Place) → Place
 get_at room b at k = get_head_at (λ h. values_at (λ key. CloseAt (λ close. BlockAt room (λ hit. OptionalAt signs.Else room (λ miss. BodyAt room (Get b at h.variable h.chain h.map key close hit miss) k)))))
 
@@ -174,6 +176,9 @@ touch_at room b k = NameAt (λ x. SignAt signs.Semicolon (BodyAt room (Touch b x
 
 abbrev pub free_at : ℕ → Block → places.Place → (Block → Place) → Place
 free_at room b at k = NameAt (λ x. SignAt signs.Semicolon (BodyAt room (Free b at x) k))
+
+abbrev pub set_at : ℕ → Block → (Block → Place) → Place
+set_at room b k = FieldAt (λ h. SignAt signs.Assign (value_at (λ v. SignAt signs.Semicolon (BodyAt room (Set b h.field h.place v) k))))
 
 abbrev pub write_at : ℕ → Block → Name → (Block → Place) → Place
 write_at room b x k = NameAt (λ c. SignAt signs.Assign (value_at (λ v. SignAt signs.Semicolon (BodyAt room (Write b x c v) k))))
@@ -244,6 +249,7 @@ whole = text_head_at (λ h. DeclarationsAt [] (λ ds. HandlersAt [] (λ hs. End 
 abbrev pub step : Place → Item → Row
 step (NameAt k) (AName x) = Go false (k x)
 step (NumberAt k) (ANumber n) = Go false (k n)
+step (FieldAt k) (AField field at) = Go false (k (record { field = field; place = at }))
 step (SignAt s k) (ASign t) = go_if (nat_eq (number_of t) (number_of s)) k
 step (CloseAt k) (AWord signs.CloseParenthesis at) = Go false (k at)
 step (AtomAt room n k) (ANumber l) = Go (nat_le 64 n) (k (Number l))
@@ -280,6 +286,7 @@ step (BodyAt room b k) (AWord signs.New at) = Go false (new_at room b at k)
 step (BodyAt room b k) (AWord signs.Free at) = Go false (free_at room b at k)
 step (BodyAt room b k) (ASign signs.If) = Go false (if_at room b k)
 step (BodyAt room b k) (ASign signs.Touch) = Go false (touch_at room b k)
+step (BodyAt room b k) (ASign signs.Set) = Go false (set_at room b k)
 step (BodyAt room b k) (AName x) = Go false (WrittenAt room b x k)
 step (BodyAt room b k) (ASign signs.Forward) = Go false (forward_at b k)
 step (BodyAt room b k) (ASign signs.Flood) = Go false (flood_at b k)

@@ -2,12 +2,13 @@
 
 ghost use Rattle.std.specs.Prelude.{◌≡◌};
 ghost use Rattle.nf_tree.specs.View.{block_of};
-ghost use Rattle.nf_syntax.specs.Machine.{WrittenAt, touch_at, free_at, write_at, store_at, forward_at, flood_at, discard_at};
+ghost use Rattle.nf_syntax.specs.Machine.{WrittenAt, touch_at, free_at, set_at, write_at, store_at, forward_at, flood_at, discard_at};
 ghost use Rattle.nf_syntax.specs.Reads.{Reads, Extends};
 
 use crate::expression::{index, value};
 use crate::fault::{Stop, stuck};
-use crate::single::{name, sign};
+use crate::head::SetHead;
+use crate::single::{field, name, sign};
 use nf_tokens::{Place, Placed, Sign, Token};
 use nf_tree::{Block, Name};
 use std::alloc::Global;
@@ -46,6 +47,29 @@ pub fn free(
         before: Box::new(alloc, before)?,
         place,
         variable,
+    };
+    Ok((block, rest))
+}
+
+/// The body with a `set` behind it.
+pub fn set(
+    alloc: Global,
+    before: Block,
+    tokens: &[Placed],
+    room: u32,
+) -> Result<(Block, &[Placed]), Stop>
+    ensures { Extends room (λ k. set_at room (block_of before) k) (λ x. block_of x.0) (λ x. x.1.now) result tokens.now }
+{
+    let (head, rest) = field(tokens)?;
+    let rest = sign(rest, Sign::Assign)?;
+    let (value, rest) = value(alloc, rest)?;
+    let rest = sign(rest, Sign::Semicolon)?;
+    let SetHead { field, place } = head;
+    let block = Block::Set {
+        before: Box::new(alloc, before)?,
+        field,
+        place,
+        value,
     };
     Ok((block, rest))
 }

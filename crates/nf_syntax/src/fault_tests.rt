@@ -18,7 +18,13 @@ pub fn is_fault(alloc: Global, text: &[u8], kind: SyntaxKind, line: u32, column:
 
 #[test]
 fn bytes_that_begin_no_token(rt: HostRuntime) {
-    let faults: [(&[u8], u32, u32); 10] = [
+    let faults: [(&[u8], u32, u32); 12] = [
+        (b"nf x { ports 1;\x0c}".as_slice(), 1, 16),
+        (
+            b"nf x { ports 1; on 0 { forward 1+1+1+1+1+1+1+1+1+1+1+1+1+1+1+1+1+1+1+1+1+1+1+1+1+1+1+1+1+1+1+1+1+1+1+1+1+1+1+1+1+1+1+1+1+1+1+1+1+1+1+1+1+1+1+1+1+1+1+1+1+1+1+1+$; } }".as_slice(),
+            1,
+            160,
+        ),
         (b"\xef\xbb\xbfnf x { ports 1; }".as_slice(), 1, 1),
         (b"nf x\0 { ports 1; }".as_slice(), 1, 5),
         (b"nf x { ports 1; ! }".as_slice(), 1, 17),
@@ -45,7 +51,12 @@ fn bytes_that_begin_no_token(rt: HostRuntime) {
 
 #[test]
 fn numbers_of_no_form(rt: HostRuntime) {
-    let faults: [(&[u8], u32, u32); 16] = [
+    let faults: [(&[u8], u32, u32); 17] = [
+        (
+            b"nf x { ports 1; on 0 { forward 1+1+1+1+1+1+1+1+1+1+1+1+1+1+1+1+1+1+1+1+1+1+1+1+1+1+1+1+1+1+1+1+1+1+1+1+1+1+1+1+1+1+1+1+1+1+1+1+1+1+1+1+1+1+1+1+1+1+1+1+1+1+1+1+00; } }".as_slice(),
+            1,
+            160,
+        ),
         (b"nf x { ports 00; }".as_slice(), 1, 14),
         (b"nf x { ports 01; }".as_slice(), 1, 14),
         (b"nf x { ports 5a; }".as_slice(), 1, 14),
@@ -132,7 +143,30 @@ fn tokens_where_none_may_stand(rt: HostRuntime) {
 
 #[test]
 fn tokens_that_no_statement_has(rt: HostRuntime) {
-    let faults: [(&[u8], u32, u32); 16] = [
+    let faults: [(&[u8], u32, u32); 23] = [
+        (b"nf x { ports 1; on 0 { set foo = 1; } }".as_slice(), 1, 28),
+        (
+            b"nf x { ports 1; on 0 { set src_ip 1; } }".as_slice(),
+            1,
+            35,
+        ),
+        (
+            b"nf x { ports 1; on 0 { set src_ip = ; } }".as_slice(),
+            1,
+            37,
+        ),
+        (
+            b"nf x { ports 1; on 0 { set src_ip == 1; } }".as_slice(),
+            1,
+            35,
+        ),
+        (
+            b"nf x { ports 1; on 0 { set src_ip6 = 1; } }".as_slice(),
+            1,
+            28,
+        ),
+        (b"nf x { ports 1; on 0 { set ttl = 1 } }".as_slice(), 1, 36),
+        (b"nf x { ports 1; on 0 { ttl = 1; } }".as_slice(), 1, 24),
         (b"nf x { ports 1; on 0 { touch 7; } }".as_slice(), 1, 30),
         (b"nf x { ports 1; on 0 { touch e: } }".as_slice(), 1, 31),
         (
@@ -216,6 +250,11 @@ fn tokens_that_no_expression_has(rt: HostRuntime) {
     let faults: [(&[u8], u32, u32); 28] = [
         (b"nf x { ports 1; on 0 { if 1 { } } }".as_slice(), 1, 29),
         (b"nf x { ports 1; on 0 { forward x; } }".as_slice(), 1, 33),
+        (
+            b"nf x { ports 1; on 0 { forward src_ip6; } }".as_slice(),
+            1,
+            39,
+        ),
         (b"nf x { ports 1; on 0 { x; } }".as_slice(), 1, 25),
         (b"nf x { ports 1; on 0 { x = 1; } }".as_slice(), 1, 26),
         (b"nf x { ports 1; on 0 { x.1 = 2; } }".as_slice(), 1, 26),
@@ -276,7 +315,6 @@ fn tokens_that_no_expression_has(rt: HostRuntime) {
             1,
             31,
         ),
-        (b"nf x { ports 1; on 0 { set ttl = 1; } }".as_slice(), 1, 24),
         (
             b"nf x { ports 1; on 0 { if 1 == 1 { } else { } else { } } }".as_slice(),
             1,
@@ -343,77 +381,10 @@ fn tokens_that_no_declaration_has(rt: HostRuntime) {
 }
 
 #[test]
-fn limits_of_an_expression(rt: HostRuntime) {
-    let faults: [(&[u8], u32, u32); 12] = [
-        (
-            b"nf x { ports 1; on 0 { forward (((((((((((((((((((((((((((((((((1".as_slice(),
-            1,
-            64,
-        ),
-        (
-            b"nf x { ports 1; on 0 { forward x[x[x[x[x[x[x[x[x[x[x[x[x[x[x[x[x[x[x[x[x[x[x[x[x[x[x[x[x[x[x[x[x[1".as_slice(),
-            1,
-            97,
-        ),
-        (
-            b"nf x { ports 1; on 0 { forward (x[(x[(x[(x[(x[(x[(x[(x[(x[(x[(x[(x[(x[(x[(x[(x[(1".as_slice(),
-            1,
-            80,
-        ),
-        (
-            b"nf x { ports 1; on 0 { if ((((((((((((((((((((((((((((((((1)))))))))))))))))))))))))))))))) == (((((((((((((((((((((((((((((((((1".as_slice(),
-            1,
-            128,
-        ),
-        (
-            b"nf x { ports 1; on 0 { x[(((((((((((((((((((((((((((((((((1".as_slice(),
-            1,
-            58,
-        ),
-        (
-            b"nf x { ports 1; on 0 { forward 1+1+1+1+1+1+1+1+1+1+1+1+1+1+1+1+1+1+1+1+1+1+1+1+1+1+1+1+1+1+1+1+1+1+1+1+1+1+1+1+1+1+1+1+1+1+1+1+1+1+1+1+1+1+1+1+1+1+1+1+1+1+1+1+1; } }".as_slice(),
-            1,
-            160,
-        ),
-        (
-            b"nf x { ports 1; on 0 { forward 1*1*1*1*1*1*1*1*1*1*1*1*1*1*1*1*1*1*1*1*1*1*1*1*1*1*1*1*1*1*1*1*1*1*1*1*1*1*1*1*1*1*1*1*1*1*1*1*1*1*1*1*1*1*1*1*1*1*1*1*1*1*1*1*y; } }".as_slice(),
-            1,
-            160,
-        ),
-        (
-            b"nf x { ports 1; on 0 { forward a[1]&a[1]&a[1]&a[1]&a[1]&a[1]&a[1]&a[1]&a[1]&a[1]&a[1]&a[1]&a[1]&a[1]&a[1]&a[1]&a[1]&a[1]&a[1]&a[1]&a[1]&a[1]&a[1]&a[1]&a[1]&a[1]&a[1]&a[1]&a[1]&a[1]&a[1]&a[1]&ttl; } }".as_slice(),
-            1,
-            192,
-        ),
-        (
-            b"nf x { ports 1; on 0 { forward a[1]-a[1]-a[1]-a[1]-a[1]-a[1]-a[1]-a[1]-a[1]-a[1]-a[1]-a[1]-a[1]-a[1]-a[1]-a[1]-a[1]-a[1]-a[1]-a[1]-a[1]-a[1]-a[1]-a[1]-a[1]-a[1]-a[1]-a[1]-a[1]-a[1]-a[1]-1-a[1]; } }".as_slice(),
-            1,
-            191,
-        ),
-        (
-            b"nf x { ports 1; on 0 { forward e.x+e.x+e.x+e.x+e.x+e.x+e.x+e.x+e.x+e.x+e.x+e.x+e.x+e.x+e.x+e.x+e.x+e.x+e.x+e.x+e.x+e.x+e.x+e.x+e.x+e.x+e.x+e.x+e.x+e.x+e.x+e.x+e.x+e.x+e.x+e.x+e.x+e.x+e.x+e.x+e.x+e.x+e.x+e.x+e.x+e.x+e.x+e.x+e.x+e.x+e.x+e.x+e.x+e.x+e.x+e.x+e.x+e.x+e.x+e.x+(e.index+1)+b[1]+9; } }".as_slice(),
-            1,
-            289,
-        ),
-        (
-            b"nf x { ports 1; on 0 { forward 1+1+1+1+1+1+1+1+1+1+1+1+1+1+1+1+1+1+1+1+1+1+1+1+1+1+1+1+1+1+1+1+1+1+1+1+1+1+1+1+1+1+1+1+1+1+1+1+1+1+1+1+1+1+1+1+1+1+1+1+1+1+1+1+0; } }".as_slice(),
-            1,
-            160,
-        ),
-        (
-            b"nf x { ports 1; on 0 { forward 1+1+1+1+1+1+1+1+1+1+1+1+1+1+1+1+1+1+1+1+1+1+1+1+1+1+1+1+1+1+1+1+1+1+1+1+1+1+1+1+1+1+1+1+1+1+1+1+1+1+1+1+1+1+1+1+1+1+1+1+1+1+1+1+a33456789012345678901234567890123; } }".as_slice(),
-            1,
-            160,
-        ),
-    ];
-    for (text, line, column) in faults.iter() {
-        assert!(rt; is_fault(rt.alloc(), text, SyntaxKind::Limit, *line, *column));
-    }
-}
-
-#[test]
 fn texts_that_end_too_early(rt: HostRuntime) {
-    let faults: [(&[u8], u32, u32); 24] = [
+    let faults: [(&[u8], u32, u32); 26] = [
+        (b"nf x { ports 1; on 0 { set".as_slice(), 1, 27),
+        (b"nf x { ports 1; on 0 { set ttl = 1".as_slice(), 1, 35),
         (b"".as_slice(), 1, 1),
         (b"\n".as_slice(), 2, 1),
         (b"\r".as_slice(), 1, 2),

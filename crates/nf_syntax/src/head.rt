@@ -1,5 +1,7 @@
 //! The fronts of statements and declarations, as they are read.
 
+use nf_base::packet::Field;
+use nf_tokens::Place;
 use nf_tree::{Literal, Name};
 
 /// What a `get` binds, and where it looks.
@@ -15,6 +17,13 @@ pub struct GetHead {
 pub struct EntryHead {
     pub variable: Name,
     pub chain: Name,
+}
+
+/// The field that a `set` writes, and where it stands.
+#[derive(Clone, Copy, Debug, PartialEq, Eq)]
+pub struct SetHead {
+    pub field: Field,
+    pub place: Place,
 }
 
 /// A chain's name, size and lifetime in nanoseconds.

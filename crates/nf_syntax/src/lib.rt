@@ -18,4 +18,6 @@ pub use text::{one_fault, one_mark, parse};
 #[cfg(test)]
 mod fault_tests;
 #[cfg(test)]
+mod limit_tests;
+#[cfg(test)]
 mod tests;

@@ -2,10 +2,11 @@
 
 ghost use Rattle.std.specs.Prelude.{◌≡◌, IfOk};
 ghost use Rattle.nf_syntax.specs.Items.{class_of, Plain, named};
-ghost use Rattle.nf_syntax.specs.Machine.{NameAt, NumberAt, SignAt, CloseAt, ComparisonAt};
+ghost use Rattle.nf_syntax.specs.Machine.{NameAt, NumberAt, FieldAt, SignAt, CloseAt, ComparisonAt};
 ghost use Rattle.nf_syntax.specs.Reads.{Reads, Passes, PassesComma, PassesFactor, PassesTerm};
 
 use crate::fault::{Stop, stuck};
+use crate::head::SetHead;
 use nf_base::expr::Comparison;
 use nf_base::seq::Seq;
 use nf_tokens::{Place, Placed, Sign, Token};
@@ -54,6 +55,25 @@ pub fn number(tokens: &[Placed]) -> Result<(Literal, &[Placed]), Stop>
                     place: first.place,
                 };
                 Ok((number, rest))
+            }
+            _ => Err(stuck(first)),
+        },
+    }
+}
+
+/// A field that is written.
+pub fn field(tokens: &[Placed]) -> Result<(SetHead, &[Placed]), Stop>
+    ensures { Reads FieldAt (λ x. x.0) (λ x. x.1.now) result tokens.now }
+{
+    match tokens {
+        [] => Err(Stop::Short),
+        [first, rest @ ..] => match &first.token {
+            Token::Field(found) => {
+                let field = SetHead {
+                    field: *found,
+                    place: first.place,
+                };
+                Ok((field, rest))
             }
             _ => Err(stuck(first)),
         },

@@ -7,7 +7,7 @@ ghost use Rattle.nf_syntax.specs.Items.{class_of, Plain, Joins};
 ghost use Rattle.nf_syntax.specs.Machine.{BlockAt, BodyAt, OptionalAt, get_head_at, entry_head_at, get_at, find_at, new_at, if_at};
 ghost use Rattle.nf_syntax.specs.Reads.{Reads, ReadsOn, Extends};
 
-use crate::action::{discard, flood, forward, free, touch, written};
+use crate::action::{discard, flood, forward, free, set, touch, written};
 use crate::expression::{index, value};
 use crate::fault::{Stop, stuck};
 use crate::head::{EntryHead, GetHead};
@@ -261,6 +261,11 @@ fn body(alloc: Global, tokens: &[Placed], room: u32) -> Result<(Block, &[Placed]
             }
             Token::Sign(Sign::Free) => {
                 let (longer, behind) = free(alloc, block, first.place, after, room)?;
+                block = longer;
+                rest = behind;
+            }
+            Token::Sign(Sign::Set) => {
+                let (longer, behind) = set(alloc, block, after, room)?;
                 block = longer;
                 rest = behind;
             }

@@ -1,25 +1,8 @@
 use super::*;
-use crate::fault_tests::is_fault;
+use nf_base::packet::Field;
 use nf_tokens::Place;
 use nf_tree::{Block, Declaration, Expr, Part};
-use std::alloc::{AllocError, Global};
 use std::test::*;
-
-fn repeated(
-    alloc: Global,
-    front: &[u8],
-    part: &[u8],
-    times: u32,
-    end: &[u8],
-) -> Result<Vec<u8>, AllocError> {
-    let mut text = Vec::new(alloc);
-    text.extend_from_slice(front)?;
-    for _ in 0..times {
-        text.extend_from_slice(part)?;
-    }
-    text.extend_from_slice(end)?;
-    Ok(text)
-}
 
 fn stands(place: Place, line: u32, column: u32) -> bool {
     place.line == line && place.column == column
@@ -30,7 +13,7 @@ ports 0x2; # two\n\
 chain flows 1 lifetime 60 { map by_flow(a: 32, b: 32); }\n\
 on 0.0.0.1 { get e = flows.by_flow(src_ip, 7) { touch e; }\n\
 else { new f = flows(a = src_ip) { } full { drop; } }\n\
-forward 1; }\n\
+set ttl = 9; forward 1; }\n\
 }\n\
 # the end";
 
@@ -88,7 +71,20 @@ fn statements_have_their_places(rt: HostRuntime) {
         assert!(rt; false);
         return;
     };
-    assert!(rt; stands(port.place, 6, 9));
+    assert!(rt; stands(port.place, 6, 22));
+    let Block::Set {
+        before,
+        field,
+        place,
+        value: Expr::Number(value),
+    } = &**before
+    else {
+        assert!(rt; false);
+        return;
+    };
+    assert!(rt; *field == Field::Ttl);
+    assert!(rt; stands(*place, 6, 5));
+    assert!(rt; stands(value.place, 6, 11));
     let Block::Get {
         before: _,
         place,
@@ -113,7 +109,35 @@ fn statements_have_their_places(rt: HostRuntime) {
 
 #[test]
 fn every_form_is_read(rt: HostRuntime) {
-    let texts: [&[u8]; 3] = [
+    let texts: [&[u8]; 5] = [
+        b"nf nat {\n\
+ports 2;\n\
+chain conns 60000 lifetime 60000000000 {\n\
+map by_in(sip: 32, sp: 16, dip: 32, dp: 16);\n\
+fixed rip: 32; fixed rp: 16;\n\
+}\n\
+on 0 {\n\
+get e = conns.by_in(src_ip, src_port, dst_ip, dst_port) {\n\
+touch e; set src_ip = 203.0.113.1; set src_port = e.index + 1024; forward 1;\n\
+} else {\n\
+new f = conns(sip = src_ip, sp = src_port, dip = dst_ip, dp = dst_port,\n\
+rip = dst_ip, rp = dst_port) {\n\
+set src_ip = 203.0.113.1; set src_port = f.index + 1024; forward 1;\n\
+}\n\
+}\n\
+drop;\n\
+}\n\
+on 1 {\n\
+if dst_port < 1024 { drop; }\n\
+find e = conns[dst_port - 1024] where (rip = src_ip, rp = src_port) {\n\
+touch e; set dst_ip = e.sip; set dst_port = e.sp; forward 0;\n\
+}\n\
+drop;\n\
+}\n\
+}\n\
+"
+            .as_slice(),
+        b"nf six { ports 1; array src_ip6 1: 8; on 0 { src_ip6[0] = dst_ip6[1] + six.six; } }".as_slice(),
         b"nf policer {\n\
 ports 2;\n\
 chain hosts 5 lifetime 10 { map by_dst(d: 32); free used: 64; }\n\
@@ -157,72 +181,12 @@ forward e.u + 1 - 2;\n\
 }
 
 #[test]
-fn limits_of_an_expression_are_reached(rt: HostRuntime) {
-    let texts: [&[u8]; 3] = [
-        b"nf x { ports 1; on 0 { forward ((((((((((((((((((((((((((((((((1)))))))))))))))))))))))))))))))); } }".as_slice(),
-        b"nf x { ports 1; on 0 { forward a[1]+a[1]+a[1]+a[1]+a[1]+a[1]+a[1]+a[1]+a[1]+a[1]+a[1]+a[1]+a[1]+a[1]+a[1]+a[1]+a[1]+a[1]+a[1]+a[1]+a[1]+a[1]+a[1]+a[1]+a[1]+a[1]+a[1]+a[1]+a[1]+a[1]+a[1]+1*1; } }".as_slice(),
-        b"nf x { ports 1; on 0 { x[x[x[x[x[x[x[x[x[x[x[x[x[x[x[x[x[x[x[x[x[x[x[x[x[x[x[x[x[x[x[x[x[1]]]]]]]]]]]]]]]]]]]]]]]]]]]]]]]]] = ((((((((((((((((((((((((((((((((1)))))))))))))))))))))))))))))))); } }".as_slice(),
-    ];
-    for text in texts.iter() {
-        assert!(rt; parse(rt.alloc(), text).is_ok());
-    }
-}
-
-#[test]
 fn all_forms_of_numbers_are_read(rt: HostRuntime) {
     match parse(
         rt.alloc(),
-        b"nf x { ports 0.0.1.2; on 0xff { drop; } on 18446744073709551615 { } } # \xff\0 end",
+        b"nf x { ports 0.0.1.2; on 0x0f { drop; } on 18446744073709551615 { } } # \xff\0 end",
     ) {
         Ok(tree) => assert_eq!(rt; tree.ports.value, 258),
         Err(_) => assert!(rt; false),
     }
-}
-
-#[test]
-fn a_name_has_at_most_32_bytes(rt: HostRuntime) {
-    assert!(rt;
-        parse(
-            rt.alloc(),
-            b"nf a2345678901234567890123456789012 { ports 1; }"
-        )
-        .is_ok()
-    );
-}
-
-#[test]
-fn at_most_64_blocks_are_open(rt: HostRuntime) {
-    let front = b"nf x { ports 1; on 0 { ";
-    let part = b"new f = c() { ";
-    let Ok(mut most) = repeated(rt.alloc(), front, part, 63, b"") else {
-        assert!(rt; false);
-        return;
-    };
-    for _ in 0..64 {
-        assert!(rt; most.extend_from_slice(b"} ").is_ok());
-    }
-    assert!(rt; most.extend_from_slice(b"}").is_ok());
-    assert!(rt; parse(rt.alloc(), most.as_slice()).is_ok());
-    let Ok(more) = repeated(rt.alloc(), front, part, 64, b"") else {
-        assert!(rt; false);
-        return;
-    };
-    // The brace of the 65th block: 23 bytes, 63 blocks of 14 each, and 12 of the 64th.
-    assert!(rt; is_fault(rt.alloc(), more.as_slice(), SyntaxKind::Limit, 1, 918));
-}
-
-#[test]
-fn a_block_as_long_as_the_text_is_read(rt: HostRuntime) {
-    let front = b"nf x { ports 1; on 0 { get e = c.m(src_ip) { ";
-    let Ok(mut text) = repeated(rt.alloc(), front, b"touch e;", 131065, b"} } }") else {
-        assert!(rt; false);
-        return;
-    };
-    for _ in 0..6 {
-        assert!(rt; text.push(b' ').is_ok());
-    }
-    assert_eq!(rt; text.len(), 1048576);
-    assert!(rt; parse(rt.alloc(), text.as_slice()).is_ok());
-    assert!(rt; text.push(b' ').is_ok());
-    assert!(rt; is_fault(rt.alloc(), text.as_slice(), SyntaxKind::Limit, 1, 1));
 }

@@ -41,6 +41,7 @@ pub data Block : Type 0 where
   Find : (before : Block) (place : Place) (variable chain : Name) (index : Expression) (guards : Guards) (hit miss : Block) → Block
   If : (before : Block) (left : Expression) (comparison : Comparison) (right : Expression) (holds fails : Block) → Block
   Free : (before : Block) (place : Place) (variable : Name) → Block
+  Set : (before : Block) (field : Field) (place : Place) (value : Expression) → Block
   Write : (before : Block) (variable column : Name) (value : Expression) → Block
   Store : (before : Block) (array : Name) (index value : Expression) → Block
   Forward : (before : Block) (port : Expression) → Block

@@ -9,7 +9,7 @@ use Rattle.nf_tree.specs.declared.tree.Block as declared_block
 use Rattle.nf_tree.specs.declared.tree.Block.TheVariants as blocks
 use Rattle.nf_tree.specs.declared.tree.HandlerTree.{HandlerTree}
 use Rattle.nf_tree.specs.declared.tree.Tree as declared_tree
-use Rattle.nf_tree.specs.Tree.{Expression, Number, Read, Column, Index, Cell, Group, Sum, Product, Given, Guards, Unguarded, Where, Block, Start, Missing, Touch, Get, Find, New, If, Free, Write, Store, Forward, Flood, Discard, Handler, Tree}
+use Rattle.nf_tree.specs.Tree.{Expression, Number, Read, Column, Index, Cell, Group, Sum, Product, Given, Guards, Unguarded, Where, Block, Start, Missing, Touch, Get, Find, New, If, Free, Set, Write, Store, Forward, Flood, Discard, Handler, Tree}
 
 -- a value, as it is written
 abbrev pub expression_of : Expr → Expression
@@ -41,6 +41,7 @@ block_of (blocks.New' p b at x c given close q made r taken s full) = New (block
 block_of (blocks.Find' p b at x c i gs q hit r miss) = Find (block_of b) at x c (expression_of i) (guards_of gs) (block_of hit) (block_of miss)
 block_of (blocks.If' p b left comparison right q holds r fails) = If (block_of b) (expression_of left) comparison (expression_of right) (block_of holds) (block_of fails)
 block_of (blocks.Free' p b at x) = Free (block_of b) at x
+block_of (blocks.Set' p b field at v) = Set (block_of b) field at (expression_of v)
 block_of (blocks.Write' p b x c v) = Write (block_of b) x c (expression_of v)
 block_of (blocks.Store' p b x i v) = Store (block_of b) x (expression_of i) (expression_of v)
 block_of (blocks.Forward' p b port) = Forward (block_of b) (expression_of port)

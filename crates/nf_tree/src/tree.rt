@@ -217,6 +217,13 @@ pub enum Block {
         place: Place,
         variable: Name,
     },
+    /// Gives a field of the packet a value. `place` is that of the field.
+    Set {
+        before: Box<Block>,
+        field: Field,
+        place: Place,
+        value: Expr,
+    },
     /// Gives a column of a variable's entry a value.
     Write {
         before: Box<Block>,
@@ -290,6 +297,12 @@ impl Drop for Block {
                     before,
                     place: _,
                     variable: _,
+                } => self = Box::into_inner(before),
+                Block::Set {
+                    before,
+                    field: _,
+                    place: _,
+                    value: _,
                 } => self = Box::into_inner(before),
                 Block::Write {
                     before,
