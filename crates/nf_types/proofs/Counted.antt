@@ -9,7 +9,7 @@ use Rattle.nf_types.specs.Expressions.{cells, value_of}
 use Rattle.nf_types.specs.Counts.{news, lookups, places}
 use Rattle.nf_types.specs.Statements.{look_up, finding, making, key_cells, given_cells, asked}
 use Rattle.nf_types.specs.Small.{IsSmall}
-use Rattle.nf_types.specs.Blocks.{code_of, bound, got, sought, made, wrote, stored}
+use Rattle.nf_types.specs.Blocks.{code_of, bound, got, sought, made, set, wrote, stored}
 
 record IsCounted (b : tree.Block) (next code : Block) : Type 0 where
   news : limits.news code ≤ news b + limits.news next
@@ -57,6 +57,9 @@ counted place o xs (tree.If b l comparison r holds fails) next =
     record { news = omega (arith, p.news, q.news, t.news); lookups = omega (arith, p.lookups, q.lookups, t.lookups) }
 counted place o xs (tree.Free b at x) next =
     let p = counted place o xs b (Free (variable_of xs x.bytes) next) in
+    record { news = p.news; lookups = p.lookups }
+counted place o xs (tree.Set b f at v) next =
+    let p = counted place o xs b (set (place + places b) o xs f v next) in
     record { news = p.news; lookups = p.lookups }
 counted place o xs (tree.Write b x y v) next =
     let p = counted place o xs b (wrote (place + places b) o xs x y v next) in

@@ -13,7 +13,7 @@ use Rattle.nf_types.specs.Faults.{first, fault_if, each_behind}
 use Rattle.nf_types.specs.Variables.{Variable}
 use Rattle.nf_types.specs.Expressions.{value_faults}
 use Rattle.nf_types.specs.Counts.{news, lookups, behind, behind_get, behind_new, whole_room}
-use Rattle.nf_types.specs.StatementFaults.{binding_faults, look_up_faults, making_faults, finding_faults, use_faults, write_faults, store_faults}
+use Rattle.nf_types.specs.StatementFaults.{binding_faults, look_up_faults, making_faults, finding_faults, use_faults, set_faults, write_faults, store_faults}
 use Rattle.nf_types.specs.Blocks.{bound}
 use Rattle.nf_types.specs.BlockFaults.{get_faults, find_faults, new_faults, block_faults}
 use Rattle.nf_types.specs.TextFaults.{handler_faults, is_handled}
@@ -137,6 +137,9 @@ fits room o xs (tree.If b l comparison r holds fails) e =
     (fits (behind (behind room b) holds) o xs fails (back_none h s blocks))
 fits room o xs (tree.Free b at x) e =
     let p = fits room o xs b (front_none (block_faults room o xs b) (use_faults xs x) e) in
+    record { lookups = p.lookups; news = p.news }
+fits room o xs (tree.Set b f at v) e =
+    let p = fits room o xs b (front_none (block_faults room o xs b) (set_faults o xs f at v) e) in
     record { lookups = p.lookups; news = p.news }
 fits room o xs (tree.Write b x y v) e =
     let p = fits room o xs b (front_none (block_faults room o xs b) (write_faults o xs x y v) e) in

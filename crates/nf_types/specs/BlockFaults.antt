@@ -11,7 +11,7 @@ use Rattle.nf_types.specs.declared.objects.Objects.{Objects}
 use Rattle.nf_types.specs.Variables.{Variable}
 use Rattle.nf_types.specs.Expressions.{value_faults}
 use Rattle.nf_types.specs.Counts.{behind, behind_get, behind_new}
-use Rattle.nf_types.specs.StatementFaults.{binding_faults, use_faults, look_up_faults, making_faults, finding_faults, write_faults, store_faults}
+use Rattle.nf_types.specs.StatementFaults.{binding_faults, use_faults, look_up_faults, making_faults, finding_faults, set_faults, write_faults, store_faults}
 use Rattle.nf_types.specs.Blocks.{bound}
 
 -- the front of a `get`, where so many may still come
@@ -64,6 +64,7 @@ block_faults room o xs (tree.If b l comparison r holds fails) =
     ++ (block_faults (behind room b) o xs holds
     ++ block_faults (behind (behind room b) holds) o xs fails)))
 block_faults room o xs (tree.Free b at x) = block_faults room o xs b ++ use_faults xs x
+block_faults room o xs (tree.Set b f at v) = block_faults room o xs b ++ set_faults o xs f at v
 block_faults room o xs (tree.Write b x y v) = block_faults room o xs b ++ write_faults o xs x y v
 block_faults room o xs (tree.Store b a i v) = block_faults room o xs b ++ store_faults o xs a i v
 block_faults room o xs (tree.Forward b v) = block_faults room o xs b ++ value_faults o xs v

@@ -1,7 +1,8 @@
 -- The code that a block of the text stands for.
 use Rattle.std.specs.Prelude.{ℕ, ◌+◌, List, ◌∷◌, Option, Some, None, length}
-use Rattle.nf_base.specs.Text.{Block, End, Forward, Flood, Discard, Get, Find, New, If, Touch, Free, Write, Store}
+use Rattle.nf_base.specs.Text.{Block, End, Forward, Flood, Discard, Get, Find, New, If, Touch, Free, Set, Write, Store}
 use Rattle.nf_base.specs.declared.expr.Comparison.{Comparison}
+use Rattle.nf_base.specs.declared.packet.Field.{Field}
 use Rattle.nf_base.specs.declared.width.Width.{Width}
 use Rattle.nf_base.specs.declared.width.Width.TheVariants.{W64}
 use Rattle.nf_base.specs.declared.decl.ColumnDecl.{ColumnDecl}
@@ -11,6 +12,7 @@ use Rattle.nf_tree.specs.declared.place.Name.{Name}
 use Rattle.nf_tree.specs.Tree as tree
 use Rattle.nf_types.specs.Names.{named}
 use Rattle.nf_types.specs.Counts.{places}
+use Rattle.nf_types.specs.Fields.{field_width}
 use Rattle.nf_types.specs.declared.objects.Objects.{Objects}
 use Rattle.nf_types.specs.Variables.{Variable, variable_of, variable_named}
 use Rattle.nf_types.specs.Expressions.{cells, number_of, array_named, value_of, given_to}
@@ -46,6 +48,10 @@ width_in (Some found) = found.1.width
 abbrev pub cell_width : Option (ℕ × ArrayDecl) → Width
 cell_width None = W64
 cell_width (Some found) = found.1.width
+
+-- a field of the outgoing frame is given a value
+abbrev pub set : ℕ → Objects → List Variable → Field → tree.Expression → (next : Block) → Block
+set place o xs f v next = Set f (given_to place o xs (field_width f) v) next
 
 -- a free column of a variable's entry is given a value
 abbrev pub wrote : ℕ → Objects → List Variable → (x y : Name) → tree.Expression → (next : Block) → Block
@@ -84,6 +90,7 @@ code_of place o xs (tree.If b l comparison r holds fails) next =
     (code_of (place + places b + cells l + cells r) o xs holds End)
     (code_of (place + places b + cells l + cells r + places holds) o xs fails End) next)
 code_of place o xs (tree.Free b at x) next = code_of place o xs b (Free (variable_of xs x.bytes) next)
+code_of place o xs (tree.Set b f at v) next = code_of place o xs b (set (place + places b) o xs f v next)
 code_of place o xs (tree.Write b x y v) next = code_of place o xs b (wrote (place + places b) o xs x y v next)
 code_of place o xs (tree.Store b a i v) next = code_of place o xs b (stored (place + places b) o xs a i v next)
 code_of place o xs (tree.Forward b v) next = code_of place o xs b (Forward (value_of (place + places b) o xs v))

@@ -1,6 +1,6 @@
 -- How many look-ups a block's text has, and how many more may come; how many places it has.
 use Rattle.std.specs.Prelude.{ℕ, ◌+◌, ◌-◌}
-use Rattle.nf_tree.specs.Tree.{Block, Start, Missing, Touch, Get, Find, New, If, Free, Write, Store, Forward, Flood, Discard}
+use Rattle.nf_tree.specs.Tree.{Block, Start, Missing, Touch, Get, Find, New, If, Free, Set, Write, Store, Forward, Flood, Discard}
 use Rattle.nf_types.specs.declared.counts.Room.{Room}
 use Rattle.nf_types.specs.Expressions.{cells}
 use Rattle.nf_types.specs.Statements.{key_cells, given_cells, asked}
@@ -15,6 +15,7 @@ news (Find b at x c i gs hit miss) = news b + news hit + news miss
 news (New b at x c gs close made taken full) = news b + 1 + news made + news taken + news full
 news (If b l comparison r holds fails) = news b + news holds + news fails
 news (Free b at x) = news b
+news (Set b f at v) = news b
 news (Write b x y v) = news b
 news (Store b a i v) = news b
 news (Forward b v) = news b
@@ -31,6 +32,7 @@ lookups (Find b at x c i gs hit miss) = lookups b + 1 + lookups hit + lookups mi
 lookups (New b at x c gs close made taken full) = lookups b + 1 + lookups made + lookups taken + lookups full
 lookups (If b l comparison r holds fails) = lookups b + lookups holds + lookups fails
 lookups (Free b at x) = lookups b
+lookups (Set b f at v) = lookups b
 lookups (Write b x y v) = lookups b
 lookups (Store b a i v) = lookups b
 lookups (Forward b v) = lookups b
@@ -47,6 +49,7 @@ places (Find b at x c i gs hit miss) = places b + 1 + cells i + given_cells (ask
 places (New b at x c gs close made taken full) = places b + 1 + given_cells gs + places made + places taken + places full
 places (If b l comparison r holds fails) = places b + cells l + cells r + places holds + places fails
 places (Free b at x) = places b
+places (Set b f at v) = places b + cells v
 places (Write b x y v) = places b + cells v
 places (Store b a i v) = places b + 1 + cells i + cells v
 places (Forward b v) = places b + cells v

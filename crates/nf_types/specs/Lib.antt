@@ -18,3 +18,4 @@ pub mod Fronts
 pub mod Roomy
 pub mod Rows
 pub mod Samples
+pub mod Fields

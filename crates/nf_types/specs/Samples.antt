@@ -3,17 +3,18 @@ use Rattle.std.specs.Prelude.{◌≡◌, ℕ, List, [], ◌∷◌, codes}
 use Rattle.nf_base.specs.Text as code
 use Rattle.nf_base.specs.declared.width.Width.TheVariants.{W8, W16, W32, W48, W64}
 use Rattle.nf_base.specs.declared.expr.Operator.TheVariants as operators
-use Rattle.nf_base.specs.declared.expr.Comparison.TheVariants.{Greater}
-use Rattle.nf_base.specs.declared.packet.Field.TheVariants.{Length, DstIp, SrcPort, DstPort}
+use Rattle.nf_base.specs.declared.expr.Comparison.TheVariants.{Less, Greater}
+use Rattle.nf_base.specs.declared.packet.Field.TheVariants.{Time, Length, SrcIp, DstIp, Proto, Ttl, SrcPort, DstPort}
 use Rattle.nf_base.specs.declared.decl.ColumnId.TheVariants as ids
 use Rattle.nf_tree.specs.declared.tree.SumOperator.TheVariants.{Plus, Minus}
 use Rattle.nf_tree.specs.declared.tree.ColumnKind.TheVariants.{Fixed, Free}
 use Rattle.nf_tree.specs.declared.tree.Declaration.{Declaration}
 use Rattle.nf_tree.specs.declared.tree.Declaration.TheVariants.{Array}
 use Rattle.nf_tree.specs.Tree as tree
+use Rattle.nf_types.specs.declared.fault.TypingKind.TheVariants.{Unknown, ReadOnly, NotInScope}
 use Rattle.nf_types.specs.Function.{function}
 use Rattle.nf_types.specs.TextFaults.{faults}
-use Rattle.nf_types.specs.Rows.{at, number, plain, text, handler, constant, field, label, map_part, column_part, chain, column, map_of, given, read}
+use Rattle.nf_types.specs.Rows.{at, name, number, fault, plain, text, handler, constant, field, label, map_part, column_part, chain, column, map_of, given, read}
 
 -- a column of the variable e
 abbrev pub entry : List ℕ → tree.Expression
@@ -80,7 +81,7 @@ mixed =
     ∷ []
 
 -- find e = c[v[dst_port - 7]] where (p = src_port, r = v[0]) { e.u = e.s; v[v[1]] = e.index + v[2]; free e; } else { flood; }
--- new e = c(s = v[3], r = 1, p = 2, a = v[4]) { } get e = c.n(v[5], v[6]) { forward e.t; }
+-- new e = c(s = v[3], r = 1, p = 2, a = v[4]) { } get e = c.n(v[5], v[6]) { set ttl = v[7]; forward e.t; }
 abbrev pub cell : ℕ → tree.Expression
 cell n = tree.Cell (plain (codes "v")) (constant n)
 
@@ -101,7 +102,7 @@ mixed_text =
     ∷ record { name = plain (codes "p"); value = constant 2 } ∷ record { name = plain (codes "a"); value = cell 4 } ∷ []) (at 7 9)
     tree.Start tree.Missing tree.Missing)
     (at 8 1) (plain (codes "e")) (plain (codes "c")) (plain (codes "n")) (cell 5 ∷ cell 6 ∷ []) (at 8 9)
-    (tree.Forward tree.Start (entry (codes "t"))) tree.Missing
+    (tree.Forward (tree.Set tree.Start Ttl (at 8 20) (cell 7)) (entry (codes "t"))) tree.Missing
 
 abbrev pub mixed_tree : tree.Tree
 mixed_tree = text 1 mixed (handler 0 (at 5 4) mixed_text ∷ []) (at 9 1)
@@ -120,7 +121,7 @@ mixed_code =
     code.Flood
     (code.New 6 1 (given W16 (code.Number 1) ∷ given W32 (cell_at 8 4) ∷ given W48 (cell_at 7 3) ∷ given W16 (code.Number 2) ∷ []) 0
     code.End code.End code.End
-    (code.Get 9 1 1 (given W48 (cell_at 10 5) ∷ given W16 (cell_at 11 6) ∷ []) 0 (code.Forward (code.Column 0 0)) code.End code.End))
+    (code.Get 9 1 1 (given W48 (cell_at 10 5) ∷ given W16 (cell_at 11 6) ∷ []) 0 (code.Set Ttl (given W8 (cell_at 12 7)) (code.Forward (code.Column 0 0))) code.End code.End))
 
 abbrev pub PlacesCountAlongTheText : Type 0
 PlacesCountAlongTheText =
@@ -138,3 +139,54 @@ PlacesCountAlongTheText =
     } ∷ [])
     × ((function mixed_tree).arrays ≡ record { name = codes "v"; width = W16; cells = 0 ∷ 0 ∷ 0 ∷ [] } ∷ [])
     × ((function mixed_tree).handlers ≡ mixed_code ∷ [])
+
+-- set time = e.a; set length = x[0]; set proto = 1; set ttl = 0;
+abbrev pub AFieldIsSet : Type 0
+AFieldIsSet =
+    faults (text 1 (hosts ∷ []) (handler 0 (at 4 4)
+    (tree.Set
+    (tree.Set
+    (tree.Set
+    (tree.Set tree.Start Time (at 5 5) (tree.Column (name (codes "e") (at 5 12)) (plain (codes "a"))))
+    Length (at 5 21) (tree.Cell (name (codes "x") (at 5 30)) (constant 0)))
+    Proto (at 5 40) (constant 1))
+    Ttl (at 5 51) (constant 0)) ∷ []) (at 6 1))
+    ≡ fault ReadOnly (at 5 5) ∷ fault NotInScope (at 5 12) ∷ fault ReadOnly (at 5 21) ∷ fault Unknown (at 5 30) ∷ fault ReadOnly (at 5 40) ∷ []
+
+-- if dst_port < 1024 { drop; } find e = conns[dst_port - 1024] where (rip = src_ip, rp = src_port)
+-- { touch e; set dst_ip = e.sip; set dst_port = e.sp; forward 0; } drop;
+abbrev pub answered_text : tree.Block
+answered_text =
+    tree.Discard
+    (tree.Find
+    (tree.If tree.Start (field DstPort) Less (constant 1024) (tree.Discard tree.Start) tree.Missing)
+    (at 5 1) (plain (codes "e")) (plain (codes "conns")) (tree.Sum Minus (field DstPort) (constant 1024))
+    (tree.Where (record { name = plain (codes "rip"); value = field SrcIp } ∷ record { name = plain (codes "rp"); value = field SrcPort } ∷ []) (at 5 9))
+    (tree.Forward
+    (tree.Set
+    (tree.Set (tree.Touch tree.Start (plain (codes "e"))) DstIp (at 6 1) (entry (codes "sip")))
+    DstPort (at 6 9) (entry (codes "sp")))
+    (constant 0))
+    tree.Missing)
+
+-- chain conns 8 lifetime 9 { map by_in(sip: 32, sp: 16, dip: 32, dp: 16); fixed rip: 32; fixed rp: 16; }
+abbrev pub translator_text : tree.Tree
+translator_text =
+    text 1
+    (chain (codes "conns") 8 9
+    (map_part (codes "by_in") (label (codes "sip") 32 ∷ label (codes "sp") 16 ∷ label (codes "dip") 32 ∷ label (codes "dp") 16 ∷ [])
+    ∷ column_part Fixed (codes "rip") 32
+    ∷ column_part Fixed (codes "rp") 16 ∷ []) ∷ [])
+    (handler 0 (at 4 4) answered_text ∷ []) (at 9 1)
+
+abbrev pub answered : code.Block
+answered =
+    code.If Less (code.Read DstPort) (code.Number 1024) code.Discard code.End
+    (code.Find 0 0 (code.Both operators.Minus (code.Read DstPort) (code.Number 1024))
+    (record { label = 4; given = read W32 SrcIp } ∷ record { label = 5; given = read W16 SrcPort } ∷ []) 0
+    (code.Touch 0 (code.Set DstIp (given W32 (code.Label 0 0)) (code.Set DstPort (given W16 (code.Label 0 1)) (code.Forward (code.Number 0)))))
+    code.End
+    code.Discard)
+
+abbrev pub TheTranslatorIsAFunction : Type 0
+TheTranslatorIsAFunction = (faults translator_text ≡ []) × ((function translator_text).handlers ≡ answered ∷ [])

@@ -1,6 +1,7 @@
 -- What is wrong with the fronts of statements.
 use Rattle.std.specs.Prelude.{ℕ, ◌==◌, Bool, true, not, ◌&&◌, ◌||◌, List, [], ◌++◌, Option, Some, None, length, map}
 use Rattle.std.specs.List.{list_any}
+use Rattle.nf_base.specs.declared.packet.Field.{Field}
 use Rattle.nf_base.specs.declared.decl.ColumnDecl.{ColumnDecl}
 use Rattle.nf_base.specs.declared.decl.ColumnId.{ColumnId}
 use Rattle.nf_base.specs.declared.decl.ColumnId.TheVariants as ids
@@ -12,6 +13,7 @@ use Rattle.nf_tree.specs.declared.place.Name.{Name}
 use Rattle.nf_tree.specs.Tree as tree
 use Rattle.nf_types.specs.declared.fault.TypingKind.TheVariants.{Unknown, Twice, Amount, FreeColumn, ReadOnly, NotInScope}
 use Rattle.nf_types.specs.declared.fault.Fault.{Fault}
+use Rattle.nf_types.specs.Fields.{is_settable}
 use Rattle.nf_types.specs.Names.{is_among}
 use Rattle.nf_types.specs.Faults.{fault_if, each_behind}
 use Rattle.nf_types.specs.declared.objects.Objects.{Objects}
@@ -85,6 +87,10 @@ find_in_faults o xs (Some found) c i gs = value_faults o xs i ++ each_behind (gi
 
 abbrev pub finding_faults : Objects → List Variable → Name → tree.Expression → tree.Guards → List Fault
 finding_faults o xs c i gs = find_in_faults o xs (chain_named o.chains c.bytes) c i (asked gs)
+
+-- a field that is set is none of the time, the length and the protocol
+abbrev pub set_faults : Objects → List Variable → Field → (at : Place) → tree.Expression → List Fault
+set_faults o xs f at v = fault_if (not (is_settable f)) ReadOnly at ++ value_faults o xs v
 
 -- a column that is written is a free one
 abbrev pub written_faults : Option ColumnId → Name → List Fault

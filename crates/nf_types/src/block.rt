@@ -12,7 +12,7 @@ ghost use Rattle.nf_types.specs.View.{variables_of};
 
 use crate::cells::{cells, given_cells, key_cells};
 use crate::code::{
-    chain_with_name, find_code, free, get_code, if_code, new_code, store, touch, write,
+    chain_with_name, find_code, free, get_code, if_code, new_code, set, store, touch, write,
 };
 use crate::objects::Objects;
 use crate::places::{find_places, places};
@@ -312,6 +312,16 @@ pub fn block(
                 variable,
             } => {
                 next = free(alloc, scope, variable, next)?;
+                rest = before
+            }
+            Block::Set {
+                before,
+                field,
+                place: _,
+                value: given,
+            } => {
+                end -= cells(given);
+                next = set(alloc, end, objects, scope, *field, given, next)?;
                 rest = before
             }
             Block::Write {

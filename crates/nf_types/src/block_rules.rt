@@ -12,7 +12,7 @@ use crate::code::chain_with_name;
 use crate::counts::{Room, lookups_left};
 use crate::fault::{Fault, TypingKind, refuse_if};
 use crate::objects::Objects;
-use crate::statement_rules::{binding, find as seek, look_up, make, store, write};
+use crate::statement_rules::{binding, find as seek, look_up, make, set, store, write};
 use crate::text::{FindText, GetText, IfText, NewText};
 use crate::value_rules::{in_scope, value};
 use crate::variables::Variables;
@@ -247,6 +247,15 @@ pub fn block(objects: &Objects, room: Room, scope: &Variables, block: &Block) ->
                 variable,
             } => {
                 found = earlier(in_scope(scope, variable), found);
+                rest = before
+            }
+            Block::Set {
+                before,
+                field,
+                place,
+                value: given,
+            } => {
+                found = earlier(set(objects, scope, *field, *place, given), found);
                 rest = before
             }
             Block::Write {

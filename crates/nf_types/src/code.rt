@@ -4,7 +4,7 @@ ghost use Rattle.std.specs.Prelude.{◌≡◌, ◌+◌, ◌<◌, ◌≤◌, ◌^
 ghost use Rattle.nf_base.specs.Text as text;
 ghost use Rattle.nf_base.specs.View as checked;
 ghost use Rattle.nf_tree.specs.View as syntax;
-ghost use Rattle.nf_types.specs.Blocks.{got, sought, made, wrote, stored, free_of_variable, cell_width};
+ghost use Rattle.nf_types.specs.Blocks.{got, sought, made, set, wrote, stored, free_of_variable, cell_width};
 ghost use Rattle.nf_types.specs.Expressions.{cells, array_named};
 ghost use Rattle.nf_types.specs.Fronts.{look_up_of, finding_of, making_of};
 ghost use Rattle.nf_types.specs.Statements.{chain_named, chain_found};
@@ -13,6 +13,7 @@ ghost use Rattle.nf_types.specs.View.{variables_of, chain_seen};
 ghost use Rattle.std.specs.Option.{option_map};
 
 use crate::cells::cells;
+use crate::field::field_width;
 use crate::name::first_named;
 use crate::objects::Objects;
 use crate::statement::{Finding, LookUp, Making};
@@ -21,6 +22,7 @@ use crate::variables::{Variables, chain_of, number_of};
 use nf_base::code::Code;
 use nf_base::decl::{ChainDecl, ColumnDecl};
 use nf_base::expr::{Comparison, Expr};
+use nf_base::packet::Field;
 use nf_base::width::Width;
 use nf_tree::{Expr as Value, Name};
 use std::alloc::{AllocError, Global};
@@ -156,6 +158,28 @@ pub fn free(
     let var = number_of(scope, &variable.bytes);
     let next = Box::new(alloc, next)?;
     Ok(Code::Free { var, next })
+}
+
+/// A field of the outgoing frame that is given a value, in front of what follows.
+pub fn set(
+    alloc: Global,
+    place: u32,
+    objects: &Objects,
+    scope: &Variables,
+    field: Field,
+    given: &Value,
+    next: Code,
+) -> Result<Code, AllocError>
+    requires places { place + cells (syntax.expression_of given.now) < 2 ^ 32 }
+    requires in_scope { length (variables_of scope.now) < 2 ^ 32 }
+    ensures { IfOk result (λ code. checked.block_of code ≡ set place objects.now (variables_of scope.now) field (syntax.expression_of given.now) (checked.block_of next)) }
+{
+    let given = given_to(alloc, place, objects, scope, field_width(field), given)?;
+    Ok(Code::Set {
+        field,
+        given,
+        next: Box::new(alloc, next)?,
+    })
 }
 
 /// The free column of a variable's entry.

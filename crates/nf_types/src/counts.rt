@@ -96,6 +96,12 @@ pub fn lookups_left(room: u32, block: &Block) -> u32
                 place: _,
                 variable: _,
             } => rest = before,
+            Block::Set {
+                before,
+                field: _,
+                place: _,
+                value: _,
+            } => rest = before,
             Block::Write {
                 before,
                 variable: _,
@@ -189,6 +195,12 @@ pub fn news_left(room: u32, block: &Block) -> u32
                 before,
                 place: _,
                 variable: _,
+            } => rest = before,
+            Block::Set {
+                before,
+                field: _,
+                place: _,
+                value: _,
             } => rest = before,
             Block::Write {
                 before,

@@ -61,7 +61,7 @@ fn wrong_declaration(alloc: Global, kind: TypingKind, faults: &[(&[u8], u32)]) -
 
 #[test]
 fn unknown_names(rt: HostRuntime) {
-    let faults: [(&[u8], u32); 36] = [
+    let faults: [(&[u8], u32); 37] = [
         (b"get e = z.m(1, 2) { }".as_slice(), 9),
         (b"get e = c.z(1, 2) { }".as_slice(), 11),
         (b"get e = c.c(1, 2) { }".as_slice(), 11),
@@ -104,6 +104,7 @@ fn unknown_names(rt: HostRuntime) {
         (b"if z[0] < z[0] { }".as_slice(), 4),
         (b"if v[0] < z[0] { touch e; }".as_slice(), 11),
         (b"if 1 == 1 { } else { forward z[0]; }".as_slice(), 30),
+        (b"set ttl = ttl - z[0];".as_slice(), 17),
     ];
     assert_eq!(rt;
         wrong_statement(rt.alloc(), TypingKind::Unknown, &faults),
@@ -259,7 +260,7 @@ fn free_columns_that_are_given(rt: HostRuntime) {
 
 #[test]
 fn labels_that_are_written(rt: HostRuntime) {
-    let faults: [(&[u8], u32); 6] = [
+    let faults: [(&[u8], u32); 10] = [
         (b"find e = c[0] { e.a = 1; }".as_slice(), 19),
         (b"find e = c[0] { e.k = 1; }".as_slice(), 19),
         (b"find e = c[0] { e.f = z[0]; }".as_slice(), 19),
@@ -272,6 +273,13 @@ fn labels_that_are_written(rt: HostRuntime) {
             b"if 1 == 1 { find e = c[0] { find g = d[0] { e.u = 1; g.y = 1; } } }".as_slice(),
             56,
         ),
+        (b"set time = 1;".as_slice(), 5),
+        (b"set length = z[0];".as_slice(), 5),
+        (b"set proto = e.a;".as_slice(), 5),
+        (
+            b"set src_ip = 1; set dst_port = v[0]; set time = 2; touch e;".as_slice(),
+            42,
+        ),
     ];
     assert_eq!(rt;
         wrong_statement(rt.alloc(), TypingKind::ReadOnly, &faults),
@@ -281,7 +289,7 @@ fn labels_that_are_written(rt: HostRuntime) {
 
 #[test]
 fn variables_that_are_not_in_scope(rt: HostRuntime) {
-    let faults: [(&[u8], u32); 26] = [
+    let faults: [(&[u8], u32); 28] = [
         (b"touch c;".as_slice(), 7),
         (b"touch a;".as_slice(), 7),
         (b"free e;".as_slice(), 6),
@@ -312,6 +320,8 @@ fn variables_that_are_not_in_scope(rt: HostRuntime) {
         (b"v[0] = e.u;".as_slice(), 8),
         (b"if e.u == 1 { find e = c[0] { } }".as_slice(), 4),
         (b"if 1 == e.u { }".as_slice(), 9),
+        (b"set src_ip = e.a;".as_slice(), 14),
+        (b"if 1 == 1 { set dst_port = 1 + e.index; }".as_slice(), 32),
         (
             b"if 1 == 1 { find e = c[0] { } } else { touch e; }".as_slice(),
             46,

@@ -11,6 +11,7 @@ mod column;
 mod counts;
 mod declaration;
 mod fault;
+mod field;
 mod function;
 mod handler;
 mod handler_rules;

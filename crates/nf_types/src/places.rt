@@ -94,6 +94,15 @@ pub fn places_left(room: u32, block: &Block) -> Option<u32>
                 place: _,
                 variable: _,
             } => rest = before,
+            Block::Set {
+                before,
+                field: _,
+                place: _,
+                value,
+            } => {
+                left = value_left(left, value)?;
+                rest = before
+            }
             Block::Write {
                 before,
                 variable: _,

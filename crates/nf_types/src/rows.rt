@@ -1,7 +1,7 @@
 //! Worked rows: what the definitions make of a few trees.
 
 ghost use Rattle.nf_types.specs.Rows.{NoPortIsTooFew, APortHasNoHandler, AVariableIsNotInScope, FaultsStandInTextOrder, AnyPortMayBeForwardedTo, AGetLooksWhereItCan, ANewGivesEachLabelOnce, AFindAsksLabels, NumbersPastTheSizeAreTooMany, ContentsAreTakenToTheWidth, TheFirewallIsAFunction, HandlersStandByPort};
-ghost use Rattle.nf_types.specs.Samples.{ThePolicerIsAFunction, PlacesCountAlongTheText};
+ghost use Rattle.nf_types.specs.Samples.{ThePolicerIsAFunction, PlacesCountAlongTheText, AFieldIsSet, TheTranslatorIsAFunction};
 
 /// `nf x { ports 0; }` has its fault at the number.
 pub fn no_port_is_too_few()
@@ -71,4 +71,14 @@ pub fn the_policer_is_a_function()
 /// Two chains and an array, with look-ups of each kind and cells in each part of them.
 pub fn places_count_along_the_text()
     ensures { PlacesCountAlongTheText }
+{}
+
+/// The time, the length and the protocol may not be set.
+pub fn a_field_is_set()
+    ensures { AFieldIsSet }
+{}
+
+/// A translator of addresses sets fields.
+pub fn the_translator_is_a_function()
+    ensures { TheTranslatorIsAFunction }
 {}

@@ -5,11 +5,12 @@ ghost use Rattle.nf_tree.specs.View as syntax;
 ghost use Rattle.nf_types.specs.Expressions.{value_faults};
 ghost use Rattle.nf_types.specs.Faults.{each_behind, first, fault_in};
 ghost use Rattle.nf_types.specs.Statements.{chain_named, map_named};
-ghost use Rattle.nf_types.specs.StatementFaults.{binding_faults, map_faults_at, amount_faults, look_in_faults, look_up_faults, is_given, is_column_in, given_faults, lacks_label, making_faults, finding_faults, write_at_faults, write_faults, store_faults};
+ghost use Rattle.nf_types.specs.StatementFaults.{binding_faults, map_faults_at, amount_faults, look_in_faults, look_up_faults, is_given, is_column_in, given_faults, lacks_label, making_faults, finding_faults, set_faults, write_at_faults, write_faults, store_faults};
 ghost use Rattle.nf_types.specs.Variables.{variable_named};
 ghost use Rattle.nf_types.specs.View.{variables_of};
 
 use crate::fault::{Fault, TypingKind, refuse_if};
+use crate::field::is_settable;
 use crate::name::{Named, first_named, is_among};
 use crate::objects::{Objects, is_object};
 use crate::statement::{asked, parts};
@@ -17,6 +18,7 @@ use crate::value::column_named;
 use crate::value_rules::{array, value, values, wrong};
 use crate::variables::{Variables, chain_of, is_in_scope};
 use nf_base::decl::{ChainDecl, ColumnDecl, ColumnId};
+use nf_base::packet::Field;
 use nf_tokens::Place;
 use nf_tree::{Expr as Value, Given as Assigned, Guards, Name};
 
@@ -172,6 +174,21 @@ pub fn find(
             each_given(objects, scope, found, asked(guards))
         }
     }
+}
+
+/// A field that is set is none of the time, the length and the protocol.
+#[tactic(auto, using(crate::proofs::First::first_append))]
+pub fn set(
+    objects: &Objects,
+    scope: &Variables,
+    field: Field,
+    place: Place,
+    given: &Value,
+) -> Result<(), Fault>
+    ensures { first (set_faults objects.now (variables_of scope.now) field place (syntax.expression_of given.now)) ≡ fault_in result }
+{
+    refuse_if(!is_settable(field), TypingKind::ReadOnly, place)?;
+    value(objects, scope, given)
 }
 
 /// A column that is written is a free one of a variable's entry.

@@ -118,19 +118,26 @@ drop;\n\
 }\n\
 "
             .as_slice(),
-        b"nf answers {\n\
+        b"nf nat {\n\
 ports 2;\n\
 chain conns 60000 lifetime 60000000000 {\n\
 map by_in(sip: 32, sp: 16, dip: 32, dp: 16); fixed rip: 32; fixed rp: 16;\n\
 }\n\
 on 0 {\n\
-get e = conns.by_in(src_ip, src_port, dst_ip, dst_port) { touch e; forward 1; }\n\
-else { new f = conns(sip = src_ip, sp = src_port, dip = dst_ip, dp = dst_port, rip = dst_ip, rp = dst_port) { forward 1; } }\n\
+get e = conns.by_in(src_ip, src_port, dst_ip, dst_port) {\n\
+touch e; set src_ip = 203.0.113.1; set src_port = e.index + 1024; forward 1;\n\
+} else {\n\
+new f = conns(sip = src_ip, sp = src_port, dip = dst_ip, dp = dst_port, rip = dst_ip, rp = dst_port) {\n\
+set src_ip = 203.0.113.1; set src_port = f.index + 1024; forward 1;\n\
+}\n\
+}\n\
 drop;\n\
 }\n\
 on 1 {\n\
 if dst_port < 1024 { drop; }\n\
-find e = conns[dst_port - 1024] where (rip = src_ip, rp = src_port) { touch e; forward 0; }\n\
+find e = conns[dst_port - 1024] where (rip = src_ip, rp = src_port) {\n\
+touch e; set dst_ip = e.sip; set dst_port = e.sp; forward 0;\n\
+}\n\
 drop;\n\
 }\n\
 }\n\
@@ -187,7 +194,7 @@ fn texts_at_their_limits_are_functions(rt: HostRuntime) {
 
 #[test]
 fn names_go_by_their_roles(rt: HostRuntime) {
-    let texts: [&[u8]; 9] = [
+    let texts: [&[u8]; 10] = [
         b"nf x { ports 1; chain c 8 lifetime 0 { map m(a: 8, b: 8); map n(k: 32); fixed f: 8; free u: 16; } chain d 8 lifetime 0 { map o(y: 8); } array v 4: 8; on 0 { forward 99; } }".as_slice(),
         b"nf x { ports 1; chain c 8 lifetime 0 { map m(a: 8, b: 8); map n(k: 32); fixed f: 8; free u: 16; } chain d 8 lifetime 0 { map o(y: 8); } array v 4: 8; on 0 { get m = c.m(256, 1) { touch m; } get u = c.n(1) { forward u.u; } } }".as_slice(),
         b"nf x { ports 1; chain c 8 lifetime 0 { map m(a: 8, b: 8); map n(k: 32); fixed f: 8; free u: 16; } chain d 8 lifetime 0 { map o(y: 8); } array v 4: 8; on 0 { get x = d.o(time) { touch x; } find o = d[0] { free o; } } }".as_slice(),
@@ -196,6 +203,7 @@ fn names_go_by_their_roles(rt: HostRuntime) {
         b"nf x { ports 1; chain c 8 lifetime 0 { map m(a: 8, b: 8); map n(k: 32); fixed f: 8; free u: 16; } chain d 8 lifetime 0 { map o(y: 8); } array v 4: 8; on 0 { find e = c[v[0]] where (f = 1, a = 2, k = 3) { e.u = e.u + e.f; v[e.index] = e.a; free e; forward e.u; } else { flood; } } }".as_slice(),
         b"nf x { ports 1; chain c 8 lifetime 0 { map m(a: 8, b: 8); map n(k: 32); fixed f: 8; free u: 16; } chain d 8 lifetime 0 { map o(y: 8); } array v 4: 8; on 0 { new e = c(f = 1, k = 2, b = 3, a = 4) { e.u = 1; } taken { find e = d[0] { } } full { get e = c.n(7) { } } } }".as_slice(),
         b"nf x { ports 1; chain c 8 lifetime 0 { map m(a: 8, b: 8); map n(k: 32); fixed f: 8; free u: 16; } chain d 8 lifetime 0 { map o(y: 8); } array v 4: 8; on 0 { v[9] = 300; v[v[v[0]]] = v[1] * 2; } }".as_slice(),
+        b"nf x { ports 1; chain c 8 lifetime 0 { map m(a: 8, b: 8); map n(k: 32); fixed f: 8; free u: 16; } chain d 8 lifetime 0 { map o(y: 8); } array v 4: 8; on 0 { set src_mac = 1; set dst_mac = v[0]; set src_ip = 203.0.113.1; set dst_ip = 0; set ttl = ttl - 1; set src_port = 99999; set dst_port = length; flood; } }".as_slice(),
         b"nf x { ports 1; chain c 8 lifetime 0 { map m(a: 8, b: 8); map n(k: 32); fixed f: 8; free u: 16; } chain d 8 lifetime 0 { map o(y: 8); } array v 4: 8; on 0 { get e = c.m(1, 2) { new g = d(y = e.a) { touch e; touch g; e.u = g.y; } } } }".as_slice(),
     ];
     assert_eq!(rt; first_refused(rt.alloc(), &texts), None);
