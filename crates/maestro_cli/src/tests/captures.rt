@@ -46,32 +46,24 @@ pub enum Frame {
     Segment,
     /// The same without its last byte.
     ShortSegment,
-    /// A UDP frame of 42 bytes without a UDP checksum.
-    Udp(Udp),
+    /// A UDP frame from 9.9.9.9:1 to 128.0.0.N:2.
+    ToHost(u8),
+    /// A UDP frame from 1.1.1.1:N to 2.2.2.2:80.
+    FromPort(u16),
+    /// A UDP frame from 1.1.1.1:1 to 2.2.2.2:2, from one MAC address to another, of which these are the last bytes.
+    Between(u8, u8),
+    /// A UDP frame from an address and a port to others, with this checksum of its IP header.
+    Flow((u32, u16), (u32, u16), u16),
 }
 
-/// The header fields of a UDP frame.
+/// The header fields of a UDP frame without a UDP checksum: each from, then to.
 #[derive(Clone, Copy)]
-pub struct Udp {
-    /// MAC addresses.
-    pub macs: Ends<u64>,
-    /// IP addresses.
-    pub hosts: Ends<u32>,
-    pub ports: Ends<u16>,
+struct Udp {
+    macs: (u64, u64),
+    hosts: (u32, u32),
+    ports: (u16, u16),
     /// The checksum of the IP header.
-    pub sum: u16,
-}
-
-/// Where a frame comes from and where it goes.
-#[derive(Clone, Copy)]
-pub struct Ends<T> {
-    pub from: T,
-    pub to: T,
-}
-
-/// Two ends.
-pub const fn ends<T>(from: T, to: T) -> Ends<T> {
-    Ends { from, to }
+    sum: u16,
 }
 
 /// A time in nanoseconds, and the frame that came then.
@@ -112,16 +104,43 @@ fn push_mac(out: &mut Vec<u8>, mac: u64) -> Result<(), AllocError> {
 // The frame whose header fields these are (RFC 791, RFC 768).
 fn udp_bytes(alloc: Global, udp: Udp) -> Result<Vec<u8>, AllocError> {
     let mut out = Vec::new(alloc);
-    push_mac(&mut out, udp.macs.to)?;
-    push_mac(&mut out, udp.macs.from)?;
+    push_mac(&mut out, udp.macs.1)?;
+    push_mac(&mut out, udp.macs.0)?;
     out.extend_from_slice(b"\x08\x00\x45\x00\x00\x1c\x00\x00\x00\x00\x40\x11")?;
     out.extend_from_slice(&udp.sum.to_be_bytes())?;
-    out.extend_from_slice(&udp.hosts.from.to_be_bytes())?;
-    out.extend_from_slice(&udp.hosts.to.to_be_bytes())?;
-    out.extend_from_slice(&udp.ports.from.to_be_bytes())?;
-    out.extend_from_slice(&udp.ports.to.to_be_bytes())?;
+    out.extend_from_slice(&udp.hosts.0.to_be_bytes())?;
+    out.extend_from_slice(&udp.hosts.1.to_be_bytes())?;
+    out.extend_from_slice(&udp.ports.0.to_be_bytes())?;
+    out.extend_from_slice(&udp.ports.1.to_be_bytes())?;
     out.extend_from_slice(b"\x00\x08\x00\x00")?;
     Ok(out)
+}
+
+fn flow(from: (u32, u16), to: (u32, u16), sum: u16) -> Udp {
+    Udp {
+        macs: (0x0200_0000_0001, 0x0200_0000_0002),
+        hosts: (from.0, to.0),
+        ports: (from.1, to.1),
+        sum,
+    }
+}
+
+fn to_host(n: u8) -> Udp {
+    let last = u32::from(n) % 16;
+    flow(
+        (0x0909_0909, 1),
+        (0x8000_0000 + last, 2),
+        0xe8bf - u16::from(n) % 16,
+    )
+}
+
+fn between(from: u8, to: u8) -> Udp {
+    Udp {
+        macs: (u64::from(from), u64::from(to)),
+        hosts: (0x0101_0101, 0x0202_0202),
+        ports: (1, 2),
+        sum: 0x74cc,
+    }
 }
 
 fn frame_bytes(alloc: Global, frame: Frame) -> Result<Vec<u8>, AllocError> {
@@ -133,7 +152,10 @@ fn frame_bytes(alloc: Global, frame: Frame) -> Result<Vec<u8>, AllocError> {
         Frame::Cut => Vec::from_slice(alloc, query()),
         Frame::Segment => Vec::from_slice(alloc, segment()),
         Frame::ShortSegment => without_last(alloc, segment()),
-        Frame::Udp(udp) => udp_bytes(alloc, udp),
+        Frame::ToHost(n) => udp_bytes(alloc, to_host(n)),
+        Frame::FromPort(n) => udp_bytes(alloc, flow((0x0101_0101, n), (0x0202_0202, 80), 0x74cc)),
+        Frame::Between(from, to) => udp_bytes(alloc, between(from, to)),
+        Frame::Flow(from, to, sum) => udp_bytes(alloc, flow(from, to, sum)),
     }
 }
 

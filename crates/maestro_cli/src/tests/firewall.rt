@@ -30,7 +30,8 @@ const MIRROR: &str = "nf mirror { ports 1; on 0 { forward 0; } }";
 /// A run of a function of one port.
 pub const RUN_ONE: &str = "maestro run x.nf out a.pcap --workers 1";
 
-const RUN_TWO: &str = "maestro run x.nf out a.pcap b.pcap --workers 1";
+/// A run of a function of two ports.
+pub const RUN_TWO: &str = "maestro run x.nf out a.pcap b.pcap --workers 1";
 
 /// The firewall's text.
 pub fn firewall() -> &'static [u8] {

@@ -1,6 +1,6 @@
 // Functions with several tables, expressions and written state, and what runs of them leave.
 use super::calls::call;
-use super::captures::{Frame, Record, Udp, captures, ends};
+use super::captures::{Frame, Record, captures};
 use super::firewall::{RUN_ONE, RUN_TWO, run_two};
 use super::runs::{Ran, wrong_part};
 use crate::Status;
@@ -65,6 +65,33 @@ const POLICER: &str = "nf policer {\n\
 }\n\
 ";
 
+const TRANSLATOR: &str = "nf nat {\n\
+  ports 2;\n\
+  chain conns 1 lifetime 60000000000 {\n\
+    map by_in(sip: 32, sp: 16, dip: 32, dp: 16);\n\
+    fixed rip: 32; fixed rp: 16;\n\
+  }\n\
+  on 0 {\n\
+    get e = conns.by_in(src_ip, src_port, dst_ip, dst_port) {\n\
+      touch e; set src_ip = 203.0.113.1; set src_port = e.index + 1024; forward 1;\n\
+    } else {\n\
+      new f = conns(sip = src_ip, sp = src_port, dip = dst_ip, dp = dst_port,\n\
+                    rip = dst_ip, rp = dst_port) {\n\
+        set src_ip = 203.0.113.1; set src_port = f.index + 1024; forward 1;\n\
+      }\n\
+    }\n\
+    drop;\n\
+  }\n\
+  on 1 {\n\
+    if dst_port < 1024 { drop; }\n\
+    find e = conns[dst_port - 1024] where (rip = src_ip, rp = src_port) {\n\
+      touch e; set dst_ip = e.sip; set dst_port = e.sp; forward 0;\n\
+    }\n\
+    drop;\n\
+  }\n\
+}\n\
+";
+
 const BRIDGE: &str = "nf bridge {\n\
   ports 2;\n\
   chain macs 4 lifetime 10 { map by_mac(m: 48); free at: 8; }\n\
@@ -83,47 +110,52 @@ const BRIDGE: &str = "nf bridge {\n\
 }\n\
 ";
 
-// From 9.9.9.9:1 to 128.0.0.N:2.
-const fn to_host(n: u8) -> Frame {
-    Frame::Udp(Udp {
-        macs: ends(0x0200_0000_0001, 0x0200_0000_0002),
-        hosts: ends(0x0909_0909, 0x8000_0000 + n as u32),
-        ports: ends(1, 2),
-        sum: 0xe8bf - n as u16,
-    })
-}
-
-// From 1.1.1.1:N to 2.2.2.2:80.
-const fn from_port(n: u16) -> Frame {
-    Frame::Udp(Udp {
-        macs: ends(0x0200_0000_0001, 0x0200_0000_0002),
-        hosts: ends(0x0101_0101, 0x0202_0202),
-        ports: ends(n, 80),
-        sum: 0x74cc,
-    })
-}
-
-// From one MAC address to another.
-const fn between(from: u64, to: u64) -> Frame {
-    Frame::Udp(Udp {
-        macs: ends(from, to),
-        hosts: ends(0x0101_0101, 0x0202_0202),
-        ports: ends(1, 2),
-        sum: 0x74cc,
-    })
-}
-
-static RUNS: [Ran; 4] = [
+static RUNS: [Ran; 5] = [
+    Ran {
+        shows: "addresses and ports are translated, and back for the far end alone",
+        line: RUN_TWO,
+        out: "out",
+        text: TRANSLATOR,
+        captures: &[
+            &[(
+                1,
+                Frame::Flow((0x0a00_0001, 1000), (0x0808_0808, 53), 0x60c1),
+            )],
+            &[
+                (
+                    2,
+                    Frame::Flow((0x0808_0808, 53), (0xcb00_7101, 1024), 0x2ec0),
+                ),
+                (
+                    3,
+                    Frame::Flow((0x0808_0404, 53), (0xcb00_7101, 1024), 0x32c4),
+                ),
+            ],
+        ],
+        said: "ran 3 one 1\n",
+        journal: "maestro journal 1 one 1\n0 0 0 to:1 0\n1 0 0 to:0 -\n1 1 0 drop -\n",
+        state: "chain conns greatest 2\n0 2 sip=167772161 sp=1000 dip=134744072 dp=53 rip=134744072 rp=53\n",
+        outputs: &[
+            &[(
+                2,
+                Frame::Flow((0x0808_0808, 53), (0x0a00_0001, 1000), 0x60c1),
+            )],
+            &[(
+                1,
+                Frame::Flow((0xcb00_7101, 1024), (0x0808_0808, 53), 0x2ec0),
+            )],
+        ],
+    },
     Ran {
         shows: "an array counts by port",
         line: RUN_ONE,
         out: "out",
         text: COUNTER,
-        captures: &[&[(1, from_port(1)), (2, from_port(1))]],
+        captures: &[&[(1, Frame::FromPort(1)), (2, Frame::FromPort(1))]],
         said: "ran 2 one 1\n",
         journal: "maestro journal 1 one 1\n0 0 0 to:0 -\n0 1 0 to:0 -\n",
         state: "array hits\n80 2\n",
-        outputs: &[&[(1, from_port(1)), (2, from_port(1))]],
+        outputs: &[&[(1, Frame::FromPort(1)), (2, Frame::FromPort(1))]],
     },
     Ran {
         shows: "differences stop at 0, and what is divided by 0 is 0",
@@ -152,7 +184,7 @@ static RUNS: [Ran; 4] = [
         line: RUN_ONE,
         out: "out",
         text: FREED,
-        captures: &[&[(1, from_port(5))]],
+        captures: &[&[(1, Frame::FromPort(5))]],
         said: "ran 1 one 1\n",
         journal: "maestro journal 1 one 1\n0 0 0 flood 0,0\n",
         state: "chain c greatest 1\n0 1 k=5 x=1 y=0\narray seen\n0 11266\n1 1\n2 2\n3 1\n",
@@ -173,17 +205,20 @@ fn runs_of_the_whole_language(rt: HostRuntime) -> Result<(), Fail> {
     Ok(())
 }
 
-const SIX: &[Record] = &[
-    (1, to_host(1)),
-    (2, to_host(2)),
-    (3, to_host(3)),
-    (4, to_host(4)),
-    (5, to_host(5)),
-    (6, to_host(6)),
+static SIX: [&[Record]; 2] = [
+    &[],
+    &[
+        (1, Frame::ToHost(1)),
+        (2, Frame::ToHost(2)),
+        (3, Frame::ToHost(3)),
+        (4, Frame::ToHost(4)),
+        (5, Frame::ToHost(5)),
+        (6, Frame::ToHost(6)),
+    ],
 ];
 
 fn six() -> &'static [&'static [Record]] {
-    &[&[], SIX]
+    &SIX
 }
 
 // The journal, its first five choices being left open.
@@ -252,11 +287,17 @@ static RISING: Ran = Ran {
     line: RUN_TWO,
     out: "out",
     text: BRIDGE,
-    captures: &[&[(5, between(10, 11))], &[(9, between(11, 10))]],
+    captures: &[
+        &[(5, Frame::Between(10, 11))],
+        &[(9, Frame::Between(11, 10))],
+    ],
     said: "ran 2 one 1\n",
     journal: "maestro journal 1 one 1\n0 0 0 flood 0\n1 0 0 to:0 1\n",
     state: "chain macs greatest 9\n0 5 m=10 at=0\n1 9 m=11 at=1\n",
-    outputs: &[&[(9, between(11, 10))], &[(5, between(10, 11))]],
+    outputs: &[
+        &[(9, Frame::Between(11, 10))],
+        &[(5, Frame::Between(10, 11))],
+    ],
 };
 
 static FALLING: Ran = Ran {
@@ -264,11 +305,17 @@ static FALLING: Ran = Ran {
     line: RUN_TWO,
     out: "out",
     text: BRIDGE,
-    captures: &[&[(5, between(10, 11))], &[(9, between(11, 10))]],
+    captures: &[
+        &[(5, Frame::Between(10, 11))],
+        &[(9, Frame::Between(11, 10))],
+    ],
     said: "ran 2 one 1\n",
     journal: "maestro journal 1 one 1\n0 0 0 flood 3\n1 0 0 to:0 2\n",
     state: "chain macs greatest 9\n2 9 m=11 at=1\n3 5 m=10 at=0\n",
-    outputs: &[&[(9, between(11, 10))], &[(5, between(10, 11))]],
+    outputs: &[
+        &[(9, Frame::Between(11, 10))],
+        &[(5, Frame::Between(10, 11))],
+    ],
 };
 
 fn rising() -> &'static Ran {
