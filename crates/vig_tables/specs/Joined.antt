@@ -31,6 +31,7 @@ pub record IsJoined (size : ℕ) (slots : List (Option Entry)) (m : Keyed) : Typ
   pub there : (key : List ℕ) (i : ℕ) → value_of m.map.pairs key ≡ Some i → IsTrue (has_key m.decl key (entry_at slots i))
   pub back : (key : List ℕ) (i : ℕ) → IsTrue (has_key m.decl key (entry_at slots i)) → value_of m.map.pairs key ≡ Some i
 
+-- Every map is joined with the entries, each index has a row of labels and one of free columns, and the live ones are own.
 pub record AreJoined (decl : ChainDecl) (stamps : Stamps) (maps : List Keyed) (labels free : Grid) : Type 0 where
   pub size : length stamps.slots ≡ decl.size
   pub label_rows : length labels.rows ≡ decl.size

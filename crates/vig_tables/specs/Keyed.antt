@@ -9,6 +9,7 @@ pub record Keyed : Type 0 where
   pub decl : MapDecl
   pub map : Bindings
 
+-- a map by its parts
 abbrev pub keyed : MapDecl → Bindings → Keyed
 keyed decl map = record { decl = decl; map = map }
 
@@ -16,10 +17,11 @@ keyed decl map = record { decl = decl; map = map }
 abbrev pub key_of : List ℕ → Keyed → List ℕ
 key_of labels m = key_in m.decl labels
 
--- the index to which it is bound
+-- the index to which it is bound, if it is
 abbrev pub value_for : List ℕ → Keyed → Option ℕ
 value_for labels m = value_of m.map.pairs (key_of labels m)
 
+-- whether it is bound
 abbrev pub is_bound : List ℕ → Keyed → Bool
 is_bound labels m = is_some (value_for labels m)
 

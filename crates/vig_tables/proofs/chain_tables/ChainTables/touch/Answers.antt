@@ -5,7 +5,7 @@ use Rattle.vig_tables.proofs.chain_tables.ChainTables.touch.Goals as goal
 pub invariant_of-self : goal.invariant_of-self
 invariant_of-self c =
     let at = stamped c.self.inside.chain c.args.i c.stamp.result c.is_some.result c.stamp.ensures.value c.is_some.ensures c.if-is_some.true in
-    rw c.touch.ensures (touched_joined _ _ _ _ _ c.args.time c.args.i at.0 c.self.invariant at.1)
+    rw c.touch.ensures (touched_joined _ _ _ _ _ _ c.args.i at.0 c.self.invariant at.1)
 
 pub returns-then-is_some : goal.returns-then-is_some
 returns-then-is_some c =
