@@ -43,9 +43,22 @@ const FREED: &str = "nf v { ports 1; chain c 1 lifetime 9 { map m(k: 16); fixed 
             free f; e.y = 9; touch e; seen[1] = e.y + e.x + e.k + e.index + 1;
         }
         get g = c.m(src_port) { seen[2] = 1; } else { seen[2] = 2; }
-        new h = c(k = src_port, x = 1) { seen[3] = h.x; }
+        new h = c(k = src_port, x = 1) { seen[3] = h.x + e.x; }
     }
     flood;
+} }";
+
+// What is given to a label, a guard, a key, an index or a cell is taken modulo two to its width; an index that is
+// looked up and a port are compared whole.
+const WRAPPED: &str =
+    "nf v { ports 1; chain c 1 lifetime 9 { map m(k: 16); fixed x: 8; } array seen 4 : 16; on 0 {
+    new e = c(k = src_port + 65536, x = 300) {
+        get g = c.m(src_port + 131072) { seen[0] = g.x; }
+        find f = c[e.index] where (x = 556) { seen[1] = f.k; }
+        find q = c[e.index + 65536] { seen[2] = 1; } else { seen[2] = 2; }
+        seen[65539] = 70000;
+    }
+    forward 65536;
 } }";
 
 const POLICER: &str = "nf policer {\n\
@@ -110,7 +123,18 @@ const BRIDGE: &str = "nf bridge {\n\
 }\n\
 ";
 
-static RUNS: [Ran; 5] = [
+static RUNS: [Ran; 6] = [
+    Ran {
+        shows: "values are taken to the width of where they go",
+        line: RUN_ONE,
+        out: "out",
+        text: WRAPPED,
+        captures: &[&[(1, Frame::FromPort(5))]],
+        said: "ran 1 one 1\n",
+        journal: "maestro journal 1 one 1\n0 0 0 drop 0\n",
+        state: "chain c greatest 1\n0 1 k=5 x=44\narray seen\n0 44\n1 5\n2 2\n3 4464\n",
+        outputs: &[&[]],
+    },
     Ran {
         shows: "addresses and ports are translated, and back for the far end alone",
         line: RUN_TWO,
