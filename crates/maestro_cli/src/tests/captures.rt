@@ -97,8 +97,10 @@ fn without_last(alloc: Global, bytes: &[u8]) -> Result<Vec<u8>, AllocError> {
 }
 
 fn push_mac(out: &mut Vec<u8>, mac: u64) -> Result<(), AllocError> {
-    let [_, _, bytes @ ..] = mac.to_be_bytes();
-    out.extend_from_slice(&bytes)
+    let high = mac / 4_294_967_296 % 65_536;
+    let low = mac % 4_294_967_296;
+    out.extend_from_slice(&(high as u16).to_be_bytes())?;
+    out.extend_from_slice(&(low as u32).to_be_bytes())
 }
 
 // The frame whose header fields these are (RFC 791, RFC 768).
