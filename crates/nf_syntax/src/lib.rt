@@ -14,10 +14,3 @@ mod text;
 
 pub use fault::{ParseFault, SyntaxKind};
 pub use text::{one_fault, one_mark, parse};
-
-#[cfg(test)]
-mod fault_tests;
-#[cfg(test)]
-mod limit_tests;
-#[cfg(test)]
-mod tests;

@@ -28,8 +28,3 @@ mod variables;
 
 pub use fault::{CheckFault, TypingKind};
 pub use function::check;
-
-#[cfg(test)]
-mod fault_tests;
-#[cfg(test)]
-mod tests;

@@ -7,53 +7,17 @@ use std::alloc::{AllocError, Global};
 use std::test::Fail;
 
 // A text, and what is said of it; the places were counted by hand.
-const BAD_TEXTS: [(&[u8], &str); 45] = [
+const BAD_TEXTS: [(&[u8], &str); 14] = [
     (b"", "refused S4 at 1:1"),
-    (b" \t\r\n# nothing", "refused S4 at 2:10"),
     (b"\xff\xfe\x00\x01", "refused S1 at 1:1"),
-    (
-        b"\xef\xbb\xbfnf x { ports 1; on 0 { drop; } }",
-        "refused S1 at 1:1",
-    ),
-    (
-        b"nf x { ports 1; on 0 { drop; } }\x00",
-        "refused S1 at 1:33",
-    ),
-    (b"nf x { ports 1; on 0 { drop; }", "refused S4 at 1:31"),
-    (b"nf x { ports 1; # on 0 { drop; } }", "refused S4 at 1:35"),
-    (b"nf x { ports 1; on 0 { drop; } } nf", "refused S3 at 1:34"),
-    (b"nf x { ports 1; on 0 { drop } }", "refused S3 at 1:29"),
     (
         b"nf x { ports 1; on 0 { drop; drop; } }",
         "refused S3 at 1:30",
     ),
-    (b"nf drop { ports 1; on 0 { drop; } }", "refused S3 at 1:4"),
     (b"nf x { ports 0; }", "refused T07 at 1:14"),
     (b"nf x { ports 1; }", "refused T08 at 1:17"),
     (
-        b"nf x { ports 5; on 0 { } on 1 { } on 2 { } on 3 { } on 4 { } }",
-        "refused T07 at 1:14",
-    ),
-    (b"nf x { ports 2; on 0 { } }", "refused T08 at 1:26"),
-    (
-        b"nf x { ports 1; on 0 { } on 0 { } }",
-        "refused T02 at 1:29",
-    ),
-    (
-        b"nf x { ports 1; on 0 { } on 1 { } }",
-        "refused T07 at 1:29",
-    ),
-    (b"nf x { ports 01; on 0 { } }", "refused S2 at 1:14"),
-    (
         b"nf x { ports 1; on 0 { forward 18446744073709551616; } }",
-        "refused S2 at 1:32",
-    ),
-    (
-        b"nf x { ports 1; on 0 { forward 0xA; } }",
-        "refused S2 at 1:32",
-    ),
-    (
-        b"nf x { ports 1; on 0 { forward 0.0.0; } }",
         "refused S2 at 1:32",
     ),
     (
@@ -61,64 +25,16 @@ const BAD_TEXTS: [(&[u8], &str); 45] = [
         "refused T06 at 1:30",
     ),
     (
-        b"nf x { ports 1; on 0 { get e = c.m(1) { } } }",
-        "refused T01 at 1:32",
-    ),
-    (
-        b"nf x { ports 1; chain c 0 lifetime 1 { map m(a: 8); } on 0 { } }",
-        "refused T07 at 1:25",
-    ),
-    (
-        b"nf x { ports 1; chain c 65537 lifetime 1 { map m(a: 8); } on 0 { } }",
-        "refused T07 at 1:25",
-    ),
-    (
-        b"nf x { ports 1; chain c 1 lifetime 1 { map m(a: 24); } on 0 { } }",
-        "refused T07 at 1:49",
-    ),
-    (
-        b"nf x { ports 1; chain c 1 lifetime 1 { map m(a: 8, a: 8); } on 0 { } }",
-        "refused T02 at 1:52",
-    ),
-    (
-        b"nf x { ports 1; chain c 1 lifetime 1 { map m(a: 8); } on 0 { get e = c.m(1, 2) { } } }",
-        "refused T03 at 1:78",
-    ),
-    (
         b"nf x { ports 1; chain c 1 lifetime 1 { map m(a: 8); } on 0 { new e = c() { } } }",
         "refused T03 at 1:72",
-    ),
-    (
-        b"nf x { ports 1; chain c 1 lifetime 1 { map m(a: 8); } on 0 { new e = c(b = 1) { } } }",
-        "refused T01 at 1:72",
     ),
     (
         b"nf x { ports 1; chain c 1 lifetime 1 { map m(a: 8); } on 0 { new c = c(a = 1) { } } }",
         "refused T02 at 1:66",
     ),
     (
-        b"nf x { ports 1; chain c 1 lifetime 1 { map m(a: 8); } chain c 1 lifetime 1 { map m(a: 8); } on 0 { } }",
-        "refused T02 at 1:61",
-    ),
-    (
         b"nf x { ports 1; chain c 1 lifetime 1 { map m(a: 8); free b: 8; } on 0 { new e = c(a = 1, b = 2) { } } }",
         "refused T04 at 1:90",
-    ),
-    (
-        b"nf x { ports 1; array c 0 : 8; on 0 { } }",
-        "refused T07 at 1:25",
-    ),
-    (
-        b"nf x { ports 1; array a 1 : 8 = { 1, 2 }; on 0 { } }",
-        "refused T07 at 1:38",
-    ),
-    (
-        b"nf x { ports 1; on 0 { if ttl { } } }",
-        "refused S3 at 1:31",
-    ),
-    (
-        b"nf x { ports 1; on 0 { set ttl 1; } }",
-        "refused S3 at 1:32",
     ),
     (
         b"nf x { ports 1; on 0 { set proto = 1; } }",
@@ -129,24 +45,8 @@ const BAD_TEXTS: [(&[u8], &str); 45] = [
         "refused T05 at 1:80",
     ),
     (
-        b"nf x { ports 1; on 0 { forward c[1]; } }",
-        "refused T01 at 1:32",
-    ),
-    (
-        b"nf x { ports 1; on 0 { forward 0 + ; } }",
-        "refused S3 at 1:36",
-    ),
-    (
-        b"nf x { ports 1; on 0 { forward (0; } }",
-        "refused S3 at 1:34",
-    ),
-    (
         b"nf x { ports 1; on 0 { forward (((((((((((((((((((((((((((((((((",
         "refused S5 at 1:64",
-    ),
-    (
-        b"nf a23456789012345678901234567890123 { ports 1; on 0 { } }",
-        "refused S5 at 1:4",
     ),
     (b"nf x {\n  ports 1;\n}\n", "refused T08 at 3:1"),
 ];

@@ -1,8 +1,8 @@
-use super::*;
-use crate::fault_tests::is_fault;
+//! The functions of texts.
 use nf_base::code::Code;
 use nf_base::func::Func;
 use nf_syntax::parse;
+use nf_types::{CheckFault, TypingKind, check};
 use std::alloc::{AllocError, Global};
 
 const FIREWALL: &[u8] = b"nf fw {\n\
@@ -30,6 +30,14 @@ pub fn checked(alloc: Global, text: &[u8]) -> Option<Result<Func, CheckFault>> {
         return None;
     };
     Some(check(alloc, &tree))
+}
+
+/// Whether a text has a tree, and this is the first fault of its types.
+pub fn is_fault(alloc: Global, text: &[u8], kind: TypingKind, line: u32, column: u32) -> bool {
+    match checked(alloc, text) {
+        Some(Err(fault)) => fault == CheckFault::Typing { kind, line, column },
+        _ => false,
+    }
 }
 
 fn is_good(alloc: Global, text: &[u8]) -> bool {

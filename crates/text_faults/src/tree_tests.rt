@@ -1,7 +1,10 @@
-use super::*;
+//! The trees of texts.
+use crate::function_tests::repeated;
 use nf_base::packet::Field;
+use nf_syntax::{ParseFault, SyntaxKind, parse};
 use nf_tokens::Place;
 use nf_tree::{Block, Declaration, Expr, Part};
+use std::alloc::Global;
 use std::test::*;
 
 fn stands(place: Place, line: u32, column: u32) -> bool {
@@ -189,4 +192,33 @@ fn all_forms_of_numbers_are_read(rt: HostRuntime) {
         Ok(tree) => assert_eq!(rt; tree.ports.value, 258),
         Err(_) => assert!(rt; false),
     }
+}
+
+/// Whether a text is refused for its length.
+fn is_too_long(alloc: Global, text: &[u8]) -> bool {
+    let fault = ParseFault::Syntax {
+        kind: SyntaxKind::Limit,
+        line: 1,
+        column: 1,
+    };
+    match parse(alloc, text) {
+        Err(found) => found == fault,
+        Ok(_) => false,
+    }
+}
+
+#[test]
+fn a_block_as_long_as_the_text_is_read(rt: HostRuntime) {
+    let front = b"nf x { ports 1; on 0 { get e = c.m(src_ip) { ";
+    let Ok(mut text) = repeated(rt.alloc(), front, b"touch e;", 131065, b"} } }") else {
+        assert!(rt; false);
+        return;
+    };
+    for _ in 0..6 {
+        assert!(rt; text.push(b' ').is_ok());
+    }
+    assert_eq!(rt; text.len(), 1048576);
+    assert!(rt; parse(rt.alloc(), text.as_slice()).is_ok());
+    assert!(rt; text.push(b' ').is_ok());
+    assert!(rt; is_too_long(rt.alloc(), text.as_slice()));
 }
