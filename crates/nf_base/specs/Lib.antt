@@ -4,6 +4,8 @@ pub mod Laid
 pub mod Rest
 pub mod Functions
 pub mod Limits
+pub mod Fits
+pub mod FitsOnce
 pub mod Values
 pub mod Chains
 pub mod Context

@@ -1,6 +1,7 @@
 -- The limits that the declared types keep.
-use Rattle.std.specs.Prelude.{ℕ, ◌+◌, ◌<◌, ◌≤◌, List, [], ◌∷◌, length}
+use Rattle.std.specs.Prelude.{ℕ, ◌+◌, ◌<◌, ◌≤◌, List, [], ◌∷◌, length, All}
 use Rattle.nf_base.specs.declared.code.Code.{Code}
+use Rattle.nf_base.specs.declared.decl.MapDecl.{MapDecl}
 use Rattle.nf_base.specs.declared.decl.ChainDecl.{ChainDecl}
 use Rattle.nf_base.specs.Text.{Block, End, Forward, Flood, Discard, Get, Find, New, If, Touch, Free, Set, Write, Store}
 use Rattle.nf_base.specs.View.{block_of}
@@ -45,6 +46,14 @@ IsWithinLimits code = (news (block_of code) ≤ 16) × (lookups (block_of code) 
 abbrev pub maps_in : List ChainDecl → ℕ
 maps_in [] = 0
 maps_in (decl ∷ decls) = length decl.maps + maps_in decls
+
+-- no key has more parts than a key may have
+abbrev pub HaveShortKeys : List MapDecl → Type 0
+HaveShortKeys decls = All (λ (decl : MapDecl). decl.parts ≤ 8) decls
+
+-- no key of any chain has more parts than a key may have
+abbrev pub HaveAllShortKeys : List ChainDecl → Type 0
+HaveAllShortKeys decls = All (λ (decl : ChainDecl). HaveShortKeys decl.maps) decls
 
 -- a queue, and how many there are
 abbrev pub IsShare : ℕ → ℕ → Type 0

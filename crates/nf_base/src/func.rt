@@ -1,5 +1,7 @@
 ghost use Rattle.std.specs.Prelude.{◌≡◌, ◌≤◌, length, map, IfOk};
-ghost use Rattle.nf_base.specs.Limits.{IsWithinLimits, maps_in};
+ghost use Rattle.nf_base.specs.Fits.{AllFit};
+ghost use Rattle.nf_base.specs.FitsOnce.{AllFit-prop};
+ghost use Rattle.nf_base.specs.Limits.{IsWithinLimits, maps_in, HaveAllShortKeys};
 ghost use Rattle.nf_base.specs.View.{block_of};
 
 use crate::code::Code;
@@ -25,6 +27,8 @@ pub struct Func {
     pub handlers: Limited<Handler, 4>,
     pub ghost some_port: { 1 ≤ length handlers },
     pub ghost maps: { maps_in chains ≤ 16 },
+    pub ghost keys: { HaveAllShortKeys chains },
+    pub ghost fits: { AllFit chains (map (λ h. block_of h.code) handlers) } by { AllFit-prop chains (map (λ h. block_of h.code) handlers) },
 }
 
 impl Handler {
