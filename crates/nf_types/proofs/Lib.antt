@@ -7,3 +7,5 @@ pub mod Few
 pub mod Small
 pub mod Counted
 pub mod Steps
+pub mod Sized
+pub mod Fitting
