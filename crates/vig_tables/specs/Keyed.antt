@@ -48,7 +48,3 @@ pub record AreChangedBelow (n : ℕ) (Changed : Keyed → Keyed → Type 0) (old
   pub count : length new ≡ length old
   pub each : (k : ℕ) (d : Keyed) → k < n → k < length old → Changed (slice_index_or old k d) (slice_index_or new k d)
   pub rest : (k : ℕ) (d : Keyed) → n ≤ k → slice_index_or new k d ≡ slice_index_or old k d
-
--- no key has more parts than a key may have
-abbrev pub HaveShortKeys : List MapDecl → Type 0
-HaveShortKeys decls = All (λ (decl : MapDecl). decl.parts ≤ 8) decls

@@ -1,5 +1,5 @@
 -- What the tables of a function are seen as, a state over a share, and what their calls do.
-use Rattle.std.specs.Prelude.{◌≡◌, ℕ, ◌-◌, Bool, true, false, not, nat_lt, IsTrue, List, [], ◌∷◌, length, map, Option, Some, None, MatchBool, MatchOption, if◌then◌else◌, slice_get, slice_set, All}
+use Rattle.std.specs.Prelude.{◌≡◌, ℕ, ◌-◌, Bool, true, false, not, nat_lt, IsTrue, List, [], ◌∷◌, length, map, Option, Some, None, MatchBool, MatchOption, if◌then◌else◌, slice_get, slice_set}
 use Rattle.nf_base.specs.declared.decl.ChainDecl.{ChainDecl}
 use Rattle.nf_base.specs.declared.state.Chain.{Chain}
 use Rattle.nf_base.specs.declared.state.State.{State}
@@ -9,7 +9,6 @@ use Rattle.nf_base.specs.Runs.{none_past}
 use Rattle.vig_chain.specs.Stamps.{Nowhere, Somewhere}
 use Rattle.vig_tables.specs.declared.created.Created.{Created}
 use Rattle.vig_tables.specs.declared.created.Created.TheVariants.{Made, Taken, Full}
-use Rattle.vig_tables.specs.Keyed.{HaveShortKeys}
 use Rattle.vig_tables.specs.Table.{Table, found, has_taken, is_open, can_enter, entered}
 
 -- A state beside the declarations of its chains, and of how many queues' shares its own indices are the one of which
@@ -113,7 +112,3 @@ with_cell array i v arrays = in_array (slice_get arrays array)
 pub record IsOfShare (queue of : ℕ) (t : Table) : Type 0 where
   pub same_queue : t.queue ≡ queue
   pub same_of : t.of ≡ of
-
--- no key of any chain has more parts than a key may have
-abbrev pub HaveAllShortKeys : List ChainDecl → Type 0
-HaveAllShortKeys decls = All (λ (decl : ChainDecl). HaveShortKeys decl.maps) decls

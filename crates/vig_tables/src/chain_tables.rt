@@ -4,9 +4,9 @@ ghost use Rattle.std.specs.Bool.{OnTrue, OnFalse};
 ghost use Rattle.std.specs.Option.{option_map};
 ghost use Rattle.nf_base.specs.Chains.{has_label, has_labels, touched, freed};
 ghost use Rattle.nf_base.specs.Context.{or_zero};
+ghost use Rattle.nf_base.specs.Limits.{HaveShortKeys};
 ghost use Rattle.nf_base.specs.Runs.{none_past};
 ghost use Rattle.vig_chain.specs.Stamps.{Somewhere, Nowhere};
-ghost use Rattle.vig_tables.specs.Keyed.{HaveShortKeys};
 ghost use Rattle.vig_tables.specs.Table.{opened, with_chain, entry, is_open, found, found_at, Creates, can_enter, entered, column_of, with_column, without_past};
 ghost use Rattle.vig_tables.specs.Slots.{labelled, live};
 

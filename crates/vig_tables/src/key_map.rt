@@ -2,8 +2,9 @@
 ghost use Rattle.std.specs.Prelude.{◌≡◌, ◌≤◌, ◌<◌, [], length, take, drop, is_some, IsSome, IsTrue, IfOk, map};
 ghost use Rattle.std.specs.List.{AllZip, list_any};
 ghost use Rattle.nf_base.specs.Chains.{key_in};
+ghost use Rattle.nf_base.specs.Limits.{HaveShortKeys};
 ghost use Rattle.vig_map.specs.Bindings.{bindings_of, value_of, is_bindable, IsPut, IsErased};
-ghost use Rattle.vig_tables.specs.Keyed.{key_of, value_for, is_bound, keyed, AreBindable, AreBound, HaveShortKeys, IsBoundTo, IsUnbound};
+ghost use Rattle.vig_tables.specs.Keyed.{key_of, value_for, is_bound, keyed, AreBindable, AreBound, IsBoundTo, IsUnbound};
 
 use nf_base::decl::MapDecl;
 use nf_base::key::Key;

@@ -5,9 +5,10 @@ ghost use Rattle.std.specs.Option.{option_map};
 ghost use Rattle.nf_base.specs.Chains.{touched, freed};
 ghost use Rattle.nf_base.specs.Context.{cell_at, or_zero};
 ghost use Rattle.nf_base.specs.Functions.{function_of};
+ghost use Rattle.nf_base.specs.Limits.{HaveAllShortKeys};
 ghost use Rattle.nf_base.specs.Step.{opening_cells, expired_state};
 ghost use Rattle.vig_tables.specs.Table.{Table, opened, entry, found, found_at, column_of, entered, with_chain, with_column, without_past};
-ghost use Rattle.vig_tables.specs.Whole.{opened_whole, with_state, table_at, changed, found_in, found_among, Fits, CreatesIn, can_enter_in, IsFull, is_due, number_of, with_cell, HaveAllShortKeys};
+ghost use Rattle.vig_tables.specs.Whole.{opened_whole, with_state, table_at, changed, found_in, found_among, Fits, CreatesIn, can_enter_in, IsFull, is_due, number_of, with_cell};
 
 use crate::chain_tables::ChainTables;
 use crate::created::Created;
@@ -47,7 +48,6 @@ impl Model for Tables {
 impl Tables {
     /// The tables of a function that has handled nothing yet.
     pub fn new(alloc: Global, func: &Func, share: Share) -> Result<Tables, AllocError>
-        requires { HaveAllShortKeys func.now.chains }
         ensures { IfOk result (λ tables.
             tables ≡ opened_whole (function_of func.now) share.queue share.of) }
     {
