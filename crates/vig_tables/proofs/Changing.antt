@@ -96,6 +96,13 @@ written_is decl s maps labels free i column v stamp j at = rw (stands decl s map
 pub not_written : (decl : ChainDecl) (s : Stamps) (maps : List Keyed) (labels free : Grid) (i column v : ℕ) → AreJoined decl s maps labels free → stamp_at s.slots i ≡ None → table_of decl s labels free ≡ with_column i column v (table_of decl s labels free)
 not_written decl s maps labels free i column v j none = rw (stands_not decl s maps labels free i j none) refl
 
+-- the same by the column's number among the free columns
+pub column_written : (decl : ChainDecl) (s : Stamps) (maps : List Keyed) (labels free : Grid) (i column v stamp : ℕ) → AreJoined decl s maps labels free → stamp_at s.slots i ≡ Some stamp → table_of decl s labels (with_row i (slice_set (row_at free i) column v) free) ≡ with_chain (written column v i (record { slots = entries s labels free; greatest = s.greatest })) (table_of decl s labels free)
+column_written decl s maps labels free i column v stamp j at = rw (stands decl s maps labels free i stamp j at, free_set s.slots labels.rows free.rows i (slice_set (row_at free i) column v), at) refl
+
+pub no_column_written : (decl : ChainDecl) (s : Stamps) (maps : List Keyed) (labels free : Grid) (i column v : ℕ) → AreJoined decl s maps labels free → stamp_at s.slots i ≡ None → table_of decl s labels free ≡ with_chain (written column v i (record { slots = entries s labels free; greatest = s.greatest })) (table_of decl s labels free)
+no_column_written decl s maps labels free i column v j none = rw (stands_not decl s maps labels free i j none) refl
+
 some_of : (o : Option ℕ) → IsSome o → (stamp : ℕ) × (o ≡ Some stamp)
 some_of None live = absurd (grind arith)
 some_of (Some stamp) live = (stamp, refl)

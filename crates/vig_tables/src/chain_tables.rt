@@ -2,8 +2,8 @@
 ghost use Rattle.std.specs.Prelude.{◌≡◌, ◌≤◌, ◌<◌, length, not, IsTrue, IfOk, MatchBool, slice_get, replicate};
 ghost use Rattle.std.specs.Bool.{OnTrue, OnFalse};
 ghost use Rattle.std.specs.Option.{option_map};
-ghost use Rattle.nf_base.specs.Chains.{has_label, has_labels, touched, freed};
-ghost use Rattle.nf_base.specs.Context.{or_zero};
+ghost use Rattle.nf_base.specs.Chains.{has_label, has_labels, touched, freed, written};
+ghost use Rattle.nf_base.specs.Context.{or_zero, label_of, free_of};
 ghost use Rattle.nf_base.specs.Limits.{HaveShortKeys};
 ghost use Rattle.nf_base.specs.Runs.{none_past};
 ghost use Rattle.vig_chain.specs.Stamps.{Somewhere, Nowhere};
@@ -203,6 +203,35 @@ impl ChainTables {
         if self.chain.stamp(i).is_some() {
             let free = column - self.decl.labels.len();
             self.free.set(i, free, value);
+        }
+    }
+
+    /// A label of the entry at an index, 0 where there is none.
+    pub fn label(&self, i: u32, label: u32) -> u64
+        ensures { result ≡ label_of label (entry self.now i) }
+    {
+        if self.chain.stamp(i).is_none() {
+            return 0;
+        }
+        number_at(self.labels.row(i), label)
+    }
+
+    /// A free column of the entry at an index, 0 where there is none.
+    pub fn column(&self, i: u32, column: u32) -> u64
+        ensures { result ≡ free_of column (entry self.now i) }
+    {
+        if self.chain.stamp(i).is_none() {
+            return 0;
+        }
+        number_at(self.free.row(i), column)
+    }
+
+    /// Writes a free column of the entry at an index, by its number among the free columns, if there are both.
+    pub fn set_column(&mut self, i: u32, column: u32, value: u64)
+        ensures { self.new ≡ with_chain (written column value i self.old.chain) self.old }
+    {
+        if self.chain.stamp(i).is_some() {
+            self.free.set(i, column, value);
         }
     }
 

@@ -2,8 +2,8 @@
 ghost use Rattle.std.specs.Prelude.{◌≡◌, ◌≤◌, ◌<◌, length, map, IfOk, option_and_then, slice_get, slice_set};
 ghost use Rattle.std.specs.Bool.{OnTrue, OnFalse};
 ghost use Rattle.std.specs.Option.{option_map};
-ghost use Rattle.nf_base.specs.Chains.{touched, freed};
-ghost use Rattle.nf_base.specs.Context.{cell_at, or_zero};
+ghost use Rattle.nf_base.specs.Chains.{touched, freed, written};
+ghost use Rattle.nf_base.specs.Context.{cell_at, or_zero, label_of, free_of};
 ghost use Rattle.nf_base.specs.Functions.{function_of};
 ghost use Rattle.nf_base.specs.Limits.{HaveAllShortKeys};
 ghost use Rattle.nf_base.specs.Step.{opening_cells, expired_state};
@@ -165,6 +165,27 @@ impl Tables {
         }
     }
 
+    /// A label of the entry at an index of a chain, 0 where there is none.
+    pub fn label(&self, chain: u32, i: u32, label: u32) -> u64
+        ensures { result ≡ number_of (λ t. label_of label (entry t i)) (table_at self.now chain) }
+    {
+        match self.chains.as_slice().get(chain as usize) {
+            Some(tables) => tables.label(i, label),
+            None => 0,
+        }
+    }
+
+    /// A free column of the entry at an index of a chain, by its number among the free columns, 0 where there is
+    /// none.
+    pub fn column(&self, chain: u32, i: u32, column: u32) -> u64
+        ensures { result ≡ number_of (λ t. free_of column (entry t i)) (table_at self.now chain) }
+    {
+        match self.chains.as_slice().get(chain as usize) {
+            Some(tables) => tables.column(i, column),
+            None => 0,
+        }
+    }
+
     /// A cell of an array, 0 where there is none.
     pub fn read(&self, array: u32, i: u64) -> u64
         ensures { result ≡ or_zero (cell_at self.now.state.arrays array i) }
@@ -234,6 +255,18 @@ impl Tables {
             self.chains
                 .item_mut(chain as usize)
                 .set_cell(i, column, value);
+        }
+    }
+
+    /// Writes a free column of the entry at an index of a chain, by its number among the free columns, if there are
+    /// both.
+    pub fn set_column(&mut self, chain: u32, i: u32, column: u32, value: u64)
+        ensures { self.new ≡ changed chain (λ t. with_chain (written column value i t.chain) t) self.old }
+    {
+        if (chain as usize) < self.chains.len() {
+            self.chains
+                .item_mut(chain as usize)
+                .set_column(i, column, value);
         }
     }
 
