@@ -3,10 +3,10 @@ use Rattle.std.proofs.Common.{◌≡◌, ◌≢◌, ◌∙◌, ap, sym, refl, su
 use Rattle.std.specs.Prelude.{Option, Some, None, slice_set, IsSome}
 use Rattle.std.proofs.Math.ListN.{length-set}
 use Rattle.std.proofs.lemmas.Option.{none-some, same_Some}
-use Rattle.std.proofs.lemmas.Bool.{cases_eq, cases_lt}
+use Rattle.std.proofs.lemmas.Bool.{cases_eq}
 use Rattle.vig_map.specs.declared.slots.Pair.{Pair}
 use Rattle.vig_map.specs.Hashes.{home}
-use Rattle.vig_map.specs.Slots.{slot_at, pairs_of, AreMet, AreMetButOver, AreApart, AreSamePairs, Carries}
+use Rattle.vig_map.specs.Slots.{slot_at, pairs_of, AreMet, AreMetButOver, AreSamePairs}
 use Rattle.vig_map.proofs.SlotLemmas.{slot-set_same, slot-set_other, slot_within, some_from, no_none, count-set, weight}
 
 -- a slot made empty is a gap

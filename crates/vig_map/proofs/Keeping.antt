@@ -1,5 +1,5 @@
 -- What is true of a map's fields, and what its calls do to the pairs.
-use Rattle.std.proofs.Common.{◌≡◌, ◌≢◌, ◌∙◌, ap, sym, refl, subst, arith, ℕ, ◌+◌, ◌-◌, ◌*◌, ◌<◌, ◌≤◌, List, [], length, Bool, true, false, inl, inr}
+use Rattle.std.proofs.Common.{◌≡◌, ◌≢◌, ◌∙◌, ap, sym, refl, arith, ℕ, ◌+◌, ◌-◌, ◌*◌, ◌<◌, ◌≤◌, List, [], length, Bool, true, false, inl, inr}
 use Rattle.std.specs.Prelude.{Option, Some, None, slice_set, replicate, is_some, is_none, nat_lt}
 use Rattle.std.specs.Option.{option_map}
 use Rattle.std.proofs.Math.ListN.{length-set}
@@ -9,12 +9,11 @@ use Rattle.std.proofs.lemmas.Bool.{cases_eq, and_left, and_from, not_from_true, 
 use Rattle.vig_map.specs.declared.slots.Pair.{Pair}
 use Rattle.vig_map.specs.Bindings.{Bindings, bindings_of, value_of, is_bindable, IsPut, IsErased}
 use Rattle.vig_map.specs.Hashes.{home}
-use Rattle.vig_map.specs.Slots.{slot_at, pairs_of, IsStop, AreMet, AreMetButOver, AreSamePairs}
+use Rattle.vig_map.specs.Slots.{slot_at, pairs_of, IsStop, AreMet, AreSamePairs}
 use Rattle.vig_map.specs.Kept.{IsKept}
 use Rattle.vig_map.proofs.SlotLemmas.{slot-set_same, slot-set_other, slot_within, slot_replicate, pairs_replicate, count-set, weight}
 use Rattle.vig_map.proofs.Values.{value_is, value_none, same_value}
 use Rattle.vig_map.proofs.Searches.{home_below, missed, stop_near, put_met}
-use Rattle.vig_map.proofs.Gaps.{gapped}
 
 no_pair : (n i : ℕ) (p : Pair) → slot_at (replicate n None) i ≡ Some p → ⊥
 no_pair n i p at = none-some p (sym (slot_replicate n i) ∙ at)

@@ -1,15 +1,13 @@
 -- What the search for a key finds, and what a pair put where it stops leaves.
-use Rattle.std.proofs.Common.{◌≡◌, ◌≢◌, ◌∙◌, ap, sym, refl, subst, arith, ℕ, ◌+◌, ◌-◌, ◌*◌, ◌/◌, ◌%◌, ◌^◌, ◌<◌, ◌≤◌, List, length, inl, inr}
+use Rattle.std.proofs.Common.{◌≡◌, ◌≢◌, ◌∙◌, ap, sym, subst, arith, ℕ, ◌+◌, ◌-◌, ◌/◌, ◌^◌, ◌<◌, ◌≤◌, List, length, inl, inr}
 use Rattle.std.specs.Prelude.{Option, Some, None, slice_set, IsSome}
 use Rattle.std.proofs.lemmas.Option.{none-some, same_Some}
 use Rattle.std.proofs.lemmas.Bool.{cases_eq, cases_lt}
 use Rattle.std.proofs.lemmas.Nat.{mod_below}
 use Rattle.vig_map.specs.declared.slots.Pair.{Pair}
-use Rattle.vig_map.specs.Bindings.{value_of}
 use Rattle.vig_map.specs.Hashes.{home, hash_of}
-use Rattle.vig_map.specs.Slots.{slot_at, pairs_of, IsPassed, IsStop, AreMet, AreApart}
+use Rattle.vig_map.specs.Slots.{slot_at, pairs_of, IsPassed, IsStop, AreMet}
 use Rattle.vig_map.proofs.SlotLemmas.{slot-set_same, slot-set_other, some_from, no_none, filled_run}
-use Rattle.vig_map.proofs.Values.{value_is}
 
 pub home_below : (homes : ℕ) (key : List ℕ) → 0 < homes → home homes key < homes
 unfolding home

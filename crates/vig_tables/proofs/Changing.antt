@@ -1,21 +1,18 @@
 -- Entries that are renewed, given up or written.
-use Rattle.std.proofs.Common.{◌≡◌, ◌≢◌, ◌∙◌, ap, sym, refl, subst, arith, ℕ, ◌-◌, ◌<◌, ◌↔◌, Bool, true, false, List, length, get_or, map, inl, inr}
-use Rattle.std.specs.Prelude.{Option, Some, None, slice_set, IsTrue, IsSome, max, All}
+use Rattle.std.proofs.Common.{◌≡◌, ◌∙◌, ap, sym, refl, subst, arith, ℕ, ◌-◌, ◌<◌, ◌↔◌, Bool, true, false, List, length, inl, inr}
+use Rattle.std.specs.Prelude.{Option, Some, None, slice_set, IsTrue, IsSome}
 use Rattle.std.specs.List.{AllZip}
-use Rattle.std.specs.Str.{bytes_eq}
-use Rattle.std.proofs.lemmas.Option.{none-some}
 use Rattle.std.proofs.lemmas.List.{length-set}
 use Rattle.std.proofs.lemmas.Bool.{cases_eq, both_ways, false≢true}
 use Rattle.nf_base.specs.declared.decl.ChainDecl.{ChainDecl}
 use Rattle.nf_base.specs.declared.state.Entry.{Entry}
-use Rattle.nf_base.specs.declared.state.Chain.{Chain}
 use Rattle.nf_base.specs.Chains.{entry_at, touched, written}
 use Rattle.nf_base.specs.Chains as chains
 use Rattle.vig_chain.specs.Stamps.{Stamps, stamp_at, is_own, put, freed, next_stamp, is_past_at, Nowhere}
 use Rattle.vig_tables.specs.Grid.{Grid, row_at, with_row}
 use Rattle.vig_tables.specs.Keyed.{Keyed, AreBound, IsUnbound}
-use Rattle.vig_tables.specs.Slots.{slots_of, live}
-use Rattle.vig_tables.specs.Table.{Table, with_chain, with_column, without_past}
+use Rattle.vig_tables.specs.Slots.{live}
+use Rattle.vig_tables.specs.Table.{with_chain, with_column, without_past}
 use Rattle.vig_tables.specs.Joined.{entries, table_of, IsJoined, AreJoined}
 use Rattle.vig_tables.proofs.Changes.{true_after, same_after}
 use Rattle.vig_tables.proofs.Entries.{stamp-set_other, stamp_set, free_set, none_again, live-set, weight, entry_within}

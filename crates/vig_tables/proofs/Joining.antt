@@ -1,6 +1,6 @@
 -- Keys bound in a map, and the entries that have them.
-use Rattle.std.proofs.Common.{◌≡◌, ◌≢◌, ◌∙◌, ap, sym, refl, subst, arith, ℕ, zero, suc, ◌+◌, ◌<◌, ◌↔◌, Bool, true, false, ◌||◌, List, [], ◌∷◌, length, map, inl, inr, replicate}
-use Rattle.std.specs.Prelude.{Option, Some, None, slice_set, IsTrue, is_some, All}
+use Rattle.std.proofs.Common.{◌≡◌, ◌≢◌, ◌∙◌, ap, sym, refl, arith, ℕ, zero, suc, ◌+◌, ◌<◌, ◌↔◌, Bool, true, false, ◌||◌, List, [], ◌∷◌, length, map, inl, inr, replicate}
+use Rattle.std.specs.Prelude.{Option, Some, None, slice_set, is_some, All}
 use Rattle.std.specs.List.{list_any}
 use Rattle.std.specs.Str.{bytes_eq}
 use Rattle.std.proofs.lemmas.Option.{none-some, same_Some}
@@ -13,7 +13,6 @@ use Rattle.nf_base.specs.Chains.{key_in, has_key, index_from, is_bound, is_taken
 use Rattle.vig_map.specs.Bindings.{value_of, bindings_of}
 use Rattle.vig_tables.specs.Keyed as keyed
 use Rattle.vig_tables.specs.Keyed.{Keyed, key_of, value_for, IsBoundTo, IsUnbound}
-use Rattle.vig_tables.specs.Slots.{live}
 use Rattle.vig_tables.specs.Joined.{IsJoined}
 use Rattle.vig_tables.proofs.Entries.{entry-set_same, entry-set_other, entry_within, entry_none, live-set, live_none, weight}
 

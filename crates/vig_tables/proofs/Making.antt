@@ -1,6 +1,6 @@
 -- Entries that are made.
-use Rattle.std.proofs.Common.{◌≡◌, ◌≢◌, ◌∙◌, ap, sym, refl, subst, arith, ℕ, zero, suc, ◌<◌, Bool, true, false, ◌&&◌, List, [], ◌∷◌, length, get_or, map, replicate, inl, inr}
-use Rattle.std.specs.Prelude.{Option, Some, None, slice_set, IsTrue, is_some, is_none, nat_lt, max, All}
+use Rattle.std.proofs.Common.{◌≡◌, ◌∙◌, ap, sym, refl, subst, arith, ℕ, ◌<◌, true, false, List, [], ◌∷◌, length, get_or, map, replicate, inl, inr}
+use Rattle.std.specs.Prelude.{Option, Some, None, slice_set, IsTrue, is_some, is_none, nat_lt, All}
 use Rattle.std.specs.List.{AllZip, list_any}
 use Rattle.std.proofs.lemmas.Option.{none-some}
 use Rattle.std.proofs.lemmas.List.{length-set, length-replicate}
@@ -15,11 +15,10 @@ use Rattle.nf_base.specs.Chains.{is_free, entry_at}
 use Rattle.nf_base.specs.Operations.{zeros}
 use Rattle.vig_chain.specs.Stamps as stamps
 use Rattle.vig_chain.specs.Stamps.{Stamps, stamp_at, is_own, is_empty, put, next_stamp}
-use Rattle.vig_map.specs.Bindings.{value_of, is_bindable, bindings_of}
+use Rattle.vig_map.specs.Bindings.{bindings_of}
 use Rattle.vig_tables.specs.Grid.{Grid, with_row}
 use Rattle.vig_tables.specs.Keyed as keyed
 use Rattle.vig_tables.specs.Keyed.{Keyed, key_of, value_for, AreBindable, IsBoundTo}
-use Rattle.vig_tables.specs.Slots.{slots_of, live}
 use Rattle.vig_tables.specs.Table.{entered, has_taken, opened}
 use Rattle.vig_tables.specs.Joined.{entries, table_of, IsJoined, AreJoined}
 use Rattle.vig_tables.proofs.Changes.{true_after, same_after}

@@ -3,7 +3,7 @@ use Rattle.std.proofs.Common.{◌≡◌, ◌∙◌, ap, sym, refl, arith, ℕ, z
 use Rattle.std.specs.Prelude.{slice_set}
 use Rattle.std.proofs.lemmas.List.{length-append, length-drop, length-take-le, drop-drop, drop-take, drop-append-le, take_at, drop_at, take-append-le, take-take, take-set-le, drop-set-lt, drop-set-add, take-replicate, drop-replicate, set-get_or, set_past}
 use Rattle.std.proofs.lemmas.Nat.{mul-le}
-use Rattle.vig_tables.specs.Grid.{Grid, rows_of, grid_of, row_at, with_row}
+use Rattle.vig_tables.specs.Grid.{rows_of}
 
 -- the end of a row is within the cells of all
 pub row_end : (count width i : ℕ) → i < count → i * width + width ≤ count * width

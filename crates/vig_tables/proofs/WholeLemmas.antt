@@ -1,19 +1,18 @@
 -- The tables of all chains, as a state over a share.
-use Rattle.std.proofs.Common.{◌≡◌, ◌∙◌, ap, sym, refl, subst, arith, ℕ, zero, suc, ◌-◌, ◌<◌, Bool, true, false, List, [], ◌∷◌, length, map, drop, take, get_or}
+use Rattle.std.proofs.Common.{◌≡◌, ◌∙◌, ap, sym, refl, subst, ℕ, ◌-◌, Bool, true, false, List, [], ◌∷◌, length, map}
 use Rattle.std.specs.Prelude.{Option, Some, None, slice_get, slice_set, All, nat_lt, if◌then◌else◌}
 use Rattle.std.specs.Option.{option_map}
 use Rattle.std.specs.Bool.{OnTrue}
-use Rattle.std.proofs.lemmas.List.{map-set, set-get_or, get_or-map}
+use Rattle.std.proofs.lemmas.List.{map-set, set-get_or}
 use Rattle.std.proofs.lemmas.List.Elements.{All-map, All-set}
 use Rattle.std.proofs.lemmas.Option.{slice_get-map, get_or_from_slice_get, slice_get_within}
 use Rattle.nf_base.specs.declared.decl.ChainDecl.{ChainDecl}
 use Rattle.nf_base.specs.declared.state.Chain.{Chain}
-use Rattle.nf_base.specs.declared.state.State.{State}
 use Rattle.nf_base.specs.Step.{expired, opening_chain}
 use Rattle.vig_tables.specs.declared.created.Created.{Created}
 use Rattle.vig_tables.specs.declared.created.Created.TheVariants.{Made, Taken, Full}
 use Rattle.vig_tables.specs.Table.{Table, Creates, entered, opened, found, without_past}
-use Rattle.vig_tables.specs.Whole.{Whole, table_at, changed, CreatesIn, with_table, with_state, whole_of, IsOfShare, found_in, found_among}
+use Rattle.vig_tables.specs.Whole.{table_at, changed, CreatesIn, with_table, whole_of, IsOfShare, found_in, found_among}
 
 own_share : (tables : List Table) (queue of k : ℕ) (t : Table) → All (IsOfShare queue of) tables → slice_get tables k ≡ Some t → IsOfShare queue of t
 own_share tables queue of k t all at = subst (λ (x : Table). IsOfShare queue of x) (get_or_from_slice_get tables k t t at) (all k t (slice_get_within tables k t at))

@@ -2,7 +2,6 @@
 use Rattle.std.specs.Prelude.{◌≡◌, ℕ, IsTrue, List, length, map, Option, Some, All}
 use Rattle.nf_base.specs.declared.decl.ChainDecl.{ChainDecl}
 use Rattle.nf_base.specs.declared.state.Entry.{Entry}
-use Rattle.nf_base.specs.declared.state.Chain.{Chain}
 use Rattle.nf_base.specs.Chains.{has_key, entry_at}
 use Rattle.vig_chain.specs.Stamps.{Stamps, stamp_at, is_own}
 use Rattle.vig_map.specs.Bindings.{value_of}

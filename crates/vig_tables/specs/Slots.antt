@@ -1,5 +1,5 @@
 -- The entries of a chain, by their parts.
-use Rattle.std.specs.Prelude.{◌≡◌, ℕ, ◌+◌, Bool, IsTrue, List, [], ◌∷◌, Option, Some, None}
+use Rattle.std.specs.Prelude.{ℕ, ◌+◌, List, [], ◌∷◌, Option, Some, None}
 use Rattle.nf_base.specs.declared.state.Entry.{Entry}
 
 -- what stands at an index, by its stamp, its labels and its free columns

@@ -4,7 +4,7 @@ use Rattle.nf_base.specs.declared.decl.ChainDecl.{ChainDecl}
 use Rattle.nf_base.specs.declared.decl.MapDecl.{MapDecl}
 use Rattle.nf_base.specs.declared.state.Chain.{Chain}
 use Rattle.nf_base.specs.declared.state.Entry.{Entry}
-use Rattle.nf_base.specs.Chains.{index_from, is_taken, is_free, entry_at, has_labels, put, touched, freed, written, unexpired}
+use Rattle.nf_base.specs.Chains.{index_from, is_taken, is_free, entry_at, has_labels, put, written, unexpired}
 use Rattle.nf_base.specs.Context.{label_of, free_of}
 use Rattle.nf_base.specs.Operations.{zeros}
 use Rattle.nf_base.specs.Step.{opening_chain}

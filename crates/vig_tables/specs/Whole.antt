@@ -4,7 +4,7 @@ use Rattle.nf_base.specs.declared.decl.ChainDecl.{ChainDecl}
 use Rattle.nf_base.specs.declared.state.Chain.{Chain}
 use Rattle.nf_base.specs.declared.state.State.{State}
 use Rattle.nf_base.specs.Text.{Function}
-use Rattle.nf_base.specs.Step.{opening, expired_state}
+use Rattle.nf_base.specs.Step.{opening}
 use Rattle.nf_base.specs.Runs.{none_past}
 use Rattle.vig_chain.specs.Stamps.{Nowhere, Somewhere}
 use Rattle.vig_tables.specs.declared.created.Created.{Created}

@@ -1,4 +1,4 @@
-use Rattle.std.proofs.Common.{◌≡◌, ◌∙◌, sym, refl, subst, arith, ℕ, ◌<◌, length, inl, inr}
+use Rattle.std.proofs.Common.{◌∙◌, sym, refl, subst, arith, ℕ, ◌<◌, length, inl, inr}
 use Rattle.std.proofs.lemmas.Option.{none-some}
 use Rattle.std.proofs.lemmas.Bool.{cases_eq}
 use Rattle.vig_map.specs.Slots.{IsPassed}

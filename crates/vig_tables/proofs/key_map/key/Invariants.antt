@@ -1,5 +1,5 @@
 -- the front of the part was pushed
-use Rattle.std.proofs.Common.{◌≡◌, take, drop}
+use Rattle.std.proofs.Common.{◌≡◌, take}
 use Rattle.nf_base.specs.Chains.{key_in}
 use Rattle.vig_tables.proofs.key_map.key.Given as goal
 

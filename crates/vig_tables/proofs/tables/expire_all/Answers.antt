@@ -1,7 +1,7 @@
 use Rattle.std.proofs.Common.{◌∙◌, ◌<◌, ap, arith, length}
 use Rattle.std.specs.Prelude.{slice_set}
 use Rattle.std.proofs.lemmas.List.Edits.{map_over_more}
-use Rattle.vig_tables.specs.Table.{Table, without_past}
+use Rattle.vig_tables.specs.Table.{without_past}
 use Rattle.vig_tables.proofs.tables.expire_all.Goals as goal
 
 pub loop-k-preserved : goal.loop-k-preserved

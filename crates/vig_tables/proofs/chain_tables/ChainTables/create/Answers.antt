@@ -1,6 +1,6 @@
-use Rattle.std.proofs.Common.{◌∙◌, ap, sym, refl, true, List}
+use Rattle.std.proofs.Common.{◌∙◌, ap, sym, refl, true}
 use Rattle.std.specs.List.{list_any}
-use Rattle.vig_tables.specs.Keyed.{Keyed, is_bound}
+use Rattle.vig_tables.specs.Keyed.{is_bound}
 use Rattle.vig_tables.proofs.Reading.{full_is, open_is}
 use Rattle.vig_tables.proofs.Making.{bindable, open_rows, entered_joined, entered_is, bound_taken}
 use Rattle.vig_tables.proofs.chain_tables.ChainTables.create.Goals as goal

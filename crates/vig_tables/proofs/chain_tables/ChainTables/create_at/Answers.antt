@@ -1,8 +1,7 @@
-use Rattle.std.proofs.Common.{◌∙◌, ap, sym, refl, true, false, List, Bool, ◌&&◌}
-use Rattle.std.specs.Prelude.{not}
+use Rattle.std.proofs.Common.{◌∙◌, ap, sym, refl}
 use Rattle.std.specs.List.{list_any}
-use Rattle.std.proofs.lemmas.Bool.{and_left, and_right, and_from}
-use Rattle.vig_tables.specs.Keyed.{Keyed, is_bound}
+use Rattle.std.proofs.lemmas.Bool.{and_right}
+use Rattle.vig_tables.specs.Keyed.{is_bound}
 use Rattle.vig_tables.proofs.Reading.{open_is}
 use Rattle.vig_tables.proofs.Making.{bindable, open_rows, entered_joined, entered_is, bound_taken}
 use Rattle.vig_tables.proofs.chain_tables.ChainTables.create_at.Goals as goal

@@ -1,5 +1,4 @@
 use Rattle.std.proofs.Common.{refl}
-use Rattle.nf_base.specs.Context.{label_of}
 use Rattle.vig_tables.proofs.Reading.{none_stamped, not_none_stamped, rows_within, stands, stands_not}
 use Rattle.vig_tables.proofs.chain_tables.ChainTables.label.Goals as goal
 

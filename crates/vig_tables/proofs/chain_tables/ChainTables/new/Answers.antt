@@ -1,4 +1,4 @@
-use Rattle.std.proofs.Common.{◌≡◌, ◌∙◌, ap, map, [], List}
+use Rattle.std.proofs.Common.{◌∙◌, ap, map, []}
 use Rattle.nf_base.specs.declared.decl.MapDecl.{MapDecl}
 use Rattle.vig_map.specs.Bindings.{bindings_of}
 use Rattle.vig_tables.specs.Keyed.{keyed}

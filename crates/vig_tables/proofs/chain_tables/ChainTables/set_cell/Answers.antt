@@ -1,6 +1,3 @@
-use Rattle.std.proofs.Common.{◌-◌, length}
-use Rattle.std.specs.Prelude.{slice_set}
-use Rattle.vig_tables.specs.Grid.{row_at}
 use Rattle.vig_tables.proofs.Reading.{stamped, unstamped}
 use Rattle.vig_tables.proofs.Changing.{written_joined, written_is, not_written}
 use Rattle.vig_tables.proofs.chain_tables.ChainTables.set_cell.Goals as goal

@@ -1,4 +1,4 @@
-use Rattle.std.proofs.Common.{◌≡◌, ◌∙◌, ap, refl, ℕ, ◌*◌, List}
+use Rattle.std.proofs.Common.{◌∙◌, ap, refl, ℕ, ◌*◌, List}
 use Rattle.vig_tables.specs.Grid.{Grid, grid_of}
 use Rattle.vig_tables.proofs.RowLemmas.{rows_of_zeros}
 use Rattle.vig_tables.proofs.rows.Rows.new.Goals as goal

@@ -1,4 +1,4 @@
-use Rattle.std.proofs.Common.{◌≡◌, ◌<◌, ap, sym, refl, arith, ℕ, ◌+◌, ◌*◌, List, length}
+use Rattle.std.proofs.Common.{ap, sym, refl, arith, ℕ, ◌+◌, ◌*◌, List}
 use Rattle.std.proofs.lemmas.Nat.{mul-add-lt}
 use Rattle.vig_tables.specs.Grid.{Grid}
 use Rattle.vig_tables.proofs.RowLemmas.{cell_written, not_written, length-rows_of}

@@ -1,4 +1,4 @@
-use Rattle.std.proofs.Common.{◌<◌, ◌≤◌, ap, refl, arith, length}
+use Rattle.std.proofs.Common.{◌<◌, ◌≤◌, refl, arith, length}
 use Rattle.std.proofs.lemmas.Option.{slice_get_read, slice_get_past}
 use Rattle.vig_tables.proofs.WholeLemmas.{at_none, created_in}
 use Rattle.vig_tables.proofs.tables.Tables.create.Goals as goal
