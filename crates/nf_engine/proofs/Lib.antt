@@ -1,0 +1,9 @@
+pub mod Tabled
+pub mod Own
+pub mod Created
+pub mod Creating
+pub mod Reaching
+pub mod Traced
+pub mod Ending
+pub mod Looking
+pub mod Scoped

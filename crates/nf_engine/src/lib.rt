@@ -1,0 +1,13 @@
+//! The interpreter of a handler on the tables of a function, in place and without memory of its own.
+#![tactic(auto)]
+
+mod context;
+mod creation;
+mod handling;
+mod labels;
+mod operations;
+mod scope;
+mod statements;
+mod values;
+
+pub use handling::{Handled, handle, replay};
