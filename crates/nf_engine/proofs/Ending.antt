@@ -26,7 +26,7 @@ use Rattle.nf_engine.specs.declared.context.Halt.{Halt}
 use Rattle.nf_engine.specs.declared.context.Halt.TheVariants.{ShareFull, BadChoice}
 use Rattle.vig_tables.specs.Whole.{Whole, with_state}
 use Rattle.nf_engine.specs.Choices.{Choices, AreLeft, IsFront}
-use Rattle.nf_engine.specs.Fits.{Fits, AllFit}
+use Rattle.nf_base.specs.Fits.{Fits, AllFit}
 use Rattle.nf_engine.specs.Going.{Owner, Going, Flow, Through, EndedBy, NoFlow, Stopped, going}
 use Rattle.nf_engine.specs.Moves.{AllOwn, Takes, CanHalt, flow_in, halted}
 use Rattle.nf_engine.specs.Seen.{owner_in}
@@ -171,5 +171,5 @@ begins_so f w w' time vars edits gone of_func none plain =
     ∙ ap (λ (es : Edits). record { state = expired_state time f.chains w.state; vars = []; edits = es; left = [] }) plain
 
 -- the handler of a port fits where all do
-pub fits_at : (f : Func) (i : ℕ) (h : Handler) → i < length f.handlers → h ≡ get_or f.handlers i h → AllFit (function_of f) → Fits f.chains (block_of h.code)
+pub fits_at : (f : Func) (i : ℕ) (h : Handler) → i < length f.handlers → h ≡ get_or f.handlers i h → AllFit f.chains (map (λ (g : Handler). block_of g.code) f.handlers) → Fits f.chains (block_of h.code)
 fits_at f i h lt at all = let q = rw (handler_at f.handlers i h lt at) at (all i) in q

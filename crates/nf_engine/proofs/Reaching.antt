@@ -13,7 +13,7 @@ use Rattle.nf_engine.specs.declared.statements.Next.TheVariants.{On, Into}
 use Rattle.nf_engine.specs.declared.context.Halt.{Halt}
 use Rattle.nf_engine.specs.declared.context.Halt.TheVariants.{ShareFull, BadChoice}
 use Rattle.nf_engine.specs.Choices.{Choices, AreLeft, IsFront}
-use Rattle.nf_engine.specs.Fits.{Fits}
+use Rattle.nf_base.specs.Fits.{Fits}
 use Rattle.nf_engine.specs.Going as meant
 use Rattle.nf_engine.specs.Going.{Owner, Going, flow_then, going_then, going}
 use Rattle.nf_engine.specs.Seen.{frame, owner_of, input_of, goes_from, context_of}

@@ -12,7 +12,7 @@ use Rattle.nf_base.specs.Operations as step
 use Rattle.vig_tables.specs.Table.{Table, entry, found, found_at, with_chain}
 use Rattle.vig_tables.specs.Whole as whole
 use Rattle.vig_tables.specs.Whole.{Whole, table_at, changed, with_state, number_of}
-use Rattle.nf_engine.specs.Fits.{AreFor}
+use Rattle.nf_base.specs.Fits.{AreFor}
 use Rattle.nf_engine.specs.Seen.{on_state}
 
 past_none : {X : Type 0} (xs : List X) (k : ℕ) → slice_get xs k ≡ None → length xs ≤ k

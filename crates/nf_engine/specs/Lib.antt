@@ -1,7 +1,6 @@
 pub mod Choices
 pub mod Going
 pub mod Kinds
-pub mod Fits
 pub mod Seen
 pub mod Moves
 pub mod Whole

@@ -16,7 +16,7 @@ use Rattle.nf_engine.specs.declared.context.Making.TheVariants as made
 use Rattle.nf_engine.specs.declared.statements.Next.{Next}
 use Rattle.nf_engine.specs.declared.statements.Next.TheVariants.{Over, On, Into}
 use Rattle.nf_engine.specs.Choices.{Choices, AreLeft, IsFront, AreGiven}
-use Rattle.nf_engine.specs.Fits.{Fits}
+use Rattle.nf_base.specs.Fits.{Fits}
 use Rattle.nf_engine.specs.Going as meant
 use Rattle.nf_engine.specs.Going.{Owner, Going, NoFlow, Stopped, going, falls, ends, going_then}
 use Rattle.nf_engine.specs.Seen.{input_of, owner_of}

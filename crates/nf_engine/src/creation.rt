@@ -1,7 +1,7 @@
 // The entry that a `new` makes.
 ghost use Rattle.std.specs.Prelude.{◌≡◌, ◌<◌, ◌≤◌, length, slice_get, None, Some, IfSome, IfNone};
 ghost use Rattle.nf_engine.specs.Choices.{IsFront};
-ghost use Rattle.nf_engine.specs.Fits.{AreFor};
+ghost use Rattle.nf_base.specs.Fits.{AreFor};
 ghost use Rattle.nf_engine.specs.Going.{making};
 ghost use Rattle.nf_engine.specs.Seen.{context_of, input_of, owner_of, frame, frame_of};
 ghost use Rattle.nf_engine.specs.Moves.{Makes};

@@ -3,7 +3,6 @@ ghost use Rattle.std.specs.Prelude.{◌≡◌, ◌<◌, ◌≤◌, [], length, S
 ghost use Rattle.nf_base.specs.Step.{step, handled, no_edits};
 ghost use Rattle.nf_base.specs.Functions.{function_of};
 ghost use Rattle.nf_base.specs.declared.done.Action.TheVariants.{Skip};
-ghost use Rattle.nf_engine.specs.Fits.{AllFit};
 ghost use Rattle.nf_engine.specs.Moves.{AllOwn};
 ghost use Rattle.nf_engine.specs.Seen.{frame, owner_in};
 ghost use Rattle.nf_engine.specs.Whole.{action_of, IfDone, IfShareFull, StopsAt, NeverStops, ComesTo, HaltsBy};
@@ -33,7 +32,6 @@ pub enum Handled {
 /// comes to its end: where no index is free the handler goes on in its `full` block.
 pub fn handle(tables: &mut Tables, func: &Func, packet: &Packet) -> Handled
     requires of_func { tables.old.decls ≡ func.now.chains }
-    requires fits { AllFit (function_of func.now) }
     requires port { packet.now.id.port < length func.now.handlers }
     ensures done { IfDone result (λ done.
         step (function_of func.now) tables.old.state packet.now done.picks
@@ -61,7 +59,6 @@ pub fn handle(tables: &mut Tables, func: &Func, packet: &Packet) -> Handled
 pub fn replay(tables: &mut Tables, func: &Func, packet: &Packet, picks: &Picks) -> Option<Done>
     requires of_func { tables.old.decls ≡ func.now.chains }
     requires whole { tables.old.of ≡ 1 }
-    requires fits { AllFit (function_of func.now) }
     requires port { packet.now.id.port < length func.now.handlers }
     ensures done { IfSome result (λ done.
         step (function_of func.now) tables.old.state packet.now picks.now
@@ -95,7 +92,6 @@ fn run(
 ) -> Result<Done, Halt>
     requires of_func { tables.old.decls ≡ func.now.chains }
     requires whole { IfSome choices (λ _. tables.old.of ≡ 1) }
-    requires fits { AllFit (function_of func.now) }
     requires port { packet.now.id.port < length func.now.handlers }
     ensures done { IfOk result (λ done. ComesTo (function_of func.now) (owner_in tables.old) choices.entry tables.old.state packet.now.id packet.now.time fields done tables.new.state) }
     ensures halt { IfErr result (λ halt. HaltsBy (function_of func.now) (owner_in tables.old) choices.entry tables.old.state packet.now.id packet.now.time fields halt) }

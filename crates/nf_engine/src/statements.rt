@@ -2,7 +2,7 @@
 ghost use Rattle.std.specs.Prelude.{◌≡◌, ◌≢◌, ◌≤◌, ◌+◌, length, IfOk, IfErr, false, true};
 ghost use Rattle.nf_base.specs.Limits.{news, lookups};
 ghost use Rattle.nf_base.specs.View.{block_of};
-ghost use Rattle.nf_engine.specs.Fits.{Fits};
+ghost use Rattle.nf_base.specs.Fits.{Fits};
 ghost use Rattle.nf_engine.specs.Kinds.{kind_of, is_new, LookUp, Search, Creation, Branch, Edit, ColumnWrite, CellWrite};
 ghost use Rattle.nf_engine.specs.Seen.{context_of, frame, frame_of, goes_from, owner_of};
 ghost use Rattle.nf_engine.specs.Moves.{Takes, goes_on, goes_on_if, went, IsPart, LeavesRoom, HasRoom, UsesRoom, CanHalt};

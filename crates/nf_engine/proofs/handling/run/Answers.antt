@@ -6,7 +6,7 @@ use Rattle.nf_engine.proofs.Ending.{run_done, run_halted, input_is, owner_is, be
 use Rattle.nf_engine.proofs.handling.run.Goals as goal
 
 pub exec-requires-clause-fits : goal.exec-requires-clause-fits
-exec-requires-clause-fits c = rw c.as_slice.ensures.value (fits_at c.args.func.now c.args.packet.now.id.port c.item-handler.result.now c.requires.port c.item-handler.ensures c.requires.fits)
+exec-requires-clause-fits c = rw c.as_slice.ensures.value (fits_at c.args.func.now c.args.packet.now.id.port c.item-handler.result.now c.requires.port c.item-handler.ensures c.args.func.now.fits)
 
 pub returns-in-Ok-clause-done : goal.returns-in-Ok-clause-done
 returns-in-Ok-clause-done c =
