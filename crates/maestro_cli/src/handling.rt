@@ -1,15 +1,22 @@
 //! All packets, handled one after another.
-ghost use Rattle.std.specs.Prelude.{◌≡◌, ◌<◌, IfOk, OnOk, length};
+ghost use Rattle.std.specs.Prelude.{◌≡◌, ◌<◌, IfOk, OnOk, Some, length};
 ghost use Rattle.std.specs.List.{AllByRecursion};
 ghost use Rattle.nf_base.specs.Functions.{function_of};
+ghost use Rattle.nf_base.specs.Step.{step};
+ghost use Rattle.nf_engine.specs.Seen.{frame};
 ghost use Rattle.maestro_cli.specs.Handling.{Handles, HandlesOne};
 
 use capture_order::arrival::Arrival;
+use nf_base::done::Done;
 use nf_base::func::Func;
+use nf_base::packet::Packet;
+use nf_base::share::Share;
 use nf_base::state::State;
-use nf_meaning::undivided::Undivided;
+use nf_engine::Handled as Outcome;
+use nf_engine::handle;
 use run_files::Handled;
 use std::alloc::{AllocError, Global};
+use vig_tables::Tables;
 
 /// What the packets of a run came to, and the state that they left.
 #[derive(Drop)]
@@ -18,20 +25,34 @@ pub struct Course {
     pub state: State,
 }
 
+// Handles a packet in tables with the whole share, which is never full: a handler goes on in its `full` block there.
+fn handle_whole(tables: &mut Tables, func: &Func, packet: &Packet) -> Done
+    requires of_func { tables.old.decls ≡ func.now.chains }
+    requires whole { tables.old.of ≡ 1 }
+    requires port { packet.now.id.port < length func.now.handlers }
+    ensures steps { step (function_of func.now) tables.old.state packet.now result.picks ≡ Some (record { state = tables.new.state; done = result }) }
+    ensures same { frame tables.new ≡ frame tables.old }
+{
+    match handle(tables, func, packet) {
+        Outcome::Done(done) => done,
+        Outcome::ShareFull(_) => unreachable!(),
+    }
+}
+
 // Handles one packet, and puts what it came to behind the others.
 fn handle_one(
-    alloc: Global,
     func: &Func,
-    undivided: &mut Undivided,
+    tables: &mut Tables,
     handled: &mut Vec<Handled>,
     arrival: &Arrival,
 ) -> Result<(), AllocError>
-    requires of_func { length func.now.chains ≡ length undivided.old.state.chains }
+    requires of_func { tables.old.decls ≡ func.now.chains }
+    requires whole { tables.old.of ≡ 1 }
     requires port { arrival.now.packet.id.port < length func.now.handlers }
-    ensures ok { OnOk result (HandlesOne (function_of func.now) undivided.old.state undivided.new.state handled.old.items handled.new.items arrival.now) }
-    ensures same_chains { length undivided.new.state.chains ≡ length undivided.old.state.chains }
+    ensures ok { OnOk result (HandlesOne (function_of func.now) tables.old.state tables.new.state handled.old.items handled.new.items arrival.now) }
+    ensures same { frame tables.new ≡ frame tables.old }
 {
-    let done = undivided.handle(alloc, func, &arrival.packet)?;
+    let done = handle_whole(tables, func, &arrival.packet);
     handled.push(Handled {
         arrival: *arrival,
         done,
@@ -39,16 +60,16 @@ fn handle_one(
     Ok(())
 }
 
-/// Handles packets in this order, from the function's opening state.
+/// Handles packets in this order, from the function's opening state, on tables that take their memory once.
 pub fn handle_all(alloc: Global, func: &Func, arrivals: &[Arrival]) -> Result<Course, AllocError>
     requires { AllByRecursion (λ arrival. arrival.packet.id.port < length func.now.handlers) arrivals.now }
     ensures { IfOk result (Handles (function_of func.now) arrivals.now) }
 {
-    let mut undivided = Undivided::new(alloc, func)?;
+    let mut tables = Tables::new(alloc, func, Share { queue: 0, of: 1 })?;
     let mut handled = Vec::with_capacity(alloc, arrivals.len())?;
     for arrival in arrivals {
-        handle_one(alloc, func, &mut undivided, &mut handled, arrival)?;
+        handle_one(func, &mut tables, &mut handled, arrival)?;
     }
-    let state = undivided.finish();
+    let state = tables.state(alloc)?;
     Ok(Course { handled, state })
 }

@@ -1,8 +1,9 @@
 use Rattle.std.proofs.Common.{◌≡◌, ◌<◌, ◌∙◌, ◌+◌, ◌++◌, length, map, drop, sym, refl, ap, subst}
 use Rattle.std.specs.List.{AllByRecursion}
-use Rattle.std.proofs.lemmas.List.{length-map}
+
 use Rattle.nf_base.specs.Functions.{function_of}
-use Rattle.nf_base.specs.Step.{opening_chain}
+use Rattle.nf_engine.specs.Seen.{Frame}
+use Rattle.vig_tables.specs.Whole.{Whole}
 use Rattle.run_files.specs.Written.{arrival_in}
 use Rattle.maestro_cli.specs.Runs.{IsUndivided}
 use Rattle.maestro_cli.proofs.Handlings.{undivided_none, handles_more, arrivals_after, all_got, arrivals_more}
@@ -11,11 +12,12 @@ use Rattle.maestro_cli.proofs.handling.handle_all.Goals as goal
 pub loop-arrival-init : goal.loop-arrival-init
 loop-arrival-init c =
     let f = function_of c.args.func.now in
-    let opens = c.in_ok-undivided.ensures in
+    let opens = c.in_ok-tables.ensures in
     record {
       all = ap (λ hs. map arrival_in hs ++ c.args.arrivals.now) c.in_ok-handled.ensures.items;
-      undivided = subst (λ hs. IsUndivided f hs c.in_ok-undivided.undivided.state) (sym c.in_ok-handled.ensures.items) (undivided_none f c.in_ok-undivided.undivided.state opens);
-      of_func = sym (ap (λ state. length state.chains) opens ∙ length-map c.args.func.now.chains opening_chain);
+      undivided = subst (λ hs. IsUndivided f hs c.in_ok-tables.tables.state) (sym c.in_ok-handled.ensures.items) (undivided_none f c.in_ok-tables.tables.state (ap (λ (w : Whole). w.state) opens));
+      of_func = ap (λ (w : Whole). w.decls) opens;
+      whole = ap (λ (w : Whole). w.of) opens;
       ports = c.requires;
     }
 
@@ -29,6 +31,7 @@ loop-arrival-preserved c =
     record {
       all = ap (λ ys. ys ++ drop (i + 1) xs) (arrivals_after f _ _ _ _ _ one) ∙ arrivals_more (map arrival_in c.loop-arrival.handled.items) xs i _ c.loop-arrival-test.true inv.all;
       undivided = handles_more f _ _ _ _ _ one inv.undivided;
-      of_func = inv.of_func ∙ sym c.in_ok-handle_one.ensures.same_chains;
+      of_func = ap (λ (frame : Frame). frame.decls) c.in_ok-handle_one.ensures.same ∙ inv.of_func;
+      whole = ap (λ (frame : Frame). frame.of) c.in_ok-handle_one.ensures.same ∙ inv.whole;
       ports = inv.ports;
     }

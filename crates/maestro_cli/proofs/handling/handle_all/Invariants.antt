@@ -9,7 +9,8 @@ use Rattle.maestro_cli.proofs.handling.handle_all.Given as goal
 abbrev pub invariant-loop-arrival : goal.invariant-loop-arrival
 invariant-loop-arrival l = record {
   all : map arrival_in l.handled.items ++ drop l.arrival-index l.arrivals ≡ l.arrivals;
-  undivided : IsUndivided (function_of l.func) l.handled.items l.undivided.state;
-  of_func : length l.func.chains ≡ length l.undivided.state.chains;
+  undivided : IsUndivided (function_of l.func) l.handled.items l.tables.state;
+  of_func : l.tables.decls ≡ l.func.chains;
+  whole : l.tables.of ≡ 1;
   ports : AllByRecursion (λ arrival. arrival.packet.id.port < length l.func.handlers) l.arrivals;
 }
