@@ -1,6 +1,8 @@
 // A firewall, built by hand.
-ghost use Rattle.std.specs.Prelude.{◌≡◌, ◌≤◌, IfOk, length};
-ghost use Rattle.nf_base.specs.Limits.{news, lookups, IsWithinLimits};
+ghost use Rattle.std.specs.Prelude.{◌≡◌, ◌≤◌, ◌∷◌, [], IfOk, length};
+ghost use Rattle.nf_base.specs.declared.decl.ChainDecl.{ChainDecl};
+ghost use Rattle.nf_base.specs.Fits.{Fits};
+ghost use Rattle.nf_base.specs.Limits.{news, lookups, IsWithinLimits, HaveShortKeys};
 ghost use Rattle.nf_base.specs.View.{block_of};
 
 use nf_base::code::Code;
@@ -54,20 +56,20 @@ fn column(alloc: Global, width: Width) -> ColumnDecl {
     }
 }
 
-fn four_parts(alloc: Global) -> Result<Limited<ColumnDecl, 136>, AllocError> {
-    let mut labels = Vec::new(alloc);
-    for width in [Width::W32, Width::W32, Width::W16, Width::W16] {
-        labels.push(column(alloc, width))?;
-    }
-    if labels.len() <= 136 {
-        Ok(Limited::from_vec(labels))
-    } else {
-        Err(AllocError)
-    }
+fn four_parts(alloc: Global) -> Result<Limited<ColumnDecl, 136>, AllocError>
+    ensures { IfOk result (λ labels. length labels ≡ 4) }
+{
+    let mut labels = Limited::new(alloc);
+    labels.push(column(alloc, Width::W32))?;
+    labels.push(column(alloc, Width::W32))?;
+    labels.push(column(alloc, Width::W16))?;
+    labels.push(column(alloc, Width::W16))?;
+    Ok(labels)
 }
 
 fn one_map(alloc: Global) -> Result<Limited<MapDecl, 16>, AllocError>
-    ensures { IfOk result (λ maps. length maps ≡ 1) }
+    ensures count { IfOk result (λ maps. length maps ≡ 1) }
+    ensures keys { IfOk result (λ maps. HaveShortKeys maps) }
 {
     let mut maps = Vec::new(alloc);
     maps.push(MapDecl {
@@ -79,7 +81,9 @@ fn one_map(alloc: Global) -> Result<Limited<MapDecl, 16>, AllocError>
 }
 
 fn flows(alloc: Global, size: Size) -> Result<ChainDecl, AllocError>
-    ensures { IfOk result (λ decl. length decl.maps ≡ 1) }
+    ensures maps { IfOk result (λ decl. length decl.maps ≡ 1) }
+    ensures keys { IfOk result (λ decl. HaveShortKeys decl.maps) }
+    ensures labels { IfOk result (λ decl. length decl.labels ≡ 4) }
 {
     Ok(ChainDecl {
         name: Name::new(alloc),
@@ -92,16 +96,23 @@ fn flows(alloc: Global, size: Size) -> Result<ChainDecl, AllocError>
     })
 }
 
-fn key(alloc: Global, fields: [Field; 4]) -> Result<Seq<Given>, AllocError> {
-    let widths = [Width::W32, Width::W32, Width::W16, Width::W16];
-    let mut parts = Vec::new(alloc);
-    for (field, width) in fields.into_iter().zip(widths) {
-        parts.push(Given {
-            width,
-            value: Expr::Read(field),
-        })?;
+fn part(width: Width, field: Field) -> Given {
+    Given {
+        width,
+        value: Expr::Read(field),
     }
-    Ok(Seq::from_vec(parts))
+}
+
+fn key(alloc: Global, fields: [Field; 4]) -> Result<Seq<Given>, AllocError>
+    ensures { IfOk result (λ key. length key ≡ 4) }
+{
+    let [from, to, from_port, to_port] = fields;
+    let mut parts = Seq::new(alloc);
+    parts.push(part(Width::W32, from))?;
+    parts.push(part(Width::W32, to))?;
+    parts.push(part(Width::W16, from_port))?;
+    parts.push(part(Width::W16, to_port))?;
+    Ok(parts)
 }
 
 const THERE: [Field; 4] = [Field::SrcIp, Field::DstIp, Field::SrcPort, Field::DstPort];
@@ -112,6 +123,7 @@ const BACK: [Field; 4] = [Field::DstIp, Field::SrcIp, Field::DstPort, Field::Src
 fn new_flow(alloc: Global) -> Result<Code, AllocError>
     ensures news { IfOk result (λ code. news (block_of code) ≡ 1) }
     ensures lookups { IfOk result (λ code. lookups (block_of code) ≡ 1) }
+    ensures fits { IfOk result (λ code. (decl : ChainDecl) → length decl.labels ≡ 4 → Fits (decl ∷ []) (block_of code)) }
 {
     Ok(Code::New {
         place: 1,
@@ -128,6 +140,7 @@ fn new_flow(alloc: Global) -> Result<Code, AllocError>
 fn renewed(alloc: Global, next: Code) -> Result<Code, AllocError>
     ensures news { IfOk result (λ code. news (block_of code) ≡ news (block_of next)) }
     ensures lookups { IfOk result (λ code. lookups (block_of code) ≡ lookups (block_of next)) }
+    ensures fits { IfOk result (λ code. (decl : ChainDecl) → Fits (decl ∷ []) (block_of next) → Fits (decl ∷ []) (block_of code)) }
 {
     Ok(Code::Touch {
         var: 0,
@@ -136,7 +149,9 @@ fn renewed(alloc: Global, next: Code) -> Result<Code, AllocError>
 }
 
 // Lets every packet out for which there is room.
-fn outward(alloc: Global) -> Result<Handler, AllocError> {
+fn outward(alloc: Global) -> Result<Handler, AllocError>
+    ensures { IfOk result (λ h. (decl : ChainDecl) → length decl.labels ≡ 4 → Fits (decl ∷ []) (block_of h.code)) }
+{
     let hit = renewed(alloc, Code::End)?;
     let miss = new_flow(alloc)?;
     Ok(Handler {
@@ -154,7 +169,9 @@ fn outward(alloc: Global) -> Result<Handler, AllocError> {
 }
 
 // Lets the answers of known flows in.
-fn inward(alloc: Global) -> Result<Handler, AllocError> {
+fn inward(alloc: Global) -> Result<Handler, AllocError>
+    ensures { IfOk result (λ h. (decl : ChainDecl) → length decl.labels ≡ 4 → Fits (decl ∷ []) (block_of h.code)) }
+{
     let hit = renewed(alloc, Code::Forward(Expr::Number(0)))?;
     Ok(Handler {
         code: Code::Get {

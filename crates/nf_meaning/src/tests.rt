@@ -1,3 +1,8 @@
+ghost use Rattle.std.specs.Prelude.{List};
+ghost use Rattle.nf_base.specs.declared.decl.ChainDecl.{ChainDecl};
+ghost use Rattle.nf_base.specs.Fits.{Fits};
+ghost use Rattle.nf_base.specs.View.{block_of};
+
 use crate::context::{Choosing, Context, Flow, Input};
 use crate::statements::exec;
 use crate::undivided::Undivided;
@@ -66,12 +71,19 @@ fn a_long_block_runs_in_little_stack(rt: HostRuntime) {
     }
 }
 
+// Sends each packet out of port 0.
+fn sender() -> Handler
+    ensures { (decls : List ChainDecl) → Fits decls (block_of result.code) }
+{
+    Handler {
+        code: Code::Forward(Expr::Number(0)),
+    }
+}
+
 // A function of one port, which sends each packet back.
 fn mirror(alloc: Global) -> Result<Func, AllocError> {
     let mut handlers = Vec::new(alloc);
-    handlers.push(Handler {
-        code: Code::Forward(Expr::Number(0)),
-    })?;
+    handlers.push(sender())?;
     Ok(Func {
         name: Name::new(alloc),
         chains: Limited::new(alloc),
