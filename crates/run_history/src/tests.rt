@@ -1,4 +1,8 @@
-ghost use Rattle.std.specs.Prelude.{◌≡◌, ◌≤◌, IfOk, length};
+ghost use Rattle.std.specs.Prelude.{◌≡◌, ◌≤◌, List, IfOk, length};
+ghost use Rattle.nf_base.specs.declared.decl.ChainDecl.{ChainDecl};
+ghost use Rattle.nf_base.specs.Fits.{Fits};
+ghost use Rattle.nf_base.specs.Limits.{HaveShortKeys};
+ghost use Rattle.nf_base.specs.View.{block_of};
 
 use crate::line::{JournalLine, Mode, write_line};
 use crate::state_text::state_text;
@@ -93,7 +97,8 @@ fn column<const MOST: u32>(
 
 // Two labels, and between them, in the text, a free column.
 fn flows(alloc: Global) -> Result<ChainDecl, AllocError>
-    ensures { IfOk result (λ decl. length decl.maps ≡ 0) }
+    ensures maps { IfOk result (λ decl. length decl.maps ≡ 0) }
+    ensures keys { IfOk result (λ decl. HaveShortKeys decl.maps) }
 {
     let mut labels = Limited::new(alloc);
     column(alloc, &mut labels, *b"addr")?;
@@ -112,6 +117,12 @@ fn flows(alloc: Global) -> Result<ChainDecl, AllocError>
     })
 }
 
+fn idle() -> Handler
+    ensures { (decls : List ChainDecl) → Fits decls (block_of result.code) }
+{
+    Handler { code: Code::End }
+}
+
 // A chain, and an array whose cells open as 0, 5 and 0.
 fn function(alloc: Global) -> Result<Func, AllocError> {
     let mut chains = Vec::new(alloc);
@@ -123,12 +134,14 @@ fn function(alloc: Global) -> Result<Func, AllocError> {
         cells: Indexed::from_vec(Vec::from_slice(alloc, &[0, 5, 0])?),
     })?;
     let mut handlers = Vec::new(alloc);
-    handlers.push(Handler { code: Code::End })?;
+    handlers.push(idle())?;
+    let chains = Limited::from_vec(chains);
+    let handlers = Limited::from_vec(handlers);
     Ok(Func {
         name: Name::new(alloc),
-        chains: Limited::from_vec(chains),
+        chains,
         arrays: Limited::from_vec(arrays),
-        handlers: Limited::from_vec(handlers),
+        handlers,
     })
 }
 
