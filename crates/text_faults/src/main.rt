@@ -2,6 +2,8 @@
 //! `\r` and `\\` stand for the bytes that they usually do, and `\xHH` for the byte of two hexadecimal digits.
 #![tactic(auto)]
 
+ghost use Rattle.std.specs.Prelude.{◌≤◌};
+
 #[cfg(test)]
 mod function_tests;
 #[cfg(test)]
@@ -37,7 +39,7 @@ fn escaped(byte: u8) -> u8 {
 fn text_of(alloc: Global, line: &[u8]) -> Result<Vec<u8>, AllocError> {
     let mut text = Vec::new(alloc);
     let mut rest = line;
-    loop {
+    'each: loop {
         match rest {
             [b'\\', b'x', high, low, behind @ ..] => {
                 text.push(digit(*high) * 16 + digit(*low))?;
