@@ -4,7 +4,7 @@ use Rattle.std.proofs.lemmas.List.{length-map}
 use Rattle.nf_base.specs.declared.code.Code.{Code}
 use Rattle.nf_base.specs.View.{block_of, given_of}
 use Rattle.nf_base.specs.Fits.{Fits}
-use Rattle.nf_meaning.proofs.samples.outward.Goals as goal
+use Rattle.meaning_runs.proofs.firewall.inward.Goals as goal
 
 pub returns : goal.returns
 returns c = λ decl four.
@@ -15,7 +15,7 @@ returns c = λ decl four.
       (
         subst Fit (sym c.in_ok-new.ensures.ok) (c.in_ok-hit.ensures.fits decl tt),
         (
-          subst Fit (sym c.in_ok-new-2.ensures.ok) (c.in_ok-miss.ensures.fits decl four),
+          subst Fit (sym c.in_ok-new-2.ensures.ok) tt,
           subst Fit (sym c.in_ok-new-3.ensures.ok) tt,
         ),
       ),

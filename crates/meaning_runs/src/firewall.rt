@@ -1,4 +1,4 @@
-// A firewall, built by hand.
+//! A firewall, built by hand.
 ghost use Rattle.std.specs.Prelude.{◌≡◌, ◌≤◌, ◌∷◌, [], IfOk, length};
 ghost use Rattle.nf_base.specs.declared.decl.ChainDecl.{ChainDecl};
 ghost use Rattle.nf_base.specs.Fits.{Fits};

@@ -5,7 +5,7 @@ use Rattle.std.proofs.lemmas.List.Elements.{All-nil, All-cons}
 use Rattle.nf_base.specs.declared.decl.ChainDecl.{ChainDecl}
 use Rattle.nf_base.specs.Limits.{HaveShortKeys, HaveAllShortKeys}
 use Rattle.nf_base.proofs.Fitting.{HandlersFit, none_fit, more_fit}
-use Rattle.nf_meaning.proofs.samples.firewall.Goals as goal
+use Rattle.meaning_runs.proofs.firewall.firewall.Goals as goal
 
 pub invariant_of-result-clause-keys : goal.invariant_of-result-clause-keys
 invariant_of-result-clause-keys c =

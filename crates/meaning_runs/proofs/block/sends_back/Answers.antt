@@ -2,7 +2,7 @@
 use Rattle.std.proofs.Common.{◌≡◌, [], ◌∷◌, sym, subst, arith}
 use Rattle.std.proofs.lemmas.Grind.{common_steps}
 use Rattle.nf_base.proofs.Fitting.{HandlersFit, none_fit, more_fit}
-use Rattle.nf_meaning.proofs.tests.mirror.Goals as goal
+use Rattle.meaning_runs.proofs.block.sends_back.Goals as goal
 
 pub invariant_of-result-clause-fits : goal.invariant_of-result-clause-fits
 invariant_of-result-clause-fits c =
