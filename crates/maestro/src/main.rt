@@ -1,6 +1,9 @@
 //! The program: the words of the command line and the files of the system, given to the top call.
 #![tactic(auto)]
 
+#[cfg(test)]
+mod tests;
+
 use maestro_cli::{Status, maestro};
 use nf_files::RealFiles;
 use std::process::ExitCode;

@@ -14,8 +14,6 @@ mod report;
 mod running;
 mod say;
 mod status;
-#[cfg(test)]
-mod tests;
 mod text;
 mod writing;
 

@@ -1,7 +1,7 @@
 // Calls on files that fail, one at a time.
 use super::calls::{Outcome, call, has_bytes};
 use super::firewall::{firewall, query_and_reply, run_two};
-use crate::{RunFile, Status};
+use maestro_cli::{RunFile, Status};
 use std::alloc::{AllocError, Global};
 use std::test::Fail;
 

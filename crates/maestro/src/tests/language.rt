@@ -3,7 +3,7 @@ use super::calls::call;
 use super::captures::{Frame, Record, captures};
 use super::firewall::{RUN_ONE, RUN_TWO, run_two};
 use super::runs::{Ran, wrong_part};
-use crate::Status;
+use maestro_cli::Status;
 use std::alloc::{AllocError, Global};
 use std::test::Fail;
 

@@ -2,7 +2,7 @@
 use super::calls::{Outcome, call, has_bytes, is_text};
 use super::captures::{Frame, capture, changed_capture, short_capture};
 use super::firewall::{firewall, mirror, run_one, run_two};
-use crate::Status;
+use maestro_cli::Status;
 use std::alloc::{AllocError, Global};
 use std::test::Fail;
 

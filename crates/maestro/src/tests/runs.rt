@@ -1,7 +1,7 @@
 // Runs that end well, and what they leave.
 use super::calls::{Outcome, call, has_bytes, is_text};
 use super::captures::{Record, capture, captures};
-use crate::Status;
+use maestro_cli::Status;
 use std::alloc::{AllocError, Global};
 
 /// A run, and what it has to leave.

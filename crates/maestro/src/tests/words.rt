@@ -1,7 +1,7 @@
 // Words that are no run, and files that are not there.
 use super::calls::{Outcome, call, call_nothing};
 use super::firewall::{firewall, query_and_reply};
-use crate::{Fault, RunFile, Status};
+use maestro_cli::{Fault, RunFile, Status};
 use nf_syntax::SyntaxKind;
 use nf_types::TypingKind;
 use std::alloc::{AllocError, Global};

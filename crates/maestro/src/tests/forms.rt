@@ -2,7 +2,7 @@
 use super::calls::call;
 use super::captures::{Frame, changed_capture, short_capture};
 use super::firewall::{firewall, mirror, run_one, run_two};
-use crate::Status;
+use maestro_cli::Status;
 use std::alloc::{AllocError, Global};
 use std::test::Fail;
 

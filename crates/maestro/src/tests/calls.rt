@@ -1,5 +1,5 @@
 // Calls of the program over files in memory, and what they come to.
-use crate::{Status, maestro};
+use maestro_cli::{Status, maestro};
 use nf_files::{Files, FilesFault, MemoryFiles};
 use std::alloc::{AllocError, Global};
 

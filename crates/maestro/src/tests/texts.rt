@@ -2,7 +2,7 @@
 use super::calls::call;
 use super::captures::{Frame, capture};
 use super::firewall::run_one;
-use crate::Status;
+use maestro_cli::Status;
 use std::alloc::{AllocError, Global};
 use std::test::Fail;
 

@@ -2,7 +2,7 @@
 use super::calls::{call, has_bytes};
 use super::captures::{Frame, Record, capture, captures};
 use super::runs::{Ran, wrong_part};
-use crate::Status;
+use maestro_cli::Status;
 use std::alloc::{AllocError, Global};
 use std::test::Fail;
 
