@@ -6,6 +6,3 @@ mod chain;
 mod links;
 
 pub use chain::Chain;
-
-#[cfg(test)]
-mod tests;

@@ -7,6 +7,3 @@ mod map;
 mod slots;
 
 pub use map::Map;
-
-#[cfg(test)]
-mod tests;

@@ -1,7 +1,8 @@
-use crate::Map;
+//! Maps.
 use nf_base::key::Key;
 use nf_base::size::Size;
 use std::test::Fail;
+use vig_map::Map;
 
 fn key(first: u64, second: u64) -> Key {
     let mut key = Key::new();
@@ -44,5 +45,19 @@ fn the_others_are_found_when_half_are_erased(rt: HostRuntime) -> Result<(), Fail
         let value = if i % 3 == 1 { Some(i) } else { None };
         assert_eq!(rt; map.get(&key(0x0a00_0000, u64::from(i))), value);
     }
+    Ok(())
+}
+
+#[test]
+fn a_copy_goes_on_by_itself(rt: HostRuntime) -> Result<(), Fail> {
+    let mut map = Map::new(rt.alloc(), Size::new(2))?;
+    assert!(rt; map.put(key(1, 2), 7));
+    let mut copy = map.copy(rt.alloc())?;
+    assert_eq!(rt; copy.get(&key(1, 2)), Some(7));
+    assert!(rt; copy.put(key(2, 1), 9));
+    assert!(rt; !copy.put(key(3, 3), 1), "two pairs stand");
+    assert_eq!(rt; map.get(&key(2, 1)), None);
+    assert_eq!(rt; map.erase(&key(1, 2)), Some(7));
+    assert_eq!(rt; copy.get(&key(1, 2)), Some(7));
     Ok(())
 }
