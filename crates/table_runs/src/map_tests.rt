@@ -11,22 +11,36 @@ fn key(first: u64, second: u64) -> Key {
     key
 }
 
+// The tests call a map through these, which promise nothing: what the answers are is compared, and not proved.
+
+fn get(map: &Map, key: &Key) -> Option<u32> {
+    map.get(key)
+}
+
+fn put(map: &mut Map, key: Key, value: u32) -> bool {
+    map.put(key, value)
+}
+
+fn erase(map: &mut Map, key: &Key) -> Option<u32> {
+    map.erase(key)
+}
+
 #[test]
 fn pairs_are_found_until_they_are_erased(rt: HostRuntime) -> Result<(), Fail> {
     let mut map = Map::new(rt.alloc(), Size::new(3))?;
-    assert_eq!(rt; map.get(&key(1, 2)), None);
-    assert!(rt; map.put(key(1, 2), 7));
-    assert!(rt; !map.put(key(1, 2), 8));
-    assert!(rt; map.put(key(2, 1), 9));
-    assert!(rt; map.put(Key::new(), 5));
-    assert!(rt; !map.put(key(3, 3), 1), "three pairs stand");
-    assert_eq!(rt; map.get(&key(1, 2)), Some(7));
-    assert_eq!(rt; map.erase(&key(1, 2)), Some(7));
-    assert_eq!(rt; map.erase(&key(1, 2)), None);
-    assert_eq!(rt; map.get(&key(1, 2)), None);
-    assert_eq!(rt; map.get(&key(2, 1)), Some(9));
-    assert_eq!(rt; map.get(&Key::new()), Some(5));
-    assert!(rt; map.put(key(3, 3), 1));
+    assert_eq!(rt; get(&map, &key(1, 2)), None);
+    assert!(rt; put(&mut map, key(1, 2), 7));
+    assert!(rt; !put(&mut map, key(1, 2), 8));
+    assert!(rt; put(&mut map, key(2, 1), 9));
+    assert!(rt; put(&mut map, Key::new(), 5));
+    assert!(rt; !put(&mut map, key(3, 3), 1), "three pairs stand");
+    assert_eq!(rt; get(&map, &key(1, 2)), Some(7));
+    assert_eq!(rt; erase(&mut map, &key(1, 2)), Some(7));
+    assert_eq!(rt; erase(&mut map, &key(1, 2)), None);
+    assert_eq!(rt; get(&map, &key(1, 2)), None);
+    assert_eq!(rt; get(&map, &key(2, 1)), Some(9));
+    assert_eq!(rt; get(&map, &Key::new()), Some(5));
+    assert!(rt; put(&mut map, key(3, 3), 1));
     Ok(())
 }
 
@@ -34,16 +48,16 @@ fn pairs_are_found_until_they_are_erased(rt: HostRuntime) -> Result<(), Fail> {
 fn the_others_are_found_when_half_are_erased(rt: HostRuntime) -> Result<(), Fail> {
     let mut map = Map::new(rt.alloc(), Size::new(2000))?;
     for i in 0..2000u32 {
-        assert!(rt; map.put(key(0x0a00_0000, u64::from(i)), i));
+        assert!(rt; put(&mut map, key(0x0a00_0000, u64::from(i)), i));
     }
     for i in 0..2000u32 {
         if i % 3 != 1 {
-            assert_eq!(rt; map.erase(&key(0x0a00_0000, u64::from(i))), Some(i));
+            assert_eq!(rt; erase(&mut map, &key(0x0a00_0000, u64::from(i))), Some(i));
         }
     }
     for i in 0..2000u32 {
         let value = if i % 3 == 1 { Some(i) } else { None };
-        assert_eq!(rt; map.get(&key(0x0a00_0000, u64::from(i))), value);
+        assert_eq!(rt; get(&map, &key(0x0a00_0000, u64::from(i))), value);
     }
     Ok(())
 }
@@ -51,13 +65,13 @@ fn the_others_are_found_when_half_are_erased(rt: HostRuntime) -> Result<(), Fail
 #[test]
 fn a_copy_goes_on_by_itself(rt: HostRuntime) -> Result<(), Fail> {
     let mut map = Map::new(rt.alloc(), Size::new(2))?;
-    assert!(rt; map.put(key(1, 2), 7));
+    assert!(rt; put(&mut map, key(1, 2), 7));
     let mut copy = map.copy(rt.alloc())?;
-    assert_eq!(rt; copy.get(&key(1, 2)), Some(7));
-    assert!(rt; copy.put(key(2, 1), 9));
-    assert!(rt; !copy.put(key(3, 3), 1), "two pairs stand");
-    assert_eq!(rt; map.get(&key(2, 1)), None);
-    assert_eq!(rt; map.erase(&key(1, 2)), Some(7));
-    assert_eq!(rt; copy.get(&key(1, 2)), Some(7));
+    assert_eq!(rt; get(&copy, &key(1, 2)), Some(7));
+    assert!(rt; put(&mut copy, key(2, 1), 9));
+    assert!(rt; !put(&mut copy, key(3, 3), 1), "two pairs stand");
+    assert_eq!(rt; get(&map, &key(2, 1)), None);
+    assert_eq!(rt; erase(&mut map, &key(1, 2)), Some(7));
+    assert_eq!(rt; get(&copy, &key(1, 2)), Some(7));
     Ok(())
 }
