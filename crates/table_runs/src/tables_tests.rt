@@ -1,5 +1,8 @@
 //! Tables of a function with two chains and an array.
-ghost use Rattle.std.specs.Prelude.{◌≡◌, ◌≤◌, length, IfOk, All};
+ghost use Rattle.nf_base.specs.Fits.{Fits};
+ghost use Rattle.nf_base.specs.View.{block_of};
+ghost use Rattle.nf_base.specs.declared.decl.ChainDecl.{ChainDecl};
+ghost use Rattle.std.specs.Prelude.{◌≡◌, ◌≤◌, length, IfOk, All, List};
 
 use nf_base::code::Code;
 use nf_base::decl::{ArrayDecl, ChainDecl, ColumnDecl, MapDecl, Name};
@@ -88,6 +91,15 @@ fn cells(alloc: Global) -> Result<ArrayDecl, AllocError> {
     })
 }
 
+/// Sends nothing on.
+fn silent() -> Handler
+    ensures { (decls : List ChainDecl) → Fits decls (block_of result.code) }
+{
+    Handler {
+        code: Code::Discard,
+    }
+}
+
 fn function(alloc: Global) -> Result<Func, AllocError>
     ensures { IfOk result (λ func. All (λ decl. All (λ map. map.parts ≤ 8) decl.maps) func.chains) }
 {
@@ -96,15 +108,13 @@ fn function(alloc: Global) -> Result<Func, AllocError>
     chains.push(hosts(alloc)?)?;
     let mut arrays = Limited::new(alloc);
     arrays.push(cells(alloc)?)?;
-    let mut handlers = Limited::new(alloc);
-    handlers.push(Handler {
-        code: Code::Discard,
-    })?;
+    let mut handlers = Vec::new(alloc);
+    handlers.push(silent())?;
     Ok(Func {
         name: Name::new(alloc),
         chains,
         arrays,
-        handlers,
+        handlers: Limited::from_vec(handlers),
     })
 }
 
