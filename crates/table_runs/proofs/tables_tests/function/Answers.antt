@@ -1,8 +1,22 @@
--- One handler, which fits any chains.
+-- Two chains, whose keys are short, and one handler, which fits any chains.
 use Rattle.std.proofs.Common.{◌≡◌, [], ◌∷◌, sym, subst, arith}
 use Rattle.std.proofs.lemmas.Grind.{common_steps}
+use Rattle.std.proofs.lemmas.List.Elements.{All-nil, All-cons}
+use Rattle.nf_base.specs.declared.decl.ChainDecl.{ChainDecl}
+use Rattle.nf_base.specs.Limits.{HaveShortKeys, HaveAllShortKeys}
 use Rattle.nf_base.proofs.Fitting.{HandlersFit, none_fit, more_fit}
 use Rattle.table_runs.proofs.tables_tests.function.Goals as goal
 
+pub invariant_of-result-clause-keys : goal.invariant_of-result-clause-keys
+invariant_of-result-clause-keys c =
+    let IsShort : ChainDecl → Type 0 = λ decl. HaveShortKeys decl.maps in
+    let flows = c.in_ok-flows.field-0 in
+    let hosts = c.in_ok-hosts.field-0 in
+    let chains : c.from_vec.result ≡ flows ∷ hosts ∷ [] = grind (arith, common_steps) in
+    subst HaveAllShortKeys (sym chains) (All-cons IsShort flows (hosts ∷ []) c.in_ok-flows.ensures.keys (All-cons IsShort hosts [] c.in_ok-hosts.ensures.keys (All-nil IsShort)))
+
 pub invariant_of-result-clause-fits : goal.invariant_of-result-clause-fits
-invariant_of-result-clause-fits c = ?
+invariant_of-result-clause-fits c =
+    let decls = c.from_vec.result in
+    let handlers : c.from_vec-2.result ≡ c.silent.result ∷ [] = grind (arith, common_steps) in
+    subst (HandlersFit decls) (sym handlers) (more_fit decls c.silent.result [] (c.silent.ensures decls) (none_fit decls))
