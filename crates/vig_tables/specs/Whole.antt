@@ -90,6 +90,11 @@ abbrev pub IsFull : Option Table → Bool → Type 0
 IsFull None full = full ≡ true
 IsFull (Some t) full = MatchBool full (Nowhere (is_open t)) (Somewhere (is_open t))
 
+-- whether a key of some labels is bound in a chain
+abbrev pub has_taken_in : Option Table → List ℕ → Bool
+has_taken_in None labels = false
+has_taken_in (Some t) labels = has_taken t labels
+
 -- whether some entry of a chain is past its lifetime
 abbrev pub is_due : ℕ → Option Table → Bool
 is_due time None = false

@@ -1,5 +1,5 @@
 //! The tables of one chain.
-ghost use Rattle.std.specs.Prelude.{◌≡◌, ◌≤◌, ◌<◌, length, not, IsTrue, IfOk, MatchBool, slice_get, replicate};
+ghost use Rattle.std.specs.Prelude.{◌≡◌, ◌≤◌, ◌<◌, length, not, IsTrue, IfOk, MatchBool, option_and_then, slice_get, replicate};
 ghost use Rattle.std.specs.Bool.{OnTrue, OnFalse};
 ghost use Rattle.std.specs.Option.{option_map};
 ghost use Rattle.nf_base.specs.Chains.{has_label, has_labels, touched, freed, written};
@@ -7,7 +7,7 @@ ghost use Rattle.nf_base.specs.Context.{or_zero, label_of, free_of};
 ghost use Rattle.nf_base.specs.Limits.{HaveShortKeys};
 ghost use Rattle.nf_base.specs.Runs.{none_past};
 ghost use Rattle.vig_chain.specs.Stamps.{Somewhere, Nowhere};
-ghost use Rattle.vig_tables.specs.Table.{opened, with_chain, entry, is_open, found, found_at, Creates, can_enter, entered, column_of, with_column, without_past};
+ghost use Rattle.vig_tables.specs.Table.{opened, with_chain, entry, is_open, found, found_at, has_taken, Creates, can_enter, entered, column_of, with_column, without_past};
 ghost use Rattle.vig_tables.specs.Slots.{labelled, live};
 
 use crate::created::Created;
@@ -122,6 +122,13 @@ impl ChainTables {
         self.chain.due(time, self.decl.lifetime)
     }
 
+    /// Whether a key of some labels is bound.
+    pub fn is_taken(&self, labels: &[u64]) -> bool
+        ensures { result ≡ has_taken self.now labels.now }
+    {
+        is_any_bound(self.maps.as_slice(), labels)
+    }
+
     /// Makes an entry with these labels at an own free index, and with zeros in its free columns.
     ///
     /// Its stamp is the time, or the greatest stamp so far where that is later.
@@ -226,6 +233,16 @@ impl ChainTables {
         number_at(self.free.row(i), column)
     }
 
+    /// A free column of the entry at an index, if there are both.
+    pub fn free_column(&self, i: u32, column: u32) -> Option<u64>
+        ensures { result ≡ option_and_then (λ e. slice_get e.free column) (entry self.now i) }
+    {
+        if self.chain.stamp(i).is_none() {
+            return None;
+        }
+        number_in(self.free.row(i), column)
+    }
+
     /// Writes a free column of the entry at an index, by its number among the free columns, if there are both.
     pub fn set_column(&mut self, i: u32, column: u32, value: u64)
         ensures { self.new ≡ with_chain (written column value i self.old.chain) self.old }
@@ -322,6 +339,16 @@ impl ChainTables {
             labels,
             free,
         })
+    }
+}
+
+/// A number of a row, none past its end.
+fn number_in(row: &[u64], column: u32) -> Option<u64>
+    ensures { result ≡ slice_get row.now column }
+{
+    match row.get(column as usize) {
+        Some(number) => Some(*number),
+        None => None,
     }
 }
 

@@ -1,14 +1,15 @@
 //! The tables of a function.
-ghost use Rattle.std.specs.Prelude.{◌≡◌, ◌≤◌, ◌<◌, length, map, IfOk, option_and_then, slice_get, slice_set};
+ghost use Rattle.std.specs.Prelude.{◌≡◌, ◌≤◌, ◌<◌, length, map, not, IfOk, option_and_then, slice_get, slice_set};
 ghost use Rattle.std.specs.Bool.{OnTrue, OnFalse};
 ghost use Rattle.std.specs.Option.{option_map};
 ghost use Rattle.nf_base.specs.Chains.{touched, freed, written};
 ghost use Rattle.nf_base.specs.Context.{cell_at, or_zero, label_of, free_of};
 ghost use Rattle.nf_base.specs.Functions.{function_of};
 ghost use Rattle.nf_base.specs.Limits.{HaveAllShortKeys};
+ghost use Rattle.nf_base.specs.Runs.{all_none_past};
 ghost use Rattle.nf_base.specs.Step.{opening_cells, expired_state};
 ghost use Rattle.vig_tables.specs.Table.{Table, opened, entry, found, found_at, column_of, entered, with_chain, with_column, without_past};
-ghost use Rattle.vig_tables.specs.Whole.{opened_whole, with_state, table_at, changed, found_in, found_among, Fits, CreatesIn, can_enter_in, IsFull, is_due, number_of, with_cell};
+ghost use Rattle.vig_tables.specs.Whole.{opened_whole, with_state, table_at, changed, found_in, found_among, Fits, CreatesIn, can_enter_in, IsFull, is_due, has_taken_in, number_of, with_cell};
 
 use crate::chain_tables::ChainTables;
 use crate::created::Created;
@@ -134,6 +135,23 @@ impl Tables {
         }
     }
 
+    /// Whether some entry of some chain is past its lifetime.
+    pub fn any_due(&self, time: u64) -> bool
+        ensures { result ≡ not (all_none_past time self.now.decls self.now.state.chains) }
+    {
+        any_due(self.chains.as_slice(), time)
+    }
+
+    /// Whether a key of some labels is bound in a chain.
+    pub fn is_taken(&self, chain: u32, labels: &[u64]) -> bool
+        ensures { result ≡ has_taken_in (table_at self.now chain) labels.now }
+    {
+        match self.chains.as_slice().get(chain as usize) {
+            Some(tables) => tables.is_taken(labels),
+            None => false,
+        }
+    }
+
     /// The stamp of the entry at an index of a chain: none where there is no entry.
     pub fn stamp(&self, chain: u32, i: u32) -> Option<u64>
         ensures { result ≡ option_and_then (λ t. option_map (λ e. e.stamp) (entry t i)) (table_at self.now chain) }
@@ -183,6 +201,28 @@ impl Tables {
         match self.chains.as_slice().get(chain as usize) {
             Some(tables) => tables.column(i, column),
             None => 0,
+        }
+    }
+
+    /// A free column of the entry at an index of a chain, by its number among the free columns, if there are both.
+    pub fn free_column(&self, chain: u32, i: u32, column: u32) -> Option<u64>
+        ensures { result ≡ option_and_then
+            (λ t. option_and_then (λ e. slice_get e.free column) (entry t i))
+            (table_at self.now chain) }
+    {
+        match self.chains.as_slice().get(chain as usize) {
+            Some(tables) => tables.free_column(i, column),
+            None => None,
+        }
+    }
+
+    /// A cell of an array, if there is one.
+    pub fn array_cell(&self, array: u32, i: u64) -> Option<u64>
+        ensures { result ≡ cell_at self.now.state.arrays array i }
+    {
+        match self.arrays.as_slice().get(array as usize) {
+            Some(cells) => cell(cells, i),
+            None => None,
         }
     }
 
@@ -323,6 +363,29 @@ fn lookup(chains: &[ChainTables], map: u32, key: &Key) -> Option<u32>
         left -= maps;
     }
     None
+}
+
+/// Whether some entry of some chains is past its lifetime.
+fn any_due(chains: &[ChainTables], time: u64) -> bool
+    ensures { result ≡ not (all_none_past time (map (λ t. t.decl) chains.now) (map (λ t. t.chain) chains.now)) }
+{
+    for chain in chains {
+        if chain.due(time) {
+            return true;
+        }
+    }
+    false
+}
+
+/// A cell, none past the end.
+fn cell(cells: &Indexed<u64>, i: u64) -> Option<u64>
+    ensures { result ≡ slice_get cells.now i }
+{
+    if i < u64::from(cells.len()) {
+        Some(*cells.item(i as u32))
+    } else {
+        None
+    }
 }
 
 /// A cell, 0 past the end.
