@@ -5,5 +5,11 @@ pub mod Creating
 pub mod Reaching
 pub mod Traced
 pub mod Ending
-pub mod Looking
+pub mod Lookups
 pub mod Scoped
+pub mod QuietFlows
+pub mod Unchanged
+pub mod QuietStatements
+pub mod Refused
+pub mod QuietReaching
+pub mod ReadOnly

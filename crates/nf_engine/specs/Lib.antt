@@ -4,3 +4,5 @@ pub mod Kinds
 pub mod Seen
 pub mod Moves
 pub mod Whole
+pub mod Quietly
+pub mod ReadOnly

@@ -3,7 +3,7 @@ ghost use Rattle.std.specs.Prelude.{◌≡◌, IfSome};
 
 use crate::scope::Scope;
 use nf_base::decl::ChainDecl;
-use nf_base::done::{Action, Edits};
+use nf_base::done::{Action, Done, Edits};
 use nf_base::packet::Fields;
 use nf_base::picks::Picks;
 use nf_base::share::Share;
@@ -61,4 +61,13 @@ pub enum Making {
     Taken,
     /// No index is free.
     Full,
+}
+
+/// What a look at a packet came to.
+#[derive(Debug, Drop)]
+pub enum Look {
+    /// It is done, and nothing had to be written.
+    Done(Done),
+    /// Something past its lifetime is to be given up, or an operation of the handler would change something.
+    NeedsWrite,
 }

@@ -135,7 +135,7 @@ fn ended(flow: Flow, context: Context) -> Done
 }
 
 // A handler that falls off its end drops its packet.
-fn action_of(flow: Flow) -> Action
+pub fn action_of(flow: Flow) -> Action
     ensures { result ≡ action_of flow }
 {
     match flow {
@@ -144,14 +144,14 @@ fn action_of(flow: Flow) -> Action
     }
 }
 
-fn no_edits() -> Edits
+pub fn no_edits() -> Edits
     ensures { result ≡ no_edits }
 {
     Edits { values: [None; 7] }
 }
 
 // What a packet comes to that no handler sees.
-fn skipped() -> Done
+pub fn skipped() -> Done
     ensures { result ≡ record { action = Skip; edits = no_edits; picks = [] } }
 {
     Done {

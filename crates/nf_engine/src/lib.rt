@@ -5,9 +5,13 @@ mod context;
 mod creation;
 mod handling;
 mod labels;
+mod looking;
+mod looks;
 mod operations;
 mod scope;
 mod statements;
 mod values;
 
+pub use context::Look;
 pub use handling::{Handled, handle, replay};
+pub use looking::look;

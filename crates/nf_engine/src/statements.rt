@@ -5,6 +5,7 @@ ghost use Rattle.nf_base.specs.View.{block_of};
 ghost use Rattle.nf_base.specs.Fits.{Fits};
 ghost use Rattle.nf_engine.specs.Kinds.{kind_of, is_new, LookUp, Search, Creation, Branch, Edit, ColumnWrite, CellWrite};
 ghost use Rattle.nf_engine.specs.Seen.{context_of, frame, frame_of, goes_from, owner_of};
+ghost use Rattle.nf_engine.specs.Quietly.{SameQuietly, quietly_on, quietly_from};
 ghost use Rattle.nf_engine.specs.Moves.{Takes, goes_on, goes_on_if, went, IsPart, LeavesRoom, HasRoom, UsesRoom, CanHalt};
 
 use crate::context::{Context, Flow, Halt, Input, Making};
@@ -128,12 +129,13 @@ fn plain<'a>(tables: &mut Tables, context: &mut Context, p: &Input, code: &'a Co
     }
 }
 
-fn look_up<'a>(tables: &Tables, context: &mut Context, p: &Input, code: &'a Code) -> Next<'a>
+pub fn look_up<'a>(tables: &Tables, context: &mut Context, p: &Input, code: &'a Code) -> Next<'a>
     requires kind { kind_of (block_of code.now) ≡ LookUp }
     requires over { frame tables.now ≡ frame_of p.now }
     requires fits { Fits p.now.decls.now (block_of code.now) }
     requires room { HasRoom context.old (block_of code.now) }
     ensures goes { goes_on result p.now (context_of tables.now context.new) ≡ goes_from p.now code.now tables.now context.old }
+    ensures quiet { SameQuietly (quietly_on result p.now (context_of tables.now context.new)) (quietly_from p.now code.now tables.now context.old) }
     ensures part { IsPart result p.now code.now }
     ensures room { LeavesRoom result code.now context.old context.new }
     ensures picks { context.new.picks ≡ context.old.picks }
@@ -159,11 +161,12 @@ fn look_up<'a>(tables: &Tables, context: &mut Context, p: &Input, code: &'a Code
     Next::Into(hit, next)
 }
 
-fn search<'a>(tables: &Tables, context: &mut Context, p: &Input, code: &'a Code) -> Next<'a>
+pub fn search<'a>(tables: &Tables, context: &mut Context, p: &Input, code: &'a Code) -> Next<'a>
     requires kind { kind_of (block_of code.now) ≡ Search }
     requires fits { Fits p.now.decls.now (block_of code.now) }
     requires room { HasRoom context.old (block_of code.now) }
     ensures goes { goes_on result p.now (context_of tables.now context.new) ≡ goes_from p.now code.now tables.now context.old }
+    ensures quiet { SameQuietly (quietly_on result p.now (context_of tables.now context.new)) (quietly_from p.now code.now tables.now context.old) }
     ensures part { IsPart result p.now code.now }
     ensures room { LeavesRoom result code.now context.old context.new }
     ensures picks { context.new.picks ≡ context.old.picks }
@@ -230,10 +233,11 @@ fn create<'a>(
     }
 }
 
-fn branch<'a>(tables: &Tables, context: &Context, p: &Input, code: &'a Code) -> Next<'a>
+pub fn branch<'a>(tables: &Tables, context: &Context, p: &Input, code: &'a Code) -> Next<'a>
     requires kind { kind_of (block_of code.now) ≡ Branch }
     requires fits { Fits p.now.decls.now (block_of code.now) }
     ensures goes { goes_on result p.now (context_of tables.now context.now) ≡ goes_from p.now code.now tables.now context.now }
+    ensures quiet { SameQuietly (quietly_on result p.now (context_of tables.now context.now)) (quietly_from p.now code.now tables.now context.now) }
     ensures part { IsPart result p.now code.now }
     ensures room { LeavesRoom result code.now context.now context.now }
 {
@@ -257,10 +261,11 @@ fn branch<'a>(tables: &Tables, context: &Context, p: &Input, code: &'a Code) -> 
     }
 }
 
-fn edit<'a>(tables: &Tables, context: &mut Context, p: &Input, code: &'a Code) -> Next<'a>
+pub fn edit<'a>(tables: &Tables, context: &mut Context, p: &Input, code: &'a Code) -> Next<'a>
     requires kind { kind_of (block_of code.now) ≡ Edit }
     requires fits { Fits p.now.decls.now (block_of code.now) }
     ensures goes { goes_on result p.now (context_of tables.now context.new) ≡ goes_from p.now code.now tables.now context.old }
+    ensures quiet { SameQuietly (quietly_on result p.now (context_of tables.now context.new)) (quietly_from p.now code.now tables.now context.old) }
     ensures part { IsPart result p.now code.now }
     ensures room { LeavesRoom result code.now context.old context.new }
     ensures picks { context.new.picks ≡ context.old.picks }
