@@ -9,7 +9,7 @@ use nf_base::packet::Packet;
 use nf_base::picks::Picks;
 use nf_base::share::Share;
 use nf_base::state::State;
-use nf_engine::{Handled, handle, replay};
+use nf_engine::{Handled, Look, handle, look, replay};
 use nf_meaning::fault::StepFault;
 use nf_meaning::undivided::Undivided;
 use run_history::state_text::state_text;
@@ -24,17 +24,20 @@ fn is_same(one: &Done, other: &Done) -> bool {
 }
 
 /// Whether both states have one text.
-fn are_same(
-    alloc: Global,
-    func: &Func,
-    one: &State,
-    other: &State,
-) -> Result<bool, AllocError> {
+fn are_same(alloc: Global, func: &Func, one: &State, other: &State) -> Result<bool, AllocError> {
     let text = state_text(alloc, func, one)?;
     Ok(text.as_slice() == state_text(alloc, func, other)?.as_slice())
 }
 
-/// Handles a packet on the tables, and on the other side with the choices that were taken there.
+/// Whether what was seen without a write, if anything, is what a packet came to.
+fn was_seen(seen: &Look, done: &Done) -> bool {
+    match seen {
+        Look::Done(before) => is_same(before, done),
+        Look::NeedsWrite => true,
+    }
+}
+
+/// Looks at a packet and handles it on the tables, and on the other side with the choices that were taken there.
 fn handle_both(
     alloc: Global,
     func: &Func,
@@ -43,14 +46,19 @@ fn handle_both(
     packet: &Packet,
 ) -> Result<bool, StepFault>
     requires decls { tables.old.decls ≡ func.now.chains }
+    requires whole { tables.old.of ≡ 1 }
     requires chains { length func.now.chains ≡ length plain.old.state.chains }
     requires port { packet.now.id.port < length func.now.handlers }
     ensures same { frame tables.new ≡ frame tables.old }
     ensures same_chains { length plain.new.state.chains ≡ length plain.old.state.chains }
 {
+    let seen = look(tables, func, packet);
     let Handled::Done(done) = handle(tables, func, packet) else {
         return Ok(false);
     };
+    if !was_seen(&seen, &done) {
+        return Ok(false);
+    }
     match plain.packet(alloc, func, packet, &done.picks) {
         Ok(other) => Ok(is_same(&done, &other)),
         Err(StepFault::BadChoice) => Ok(false),

@@ -11,7 +11,13 @@ pub struct Traffic {
 }
 
 /// The hosts: two behind a firewall, two outside, and the outer address of a translator.
-const HOSTS: [u32; 5] = [0x0a00_0001, 0x0a00_0002, 0x0808_0808, 0x8000_0001, 0xcb00_7101];
+const HOSTS: [u32; 5] = [
+    0x0a00_0001,
+    0x0a00_0002,
+    0x0808_0808,
+    0x8000_0001,
+    0xcb00_7101,
+];
 
 /// The ports: two of servers, two of clients, and the first two of a translator.
 const PORTS: [u16; 6] = [53, 80, 1000, 1001, 1024, 1025];
@@ -57,10 +63,18 @@ impl Traffic {
         requires { 1 ≤ ports }
         ensures { result.id.port < ports }
     {
-        let pause = if self.draw() % 32 == 0 { 60_000_000_000 } else { u64::from(self.draw() % 4) };
+        let pause = if self.draw() % 32 == 0 {
+            60_000_000_000
+        } else {
+            u64::from(self.draw() % 4)
+        };
         self.time = self.time.saturating_add(pause);
         let port = u32::from(self.draw()) % ports;
-        let fields = if self.draw() % 16 == 0 { None } else { Some(self.fields()) };
+        let fields = if self.draw() % 16 == 0 {
+            None
+        } else {
+            Some(self.fields())
+        };
         Packet {
             id: PacketId { port, seq },
             time: self.time,

@@ -9,7 +9,7 @@ use Rattle.nf_engine.specs.declared.context.Context.{Context}
 use Rattle.nf_engine.specs.declared.context.Input.{Input}
 use Rattle.nf_engine.specs.declared.context.Flow.TheVariants.{Falls}
 use Rattle.nf_engine.specs.declared.statements.Next.TheVariants.{On, Into}
-use Rattle.nf_engine.specs.Fits.{Fits}
+use Rattle.nf_base.specs.Fits.{Fits}
 use Rattle.nf_engine.specs.Moves.{IsPart, LeavesRoom, HasRoom, UsesRoom}
 use Rattle.nf_engine.specs.Quietly.{QuietFlow, QuietGoing, SameQuietly, quiet_flow, quiet_then, quietly_from, quietly_went, quietly_on}
 use Rattle.nf_engine.specs.Seen.{context_of, input_of}

@@ -3,7 +3,6 @@ ghost use Rattle.std.specs.Prelude.{◌≡◌, ◌<◌, ℕ, List, [], length, S
 ghost use Rattle.nf_base.specs.Functions.{function_of};
 ghost use Rattle.nf_base.specs.Runs.{quiet, all_none_past};
 ghost use Rattle.nf_base.specs.Step.{Stepped, step};
-ghost use Rattle.nf_engine.specs.Fits.{AllFit};
 ghost use Rattle.nf_engine.specs.ReadOnly.{IfDone, IfNeedsWrite, AlwaysWrites};
 
 use crate::context::{Context, Input, Look};
@@ -23,7 +22,6 @@ use vig_tables::Tables;
 pub fn look(tables: &Tables, func: &Func, packet: &Packet) -> Look
     requires of_func { tables.now.decls ≡ func.now.chains }
     requires whole { tables.now.of ≡ 1 }
-    requires fits { AllFit (function_of func.now) }
     requires port { packet.now.id.port < length func.now.handlers }
     // The step makes no entry, and leaves this very state.
     ensures done { IfDone result (λ done.
@@ -50,7 +48,6 @@ pub fn look(tables: &Tables, func: &Func, packet: &Packet) -> Look
 fn run(tables: &Tables, func: &Func, packet: &Packet, fields: Fields) -> Option<Done>
     requires of_func { tables.now.decls ≡ func.now.chains }
     requires whole { tables.now.of ≡ 1 }
-    requires fits { AllFit (function_of func.now) }
     requires port { packet.now.id.port < length func.now.handlers }
     requires handled { packet.now.fields ≡ Some fields }
     requires none_due { all_none_past packet.now.time tables.now.decls tables.now.state.chains ≡ true }

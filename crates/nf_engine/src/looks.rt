@@ -4,7 +4,7 @@ ghost use Rattle.std.specs.Bool.{OnTrue, OnFalse};
 ghost use Rattle.nf_base.specs.Context.{var_at, entry_in, cell_at};
 ghost use Rattle.nf_base.specs.Events.{restamps, rewrites};
 ghost use Rattle.nf_base.specs.View.{block_of};
-ghost use Rattle.nf_engine.specs.Fits.{Fits};
+ghost use Rattle.nf_base.specs.Fits.{Fits};
 ghost use Rattle.nf_engine.specs.Kinds.{kind_of, Creation, ColumnWrite, CellWrite};
 ghost use Rattle.nf_engine.specs.Moves.{IsPart, LeavesRoom, HasRoom, UsesRoom};
 ghost use Rattle.nf_engine.specs.Quietly.{SameQuietly, differs, quietly_from, quietly_went, quietly_on_if};

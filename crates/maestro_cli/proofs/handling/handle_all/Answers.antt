@@ -1,6 +1,5 @@
 use Rattle.std.proofs.Common.{◌≡◌, ◌<◌, ◌∙◌, ◌+◌, ◌++◌, length, map, drop, sym, refl, ap, subst}
 use Rattle.std.specs.List.{AllByRecursion}
-
 use Rattle.nf_base.specs.Functions.{function_of}
 use Rattle.nf_engine.specs.Seen.{Frame}
 use Rattle.vig_tables.specs.Whole.{Whole}

@@ -10,7 +10,7 @@ use Rattle.nf_engine.proofs.ReadOnly.{begins_as, handler_quietly, read_done, rea
 use Rattle.nf_engine.proofs.looking.run.Goals as goal
 
 pub look_through-requires-clause-fits : goal.look_through-requires-clause-fits
-look_through-requires-clause-fits c = rw c.as_slice.ensures.value (fits_at c.args.func.now c.args.packet.now.id.port c.item-handler.result.now c.requires.port c.item-handler.ensures c.requires.fits)
+look_through-requires-clause-fits c = rw c.as_slice.ensures.value (fits_at c.args.func.now c.args.packet.now.id.port c.item-handler.result.now c.requires.port c.item-handler.ensures c.args.func.now.fits)
 
 pub returns-in_default-clause-needs : goal.returns-in_default-clause-needs
 returns-in_default-clause-needs c =
