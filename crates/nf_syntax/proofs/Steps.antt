@@ -31,6 +31,14 @@ extends_on room wanted behind part rest (Ok x) ps p t one h e s r =
     (let l = r.0 in let b = shorter_behind ps one in omega (arith, l, b), λ k. gone_on (wanted k) (behind k) ps p t one h e (s k) ∙ r.1 k)
 extends_on room wanted behind part rest (Err f) ps p t one h e s r = λ k. subst (λ v. Fails f v) (sym (gone_on (wanted k) (behind k) ps p t one h e (s k))) (r k)
 
+-- what may be missing is read behind the token that begins it
+pub reads_behind : {X A : Type 0} → (wanted behind : (A → Place) → Place) (part : X → A) (rest : X → List Placed) (r : Result X Stop) (ps : List Placed) (p : Placed) (t : Token) →
+    1 ≤ length ps → p ≡ get_or ps 0 p → p.token ≡ t → ((k : A → Place) → step (wanted k) (item t p.place) ≡ Go false (behind k)) →
+    Reads behind part rest r (take (length ps - 1) (drop 1 ps)) → ReadsOn wanted part rest r ps
+reads_behind wanted behind part rest (Ok x) ps p t one h e s r =
+    (let l = r.0 in let b = shorter_behind ps one in omega (arith, l, b), λ k. gone_on (wanted k) (behind k) ps p t one h e (s k) ∙ r.1 k)
+reads_behind wanted behind part rest (Err f) ps p t one h e s r = λ k. subst (λ v. Fails f v) (sym (gone_on (wanted k) (behind k) ps p t one h e (s k))) (r k)
+
 same_run : (k : List Given → Place) (ps : List Placed) (p : Placed) (x : List ℕ) → 1 ≤ length ps → p ≡ get_or ps 0 p → p.token ≡ tokens.Name x → run (GivenAt k) ps ≡ run (some_given_at k) ps
 same_run k [] p x one h e = absurd (omega arith)
 same_run k (q ∷ ps) p x one h e =

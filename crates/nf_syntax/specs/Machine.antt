@@ -117,12 +117,23 @@ group_at room n k = sum_at (room - 1) n (λ e. CloseAt (λ p. k (Group e p)))
 abbrev pub cell_at : ℕ → ℕ → Name → (Expression → Place) → Place
 cell_at room n x k = sum_at (room - 1) (suc n) (λ i. SignAt signs.CloseBracket (k (Cell x i)))
 
+-- a name, or a number, and the sign behind it
+abbrev pub name_before_at : Sign → (Name → Place) → Place
+name_before_at s k = NameAt (λ x. SignAt s (k x))
+
+abbrev pub number_before_at : Sign → (Literal → Place) → Place
+number_before_at s k = NumberAt (λ n. SignAt s (k n))
+
+-- the end of a map's labels
+abbrev pub closed_at : (places.Place → Place) → Place
+closed_at k = CloseAt (λ p. SignAt signs.Semicolon (k p))
+
 abbrev pub get_head_at : (GetHead → Place) → Place
-get_head_at k = NameAt (λ x. SignAt signs.Assign (NameAt (λ c. SignAt signs.Dot (NameAt (λ m. SignAt signs.OpenParenthesis (k (record { variable = x; chain = c; map = m })))))))
+get_head_at k = name_before_at signs.Assign (λ x. name_before_at signs.Dot (λ c. name_before_at signs.OpenParenthesis (λ m. k (record { variable = x; chain = c; map = m }))))
 
 -- what a `find` and a `new` bind, and in which chain, up to this sign
 abbrev pub entry_head_at : Sign → (EntryHead → Place) → Place
-entry_head_at s k = NameAt (λ x. SignAt signs.Assign (NameAt (λ c. SignAt s (k (record { variable = x; chain = c })))))
+entry_head_at s k = name_before_at signs.Assign (λ x. name_before_at s (λ c. k (record { variable = x; chain = c })))
 
 abbrev pub values_at : (List Expression → Place) → Place
 values_at k = value_at (λ v. MoreAt (v ∷ []) k)
@@ -132,7 +143,7 @@ giving x v = record { name = x; value = v }
 
 -- a value behind its name
 abbrev pub one_given_at : (Given → Place) → Place
-one_given_at k = NameAt (λ x. SignAt signs.Assign (value_at (λ v. k (giving x v))))
+one_given_at k = name_before_at signs.Assign (λ x. value_at (λ v. k (giving x v)))
 
 -- one value at least
 abbrev pub some_given_at : (List Given → Place) → Place
@@ -142,7 +153,7 @@ abbrev pub label_one : Name → Literal → Label
 label_one x n = record { name = x; width = n }
 
 abbrev pub one_label_at : (Label → Place) → Place
-one_label_at k = NameAt (λ x. SignAt signs.Colon (NumberAt (λ n. k (label_one x n))))
+one_label_at k = name_before_at signs.Colon (λ x. NumberAt (λ n. k (label_one x n)))
 
 abbrev pub labels_at : (List Label → Place) → Place
 labels_at k = one_label_at (λ l. MoreLabelsAt (l ∷ []) k)
@@ -171,46 +182,54 @@ new_at room b at k = entry_head_at signs.OpenParenthesis (λ h. GivenAt (λ gs. 
 unfoldable pub if_at : ℕ → Block → (Block → Place) → Place
 if_at room b k = value_at (λ l. ComparisonAt (λ c. value_at (λ r. BlockAt room (λ holds. OptionalAt signs.Else room (λ fails. BodyAt room (If b l c r holds fails) k)))))
 
+-- a value between `=` and `;`
+abbrev pub assigned_at : (Expression → Place) → Place
+assigned_at k = SignAt signs.Assign (value_at (λ v. SignAt signs.Semicolon (k v)))
+
+-- what ends an action, and its block
+abbrev pub end_at : Place → Place
+end_at k = SignAt signs.Semicolon (SignAt signs.CloseBrace k)
+
 abbrev pub touch_at : ℕ → Block → (Block → Place) → Place
-touch_at room b k = NameAt (λ x. SignAt signs.Semicolon (BodyAt room (Touch b x) k))
+touch_at room b k = name_before_at signs.Semicolon (λ x. BodyAt room (Touch b x) k)
 
 abbrev pub free_at : ℕ → Block → places.Place → (Block → Place) → Place
-free_at room b at k = NameAt (λ x. SignAt signs.Semicolon (BodyAt room (Free b at x) k))
+free_at room b at k = name_before_at signs.Semicolon (λ x. BodyAt room (Free b at x) k)
 
 abbrev pub set_at : ℕ → Block → (Block → Place) → Place
-set_at room b k = FieldAt (λ h. SignAt signs.Assign (value_at (λ v. SignAt signs.Semicolon (BodyAt room (Set b h.field h.place v) k))))
+set_at room b k = FieldAt (λ h. assigned_at (λ v. BodyAt room (Set b h.field h.place v) k))
 
 abbrev pub write_at : ℕ → Block → Name → (Block → Place) → Place
-write_at room b x k = NameAt (λ c. SignAt signs.Assign (value_at (λ v. SignAt signs.Semicolon (BodyAt room (Write b x c v) k))))
+write_at room b x k = NameAt (λ c. assigned_at (λ v. BodyAt room (Write b x c v) k))
 
 abbrev pub store_at : ℕ → Block → Name → (Block → Place) → Place
-store_at room b x k = index_at (λ i. SignAt signs.Assign (value_at (λ v. SignAt signs.Semicolon (BodyAt room (Store b x i v) k))))
+store_at room b x k = index_at (λ i. assigned_at (λ v. BodyAt room (Store b x i v) k))
 
 unfoldable pub forward_at : Block → (Block → Place) → Place
-forward_at b k = value_at (λ v. SignAt signs.Semicolon (SignAt signs.CloseBrace (k (Forward b v))))
+forward_at b k = value_at (λ v. end_at (k (Forward b v)))
 
 abbrev pub flood_at : Block → (Block → Place) → Place
-flood_at b k = SignAt signs.Semicolon (SignAt signs.CloseBrace (k (Flood b)))
+flood_at b k = end_at (k (Flood b))
 
 abbrev pub discard_at : Block → (Block → Place) → Place
-discard_at b k = SignAt signs.Semicolon (SignAt signs.CloseBrace (k (Discard b)))
+discard_at b k = end_at (k (Discard b))
 
 -- behind `map`, `fixed`, `free`: up to the `;`
 abbrev pub map_one : places.Place → Name → List Label → places.Place → MapTree
 map_one at x ls close = record { place = at; name = x; labels = ls; close = close }
 
 abbrev pub map_at : places.Place → (MapTree → Place) → Place
-map_at at k = NameAt (λ x. SignAt signs.OpenParenthesis (labels_at (λ ls. CloseAt (λ close. SignAt signs.Semicolon (k (map_one at x ls close))))))
+map_at at k = name_before_at signs.OpenParenthesis (λ x. labels_at (λ ls. closed_at (λ close. k (map_one at x ls close))))
 
 abbrev pub column_one : ColumnKind → places.Place → Name → Literal → ColumnTree
 column_one kind at x n = record { kind = kind; place = at; name = x; width = n }
 
 abbrev pub column_at : ColumnKind → places.Place → (ColumnTree → Place) → Place
-column_at kind at k = NameAt (λ x. SignAt signs.Colon (NumberAt (λ n. SignAt signs.Semicolon (k (column_one kind at x n)))))
+column_at kind at k = name_before_at signs.Colon (λ x. number_before_at signs.Semicolon (λ n. k (column_one kind at x n)))
 
 -- behind `chain`
 abbrev pub chain_head_at : (ChainHead → Place) → Place
-chain_head_at k = NameAt (λ x. NumberAt (λ n. SignAt signs.Lifetime (NumberAt (λ life. SignAt signs.OpenBrace (k (record { name = x; size = n; lifetime = life }))))))
+chain_head_at k = NameAt (λ x. number_before_at signs.Lifetime (λ n. number_before_at signs.OpenBrace (λ life. k (record { name = x; size = n; lifetime = life }))))
 
 abbrev pub chain_one : places.Place → ChainHead → List Part → ChainTree
 chain_one at h ps = record { place = at; name = h.name; size = h.size; lifetime = h.lifetime; parts = ps }
@@ -220,7 +239,7 @@ chain_at at k = chain_head_at (λ h. PartsAt [] (λ ps. k (chain_one at h ps)))
 
 -- behind `array`: up to the `;`
 abbrev pub array_head_at : (ArrayHead → Place) → Place
-array_head_at k = NameAt (λ x. NumberAt (λ n. SignAt signs.Colon (NumberAt (λ w. k (record { name = x; size = n; width = w })))))
+array_head_at k = NameAt (λ x. number_before_at signs.Colon (λ n. NumberAt (λ w. k (record { name = x; size = n; width = w }))))
 
 abbrev pub array_one : places.Place → ArrayHead → List Literal → ArrayTree
 array_one at h ns = record { place = at; name = h.name; size = h.size; width = h.width; contents = ns }
@@ -236,7 +255,7 @@ abbrev pub handler_at : places.Place → (Handler → Place) → Place
 handler_at at k = NumberAt (λ n. BlockAt 64 (λ b. k (handler_one at n b)))
 
 abbrev pub text_head_at : (TextHead → Place) → Place
-text_head_at k = SignAt signs.Nf (NameAt (λ x. SignAt signs.OpenBrace (SignAt signs.Ports (NumberAt (λ n. SignAt signs.Semicolon (k (record { name = x; ports = n })))))))
+text_head_at k = SignAt signs.Nf (name_before_at signs.OpenBrace (λ x. SignAt signs.Ports (number_before_at signs.Semicolon (λ n. k (record { name = x; ports = n })))))
 
 -- a tree whose end is not said
 abbrev pub tree_one : TextHead → List Declaration → List Handler → Tree

@@ -1,27 +1,34 @@
 //! Chains and arrays.
 
 ghost use Rattle.std.specs.Prelude.{◌≡◌};
-ghost use Rattle.nf_syntax.specs.Machine.{map_at, column_at, chain_head_at, chain_at, array_head_at, array_at, no_parts_yet, no_declarations_yet};
+ghost use Rattle.nf_syntax.specs.Machine.{closed_at, map_at, column_at, chain_head_at, chain_at, array_head_at, array_at, no_parts_yet, no_declarations_yet};
 ghost use Rattle.nf_syntax.specs.Reads.{Reads, ReadsOn};
 
 use crate::fault::{Stop, stuck};
 use crate::head::{ArrayHead, ChainHead};
 use crate::list::{contents, labels};
-use crate::single::{close, name, number, sign};
+use crate::single::{close, name, name_before, number, number_before, sign};
 use nf_base::seq::Seq;
 use nf_tokens::{Place, Placed, Sign, Token};
 use nf_tree::{ArrayTree, ChainTree, ColumnKind, ColumnTree, Declaration, MapTree, Part};
 use std::alloc::Global;
 
+/// The `)` of a map's labels, with a `;` behind it.
+fn closed(tokens: &[Placed]) -> Result<(Place, &[Placed]), Stop>
+    ensures { Reads closed_at (λ x. x.0) (λ x. x.1.now) result tokens.now }
+{
+    let (close, rest) = close(tokens)?;
+    let rest = sign(rest, Sign::Semicolon)?;
+    Ok((close, rest))
+}
+
 /// A map behind its word, which stands at `place`.
 fn map(alloc: Global, place: Place, tokens: &[Placed]) -> Result<(MapTree, &[Placed]), Stop>
     ensures { Reads (λ k. map_at place k) (λ x. x.0) (λ x. x.1.now) result tokens.now }
 {
-    let (name, rest) = name(alloc, tokens)?;
-    let rest = sign(rest, Sign::OpenParenthesis)?;
+    let (name, rest) = name_before(alloc, tokens, Sign::OpenParenthesis)?;
     let (labels, rest) = labels(alloc, rest)?;
-    let (close, rest) = close(rest)?;
-    let rest = sign(rest, Sign::Semicolon)?;
+    let (close, rest) = closed(rest)?;
     let map = MapTree {
         place,
         name,
@@ -40,10 +47,8 @@ fn column(
 ) -> Result<(ColumnTree, &[Placed]), Stop>
     ensures { Reads (λ k. column_at kind place k) (λ x. x.0) (λ x. x.1.now) result tokens.now }
 {
-    let (name, rest) = name(alloc, tokens)?;
-    let rest = sign(rest, Sign::Colon)?;
-    let (width, rest) = number(rest)?;
-    let rest = sign(rest, Sign::Semicolon)?;
+    let (name, rest) = name_before(alloc, tokens, Sign::Colon)?;
+    let (width, rest) = number_before(rest, Sign::Semicolon)?;
     let column = ColumnTree {
         kind,
         place,
@@ -88,10 +93,8 @@ fn chain_head(alloc: Global, tokens: &[Placed]) -> Result<(ChainHead, &[Placed])
     ensures { Reads chain_head_at (λ x. x.0) (λ x. x.1.now) result tokens.now }
 {
     let (name, rest) = name(alloc, tokens)?;
-    let (size, rest) = number(rest)?;
-    let rest = sign(rest, Sign::Lifetime)?;
-    let (lifetime, rest) = number(rest)?;
-    let rest = sign(rest, Sign::OpenBrace)?;
+    let (size, rest) = number_before(rest, Sign::Lifetime)?;
+    let (lifetime, rest) = number_before(rest, Sign::OpenBrace)?;
     Ok((
         ChainHead {
             name,
@@ -128,8 +131,7 @@ fn array_head(alloc: Global, tokens: &[Placed]) -> Result<(ArrayHead, &[Placed])
     ensures { Reads array_head_at (λ x. x.0) (λ x. x.1.now) result tokens.now }
 {
     let (name, rest) = name(alloc, tokens)?;
-    let (size, rest) = number(rest)?;
-    let rest = sign(rest, Sign::Colon)?;
+    let (size, rest) = number_before(rest, Sign::Colon)?;
     let (width, rest) = number(rest)?;
     Ok((ArrayHead { name, size, width }, rest))
 }

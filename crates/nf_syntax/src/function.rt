@@ -10,7 +10,7 @@ ghost use Rattle.nf_syntax.specs.Reads.{Reads, Answers};
 use crate::declaration::declarations;
 use crate::fault::{Stop, stuck};
 use crate::head::TextHead;
-use crate::single::{name, number, sign};
+use crate::single::{name_before, number, number_before, sign};
 use crate::statement::block;
 use nf_base::seq::Seq;
 use nf_tokens::{Place, Placed, Sign, Token};
@@ -26,7 +26,11 @@ fn handler(alloc: Global, place: Place, tokens: &[Placed]) -> Result<(HandlerTre
 {
     let (port, rest) = number(tokens)?;
     let (block, rest) = block(alloc, rest, DEEPEST)?;
-    let handler = HandlerTree { place, port, block };
+    let handler = HandlerTree {
+        place,
+        port,
+        block: Box::into_inner(block),
+    };
     Ok((handler, rest))
 }
 
@@ -55,11 +59,9 @@ fn text_head(alloc: Global, tokens: &[Placed]) -> Result<(TextHead, &[Placed]), 
     ensures { Reads text_head_at (λ x. x.0) (λ x. x.1.now) result tokens.now }
 {
     let rest = sign(tokens, Sign::Nf)?;
-    let (name, rest) = name(alloc, rest)?;
-    let rest = sign(rest, Sign::OpenBrace)?;
+    let (name, rest) = name_before(alloc, rest, Sign::OpenBrace)?;
     let rest = sign(rest, Sign::Ports)?;
-    let (ports, rest) = number(rest)?;
-    let rest = sign(rest, Sign::Semicolon)?;
+    let (ports, rest) = number_before(rest, Sign::Semicolon)?;
     Ok((TextHead { name, ports }, rest))
 }
 

@@ -7,7 +7,7 @@ ghost use Rattle.nf_syntax.specs.Reads.{Reads, ReadsOn};
 
 use crate::expression::value;
 use crate::fault::{Stop, stuck};
-use crate::single::{close, comma, name, number, sign};
+use crate::single::{close, comma, name_before, number, sign};
 use nf_base::seq::Seq;
 use nf_tokens::{Placed, Sign, Token};
 use nf_tree::{Expr, Given, Guards, Label, Literal};
@@ -32,8 +32,7 @@ pub fn key(alloc: Global, tokens: &[Placed]) -> Result<(Seq<Expr>, &[Placed]), S
 fn one_given(alloc: Global, tokens: &[Placed]) -> Result<(Given, &[Placed]), Stop>
     ensures { Reads one_given_at (λ x. given_of x.0) (λ x. x.1.now) result tokens.now }
 {
-    let (name, rest) = name(alloc, tokens)?;
-    let rest = sign(rest, Sign::Assign)?;
+    let (name, rest) = name_before(alloc, tokens, Sign::Assign)?;
     let (value, rest) = value(alloc, rest)?;
     Ok((Given { name, value }, rest))
 }
@@ -93,8 +92,7 @@ pub fn guards(alloc: Global, tokens: &[Placed]) -> Result<(Guards, &[Placed]), S
 fn one_label(alloc: Global, tokens: &[Placed]) -> Result<(Label, &[Placed]), Stop>
     ensures { Reads one_label_at (λ x. x.0) (λ x. x.1.now) result tokens.now }
 {
-    let (name, rest) = name(alloc, tokens)?;
-    let rest = sign(rest, Sign::Colon)?;
+    let (name, rest) = name_before(alloc, tokens, Sign::Colon)?;
     let (width, rest) = number(rest)?;
     Ok((Label { name, width }, rest))
 }

@@ -2,7 +2,7 @@
 
 ghost use Rattle.std.specs.Prelude.{◌≡◌, IfOk};
 ghost use Rattle.nf_syntax.specs.Items.{class_of, Plain, named};
-ghost use Rattle.nf_syntax.specs.Machine.{NameAt, NumberAt, FieldAt, SignAt, CloseAt, ComparisonAt};
+ghost use Rattle.nf_syntax.specs.Machine.{NameAt, NumberAt, FieldAt, SignAt, CloseAt, ComparisonAt, name_before_at, number_before_at};
 ghost use Rattle.nf_syntax.specs.Reads.{Reads, Passes, PassesComma, PassesFactor, PassesTerm};
 
 use crate::fault::{Stop, stuck};
@@ -98,6 +98,30 @@ pub fn sign(tokens: &[Placed], wanted: Sign) -> Result<&[Placed], Stop>
             _ => Err(stuck(first)),
         },
     }
+}
+
+/// A name and the sign behind it.
+pub fn name_before(
+    alloc: Global,
+    tokens: &[Placed],
+    wanted: Sign,
+) -> Result<(Name, &[Placed]), Stop>
+    requires { class_of wanted ≡ Plain }
+    ensures { Reads (λ k. name_before_at wanted k) (λ x. x.0) (λ x. x.1.now) result tokens.now }
+{
+    let (name, rest) = name(alloc, tokens)?;
+    let rest = sign(rest, wanted)?;
+    Ok((name, rest))
+}
+
+/// A number and the sign behind it.
+pub fn number_before(tokens: &[Placed], wanted: Sign) -> Result<(Literal, &[Placed]), Stop>
+    requires { class_of wanted ≡ Plain }
+    ensures { Reads (λ k. number_before_at wanted k) (λ x. x.0) (λ x. x.1.now) result tokens.now }
+{
+    let (number, rest) = number(tokens)?;
+    let rest = sign(rest, wanted)?;
+    Ok((number, rest))
 }
 
 /// The place of a `)`.

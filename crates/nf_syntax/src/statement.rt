@@ -1,7 +1,7 @@
 //! Blocks and the statements that hold blocks.
 
-ghost use Rattle.std.specs.Prelude.{◌≡◌};
-ghost use Rattle.nf_tree.specs.Tree.{Start};
+ghost use Rattle.std.specs.Prelude.{◌≡◌, IfOk};
+ghost use Rattle.nf_tree.specs.Tree.{Start, Missing};
 ghost use Rattle.nf_tree.specs.View.{block_of};
 ghost use Rattle.nf_syntax.specs.Items.{class_of, Plain, Joins};
 ghost use Rattle.nf_syntax.specs.Machine.{BlockAt, BodyAt, OptionalAt, get_head_at, entry_head_at, get_at, find_at, new_at, if_at};
@@ -12,21 +12,18 @@ use crate::expression::{index, value};
 use crate::fault::{Stop, stuck};
 use crate::head::{EntryHead, GetHead};
 use crate::list::{given, guards, key};
-use crate::single::{close, comparison, name, named, sign};
+use crate::single::{close, comparison, name_before, named};
 use nf_tokens::{Place, Placed, Sign, Token};
 use nf_tree::Block;
-use std::alloc::Global;
+use std::alloc::{AllocError, Global};
 
 /// The names and signs of a `get` up to its `(`.
 fn get_head(alloc: Global, tokens: &[Placed]) -> Result<(GetHead, &[Placed]), Stop>
     ensures { Reads get_head_at (λ x. x.0) (λ x. x.1.now) result tokens.now }
 {
-    let (variable, rest) = name(alloc, tokens)?;
-    let rest = sign(rest, Sign::Assign)?;
-    let (chain, rest) = name(alloc, rest)?;
-    let rest = sign(rest, Sign::Dot)?;
-    let (map, rest) = name(alloc, rest)?;
-    let rest = sign(rest, Sign::OpenParenthesis)?;
+    let (variable, rest) = name_before(alloc, tokens, Sign::Assign)?;
+    let (chain, rest) = name_before(alloc, rest, Sign::Dot)?;
+    let (map, rest) = name_before(alloc, rest, Sign::OpenParenthesis)?;
     Ok((
         GetHead {
             variable,
@@ -46,10 +43,8 @@ fn entry_head(
     requires { class_of opening ≡ Plain }
     ensures { Reads (λ k. entry_head_at opening k) (λ x. x.0) (λ x. x.1.now) result tokens.now }
 {
-    let (variable, rest) = name(alloc, tokens)?;
-    let rest = sign(rest, Sign::Assign)?;
-    let (chain, rest) = name(alloc, rest)?;
-    let rest = sign(rest, opening)?;
+    let (variable, rest) = name_before(alloc, tokens, Sign::Assign)?;
+    let (chain, rest) = name_before(alloc, rest, opening)?;
     Ok((EntryHead { variable, chain }, rest))
 }
 
@@ -58,12 +53,12 @@ fn entry_head(
 #[tactic(auto, unfolding(crate::specs::Machine::get_at))]
 fn get(
     alloc: Global,
-    before: Block,
+    before: Box<Block>,
     place: Place,
     tokens: &[Placed],
     room: u32,
-) -> Result<(Block, &[Placed]), Stop>
-    ensures { Extends room (λ k. get_at room (block_of before) place k) (λ x. block_of x.0) (λ x. x.1.now) result tokens.now }
+) -> Result<(Box<Block>, &[Placed]), Stop>
+    ensures { Extends room (λ k. get_at room (block_of before.value) place k) (λ x. block_of x.0.value) (λ x. x.1.now) result tokens.now }
 {
     let (head, rest) = get_head(alloc, tokens)?;
     let (key, rest) = key(alloc, rest)?;
@@ -76,17 +71,17 @@ fn get(
         map,
     } = head;
     let block = Block::Get {
-        before: Box::new(alloc, before)?,
+        before,
         place,
         variable,
         chain,
         map,
         key,
         close,
-        hit: Box::new(alloc, hit)?,
-        miss: Box::new(alloc, miss)?,
+        hit,
+        miss,
     };
-    Ok((block, rest))
+    Ok((Box::new(alloc, block)?, rest))
 }
 
 /// The body with a `find` behind it.
@@ -94,12 +89,12 @@ fn get(
 #[tactic(auto, unfolding(crate::specs::Machine::find_at))]
 fn find(
     alloc: Global,
-    before: Block,
+    before: Box<Block>,
     place: Place,
     tokens: &[Placed],
     room: u32,
-) -> Result<(Block, &[Placed]), Stop>
-    ensures { Extends room (λ k. find_at room (block_of before) place k) (λ x. block_of x.0) (λ x. x.1.now) result tokens.now }
+) -> Result<(Box<Block>, &[Placed]), Stop>
+    ensures { Extends room (λ k. find_at room (block_of before.value) place k) (λ x. block_of x.0.value) (λ x. x.1.now) result tokens.now }
 {
     let (head, rest) = entry_head(alloc, tokens, Sign::OpenBracket)?;
     let (index, rest) = index(alloc, rest)?;
@@ -108,16 +103,16 @@ fn find(
     let (miss, rest) = optional(alloc, rest, Sign::Else, room)?;
     let EntryHead { variable, chain } = head;
     let block = Block::Find {
-        before: Box::new(alloc, before)?,
+        before,
         place,
         variable,
         chain,
         index,
         guards,
-        hit: Box::new(alloc, hit)?,
-        miss: Box::new(alloc, miss)?,
+        hit,
+        miss,
     };
-    Ok((block, rest))
+    Ok((Box::new(alloc, block)?, rest))
 }
 
 /// The body with an `if` behind it.
@@ -125,11 +120,11 @@ fn find(
 #[tactic(auto, unfolding(crate::specs::Machine::if_at))]
 fn condition(
     alloc: Global,
-    before: Block,
+    before: Box<Block>,
     tokens: &[Placed],
     room: u32,
-) -> Result<(Block, &[Placed]), Stop>
-    ensures { Extends room (λ k. if_at room (block_of before) k) (λ x. block_of x.0) (λ x. x.1.now) result tokens.now }
+) -> Result<(Box<Block>, &[Placed]), Stop>
+    ensures { Extends room (λ k. if_at room (block_of before.value) k) (λ x. block_of x.0.value) (λ x. x.1.now) result tokens.now }
 {
     let (left, rest) = value(alloc, tokens)?;
     let (comparison, rest) = comparison(rest)?;
@@ -137,14 +132,14 @@ fn condition(
     let (holds, rest) = block(alloc, rest, room)?;
     let (fails, rest) = optional(alloc, rest, Sign::Else, room)?;
     let block = Block::If {
-        before: Box::new(alloc, before)?,
+        before,
         left,
         comparison,
         right,
-        holds: Box::new(alloc, holds)?,
-        fails: Box::new(alloc, fails)?,
+        holds,
+        fails,
     };
-    Ok((block, rest))
+    Ok((Box::new(alloc, block)?, rest))
 }
 
 /// The body with a `new` behind it.
@@ -152,12 +147,12 @@ fn condition(
 #[tactic(auto, unfolding(crate::specs::Machine::new_at))]
 fn new(
     alloc: Global,
-    before: Block,
+    before: Box<Block>,
     place: Place,
     tokens: &[Placed],
     room: u32,
-) -> Result<(Block, &[Placed]), Stop>
-    ensures { Extends room (λ k. new_at room (block_of before) place k) (λ x. block_of x.0) (λ x. x.1.now) result tokens.now }
+) -> Result<(Box<Block>, &[Placed]), Stop>
+    ensures { Extends room (λ k. new_at room (block_of before.value) place k) (λ x. block_of x.0.value) (λ x. x.1.now) result tokens.now }
 {
     let (head, rest) = entry_head(alloc, tokens, Sign::OpenParenthesis)?;
     let (given, rest) = given(alloc, rest)?;
@@ -167,17 +162,25 @@ fn new(
     let (full, rest) = optional(alloc, rest, Sign::Full, room)?;
     let EntryHead { variable, chain } = head;
     let block = Block::New {
-        before: Box::new(alloc, before)?,
+        before,
         place,
         variable,
         chain,
         given,
         close,
-        made: Box::new(alloc, made)?,
-        taken: Box::new(alloc, taken)?,
-        full: Box::new(alloc, full)?,
+        made,
+        taken,
+        full,
     };
-    Ok((block, rest))
+    Ok((Box::new(alloc, block)?, rest))
+}
+
+/// What stands for a block that is not written.
+fn missing(alloc: Global) -> Result<Box<Block>, AllocError>
+    ensures { IfOk result (λ block. block_of block.value ≡ Missing) }
+{
+    let block = Box::new(alloc, Block::Missing)?;
+    Ok(block)
 }
 
 /// The block behind a word, where that word is written.
@@ -187,9 +190,9 @@ fn optional(
     tokens: &[Placed],
     word: Sign,
     room: u32,
-) -> Result<(Block, &[Placed]), Stop>
+) -> Result<(Box<Block>, &[Placed]), Stop>
     requires { class_of word ≡ Joins }
-    ensures { ReadsOn (λ k. OptionalAt word room k) (λ x. block_of x.0) (λ x. x.1.now) result tokens.now }
+    ensures { ReadsOn (λ k. OptionalAt word room k) (λ x. block_of x.0.value) (λ x. x.1.now) result tokens.now }
 {
     match tokens {
         [first, rest @ ..] => match &first.token {
@@ -197,19 +200,19 @@ fn optional(
                 if found.number() == word.number() {
                     block(alloc, rest, room)
                 } else {
-                    Ok((Block::Missing, tokens))
+                    Ok((missing(alloc)?, tokens))
                 }
             }
-            _ => Ok((Block::Missing, tokens)),
+            _ => Ok((missing(alloc)?, tokens)),
         },
-        [] => Ok((Block::Missing, tokens)),
+        [] => Ok((missing(alloc)?, tokens)),
     }
 }
 
 /// A block, where so many more may be open.
 #[cycle(blocks)]
-pub fn block(alloc: Global, tokens: &[Placed], room: u32) -> Result<(Block, &[Placed]), Stop>
-    ensures { Reads (λ k. BlockAt room k) (λ x. block_of x.0) (λ x. x.1.now) result tokens.now }
+pub fn block(alloc: Global, tokens: &[Placed], room: u32) -> Result<(Box<Block>, &[Placed]), Stop>
+    ensures { Reads (λ k. BlockAt room k) (λ x. block_of x.0.value) (λ x. x.1.now) result tokens.now }
 {
     match tokens {
         [] => Err(Stop::Short),
@@ -227,10 +230,10 @@ pub fn block(alloc: Global, tokens: &[Placed], room: u32) -> Result<(Block, &[Pl
 
 /// The statements up to a `}`.
 #[cycle(blocks)]
-fn body(alloc: Global, tokens: &[Placed], room: u32) -> Result<(Block, &[Placed]), Stop>
-    ensures { Reads (λ k. BodyAt room Start k) (λ x. block_of x.0) (λ x. x.1.now) result tokens.now }
+fn body(alloc: Global, tokens: &[Placed], room: u32) -> Result<(Box<Block>, &[Placed]), Stop>
+    ensures { Reads (λ k. BodyAt room Start k) (λ x. block_of x.0.value) (λ x. x.1.now) result tokens.now }
 {
-    let mut block = Block::Start;
+    let mut block = Box::new(alloc, Block::Start)?;
     let mut rest = tokens;
     'statements: while let [first, after @ ..] = rest {
         match &first.token {

@@ -10,6 +10,6 @@ use Rattle.nf_syntax.proofs.action.written.Goals as goal
 pub returns-in-Sign-OpenBracket : goal.returns-in-Sign-OpenBracket
 returns-in-Sign-OpenBracket c =
     let t : c.first-item.result.token ≡ tokens.Sign signs.OpenBracket = grind (arith, common_steps, c.in-Sign-OpenBracket.is, c.in-Sign-OpenBracket.field-0-is) in
-    extends_on c.args.room (λ k. WrittenAt c.args.room (block_of c.args.before) c.args.first_name k) (λ k. store_at c.args.room (block_of c.args.before) c.args.first_name k)
-    (λ x. block_of x.0) (λ x. x.1.now) c.store.result c.args.tokens.now c.first-item.result (tokens.Sign signs.OpenBracket)
+    extends_on c.args.room (λ k. WrittenAt c.args.room (block_of c.args.before.value) c.args.first_name k) (λ k. store_at c.args.room (block_of c.args.before.value) c.args.first_name k)
+    (λ x. block_of x.0.value) (λ x. x.1.now) c.store.result c.args.tokens.now c.first-item.result (tokens.Sign signs.OpenBracket)
     c.in-len1-up.len_at_least c.first-item.is t (λ k. refl) c.store.ensures

@@ -28,7 +28,7 @@ decreases-body l = 4 * l.room + 3
 abbrev pub invariant-body-statements : goal.invariant-body-statements
 invariant-body-statements l = record {
   shorter : length l.rest ≤ length l.fn.tokens;
-  so_far : (k : Block → Place) → run (BodyAt l.room Start k) l.fn.tokens ≡ run (BodyAt l.room (block_of l.block) k) l.rest;
+  so_far : (k : Block → Place) → run (BodyAt l.room Start k) l.fn.tokens ≡ run (BodyAt l.room (block_of l.block.value) k) l.rest;
 }
 
 abbrev pub decreases-body-statements : goal.decreases-body-statements
