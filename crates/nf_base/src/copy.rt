@@ -22,64 +22,15 @@ fn behind(code: &Code) -> Option<&Code>
         Code::Forward(_) => None,
         Code::Flood => None,
         Code::Discard => None,
-        Code::Get {
-            place: _,
-            chain: _,
-            map: _,
-            key: _,
-            var: _,
-            hit: _,
-            miss: _,
-            next,
-        } => Some(next),
-        Code::Find {
-            place: _,
-            chain: _,
-            at: _,
-            guards: _,
-            var: _,
-            hit: _,
-            miss: _,
-            next,
-        } => Some(next),
-        Code::New {
-            place: _,
-            chain: _,
-            labels: _,
-            var: _,
-            made: _,
-            taken: _,
-            full: _,
-            next,
-        } => Some(next),
-        Code::If {
-            comparison: _,
-            left: _,
-            right: _,
-            holds: _,
-            fails: _,
-            next,
-        } => Some(next),
-        Code::Touch { var: _, next } => Some(next),
-        Code::Free { var: _, next } => Some(next),
-        Code::Set {
-            field: _,
-            given: _,
-            next,
-        } => Some(next),
-        Code::Write {
-            var: _,
-            column: _,
-            given: _,
-            next,
-        } => Some(next),
-        Code::Store {
-            place: _,
-            array: _,
-            at: _,
-            given: _,
-            next,
-        } => Some(next),
+        Code::Get { next, .. } => Some(next),
+        Code::Find { next, .. } => Some(next),
+        Code::New { next, .. } => Some(next),
+        Code::If { next, .. } => Some(next),
+        Code::Touch { next, .. } => Some(next),
+        Code::Free { next, .. } => Some(next),
+        Code::Set { next, .. } => Some(next),
+        Code::Write { next, .. } => Some(next),
+        Code::Store { next, .. } => Some(next),
     }
 }
 
@@ -126,7 +77,7 @@ fn in_front(alloc: Global, code: &Code, next: Code) -> Result<Code, AllocError>
             var,
             hit,
             miss,
-            next: _,
+            ..
         } => Ok(Code::Get {
             place: *place,
             chain: *chain,
@@ -145,7 +96,7 @@ fn in_front(alloc: Global, code: &Code, next: Code) -> Result<Code, AllocError>
             var,
             hit,
             miss,
-            next: _,
+            ..
         } => Ok(Code::Find {
             place: *place,
             chain: *chain,
@@ -164,7 +115,7 @@ fn in_front(alloc: Global, code: &Code, next: Code) -> Result<Code, AllocError>
             made,
             taken,
             full,
-            next: _,
+            ..
         } => Ok(Code::New {
             place: *place,
             chain: *chain,
@@ -181,7 +132,7 @@ fn in_front(alloc: Global, code: &Code, next: Code) -> Result<Code, AllocError>
             right,
             holds,
             fails,
-            next: _,
+            ..
         } => Ok(Code::If {
             comparison: *comparison,
             left: left.copy(alloc)?,
@@ -190,19 +141,15 @@ fn in_front(alloc: Global, code: &Code, next: Code) -> Result<Code, AllocError>
             fails: boxed(alloc, fails)?,
             next: Box::new(alloc, next)?,
         }),
-        Code::Touch { var, next: _ } => Ok(Code::Touch {
+        Code::Touch { var, .. } => Ok(Code::Touch {
             var: *var,
             next: Box::new(alloc, next)?,
         }),
-        Code::Free { var, next: _ } => Ok(Code::Free {
+        Code::Free { var, .. } => Ok(Code::Free {
             var: *var,
             next: Box::new(alloc, next)?,
         }),
-        Code::Set {
-            field,
-            given,
-            next: _,
-        } => Ok(Code::Set {
+        Code::Set { field, given, .. } => Ok(Code::Set {
             field: *field,
             given: given.copy(alloc)?,
             next: Box::new(alloc, next)?,
@@ -211,7 +158,7 @@ fn in_front(alloc: Global, code: &Code, next: Code) -> Result<Code, AllocError>
             var,
             column,
             given,
-            next: _,
+            ..
         } => Ok(Code::Write {
             var: *var,
             column: *column,
@@ -223,7 +170,7 @@ fn in_front(alloc: Global, code: &Code, next: Code) -> Result<Code, AllocError>
             array,
             at,
             given,
-            next: _,
+            ..
         } => Ok(Code::Store {
             place: *place,
             array: *array,

@@ -101,11 +101,7 @@ pub fn value(tables: &Tables, context: &Context, p: &Input, e: &Expr) -> u64
         },
         Expr::Label { var, label: k } => label(tables, &context.scope, *var, *k),
         Expr::Column { var, column: k } => column(tables, &context.scope, *var, *k),
-        Expr::Cell {
-            place: _,
-            array,
-            at,
-        } => {
+        Expr::Cell { array, at, .. } => {
             let i = narrowed(Width::W16, value(tables, context, p, at));
             tables.read(*array, i)
         }

@@ -132,11 +132,7 @@ pub fn value(context: &Context, p: &Input, e: &Expr) -> u64
         },
         Expr::Label { var, label: k } => label(context, *var, *k),
         Expr::Column { var, column } => free(context, *var, *column),
-        Expr::Cell {
-            place: _,
-            array,
-            at,
-        } => {
+        Expr::Cell { array, at, .. } => {
             let i = narrowed(Width::W16, value(context, p, at));
             match cell(context, *array, i) {
                 None => 0,

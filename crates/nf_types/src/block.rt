@@ -308,8 +308,8 @@ pub fn block(
             }
             Block::Free {
                 before,
-                place: _,
                 variable,
+                ..
             } => {
                 next = free(alloc, scope, variable, next)?;
                 rest = before
@@ -317,8 +317,8 @@ pub fn block(
             Block::Set {
                 before,
                 field,
-                place: _,
                 value: given,
+                ..
             } => {
                 end -= cells(given);
                 next = set(alloc, end, objects, scope, *field, given, next)?;

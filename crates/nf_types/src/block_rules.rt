@@ -243,8 +243,8 @@ pub fn block(objects: &Objects, room: Room, scope: &Variables, block: &Block) ->
             }
             Block::Free {
                 before,
-                place: _,
                 variable,
+                ..
             } => {
                 found = earlier(in_scope(scope, variable), found);
                 rest = before

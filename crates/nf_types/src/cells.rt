@@ -13,24 +13,13 @@ pub fn value_left(room: u32, value: &Value) -> Option<u32>
 {
     match value {
         Value::Number(_) => Some(room),
-        Value::Field { field: _, place: _ } => Some(room),
-        Value::Column {
-            variable: _,
-            column: _,
-        } => Some(room),
-        Value::Index { variable: _ } => Some(room),
-        Value::Cell { array: _, index } => value_left(room.checked_sub(1)?, index),
-        Value::Group { inner, close: _ } => value_left(room, inner),
-        Value::Sum {
-            operator: _,
-            left,
-            right,
-        } => value_left(value_left(room, left)?, right),
-        Value::Product {
-            operator: _,
-            left,
-            right,
-        } => value_left(value_left(room, left)?, right),
+        Value::Field { .. } => Some(room),
+        Value::Column { .. } => Some(room),
+        Value::Index { .. } => Some(room),
+        Value::Cell { index, .. } => value_left(room.checked_sub(1)?, index),
+        Value::Group { inner, .. } => value_left(room, inner),
+        Value::Sum { left, right, .. } => value_left(value_left(room, left)?, right),
+        Value::Product { left, right, .. } => value_left(value_left(room, left)?, right),
     }
 }
 

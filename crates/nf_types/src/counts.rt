@@ -34,47 +34,31 @@ pub fn lookups_left(room: u32, block: &Block) -> u32
         match rest {
             Block::Start => return left,
             Block::Missing => return left,
-            Block::Touch {
-                before,
-                variable: _,
-            } => rest = before,
+            Block::Touch { before, .. } => rest = before,
             Block::Get {
                 before,
-                place: _,
-                variable: _,
-                chain: _,
-                map: _,
-                key: _,
-                close: _,
                 hit,
                 miss,
+                ..
             } => {
                 left = lookups_left(lookups_left(left - 1, hit), miss);
                 rest = before
             }
             Block::Find {
                 before,
-                place: _,
-                variable: _,
-                chain: _,
-                index: _,
-                guards: _,
                 hit,
                 miss,
+                ..
             } => {
                 left = lookups_left(lookups_left(left - 1, hit), miss);
                 rest = before
             }
             Block::New {
                 before,
-                place: _,
-                variable: _,
-                chain: _,
-                given: _,
-                close: _,
                 made,
                 taken,
                 full,
+                ..
             } => {
                 left = lookups_left(lookups_left(left - 1, made), taken);
                 left = lookups_left(left, full);
@@ -82,39 +66,18 @@ pub fn lookups_left(room: u32, block: &Block) -> u32
             }
             Block::If {
                 before,
-                left: _,
-                comparison: _,
-                right: _,
                 holds,
                 fails,
+                ..
             } => {
                 left = lookups_left(lookups_left(left, holds), fails);
                 rest = before
             }
-            Block::Free {
-                before,
-                place: _,
-                variable: _,
-            } => rest = before,
-            Block::Set {
-                before,
-                field: _,
-                place: _,
-                value: _,
-            } => rest = before,
-            Block::Write {
-                before,
-                variable: _,
-                column: _,
-                value: _,
-            } => rest = before,
-            Block::Store {
-                before,
-                array: _,
-                index: _,
-                value: _,
-            } => rest = before,
-            Block::Forward { before, port: _ } => rest = before,
+            Block::Free { before, .. } => rest = before,
+            Block::Set { before, .. } => rest = before,
+            Block::Write { before, .. } => rest = before,
+            Block::Store { before, .. } => rest = before,
+            Block::Forward { before, .. } => rest = before,
             Block::Flood { before } => rest = before,
             Block::Discard { before } => rest = before,
         }
@@ -134,47 +97,31 @@ pub fn news_left(room: u32, block: &Block) -> u32
         match rest {
             Block::Start => return left,
             Block::Missing => return left,
-            Block::Touch {
-                before,
-                variable: _,
-            } => rest = before,
+            Block::Touch { before, .. } => rest = before,
             Block::Get {
                 before,
-                place: _,
-                variable: _,
-                chain: _,
-                map: _,
-                key: _,
-                close: _,
                 hit,
                 miss,
+                ..
             } => {
                 left = news_left(news_left(left, hit), miss);
                 rest = before
             }
             Block::Find {
                 before,
-                place: _,
-                variable: _,
-                chain: _,
-                index: _,
-                guards: _,
                 hit,
                 miss,
+                ..
             } => {
                 left = news_left(news_left(left, hit), miss);
                 rest = before
             }
             Block::New {
                 before,
-                place: _,
-                variable: _,
-                chain: _,
-                given: _,
-                close: _,
                 made,
                 taken,
                 full,
+                ..
             } => {
                 left = news_left(news_left(left - 1, made), taken);
                 left = news_left(left, full);
@@ -182,39 +129,18 @@ pub fn news_left(room: u32, block: &Block) -> u32
             }
             Block::If {
                 before,
-                left: _,
-                comparison: _,
-                right: _,
                 holds,
                 fails,
+                ..
             } => {
                 left = news_left(news_left(left, holds), fails);
                 rest = before
             }
-            Block::Free {
-                before,
-                place: _,
-                variable: _,
-            } => rest = before,
-            Block::Set {
-                before,
-                field: _,
-                place: _,
-                value: _,
-            } => rest = before,
-            Block::Write {
-                before,
-                variable: _,
-                column: _,
-                value: _,
-            } => rest = before,
-            Block::Store {
-                before,
-                array: _,
-                index: _,
-                value: _,
-            } => rest = before,
-            Block::Forward { before, port: _ } => rest = before,
+            Block::Free { before, .. } => rest = before,
+            Block::Set { before, .. } => rest = before,
+            Block::Write { before, .. } => rest = before,
+            Block::Store { before, .. } => rest = before,
+            Block::Forward { before, .. } => rest = before,
             Block::Flood { before } => rest = before,
             Block::Discard { before } => rest = before,
         }

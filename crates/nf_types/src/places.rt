@@ -29,20 +29,13 @@ pub fn places_left(room: u32, block: &Block) -> Option<u32>
         match rest {
             Block::Start => return Some(left),
             Block::Missing => return Some(left),
-            Block::Touch {
-                before,
-                variable: _,
-            } => rest = before,
+            Block::Touch { before, .. } => rest = before,
             Block::Get {
                 before,
-                place: _,
-                variable: _,
-                chain: _,
-                map: _,
                 key,
-                close: _,
                 hit,
                 miss,
+                ..
             } => {
                 left = key_left(left.checked_sub(1)?, key.as_slice())?;
                 left = two_left(left, hit, miss)?;
@@ -50,13 +43,11 @@ pub fn places_left(room: u32, block: &Block) -> Option<u32>
             }
             Block::Find {
                 before,
-                place: _,
-                variable: _,
-                chain: _,
                 index,
                 guards,
                 hit,
                 miss,
+                ..
             } => {
                 left = value_left(left.checked_sub(1)?, index)?;
                 left = two_left(given_left(left, asked(guards))?, hit, miss)?;
@@ -64,14 +55,11 @@ pub fn places_left(room: u32, block: &Block) -> Option<u32>
             }
             Block::New {
                 before,
-                place: _,
-                variable: _,
-                chain: _,
                 given,
-                close: _,
                 made,
                 taken,
                 full,
+                ..
             } => {
                 left = given_left(left.checked_sub(1)?, given.as_slice())?;
                 left = places_left(two_left(left, made, taken)?, full)?;
@@ -80,43 +68,29 @@ pub fn places_left(room: u32, block: &Block) -> Option<u32>
             Block::If {
                 before,
                 left: first,
-                comparison: _,
                 right,
                 holds,
                 fails,
+                ..
             } => {
                 left = value_left(value_left(left, first)?, right)?;
                 left = two_left(left, holds, fails)?;
                 rest = before
             }
-            Block::Free {
-                before,
-                place: _,
-                variable: _,
-            } => rest = before,
-            Block::Set {
-                before,
-                field: _,
-                place: _,
-                value,
-            } => {
+            Block::Free { before, .. } => rest = before,
+            Block::Set { before, value, .. } => {
                 left = value_left(left, value)?;
                 rest = before
             }
-            Block::Write {
-                before,
-                variable: _,
-                column: _,
-                value,
-            } => {
+            Block::Write { before, value, .. } => {
                 left = value_left(left, value)?;
                 rest = before
             }
             Block::Store {
                 before,
-                array: _,
                 index,
                 value,
+                ..
             } => {
                 left = value_left(value_left(left.checked_sub(1)?, index)?, value)?;
                 rest = before

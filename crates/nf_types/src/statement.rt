@@ -186,7 +186,7 @@ pub fn asked(guards: &Guards) -> &[Assigned]
 {
     match guards {
         Guards::Missing => &[],
-        Guards::Where { given, close: _ } => given.as_slice(),
+        Guards::Where { given, .. } => given.as_slice(),
     }
 }
 

@@ -104,7 +104,7 @@ pub fn value(
 {
     match value {
         Value::Number(n) => Ok(Expr::Number(n.value)),
-        Value::Field { field, place: _ } => Ok(Expr::Read(*field)),
+        Value::Field { field, .. } => Ok(Expr::Read(*field)),
         Value::Column {
             variable,
             column: wanted,
@@ -120,7 +120,7 @@ pub fn value(
                 at: Box::new(alloc, at)?,
             })
         }
-        Value::Group { inner, close: _ } => self::value(alloc, place, objects, scope, inner),
+        Value::Group { inner, .. } => self::value(alloc, place, objects, scope, inner),
         Value::Sum {
             operator,
             left,

@@ -65,27 +65,19 @@ pub fn value(objects: &Objects, scope: &Variables, value: &Value) -> Result<(), 
 {
     match value {
         Value::Number(_) => Ok(()),
-        Value::Field { field: _, place: _ } => Ok(()),
+        Value::Field { .. } => Ok(()),
         Value::Column { variable, column } => read(scope, variable, column),
         Value::Index { variable } => in_scope(scope, variable),
         Value::Cell { array: name, index } => {
             array(objects, name)?;
             self::value(objects, scope, index)
         }
-        Value::Group { inner, close: _ } => self::value(objects, scope, inner),
-        Value::Sum {
-            operator: _,
-            left,
-            right,
-        } => {
+        Value::Group { inner, .. } => self::value(objects, scope, inner),
+        Value::Sum { left, right, .. } => {
             self::value(objects, scope, left)?;
             self::value(objects, scope, right)
         }
-        Value::Product {
-            operator: _,
-            left,
-            right,
-        } => {
+        Value::Product { left, right, .. } => {
             self::value(objects, scope, left)?;
             self::value(objects, scope, right)
         }

@@ -27,12 +27,7 @@ pub fn count(variables: &Variables) -> u32
 {
     let mut all = 0;
     let mut rest = variables;
-    while let Variables::Bound {
-        name: _,
-        chain: _,
-        outer,
-    } = rest
-    {
+    while let Variables::Bound { outer, .. } = rest {
         all += 1;
         rest = outer;
     }
@@ -47,8 +42,8 @@ pub fn number_of(variables: &Variables, name: &Seq<u8>) -> u32
     let mut rest = variables;
     while let Variables::Bound {
         name: bound,
-        chain: _,
         outer,
+        ..
     } = rest
     {
         if name.as_slice() == bound.as_slice() {
@@ -84,8 +79,8 @@ pub fn is_in_scope(variables: &Variables, name: &Seq<u8>) -> bool
     let mut rest = variables;
     while let Variables::Bound {
         name: bound,
-        chain: _,
         outer,
+        ..
     } = rest
     {
         if name.as_slice() == bound.as_slice() {

@@ -89,15 +89,12 @@ fn statements_have_their_places(rt: HostRuntime) {
     assert!(rt; stands(*place, 6, 5));
     assert!(rt; stands(value.place, 6, 11));
     let Block::Get {
-        before: _,
         place,
         variable,
         chain,
         map,
-        key: _,
         close,
-        hit: _,
-        miss: _,
+        ..
     } = &**before
     else {
         assert!(rt; false);
