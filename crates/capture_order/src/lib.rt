@@ -10,6 +10,3 @@ pub use arrival::{Arrival, frame};
 pub use fault::LoadFault;
 pub use loaded::{Loaded, Tear};
 pub use loading::load;
-
-#[cfg(test)]
-mod tests;

@@ -8,6 +8,3 @@ mod layout;
 pub use edits::edit;
 pub use handled::View;
 pub use layout::{fields, fields_of, view};
-
-#[cfg(test)]
-mod tests;

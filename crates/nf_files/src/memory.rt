@@ -9,8 +9,6 @@ mod calls;
 mod named;
 mod opened;
 mod store;
-#[cfg(test)]
-mod tests;
 
 use crate::number::next_number;
 use crate::{Files, FilesFault};

@@ -3,9 +3,6 @@ ghost use Rattle.std.specs.Prelude.{◌≡◌, ◌<◌, ◌≤◌, ◌+◌, ◌�
 ghost use Rattle.nf_files.specs.Untold.{untold, IsOf};
 ghost use Rattle.nf_files.specs.declared.kind.Kind.TheVariants.{Input, Output};
 
-#[cfg(test)]
-mod tests;
-
 use crate::kind::Kind;
 use crate::number::next_number;
 use crate::{FaultCount, Files, FilesFault};

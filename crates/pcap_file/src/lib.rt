@@ -21,6 +21,3 @@ pub use reader::{Next, Reader, State};
 pub use whole::records;
 pub use writer::Writer;
 pub use writing::{push_header, push_record};
-
-#[cfg(test)]
-mod tests;

@@ -11,6 +11,3 @@ pub use handled::Handled;
 pub use journal_file::write_journal;
 pub use output_file::write_output;
 pub use state_file::write_state;
-
-#[cfg(test)]
-mod tests;

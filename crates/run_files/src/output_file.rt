@@ -18,7 +18,7 @@ use pcap_file::{push_header, push_record};
 use std::alloc::{AllocError, Global};
 
 // Whether an action sends a packet that came in at a port out at another.
-pub(crate) fn sends(action: Action, from: u32, port: u32) -> bool
+fn sends(action: Action, from: u32, port: u32) -> bool
     ensures { result ≡ sends action from port }
 {
     match action {
@@ -68,7 +68,7 @@ fn push_packet(
 
 // Gathers a packet's record, where it is sent out at a port.
 #[tactic(auto, using(crate::proofs::Sent::sent_one, crate::proofs::Sent::sent_none))]
-pub(crate) fn push_sent(
+fn push_sent(
     buffer: &mut Vec<u8>,
     port: u32,
     captures: &[Vec<u8>],

@@ -3,6 +3,4 @@
 
 pub mod line;
 pub mod state_text;
-#[cfg(test)]
-mod tests;
 mod text;

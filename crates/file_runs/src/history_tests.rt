@@ -1,11 +1,10 @@
+//! Lines of a journal, and the text of a state.
 ghost use Rattle.std.specs.Prelude.{◌≡◌, ◌≤◌, List, IfOk, length};
 ghost use Rattle.nf_base.specs.declared.decl.ChainDecl.{ChainDecl};
 ghost use Rattle.nf_base.specs.Fits.{Fits};
 ghost use Rattle.nf_base.specs.Limits.{HaveShortKeys};
 ghost use Rattle.nf_base.specs.View.{block_of};
 
-use crate::line::{JournalLine, Mode, write_line};
-use crate::state_text::state_text;
 use nf_base::code::Code;
 use nf_base::decl::{ArrayDecl, ChainDecl, ColumnDecl, ColumnId, Name};
 use nf_base::done::Action;
@@ -19,6 +18,8 @@ use nf_base::size::Size;
 use nf_base::state::{Chain, Entry, State};
 use nf_base::width::Width;
 use nf_base::workers::Workers;
+use run_history::line::{JournalLine, Mode, write_line};
+use run_history::state_text::state_text;
 use std::alloc::{AllocError, Global};
 
 #[test]

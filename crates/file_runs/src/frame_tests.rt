@@ -1,6 +1,7 @@
+//! Frames, their fields and edits into them.
 ghost use Rattle.std.specs.Prelude.{◌<◌};
 
-use crate::{edit, fields, fields_of, view};
+use frame_ip::{edit, fields, fields_of, view};
 use nf_base::done::Edits;
 use nf_base::packet::Fields;
 
@@ -104,14 +105,19 @@ fn one_edit(place: usize, value: u64) -> Edits
     Edits { values }
 }
 
+// The tests edit frames through this, which promises nothing: what the answers are is compared, and not proved.
+fn edit_handled(frame: &mut [u8], original: u32, to: &Edits) {
+    if view(frame, original).is_some() {
+        edit(frame, to);
+    }
+}
+
 // 0xdd2f with 0x5555 changed to 0x3285 comes out as 0 (RFC 1624 section 4).
 #[test]
 fn a_udp_checksum_of_0_is_sent_as_ffff(rt: HostRuntime) {
     let to = one_edit(2, 0x3285_0001);
     let mut frame = SUMMED;
-    if view(&frame, 42).is_some() {
-        edit(&mut frame, &to);
-    }
+    edit_handled(&mut frame, 42, &to);
     assert_eq!(rt;
         (frame[24], frame[25], frame[40], frame[41]),
         (0, 0, 0xff, 0xff)
@@ -119,9 +125,7 @@ fn a_udp_checksum_of_0_is_sent_as_ffff(rt: HostRuntime) {
     let mut none = SUMMED;
     none[40] = 0;
     none[41] = 0;
-    if view(&none, 42).is_some() {
-        edit(&mut none, &to);
-    }
+    edit_handled(&mut none, 42, &to);
     assert_eq!(rt;
         (none[24], none[25], none[40], none[41]),
         (0, 0, 0, 0),
@@ -134,9 +138,7 @@ fn a_udp_checksum_of_0_is_sent_as_ffff(rt: HostRuntime) {
     segment[23] = 6;
     segment[50] = 0xdd;
     segment[51] = 0x2f;
-    if view(&segment, 54).is_some() {
-        edit(&mut segment, &to);
-    }
+    edit_handled(&mut segment, 54, &to);
     assert_eq!(rt; (segment[50], segment[51]), (0, 0), "TCP");
 }
 
@@ -153,8 +155,8 @@ fn each_field_counts_where_it_should(rt: HostRuntime) {
     ];
     for (place, value, at, ip, udp) in cases {
         let mut frame = SUMMED;
-        if view(&frame, 42).is_some() && place < 7 {
-            edit(&mut frame, &one_edit(place, value));
+        if place < 7 {
+            edit_handled(&mut frame, 42, &one_edit(place, value));
         }
         assert_eq!(rt; (frame[24], frame[25]) != (0xdd, 0x2f), ip, "place {place}");
         assert_eq!(rt;
@@ -167,9 +169,7 @@ fn each_field_counts_where_it_should(rt: HostRuntime) {
             assert!(rt; written || *byte == SUMMED[i], "place {place}, byte {i}");
         }
         let mut again = frame;
-        if view(&again, 42).is_some() {
-            edit(&mut again, &Edits { values: [None; 7] });
-        }
+        edit_handled(&mut again, 42, &Edits { values: [None; 7] });
         assert!(rt; again.as_slice() == frame.as_slice(), "no edit");
     }
 }

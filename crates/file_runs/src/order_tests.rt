@@ -1,18 +1,10 @@
-use crate::{Arrival, LoadFault, Tear, load};
-use pcap_file::{push_header, push_record};
-use std::alloc::{AllocError, Global};
+//! Packets in capture order.
+ghost use Rattle.std.specs.Prelude.{◌≤◌, ◌^◌, length};
 
-/// A capture of frames of one byte, by their times.
-fn capture(alloc: Global, times: &[u64]) -> Result<Vec<u8>, AllocError> {
-    let mut out = Vec::new(alloc);
-    push_header(&mut out)?;
-    for time in times {
-        if *time <= 4_294_967_295_999_999_999 {
-            push_record(&mut out, *time, 60, &[1])?;
-        }
-    }
-    Ok(out)
-}
+use crate::capture;
+use capture_order::{Arrival, LoadFault, Loaded, Tear, load};
+use pcap_file::{push_header, push_record};
+use std::alloc::Global;
 
 /// A TCP segment's first bytes, with an IP header of 20 bytes.
 const SEGMENT: [u8; 54] = [
@@ -20,6 +12,13 @@ const SEGMENT: [u8; 54] = [
     0, 1, 192, 168, 0, 2, 0x30, 0x39, 0x01, 0xbb, 0, 0, 0, 0, 0, 0, 0, 0, 0x50, 0x02, 0, 0, 0, 0,
     0, 0,
 ];
+
+// The tests load captures through this, which promises nothing: what the answers are is compared, and not proved.
+fn packets(alloc: Global, captures: &[Vec<u8>]) -> Result<Loaded, LoadFault>
+    requires { length captures.now ≤ 2 ^ 32 }
+{
+    load(alloc, captures, 100)
+}
 
 fn order(arrival: &Arrival) -> (u64, u32, u32) {
     let packet = arrival.packet;
@@ -31,7 +30,7 @@ fn ties_go_by_port_and_times_never_fall(rt: HostRuntime) {
     let first = capture(rt.alloc(), &[7, 3, 9]).expect(&rt, "memory");
     let second = capture(rt.alloc(), &[7, 8]).expect(&rt, "memory");
     let captures = [first, second];
-    let loaded = load(rt.alloc(), &captures, 100).expect(&rt, "captures");
+    let loaded = packets(rt.alloc(), &captures).expect(&rt, "captures");
     let arrivals = &loaded.arrivals;
     let expected = [(7, 0, 0), (7, 0, 1), (7, 1, 0), (8, 1, 1), (9, 0, 2)];
     assert_eq!(rt; arrivals.len(), 5);
@@ -47,7 +46,7 @@ fn a_skipped_frame_is_a_packet_with_a_number(rt: HostRuntime) {
     push_record(&mut out, 1, 54, &SEGMENT[..53]).expect(&rt, "memory");
     push_record(&mut out, 2, 1500, &SEGMENT).expect(&rt, "memory");
     let captures = [out];
-    let loaded = load(rt.alloc(), &captures, 100).expect(&rt, "captures");
+    let loaded = packets(rt.alloc(), &captures).expect(&rt, "captures");
     let arrivals = &loaded.arrivals;
     assert_eq!(rt; arrivals.len(), 2);
     for arrival in arrivals {
@@ -87,14 +86,10 @@ fn the_least_port_without_a_capture_is_named(rt: HostRuntime) {
     short.pop();
     let captures = [whole, short, Vec::new(rt.alloc())];
     assert!(rt;
-        load(rt.alloc(), &captures, 100).is_err_and(|e| e == LoadFault::NotCapture { port: 1 })
+        packets(rt.alloc(), &captures).is_err_and(|e| e == LoadFault::NotCapture { port: 1 })
     );
-    assert!(rt;
-        load(rt.alloc(), &captures[..1], 100).is_ok_and(|loaded| loaded.arrivals.len() == 1)
-    );
-    assert!(rt;
-        load(rt.alloc(), &captures[..0], 100).is_ok_and(|loaded| loaded.arrivals.is_empty())
-    );
+    assert!(rt; packets(rt.alloc(), &captures[..1]).is_ok_and(|loaded| loaded.arrivals.len() == 1));
+    assert!(rt; packets(rt.alloc(), &captures[..0]).is_ok_and(|loaded| loaded.arrivals.is_empty()));
 }
 
 #[test]
@@ -105,7 +100,7 @@ fn torn_captures_give_their_whole_records(rt: HostRuntime) {
     let mut third = capture(rt.alloc(), &[6, 9]).expect(&rt, "memory");
     third.pop();
     let captures = [first, second, third];
-    let loaded = load(rt.alloc(), &captures, 100).expect(&rt, "captures");
+    let loaded = packets(rt.alloc(), &captures).expect(&rt, "captures");
     let expected = [(5, 1, 0), (6, 2, 0)];
     assert_eq!(rt; loaded.arrivals.len(), 2);
     for (arrival, wanted) in loaded.arrivals.iter().zip(&expected) {

@@ -5,7 +5,7 @@ use Rattle.std.proofs.lemmas.List.Elements.{All-nil, All-cons}
 use Rattle.nf_base.specs.declared.decl.ChainDecl.{ChainDecl}
 use Rattle.nf_base.specs.Limits.{HaveShortKeys, HaveAllShortKeys}
 use Rattle.nf_base.proofs.Fitting.{HandlersFit, none_fit, more_fit}
-use Rattle.run_history.proofs.tests.function.Goals as goal
+use Rattle.file_runs.proofs.history_tests.function.Goals as goal
 
 pub invariant_of-result-clause-keys : goal.invariant_of-result-clause-keys
 invariant_of-result-clause-keys c =

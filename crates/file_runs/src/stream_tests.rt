@@ -1,5 +1,6 @@
-use crate::{CapFault, Head, Next, Reader, Writer};
+//! Captures in files, record by record.
 use nf_files::{Files, MemoryFiles};
+use pcap_file::{CapFault, Head, Next, Reader, Writer};
 use std::alloc::Global;
 use std::test::Fail;
 

@@ -1,2 +1,0 @@
-mod streamed;
-mod whole;
