@@ -10,6 +10,3 @@ mod words;
 pub use command::{Command, HashCommand, RunCommand};
 pub use endpoint::Endpoint;
 pub use words::command_of;
-
-#[cfg(test)]
-mod tests;

@@ -8,6 +8,3 @@ mod table;
 
 pub use shares::share;
 pub use table::{Table, table_index};
-
-#[cfg(test)]
-mod tests;

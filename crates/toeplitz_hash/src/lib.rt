@@ -10,6 +10,3 @@ pub mod laws;
 pub use hash::toeplitz;
 pub use input::{hash_packet, input_of};
 pub use key::DEFAULT_KEY;
-
-#[cfg(test)]
-mod tests;

@@ -57,7 +57,8 @@ pub fn has_bytes(content: &Option<Vec<u8>>, bytes: &[u8]) -> bool {
     }
 }
 
-fn words_of(alloc: Global, line: &str) -> Result<Vec<String>, AllocError> {
+/// Words one space apart.
+pub fn words_of(alloc: Global, line: &str) -> Result<Vec<String>, AllocError> {
     let mut words = Vec::new(alloc);
     for word in line.split(' ') {
         words.push(String::from_str(alloc, word)?)?;

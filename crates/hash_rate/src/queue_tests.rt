@@ -1,17 +1,50 @@
-ghost use Rattle.std.specs.Prelude.{◌≡◌, length, IfOk};
-
-use crate::{Table, share, table_index};
+//! The table, and the shares of its queues.
 use nf_base::keys::Keys;
 use nf_base::limited::Limited;
 use nf_base::packet::{Fields, Packet, PacketId};
+use nf_base::share::Share;
 use nf_base::workers::Workers;
+use rss_table::{Table, share, table_index};
 use std::alloc::{AllocError, Global};
 use std::test::Fail;
 use toeplitz_hash::DEFAULT_KEY;
 
-fn packet_between(src_ip: [u8; 4], src_port: u16, dst_ip: [u8; 4], dst_port: u16) -> Packet
-    ensures { result.id.port ≡ 0 }
-{
+// The tests call the table through these, which promise nothing: what the answers are is compared, and not proved.
+
+/// 1 to 16 workers.
+fn workers(count: u32) -> Option<Workers> {
+    if 1 <= count && count <= 16 {
+        Some(Workers::new(count))
+    } else {
+        None
+    }
+}
+
+/// The queue of a packet among as many as there are workers, where its port has a key.
+fn queue(count: u32, keys: &Keys, packet: &Packet) -> Option<u32> {
+    let workers = workers(count)?;
+    if packet.id.port < keys.ports.len() {
+        Some(Table::even(workers).queue(keys, packet))
+    } else {
+        None
+    }
+}
+
+fn index(hash: u32) -> u32 {
+    table_index(hash)
+}
+
+/// The share of a queue among as many as there are workers.
+fn share_of(queue: u32, count: u32) -> Option<Share> {
+    let workers = workers(count)?;
+    if queue < workers.get() {
+        Some(share(queue, workers))
+    } else {
+        None
+    }
+}
+
+fn packet_between(src_ip: [u8; 4], src_port: u16, dst_ip: [u8; 4], dst_port: u16) -> Packet {
     let fields = Fields {
         length: 42,
         src_mac: 0x0200_0000_0001,
@@ -30,9 +63,7 @@ fn packet_between(src_ip: [u8; 4], src_port: u16, dst_ip: [u8; 4], dst_port: u16
     }
 }
 
-fn one_key(alloc: Global, key: [u8; 40]) -> Result<Keys, AllocError>
-    ensures { IfOk result (λ keys. length keys.ports ≡ 1) }
-{
+fn one_key(alloc: Global, key: [u8; 40]) -> Result<Keys, AllocError> {
     let mut ports = Limited::new(alloc);
     ports.push(key)?;
     Ok(Keys { ports })
@@ -46,18 +77,19 @@ fn low_seven_bits_pick_the_queue(rt: HostRuntime) -> Result<(), Fail> {
     let second = packet_between([199, 92, 111, 2], 14230, [65, 69, 140, 83], 4739);
     let cases = [(1, 0, 0), (2, 0, 0), (7, 1, 1), (16, 8, 10)];
     for (workers, of_first, of_second) in cases {
-        if 1 <= workers && workers <= 16 {
-            let table = Table::even(Workers::new(workers));
-            assert_eq!(rt; table.queue(&keys, &first), of_first, "first of {workers}");
-            assert_eq!(rt;
-                table.queue(&keys, &second),
-                of_second,
-                "second of {workers}"
-            );
-        }
+        assert_eq!(rt;
+            queue(workers, &keys, &first),
+            Some(of_first),
+            "first of {workers}"
+        );
+        assert_eq!(rt;
+            queue(workers, &keys, &second),
+            Some(of_second),
+            "second of {workers}"
+        );
     }
-    assert_eq!(rt; table_index(0x51cc_c178), 120);
-    assert_eq!(rt; table_index(0xc626_b0ea), 106);
+    assert_eq!(rt; index(0x51cc_c178), 120);
+    assert_eq!(rt; index(0xc626_b0ea), 106);
     Ok(())
 }
 
@@ -70,14 +102,13 @@ fn keys_by_one_address_look_at_it_alone(rt: HostRuntime) -> Result<(), Fail> {
     by_source[1] = 0x5a;
     by_source[2] = 0x56;
     by_source[3] = 0xda;
-    let table = Table::even(Workers::new(3));
     let there = packet_between([9, 9, 9, 9], 1, [10, 0, 0, 1], 2);
     let back = packet_between([10, 0, 0, 1], 2, [9, 9, 9, 9], 1);
     assert_eq!(rt;
-        table.queue(&one_key(rt.alloc(), by_destination)?, &there),
-        2
+        queue(3, &one_key(rt.alloc(), by_destination)?, &there),
+        Some(2)
     );
-    assert_eq!(rt; table.queue(&one_key(rt.alloc(), by_source)?, &back), 2);
+    assert_eq!(rt; queue(3, &one_key(rt.alloc(), by_source)?, &back), Some(2));
     Ok(())
 }
 
@@ -86,13 +117,12 @@ fn a_skipped_packet_has_queue_0(rt: HostRuntime) -> Result<(), Fail> {
     let keys = one_key(rt.alloc(), DEFAULT_KEY)?;
     let mut packet = packet_between([1, 2, 3, 4], 5, [6, 7, 8, 9], 10);
     packet.fields = None;
-    let table = Table::even(Workers::new(16));
-    assert_eq!(rt; table.queue(&keys, &packet), 0);
+    assert_eq!(rt; queue(16, &keys, &packet), Some(0));
     Ok(())
 }
 
 #[test]
 fn a_share_names_its_queue(rt: HostRuntime) {
-    let own = share(1, Workers::new(2));
-    assert_eq!(rt; (own.queue, own.of), (1, 2));
+    let own = share_of(1, 2).map(|share| (share.queue, share.of));
+    assert_eq!(rt; own, Some((1, 2)));
 }

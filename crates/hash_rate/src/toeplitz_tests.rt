@@ -1,11 +1,34 @@
-ghost use Rattle.std.specs.Prelude.{◌≡◌, length, IfOk};
-
-use crate::{DEFAULT_KEY, hash_packet, input_of, toeplitz};
+//! The Toeplitz hash, and which key a packet is hashed with.
 use nf_base::keys::Keys;
 use nf_base::limited::Limited;
 use nf_base::packet::{Fields, Packet, PacketId};
 use std::alloc::{AllocError, Global};
 use std::test::Fail;
+use toeplitz_hash::{DEFAULT_KEY, hash_packet, input_of, toeplitz};
+
+// The tests call the hash through these, which promise nothing: what the answers are is compared, and not proved.
+
+/// The hash under the default key, of at most 36 bytes.
+fn hash(input: &[u8]) -> Option<u32> {
+    if input.len() <= 36 {
+        Some(toeplitz(&DEFAULT_KEY, input))
+    } else {
+        None
+    }
+}
+
+fn input(fields: &Fields) -> [u8; 12] {
+    input_of(fields)
+}
+
+/// What the hash of a packet is told to be, where its port has a key.
+fn packet_hash(keys: &Keys, packet: &Packet) -> Option<Option<u32>> {
+    if packet.id.port < keys.ports.len() {
+        Some(hash_packet(keys, packet))
+    } else {
+        None
+    }
+}
 
 /// Fields of which only addresses and ports are hashed.
 fn fields_of(src_ip: [u8; 4], src_port: u16, dst_ip: [u8; 4], dst_port: u16) -> Fields {
@@ -54,26 +77,24 @@ fn the_verification_suite_is_met(rt: HostRuntime) {
         ),
     ];
     for (fields, addresses, whole) in rows {
-        let input = input_of(&fields);
-        assert_eq!(rt; toeplitz(&DEFAULT_KEY, &input[..8]), addresses);
-        assert_eq!(rt; toeplitz(&DEFAULT_KEY, &input), whole);
+        let bytes = input(&fields);
+        assert_eq!(rt; hash(&bytes[..8]), Some(addresses));
+        assert_eq!(rt; hash(&bytes), Some(whole));
     }
 }
 
 /// The first IPv6 row of the same suite, which is the longest input.
 #[test]
 fn thirty_six_bytes_are_hashed(rt: HostRuntime) {
-    let input = [
+    let bytes = [
         0x3f, 0xfe, 0x25, 0x01, 0x02, 0x00, 0x1f, 0xff, 0, 0, 0, 0, 0, 0, 0, 0x07, 0x3f, 0xfe,
         0x25, 0x01, 0x02, 0x00, 0x00, 0x03, 0, 0, 0, 0, 0, 0, 0, 0x01, 0x0a, 0xea, 0x06, 0xe6,
     ];
-    assert_eq!(rt; toeplitz(&DEFAULT_KEY, &input[..32]), 0x2cc1_8cd5);
-    assert_eq!(rt; toeplitz(&DEFAULT_KEY, &input), 0x4020_7d3d);
+    assert_eq!(rt; hash(&bytes[..32]), Some(0x2cc1_8cd5));
+    assert_eq!(rt; hash(&bytes), Some(0x4020_7d3d));
 }
 
-fn packet_at(port: u32, fields: Option<Fields>) -> Packet
-    ensures { result.id.port ≡ port }
-{
+fn packet_at(port: u32, fields: Option<Fields>) -> Packet {
     Packet {
         id: PacketId { port, seq: 0 },
         time: 0,
@@ -82,9 +103,7 @@ fn packet_at(port: u32, fields: Option<Fields>) -> Packet
 }
 
 /// At port 0 the default key, at port 1 one whose bit 63 alone is 1.
-fn two_keys(alloc: Global) -> Result<Keys, AllocError>
-    ensures { IfOk result (λ keys. length keys.ports ≡ 2) }
-{
+fn two_keys(alloc: Global) -> Result<Keys, AllocError> {
     let mut bit_63 = [0; 40];
     bit_63[7] = 1;
     let mut ports = Limited::new(alloc);
@@ -98,14 +117,14 @@ fn a_packet_is_hashed_with_the_key_of_its_port(rt: HostRuntime) -> Result<(), Fa
     let keys = two_keys(rt.alloc())?;
     let fields = fields_of([9, 9, 9, 9], 1, [10, 0, 0, 1], 2);
     assert_eq!(rt;
-        hash_packet(&keys, &packet_at(1, Some(fields))),
-        Some(0x8000_0050)
+        packet_hash(&keys, &packet_at(1, Some(fields))),
+        Some(Some(0x8000_0050))
     );
-    assert_eq!(rt; hash_packet(&keys, &packet_at(1, None)), None);
+    assert_eq!(rt; packet_hash(&keys, &packet_at(1, None)), Some(None));
     let fields = fields_of([66, 9, 149, 187], 2794, [161, 142, 100, 80], 1766);
     assert_eq!(rt;
-        hash_packet(&keys, &packet_at(0, Some(fields))),
-        Some(0x51cc_c178)
+        packet_hash(&keys, &packet_at(0, Some(fields))),
+        Some(Some(0x51cc_c178))
     );
     Ok(())
 }

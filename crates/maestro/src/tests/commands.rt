@@ -1,15 +1,8 @@
-use super::{Command, Endpoint, command_of};
+// The command that each line's words ask for, and lines that are none.
+use super::calls::words_of;
+use command_words::{Command, Endpoint, command_of};
 use std::alloc::{AllocError, Global};
 use std::test::Fail;
-
-/// Words one space apart; None where memory ran out.
-fn words_of(alloc: Global, line: &str) -> Result<Vec<String>, AllocError> {
-    let mut words = Vec::new(alloc);
-    for word in line.split(' ') {
-        words.push(String::from_str(alloc, word)?)?;
-    }
-    Ok(words)
-}
 
 fn asked(alloc: Global, line: &str) -> Result<Option<Command>, AllocError> {
     let words = words_of(alloc, line)?;
@@ -91,11 +84,15 @@ const NO_COMMANDS: [&str; 56] = [
     "maestro hash 1.2.3.4:1 5.6.7.8:2 --key 00",
 ];
 
+fn no_commands() -> &'static [&'static str] {
+    &NO_COMMANDS
+}
+
 #[test]
 fn lines_that_are_no_commands(rt: HostRuntime) -> Result<(), Fail> {
     let alloc = rt.alloc();
     assert!(rt; command_of(alloc, &[])?.is_none());
-    for line in NO_COMMANDS {
+    for line in no_commands() {
         assert!(rt; asked(alloc, line)?.is_none(), "{line}");
     }
     Ok(())
@@ -131,11 +128,15 @@ const RUNS: [(&str, &str); 12] = [
     ("maestro run -- -x.nf -out -a", "-x.nf -out -a 10000000"),
 ];
 
+fn runs() -> &'static [(&'static str, &'static str)] {
+    &RUNS
+}
+
 #[test]
 fn lines_that_are_runs(rt: HostRuntime) -> Result<(), Fail> {
     let alloc = rt.alloc();
-    for (line, expected) in RUNS {
-        assert_eq!(rt; run_line(alloc, line)?.as_str(), expected, "{line}");
+    for (line, expected) in runs() {
+        assert_eq!(rt; run_line(alloc, line)?.as_str(), *expected, "{line}");
     }
     Ok(())
 }
