@@ -3,6 +3,8 @@
 #![tactic(auto)]
 
 #[cfg(test)]
+mod calls;
+#[cfg(test)]
 mod capture_tests;
 #[cfg(test)]
 mod fault_count_tests;

@@ -1,6 +1,7 @@
 //! Captures in files, record by record.
-use nf_files::{Files, MemoryFiles};
-use pcap_file::{CapFault, Head, Next, Reader, Writer};
+use crate::calls::{create, header, next, open, write_one, write_two};
+use nf_files::MemoryFiles;
+use pcap_file::{CapFault, Head, Next};
 use std::alloc::Global;
 use std::test::Fail;
 
@@ -28,13 +29,20 @@ fn files_with(alloc: Global, bytes: &[u8], fails: &[u64]) -> Result<MemoryFiles,
 fn records_are_given_one_by_one(rt: HostRuntime) -> Result<(), Fail> {
     let alloc = rt.alloc();
     let mut files = files_with(alloc, &BIG, &[])?;
-    let file = files.open_in("a")?;
-    let mut reader = Reader::header(alloc, &mut files, file)?;
+    let file = open(&mut files, "a")?;
+    let mut reader = header(alloc, &mut files, file)?;
     let mut frame = Vec::new(alloc);
-    assert_eq!(rt; reader.next(&mut files, &mut frame), Ok(Next::Frame(HEAD)));
+    assert_eq!(rt;
+        next(&mut reader, &mut files, &mut frame),
+        Ok(Next::Frame(HEAD))
+    );
     assert_eq!(rt; frame.as_slice(), [7, 8, 9].as_slice());
-    assert_eq!(rt; reader.next(&mut files, &mut frame), Ok(Next::End));
-    assert_eq!(rt; reader.next(&mut files, &mut frame), Ok(Next::End), "still");
+    assert_eq!(rt; next(&mut reader, &mut files, &mut frame), Ok(Next::End));
+    assert_eq!(rt;
+        next(&mut reader, &mut files, &mut frame),
+        Ok(Next::End),
+        "still"
+    );
     Ok(())
 }
 
@@ -43,19 +51,19 @@ fn a_torn_record_is_named_by_its_offset(rt: HostRuntime) -> Result<(), Fail> {
     let alloc = rt.alloc();
     for cut in 0..43 {
         let mut files = files_with(alloc, &BIG[..cut], &[])?;
-        let file = files.open_in("a")?;
+        let file = open(&mut files, "a")?;
         let mut frame = Vec::new(alloc);
-        match Reader::header(alloc, &mut files, file) {
+        match header(alloc, &mut files, file) {
             Err(e) => assert_eq!(rt; (e, cut < 24), (CapFault::NotCapture, true), "{cut} bytes"),
             Ok(mut reader) => {
                 let expected = if cut == 24 { Next::End } else { Next::Torn(24) };
                 assert_eq!(rt;
-                    reader.next(&mut files, &mut frame),
+                    next(&mut reader, &mut files, &mut frame),
                     Ok(expected),
                     "{cut} bytes"
                 );
                 assert_eq!(rt;
-                    reader.next(&mut files, &mut frame),
+                    next(&mut reader, &mut files, &mut frame),
                     Ok(expected),
                     "{cut} bytes"
                 );
@@ -77,22 +85,20 @@ fn head(time: u64, captured: u32) -> Head {
 fn a_written_capture_is_read_again(rt: HostRuntime) -> Result<(), Fail> {
     let alloc = rt.alloc();
     let mut files = MemoryFiles::new(alloc, Vec::new(alloc));
-    let out = files.create_out("a")?;
-    let mut writer = Writer::header(alloc, &mut files, out)?;
+    let out = create(&mut files, "a")?;
     // A long frame, so that its record lies across the pieces that are read.
     let long = [7; 200_000];
-    writer.put(&mut files, 5, 60_000, &[1, 2])?;
-    writer.put(&mut files, 2_000_000_009, 60_000, &long)?;
-    let file = files.open_in("a")?;
-    let mut reader = Reader::header(alloc, &mut files, file)?;
+    write_two(alloc, &mut files, out, &long)?;
+    let file = open(&mut files, "a")?;
+    let mut reader = header(alloc, &mut files, file)?;
     let mut frame = Vec::new(alloc);
-    let first = reader.next(&mut files, &mut frame)?;
+    let first = next(&mut reader, &mut files, &mut frame)?;
     assert!(rt; first == Next::Frame(head(5, 2)) && frame.as_slice() == [1, 2].as_slice());
-    let second = reader.next(&mut files, &mut frame)?;
+    let second = next(&mut reader, &mut files, &mut frame)?;
     assert!(rt;
         second == Next::Frame(head(2_000_000_009, 200_000)) && frame.as_slice() == long.as_slice()
     );
-    assert_eq!(rt; reader.next(&mut files, &mut frame), Ok(Next::End));
+    assert_eq!(rt; next(&mut reader, &mut files, &mut frame), Ok(Next::End));
     Ok(())
 }
 
@@ -100,22 +106,24 @@ fn a_written_capture_is_read_again(rt: HostRuntime) -> Result<(), Fail> {
 fn faults_are_told(rt: HostRuntime) -> Result<(), Fail> {
     let alloc = rt.alloc();
     let mut files = files_with(alloc, &BIG, &[1])?;
-    let file = files.open_in("a")?;
-    assert!(rt; Reader::header(alloc, &mut files, file).is_err_and(|e| e == CapFault::File));
+    let file = open(&mut files, "a")?;
+    assert!(rt; header(alloc, &mut files, file).is_err_and(|e| e == CapFault::File));
     let mut files = files_with(alloc, &BIG, &[2])?;
-    let file = files.open_in("a")?;
-    let mut reader = Reader::header(alloc, &mut files, file)?;
+    let file = open(&mut files, "a")?;
+    let mut reader = header(alloc, &mut files, file)?;
     let mut frame = Vec::new(alloc);
     assert_eq!(rt;
-        reader.next(&mut files, &mut frame),
+        next(&mut reader, &mut files, &mut frame),
         Ok(Next::Frame(HEAD)),
         "read ahead"
     );
-    assert_eq!(rt; reader.next(&mut files, &mut frame), Err(CapFault::File));
+    assert_eq!(rt;
+        next(&mut reader, &mut files, &mut frame),
+        Err(CapFault::File)
+    );
     let mut files = files_with(alloc, &BIG, &[2])?;
-    let out = files.create_out("b")?;
-    let mut writer = Writer::header(alloc, &mut files, out)?;
-    assert_eq!(rt; writer.put(&mut files, 0, 3, &[1]), Err(CapFault::File));
+    let out = create(&mut files, "b")?;
+    assert_eq!(rt; write_one(alloc, &mut files, out)?, Err(CapFault::File));
     assert_eq!(rt; files.given(out).len(), 24);
     Ok(())
 }
