@@ -12,6 +12,7 @@ use nf_base::key::Key;
 use nf_base::limited::Limited;
 use nf_base::share::Share;
 use nf_base::size::Size;
+use nf_base::state::{Chain, Entry, State};
 use nf_base::width::Width;
 use std::alloc::{AllocError, Global};
 use std::test::Fail;
@@ -153,19 +154,30 @@ fn made(created: Option<Created>) -> Option<u32> {
     }
 }
 
-#[test]
-fn own_indices_are_given_out_and_found_by_each_key(rt: HostRuntime) -> Result<(), Fail> {
-    let mut tables = second_of_two(rt.alloc())?;
-    let a = made(create(&mut tables, 0, &[10, 80, 5000, 2], 7)).ok_or("no index")?;
-    let b = made(create(&mut tables, 0, &[11, 80, 5001, 2], 3)).ok_or("no index")?;
-    let found = [
+/// Makes two flows, and gives their indices.
+fn two_flows(tables: &mut Tables) -> Option<(u32, u32)> {
+    let a = made(create(tables, 0, &[10, 80, 5000, 2], 7))?;
+    let b = made(create(tables, 0, &[11, 80, 5001, 2], 3))?;
+    Some((a, b))
+}
+
+/// What is found by keys of each map, and of one that is not there.
+fn found_by_each_map(tables: &Tables) -> [Option<u32>; 6] {
+    [
         tables.lookup(0, &key(&[10, 80])),
         tables.lookup(1, &key(&[5001])),
         tables.lookup(1, &key(&[80])),
         tables.lookup(2, &key(&[10])),
         tables.lookup(3, &key(&[10])),
         tables.lookup_in(0, 1, &key(&[5000])),
-    ];
+    ]
+}
+
+#[test]
+fn own_indices_are_given_out_and_found_by_each_key(rt: HostRuntime) -> Result<(), Fail> {
+    let mut tables = second_of_two(rt.alloc())?;
+    let (a, b) = two_flows(&mut tables).ok_or("no index")?;
+    let found = found_by_each_map(&tables);
     assert_eq!(rt; (a.min(b), a.max(b)), (1, 3));
     assert_eq!(rt;
         found.as_slice(),
@@ -355,20 +367,48 @@ fn a_copy_goes_on_by_itself(rt: HostRuntime) -> Result<(), Fail> {
     Ok(())
 }
 
+/// Whether an array of a state has these cells.
+fn has_cells(state: &State, array: usize, cells: &[u64]) -> bool {
+    match state.arrays.as_slice().get(array) {
+        Some(found) => found.as_slice() == cells,
+        None => false,
+    }
+}
+
+/// Whether an entry has these labels, these free columns and this stamp.
+fn is_entry(entry: &Entry, labels: &[u64], free: &[u64], stamp: u64) -> bool {
+    entry.labels.as_slice() == labels && entry.free.as_slice() == free && entry.stamp == stamp
+}
+
+/// Whether a chain has such an entry at index 3.
+fn has_entry(chain: &Chain, labels: &[u64], free: &[u64], stamp: u64) -> bool {
+    match chain.slots.as_slice().get(3) {
+        Some(Some(entry)) => is_entry(entry, labels, free, stamp),
+        Some(None) => false,
+        None => false,
+    }
+}
+
+/// Whether the flows of a state have five indices, this greatest stamp, and at index 3 such an entry.
+fn has_flow(state: &State, labels: &[u64], free: &[u64], stamp: u64, greatest: u64) -> bool {
+    match state.chains.as_slice().first() {
+        Some(flows) => {
+            flows.slots.len() == 5
+                && flows.greatest == greatest
+                && has_entry(flows, labels, free, stamp)
+        }
+        None => false,
+    }
+}
+
 #[test]
 fn a_state_has_each_entry_with_its_parts(rt: HostRuntime) -> Result<(), Fail> {
     let mut tables = second_of_two(rt.alloc())?;
     let made = create_at(&mut tables, 0, 3, &[11, 81, 5001, 4], 7);
     let set = set_cell(&mut tables, 0, 3, 4, 99);
     let state = tables.state(rt.alloc())?;
-    let cells = state.arrays.as_slice().first().ok_or("no array")?;
-    let flows = state.chains.as_slice().first().ok_or("no chain")?;
-    let slot = flows.slots.as_slice().get(3).ok_or("no index")?;
-    let entry = slot.as_ref().ok_or("no entry")?;
     assert!(rt; made && set);
-    assert_eq!(rt; cells.as_slice(), [7, 0, 0, 9].as_slice());
-    assert_eq!(rt; entry.labels.as_slice(), [11, 81, 5001, 4].as_slice());
-    assert_eq!(rt; entry.free.as_slice(), [99].as_slice());
-    assert_eq!(rt; (entry.stamp, flows.greatest, flows.slots.len()), (7, 7, 5));
+    assert!(rt; has_cells(&state, 0, &[7, 0, 0, 9]));
+    assert!(rt; has_flow(&state, &[11, 81, 5001, 4], &[99], 7, 7));
     Ok(())
 }
