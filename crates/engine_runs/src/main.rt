@@ -1,6 +1,6 @@
 //! Runs each function of its input, one a line, on the tables and on the plain interpreter side by side over packets
 //! made by a linear congruential generator, and says whether both came to the same with each packet and in the end.
-//! Then the longest block that a text can have, over a few packets.
+//! Then a block of 131,000 statements, about as many as a text can have, over a few packets.
 #![tactic(auto)]
 
 mod sides;
