@@ -1,0 +1,46 @@
+"""The program of this repository, for the measurements and the comparisons."""
+import os
+import subprocess
+import sys
+import time
+from dataclasses import dataclass
+from pathlib import Path
+
+TOP = Path(__file__).resolve().parent.parent
+
+
+def built():
+    """The program, built where it isn't yet. Without words it refuses its command line, with status 1."""
+    none = subprocess.DEVNULL
+    process = subprocess.Popen([TOP / "maestro"], stdin=none, stdout=none, stderr=subprocess.PIPE, text=True)
+    for line in process.stderr:
+        if line != "maestro: bad command line\n":
+            sys.stderr.write(line)
+    if process.wait() != 1:
+        sys.exit(f"{Path(sys.argv[0]).name}: {TOP / 'maestro'} ended with status {process.returncode}")
+    return TOP / "crates" / "maestro" / "out" / "maestro"
+
+
+@dataclass
+class Took:
+    """What a process took, in seconds and KiB, and how it ended."""
+    seconds: float
+    processor: float
+    memory: int
+    status: int
+    said: bytes
+
+
+def timed(words, **how):
+    """Runs a program to its end."""
+    start = time.monotonic()
+    process = subprocess.Popen(words, **how)
+    try:
+        said = process.stdout.read() if process.stdout else b""
+        _, status, used = os.wait4(process.pid, 0)
+    except BaseException:
+        process.kill()
+        raise
+    seconds = time.monotonic() - start
+    process.returncode = os.waitstatus_to_exitcode(status)
+    return Took(seconds, used.ru_utime + used.ru_stime, used.ru_maxrss, process.returncode, said)
