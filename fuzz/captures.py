@@ -1,0 +1,113 @@
+"""Captures and frames, as docs/FORMATS.md has them: records and fields read, edits and outputs written."""
+import struct
+from dataclasses import dataclass
+
+# The order of bytes and the nanoseconds of a fraction's unit, by a capture's first bytes.
+FORMS = {
+    bytes.fromhex("a1b2c3d4"): (">", 1000),
+    bytes.fromhex("d4c3b2a1"): ("<", 1000),
+    bytes.fromhex("a1b23c4d"): (">", 1),
+    bytes.fromhex("4d3cb2a1"): ("<", 1),
+}
+LATEST, LONGEST_FRAME = 4_294_967_295_999_999_999, 262_144
+OUTPUT_HEADER = bytes.fromhex("4d3cb2a1 02000400 00000000 00000000 00000400 01000000")
+ETHERNET, IPV4, TCP, UDP = 1, 0x0800, 6, 17
+
+
+@dataclass
+class Record:
+    """A record of a capture: its packet's time, the original length and the captured bytes."""
+    time: int
+    length: int
+    frame: bytes
+
+
+def records_of(data):
+    """The whole records of a capture, and the byte at which it is torn or None. None where it is no capture."""
+    form = FORMS.get(data[:4])
+    if len(data) < 24 or form is None:
+        return None
+    order, unit = form
+    if struct.unpack_from(f"{order}I", data, 20)[0] % 2**16 != ETHERNET:
+        return None
+    records, at, latest = [], 24, 0
+    while at < len(data):
+        if at + 16 > len(data):
+            return records, at
+        seconds, fraction, captured, length = struct.unpack_from(f"{order}4I", data, at)
+        if captured > LONGEST_FRAME or at + 16 + captured > len(data):
+            return records, at
+        latest = max(latest, min(seconds * 10**9 + fraction * unit, LATEST))
+        records.append(Record(latest, length, data[at + 16:at + 16 + captured]))
+        at += 16 + captured
+    return records, None
+
+
+def output_record(time, length, frame):
+    """A record of an output."""
+    return struct.pack("<4I", time // 10**9, time % 10**9, len(frame), length) + frame
+
+
+def segment_at(frame):
+    """Where a handled frame's TCP or UDP header begins: behind the IP header (RFC 791 section 3.1)."""
+    return 14 + 4 * (frame[14] & 15)
+
+
+def fields_of(record):
+    """The fields of a handled packet, None for one that is skipped: handled is IPv4 in Ethernet, no fragment, with the
+    first 20 bytes of TCP (RFC 9293 section 3.1) or 8 of UDP (RFC 768)."""
+    frame = record.frame
+
+    def number(at, size):
+        return int.from_bytes(frame[at:at + size], "big")
+
+    if len(frame) < 34 or number(12, 2) != IPV4 or not 0x45 <= frame[14] <= 0x4F:
+        return None
+    if number(20, 2) & 0x3FFF or frame[23] not in (TCP, UDP):
+        return None
+    at = segment_at(frame)
+    if len(frame) < at + (20 if frame[23] == TCP else 8):
+        return None
+    return {
+        "time": record.time, "length": record.length, "dst_mac": number(0, 6), "src_mac": number(6, 6),
+        "src_ip": number(26, 4), "dst_ip": number(30, 4), "proto": frame[23], "ttl": frame[22],
+        "src_port": number(at, 2), "dst_port": number(at + 2, 2),
+    }
+
+
+def updated(checksum, before, after, places):
+    """A checksum after the 16-bit words at these places have changed (RFC 1624 equation 3)."""
+    total = 0xFFFF - checksum
+    for at in places:
+        old, new = (int.from_bytes(frame[at:at + 2], "big") for frame in (before, after))
+        if old != new:
+            total += 0xFFFF - old + new
+    while total > 0xFFFF:
+        total = (total >> 16) + (total & 0xFFFF)
+    return 0xFFFF - total
+
+
+def edited(frame, edits):
+    """A handled frame with its edits, and both checksums brought up to date."""
+    segment = segment_at(frame)
+    places = {
+        "dst_mac": (0, 6), "src_mac": (6, 6), "ttl": (22, 1), "src_ip": (26, 4), "dst_ip": (30, 4),
+        "src_port": (segment, 2), "dst_port": (segment + 2, 2),
+    }
+    made = bytearray(frame)
+    for field, value in edits.items():
+        at, size = places[field]
+        made[at:at + size] = value.to_bytes(size, "big")
+    addresses = (26, 28, 30, 32)
+    put_checksum(made, 24, updated(int.from_bytes(frame[24:26], "big"), frame, made, (22, *addresses)))
+    at = segment + (6 if frame[23] == UDP else 16)
+    checksum = int.from_bytes(frame[at:at + 2], "big")
+    if frame[23] == TCP or checksum:
+        checksum = updated(checksum, frame, made, (*addresses, segment, segment + 2))
+        # RFC 768: 0 would say that there is none.
+        put_checksum(made, at, 0xFFFF if frame[23] == UDP and not checksum else checksum)
+    return bytes(made)
+
+
+def put_checksum(frame, at, checksum):
+    frame[at:at + 2] = checksum.to_bytes(2, "big")

@@ -1,0 +1,99 @@
+"""What a run has to leave: the outputs, the journal, the state, what is printed and the status (docs/FORMATS.md)."""
+import re
+from collections import Counter
+from dataclasses import dataclass, field
+
+from captures import OUTPUT_HEADER, edited, fields_of, output_record, records_of
+from interpreter import IllegalChoice, State, handle
+
+MOST_PACKETS = 10_000_000
+LINE = re.compile(r"[0-9]+ [0-9]+ 0 \S+ (-|[0-9]+(?:,[0-9]+)*)")
+
+
+@dataclass
+class Result:
+    """How a call ends: its status, what it prints, and the files that it creates, by what stands behind OUT."""
+    status: int
+    out: bytes = b""
+    err: bytes = b""
+    files: dict = field(default_factory=dict)
+
+
+def refused(fault):
+    """The end of a run whose text has this fault."""
+    kind, line, column = fault
+    return Result(2, err=f"maestro: refused {kind} at {line}:{column}\n".encode())
+
+
+class Choices:
+    """The choices that a journal tells. They are taken over, since any free index is right."""
+
+    def __init__(self, journal):
+        self.lines = journal.decode("latin-1").split("\n")[1:]
+
+    def of(self, number):
+        """The indices in a packet's line."""
+        found = LINE.fullmatch(self.lines[number]) if number < len(self.lines) else None
+        if found is None:
+            raise IllegalChoice("no line tells of this packet")
+        return [] if found[1] == "-" else [int(index) for index in found[1].split(",")]
+
+
+def capture_order(captures):
+    """The packets of all captures: by time, then port, then number. Each is its port, its number and its record."""
+    packets = [(port, number, it) for port, records in enumerate(captures) for number, it in enumerate(records)]
+    return sorted(packets, key=lambda it: (it[2].time, it[0], it[1]))
+
+
+def receivers(action, port, ports):
+    """The ports to which an action sends."""
+    if action == "flood":
+        return [other for other in range(ports) if other != port]
+    return [int(action[3:])] if action.startswith("to:") else []
+
+
+def expected(function, captures, journal, most=MOST_PACKETS, events=None):
+    """The result of a run of a function over captures, one for each of its ports, of which the first packets are
+    handled, `most` of them. The choices are those of the journal: where one isn't legal, IllegalChoice is raised.
+    """
+    events = Counter() if events is None else events
+    read = [records_of(data) for data in captures]
+    if None in read:
+        return Result(4, err=f"maestro: capture {read.index(None)} has no pcap header\n".encode())
+    packets = capture_order([records for records, _ in read])
+    state, handlers, choices = State(function), dict(function.handlers), Choices(journal)
+    lines, outputs, before = ["maestro journal 1 one 1"], [OUTPUT_HEADER] * function.ports, None
+    for position, (port, number, record) in enumerate(packets[:most]):
+        events["packets"] += 1
+        fields, told, edits = fields_of(record), [], {}
+        if fields is None:
+            events["skipped"] += 1
+            action = "skip"
+        else:
+            events["at the time before"] += record.time == before
+            before = record.time
+            told = choices.of(position)
+            try:
+                action, edits = handle(state, handlers[port], port, fields, told, events)
+            except IllegalChoice as fault:
+                raise IllegalChoice(f"line {position + 2} of the journal: {fault}") from None
+        events[action.partition(":")[0]] += 1
+        lines.append(f"{port} {number} 0 {action} {','.join(map(str, told)) or '-'}")
+        sent = edited(record.frame, edits) if edits else record.frame
+        for receiver in receivers(action, port, function.ports):
+            outputs[receiver] += output_record(record.time, record.length, sent)
+    files = {f".{port}.pcap": output for port, output in enumerate(outputs)}
+    files[".journal"] = "".join(f"{line}\n" for line in lines).encode()
+    files[".state"] = state.text().encode()
+    return ended(packets, most, [torn for _, torn in read], files)
+
+
+def ended(packets, most, tears, files):
+    """The end of a run that handled packets."""
+    status, line = 0, ""
+    if len(packets) > most:
+        status, line = 7, f"maestro: more than {most} packets\n"
+    elif any(at is not None for at in tears):
+        port = next(port for port, at in enumerate(tears) if at is not None)
+        status, line = 5, f"maestro: capture {port} is torn at byte {tears[port]}\n"
+    return Result(status, f"ran {min(len(packets), most)} one 1\n".encode(), line.encode(), files)
