@@ -2,6 +2,7 @@
 import os
 import subprocess
 import sys
+import threading
 import time
 from dataclasses import dataclass
 from pathlib import Path
@@ -31,16 +32,22 @@ class Took:
     said: bytes
 
 
-def timed(words, **how):
-    """Runs a program to its end."""
+def timed(words, limit=None, **how):
+    """Runs a program to its end, or for so many seconds."""
     start = time.monotonic()
     process = subprocess.Popen(words, **how)
+    stop = threading.Timer(limit, process.kill) if limit else None
     try:
+        if stop:
+            stop.start()
         said = process.stdout.read() if process.stdout else b""
         _, status, used = os.wait4(process.pid, 0)
     except BaseException:
         process.kill()
         raise
+    finally:
+        if stop:
+            stop.cancel()
     seconds = time.monotonic() - start
     process.returncode = os.waitstatus_to_exitcode(status)
     return Took(seconds, used.ru_utime + used.ru_stime, used.ru_maxrss, process.returncode, said)
