@@ -1,40 +1,37 @@
--- That a function's text fits is one fact with one proof, as a ghost field has to be.
+-- Handlers whose statements fit: one fact with one proof, as a ghost field has to be.
 use mathlib.Core.HLevel.{Unit-prop, Π_prop, ×_prop}
 use native.Mathlib.Nat.{ℕ_set}
 use native.Mathlib.Bridge.{le_prop}
-use Rattle.std.specs.Prelude.{ℕ, List, length, Option, Some, None, slice_get}
+use Rattle.std.specs.Prelude.{ℕ, ◌<◌, List, length, All, Option, Some, None, slice_get, slice_index_or}
 use Rattle.nf_base.specs.declared.decl.ChainDecl.{ChainDecl}
-use Rattle.nf_base.specs.Text.{Block, End, Forward, Flood, Discard, Get, Find, New, If, Touch, Free, Set, Write, Store}
-use Rattle.nf_base.specs.Fits.{AreFor, Fits, FitsAt, AllFit}
+use Rattle.nf_base.specs.Text.{Question, Get, Find, Test, Block}
+use Rattle.nf_base.specs.Statements.{Statement, Ends, Does, Asks, Makes, statements}
+use Rattle.nf_base.specs.Limits.{AreFor, QuestionFits, Fits}
 
--- so many values are one for each label in one way at most
+-- each statement of each of some blocks fits
+abbrev pub AllFit : List ChainDecl → List Block → Type 0
+AllFit decls blocks = All (λ b. All (Fits decls) (statements b)) blocks
+
 AreFor-prop : (count : ℕ) (decl : Option ChainDecl) → IsProp (AreFor count decl)
 AreFor-prop count None = Unit-prop
 AreFor-prop count (Some decl) = ℕ_set count (length decl.labels)
 
--- a block fits in one way at most
-Fits-prop : (decls : List ChainDecl) (block : Block) → IsProp (Fits decls block)
-Fits-prop decls End = Unit-prop
-Fits-prop decls (Forward port) = Unit-prop
-Fits-prop decls Flood = Unit-prop
-Fits-prop decls Discard = Unit-prop
-Fits-prop decls (Get place chain m key var hit miss next) = ×_prop le_prop (×_prop (Fits-prop decls hit) (×_prop (Fits-prop decls miss) (Fits-prop decls next)))
-Fits-prop decls (Find place chain at guards var hit miss next) = ×_prop (Fits-prop decls hit) (×_prop (Fits-prop decls miss) (Fits-prop decls next))
-Fits-prop decls (New place chain labels var made taken full next) =
-    ×_prop le_prop (×_prop (AreFor-prop (length labels) (slice_get decls chain))
-    (×_prop (Fits-prop decls made) (×_prop (Fits-prop decls taken) (×_prop (Fits-prop decls full) (Fits-prop decls next)))))
-Fits-prop decls (If comparison left right holds fails next) = ×_prop (Fits-prop decls holds) (×_prop (Fits-prop decls fails) (Fits-prop decls next))
-Fits-prop decls (Touch var next) = Fits-prop decls next
-Fits-prop decls (Free var next) = Fits-prop decls next
-Fits-prop decls (Set field g next) = Fits-prop decls next
-Fits-prop decls (Write var column g next) = Fits-prop decls next
-Fits-prop decls (Store place array at g next) = Fits-prop decls next
+QuestionFits-prop : (q : Question) → IsProp (QuestionFits q)
+QuestionFits-prop (Get place chain m key var) = le_prop
+QuestionFits-prop (Find place chain at guards var) = Unit-prop
+QuestionFits-prop (Test place comparison left right) = Unit-prop
 
--- the block of a port fits in one way at most
-FitsAt-prop : (decls : List ChainDecl) (block : Option Block) → IsProp (FitsAt decls block)
-FitsAt-prop decls None = Unit-prop
-FitsAt-prop decls (Some block) = Fits-prop decls block
+Fits-prop : (decls : List ChainDecl) (s : Statement) → IsProp (Fits decls s)
+Fits-prop decls (Ends e) = Unit-prop
+Fits-prop decls (Does op) = Unit-prop
+Fits-prop decls (Asks q) = QuestionFits-prop q
+Fits-prop decls (Makes n) = ×_prop le_prop (AreFor-prop (length n.labels) (slice_get decls n.chain))
 
--- all blocks fit in one way at most
+-- a fact on each element holds in one way at most, where it does of each
+All-prop : {A : Type 0} (P : A → Type 0) → ((x : A) → IsProp (P x)) → (xs : List A) → IsProp (All P xs)
+All-prop P once xs = Π_prop (λ (k : ℕ). Π_prop (λ d. Π_prop (λ (_ : k < length xs). once (slice_index_or xs k d))))
+
 pub AllFit-prop : (decls : List ChainDecl) (blocks : List Block) → IsProp (AllFit decls blocks)
-AllFit-prop decls blocks = Π_prop (λ (port : ℕ). FitsAt-prop decls (slice_get blocks port))
+AllFit-prop decls blocks =
+    All-prop (λ b. All (Fits decls) (statements b))
+    (λ b. All-prop (Fits decls) (Fits-prop decls) (statements b)) blocks

@@ -1,46 +1,42 @@
 -- The limits that the declared types keep.
-use Rattle.std.specs.Prelude.{ℕ, ◌+◌, ◌<◌, ◌≤◌, List, [], ◌∷◌, length, All}
-use Rattle.nf_base.specs.declared.code.Code.{Code}
+use Rattle.std.specs.Prelude.{◌≡◌, ℕ, ◌+◌, ◌<◌, ◌≤◌, List, [], ◌∷◌, length, All, Option, Some, None, slice_get}
+use Rattle.std.specs.List.{count_by}
+use Rattle.nf_base.specs.declared.block.Block as block
 use Rattle.nf_base.specs.declared.decl.MapDecl.{MapDecl}
 use Rattle.nf_base.specs.declared.decl.ChainDecl.{ChainDecl}
-use Rattle.nf_base.specs.Text.{Block, End, Forward, Flood, Discard, Get, Find, New, If, Touch, Free, Set, Write, Store}
+use Rattle.nf_base.specs.Text.{Question, Get, Find, Test, Creation}
 use Rattle.nf_base.specs.View.{block_of}
+use Rattle.nf_base.specs.Statements.{Statement, Ends, Does, Asks, Makes, statements, is_new, is_lookup, open_blocks}
 
--- how many `new` a block's text has
-abbrev pub news : Block → ℕ
-news End = 0
-news (Forward port) = 0
-news Flood = 0
-news Discard = 0
-news (Get place chain m key var hit miss next) = news hit + news miss + news next
-news (Find place chain at guards var hit miss next) = news hit + news miss + news next
-news (New place chain labels var made taken full next) = 1 + news made + news taken + news full + news next
-news (If comparison left right holds fails next) = news holds + news fails + news next
-news (Touch var next) = news next
-news (Free var next) = news next
-news (Set field g next) = news next
-news (Write var column g next) = news next
-news (Store place array at g next) = news next
+-- at most 16 `new`, at most 32 of `get`, `find` and `new` together, and at most 64 blocks open
+abbrev pub IsWithinLimits : block.Block → Type 0
+IsWithinLimits b =
+    (count_by is_new (statements (block_of b)) ≤ 16)
+    × (count_by is_lookup (statements (block_of b)) ≤ 32)
+    × (open_blocks (block_of b) ≤ 64)
 
--- how many `get`, `find` and `new` a block's text has
-abbrev pub lookups : Block → ℕ
-lookups End = 0
-lookups (Forward port) = 0
-lookups Flood = 0
-lookups Discard = 0
-lookups (Get place chain m key var hit miss next) = 1 + lookups hit + lookups miss + lookups next
-lookups (Find place chain at guards var hit miss next) = 1 + lookups hit + lookups miss + lookups next
-lookups (New place chain labels var made taken full next) = 1 + lookups made + lookups taken + lookups full + lookups next
-lookups (If comparison left right holds fails next) = lookups holds + lookups fails + lookups next
-lookups (Touch var next) = lookups next
-lookups (Free var next) = lookups next
-lookups (Set field g next) = lookups next
-lookups (Write var column g next) = lookups next
-lookups (Store place array at g next) = lookups next
+-- so many values are one for each label of a chain; where there is no such chain, no entry is made
+abbrev pub AreFor : ℕ → Option ChainDecl → Type 0
+AreFor count None = Unit {0}
+AreFor count (Some decl) = count ≡ length decl.labels
 
--- at most 16 `new`, and at most 32 of `get`, `find` and `new` together
-abbrev pub IsWithinLimits : Code → Type 0
-IsWithinLimits code = (news (block_of code) ≤ 16) × (lookups (block_of code) ≤ 32)
+-- a `get` looks up at most 8 parts
+abbrev pub QuestionFits : Question → Type 0
+QuestionFits (Get place chain m key var) = length key ≤ 8
+QuestionFits (Find place chain at guards var) = Unit {0}
+QuestionFits (Test place comparison left right) = Unit {0}
+
+-- a `new` gives at most 136 labels, those that its chain has
+abbrev pub CreationFits : List ChainDecl → Creation → Type 0
+CreationFits decls n =
+    (length n.labels ≤ 136) × AreFor (length n.labels) (slice_get decls n.chain)
+
+-- whether a statement fits the tables of these chains
+abbrev pub Fits : List ChainDecl → Statement → Type 0
+Fits decls (Ends e) = Unit {0}
+Fits decls (Does op) = Unit {0}
+Fits decls (Asks q) = QuestionFits q
+Fits decls (Makes n) = CreationFits decls n
 
 -- how many maps some chains have together
 abbrev pub maps_in : List ChainDecl → ℕ

@@ -1,122 +1,136 @@
--- The operations of a handler's statements, one context to the next.
-use Rattle.std.specs.Prelude.{ℕ, ◌==◌, nat_lt, ◌&&◌, List, [], ◌∷◌, ◌++◌, take, Option, Some, None, if◌then◌else◌, map, slice_get, slice_set}
-use Rattle.nf_base.specs.declared.decl.ChainDecl.{ChainDecl}
-use Rattle.nf_base.specs.declared.decl.MapDecl.{MapDecl}
+-- What each statement does to the context.
+use Rattle.std.specs.Prelude.{ℕ, ◌==◌, ◌&&◌, Bool, false, List, [], ◌∷◌, ◌++◌, take, drop, Option, Some, None, if◌then◌else◌, map, slice_get, slice_set}
+use Rattle.std.specs.Option.{option_map, option_and_then}
+use Rattle.nf_base.specs.Text.{Guard, Operation, Touch, Free, Set, Write, Store, Question, Get, Find, Test, Creation}
+use Rattle.nf_base.specs.declared.width.Width.TheVariants.{W16}
 use Rattle.nf_base.specs.declared.packet.Field.{Field}
-use Rattle.nf_base.specs.declared.packet.Field.TheVariants.{SrcMac, DstMac, SrcIp, DstIp, Ttl, SrcPort, DstPort}
+use Rattle.nf_base.specs.declared.packet.Field.TheVariants.{Time, Length, SrcMac, DstMac, SrcIp, DstIp, Proto, Ttl, SrcPort, DstPort}
+use Rattle.nf_base.specs.declared.done.Edits.{Edits}
 use Rattle.nf_base.specs.declared.state.Entry.{Entry}
 use Rattle.nf_base.specs.declared.state.Chain.{Chain}
-use Rattle.nf_base.specs.declared.done.Action.{Action}
-use Rattle.nf_base.specs.declared.done.Action.TheVariants.{Drop, To}
-use Rattle.nf_base.specs.Chains.{index_from, is_taken, is_full, is_free, entry_at, has_labels, put, touched, freed, written}
-use Rattle.nf_base.specs.Context.{Context, Var, Input, var_at}
+use Rattle.nf_base.specs.Values.{narrowed, compares}
+use Rattle.nf_base.specs.Chains.{chain_at, array_at, maps_of, zeros_of, found, is_taken, is_full, is_vacant, entry_at, stamped, fresh, touched, freed, written}
+use Rattle.nf_base.specs.Context.{EntryRef, Var, Context, Input, var_at, value, given, has_labels}
 
-abbrev pub bind : ℕ → ℕ → ℕ → Context → Context
-bind slot chain i c = record c { vars = take slot c.vars ++ Some (chain, i) ∷ [] }
-
-abbrev pub sent : ℕ → ℕ → Action
-sent ports port = if nat_lt port ports then To port else Drop
-
--- the context with other chains
+-- the context with these chains
 abbrev pub with_chains : List Chain → Context → Context
 with_chains chains c = record c { state = record { chains = chains; arrays = c.state.arrays } }
 
--- what `get` finds in a map of a chain
-abbrev pub found_key : Input → Context → ℕ → ℕ → List ℕ → Option ℕ
-found_key p c chain m key = in_chain (slice_get p.decls chain) (slice_get c.state.chains chain)
-  where
-    in_map : Option MapDecl → Chain → Option ℕ
-    in_map None state = None
-    in_map (Some decl) state = index_from 0 decl key state.slots
+-- the context with the entry at an index of a chain bound to a variable
+abbrev pub bound : ℕ → ℕ → Context → ℕ → Context
+bound var chain c i =
+    record c { vars = take var c.vars ++ Some (record { chain = chain; index = i }) ∷ [] }
 
-    in_chain : Option ChainDecl → Option Chain → Option ℕ
-    in_chain None state = None
-    in_chain (Some decl) None = None
-    in_chain (Some decl) (Some state) = in_map (slice_get decl.maps m) state
+-- the index that a `get` finds under a key in a map of a chain
+abbrev pub key_found : Input → Context → ℕ → ℕ → List ℕ → Option ℕ
+key_found p c chain m key =
+    option_and_then
+    (λ decl. found decl key (chain_at c.state.chains chain).slots)
+    (slice_get (maps_of p.decls chain) m)
 
--- what `find` finds at an index of a chain
-abbrev pub found_at : Context → ℕ → ℕ → List (ℕ × ℕ) → Option ℕ
-found_at c chain i guards = in_chain (slice_get c.state.chains chain)
-  where
-    at_entry : Option Entry → Option ℕ
-    at_entry None = None
-    at_entry (Some entry) = if has_labels guards entry then Some i else None
+-- an index whose entry has the labels that are asked for
+abbrev pub index_if : Input → Context → List Guard → ℕ → Option Entry → Option ℕ
+index_if p c guards i None = None
+index_if p c guards i (Some entry) = if has_labels p c guards entry then Some i else None
 
-    in_chain : Option Chain → Option ℕ
-    in_chain None = None
-    in_chain (Some state) = at_entry (entry_at state.slots i)
+-- the index that a `find` finds in a chain
+abbrev pub index_found : Input → Context → ℕ → ℕ → List Guard → Option ℕ
+index_found p c chain i guards =
+    index_if p c guards i (entry_at (chain_at c.state.chains chain).slots i)
 
--- what `new` comes to: an entry made at a free index, the next choice; a key taken; or no index free
-pub data Making : Type 0 where
-  Made : ℕ → Context → Making
-  Taken : Making
-  Full : Making
-  BadIndex : Making
+-- the context in which a question hits; none where it misses
+abbrev pub answer : Input → Context → Question → Option Context
+answer p c (Get place chain m key var) =
+    option_map (bound var chain c) (key_found p c chain m (map (given p c) key))
+answer p c (Find place chain at guards var) =
+    option_map (bound var chain c) (index_found p c chain (value p c at) guards)
+answer p c (Test place comparison left right) =
+    if compares comparison (value p c left) (value p c right) then Some c else None
 
-abbrev pub zeros : {A : Type 0} → List A → List ℕ
-zeros columns = map (λ _. 0) columns
+-- where a `new` stops, by the number and the state of its chain
+abbrev pub Stops : Type 0
+Stops = (chain : ℕ) → Chain → Bool
 
-abbrev pub making : Input → ℕ → List ℕ → Context → Making
-making p chain labels c = in_chain (slice_get p.decls chain) (slice_get c.state.chains chain)
-  where
-    with_choice : ChainDecl → Chain → List ℕ → Making
-    with_choice decl state [] = BadIndex
-    with_choice decl state (i ∷ left) = if is_free state.slots i then Made i (record (with_chains (slice_set c.state.chains chain (put p.time i labels (zeros decl.free) state)) c) { left = left }) else BadIndex
+-- the undivided step stops nowhere
+abbrev pub never : Stops
+never chain state = false
 
-    in_chain : Option ChainDecl → Option Chain → Making
-    in_chain None state = Full
-    in_chain (Some decl) None = Full
-    in_chain (Some decl) (Some state) = if is_taken decl.maps labels state.slots then Taken else if is_full state.slots then Full else with_choice decl state c.left
+-- what a `new` comes to
+pub data NewResult : Type 0 where
+  Made : (index : ℕ) → NewResult
+  Taken Full Illegal Stopped : NewResult
 
--- the chains after an operation on the chain and at the index of a variable
+-- the next choice, where it is vacant
+abbrev pub chosen : List (Option Entry) → List ℕ → NewResult
+chosen slots [] = Illegal
+chosen slots (i ∷ left) = if is_vacant (slice_get slots i) then Made i else Illegal
+
+-- in this order: a key that is taken, a stop, no index vacant, the next choice
+abbrev pub new_result : Stops → Input → Context → Creation → NewResult
+new_result stops p c n =
+    let chain = chain_at c.state.chains n.chain in
+    if is_taken (maps_of p.decls n.chain) (map (given p c) n.labels) chain.slots then Taken
+    else if stops n.chain chain then Stopped
+    else if is_full chain.slots then Full
+    else chosen chain.slots c.left
+
+-- the entry that a `new` makes, to be stamped
+abbrev pub new_entry : Input → Context → Creation → Entry
+new_entry p c n = fresh (map (given p c) n.labels) (zeros_of p.decls n.chain)
+
+-- the context with an entry made at an index, by the next choice
+abbrev pub with_new : Input → Context → Creation → ℕ → Context
+with_new p c n i =
+    let chain = stamped p.time i (new_entry p c n) (chain_at c.state.chains n.chain) in
+    let d = bound n.var n.chain (with_chains (slice_set c.state.chains n.chain chain) c) i in
+    record d { left = drop 1 c.left }
+
+-- the chains after an operation at a variable's index
 abbrev pub on_var : (ℕ → Chain → Chain) → Var → List Chain → List Chain
 on_var op None chains = chains
-on_var op (Some at) chains = in_chain (slice_get chains at.0)
-  where
-    in_chain : Option Chain → List Chain
-    in_chain None = chains
-    in_chain (Some chain) = slice_set chains at.0 (op at.1 chain)
+on_var op (Some at) chains =
+    slice_set chains at.chain (op at.index (chain_at chains at.chain))
 
-abbrev pub touching : Input → ℕ → Context → Context
-touching p var c = with_chains (on_var (touched p.time) (var_at c.vars var) c.state.chains) c
-
-abbrev pub writing : ℕ → ℕ → ℕ → Context → Context
-writing var column v c = with_chains (on_var (written column v) (var_at c.vars var) c.state.chains) c
-
--- a variable, unless it stands for the entry at an index of a chain
-abbrev pub unless_at : ℕ × ℕ → Var → Var
+-- a variable, unless it stands for the entry that was freed
+abbrev pub unless_at : EntryRef → Var → Var
 unless_at gone None = None
-unless_at gone (Some at) = if at.0 == gone.0 && at.1 == gone.1 then None else Some at
+unless_at gone (Some at) =
+    if at.chain == gone.chain && at.index == gone.index then None else Some at
 
+-- the variables after one's entry was freed: none stands for it any more
 abbrev pub without : Var → List Var → List Var
 without None vars = vars
 without (Some gone) vars = map (unless_at gone) vars
 
-abbrev pub freeing : ℕ → Context → Context
-freeing var c = record (with_chains (on_var freed (var_at c.vars var) c.state.chains) c) { vars = without (var_at c.vars var) c.vars }
+-- the edits with a value for a field; fields that may not be set have none
+abbrev pub edited : Field → ℕ → Edits → Edits
+edited SrcMac v edits = record edits { src_mac = Some v }
+edited DstMac v edits = record edits { dst_mac = Some v }
+edited SrcIp v edits = record edits { src_ip = Some v }
+edited DstIp v edits = record edits { dst_ip = Some v }
+edited Ttl v edits = record edits { ttl = Some v }
+edited SrcPort v edits = record edits { src_port = Some v }
+edited DstPort v edits = record edits { dst_port = Some v }
+edited Time v edits = edits
+edited Length v edits = edits
+edited Proto v edits = edits
 
--- the number of a field among those that may be set
-abbrev pub edit_of : Field → Option ℕ
-edit_of SrcMac = Some 0
-edit_of DstMac = Some 1
-edit_of SrcIp = Some 2
-edit_of DstIp = Some 3
-edit_of Ttl = Some 4
-edit_of SrcPort = Some 5
-edit_of DstPort = Some 6
-edit_of field = None
+-- the context with a value in a cell of an array; past the array's end nothing is written
+abbrev pub stored : ℕ → ℕ → ℕ → Context → Context
+stored array i v c = record c {
+  state = record {
+    chains = c.state.chains;
+    arrays = slice_set c.state.arrays array (slice_set (array_at c.state.arrays array) i v);
+  };
+}
 
-abbrev pub edited : Option ℕ → ℕ → List (Option ℕ) → List (Option ℕ)
-edited None v values = values
-edited (Some k) v values = slice_set values k (Some v)
-
-abbrev pub setting : Field → ℕ → Context → Context
-setting field v c = record c { edits = record { values = edited (edit_of field) v c.edits.values } }
-
--- past the end nothing is written
-abbrev pub storing : ℕ → ℕ → ℕ → Context → Context
-storing array i v c = record c { state = record { chains = c.state.chains; arrays = in_array (slice_get c.state.arrays array) } }
-  where
-    in_array : Option (List ℕ) → List (List ℕ)
-    in_array None = c.state.arrays
-    in_array (Some cells) = slice_set c.state.arrays array (slice_set cells i v)
+-- the context after an operation
+abbrev pub after : Input → Context → Operation → Context
+after p c (Touch var) =
+    with_chains (on_var (touched p.time) (var_at c.vars var) c.state.chains) c
+after p c (Free var) =
+    record (with_chains (on_var freed (var_at c.vars var) c.state.chains) c) { vars = without (var_at c.vars var) c.vars }
+after p c (Set field g) = record c { edits = edited field (given p c g) c.edits }
+after p c (Write var column g) =
+    with_chains (on_var (written column (given p c g)) (var_at c.vars var) c.state.chains) c
+after p c (Store place array at g) = stored array (narrowed W16 (value p c at)) (given p c g) c

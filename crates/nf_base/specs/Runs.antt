@@ -1,90 +1,82 @@
 -- Whole runs.
-use Rattle.std.specs.Prelude.{ℕ, IsTrue, ◌&&◌, Bool, true, false, List, [], ◌∷◌, ◌++◌, fold, Option, Some, None, Contains, map, option_and_then, replicate, slice_get, nat_lt, ◌+◌, if◌then◌else◌}
-use Rattle.nf_base.specs.declared.decl.ChainDecl.{ChainDecl}
-use Rattle.nf_base.specs.Text.{Block, Function}
+use Rattle.std.specs.Prelude.{ℕ, IsTrue, List, [], ◌∷◌, Option, Some, None, Contains}
+use Rattle.std.specs.Option.{option_and_then}
+use Rattle.nf_base.specs.Text.{Function}
 use Rattle.nf_base.specs.declared.packet.Packet.{Packet}
-use Rattle.nf_base.specs.declared.packet.Fields.{Fields}
-use Rattle.nf_base.specs.declared.state.Entry.{Entry}
-use Rattle.nf_base.specs.declared.state.Chain.{Chain}
 use Rattle.nf_base.specs.declared.state.State.{State}
 use Rattle.nf_base.specs.declared.done.Done.{Done}
-use Rattle.nf_base.specs.Step.{Stepped, step, opening, input, begun}
-use Rattle.nf_base.specs.Events.{Event, is_quiet}
-use Rattle.nf_base.specs.Written.{is_written}
-use Rattle.nf_base.specs.Handler.{trace, events_of}
-use Rattle.nf_base.specs.Places.{Place, Numbers, no_numbers, places, all_numbers}
-
--- the operations of a packet's step, after expiry
-abbrev pub events : Function → State → Packet → List ℕ → List Event
-events f s packet choices = of_fields packet.fields
-  where
-    of_code : Fields → Option Block → List Event
-    of_code fields None = []
-    of_code fields (Some code) = events_of (trace (input f packet.time fields) code (begun f s packet.time choices))
-
-    of_fields : Option Fields → List Event
-    of_fields None = []
-    of_fields (Some fields) = of_code fields (slice_get f.handlers packet.id.port)
-
-abbrev pub is_past : ℕ → ℕ → Option Entry → Bool
-is_past time lifetime None = false
-is_past time lifetime (Some entry) = nat_lt (entry.stamp + lifetime) time
-
--- whether no entry of a chain is past its lifetime
-abbrev pub none_past : ℕ → ℕ → List (Option Entry) → Bool
-none_past time lifetime [] = true
-none_past time lifetime (slot ∷ slots) = if is_past time lifetime slot then false else none_past time lifetime slots
-
-abbrev pub all_none_past : ℕ → List ChainDecl → List Chain → Bool
-all_none_past time [] chains = true
-all_none_past time (decl ∷ decls) [] = true
-all_none_past time (decl ∷ decls) (chain ∷ chains) = none_past time decl.lifetime chain.slots && all_none_past time decls chains
-
--- no single operation of the step changes the state, expiry included
-abbrev pub quiet : Function → State → Packet → List ℕ → Bool
-quiet f s packet choices = of_fields packet.fields
-  where
-    of_fields : Option Fields → Bool
-    of_fields None = true
-    of_fields (Some fields) = all_none_past packet.time f.chains s.chains && is_quiet (events f s packet choices)
+use Rattle.nf_base.specs.Operations.{Stops, never}
+use Rattle.nf_base.specs.Step.{StepResult, step, step_by, recorded, opening}
+use Rattle.nf_base.specs.Objects.{is_written}
+use Rattle.nf_base.specs.Locations.{Location, object_of, Numbers, no_numbers, locations, all_numbers}
 
 -- a packet with its choices
-pub record Turn : Type 0 where
+pub record Handling : Type 0 where
   pub packet : Packet
   pub choices : List ℕ
 
--- one packet of a run: what it answers, and the places that it touched
-pub record Report : Type 0 where
-  pub done : Done
-  pub places : List Place
-
--- a run so far
-pub record Ran : Type 0 where
+-- the state after a run, and each packet's answer, in order
+pub record RunResult : Type 0 where
   pub state : State
-  pub numbers : Numbers
-  pub reports : List Report
+  pub answers : List Done
 
-abbrev pub with_step : Function → Ran → Turn → Option Stepped → Option Ran
-with_step f r t None = None
-with_step f r t (Some s) = Some (record {
-  state = s.state;
-  numbers = all_numbers r.numbers (events f r.state t.packet t.choices);
-  reports = r.reports ++ record { done = s.done; places = places f.chains r.numbers (events f r.state t.packet t.choices) } ∷ [];
-})
+-- an answer in front of those of the packets that follow
+abbrev pub with_answer : Done → Option RunResult → Option RunResult
+with_answer done None = None
+with_answer done (Some r) = Some (record { state = r.state; answers = done ∷ r.answers })
 
-abbrev pub turn : Function → Turn → Ran → Option Ran
-turn f t r = with_step f r t (step f r.state t.packet t.choices)
+-- the run over packets with their choices, from a state; none where a packet has no step
+abbrev pub run_by : Stops → Function → State → List Handling → Option RunResult
+run_by stops f s [] = Some (record { state = s; answers = [] })
+run_by stops f s (h ∷ hs) =
+    option_and_then
+    (λ (next : StepResult). with_answer next.done (run_by stops f next.state hs))
+    (step_by stops f s h.packet h.choices)
 
--- the run over packets with their choices, from a run so far
-abbrev pub run : Function → Option Ran → List Turn → Option Ran
-run f r ts = fold (λ so_far t. option_and_then (turn f t) so_far) r ts
+-- the undivided run
+abbrev pub run : Function → State → List Handling → Option RunResult
+run f s hs = run_by never f s hs
 
-abbrev pub start : Function → Ran
-start f = record { state = opening f; numbers = no_numbers; reports = [] }
+-- a packet of a run, and the locations that it touched
+pub record Report : Type 0 where
+  pub packet : Packet
+  pub touched : List Location
 
--- Two packets of a run meet where they touch one place of an object that the function writes.
-pub record Meet (f : Function) (a b : Report) : Type 0 where
-  pub place : Place
-  pub written : IsTrue (is_written f place)
-  pub first : Contains a.places place
-  pub second : Contains b.places place
+-- what a packet touches
+abbrev pub report_of : Function → State → Numbers → Handling → Report
+report_of f s ns h =
+    record { packet = h.packet; touched = locations f.chains ns (recorded f s h.packet h.choices) }
+
+-- what follows, where a packet has a step
+abbrev pub if_stepped : Option StepResult → (State → List Report) → List Report
+if_stepped None rest = []
+if_stepped (Some next) rest = rest next.state
+
+-- what was touched, packet by packet, up to and with the first one that has no step
+abbrev pub reports : Function → State → Numbers → List Handling → List Report
+reports f s ns [] = []
+reports f s ns (h ∷ hs) =
+    report_of f s ns h
+    ∷ if_stepped (step f s h.packet h.choices)
+    (λ next. reports f next (all_numbers ns (recorded f s h.packet h.choices)) hs)
+
+-- the numbers after a packet's step, or where the run ends at it
+abbrev pub numbers_if : Numbers → Option StepResult → (State → Numbers) → Numbers
+numbers_if ns None rest = ns
+numbers_if ns (Some next) rest = rest next.state
+
+-- the numbers after the packets of a run, up to and with the first one that has no step
+abbrev pub numbers_of : Function → State → Numbers → List Handling → Numbers
+numbers_of f s ns [] = ns
+numbers_of f s ns (h ∷ hs) =
+    numbers_if (all_numbers ns (recorded f s h.packet h.choices)) (step f s h.packet h.choices)
+    (λ next. numbers_of f next (all_numbers ns (recorded f s h.packet h.choices)) hs)
+
+-- Two packets of a run meet where they touch one location of an object that the function writes.
+pub record Meet (f : Function) (run : List Handling) (a b : Report) : Type 0 where
+  pub first : Contains (reports f (opening f) no_numbers run) a
+  pub second : Contains (reports f (opening f) no_numbers run) b
+  pub location : Location
+  pub written : IsTrue (is_written f (object_of location))
+  pub by_first : Contains a.touched location
+  pub by_second : Contains b.touched location

@@ -1,9 +1,10 @@
 -- A network function's text, as the definitions see it: the declared `Func` without its boxes.
-use Rattle.std.specs.Prelude.{ℕ, List, map}
+use Rattle.std.specs.Prelude.{ℕ, List}
 use Rattle.nf_base.specs.declared.packet.Field.{Field}
 use Rattle.nf_base.specs.declared.width.Width.{Width}
 use Rattle.nf_base.specs.declared.expr.Operator.{Operator}
 use Rattle.nf_base.specs.declared.expr.Comparison.{Comparison}
+use Rattle.nf_base.specs.declared.decl.ObjectId.{ObjectId}
 use Rattle.nf_base.specs.declared.decl.ChainDecl.{ChainDecl}
 use Rattle.nf_base.specs.declared.decl.ArrayDecl.{ArrayDecl}
 
@@ -27,25 +28,42 @@ pub record Guard : Type 0 where
   pub label : ℕ
   pub given : Given
 
--- what is left of a block; each statement holds what follows it
-pub data Block : Type 0 where
-  End : Block
-  Forward : Expression → Block
-  Flood : Block
-  Discard : Block
-  Get : (place chain map : ℕ) (key : List Given) (var : ℕ) (hit miss next : Block) → Block
-  Find : (place chain : ℕ) (at : Expression) (guards : List Guard) (var : ℕ) (hit miss next : Block) → Block
-  New : (place chain : ℕ) (labels : List Given) (var : ℕ) (made taken full next : Block) → Block
-  If : Comparison → (left right : Expression) (holds fails next : Block) → Block
-  Touch : (var : ℕ) (next : Block) → Block
-  Free : (var : ℕ) (next : Block) → Block
-  Set : Field → Given → (next : Block) → Block
-  Write : (var column : ℕ) → Given → (next : Block) → Block
-  Store : (place array : ℕ) (at : Expression) → Given → (next : Block) → Block
+-- how a block ends
+pub data Ending : Type 0 where
+  FallsOff Flood Discard : Ending
+  Forward : Expression → Ending
 
--- a checked function: its declarations in text order, and one handler a port
+-- a statement with no block of its own
+pub data Operation : Type 0 where
+  Touch Free : (var : ℕ) → Operation
+  Set : Field → Given → Operation
+  Write : (var column : ℕ) → Given → Operation
+  Store : (place array : ℕ) (at : Expression) → Given → Operation
+
+-- what a statement with two blocks asks
+pub data Question : Type 0 where
+  Get : (place chain m : ℕ) (key : List Given) (var : ℕ) → Question
+  Find : (place chain : ℕ) (at : Expression) (guards : List Guard) (var : ℕ) → Question
+  Test : (place : ℕ) → Comparison → (left right : Expression) → Question
+
+-- the entry that a `new` makes: a value for each label of its chain
+pub record Creation : Type 0 where
+  pub place : ℕ
+  pub chain : ℕ
+  pub labels : List Given
+  pub var : ℕ
+
+-- statements, each with the blocks in it, and an end
+pub data Block : Type 0 where
+  End : Ending → Block
+  Do : Operation → (next : Block) → Block
+  Ask : Question → (hit miss next : Block) → Block
+  Make : Creation → (made taken full next : Block) → Block
+
+-- a checked function: its declarations, its objects in text order, and one handler a port
 pub record Function : Type 0 where
   pub name : List ℕ
   pub chains : List ChainDecl
   pub arrays : List ArrayDecl
+  pub objects : List ObjectId
   pub handlers : List Block

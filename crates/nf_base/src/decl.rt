@@ -24,14 +24,21 @@ pub struct MapDecl {
     pub parts: u32,
 }
 
-/// A label or a free column of a chain, by its number among the labels or the free columns.
+/// A label or a free column of a chain, by its number among the labels or the columns.
 #[derive(Clone, Copy, Debug, PartialEq, Eq)]
 pub enum ColumnId {
     Label(u32),
-    Free(u32),
+    Column(u32),
 }
 
-/// A chain: entries by index, each with labels and free columns, given up after a lifetime.
+/// What a function remembers something in: a chain or an array, by its number among them.
+#[derive(Clone, Copy, Debug, PartialEq, Eq)]
+pub enum ObjectId {
+    Chain(u32),
+    Array(u32),
+}
+
+/// A chain: entries by index, each with labels and columns, given up after a lifetime.
 ///
 /// Its labels are the key parts of its maps and its fixed columns, in text order.
 #[derive(Drop)]
@@ -43,10 +50,11 @@ pub struct ChainDecl {
     pub lifetime: u64,
     /// At most 8 parts for each of 16 maps, and 8 fixed columns.
     pub labels: Limited<ColumnDecl, 136>,
-    pub free: Limited<ColumnDecl, 8>,
+    /// The free columns, which a handler may write.
+    pub columns: Limited<ColumnDecl, 8>,
     pub maps: Limited<MapDecl, 16>,
-    /// The labels and free columns in text order.
-    pub columns: Limited<ColumnId, 144>,
+    /// The labels and columns in text order.
+    pub order: Limited<ColumnId, 144>,
 }
 
 /// An array of cells.
@@ -116,9 +124,9 @@ impl ChainDecl {
             size: self.size,
             lifetime: self.lifetime,
             labels: copied_columns(alloc, &self.labels)?,
-            free: copied_columns(alloc, &self.free)?,
+            columns: copied_columns(alloc, &self.columns)?,
             maps: copied_maps(alloc, &self.maps)?,
-            columns: self.columns.copy(alloc)?,
+            order: self.order.copy(alloc)?,
         })
     }
 }

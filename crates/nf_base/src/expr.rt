@@ -42,7 +42,7 @@ pub enum Expr {
         var: u32,
         label: u32,
     },
-    /// A free column of a variable's entry.
+    /// A column of a variable's entry.
     Column {
         var: u32,
         column: u32,

@@ -1,20 +1,20 @@
 ghost use Rattle.std.specs.Prelude.{◌≡◌, ◌≤◌, length, map, IfOk};
-ghost use Rattle.nf_base.specs.Fits.{AllFit};
-ghost use Rattle.nf_base.specs.FitsOnce.{AllFit-prop};
+ghost use Rattle.nf_base.specs.FitsOnce.{AllFit, AllFit-prop};
 ghost use Rattle.nf_base.specs.Limits.{IsWithinLimits, maps_in, HaveAllShortKeys};
 ghost use Rattle.nf_base.specs.View.{block_of};
 
-use crate::code::Code;
+use crate::block::Block;
 use crate::copy::copied;
-use crate::decl::{ArrayDecl, ChainDecl, Name};
+use crate::decl::{ArrayDecl, ChainDecl, Name, ObjectId};
 use crate::limited::Limited;
 use std::alloc::{AllocError, Global};
 
-/// What a port does with its packets: at most 32 `get`, `find` and `new`, and at most 16 `new`.
+/// What a port does with its packets: at most 32 `get`, `find` and `new`, at most 16 `new`, and at
+/// most 64 blocks open in one another.
 #[derive(Drop)]
 pub struct Handler {
-    pub code: Code,
-    pub ghost within: { IsWithinLimits code },
+    pub block: Block,
+    pub ghost within: { IsWithinLimits block },
 }
 
 /// A checked network function. Ports, chains and arrays go by number, from 0, in text order.
@@ -23,20 +23,22 @@ pub struct Func {
     pub name: Name,
     pub chains: Limited<ChainDecl, 8>,
     pub arrays: Limited<ArrayDecl, 8>,
+    /// The chains and arrays in text order.
+    pub objects: Limited<ObjectId, 16>,
     /// One for each port.
     pub handlers: Limited<Handler, 4>,
     pub ghost some_port: { 1 ≤ length handlers },
     pub ghost maps: { maps_in chains ≤ 16 },
     pub ghost keys: { HaveAllShortKeys chains },
-    pub ghost fits: { AllFit chains (map (λ h. block_of h.code) handlers) } by { AllFit-prop chains (map (λ h. block_of h.code) handlers) },
+    pub ghost fits: { AllFit chains (map (λ h. block_of h.block) handlers) } by { AllFit-prop chains (map (λ h. block_of h.block) handlers) },
 }
 
 impl Handler {
     pub fn copy(&self, alloc: Global) -> Result<Handler, AllocError>
-        ensures { IfOk result (λ copy. block_of copy.code ≡ block_of self.now.code) }
+        ensures { IfOk result (λ copy. block_of copy.block ≡ block_of self.now.block) }
     {
-        let code = copied(alloc, &self.code)?;
-        Ok(Handler { code })
+        let block = copied(alloc, &self.block)?;
+        Ok(Handler { block })
     }
 }
 
@@ -44,7 +46,7 @@ fn copied_handlers(
     alloc: Global,
     handlers: &Limited<Handler, 4>,
 ) -> Result<Limited<Handler, 4>, AllocError>
-    ensures same { IfOk result (λ copy. map (λ h. block_of h.code) copy ≡ map (λ h. block_of h.code) handlers.now) }
+    ensures same { IfOk result (λ copy. map (λ h. block_of h.block) copy ≡ map (λ h. block_of h.block) handlers.now) }
     ensures all { IfOk result (λ copy. length copy ≡ length handlers.now) }
 {
     let mut all = Limited::new(alloc);
@@ -91,6 +93,7 @@ impl Func {
             name: self.name.copy(alloc)?,
             chains: copied_chains(alloc, &self.chains)?,
             arrays: copied_arrays(alloc, &self.arrays)?,
+            objects: self.objects.copy(alloc)?,
             handlers: copied_handlers(alloc, &self.handlers)?,
         })
     }

@@ -2,7 +2,7 @@
 //! the handling of a packet comes to.
 #![tactic(auto)]
 
-pub mod code;
+pub mod block;
 mod copy;
 pub mod decl;
 pub mod done;
@@ -12,11 +12,13 @@ pub mod indexed;
 pub mod key;
 pub mod keys;
 pub mod limited;
+pub mod mac;
 pub mod packet;
 pub mod picks;
 pub mod seq;
 pub mod share;
 pub mod size;
 pub mod state;
+pub mod value;
 pub mod width;
 pub mod workers;

@@ -1,17 +1,17 @@
-use Rattle.std.proofs.Common.{◌≡◌, ◌∙◌, ◌≤◌, ◌-◌, Bor, List, sym, ap, subst, map, vec_len}
+use Rattle.std.proofs.Common.{◌∙◌, ◌≤◌, ◌-◌, Bor, List, sym, ap, subst, map, vec_len}
 use Rattle.std.specs.List.{All}
 use Rattle.std.proofs.lemmas.List.Elements.{All-take}
-use Rattle.nf_base.specs.declared.code.Code.{Code, size-Code}
+use Rattle.nf_base.specs.declared.block.Block.{Block, size-Block}
 use Rattle.nf_base.specs.View.{block_of}
 use Rattle.nf_base.specs.Laid.{laid}
-use Rattle.nf_base.specs.Rest.{block_seen}
+use Rattle.nf_base.specs.Laid.{block_seen}
 use Rattle.nf_base.proofs.Laid.{one_more}
 use Rattle.nf_base.proofs.copy.+copies.Goals as goal
 
 pub copied-loop-last-preserved : goal.copied-loop-last-preserved
 copied-loop-last-preserved t c =
-    let small : Bor Code → Type 0 = λ one. size-Code one.now ≤ size-Code c.args.code.now in
-    let all : List (Bor Code) → Type 0 = λ xs. All small xs in
+    let small : Bor Block → Type 0 = λ one. size-Block one.now ≤ size-Block c.args.block.now in
+    let all : List (Bor Block) → Type 0 = λ xs. All small xs in
     record {
       whole = ap (λ rest. laid (map block_seen c.pop.new.self.items) rest) c.in_ok-copy.ensures
           ∙ sym (one_more c.pop.new.self.items c.in-Some.last (block_of c.loop-last.copy))

@@ -1,0 +1,86 @@
+//! The values of expressions, as far as they depend on no state.
+
+ghost use Rattle.std.specs.Prelude.{◌≡◌};
+ghost use Rattle.nf_base.specs.Values.{field_of, field_width, narrowed, result_of, compares};
+
+use crate::expr::{Comparison, Operator};
+use crate::packet::{Field, Fields};
+use crate::width::Width;
+
+/// The value of a field of a handled packet that came at a time, in nanoseconds.
+pub fn field_of(time: u64, fields: &Fields, field: Field) -> u64
+    ensures { result ≡ field_of time fields.now field }
+{
+    match field {
+        Field::Time => time,
+        Field::Length => u64::from(fields.length),
+        Field::SrcMac => fields.src_mac.get(),
+        Field::DstMac => fields.dst_mac.get(),
+        Field::SrcIp => u64::from(fields.src_ip),
+        Field::DstIp => u64::from(fields.dst_ip),
+        Field::Proto => u64::from(fields.proto),
+        Field::Ttl => u64::from(fields.ttl),
+        Field::SrcPort => u64::from(fields.src_port),
+        Field::DstPort => u64::from(fields.dst_port),
+    }
+}
+
+/// The width of a field.
+pub fn field_width(field: Field) -> Width
+    ensures { result ≡ field_width field }
+{
+    match field {
+        Field::Time => Width::W64,
+        Field::Length => Width::W32,
+        Field::SrcMac => Width::W48,
+        Field::DstMac => Width::W48,
+        Field::SrcIp => Width::W32,
+        Field::DstIp => Width::W32,
+        Field::Proto => Width::W8,
+        Field::Ttl => Width::W8,
+        Field::SrcPort => Width::W16,
+        Field::DstPort => Width::W16,
+    }
+}
+
+/// A value modulo `2 ^ width`.
+pub fn narrowed(width: Width, v: u64) -> u64
+    ensures { result ≡ narrowed width v }
+{
+    match width {
+        Width::W8 => v % 0x100,
+        Width::W16 => v % 0x1_0000,
+        Width::W32 => v % 0x1_0000_0000,
+        Width::W48 => v % 0x1_0000_0000_0000,
+        Width::W64 => v,
+    }
+}
+
+/// What an operator gives of two values: sums and products stop at 2^64 - 1, differences at 0; a
+/// division by 0 gives 0.
+pub fn result_of(operator: Operator, a: u64, b: u64) -> u64
+    ensures { result ≡ result_of operator a b }
+{
+    match operator {
+        Operator::Plus => a.saturating_add(b),
+        Operator::Minus => a.saturating_sub(b),
+        Operator::Times => a.saturating_mul(b),
+        Operator::Over => { if b == 0 { 0 } else { a / b } }
+        Operator::Modulo => { if b == 0 { 0 } else { a % b } }
+        Operator::And => a & b,
+    }
+}
+
+/// Whether a comparison of two values holds.
+pub fn compares(comparison: Comparison, a: u64, b: u64) -> bool
+    ensures { result ≡ compares comparison a b }
+{
+    match comparison {
+        Comparison::Equal => a == b,
+        Comparison::NotEqual => a != b,
+        Comparison::Less => a < b,
+        Comparison::LessOrEqual => a <= b,
+        Comparison::Greater => a > b,
+        Comparison::GreaterOrEqual => a >= b,
+    }
+}
