@@ -4,7 +4,7 @@ use Rattle.std.specs.List.{AllByRecursion}
 use Rattle.std.proofs.lemmas.Bool.{cases_lt, lt-ltb, le-ltb, eqb-true}
 use Rattle.frame_ip.specs.Frame.{number_at, transport_at}
 use Rattle.nf_base.specs.declared.done.Edits.{Edits}
-use Rattle.frame_ip.specs.Edit.{Write, halves, folded, fold, changes, updated, udp_checksum, address_words, port_words, ttl_words, value_of, ttl, addresses, ports, is_udp, checksum_at, ip_checksum, transport_checksum}
+use Rattle.frame_ip.specs.Edit.{Write, halves, folded, fold, changes, updated, udp_checksum, address_words, port_words, ttl_words, ttl, addresses, ports, is_udp, checksum_at, ip_checksum, transport_checksum}
 use Rattle.frame_ip.specs.Sums.{old_words, new_words, KeepsRight}
 
 -- what a folded sum is: the sum less a multiple of 65535, within 16 bits, and 0 for 0 alone
@@ -115,7 +115,7 @@ by_protocol frame ws old new false some kept = kept
 pub ip_keeps : (e : Edits) (frame : List ℕ) → AreBytes frame → KeepsRight frame (ttl e frame ++ addresses e) (number_at frame 24 2) (ip_checksum e frame)
 ip_keeps e frame bytes =
     keeps frame 24 (ttl e frame ++ addresses e)
-    (words_more frame (ttl e frame) (addresses e) (ttl_is frame (value_of e 4) bytes) (words_more frame (address_words 26 (value_of e 2)) (address_words 30 (value_of e 3)) (address_is frame 26 (value_of e 2) bytes) (address_is frame 30 (value_of e 3) bytes)))
+    (words_more frame (ttl e frame) (addresses e) (ttl_is frame e.ttl bytes) (words_more frame (address_words 26 e.src_ip) (address_words 30 e.dst_ip) (address_is frame 26 e.src_ip bytes) (address_is frame 30 e.dst_ip bytes)))
     (word_small frame 24 bytes)
 
 pub transport_keeps : (e : Edits) (frame : List ℕ) → AreBytes frame → (is_udp frame ≡ true → number_at frame (checksum_at frame) 2 ≡ 0 → ⊥)
@@ -126,5 +126,5 @@ transport_keeps e frame bytes some =
     let t = transport_at frame in
     by_protocol frame ws (number_at frame at 2) (updated frame at ws) (is_udp frame) some
     (keeps frame at ws
-    (words_more frame (addresses e) (ports e t) (words_more frame (address_words 26 (value_of e 2)) (address_words 30 (value_of e 3)) (address_is frame 26 (value_of e 2) bytes) (address_is frame 30 (value_of e 3) bytes)) (words_more frame (port_words t (value_of e 5)) (port_words (t + 2) (value_of e 6)) (port_is frame t (value_of e 5) bytes) (port_is frame (t + 2) (value_of e 6) bytes)))
+    (words_more frame (addresses e) (ports e t) (words_more frame (address_words 26 e.src_ip) (address_words 30 e.dst_ip) (address_is frame 26 e.src_ip bytes) (address_is frame 30 e.dst_ip bytes)) (words_more frame (port_words t e.src_port) (port_words (t + 2) e.dst_port) (port_is frame t e.src_port bytes) (port_is frame (t + 2) e.dst_port bytes)))
     (word_small frame at bytes))

@@ -4,7 +4,7 @@ use Rattle.std.proofs.lemmas.Bool.{eqb-true, eqb-false}
 use Rattle.std.proofs.lemmas.List.{length-set, get_or-set_same}
 use Rattle.nf_base.specs.declared.done.Edits.{Edits}
 use Rattle.frame_ip.specs.Frame.{number_at, header_words, transport_at}
-use Rattle.frame_ip.specs.Edit.{Write, put_all, mac_words, address_words, port_words, ttl_words, value_of, macs, ttl, addresses, ports, fold, updated, is_udp, checksum_at, udp_checksum, ip_checksum, transport_checksum, edited}
+use Rattle.frame_ip.specs.Edit.{Write, put_all, mac_words, address_words, port_words, ttl_words, macs, ttl, addresses, ports, fold, updated, is_udp, checksum_at, udp_checksum, ip_checksum, transport_checksum, edited}
 use Rattle.frame_ip.specs.Sums.{KeepsRight, word_sum, part, IsIpRight, segment_length, IsTransportRight}
 use Rattle.frame_ip.proofs.Writing.{put_more}
 use Rattle.frame_ip.proofs.Parts.{double, word_read}
@@ -51,19 +51,19 @@ port_even s at k None e = tt
 port_even s at k (Some v) e = ((k, e), tt)
 
 macs_rise : (e : Edits) → Rises 0 12 (macs e)
-macs_rise e = rises_more 0 6 12 (mac_words 0 (value_of e 1)) (mac_words 6 (value_of e 0)) (mac_rises 0 (value_of e 1)) (mac_rises 6 (value_of e 0))
+macs_rise e = rises_more 0 6 12 (mac_words 0 e.dst_mac) (mac_words 6 e.src_mac) (mac_rises 0 e.dst_mac) (mac_rises 6 e.src_mac)
 
 addresses_rise : (e : Edits) → Rises 26 34 (addresses e)
-addresses_rise e = rises_more 26 30 34 (address_words 26 (value_of e 2)) (address_words 30 (value_of e 3)) (address_rises 26 (value_of e 2)) (address_rises 30 (value_of e 3))
+addresses_rise e = rises_more 26 30 34 (address_words 26 e.src_ip) (address_words 30 e.dst_ip) (address_rises 26 e.src_ip) (address_rises 30 e.dst_ip)
 
 addresses_even : (e : Edits) (s k : ℕ) → 26 ≡ s + double k → Even s (addresses e)
-addresses_even e s k is = even_more s (address_words 26 (value_of e 2)) (address_words 30 (value_of e 3)) (address_even s 26 k (value_of e 2) is) (address_even s 30 (suc (suc k)) (value_of e 3) (omega (arith, is)))
+addresses_even e s k is = even_more s (address_words 26 e.src_ip) (address_words 30 e.dst_ip) (address_even s 26 k e.src_ip is) (address_even s 30 (suc (suc k)) e.dst_ip (omega (arith, is)))
 
 ports_rise : (e : Edits) (s : ℕ) → Rises s (s + 4) (ports e s)
-ports_rise e s = rises_more s (s + 2) (s + 4) (port_words s (value_of e 5)) (port_words (s + 2) (value_of e 6)) (port_rises s (value_of e 5)) (rises_to (s + 2) ((s + 2) + 2) (s + 4) (port_words (s + 2) (value_of e 6)) (omega arith) (port_rises (s + 2) (value_of e 6)))
+ports_rise e s = rises_more s (s + 2) (s + 4) (port_words s e.src_port) (port_words (s + 2) e.dst_port) (port_rises s e.src_port) (rises_to (s + 2) ((s + 2) + 2) (s + 4) (port_words (s + 2) e.dst_port) (omega arith) (port_rises (s + 2) e.dst_port))
 
 ports_even : (e : Edits) (s : ℕ) → Even s (ports e s)
-ports_even e s = even_more s (port_words s (value_of e 5)) (port_words (s + 2) (value_of e 6)) (port_even s s 0 (value_of e 5) (omega arith)) (port_even s (s + 2) 1 (value_of e 6) refl)
+ports_even e s = even_more s (port_words s e.src_port) (port_words (s + 2) e.dst_port) (port_even s s 0 e.src_port (omega arith)) (port_even s (s + 2) 1 e.dst_port refl)
 
 -- where the checksum of TCP or UDP stands behind its header's begin
 record Place (s at : ℕ) : Type 0 where
@@ -132,7 +132,7 @@ rest_rises e f is =
     (omega arith, rises_more 26 34 (checksum_at f + 2) (addresses e) ws (addresses_rise e) (rises_from 34 s (checksum_at f + 2) ws (omega (arith, is.words)) (segment_rises e f)))
 
 behind_rises : (e : Edits) (f : List ℕ) → Known f → Rises 22 (checksum_at f + 2) (behind e f)
-behind_rises e f is = rises_more 22 24 (checksum_at f + 2) (ttl e f) _ (ttl_rises (slice_index f 23) (value_of e 4)) (rest_rises e f is)
+behind_rises e f is = rises_more 22 24 (checksum_at f + 2) (ttl e f) _ (ttl_rises (slice_index f 23) e.ttl) (rest_rises e f is)
 
 before_last : (e : Edits) (f : List ℕ) → Known f → Rises 0 (transport_at f + 4) (macs e ++ (ttl e f ++ (record { at = 24; word = ip_checksum e f } ∷ (addresses e ++ ports e (transport_at f)))))
 before_last e f is =
@@ -140,7 +140,7 @@ before_last e f is =
     let ps = ports e s in
     let others : Rises 26 (s + 4) (addresses e ++ ps) = rises_more 26 34 (s + 4) (addresses e) ps (addresses_rise e) (rises_from 34 s (s + 4) ps (omega (arith, is.words)) (ports_rise e s)) in
     let w : Write = record { at = 24; word = ip_checksum e f } in
-    let ts : Rises 22 (s + 4) (ttl e f ++ (w ∷ (addresses e ++ ps))) = rises_more 22 24 (s + 4) (ttl e f) (w ∷ (addresses e ++ ps)) (ttl_rises (slice_index f 23) (value_of e 4)) (omega arith, others) in
+    let ts : Rises 22 (s + 4) (ttl e f ++ (w ∷ (addresses e ++ ps))) = rises_more 22 24 (s + 4) (ttl e f) (w ∷ (addresses e ++ ps)) (ttl_rises (slice_index f 23) e.ttl) (omega arith, others) in
     rises_more 0 12 (s + 4) (macs e) (ttl e f ++ (w ∷ (addresses e ++ ps))) (macs_rise e) (rises_from 12 22 (s + 4) (ttl e f ++ (w ∷ (addresses e ++ ps))) (omega arith) ts)
 
 same : (e : Edits) (f : List ℕ) → Known f → Same e f (edited e f)
@@ -163,7 +163,7 @@ same e f is =
     record {
       words = ap (λ (h : List ℕ). get_or h 14 0 % 16) by_macs ∙ ap (λ (n : ℕ). n % 16) (byte_below first rest 22 (at + 2) 14 (omega arith) rises ∙ byte_above f m 0 12 14 (omega arith) (macs_rise e));
       total = ap (λ (h : List ℕ). number_at h 16 2) by_macs ∙ word_below first rest 22 (at + 2) 16 (omega arith) rises ∙ word_above f m 0 12 16 (omega arith) (macs_rise e);
-      proto = ap (λ (h : List ℕ). get_or h 23 0) (by_ttl f m t i a p (w ∷ [])) ∙ byte_below (put_all t first) (i ++ (a ++ (p ++ (w ∷ [])))) 24 (at + 2) 23 (omega arith) (rest_rises e f is) ∙ ttl_keeps f (value_of e 4) (omega (arith, is.words, is.header)) is.proto first (all_long f m) (byte_above f m 0 12 23 (omega arith) (macs_rise e));
+      proto = ap (λ (h : List ℕ). get_or h 23 0) (by_ttl f m t i a p (w ∷ [])) ∙ byte_below (put_all t first) (i ++ (a ++ (p ++ (w ∷ [])))) 24 (at + 2) 23 (omega arith) (rest_rises e f is) ∙ ttl_keeps f e.ttl (omega (arith, is.words, is.header)) is.proto first (all_long f m) (byte_above f m 0 12 23 (omega arith) (macs_rise e));
       own = ap (λ (h : List ℕ). number_at h (s + 4) 2) last ∙ word_below most (w ∷ []) (s + 6) (at + 2) (s + 4) (omega arith) (last_rises e f) ∙ word_above f (m ++ (t ++ (i ++ (a ++ p)))) 0 (s + 4) (s + 4) (omega arith) (before_last e f is);
       long = all_long f (m ++ rest);
       sum = ap (λ (h : List ℕ). number_at h at 2) last ∙ word_read most w (omega (arith, all_long f (m ++ (t ++ (i ++ (a ++ p)))), is.checksum));
@@ -185,7 +185,7 @@ ip_right_stays e f is keeps right =
     let rest = ports e s ++ last in
     let core : fold (word_sum (part 14 n (edited e f))) ≡ 65535 =
     subst (λ (h : List ℕ). fold (word_sum (part 14 n h)) ≡ 65535) (sym (by_header f m t i a (ports e s) last))
-    (ip_stays f n (checksum_at f + 2) new m t a rest (omega (arith, is.words)) (omega (arith, is.header)) is.version (rises_to 0 12 14 m (omega arith) (macs_rise e)) (ttl_rises (slice_index f 23) (value_of e 4)) (ttl_even (slice_index f 23) (value_of e 4)) (addresses_rise e) (addresses_even e 14 6 refl) (segment_rises e f) keeps right) in
+    (ip_stays f n (checksum_at f + 2) new m t a rest (omega (arith, is.words)) (omega (arith, is.header)) is.version (rises_to 0 12 14 m (omega arith) (macs_rise e)) (ttl_rises (slice_index f 23) e.ttl) (ttl_even (slice_index f 23) e.ttl) (addresses_rise e) (addresses_even e 14 6 refl) (segment_rises e f) keeps right) in
     let st = same e f is in
     subst (λ (k : ℕ). fold (word_sum (part 14 (4 * k) (edited e f))) ≡ 65535) (sym st.words) core
 
@@ -229,7 +229,7 @@ transport_right_stays e f is keeps was =
     let own : number_at g (transport_at g + 4) 2 ≡ number_at f (s + 4) 2 = ap (λ (k : ℕ). number_at g (k + 4) 2) et ∙ st.own in
     let left : number_at g 16 2 - 4 * header_words g ≡ number_at f 16 2 - 4 * header_words f = ap (λ (k : ℕ). k - 4 * header_words g) st.total ∙ ap (λ (k : ℕ). number_at f 16 2 - 4 * k) st.words in
     let en : segment_length g ≡ n = ap (λ (b : Bool). cond b (number_at g (transport_at g + 4) 2) (number_at g 16 2 - 4 * header_words g)) eu ∙ ap (λ (k : ℕ). cond (is_udp f) k (number_at g 16 2 - 4 * header_words g)) own ∙ ap (λ (k : ℕ). cond (is_udp f) (number_at f (s + 4) 2) k) left in
-    let front : Rises 0 26 (m ++ (t ++ i)) = rises_more 0 12 26 m (t ++ i) (macs_rise e) (rises_from 12 22 26 (t ++ i) (omega arith) (rises_more 22 24 26 t i (ttl_rises (slice_index f 23) (value_of e 4)) (omega arith, omega arith))) in
+    let front : Rises 0 26 (m ++ (t ++ i)) = rises_more 0 12 26 m (t ++ i) (macs_rise e) (rises_from 12 22 26 (t ++ i) (omega arith) (rises_more 22 24 26 t i (ttl_rises (slice_index f 23) e.ttl) (omega arith, omega arith))) in
     let core = transport_stays f s n at pl.k new (slice_index f 23) (m ++ (t ++ i)) a p (omega (arith, is.words)) (omega (arith, was.whole)) pl.apart pl.even was.holds is.some_proto front (addresses_rise e) (addresses_even e 26 0 refl) (ports_rise e s) (ports_even e s) keeps was.right g (by_segment f m t i a p (record { at = at; word = new } ∷ [])) in
     record {
       holds = subst (λ (k : ℕ). checksum_at g + 2 ≤ k) (sym (ap (λ (k : ℕ). k + segment_length g) et ∙ ap (λ (k : ℕ). s + k) en)) (subst (λ (k : ℕ). k + 2 ≤ s + n) (sym ec) was.holds);

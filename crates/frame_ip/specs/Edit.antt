@@ -1,6 +1,6 @@
 -- The edits of a packet, written into its frame: 16-bit words at offsets, and the two checksums brought
 -- up to date by what changed (RFC 1624 equation 3). All numbers stand in network order.
-use Rattle.std.specs.Prelude.{◌≡◌, ℕ, zero, suc, ◌+◌, ◌-◌, ◌*◌, ◌/◌, ◌%◌, ◌^◌, Bool, List, [], ◌∷◌, ◌++◌, nat_eq, nat_lt, slice_index, slice_index_or, slice_set, if◌then◌else◌, Option, Some, None}
+use Rattle.std.specs.Prelude.{◌≡◌, ℕ, zero, suc, ◌+◌, ◌-◌, ◌*◌, ◌/◌, ◌%◌, ◌^◌, Bool, List, [], ◌∷◌, ◌++◌, nat_eq, nat_lt, slice_index, slice_set, if◌then◌else◌, Option, Some, None}
 use Rattle.nf_base.specs.declared.done.Edits.{Edits}
 use Rattle.frame_ip.specs.Frame.{number_at, transport_at}
 
@@ -38,26 +38,28 @@ abbrev pub ttl_words : ℕ → Option ℕ → List Write
 ttl_words proto None = []
 ttl_words proto (Some v) = record { at = 22; word = v % 256 * 256 + proto } ∷ []
 
--- the value that is written to a field, by its place among the edits
-abbrev pub value_of : Edits → ℕ → Option ℕ
-value_of edits field = slice_index_or edits.values field None
-
 -- nothing is edited
-abbrev pub IsUnedited : Edits → Type 0
-IsUnedited edits = (field : ℕ) → value_of edits field ≡ None
+pub record IsUnedited (edits : Edits) : Type 0 where
+  pub src_mac : edits.src_mac ≡ None
+  pub dst_mac : edits.dst_mac ≡ None
+  pub src_ip : edits.src_ip ≡ None
+  pub dst_ip : edits.dst_ip ≡ None
+  pub ttl : edits.ttl ≡ None
+  pub src_port : edits.src_port ≡ None
+  pub dst_port : edits.dst_port ≡ None
 
 -- the words of all MAC addresses, of the TTL, of all IP addresses and of all ports that are written
 abbrev pub macs : Edits → List Write
-macs edits = mac_words 0 (value_of edits 1) ++ mac_words 6 (value_of edits 0)
+macs edits = mac_words 0 edits.dst_mac ++ mac_words 6 edits.src_mac
 
 abbrev pub ttl : Edits → List ℕ → List Write
-ttl edits frame = ttl_words (slice_index frame 23) (value_of edits 4)
+ttl edits frame = ttl_words (slice_index frame 23) edits.ttl
 
 abbrev pub addresses : Edits → List Write
-addresses edits = address_words 26 (value_of edits 2) ++ address_words 30 (value_of edits 3)
+addresses edits = address_words 26 edits.src_ip ++ address_words 30 edits.dst_ip
 
 abbrev pub ports : Edits → ℕ → List Write
-ports edits transport = port_words transport (value_of edits 5) ++ port_words (transport + 2) (value_of edits 6)
+ports edits transport = port_words transport edits.src_port ++ port_words (transport + 2) edits.dst_port
 
 -- what a word adds to the sum of an update: nothing where its value stays, else the complement of the
 -- old value and the new value

@@ -15,7 +15,7 @@
 ghost use Rattle.std.specs.Prelude.{◌≡◌, ◌≢◌, true, ◌+◌, ◌-◌, ◌*◌, ◌%◌, ◌≤◌, ◌<◌, ◌^◌, ◌++◌, length, IsTrue, slice_index};
 ghost use Rattle.frame_ip.specs.Frame.{is_handled, header_words, transport_at, number_at};
 ghost use Rattle.frame_ip.specs.Sums.{KeepsRight, IsIpRight, IsTransportRight};
-ghost use Rattle.frame_ip.specs.Edit.{put, put_all, mac_words, address_words, port_words, ttl_words, IsUnedited, macs, ttl, addresses, ports, value_of, change, changes, fold, updated, is_udp, checksum_at, udp_checksum, ip_checksum, transport_checksum, edited};
+ghost use Rattle.frame_ip.specs.Edit.{put, put_all, mac_words, address_words, port_words, ttl_words, IsUnedited, macs, ttl, addresses, ports, change, changes, fold, updated, is_udp, checksum_at, udp_checksum, ip_checksum, transport_checksum, edited};
 
 use crate::layout::{transport, u16_at};
 use nf_base::done::Edits;
@@ -160,9 +160,9 @@ fn ip_checksum(frame: &[u8], edits: &Edits) -> u16
     ensures right { KeepsRight frame.now (ttl edits.now frame.now ++ addresses edits.now) (number_at frame.now 24 2) (ip_checksum edits.now frame.now) }
     ensures unchanged { IsUnedited edits.now → put (record { at = 24; word = ip_checksum edits.now frame.now }) frame.now ≡ frame.now }
 {
-    let values = &edits.values;
-    let addresses = address_change(frame, 26, values[2]) + address_change(frame, 30, values[3]);
-    let sum = ttl_change(frame, values[4]) + addresses;
+    let addresses = address_change(frame, 26, edits.src_ip)
+        + address_change(frame, 30, edits.dst_ip);
+    let sum = ttl_change(frame, edits.ttl) + addresses;
     updated(u16_at(frame, IP_CHECKSUM), sum)
 }
 
@@ -203,11 +203,12 @@ fn recomputed(frame: &[u8], edits: &Edits) -> u16
     requires { IsTrue (is_handled frame.now) }
     ensures { result ≡ updated frame.now (checksum_at frame.now) (addresses edits.now ++ ports edits.now (transport_at frame.now)) }
 {
-    let values = &edits.values;
     let at = checksum_at(frame);
     let ports = transport(frame);
-    let addresses = address_change(frame, 26, values[2]) + address_change(frame, 30, values[3]);
-    let ports = port_change(frame, ports, values[5]) + port_change(frame, ports + 2, values[6]);
+    let addresses = address_change(frame, 26, edits.src_ip)
+        + address_change(frame, 30, edits.dst_ip);
+    let ports = port_change(frame, ports, edits.src_port)
+        + port_change(frame, ports + 2, edits.dst_port);
     updated(u16_at(frame, at), addresses + ports)
 }
 
@@ -247,14 +248,13 @@ pub fn edit(frame: &mut [u8], edits: &Edits)
     let at = checksum_at(frame);
     let ports = transport(frame);
     let proto = frame[23];
-    let values = &edits.values;
-    put_mac(frame, 0, values[1]);
-    put_mac(frame, 6, values[0]);
-    put_ttl(frame, proto, values[4]);
+    put_mac(frame, 0, edits.dst_mac);
+    put_mac(frame, 6, edits.src_mac);
+    put_ttl(frame, proto, edits.ttl);
     put(frame, IP_CHECKSUM, ip);
-    put_address(frame, 26, values[2]);
-    put_address(frame, 30, values[3]);
-    put_port(frame, ports, values[5]);
-    put_port(frame, ports + 2, values[6]);
+    put_address(frame, 26, edits.src_ip);
+    put_address(frame, 30, edits.dst_ip);
+    put_port(frame, ports, edits.src_port);
+    put_port(frame, ports + 2, edits.dst_port);
     put(frame, at, checksum);
 }

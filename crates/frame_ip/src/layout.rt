@@ -19,6 +19,7 @@ ghost use Rattle.std.specs.Prelude.{◌≡◌, ◌+◌, ◌≤◌, length, is_so
 ghost use Rattle.frame_ip.specs.Frame.{number_at, header_words, is_handled, transport_at, has_transport, fields_in, fields_at};
 
 use crate::handled::View;
+use nf_base::mac::Mac;
 use nf_base::packet::Fields;
 
 const IPV4: u16 = 0x0800;
@@ -44,14 +45,13 @@ fn u32_at(frame: &[u8], at: usize) -> u32
     u32::from_be_bytes([frame[at], frame[at + 1], frame[at + 2], frame[at + 3]])
 }
 
-/// The 6 bytes of a MAC address.
-fn u48_at(frame: &[u8], at: usize) -> u64
+fn mac_at(frame: &[u8], at: usize) -> Mac
     requires { at + 6 ≤ length frame.now }
     ensures { result ≡ number_at frame.now at 6 }
 {
     let high = u16_at(frame, at);
     let low = u32_at(frame, at + 2);
-    u64::from(high) * 0x1_0000_0000 + u64::from(low)
+    Mac::new(u64::from(high) * 0x1_0000_0000 + u64::from(low))
 }
 
 /// The IP header's words of 4 bytes.
@@ -115,8 +115,8 @@ pub fn fields(view: &View) -> Fields
     let transport = transport(frame);
     Fields {
         length: view.original,
-        src_mac: u48_at(frame, 6),
-        dst_mac: u48_at(frame, 0),
+        src_mac: mac_at(frame, 6),
+        dst_mac: mac_at(frame, 0),
         src_ip: u32_at(frame, 26),
         dst_ip: u32_at(frame, 30),
         proto: frame[23],

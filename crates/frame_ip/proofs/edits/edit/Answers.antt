@@ -1,7 +1,7 @@
 use Rattle.std.proofs.Common.{ℕ, ◌≡◌, ◌+◌, ◌++◌, List, [], ◌∷◌, slice_index, subst, sym, ◌∙◌, arith}
 use Rattle.nf_base.specs.declared.done.Edits.{Edits}
 use Rattle.frame_ip.specs.Frame.{transport_at}
-use Rattle.frame_ip.specs.Edit.{Write, put_all, mac_words, address_words, port_words, ttl_words, value_of, macs, ttl, addresses, ip_checksum, checksum_at, edited}
+use Rattle.frame_ip.specs.Edit.{Write, put_all, mac_words, address_words, port_words, ttl_words, macs, ttl, addresses, ip_checksum, checksum_at, edited}
 use Rattle.frame_ip.specs.Sums.{IsIpRight, IsTransportRight}
 use Rattle.frame_ip.proofs.Writing.{in_turn}
 use Rattle.frame_ip.proofs.Unedited.{edited_none}
@@ -10,7 +10,7 @@ use Rattle.frame_ip.proofs.edits.edit.Goals as goal
 
 -- the words that are written, by the offset of the ports and of the checksum, and the two checksums
 abbrev words : Edits → List ℕ → ℕ → ℕ → ℕ → ℕ → List Write
-words e f ports at ip checksum = macs e ++ (ttl e f ++ (record { at = 24; word = ip } ∷ (addresses e ++ ((port_words ports (value_of e 5) ++ port_words (ports + 2) (value_of e 6)) ++ (record { at = at; word = checksum } ∷ [])))))
+words e f ports at ip checksum = macs e ++ (ttl e f ++ (record { at = 24; word = ip } ∷ (addresses e ++ ((port_words ports e.src_port ++ port_words (ports + 2) e.dst_port) ++ (record { at = at; word = checksum } ∷ [])))))
 
 pub returns-clause-edited : goal.returns-clause-edited
 unfolding edited
@@ -19,7 +19,7 @@ returns-clause-edited c =
     let f = c.args.frame.now in
     let base : c.put-2.new.frame ≡ put_all (words e f c.transport-ports.result c.checksum_at-at.result c.ip_checksum-ip.result c.transport_checksum-checksum.result) f =
     in_turn f c.put_mac.new.frame c.put_mac-2.new.frame c.put_ttl.new.frame c.put.new.frame c.put_address.new.frame c.put_address-2.new.frame c.put_port.new.frame c.put_port-2.new.frame c.put-2.new.frame
-    (mac_words 0 (value_of e 1)) (mac_words 6 (value_of e 0)) (ttl_words (slice_index f 23) (value_of e 4)) (address_words 26 (value_of e 2)) (address_words 30 (value_of e 3)) (port_words c.transport-ports.result (value_of e 5)) (port_words (c.transport-ports.result + 2) (value_of e 6)) _ _
+    (mac_words 0 e.dst_mac) (mac_words 6 e.src_mac) (ttl_words (slice_index f 23) e.ttl) (address_words 26 e.src_ip) (address_words 30 e.dst_ip) (port_words c.transport-ports.result e.src_port) (port_words (c.transport-ports.result + 2) e.dst_port) _ _
     c.put_mac.ensures c.put_mac-2.ensures c.put_ttl.ensures c.put.ensures c.put_address.ensures c.put_address-2.ensures c.put_port.ensures c.put_port-2.ensures c.put-2.ensures in
     let with_ports = subst (λ (n : ℕ). c.put-2.new.frame ≡ put_all (words e f n c.checksum_at-at.result c.ip_checksum-ip.result c.transport_checksum-checksum.result) f) c.transport-ports.ensures base in
     let with_place = subst (λ (n : ℕ). c.put-2.new.frame ≡ put_all (words e f (transport_at f) n c.ip_checksum-ip.result c.transport_checksum-checksum.result) f) c.checksum_at-at.ensures.value with_ports in

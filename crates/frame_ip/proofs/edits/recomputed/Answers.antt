@@ -1,6 +1,6 @@
 use Rattle.std.proofs.Common.{ℕ, ◌≡◌, ◌+◌, ◌-◌, ◌++◌, ◌∙◌, ap, subst}
 use Rattle.frame_ip.specs.Frame.{number_at, transport_at}
-use Rattle.frame_ip.specs.Edit.{address_words, port_words, value_of, addresses, ports, changes, fold}
+use Rattle.frame_ip.specs.Edit.{address_words, port_words, addresses, ports, changes, fold}
 use Rattle.frame_ip.proofs.Writing.{four_changes}
 use Rattle.frame_ip.proofs.edits.recomputed.Goals as goal
 
@@ -10,7 +10,7 @@ returns c =
     let f = c.args.frame.now in
     let t = c.transport-ports.result in
     let sum : (c.address_change.result + c.address_change-2.result) + (c.port_change.result + c.port_change-2.result) ≡ changes f (addresses e ++ ports e t) =
-    four_changes f (address_words 26 (value_of e 2)) (address_words 30 (value_of e 3)) (port_words t (value_of e 5)) (port_words (t + 2) (value_of e 6)) c.address_change.result c.address_change-2.result c.port_change.result c.port_change-2.result
+    four_changes f (address_words 26 e.src_ip) (address_words 30 e.dst_ip) (port_words t e.src_port) (port_words (t + 2) e.dst_port) c.address_change.result c.address_change-2.result c.port_change.result c.port_change-2.result
     c.address_change.ensures.value c.address_change-2.ensures.value c.port_change.ensures.value c.port_change-2.ensures.value in
     let there = subst (λ (n : ℕ). (c.address_change.result + c.address_change-2.result) + (c.port_change.result + c.port_change-2.result) ≡ changes f (addresses e ++ ports e n)) c.transport-ports.ensures sum in
     c.updated.ensures
