@@ -1,7 +1,7 @@
 -- The packets of captures, one capture a port, and what a list of them in capture order is.
 use Rattle.std.specs.Prelude.{◌≡◌, ℕ, ◌+◌, max, List, [], ◌∷◌, ◌++◌, length, map, take, Bool, nat_lt, if◌then◌else◌, Option, Some, None, option_map, is_some, Result, Ok, Err}
-use Rattle.std.specs.List.Sorted.{IsPermutation, IsSortedBy}
-use Rattle.nf_base.specs.Orders.{comes_before}
+use Rattle.std.specs.List.Sorted.{IsPermutation}
+use Rattle.nf_base.specs.Orders.{IsCaptureOrder}
 use Rattle.pcap_file.specs.declared.places.Place.{Place}
 use Rattle.pcap_file.specs.Capture.{capture_of}
 use Rattle.pcap_file.specs.Placed.{Placed, placed, frame_at}
@@ -89,7 +89,7 @@ pub record IsLoaded (captures : List (List ℕ)) (most : ℕ) (arrivals : List A
   pub all : all_arrivals captures ≡ Some listed
   pub ordered : List Arrival
   pub each_once : IsPermutation listed ordered
-  pub in_order : IsSortedBy comes_before (map packet_of ordered)
+  pub in_order : IsCaptureOrder (map packet_of listed) (map packet_of ordered)
   pub first : arrivals ≡ take most ordered
 
 -- how many packets there are

@@ -21,26 +21,8 @@ struct Listing {
     tears: Vec<Tear>,
 }
 
-// The packet of a record that came at a time.
-#[tactic(auto, unfolding(crate::specs::Loaded::arrival_of))]
-fn arrival(port: u32, bytes: &[u8], seq: u32, time: u64, place: Place) -> Arrival
-    requires { Lies bytes.now place }
-    ensures { result ≡ arrival_of port bytes.now seq time place }
-{
-    let frame = &bytes.split_at(place.offset).1[..place.head.captured as usize];
-    Arrival {
-        packet: Packet {
-            id: PacketId { port, seq },
-            time,
-            fields: fields_of(frame, place.head.original),
-        },
-        offset: place.offset,
-        captured: place.head.captured,
-        original: place.head.original,
-    }
-}
-
 // Adds the packets of the records of one capture.
+#[tactic(auto, unfolding(crate::specs::Loaded::arrival_of))]
 fn push_arrivals(
     port: u32,
     bytes: &[u8],
@@ -53,8 +35,22 @@ fn push_arrivals(
 {
     let mut latest: u64 = 0;
     for (seq, place) in places.iter().enumerate() {
-        latest = latest.max(place.head.time);
-        arrivals.push(arrival(port, bytes, seq as u32, latest, *place))?;
+        let head = place.head;
+        let frame = &bytes.split_at(place.offset).1[..head.captured as usize];
+        latest = latest.max(head.time);
+        arrivals.push(Arrival {
+            packet: Packet {
+                id: PacketId {
+                    port,
+                    seq: seq as u32,
+                },
+                time: latest,
+                fields: fields_of(frame, head.original),
+            },
+            offset: place.offset,
+            captured: head.captured,
+            original: head.original,
+        })?;
     }
     Ok(())
 }

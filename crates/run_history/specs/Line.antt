@@ -1,5 +1,5 @@
 -- The text of a journal's line.
-use Rattle.std.specs.Prelude.{ℕ, List, [], ◌∷◌, ◌++◌, codes, decimal, flat_map}
+use Rattle.std.specs.Prelude.{ℕ, List, [], ◌∷◌, ◌++◌, codes, decimal}
 use Rattle.nf_base.specs.declared.done.Action.{Action}
 use Rattle.nf_base.specs.declared.done.Action.TheVariants.{Skip, Drop, To, Flood}
 use Rattle.nf_base.specs.declared.packet.PacketId.{PacketId}

@@ -4,7 +4,7 @@ use Rattle.nf_base.specs.declared.decl.ChainDecl.{ChainDecl}
 use Rattle.nf_base.specs.declared.decl.ArrayDecl.{ArrayDecl}
 use Rattle.nf_base.specs.declared.decl.ColumnDecl.{ColumnDecl}
 use Rattle.nf_base.specs.declared.decl.ColumnId.{ColumnId}
-use Rattle.nf_base.specs.declared.decl.ColumnId.TheVariants.{Label, Free}
+use Rattle.nf_base.specs.declared.decl.ColumnId.TheVariants.{Label, Column}
 use Rattle.nf_base.specs.declared.state.Entry.{Entry}
 use Rattle.nf_base.specs.declared.state.Chain.{Chain}
 use Rattle.nf_base.specs.declared.state.State.{State}
@@ -21,7 +21,7 @@ name_of columns number = of_column (slice_get columns number)
 -- the name and the value of a label or a free column
 abbrev pub column_text : ChainDecl → Entry → ColumnId → List ℕ
 column_text decl entry (Label number) = codes " " ++ name_of decl.labels number ++ codes "=" ++ decimal (or_zero (slice_get entry.labels number))
-column_text decl entry (Free number) = codes " " ++ name_of decl.free number ++ codes "=" ++ decimal (or_zero (slice_get entry.free number))
+column_text decl entry (Column number) = codes " " ++ name_of decl.columns number ++ codes "=" ++ decimal (or_zero (slice_get entry.columns number))
 
 abbrev pub columns_text : ChainDecl → Entry → List ColumnId → List ℕ
 columns_text decl entry [] = []
@@ -30,7 +30,7 @@ columns_text decl entry (column ∷ columns) = column_text decl entry column ++ 
 -- the line of an index: there is none where no entry is live
 abbrev pub entry_text : ChainDecl → ℕ → Option Entry → List ℕ
 entry_text decl index None = []
-entry_text decl index (Some entry) = decimal index ++ codes " " ++ decimal entry.stamp ++ columns_text decl entry decl.columns ++ codes "\n"
+entry_text decl index (Some entry) = decimal index ++ codes " " ++ decimal entry.stamp ++ columns_text decl entry decl.order ++ codes "\n"
 
 -- the lines of the indices from one on
 abbrev pub slots_text : ChainDecl → ℕ → List (Option Entry) → List ℕ

@@ -54,10 +54,10 @@ fn push_column(
             push_bytes(out, b"=")?;
             push_decimal(out, number_at(entry.labels.as_slice(), number))
         }
-        ColumnId::Free(number) => {
-            push_name(out, decl.free.as_slice(), number)?;
+        ColumnId::Column(number) => {
+            push_name(out, decl.columns.as_slice(), number)?;
             push_bytes(out, b"=")?;
-            push_decimal(out, number_at(entry.free.as_slice(), number))
+            push_decimal(out, number_at(entry.columns.as_slice(), number))
         }
     }
 }
@@ -90,7 +90,7 @@ fn push_slot(
     push_decimal(out, u64::from(index))?;
     push_bytes(out, b" ")?;
     push_decimal(out, entry.stamp)?;
-    push_columns(out, decl, entry, decl.columns.as_slice())?;
+    push_columns(out, decl, entry, decl.order.as_slice())?;
     push_bytes(out, b"\n")
 }
 

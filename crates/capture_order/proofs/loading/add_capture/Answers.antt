@@ -1,7 +1,6 @@
-use Rattle.std.proofs.Common.{ap, refl, Option, List, Some, None, arith, ◌∙◌}
+use Rattle.std.proofs.Common.{ap, refl, arith}
 use Rattle.std.specs.Option.{option_map}
-use Rattle.pcap_file.specs.Placed.{Placed}
-use Rattle.capture_order.specs.Loaded.{arrivals_of, tear_in}
+use Rattle.capture_order.specs.Loaded.{arrivals_of}
 use Rattle.capture_order.proofs.Placing.{all_came, is_placed, is_none}
 use Rattle.capture_order.proofs.loading.add_capture.Goals as goal
 

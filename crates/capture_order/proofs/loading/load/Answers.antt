@@ -1,4 +1,4 @@
-use Rattle.std.proofs.Common.{List, ℕ, sym, subst}
+use Rattle.std.proofs.Common.{List, sym, subst}
 use Rattle.std.specs.List.{AllByRecursion}
 use Rattle.capture_order.specs.declared.arrival.Arrival.{Arrival}
 use Rattle.capture_order.specs.Arrivals.{IsWithin, all_bytes}

@@ -1,6 +1,5 @@
-use Rattle.std.proofs.Common.{◌≡◌, ◌++◌, [], drop, arith}
+use Rattle.std.proofs.Common.{arith}
 use Rattle.std.proofs.lemmas.Grind.{common_steps}
-use Rattle.run_history.specs.StateText.{arrays_text}
 use Rattle.run_history.proofs.Ends.{arrays_end}
 use Rattle.run_history.proofs.state_text.push_arrays.Goals as goal
 

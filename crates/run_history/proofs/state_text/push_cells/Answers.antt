@@ -1,6 +1,5 @@
-use Rattle.std.proofs.Common.{◌≡◌, ◌++◌, [], drop, arith}
+use Rattle.std.proofs.Common.{arith}
 use Rattle.std.proofs.lemmas.Grind.{common_steps}
-use Rattle.run_history.specs.StateText.{cells_text}
 use Rattle.run_history.proofs.Ends.{cells_end}
 use Rattle.run_history.proofs.state_text.push_cells.Goals as goal
 

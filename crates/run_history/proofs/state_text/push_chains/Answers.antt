@@ -1,6 +1,5 @@
-use Rattle.std.proofs.Common.{◌≡◌, ◌++◌, [], drop, arith}
+use Rattle.std.proofs.Common.{arith}
 use Rattle.std.proofs.lemmas.Grind.{common_steps}
-use Rattle.run_history.specs.StateText.{chains_text}
 use Rattle.run_history.proofs.Ends.{chains_end}
 use Rattle.run_history.proofs.state_text.push_chains.Goals as goal
 
