@@ -3,7 +3,8 @@ ghost use Rattle.std.specs.Prelude.{◌<◌};
 
 use frame_ip::{edit, fields, fields_of, view};
 use nf_base::done::Edits;
-use nf_base::packet::Fields;
+use nf_base::mac::Mac;
+use nf_base::packet::{Field, Fields};
 
 /// A datagram from 10.0.0.0, port 1024, to 192.168.0.0, port 80.
 const DATAGRAM: [u8; 42] = [
@@ -23,8 +24,8 @@ fn changed(offset: usize, byte: u8) -> [u8; 42]
 fn a_datagram_has_the_fields_of_its_headers(rt: HostRuntime) {
     let expected = Fields {
         length: 60,
-        src_mac: 0x0200_0000_0001,
-        dst_mac: 0x0200_0000_0002,
+        src_mac: Mac::new(0x0200_0000_0001),
+        dst_mac: Mac::new(0x0200_0000_0002),
         src_ip: 0x0a00_0000,
         dst_ip: 0xc0a8_0000,
         proto: 17,
@@ -96,13 +97,20 @@ const SUMMED: [u8; 42] = [
     0xdd, 0x2f,
 ];
 
-/// One value, at its place among the edits.
-fn one_edit(place: usize, value: u64) -> Edits
-    requires { place < 7 }
-{
-    let mut values = [None; 7];
-    values[place] = Some(value);
-    Edits { values }
+/// One value, for a field that may be set.
+fn one_edit(field: Field, value: u64) -> Edits {
+    let mut edits = Edits::none();
+    match field {
+        Field::SrcMac => edits.src_mac = Some(value),
+        Field::DstMac => edits.dst_mac = Some(value),
+        Field::SrcIp => edits.src_ip = Some(value),
+        Field::DstIp => edits.dst_ip = Some(value),
+        Field::Ttl => edits.ttl = Some(value),
+        Field::SrcPort => edits.src_port = Some(value),
+        Field::DstPort => edits.dst_port = Some(value),
+        _ => {}
+    }
+    edits
 }
 
 // The tests edit frames through this, which promises nothing: what the answers are is compared, and not proved.
@@ -115,7 +123,7 @@ fn edit_handled(frame: &mut [u8], original: u32, to: &Edits) {
 // 0xdd2f with 0x5555 changed to 0x3285 comes out as 0 (RFC 1624 section 4).
 #[test]
 fn a_udp_checksum_of_0_is_sent_as_ffff(rt: HostRuntime) {
-    let to = one_edit(2, 0x3285_0001);
+    let to = one_edit(Field::SrcIp, 0x3285_0001);
     let mut frame = SUMMED;
     edit_handled(&mut frame, 42, &to);
     assert_eq!(rt;
@@ -144,32 +152,26 @@ fn a_udp_checksum_of_0_is_sent_as_ffff(rt: HostRuntime) {
 
 #[test]
 fn each_field_counts_where_it_should(rt: HostRuntime) {
-    let cases: [(usize, u64, usize, bool, bool); 7] = [
-        (0, 0xaabb_ccdd_eeff, 6, false, false),
-        (1, 0xaabb_ccdd_eeff, 0, false, false),
-        (2, 0x0a00_0001, 26, true, true),
-        (3, 0x0a00_0001, 30, true, true),
-        (4, 7, 22, true, false),
-        (5, 9, 34, false, true),
-        (6, 9, 36, false, true),
+    let cases: [(Field, u64, usize, bool, bool); 7] = [
+        (Field::SrcMac, 0xaabb_ccdd_eeff, 6, false, false),
+        (Field::DstMac, 0xaabb_ccdd_eeff, 0, false, false),
+        (Field::SrcIp, 0x0a00_0001, 26, true, true),
+        (Field::DstIp, 0x0a00_0001, 30, true, true),
+        (Field::Ttl, 7, 22, true, false),
+        (Field::SrcPort, 9, 34, false, true),
+        (Field::DstPort, 9, 36, false, true),
     ];
-    for (place, value, at, ip, udp) in cases {
+    for (field, value, at, ip, udp) in cases {
         let mut frame = SUMMED;
-        if place < 7 {
-            edit_handled(&mut frame, 42, &one_edit(place, value));
-        }
-        assert_eq!(rt; (frame[24], frame[25]) != (0xdd, 0x2f), ip, "place {place}");
-        assert_eq!(rt;
-            (frame[40], frame[41]) != (0xdd, 0x2f),
-            udp,
-            "place {place}"
-        );
+        edit_handled(&mut frame, 42, &one_edit(field, value));
+        assert_eq!(rt; (frame[24], frame[25]) != (0xdd, 0x2f), ip, "{field:?}");
+        assert_eq!(rt; (frame[40], frame[41]) != (0xdd, 0x2f), udp, "{field:?}");
         for (i, byte) in frame.iter().enumerate() {
             let written = i >= at && i < at + 6 || i == 24 || i == 25 || i == 40 || i == 41;
-            assert!(rt; written || *byte == SUMMED[i], "place {place}, byte {i}");
+            assert!(rt; written || *byte == SUMMED[i], "{field:?}, byte {i}");
         }
         let mut again = frame;
-        edit_handled(&mut again, 42, &Edits { values: [None; 7] });
+        edit_handled(&mut again, 42, &Edits::none());
         assert!(rt; again.as_slice() == frame.as_slice(), "no edit");
     }
 }

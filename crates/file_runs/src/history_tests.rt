@@ -1,12 +1,12 @@
 //! Lines of a journal, and the text of a state.
-ghost use Rattle.std.specs.Prelude.{◌≡◌, ◌≤◌, List, IfOk, length};
+ghost use Rattle.std.specs.Prelude.{◌≡◌, ◌≤◌, All, List, IfOk, length};
 ghost use Rattle.nf_base.specs.declared.decl.ChainDecl.{ChainDecl};
-ghost use Rattle.nf_base.specs.Fits.{Fits};
-ghost use Rattle.nf_base.specs.Limits.{HaveShortKeys};
+ghost use Rattle.nf_base.specs.Limits.{Fits, HaveShortKeys};
+ghost use Rattle.nf_base.specs.Statements.{statements};
 ghost use Rattle.nf_base.specs.View.{block_of};
 
-use nf_base::code::Code;
-use nf_base::decl::{ArrayDecl, ChainDecl, ColumnDecl, ColumnId, Name};
+use nf_base::block::{Block, Ending};
+use nf_base::decl::{ArrayDecl, ChainDecl, ColumnDecl, ColumnId, Name, ObjectId};
 use nf_base::done::Action;
 use nf_base::func::{Func, Handler};
 use nf_base::indexed::Indexed;
@@ -104,24 +104,26 @@ fn flows(alloc: Global) -> Result<ChainDecl, AllocError>
     let mut labels = Limited::new(alloc);
     column(alloc, &mut labels, *b"addr")?;
     column(alloc, &mut labels, *b"port")?;
-    let mut free = Limited::new(alloc);
-    column(alloc, &mut free, *b"seen")?;
-    let order = [ColumnId::Label(0), ColumnId::Free(0), ColumnId::Label(1)];
+    let mut columns = Limited::new(alloc);
+    column(alloc, &mut columns, *b"seen")?;
+    let order = [ColumnId::Label(0), ColumnId::Column(0), ColumnId::Label(1)];
     Ok(ChainDecl {
         name: name(alloc, *b"flow")?,
         size: Size::new(3),
         lifetime: 1,
         labels,
-        free,
+        columns,
         maps: Limited::new(alloc),
-        columns: Limited::from_vec(Vec::from_slice(alloc, &order)?),
+        order: Limited::from_vec(Vec::from_slice(alloc, &order)?),
     })
 }
 
 fn idle() -> Handler
-    ensures { (decls : List ChainDecl) → Fits decls (block_of result.code) }
+    ensures { (decls : List ChainDecl) → All (Fits decls) (statements (block_of result.block)) }
 {
-    Handler { code: Code::End }
+    Handler {
+        block: Block::End(Ending::FallsOff),
+    }
 }
 
 // A chain, and an array whose cells open as 0, 5 and 0.
@@ -136,12 +138,14 @@ fn function(alloc: Global) -> Result<Func, AllocError> {
     })?;
     let mut handlers = Vec::new(alloc);
     handlers.push(idle())?;
+    let objects = [ObjectId::Chain(0), ObjectId::Array(0)];
     let chains = Limited::from_vec(chains);
     let handlers = Limited::from_vec(handlers);
     Ok(Func {
         name: Name::new(alloc),
         chains,
         arrays: Limited::from_vec(arrays),
+        objects: Limited::from_vec(Vec::from_slice(alloc, &objects)?),
         handlers,
     })
 }
@@ -152,13 +156,13 @@ fn flow_slots(alloc: Global) -> Result<Indexed<Option<Entry>>, AllocError> {
     slots.push(Some(Entry {
         stamp: 7,
         labels: Seq::from_vec(Vec::from_slice(alloc, &[4_294_967_295, 53])?),
-        free: Seq::from_vec(Vec::from_slice(alloc, &[0])?),
+        columns: Seq::from_vec(Vec::from_slice(alloc, &[0])?),
     }))?;
     slots.push(None)?;
     slots.push(Some(Entry {
         stamp: 18_446_744_073_709_551_615,
         labels: Seq::from_vec(Vec::from_slice(alloc, &[1, 2])?),
-        free: Seq::from_vec(Vec::from_slice(alloc, &[3])?),
+        columns: Seq::from_vec(Vec::from_slice(alloc, &[3])?),
     }))?;
     Ok(Indexed::from_vec(slots))
 }

@@ -45,7 +45,7 @@ fn length(alloc: Global, action: Action, from: u32, port: u32) -> Result<usize, 
         },
         done: Done {
             action,
-            edits: Edits { values: [None; 7] },
+            edits: Edits::none(),
             picks: Picks::new(),
         },
     };
@@ -95,7 +95,7 @@ fn a_record_has_the_packets_time_and_its_frame(rt: HostRuntime) -> Result<(), Fa
         },
         done: Done {
             action: Action::Flood,
-            edits: Edits { values: [None; 7] },
+            edits: Edits::none(),
             picks: Picks::new(),
         },
     };
@@ -120,8 +120,8 @@ const DATAGRAM: [u8; 42] = [
 #[test]
 fn a_frame_is_sent_with_its_edits(rt: HostRuntime) -> Result<(), Fail> {
     let alloc = rt.alloc();
-    let mut values = [None; 7];
-    values[2] = Some(0x3285_0001);
+    let mut edits = Edits::none();
+    edits.src_ip = Some(0x3285_0001);
     let handled = Handled {
         arrival: Arrival {
             packet: Packet {
@@ -135,7 +135,7 @@ fn a_frame_is_sent_with_its_edits(rt: HostRuntime) -> Result<(), Fail> {
         },
         done: Done {
             action: Action::To(1),
-            edits: Edits { values },
+            edits,
             picks: Picks::new(),
         },
     };

@@ -1,50 +1,60 @@
 -- Packets that are handled one after another.
-use Rattle.std.proofs.Common.{◌≡◌, ℕ, ◌+◌, ◌<◌, List, [], ◌∷◌, ◌++◌, length, map, get_or, drop, fold, Option, Some, None, option_and_then, refl, ap, sym, subst, ◌∙◌, suc, zero, arith, drop-cons, add-one, append_assoc}
+use Rattle.std.proofs.Common.{◌≡◌, ℕ, ◌+◌, ◌<◌, List, [], ◌∷◌, ◌++◌, length, map, get_or, drop, Option, Some, None, option_and_then, refl, ap, sym, subst, ◌∙◌, suc, zero, arith, drop-cons, add-one, append_assoc}
 use Rattle.std.proofs.lemmas.List.{map-append}
-use Rattle.std.proofs.lemmas.List.Sums.{fold-append}
+use Rattle.std.proofs.lemmas.Option.{same_Some}
 use Rattle.std.specs.List.{AllByRecursion}
 use Rattle.nf_base.specs.Text.{Function}
-use Rattle.nf_base.specs.Step.{Stepped, step}
-use Rattle.nf_base.specs.Runs.{Ran, Turn, run, turn, start, with_step, events}
-use Rattle.nf_base.specs.Places.{places, all_numbers}
+use Rattle.nf_base.specs.Step.{StepResult, step, opening}
+use Rattle.nf_base.specs.Runs.{Handling, RunResult, run, with_answer}
+use Rattle.nf_base.specs.declared.done.Done.{Done}
 use Rattle.nf_base.specs.declared.state.State.{State}
 use Rattle.run_files.specs.declared.handled.Handled.{Handled}
 use Rattle.run_files.specs.Written.{arrival_in}
 use Rattle.capture_order.specs.declared.arrival.Arrival.{Arrival}
 use Rattle.maestro_cli.specs.Handling.{HandlesOne}
-use Rattle.maestro_cli.specs.Runs.{IsUndivided, turn_of}
+use Rattle.maestro_cli.specs.Runs.{IsUndivided, handling_of, result_of}
 
 -- no packet was handled yet
-pub undivided_none : (f : Function) (state : State) → state ≡ (start f).state → IsUndivided f [] state
-undivided_none f state opens = record { ran = start f; is_run = refl; came_to = refl; left = sym opens }
+pub undivided_none : (f : Function) (state : State) → state ≡ opening f → IsUndivided f [] state
+undivided_none f state opens = ap (λ (s : State). Some (result_of [] s)) (sym opens)
 
--- a run after one packet more
-abbrev ran_after : Function → Ran → Turn → Stepped → Ran
-ran_after f r t s = record {
-  state = s.state;
-  numbers = all_numbers r.numbers (events f r.state t.packet t.choices);
-  reports = r.reports ++ record { done = s.done; places = places f.chains r.numbers (events f r.state t.packet t.choices) } ∷ [];
-}
+-- what a run came to, with one packet more
+abbrev one_more : RunResult → StepResult → RunResult
+one_more r next = record { state = next.state; answers = r.answers ++ next.done ∷ [] }
+
+-- a run that goes on with one packet more, behind a packet with this step
+abbrev GoesOn : Function → List Handling → Handling → StepResult → StepResult → Type 0
+GoesOn f hs h next n = (x : RunResult) → run f n.state hs ≡ Some x → step f x.state h.packet h.choices ≡ Some next → run f n.state (hs ++ h ∷ []) ≡ Some (one_more x next)
+
+behind_answer : (f : Function) (hs : List Handling) (h : Handling) (r : RunResult) (next n : StepResult) (o : Option RunResult) → GoesOn f hs h next n → step f r.state h.packet h.choices ≡ Some next → run f n.state hs ≡ o → with_answer n.done o ≡ Some r → with_answer n.done (run f n.state (hs ++ h ∷ [])) ≡ Some (one_more r next)
+behind_answer f hs h r next n None more steps e q = cc
+behind_answer f hs h r next n (Some x) more steps e q =
+    let is : record { state = x.state; answers = n.done ∷ x.answers } ≡ r = same_Some _ _ q in
+    let left : x.state ≡ r.state = ap (λ (y : RunResult). y.state) is in
+    let all : n.done ∷ x.answers ≡ r.answers = ap (λ (y : RunResult). y.answers) is in
+    ap (with_answer n.done) (more x e (ap (λ (y : State). step f y h.packet h.choices) left ∙ steps)) ∙ ap (λ (ds : List Done). Some (record { state = next.state; answers = ds ++ next.done ∷ [] })) all
+
+behind_step : (f : Function) (hs : List Handling) (h : Handling) (r : RunResult) (next : StepResult) (o : Option StepResult) → ((n : StepResult) → GoesOn f hs h next n) → step f r.state h.packet h.choices ≡ Some next
+    → option_and_then (λ (n : StepResult). with_answer n.done (run f n.state hs)) o ≡ Some r
+    → option_and_then (λ (n : StepResult). with_answer n.done (run f n.state (hs ++ h ∷ []))) o ≡ Some (one_more r next)
+behind_step f hs h r next None more steps q = cc
+behind_step f hs h r next (Some n) more steps q = behind_answer f hs h r next n (run f n.state hs) (more n) steps refl q
+
+-- a run, and one packet more behind it
+run_more : (f : Function) (s : State) (hs : List Handling) (h : Handling) (r : RunResult) (next : StepResult) → run f s hs ≡ Some r → step f r.state h.packet h.choices ≡ Some next → run f s (hs ++ h ∷ []) ≡ Some (one_more r next)
+run_more f s [] h r next ran steps =
+    let is : record { state = s; answers = [] } ≡ r = same_Some _ _ ran in
+    ap (option_and_then (λ (n : StepResult). with_answer n.done (Some (record { state = n.state; answers = [] })))) (ap (λ (x : RunResult). step f x.state h.packet h.choices) is ∙ steps)
+    ∙ ap (λ (x : RunResult). Some (record { state = next.state; answers = x.answers ++ next.done ∷ [] })) is
+run_more f s (g ∷ hs) h r next ran steps =
+    behind_step f hs h r next (step f s g.packet g.choices) (λ n x e q. run_more f n.state hs h x next e q) steps ran
 
 -- one packet more was handled
 pub undivided_more : (f : Function) (handled : List Handled) (h : Handled) (old new : State) → IsUndivided f handled old → step f old h.arrival.packet h.done.picks ≡ Some (record { state = new; done = h.done }) → IsUndivided f (handled ++ h ∷ []) new
 undivided_more f handled h old new u steps =
-    let s : Stepped = record { state = new; done = h.done } in
-    let t = turn_of h in
-    let here : step f u.ran.state h.arrival.packet h.done.picks ≡ Some s = ap (λ (state : State). step f state h.arrival.packet h.done.picks) u.left ∙ steps in
-    record {
-      ran = ran_after f u.ran t s;
-      is_run =
-          ap (run f (Some (start f))) (map-append turn_of handled (h ∷ []))
-          ∙ fold-append (λ (so_far : Option Ran) (t : Turn). option_and_then (turn f t) so_far) (Some (start f)) (map turn_of handled) (t ∷ [])
-          ∙ ap (option_and_then (turn f t)) u.is_run
-          ∙ ap (with_step f u.ran t) here;
-      came_to =
-          map-append (λ r. r.done) u.ran.reports (record { done = h.done; places = places f.chains u.ran.numbers (events f u.ran.state t.packet t.choices) } ∷ [])
-          ∙ ap (λ ds. ds ++ h.done ∷ []) u.came_to
-          ∙ sym (map-append (λ h. h.done) handled (h ∷ []));
-      left = refl;
-    }
+    ap (run f (opening f)) (map-append handling_of handled (h ∷ []))
+    ∙ run_more f (opening f) (map handling_of handled) (handling_of h) (result_of handled old) (record { state = new; done = h.done }) u steps
+    ∙ ap (λ (ds : List Done). Some (record { state = new; answers = ds })) (sym (map-append (λ (x : Handled). x.done) handled (h ∷ [])))
 
 pub all_got : {A : Type 0} (P : A → Type 0) (xs : List A) (i : ℕ) (d : A) → AllByRecursion P xs → i < length xs → P (get_or xs i d)
 all_got P [] i d all lt = absurd (omega (arith, lt))

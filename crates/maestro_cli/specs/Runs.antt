@@ -1,7 +1,8 @@
 -- A whole run: what it was made of, and what it came to.
 use Rattle.std.specs.Prelude.{◌≡◌, ◌≢◌, ℕ, List, [], ◌∷◌, length, map, Option, Some}
 use Rattle.nf_base.specs.Text.{Function}
-use Rattle.nf_base.specs.Runs.{Ran, Turn, run, start}
+use Rattle.nf_base.specs.Runs.{Handling, RunResult, run}
+use Rattle.nf_base.specs.Step.{opening}
 use Rattle.nf_base.specs.declared.state.State.{State}
 use Rattle.nf_files.specs.Told.{Told, IsToldAs}
 use Rattle.capture_order.specs.Loaded.{IsLoaded, first_bad}
@@ -10,23 +11,27 @@ use Rattle.run_files.specs.Written.{arrival_in}
 use Rattle.command_words.specs.Commands.{Run as RunAsked}
 use Rattle.maestro_cli.specs.Source.{IsFunctionUnder}
 
--- the function, the bytes of the captures, the packets with what each came to in the order in which they were handled, and the last state
+-- the function, the bytes of the captures, the packets with what each came to in the order in which
+-- they were handled, and the last state
 pub record Run : Type 0 where
   pub function : Function
   pub captures : List (List ℕ)
   pub handled : List Handled
   pub state : State
 
--- a packet that was handled, as a step of a run: the packet, and the indices that it was given
-abbrev pub turn_of : Handled → Turn
-turn_of h = record { packet = h.arrival.packet; choices = h.done.picks }
+-- a packet that was handled, with the indices that it was given
+abbrev pub handling_of : Handled → Handling
+handling_of h = record { packet = h.arrival.packet; choices = h.done.picks }
 
--- The undivided function handles these packets, one after another from its opening state: each came to what is said, and this state is left.
-pub record IsUndivided (f : Function) (handled : List Handled) (state : State) : Type 0 where
-  pub ran : Ran
-  pub is_run : run f (Some (start f)) (map turn_of handled) ≡ Some ran
-  pub came_to : map (λ r. r.done) ran.reports ≡ map (λ h. h.done) handled
-  pub left : ran.state ≡ state
+-- what a run came to: the last state, and what each packet came to
+abbrev pub result_of : List Handled → State → RunResult
+result_of handled state = record { state = state; answers = map (λ h. h.done) handled }
+
+-- The undivided function handles these packets, one after another from its opening state: each came
+-- to what is said, and this state is left.
+abbrev pub IsUndivided : Function → List Handled → State → Type 0
+IsUndivided f handled state =
+    run f (opening f) (map handling_of handled) ≡ Some (result_of handled state)
 
 -- these bytes are what is told of these names or numbers, each where it is told
 abbrev pub AreTold : {A : Type 0} → (A → Option (List ℕ)) → List A → List (List ℕ) → Type 0
@@ -41,7 +46,9 @@ pub record IsNoCaptureUnder (told : Told) (names : List (List ℕ)) (port : ℕ)
   pub captures_told : AreTold told.content names captures
   pub least : first_bad captures ≡ Some port
 
--- A run that a command asks for: its text and its captures are those that stood under their names, and their packets are handled, each once, in capture order: all of them, or the most that may be handled.
+-- A run that a command asks for: its text and its captures are those that stood under their names,
+-- and their packets are handled, each once, in capture order: all of them, or the most that may be
+-- handled.
 pub record IsRunOf (command : RunAsked) (told : Told) (run : Run) : Type 0 where
   pub is_function : IsFunctionUnder told command.function run.function
   pub as_many : length command.captures ≡ length run.function.handlers
@@ -55,7 +62,8 @@ pub record HasOtherPorts (command : RunAsked) (told : Told) : Type 0 where
   pub is_function : IsFunctionUnder told command.function function
   pub not_as_many : length command.captures ≢ length function.handlers
 
--- The captures are as many as the function's ports, and the file of this port is the first that is no capture.
+-- The captures are as many as the function's ports, and the file of this port is the first that is no
+-- capture.
 pub record HasNoCapture (command : RunAsked) (told : Told) (port : ℕ) : Type 0 where
   pub function : Function
   pub is_function : IsFunctionUnder told command.function function

@@ -5,6 +5,7 @@ ghost use Rattle.maestro_cli.specs.Hashing as meant;
 
 use crate::names::push_decimal;
 use command_words::{Endpoint, HashCommand};
+use nf_base::mac::Mac;
 use nf_base::packet::Fields;
 use nf_base::workers::Workers;
 use rss_table::{Table, table_index};
@@ -17,8 +18,8 @@ fn fields_between(source: Endpoint, destination: Endpoint) -> Fields
 {
     Fields {
         length: 0,
-        src_mac: 0,
-        dst_mac: 0,
+        src_mac: Mac::new(0),
+        dst_mac: Mac::new(0),
         src_ip: source.address,
         dst_ip: destination.address,
         proto: 0,

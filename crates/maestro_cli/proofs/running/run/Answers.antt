@@ -53,7 +53,7 @@ returns-clause-runs g c =
     let func = c.in-Ok.func in
     runs_ended (asked c.args.command.now) g.start (g.F.Files.told c.finish.new.files) (function_of func) (all_bytes c.in-Ok-read_packets.packets.captures.items) c.finish.result
     c.in-Ok.ensures.finds
-    (omega (arith, length-map names string_bytes, length-map func.handlers (λ h. block_of h.code), c.if-command-len.false, c.len.ensures.value))
+    (omega (arith, length-map names string_bytes, length-map func.handlers (λ h. block_of h.block), c.if-command-len.false, c.len.ensures.value))
     c.in-Ok-read_packets.ensures.finds.captures_told
     (omega (arith, length-map names string_bytes, pre.1.0))
     (subst (λ (m : ℕ). Ends g.start (g.F.Files.told c.finish.new.files) (string_bytes c.args.command.now.out.now) (function_of func) (all_bytes c.in-Ok-read_packets.packets.captures.items) m c.finish.result) c.in-Ok-read_packets.ensures.finds.at_most c.finish.ensures.ends)
