@@ -83,7 +83,7 @@ written_joined decl s maps labels free i stamp row j at = record {
   free_width = j.free_width;
   decls = j.decls;
   joined = rw (free_set s.slots labels.rows free.rows i row, at)
-      (λ k d lt. joined_changed decl.size (entries s labels free) i (entry_with stamp labels free i) (record { stamp = stamp; labels = row_at labels i; free = row }) _ (j.joined k d lt) (stands decl s maps labels free i stamp j at) refl);
+      (λ k d lt. joined_changed decl.size (entries s labels free) i (entry_with stamp labels free i) (record { stamp = stamp; labels = row_at labels i; columns = row }) _ (j.joined k d lt) (stands decl s maps labels free i stamp j at) refl);
   own = j.own;
 }
 

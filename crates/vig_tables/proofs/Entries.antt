@@ -1,10 +1,10 @@
 -- Entries by index, and by their parts.
 use Rattle.std.proofs.Common.{◌≡◌, ◌≢◌, ◌∙◌, ap, sym, refl, arith, ℕ, zero, suc, ◌+◌, ◌<◌, ◌≤◌, List, [], ◌∷◌, ◌++◌, length, get_or, take, replicate}
-use Rattle.std.specs.Prelude.{Option, Some, None, slice_set, IsTrue}
+use Rattle.std.specs.Prelude.{Option, Some, None, slice_get, slice_set, IsTrue}
 use Rattle.std.proofs.lemmas.List.{set-get_or, take_more}
 use Rattle.std.proofs.lemmas.Option.{none-some}
 use Rattle.nf_base.specs.declared.state.Entry.{Entry}
-use Rattle.nf_base.specs.Chains.{entry_at, is_free}
+use Rattle.nf_base.specs.Chains.{entry_at, is_vacant}
 use Rattle.vig_chain.specs.Stamps.{stamp_at, is_empty}
 use Rattle.vig_tables.specs.Slots.{slot_of, slots_of, live}
 
@@ -36,7 +36,7 @@ one_more slots front new i x pushed so_far here lt =
     pushed ∙ ap (λ (xs : List (Option Entry)). xs ++ x ∷ []) so_far ∙ ap (λ (y : Option Entry). take i slots ++ y ∷ []) (here ∙ sym (entry_or slots i)) ∙ sym (take_more slots i None lt)
 
 -- a free index is within the list, and has no entry
-pub free_parts : (slots : List (Option Entry)) (i : ℕ) → IsTrue (is_free slots i) → (i < length slots) × (entry_at slots i ≡ None)
+pub free_parts : (slots : List (Option Entry)) (i : ℕ) → IsTrue (is_vacant (slice_get slots i)) → (i < length slots) × (entry_at slots i ≡ None)
 free_parts [] i e = absurd (grind arith)
 free_parts (None ∷ slots) zero e = (omega arith, refl)
 free_parts (Some s ∷ slots) zero e = absurd (grind arith)
@@ -69,7 +69,7 @@ live_most (None ∷ slots) = omega (arith, live_most slots)
 live_most (Some e ∷ slots) = omega (arith, live_most slots)
 
 -- where an index is free there are fewer entries than indices
-pub live_room : (slots : List (Option Entry)) (i : ℕ) → IsTrue (is_free slots i) → live slots < length slots
+pub live_room : (slots : List (Option Entry)) (i : ℕ) → IsTrue (is_vacant (slice_get slots i)) → live slots < length slots
 live_room [] i e = absurd (grind arith)
 live_room (None ∷ slots) zero e = omega (arith, live_most slots)
 live_room (Some s ∷ slots) zero e = absurd (grind arith)
@@ -123,7 +123,7 @@ entry_of (s ∷ stamps) (x ∷ labels) (y ∷ free) zero l f = refl
 entry_of (s ∷ stamps) (x ∷ labels) (y ∷ free) (suc i) l f = entry_of stamps labels free i (omega (arith, l)) (omega (arith, f))
 
 -- an index is free where it has no stamp
-pub free_of : (stamps : List (Option ℕ)) (labels free : List (List ℕ)) (i : ℕ) → length labels ≡ length stamps → length free ≡ length stamps → is_free (slots_of stamps labels free) i ≡ is_empty stamps i
+pub free_of : (stamps : List (Option ℕ)) (labels free : List (List ℕ)) (i : ℕ) → length labels ≡ length stamps → length free ≡ length stamps → is_vacant (slice_get (slots_of stamps labels free) i) ≡ is_empty stamps i
 free_of [] labels free i l f = refl
 free_of (s ∷ stamps) [] free i l f = absurd (omega arith)
 free_of (s ∷ stamps) (x ∷ labels) [] i l f = absurd (omega arith)

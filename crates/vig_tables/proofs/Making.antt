@@ -1,6 +1,6 @@
 -- Entries that are made.
 use Rattle.std.proofs.Common.{◌≡◌, ◌∙◌, ap, sym, refl, subst, arith, ℕ, ◌<◌, true, false, List, [], ◌∷◌, length, get_or, map, replicate, inl, inr}
-use Rattle.std.specs.Prelude.{Option, Some, None, slice_set, IsTrue, is_some, is_none, nat_lt, All}
+use Rattle.std.specs.Prelude.{Option, Some, None, slice_get, slice_set, IsTrue, is_some, is_none, nat_lt, All}
 use Rattle.std.specs.List.{AllZip, list_any}
 use Rattle.std.proofs.lemmas.Option.{none-some}
 use Rattle.std.proofs.lemmas.List.{length-set, length-replicate}
@@ -11,15 +11,14 @@ use Rattle.nf_base.specs.declared.decl.MapDecl.{MapDecl}
 use Rattle.nf_base.specs.declared.decl.ColumnDecl.{ColumnDecl}
 use Rattle.nf_base.specs.declared.decl.ChainDecl.{ChainDecl}
 use Rattle.nf_base.specs.declared.state.Entry.{Entry}
-use Rattle.nf_base.specs.Chains.{is_free, entry_at}
-use Rattle.nf_base.specs.Operations.{zeros}
+use Rattle.nf_base.specs.Chains.{is_vacant, entry_at}
 use Rattle.vig_chain.specs.Stamps as stamps
 use Rattle.vig_chain.specs.Stamps.{Stamps, stamp_at, is_own, is_empty, put, next_stamp}
 use Rattle.vig_map.specs.Bindings.{bindings_of}
 use Rattle.vig_tables.specs.Grid.{Grid, with_row}
 use Rattle.vig_tables.specs.Keyed as keyed
 use Rattle.vig_tables.specs.Keyed.{Keyed, key_of, value_for, AreBindable, IsBoundTo}
-use Rattle.vig_tables.specs.Table.{entered, has_taken, opened}
+use Rattle.vig_tables.specs.Table.{entered, has_taken, opened, zeros}
 use Rattle.vig_tables.specs.Joined.{entries, table_of, IsJoined, AreJoined}
 use Rattle.vig_tables.proofs.Changes.{true_after, same_after}
 use Rattle.vig_tables.proofs.Entries.{stamp-set_other, stamp_none, free_of, free_parts, all_set, length-slots_of, slots_of_none, live_room}
@@ -30,26 +29,26 @@ decls_of size [] = refl
 decls_of size (d ∷ decls) = ap (λ (rest : List MapDecl). d ∷ rest) (decls_of size decls)
 
 -- the fields of tables without entries
-pub opened_joined : (decl : ChainDecl) (queue of : ℕ) (maps : List Keyed) (labels free : Grid) → maps ≡ map (λ (d : MapDecl). keyed.keyed d (bindings_of [] decl.size)) decl.maps → labels ≡ record { width = length decl.labels; rows = replicate decl.size (replicate (length decl.labels) 0) } → free ≡ record { width = length decl.free; rows = replicate decl.size (replicate (length decl.free) 0) } → AreJoined decl (stamps.opened decl.size queue of) maps labels free
+pub opened_joined : (decl : ChainDecl) (queue of : ℕ) (maps : List Keyed) (labels free : Grid) → maps ≡ map (λ (d : MapDecl). keyed.keyed d (bindings_of [] decl.size)) decl.maps → labels ≡ record { width = length decl.labels; rows = replicate decl.size (replicate (length decl.labels) 0) } → free ≡ record { width = length decl.columns; rows = replicate decl.size (replicate (length decl.columns) 0) } → AreJoined decl (stamps.opened decl.size queue of) maps labels free
 opened_joined decl queue of maps labels free m l f = rw (m, l, f) (record {
   size = length-replicate decl.size None;
   label_rows = length-replicate decl.size (replicate (length decl.labels) 0);
-  free_rows = length-replicate decl.size (replicate (length decl.free) 0);
+  free_rows = length-replicate decl.size (replicate (length decl.columns) 0);
   label_width = refl;
   free_width = refl;
   decls = decls_of decl.size decl.maps;
-  joined = rw (slots_of_none decl.size (replicate (length decl.labels) 0) (replicate (length decl.free) 0))
+  joined = rw (slots_of_none decl.size (replicate (length decl.labels) 0) (replicate (length decl.columns) 0))
       (All-map (IsJoined decl.size (replicate decl.size None)) (λ (d : MapDecl). keyed.keyed d (bindings_of [] decl.size)) decl.maps (λ k d lt. joined_none decl.size _));
   own = λ i s at. absurd (none-some s (sym (stamp_none decl.size i) ∙ at));
 })
 
-pub opened_is : (decl : ChainDecl) (queue of : ℕ) (labels free : Grid) → labels ≡ record { width = length decl.labels; rows = replicate decl.size (replicate (length decl.labels) 0) } → free ≡ record { width = length decl.free; rows = replicate decl.size (replicate (length decl.free) 0) } → table_of decl (stamps.opened decl.size queue of) labels free ≡ opened decl queue of
-opened_is decl queue of labels free l f = rw (l, f, slots_of_none decl.size (replicate (length decl.labels) 0) (replicate (length decl.free) 0)) refl
+pub opened_is : (decl : ChainDecl) (queue of : ℕ) (labels free : Grid) → labels ≡ record { width = length decl.labels; rows = replicate decl.size (replicate (length decl.labels) 0) } → free ≡ record { width = length decl.columns; rows = replicate decl.size (replicate (length decl.columns) 0) } → table_of decl (stamps.opened decl.size queue of) labels free ≡ opened decl queue of
+opened_is decl queue of labels free l f = rw (l, f, slots_of_none decl.size (replicate (length decl.labels) 0) (replicate (length decl.columns) 0)) refl
 
 -- an index that may be given out, by the fields
 record IsFresh (s : Stamps) (labels free : Grid) (i : ℕ) : Type 0 where
   pub own : IsTrue (is_own s i)
-  pub is_open : IsTrue (is_free (entries s labels free) i)
+  pub is_open : IsTrue (is_vacant (slice_get (entries s labels free) i))
   pub within : i < length (entries s labels free)
   pub within_stamps : i < length s.slots
   pub none : entry_at (entries s labels free) i ≡ None
@@ -59,7 +58,7 @@ fresh decl s maps labels free i j may =
     let l = j.label_rows ∙ sym j.size in
     let f = j.free_rows ∙ sym j.size in
     let parts = and_parts (is_own s i) (is_empty s.slots i) may in
-    let free_at : is_free (entries s labels free) i ≡ true = free_of s.slots labels.rows free.rows i l f ∙ parts.1 in
+    let free_at : is_vacant (slice_get (entries s labels free) i) ≡ true = free_of s.slots labels.rows free.rows i l f ∙ parts.1 in
     let at = free_parts (entries s labels free) i free_at in
     record { own = parts.0; is_open = free_at; within = at.0; within_stamps = omega (arith, at.0, length-slots_of s.slots labels.rows free.rows l f); none = at.1 }
 
@@ -96,7 +95,7 @@ bindable decl s maps labels free i row j may none k d lt =
 -- the fields after an entry was made
 pub entered_joined : (decl : ChainDecl) (s : Stamps) (maps maps' : List Keyed) (labels free : Grid) (time i : ℕ) (row zs : List ℕ) → AreJoined decl s maps labels free → IsTrue (stamps.is_free s i) → list_any (keyed.is_bound row) maps ≡ false → AllZip (IsBoundTo row i) maps maps' → AreJoined decl (put time i s) maps' (with_row i row labels) (with_row i zs free)
 entered_joined decl s maps maps' labels free time i row zs j may none changed =
-    let e : Entry = record { stamp = next_stamp time s; labels = row; free = zs } in
+    let e : Entry = record { stamp = next_stamp time s; labels = row; columns = zs } in
     let f = fresh decl s maps labels free i j may in
     let Before : Keyed → Type 0 = λ m. IsJoined decl.size (entries s labels free) m × (keyed.is_bound row m ≡ false) in
     record {
@@ -123,7 +122,7 @@ zeros_of (c ∷ columns) = ap (λ (rest : List ℕ). 0 ∷ rest) (zeros_of colum
 -- the tables then
 pub entered_is : (decl : ChainDecl) (s : Stamps) (maps : List Keyed) (labels free : Grid) (time i : ℕ) (row : List ℕ) → AreJoined decl s maps labels free → table_of decl (put time i s) (with_row i row labels) (with_row i (replicate free.width 0) free) ≡ entered time i row (table_of decl s labels free)
 entered_is decl s maps labels free time i row j =
-    let zs : replicate free.width 0 ≡ zeros decl.free = ap (λ (n : ℕ). replicate n 0) j.free_width ∙ zeros_of decl.free in
+    let zs : replicate free.width 0 ≡ zeros decl.columns = ap (λ (n : ℕ). replicate n 0) j.free_width ∙ zeros_of decl.columns in
     rw (all_set s.slots labels.rows free.rows i (Some (next_stamp time s)) row (replicate free.width 0), zs) refl
 
 -- some labels' keys are bound in the maps where they are taken

@@ -7,16 +7,15 @@ use Rattle.std.proofs.lemmas.Option.{slice_get-map, get_or_from_slice_get, slice
 use Rattle.nf_base.specs.declared.decl.MapDecl.{MapDecl}
 use Rattle.nf_base.specs.declared.decl.ChainDecl.{ChainDecl}
 use Rattle.nf_base.specs.declared.state.Entry.{Entry}
-use Rattle.nf_base.specs.Chains.{entry_at, has_label, has_labels}
+use Rattle.nf_base.specs.Chains.{entry_at, is_due}
 use Rattle.nf_base.specs.Context.{or_zero}
-use Rattle.nf_base.specs.Runs.{is_past}
 use Rattle.vig_chain.specs.Stamps as stamps
 use Rattle.vig_chain.specs.Stamps.{Stamps, stamp_at, is_own, is_past_at, Somewhere, Nowhere}
 use Rattle.vig_map.specs.Bindings.{value_of}
 use Rattle.vig_tables.specs.Grid.{Grid, row_at}
 use Rattle.vig_tables.specs.Keyed.{Keyed}
 use Rattle.vig_tables.specs.Slots.{slot_of, labelled}
-use Rattle.vig_tables.specs.Table.{Table, entry, is_open, found, found_at, column_of}
+use Rattle.vig_tables.specs.Table.{Table, entry, is_open, found, found_at, has_label, has_labels, cell_of}
 use Rattle.vig_tables.specs.Joined.{entries, table_of, IsJoined, AreJoined}
 use Rattle.vig_tables.proofs.Entries.{entry_of, free_of, length-slots_of, stamp_within, stamp_past}
 use Rattle.vig_tables.proofs.Joining.{lookup_is}
@@ -42,14 +41,14 @@ stamp_is decl s maps labels free j i = by_stamp (stamp_at s.slots i) ∙ sym (ap
     by_stamp (Some stamp) = refl
 
 -- an entry is past its lifetime by the fields where it is
-pub past_is : (decl : ChainDecl) (s : Stamps) (maps : List Keyed) (labels free : Grid) (time lifetime : ℕ) → AreJoined decl s maps labels free → (i : ℕ) → is_past_at time lifetime s i ≡ is_past time lifetime (entry_at (entries s labels free) i)
-past_is decl s maps labels free time lifetime j i = by_stamp (stamp_at s.slots i) refl ∙ sym (ap (is_past time lifetime) (entry_is decl s maps labels free j i))
+pub past_is : (decl : ChainDecl) (s : Stamps) (maps : List Keyed) (labels free : Grid) (time lifetime : ℕ) → AreJoined decl s maps labels free → (i : ℕ) → is_past_at time lifetime s i ≡ is_due time lifetime (entry_at (entries s labels free) i)
+past_is decl s maps labels free time lifetime j i = by_stamp (stamp_at s.slots i) refl ∙ sym (ap (is_due time lifetime) (entry_is decl s maps labels free j i))
   where
-    by_stamp : (o : Option ℕ) → stamp_at s.slots i ≡ o → is_past_at time lifetime s i ≡ is_past time lifetime (slot_of (stamp_at s.slots i) (row_at labels i) (row_at free i))
+    by_stamp : (o : Option ℕ) → stamp_at s.slots i ≡ o → is_past_at time lifetime s i ≡ is_due time lifetime (slot_of (stamp_at s.slots i) (row_at labels i) (row_at free i))
     by_stamp None e = rw e refl
     by_stamp (Some stamp) e = rw e refl
 
-pub past_match : (decl : ChainDecl) (s : Stamps) (maps : List Keyed) (labels free : Grid) (time lifetime : ℕ) → AreJoined decl s maps labels free → (b : Bool) → MatchBool b (Somewhere (is_past_at time lifetime s)) (Nowhere (is_past_at time lifetime s)) → MatchBool b ((i : ℕ) × (is_past time lifetime (entry_at (entries s labels free) i) ≡ true)) ((i : ℕ) → is_past time lifetime (entry_at (entries s labels free) i) ≡ true → ⊥)
+pub past_match : (decl : ChainDecl) (s : Stamps) (maps : List Keyed) (labels free : Grid) (time lifetime : ℕ) → AreJoined decl s maps labels free → (b : Bool) → MatchBool b (Somewhere (is_past_at time lifetime s)) (Nowhere (is_past_at time lifetime s)) → MatchBool b ((i : ℕ) × (is_due time lifetime (entry_at (entries s labels free) i) ≡ true)) ((i : ℕ) → is_due time lifetime (entry_at (entries s labels free) i) ≡ true → ⊥)
 past_match decl s maps labels free time lifetime j true some = (some.0, sym (past_is decl s maps labels free time lifetime j some.0) ∙ some.1)
 past_match decl s maps labels free time lifetime j false none = λ i past. none i (past_is decl s maps labels free time lifetime j i ∙ past)
 
@@ -70,7 +69,7 @@ not_found decl s maps labels free j k key at =
 
 -- the entry at an index with a stamp
 abbrev pub entry_with : ℕ → Grid → Grid → ℕ → Entry
-entry_with stamp labels free i = record { stamp = stamp; labels = row_at labels i; free = row_at free i }
+entry_with stamp labels free i = record { stamp = stamp; labels = row_at labels i; columns = row_at free i }
 
 pub stands : (decl : ChainDecl) (s : Stamps) (maps : List Keyed) (labels free : Grid) (i stamp : ℕ) → AreJoined decl s maps labels free → stamp_at s.slots i ≡ Some stamp → entry_at (entries s labels free) i ≡ Some (entry_with stamp labels free i)
 stands decl s maps labels free i stamp j at = entry_is decl s maps labels free j i ∙ ap (λ (o : Option ℕ). slot_of o (row_at labels i) (row_at free i)) at
@@ -110,13 +109,13 @@ rows_within decl s maps labels free i stamp j at =
     (omega (arith, lt, j.size, j.label_rows), omega (arith, lt, j.size, j.free_rows))
 
 -- the columns of an entry
-pub column_none : (decl : ChainDecl) (column : ℕ) (o : Option Entry) → o ≡ None → 0 ≡ column_of decl column o
+pub column_none : (decl : ChainDecl) (column : ℕ) (o : Option Entry) → o ≡ None → 0 ≡ cell_of decl column o
 column_none decl column o none = rw none (cond_both (nat_lt column (length decl.labels)) 0 0 (λ (x : ℕ). 0 ≡ x) (λ e. refl) (λ e. refl))
 
-pub column_label : (decl : ChainDecl) (column stamp i : ℕ) (labels free : Grid) (o : Option Entry) → o ≡ Some (entry_with stamp labels free i) → column < length decl.labels → or_zero (slice_get (row_at labels i) column) ≡ column_of decl column o
+pub column_label : (decl : ChainDecl) (column stamp i : ℕ) (labels free : Grid) (o : Option Entry) → o ≡ Some (entry_with stamp labels free i) → column < length decl.labels → or_zero (slice_get (row_at labels i) column) ≡ cell_of decl column o
 column_label decl column stamp i labels free o is lt = rw (is, lt-ltb column (length decl.labels) lt) refl
 
-pub column_free : (decl : ChainDecl) (column stamp i : ℕ) (labels free : Grid) (o : Option Entry) → o ≡ Some (entry_with stamp labels free i) → length decl.labels ≤ column → or_zero (slice_get (row_at free i) (column - length decl.labels)) ≡ column_of decl column o
+pub column_free : (decl : ChainDecl) (column stamp i : ℕ) (labels free : Grid) (o : Option Entry) → o ≡ Some (entry_with stamp labels free i) → length decl.labels ≤ column → or_zero (slice_get (row_at free i) (column - length decl.labels)) ≡ cell_of decl column o
 column_free decl column stamp i labels free o is le = rw (is, le-ltb column (length decl.labels) le) refl
 
 -- an entry has labels by its labels alone

@@ -8,7 +8,8 @@ use Rattle.std.proofs.lemmas.List.Elements.{All-map, All-set}
 use Rattle.std.proofs.lemmas.Option.{slice_get-map, get_or_from_slice_get, slice_get_within}
 use Rattle.nf_base.specs.declared.decl.ChainDecl.{ChainDecl}
 use Rattle.nf_base.specs.declared.state.Chain.{Chain}
-use Rattle.nf_base.specs.Step.{expired, opening_chain}
+use Rattle.nf_base.specs.Chains.{expired, lifetime_of}
+use Rattle.nf_base.specs.Step.{opening_chain}
 use Rattle.vig_tables.specs.declared.created.Created.{Created}
 use Rattle.vig_tables.specs.declared.created.Created.TheVariants.{Made, Taken, Full}
 use Rattle.vig_tables.specs.Table.{Table, Creates, entered, opened, found, without_past}
@@ -41,7 +42,7 @@ put_is tables arrays queue of k t t' at same =
     rw (decls, map-set (λ (x : Table). x.chain) tables k t') refl
 
 -- each chain without what is past its lifetime
-pub expired_is : (time : ℕ) (tables : List Table) → map (λ (x : Table). x.chain) (map (without_past time) tables) ≡ expired time (map (λ (x : Table). x.decl) tables) (map (λ (x : Table). x.chain) tables)
+pub expired_is : (time : ℕ) (tables : List Table) → map (λ (x : Table). x.chain) (map (without_past time) tables) ≡ expired time (lifetime_of (map (λ (x : Table). x.decl) tables)) (map (λ (x : Table). x.chain) tables)
 expired_is time [] = refl
 expired_is time (t ∷ tables) = ap (λ (rest : List Chain). (without_past time t).chain ∷ rest) (expired_is time tables)
 

@@ -36,7 +36,7 @@ pub record AreJoined (decl : ChainDecl) (stamps : Stamps) (maps : List Keyed) (l
   pub label_rows : length labels.rows ≡ decl.size
   pub free_rows : length free.rows ≡ decl.size
   pub label_width : labels.width ≡ length decl.labels
-  pub free_width : free.width ≡ length decl.free
+  pub free_width : free.width ≡ length decl.columns
   pub decls : map (λ (m : Keyed). m.decl) maps ≡ decl.maps
   pub joined : All (IsJoined decl.size (entries stamps labels free)) maps
   pub own : (i s : ℕ) → stamp_at stamps.slots i ≡ Some s → IsTrue (is_own stamps i)

@@ -5,7 +5,7 @@ use Rattle.nf_base.specs.declared.state.Entry.{Entry}
 -- what stands at an index, by its stamp, its labels and its free columns
 abbrev pub slot_of : Option ℕ → List ℕ → List ℕ → Option Entry
 slot_of None labels free = None
-slot_of (Some stamp) labels free = Some (record { stamp = stamp; labels = labels; free = free })
+slot_of (Some stamp) labels free = Some (record { stamp = stamp; labels = labels; columns = free })
 
 -- the same of each index
 abbrev pub slots_of : List (Option ℕ) → List (List ℕ) → List (List ℕ) → List (Option Entry)
@@ -22,4 +22,4 @@ live (Some entry ∷ slots) = live slots + 1
 
 -- an entry with these labels, of which nothing else is said
 abbrev pub labelled : List ℕ → Entry
-labelled labels = record { stamp = 0; labels = labels; free = [] }
+labelled labels = record { stamp = 0; labels = labels; columns = [] }

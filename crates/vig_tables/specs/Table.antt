@@ -1,12 +1,13 @@
 -- What the tables of one chain are seen as, and what their calls do: the words of the step, over a share.
-use Rattle.std.specs.Prelude.{◌≡◌, ℕ, ◌-◌, ◌%◌, Bool, true, false, not, ◌&&◌, ◌==◌, nat_lt, IsTrue, List, length, Option, Some, None, if◌then◌else◌, slice_get}
+use Rattle.std.specs.Prelude.{◌≡◌, ℕ, ◌-◌, ◌%◌, Bool, true, false, not, ◌&&◌, ◌==◌, nat_lt, IsTrue, List, [], ◌∷◌, length, map, Option, Some, None, if◌then◌else◌, slice_get}
 use Rattle.nf_base.specs.declared.decl.ChainDecl.{ChainDecl}
 use Rattle.nf_base.specs.declared.decl.MapDecl.{MapDecl}
 use Rattle.nf_base.specs.declared.state.Chain.{Chain}
 use Rattle.nf_base.specs.declared.state.Entry.{Entry}
-use Rattle.nf_base.specs.Chains.{index_from, is_taken, is_free, entry_at, has_labels, put, written, unexpired}
-use Rattle.nf_base.specs.Context.{label_of, free_of}
-use Rattle.nf_base.specs.Operations.{zeros}
+use Rattle.nf_base.specs.declared.decl.ColumnDecl.{ColumnDecl}
+use Rattle.nf_base.specs.Chains as chains
+use Rattle.nf_base.specs.Chains.{is_taken, is_vacant, entry_at, stamped, fresh, written, unexpired}
+use Rattle.nf_base.specs.Context.{is_given, label_of, column_of}
 use Rattle.nf_base.specs.Step.{opening_chain}
 use Rattle.vig_chain.specs.Stamps.{Nowhere}
 use Rattle.vig_tables.specs.declared.created.Created.{Created}
@@ -37,7 +38,7 @@ is_own t i = i % t.of == t.queue
 
 -- whether an index may be given out: it is own and free
 abbrev pub is_open : Table → ℕ → Bool
-is_open t i = is_own t i && is_free t.chain.slots i
+is_open t i = is_own t i && is_vacant (slice_get t.chain.slots i)
 
 -- what a key is bound to in a map of a chain: none where there is no such map
 abbrev pub found : ChainDecl → Chain → ℕ → List ℕ → Option ℕ
@@ -45,7 +46,16 @@ found decl chain m key = in_map (slice_get decl.maps m)
   where
     in_map : Option MapDecl → Option ℕ
     in_map None = None
-    in_map (Some m) = index_from 0 m key chain.slots
+    in_map (Some m) = chains.found m key chain.slots
+
+-- whether a label has a value
+abbrev pub has_label : ℕ × ℕ → Entry → Bool
+has_label guard e = is_given guard.1 (slice_get e.labels guard.0)
+
+-- whether labels have these values, each with the label's number
+abbrev pub has_labels : List (ℕ × ℕ) → Entry → Bool
+has_labels [] e = true
+has_labels (guard ∷ guards) e = has_label guard e && has_labels guards e
 
 -- an index, where an entry stands that has some labels
 abbrev pub found_at : Table → ℕ → List (ℕ × ℕ) → Option ℕ
@@ -59,9 +69,13 @@ found_at t i guards = of_entry (entry t i)
 abbrev pub has_taken : Table → List ℕ → Bool
 has_taken t labels = is_taken t.decl.maps labels t.chain.slots
 
+-- what the free columns of a new entry hold: a 0 for each
+abbrev pub zeros : List ColumnDecl → List ℕ
+zeros columns = map (λ (column : ColumnDecl). 0) columns
+
 -- an entry made at an index
 abbrev pub entered : ℕ → ℕ → List ℕ → Table → Table
-entered time i labels t = with_chain (put time i labels (zeros t.decl.free) t.chain) t
+entered time i labels t = with_chain (stamped time i (fresh labels (zeros t.decl.columns)) t.chain) t
 
 -- What making an entry comes to: a key is bound; or no own index is free; or an entry at an own free index.
 abbrev pub Creates : ℕ → List ℕ → Table → Created → Table → Type 0
@@ -75,11 +89,11 @@ can_enter t i labels = not (has_taken t labels) && is_open t i
 
 -- a chain without what is past its lifetime at a time
 abbrev pub without_past : ℕ → Table → Table
-without_past time t = with_chain (unexpired time t.decl t.chain) t
+without_past time t = with_chain (unexpired time t.decl.lifetime t.chain) t
 
 -- a column of an entry: its labels come first, then its free columns; 0 where there is none
-abbrev pub column_of : ChainDecl → ℕ → Option Entry → ℕ
-column_of decl column e = if nat_lt column (length decl.labels) then label_of column e else free_of (column - length decl.labels) e
+abbrev pub cell_of : ChainDecl → ℕ → Option Entry → ℕ
+cell_of decl column e = if nat_lt column (length decl.labels) then label_of column e else column_of (column - length decl.labels) e
 
 -- a free column of the entry at an index written
 abbrev pub with_column : ℕ → ℕ → ℕ → Table → Table

@@ -4,8 +4,8 @@ use Rattle.nf_base.specs.declared.decl.ChainDecl.{ChainDecl}
 use Rattle.nf_base.specs.declared.state.Chain.{Chain}
 use Rattle.nf_base.specs.declared.state.State.{State}
 use Rattle.nf_base.specs.Text.{Function}
+use Rattle.nf_base.specs.Chains.{none_due}
 use Rattle.nf_base.specs.Step.{opening}
-use Rattle.nf_base.specs.Runs.{none_past}
 use Rattle.vig_chain.specs.Stamps.{Nowhere, Somewhere}
 use Rattle.vig_tables.specs.declared.created.Created.{Created}
 use Rattle.vig_tables.specs.declared.created.Created.TheVariants.{Made, Taken, Full}
@@ -98,7 +98,7 @@ has_taken_in (Some t) labels = has_taken t labels
 -- whether some entry of a chain is past its lifetime
 abbrev pub is_due : ℕ → Option Table → Bool
 is_due time None = false
-is_due time (Some t) = not (none_past time t.decl.lifetime t.chain.slots)
+is_due time (Some t) = not (none_due time t.decl.lifetime t.chain.slots)
 
 -- a number of a chain's tables, 0 where there are none
 abbrev pub number_of : (Table → ℕ) → Option Table → ℕ

@@ -2,12 +2,11 @@
 ghost use Rattle.std.specs.Prelude.{◌≡◌, ◌≤◌, ◌<◌, length, not, IsTrue, IfOk, MatchBool, option_and_then, slice_get, replicate};
 ghost use Rattle.std.specs.Bool.{OnTrue, OnFalse};
 ghost use Rattle.std.specs.Option.{option_map};
-ghost use Rattle.nf_base.specs.Chains.{has_label, has_labels, touched, freed, written};
-ghost use Rattle.nf_base.specs.Context.{or_zero, label_of, free_of};
+ghost use Rattle.nf_base.specs.Chains.{none_due, touched, freed, written};
+ghost use Rattle.nf_base.specs.Context.{or_zero, label_of, column_of};
 ghost use Rattle.nf_base.specs.Limits.{HaveShortKeys};
-ghost use Rattle.nf_base.specs.Runs.{none_past};
 ghost use Rattle.vig_chain.specs.Stamps.{Somewhere, Nowhere};
-ghost use Rattle.vig_tables.specs.Table.{opened, with_chain, entry, is_open, found, found_at, has_taken, Creates, can_enter, entered, column_of, with_column, without_past};
+ghost use Rattle.vig_tables.specs.Table.{opened, with_chain, entry, is_open, found, found_at, has_label, has_labels, has_taken, Creates, can_enter, entered, cell_of, with_column, without_past};
 ghost use Rattle.vig_tables.specs.Slots.{labelled, live};
 
 use crate::created::Created;
@@ -59,7 +58,7 @@ impl ChainTables {
         let chain = Chain::new(alloc, decl.size, share)?;
         let maps = new_maps(alloc, decl.maps.as_slice(), decl.size)?;
         let labels = Rows::new(alloc, size, decl.labels.len())?;
-        let free = Rows::new(alloc, size, decl.free.len())?;
+        let free = Rows::new(alloc, size, decl.columns.len())?;
         let decl = decl.copy(alloc)?;
         Ok(ChainTables {
             decl,
@@ -117,7 +116,7 @@ impl ChainTables {
 
     /// Whether some entry is past its lifetime.
     pub fn due(&self, time: u64) -> bool
-        ensures { result ≡ not (none_past time self.now.decl.lifetime self.now.chain.slots) }
+        ensures { result ≡ not (none_due time self.now.decl.lifetime self.now.chain.slots) }
     {
         self.chain.due(time, self.decl.lifetime)
     }
@@ -189,7 +188,7 @@ impl ChainTables {
 
     /// A column of the entry at an index, 0 where there is none: the labels come first, then the free columns.
     pub fn cell(&self, i: u32, column: u32) -> u64
-        ensures { result ≡ column_of self.now.decl column (entry self.now i) }
+        ensures { result ≡ cell_of self.now.decl column (entry self.now i) }
     {
         if self.chain.stamp(i).is_none() {
             return 0;
@@ -225,7 +224,7 @@ impl ChainTables {
 
     /// A free column of the entry at an index, 0 where there is none.
     pub fn column(&self, i: u32, column: u32) -> u64
-        ensures { result ≡ free_of column (entry self.now i) }
+        ensures { result ≡ column_of column (entry self.now i) }
     {
         if self.chain.stamp(i).is_none() {
             return 0;
@@ -235,7 +234,7 @@ impl ChainTables {
 
     /// A free column of the entry at an index, if there are both.
     pub fn free_column(&self, i: u32, column: u32) -> Option<u64>
-        ensures { result ≡ option_and_then (λ e. slice_get e.free column) (entry self.now i) }
+        ensures { result ≡ option_and_then (λ e. slice_get e.columns column) (entry self.now i) }
     {
         if self.chain.stamp(i).is_none() {
             return None;
@@ -304,7 +303,7 @@ impl ChainTables {
         Ok(Some(Entry {
             stamp,
             labels: Seq::from_vec(labels),
-            free: Seq::from_vec(free),
+            columns: Seq::from_vec(free),
         }))
     }
 

@@ -2,13 +2,12 @@
 ghost use Rattle.std.specs.Prelude.{◌≡◌, ◌≤◌, ◌<◌, length, map, not, IfOk, option_and_then, slice_get, slice_set};
 ghost use Rattle.std.specs.Bool.{OnTrue, OnFalse};
 ghost use Rattle.std.specs.Option.{option_map};
-ghost use Rattle.nf_base.specs.Chains.{touched, freed, written};
-ghost use Rattle.nf_base.specs.Context.{cell_at, or_zero, label_of, free_of};
+ghost use Rattle.nf_base.specs.Chains.{all_none_due, array_at, expired, lifetime_of, touched, freed, written};
+ghost use Rattle.nf_base.specs.Context.{or_zero, label_of, column_of};
 ghost use Rattle.nf_base.specs.Functions.{function_of};
 ghost use Rattle.nf_base.specs.Limits.{HaveAllShortKeys};
-ghost use Rattle.nf_base.specs.Runs.{all_none_past};
-ghost use Rattle.nf_base.specs.Step.{opening_cells, expired_state};
-ghost use Rattle.vig_tables.specs.Table.{Table, opened, entry, found, found_at, column_of, entered, with_chain, with_column, without_past};
+ghost use Rattle.nf_base.specs.Step.{opening_cells};
+ghost use Rattle.vig_tables.specs.Table.{Table, opened, entry, found, found_at, cell_of, entered, with_chain, with_column, without_past};
 ghost use Rattle.vig_tables.specs.Whole.{opened_whole, with_state, table_at, changed, found_in, found_among, Fits, CreatesIn, can_enter_in, IsFull, is_due, has_taken_in, number_of, with_cell};
 
 use crate::chain_tables::ChainTables;
@@ -137,7 +136,7 @@ impl Tables {
 
     /// Whether some entry of some chain is past its lifetime.
     pub fn any_due(&self, time: u64) -> bool
-        ensures { result ≡ not (all_none_past time self.now.decls self.now.state.chains) }
+        ensures { result ≡ not (all_none_due time (lifetime_of self.now.decls) self.now.state.chains) }
     {
         any_due(self.chains.as_slice(), time)
     }
@@ -175,7 +174,7 @@ impl Tables {
     /// A column of the entry at an index of a chain, 0 where there is none: the labels come first, then the free
     /// columns.
     pub fn cell(&self, chain: u32, i: u32, column: u32) -> u64
-        ensures { result ≡ number_of (λ t. column_of t.decl column (entry t i)) (table_at self.now chain) }
+        ensures { result ≡ number_of (λ t. cell_of t.decl column (entry t i)) (table_at self.now chain) }
     {
         match self.chains.as_slice().get(chain as usize) {
             Some(tables) => tables.cell(i, column),
@@ -196,7 +195,7 @@ impl Tables {
     /// A free column of the entry at an index of a chain, by its number among the free columns, 0 where there is
     /// none.
     pub fn column(&self, chain: u32, i: u32, column: u32) -> u64
-        ensures { result ≡ number_of (λ t. free_of column (entry t i)) (table_at self.now chain) }
+        ensures { result ≡ number_of (λ t. column_of column (entry t i)) (table_at self.now chain) }
     {
         match self.chains.as_slice().get(chain as usize) {
             Some(tables) => tables.column(i, column),
@@ -207,7 +206,7 @@ impl Tables {
     /// A free column of the entry at an index of a chain, by its number among the free columns, if there are both.
     pub fn free_column(&self, chain: u32, i: u32, column: u32) -> Option<u64>
         ensures { result ≡ option_and_then
-            (λ t. option_and_then (λ e. slice_get e.free column) (entry t i))
+            (λ t. option_and_then (λ e. slice_get e.columns column) (entry t i))
             (table_at self.now chain) }
     {
         match self.chains.as_slice().get(chain as usize) {
@@ -218,7 +217,7 @@ impl Tables {
 
     /// A cell of an array, if there is one.
     pub fn array_cell(&self, array: u32, i: u64) -> Option<u64>
-        ensures { result ≡ cell_at self.now.state.arrays array i }
+        ensures { result ≡ slice_get (array_at self.now.state.arrays array) i }
     {
         match self.arrays.as_slice().get(array as usize) {
             Some(cells) => cell(cells, i),
@@ -228,7 +227,7 @@ impl Tables {
 
     /// A cell of an array, 0 where there is none.
     pub fn read(&self, array: u32, i: u64) -> u64
-        ensures { result ≡ or_zero (cell_at self.now.state.arrays array i) }
+        ensures { result ≡ or_zero (slice_get (array_at self.now.state.arrays array) i) }
     {
         match self.arrays.as_slice().get(array as usize) {
             Some(cells) => read(cells, i),
@@ -322,7 +321,9 @@ impl Tables {
 
     /// Gives up each entry that is past its lifetime at a time.
     pub fn expire(&mut self, time: u64)
-        ensures { self.new ≡ with_state (expired_state time self.old.decls self.old.state) self.old }
+        ensures { let state = self.old.state in
+            let chains = expired time (lifetime_of self.old.decls) state.chains in
+            self.new ≡ with_state (record state { chains = chains }) self.old }
     {
         expire_all(&mut self.chains, time);
     }
@@ -367,7 +368,7 @@ fn lookup(chains: &[ChainTables], map: u32, key: &Key) -> Option<u32>
 
 /// Whether some entry of some chains is past its lifetime.
 fn any_due(chains: &[ChainTables], time: u64) -> bool
-    ensures { result ≡ not (all_none_past time (map (λ t. t.decl) chains.now) (map (λ t. t.chain) chains.now)) }
+    ensures { result ≡ not (all_none_due time (lifetime_of (map (λ t. t.decl) chains.now)) (map (λ t. t.chain) chains.now)) }
 {
     for chain in chains {
         if chain.due(time) {

@@ -1,6 +1,6 @@
 use Rattle.std.proofs.Common.{◌≤◌, ◌∙◌, ap, sym, arith, List, ℕ}
 use Rattle.std.specs.Prelude.{Some, None, if◌then◌else◌}
-use Rattle.nf_base.specs.Chains.{has_labels}
+use Rattle.vig_tables.specs.Table.{has_labels}
 use Rattle.vig_tables.specs.Slots.{labelled}
 use Rattle.vig_tables.specs.Joined.{table_of}
 use Rattle.vig_tables.proofs.Reading.{none_stamped, not_none_stamped, stands, stands_not, stands_past, looked_at, looked_at_none, entry_with}
