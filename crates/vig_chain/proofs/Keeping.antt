@@ -6,7 +6,7 @@ use Rattle.std.proofs.lemmas.Bool.{cases_eq, and_parts, and_from}
 use Rattle.std.proofs.lemmas.Bool.Decides.{eqb_tells}
 use Rattle.std.proofs.lemmas.Option.{none-some}
 use Rattle.nf_base.specs.Shares.{owns}
-use Rattle.vig_chain.specs.Stamps.{Stamps, stamp_of, is_vacant, is_available, NoIndexHas, SomeIndexHas, IsOldest}
+use Rattle.vig_chain.specs.Stamps.{Stamps, stamp_of, is_vacant_at, is_available, NoIndexHas, SomeIndexHas, IsOldest}
 use Rattle.vig_chain.specs.Rings.{Rings, ring_of, ring_for, unlinked, appended}
 use Rattle.vig_chain.specs.Sound.{IsSoundChain, LinksInRange}
 use Rattle.vig_chain.proofs.RingLemmas.{IsFirst, first, goes_on}
@@ -90,14 +90,14 @@ own_of size chain rings k i o is live = let got = some_of o live in k.own i got.
 -- an own index within that is free or live
 pub own_at : (size : ℕ) (chain : Stamps) (rings : Rings) (k : IsSoundChain size chain rings) (i : ℕ) → IsTrue (is_available chain i) ⊎ IsSome (stamp_of chain.slots i) → IsTrue (owns chain.share i) × (i < size)
 own_at size chain rings k i (inl free) =
-    let parts = and_parts (owns chain.share i) (is_vacant chain.slots i) free in
+    let parts = and_parts (owns chain.share i) (is_vacant_at chain.slots i) free in
     (parts.0, omega (arith, (empty_parts chain.slots i parts.1).0, k.slots))
 own_at size chain rings k i (inr live) = let got = some_of (stamp_of chain.slots i) live in (k.own i got.0 got.1, own_within size chain rings k i got.0 got.1)
 
 -- no index is free where the ring of the free ones ends where it begins
 pub none_available : (size : ℕ) (chain : Stamps) (rings : Rings) (k : IsSoundChain size chain rings) → slice_index rings.next (size + 1) ≡ size + 1 → NoIndexHas (is_available chain)
 none_available size chain rings k ends i free =
-    let parts = and_parts (owns chain.share i) (is_vacant chain.slots i) free in
+    let parts = and_parts (owns chain.share i) (is_vacant_at chain.slots i) free in
     let empty = empty_parts chain.slots i parts.1 in
     let lt : i < size = omega (arith, empty.0, k.slots) in
     let at : ring_of size (owns chain.share) chain.slots i ≡ size + 1 = ring_within_size size (owns chain.share) chain.slots i lt ∙ rw (parts.0, empty.1) refl in
@@ -106,7 +106,7 @@ none_available size chain rings k ends i free =
 
 -- else the first of it is
 pub first_available : (size : ℕ) (chain : Stamps) (rings : Rings) (k : IsSoundChain size chain rings) (i : ℕ) → i ≡ slice_index rings.next (size + 1) → i ≢ size + 1 → IsTrue (is_available chain i)
-first_available size chain rings k i is ne = rw is (and_from (owns chain.share n) (is_vacant chain.slots n) parts.0 (empty_from chain.slots n (omega (arith, below, k.slots)) parts.1))
+first_available size chain rings k i is ne = rw is (and_from (owns chain.share n) (is_vacant_at chain.slots n) parts.0 (empty_from chain.slots n (omega (arith, below, k.slots)) parts.1))
   where
     n : ℕ
     n = slice_index rings.next (size + 1)

@@ -3,7 +3,7 @@ use Rattle.std.proofs.Common.{◌≡◌, ◌≢◌, ◌∙◌, ap, sym, refl, ar
 use Rattle.std.specs.Prelude.{Option, Some, None, slice_set, replicate, IsTrue}
 use Rattle.std.proofs.lemmas.Bool.{lt-ltb, le-ltb, ltb-true}
 use Rattle.std.proofs.lemmas.Option.{none-some}
-use Rattle.vig_chain.specs.Stamps.{stamp_of, is_vacant}
+use Rattle.vig_chain.specs.Stamps.{stamp_of, is_vacant_at}
 use Rattle.vig_chain.specs.Rings.{ring_of, ring_for}
 
 pub stamp-set_same : (slots : List (Option ℕ)) (i : ℕ) (v : Option ℕ) → i < length slots → stamp_of (slice_set slots i v) i ≡ v
@@ -24,13 +24,13 @@ stamp_within (x ∷ slots) zero s here = omega arith
 stamp_within (x ∷ slots) (suc i) s here = omega (arith, stamp_within slots i s here)
 
 -- an index with room is within the list, and has no entry
-pub empty_parts : (slots : List (Option ℕ)) (i : ℕ) → IsTrue (is_vacant slots i) → (i < length slots) × (stamp_of slots i ≡ None)
+pub empty_parts : (slots : List (Option ℕ)) (i : ℕ) → IsTrue (is_vacant_at slots i) → (i < length slots) × (stamp_of slots i ≡ None)
 empty_parts [] i e = absurd (grind arith)
 empty_parts (None ∷ slots) zero e = (omega arith, refl)
 empty_parts (Some s ∷ slots) zero e = absurd (grind arith)
 empty_parts (x ∷ slots) (suc i) e = let parts = empty_parts slots i e in (omega (arith, parts.0), parts.1)
 
-pub empty_from : (slots : List (Option ℕ)) (i : ℕ) → i < length slots → stamp_of slots i ≡ None → IsTrue (is_vacant slots i)
+pub empty_from : (slots : List (Option ℕ)) (i : ℕ) → i < length slots → stamp_of slots i ≡ None → IsTrue (is_vacant_at slots i)
 empty_from [] i lt none = absurd (omega arith)
 empty_from (None ∷ slots) zero lt none = refl
 empty_from (Some s ∷ slots) zero lt none = absurd (none-some s (sym none))

@@ -24,18 +24,18 @@ abbrev pub stamp_of : List (Option ℕ) → ℕ → Option ℕ
 stamp_of slots i = joined (slice_get slots i)
 
 -- whether there is an index, and no entry at it
-abbrev pub no_entry : Option (Option ℕ) → Bool
-no_entry None = false
-no_entry (Some None) = true
-no_entry (Some (Some stamp)) = false
+abbrev pub is_vacant : Option (Option ℕ) → Bool
+is_vacant None = false
+is_vacant (Some None) = true
+is_vacant (Some (Some stamp)) = false
 
 -- whether an index is vacant: past the end none is
-abbrev pub is_vacant : List (Option ℕ) → ℕ → Bool
-is_vacant slots i = no_entry (slice_get slots i)
+abbrev pub is_vacant_at : List (Option ℕ) → ℕ → Bool
+is_vacant_at slots i = is_vacant (slice_get slots i)
 
 -- whether an index may be given out: it is own and vacant
 abbrev pub is_available : Stamps → ℕ → Bool
-is_available chain i = owns chain.share i && is_vacant chain.slots i
+is_available chain i = owns chain.share i && is_vacant_at chain.slots i
 
 -- whether a stamp is past its lifetime at a time
 abbrev pub is_past : ℕ → ℕ → ℕ → Bool

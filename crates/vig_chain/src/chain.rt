@@ -3,7 +3,7 @@ ghost use Rattle.std.specs.Prelude.{◌≡◌, ℕ, ◌<◌, ◌≤◌, length, 
 ghost use Rattle.std.specs.Bool.{OnTrue, OnFalse};
 ghost use Rattle.vig_chain.specs.Rings.{lone_cells, AreLinked};
 ghost use Rattle.nf_base.specs.Shares.{owns};
-ghost use Rattle.vig_chain.specs.Stamps.{opened, stamp_of, is_vacant, is_available, is_past, is_due_at, SomeIndexHas, NoIndexHas, IsOldest, NoneAbove, stamped, freed};
+ghost use Rattle.vig_chain.specs.Stamps.{opened, stamp_of, is_vacant_at, is_available, is_past, is_due_at, SomeIndexHas, NoIndexHas, IsOldest, NoneAbove, stamped, freed};
 
 use crate::links::Links;
 use nf_base::share::Share;
@@ -114,12 +114,12 @@ impl Chain {
     fn is_available(&self, index: u32) -> bool
         ensures { result ≡ is_available self.now index }
     {
-        self.share.owns(index) && self.is_vacant(index)
+        self.share.owns(index) && self.is_vacant_at(index)
     }
 
     /// Whether an index is vacant: past the end none is.
-    fn is_vacant(&self, index: u32) -> bool
-        ensures { result ≡ is_vacant self.now.slots index }
+    fn is_vacant_at(&self, index: u32) -> bool
+        ensures { result ≡ is_vacant_at self.now.slots index }
     {
         match self.stamps.get(index as usize) {
             Some(stamp) => stamp.is_none(),

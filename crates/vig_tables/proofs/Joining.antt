@@ -1,5 +1,5 @@
 -- Keys bound in a map, and the entries that have them.
-use Rattle.std.proofs.Common.{◌≡◌, ◌≢◌, ◌∙◌, ap, sym, refl, arith, ℕ, zero, suc, ◌+◌, ◌<◌, ◌↔◌, Bool, true, false, ◌||◌, List, [], ◌∷◌, length, map, inl, inr, replicate}
+use Rattle.std.proofs.Common.{◌≡◌, ◌≢◌, ◌∙◌, ap, sym, refl, arith, ℕ, zero, suc, ◌<◌, ◌↔◌, Bool, true, false, ◌||◌, List, [], ◌∷◌, length, map, inl, inr, replicate}
 use Rattle.std.specs.Prelude.{Option, Some, None, slice_set, is_some, All}
 use Rattle.std.specs.List.{list_any}
 use Rattle.std.specs.Option.{option_map}
