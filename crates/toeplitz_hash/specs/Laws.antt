@@ -1,10 +1,12 @@
 -- What the hash is known for, as laws over its definition.
-use Rattle.std.specs.Prelude.{◌≡◌, ◌≢◌, ℕ, ◌+◌, ◌-◌, ◌*◌, ◌%◌, ◌^◌, ◌<◌, ◌≤◌, List, ◌++◌, length, drop, Option, Some, None, slice_get}
+use Rattle.std.specs.Prelude.{◌≡◌, ◌≢◌, ℕ, ◌+◌, ◌-◌, ◌*◌, ◌%◌, ◌^◌, ◌<◌, ◌≤◌, IsTrue, List, ◌++◌, length, drop, Some, None, slice_get}
 use Rattle.std.specs.Int.{bit_at}
 use Rattle.std.specs.Int.Bits.{bit_xor}
 use Rattle.nf_base.specs.declared.keys.Keys.{Keys}
+use Rattle.nf_base.specs.declared.packet.Field.{Field}
 use Rattle.nf_base.specs.declared.packet.Fields.{Fields}
 use Rattle.nf_base.specs.declared.packet.Packet.{Packet}
+use Rattle.nf_base.specs.Values.{field_of, field_width, is_hashable, narrowed}
 use Rattle.toeplitz_hash.specs.Bits.{bit_of, number_of}
 use Rattle.toeplitz_hash.specs.Toeplitz.{hash_bit, toeplitz_of}
 use Rattle.toeplitz_hash.specs.Packets.{input_bytes, hash_of}
@@ -80,6 +82,20 @@ pub record IsLaidOut (fields : Fields) : Type 0 where
 
 abbrev pub InputsAreLaidOut : Type 0
 InputsAreLaidOut = (fields : Fields) → IsLaidOut fields
+
+-- Two packets' fields agree in what a card hashes: in each hashable field, at its width. The times at
+-- which the packets came play no part.
+pub record AgreeInHashed (s t : ℕ) (a b : Fields) : Type 0 where
+  pub each :
+      (field : Field) → IsTrue (is_hashable field)
+      → narrowed (field_width field) (field_of s a field)
+      ≡ narrowed (field_width field) (field_of t b field)
+
+-- such packets hash alike, whatever the key
+abbrev pub OnlyHashedFieldsMatter : Type 0
+OnlyHashedFieldsMatter =
+    (key : List ℕ) (s t : ℕ) (a b : Fields)
+    → AgreeInHashed s t a b → toeplitz_of key (input_bytes a) ≡ toeplitz_of key (input_bytes b)
 
 -- which key a packet's hash is taken with
 pub record UsesTheKeyOfItsPort (keys : Keys) (packet : Packet) : Type 0 where

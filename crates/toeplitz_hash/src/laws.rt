@@ -1,6 +1,6 @@
 //! Laws over the definition of the hash, which is a sum modulo 2 in the bits of the key as in those of
 //! the input. Each function's contract is one law; its body does nothing.
-ghost use Rattle.toeplitz_hash.specs.Laws.{HashesHaveBits, IsLinearInKey, IsLinearInInput, OnlyFirstBitsMatter, OnlyBitsTo126Matter, ZerosHashToZero, OneKeyBitSelects, OneInputBitSelects, InputsAddUp, InputsAreLaidOut, PacketsUseTheKeyOfTheirPort};
+ghost use Rattle.toeplitz_hash.specs.Laws.{HashesHaveBits, IsLinearInKey, IsLinearInInput, OnlyFirstBitsMatter, OnlyBitsTo126Matter, ZerosHashToZero, OneKeyBitSelects, OneInputBitSelects, InputsAddUp, InputsAreLaidOut, OnlyHashedFieldsMatter, PacketsUseTheKeyOfTheirPort};
 ghost use Rattle.toeplitz_hash.specs.Suite.{SuiteIsMet};
 
 /// Bit `j` of a hash is the sum modulo 2 over the bits `i` of the input of `input_i * key_(i+j)`, and
@@ -54,6 +54,12 @@ pub fn inputs_add_up()
 /// the source port and 80 to 95 the destination port, each from its highest bit down.
 pub fn inputs_are_laid_out()
     ensures { InputsAreLaidOut }
+{}
+
+/// Packets whose addresses and ports agree, each at its width, have one input, and so one hash under
+/// each key.
+pub fn only_hashed_fields_matter()
+    ensures { OnlyHashedFieldsMatter }
 {}
 
 /// A packet is hashed with the key of the port that it came in at, and a skipped one has no hash.

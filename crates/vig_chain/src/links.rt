@@ -1,8 +1,8 @@
 //! Doubly linked rings of cells, in two arrays.
 ghost use Rattle.std.specs.Prelude.{◌≡◌, ℕ, ◌<◌, ◌≤◌, length, IfOk, slice_index};
 ghost use Rattle.std.specs.List.{range_with_len};
-ghost use Rattle.vig_chain.specs.Kept.{IsWithin};
-ghost use Rattle.vig_chain.specs.Rings.{apart, unlinked, appended};
+ghost use Rattle.vig_chain.specs.Sound.{LinksInRange};
+ghost use Rattle.vig_chain.specs.Rings.{lone_cells, unlinked, appended};
 
 use std::alloc::{AllocError, Global};
 use std::marker::Model;
@@ -16,19 +16,19 @@ pub struct Links {
 
 impl Model for Links {
     ghost use Rattle.vig_chain.specs.Rings.{Rings};
-    ghost use Rattle.vig_chain.specs.Kept.{IsWithin};
+    ghost use Rattle.vig_chain.specs.Sound.{LinksInRange};
 
     ghost Value = { Rings };
 
     ghost view = { λ a. record { next = a.next.items; prev = a.prev.items } };
 
-    ghost invariant = { λ a. IsWithin (record { next = a.next.items; prev = a.prev.items }) };
+    ghost invariant = { λ a. LinksInRange (record { next = a.next.items; prev = a.prev.items }) };
 }
 
 impl Links {
     /// So many cells, each a ring of its own.
     pub fn new(alloc: Global, count: u32) -> Result<Links, AllocError>
-        ensures { IfOk result (λ links. links ≡ apart count) }
+        ensures { IfOk result (λ links. links ≡ lone_cells count) }
     {
         let next = cells(alloc, count)?;
         let prev = cells(alloc, count)?;
@@ -58,7 +58,7 @@ impl Links {
     pub fn unlink(&mut self, cell: u32)
         requires { cell < length self.old.next }
         ensures value { self.new ≡ unlinked cell self.old }
-        ensures within { IsWithin self.old }
+        ensures within { LinksInRange self.old }
     {
         let before = self.prev[cell as usize];
         let after = self.next[cell as usize];
@@ -71,7 +71,7 @@ impl Links {
         requires cell_within { cell < length self.old.next }
         requires ring_within { ring < length self.old.next }
         ensures value { self.new ≡ appended cell ring self.old }
-        ensures within { IsWithin self.old }
+        ensures within { LinksInRange self.old }
     {
         let last = self.prev[ring as usize];
         self.next[last as usize] = cell;

@@ -5,13 +5,13 @@ use Rattle.std.proofs.Math.ListN.{length-set}
 use Rattle.std.proofs.lemmas.Option.{none-some, same_Some}
 use Rattle.std.proofs.lemmas.Bool.{cases_eq}
 use Rattle.vig_map.specs.declared.slots.Pair.{Pair}
-use Rattle.vig_map.specs.Hashes.{home}
+use Rattle.vig_map.specs.Hashes.{first_slot}
 use Rattle.vig_map.specs.Slots.{slot_at, pairs_of, AreMet, AreMetButOver, AreSamePairs}
 use Rattle.vig_map.proofs.SlotLemmas.{slot-set_same, slot-set_other, slot_within, some_from, no_none, count-set, weight}
 
 -- a slot made empty is a gap
-pub gapped : (homes : ℕ) (slots : List (Option Pair)) (i : ℕ) → AreMet homes slots → i < length slots → AreMetButOver homes i (i + 1) (slice_set slots i None)
-gapped homes slots i met lt = record {
+pub gapped : (starts : ℕ) (slots : List (Option Pair)) (i : ℕ) → AreMet starts slots → i < length slots → AreMetButOver starts i (i + 1) (slice_set slots i None)
+gapped starts slots i met lt = record {
   order = omega arith;
   empty = slot-set_same slots i None lt;
   after = λ j p at. met.after j p (old j p at);
@@ -26,9 +26,9 @@ gapped homes slots i met lt = record {
       | inr ne ↦ sym (slot-set_other slots i j None ne) ∙ at
     ]
 
--- a pair whose home is behind the gap stays
-pub stayed : (homes gap at : ℕ) (slots : List (Option Pair)) → AreMetButOver homes gap at slots → ((p : Pair) → slot_at slots at ≡ Some p → gap < home homes p.key) → AreMetButOver homes gap (at + 1) slots
-stayed homes gap at slots g behind = record {
+-- a pair whose first_slot is behind the gap stays
+pub stayed : (starts gap at : ℕ) (slots : List (Option Pair)) → AreMetButOver starts gap at slots → ((p : Pair) → slot_at slots at ≡ Some p → gap < first_slot starts p.key) → AreMetButOver starts gap (at + 1) slots
+stayed starts gap at slots g behind = record {
   order = omega (arith, g.order);
   empty = g.empty;
   after = g.after;
@@ -41,8 +41,8 @@ stayed homes gap at slots g behind = record {
 }
 
 -- at an empty slot the gap is closed
-pub closed : (homes gap at : ℕ) (slots : List (Option Pair)) → AreMetButOver homes gap at slots → slot_at slots at ≡ None → AreMet homes slots
-closed homes gap at slots g none = record {
+pub closed : (starts gap at : ℕ) (slots : List (Option Pair)) → AreMetButOver starts gap at slots → slot_at slots at ≡ None → AreMet starts slots
+closed starts gap at slots g none = record {
   after = g.after;
   reached = λ j p there x ge lt. elim (cases_eq x gap) [
     | inl e ↦
@@ -84,13 +84,13 @@ came_from slots new gap at p m stood x q now = elim (cases_eq x gap) [
   ]
 ]
 
--- a pair whose home is not behind the gap is moved into it
-pub shifted : (homes gap at : ℕ) (slots : List (Option Pair)) (p : Pair) → AreMetButOver homes gap at slots → slot_at slots at ≡ Some p → home homes p.key ≤ gap → AreMetButOver homes at (at + 1) (slice_set (slice_set slots at None) gap (Some p))
-shifted homes gap at slots p g stood low = record {
+-- a pair whose first_slot is not behind the gap is moved into it
+pub shifted : (starts gap at : ℕ) (slots : List (Option Pair)) (p : Pair) → AreMetButOver starts gap at slots → slot_at slots at ≡ Some p → first_slot starts p.key ≤ gap → AreMetButOver starts at (at + 1) (slice_set (slice_set slots at None) gap (Some p))
+shifted starts gap at slots p g stood low = record {
   order = omega arith;
   empty = m.gone;
   after = λ x q now. let f = came x q now in elim f.either [
-    | inl here ↦ omega (arith, ap (λ (y : Pair). home homes y.key) (the_same x q now here.0))
+    | inl here ↦ omega (arith, ap (λ (y : Pair). first_slot starts y.key) (the_same x q now here.0))
     | inr other ↦ omega (arith, g.after f.from q f.stood)
   ];
   reached = λ x q now y ge lt ne. elim (cases_eq y gap) [

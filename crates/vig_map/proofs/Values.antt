@@ -1,7 +1,7 @@
 -- The value of a key, by the slot in which the key stands.
 use Rattle.std.proofs.Common.{◌≡◌, ◌≢◌, ◌∙◌, ap, sym, refl, arith, ℕ, zero, suc, List, [], ◌∷◌, inl, inr}
 use Rattle.std.specs.Prelude.{Option, Some, None}
-use Rattle.std.specs.Str.{bytes_eq}
+use Rattle.nf_base.specs.Chains.{same_key}
 use Rattle.std.proofs.lemmas.Option.{none-some, same_Some}
 use Rattle.std.proofs.lemmas.Bool.{cases_Bool, cond-true, cond-false}
 use Rattle.std.proofs.lemmas.Slice.Eq.{bytes_eq-Decides}
@@ -23,9 +23,9 @@ behind s slots key value h = record { at = suc h.at; pair = h.pair; there = h.th
 pub held : (slots : List (Option Pair)) (key : List ℕ) (value : ℕ) → value_of (pairs_of slots) key ≡ Some value → Holds slots key value
 held [] key value e = absurd (none-some value e)
 held (None ∷ slots) key value e = behind None slots key value (held slots key value e)
-held (Some p ∷ slots) key value e = elim (cases_Bool (bytes_eq p.key key)) [
-  | inl t ↦ record { at = 0; pair = p; there = refl; key_is = (bytes_eq-Decides p.key key).0 t; value_is = same_Some p.value value (sym (cond-true (bytes_eq p.key key) (Some p.value) (value_of (pairs_of slots) key) t) ∙ e) }
-  | inr f ↦ behind (Some p) slots key value (held slots key value (sym (cond-false (bytes_eq p.key key) (Some p.value) (value_of (pairs_of slots) key) f) ∙ e))
+held (Some p ∷ slots) key value e = elim (cases_Bool (same_key p.key key)) [
+  | inl t ↦ record { at = 0; pair = p; there = refl; key_is = (bytes_eq-Decides p.key key).0 t; value_is = same_Some p.value value (sym (cond-true (same_key p.key key) (Some p.value) (value_of (pairs_of slots) key) t) ∙ e) }
+  | inr f ↦ behind (Some p) slots key value (held slots key value (sym (cond-false (same_key p.key key) (Some p.value) (value_of (pairs_of slots) key) f) ∙ e))
 ]
 
 apart_behind : (s : Option Pair) (slots : List (Option Pair)) → AreApart (s ∷ slots) → AreApart slots
@@ -37,10 +37,10 @@ value_there (None ∷ slots) zero p apart there = absurd (none-some p there)
 value_there (None ∷ slots) (suc i) p apart there = value_there slots i p (apart_behind None slots apart) there
 value_there (Some q ∷ slots) zero p apart there =
     let same = same_Some q p there in
-    cond-true (bytes_eq q.key p.key) (Some q.value) (value_of (pairs_of slots) p.key) ((bytes_eq-Decides q.key p.key).1 (ap (λ (x : Pair). x.key) same)) ∙ ap (λ (x : Pair). Some x.value) same
-value_there (Some q ∷ slots) (suc i) p apart there = elim (cases_Bool (bytes_eq q.key p.key)) [
+    cond-true (same_key q.key p.key) (Some q.value) (value_of (pairs_of slots) p.key) ((bytes_eq-Decides q.key p.key).1 (ap (λ (x : Pair). x.key) same)) ∙ ap (λ (x : Pair). Some x.value) same
+value_there (Some q ∷ slots) (suc i) p apart there = elim (cases_Bool (same_key q.key p.key)) [
   | inl t ↦ absurd (omega (arith, apart 0 (suc i) q p refl there ((bytes_eq-Decides q.key p.key).0 t)))
-  | inr f ↦ cond-false (bytes_eq q.key p.key) (Some q.value) (value_of (pairs_of slots) p.key) f ∙ value_there slots i p (apart_behind (Some q) slots apart) there
+  | inr f ↦ cond-false (same_key q.key p.key) (Some q.value) (value_of (pairs_of slots) p.key) f ∙ value_there slots i p (apart_behind (Some q) slots apart) there
 ]
 
 pub value_is : (slots : List (Option Pair)) (i : ℕ) (p : Pair) (key : List ℕ) (value : ℕ) → AreApart slots → slot_at slots i ≡ Some p → p.key ≡ key → p.value ≡ value → value_of (pairs_of slots) key ≡ Some value

@@ -11,11 +11,12 @@ use std::marker::Model;
 
 /// A finite map from keys to numbers, of so many pairs at most.
 ///
-/// Contracts see it as a list of its pairs, of whose order they say nothing. No call but `new` and `copy` takes
-/// memory. A look-up goes past as many slots as there are pairs at most, whatever was erased before.
+/// Contracts see it as a list of its pairs, of whose order they say nothing. No call but `new` and
+/// `copy` takes memory. A look-up goes past as many slots as there are pairs at most, whatever was
+/// erased before.
 #[derive(Drop)]
 pub struct Map {
-    /// Three for each pair that may stand: two in which keys have their homes, and one behind these.
+    /// Three for each pair that may stand: two in which searches begin, and one behind these.
     slots: Vec<Option<Pair>>,
     /// How many pairs stand.
     held: u32,
@@ -26,13 +27,13 @@ pub struct Map {
 impl Model for Map {
     ghost use Rattle.vig_map.specs.Bindings.{Bindings, bindings_of};
     ghost use Rattle.vig_map.specs.Slots.{pairs_of};
-    ghost use Rattle.vig_map.specs.Kept.{IsKept};
+    ghost use Rattle.vig_map.specs.Sound.{IsSoundMap};
 
     ghost Value = { Bindings };
 
     ghost view = { λ a. bindings_of (pairs_of a.slots.items) a.most };
 
-    ghost invariant = { λ a. IsKept a.slots.items a.held a.most };
+    ghost invariant = { λ a. IsSoundMap a.slots.items a.held a.most };
 }
 
 impl Map {
