@@ -1,4 +1,4 @@
--- There is one nearest solution, and it is the first one.
+-- What the nearest solution is: there is one, and it is the first one.
 use Rattle.std.proofs.Common.{◌≡◌, ◌≢◌, ℕ, zero, suc, ◌<◌, ◌≤◌, refl, sym, ap, ◌∙◌, inl, inr, ◌⊎◌, Bool, true, false, List, length, arith}
 use Rattle.std.proofs.lemmas.Bool.{cases_lt, false≢true}
 use Rattle.std.proofs.lemmas.List.{ext_get_or, get_or_past}
