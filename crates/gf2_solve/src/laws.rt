@@ -13,7 +13,8 @@ pub fn nearest_is_first()
     ensures { NearestIsFirst }
 {}
 
-/// A solution with a 1 in each group of which that is true of each other is the nearest one.
+/// A solution with a 1 in each group that has the wanted bit wherever another one first differs
+/// from it is the nearest.
 pub fn first_is_nearest()
     ensures { FirstIsNearest }
 {}

@@ -36,7 +36,8 @@ impl System {
     }
 }
 
-/// A solution with the wanted bit at a place, and the one at hand where there is none.
+/// A solution with a 1 in each group and the wanted bit at a place: the one at hand where none has
+/// it.
 #[tactic(auto, using(crate::proofs::Closing::closer_same, crate::proofs::Closing::closer_found, crate::proofs::Closing::closer_none))]
 fn closer(
     alloc: Global,
