@@ -1,0 +1,6 @@
+pub mod Sums
+pub mod Equations
+pub mod Solutions
+pub mod Laws
+pub mod Kept
+pub mod Searches
