@@ -1,6 +1,6 @@
 //! Runs each function of its input, one a line, on the tables and on the plain interpreter side by side over packets
 //! made by a linear congruential generator, and says whether both came to the same with each packet and in the end.
-//! Then a block of 131,000 statements, about as many as a text can have, over a few packets.
+//! Then blocks of as many statements of one kind as a text can have, over a few packets.
 #![tactic(auto)]
 
 mod sides;
@@ -22,14 +22,28 @@ fn agree(rt: &HostRuntime, func: &Func, count: u32) -> Result<bool, StepFault> {
     Ok(compare(rt.alloc(), func, count)? && replay_all(rt.alloc(), func, count)?)
 }
 
-/// A text of 1 MiB, less a few bytes, with 131,000 statements in one block.
-fn longest(alloc: Global) -> Result<Vec<u8>, AllocError> {
+/// A statement of each kind, and how many of it a text of 1 MiB may have in one block.
+const LONG: [(&str, u32); 9] = [
+    ("touch e;", 131_000),
+    ("free e;", 131_000),
+    ("e.u = 1;", 131_000),
+    ("v[0]=1;", 131_000),
+    ("set ttl=1;", 104_000),
+    ("if 1<2{}", 131_000),
+    ("get x = c.m(1) { }", 31),
+    ("find x = c[0] { }", 31),
+    ("new x = c(a = 1) { }", 15),
+];
+
+/// A text of at most 1 MiB with so many of one statement in one block.
+fn long(alloc: Global, statement: &str, times: u32) -> Result<Vec<u8>, AllocError> {
     let mut text = Vec::new(alloc);
     text.extend_from_slice(
-        b"nf long { ports 1; chain c 1 lifetime 1 { map m(a: 8); } on 0 { new e = c(a = ttl) { ",
+        b"nf long { ports 1; chain c 1 lifetime 1 { map m(a: 8); free u: 8; } array v 1: 8; ",
     )?;
-    for _ in 0..131_000u32 {
-        text.extend_from_slice(b"touch e;")?;
+    text.extend_from_slice(b"on 0 { new e = c(a = ttl) { ")?;
+    for _ in 0..times {
+        text.extend_from_slice(statement.as_bytes())?;
     }
     text.extend_from_slice(b" } drop; } }")?;
     Ok(text)
@@ -53,5 +67,8 @@ fn main(rt: HostRuntime) -> io::Result<()> {
     for line in rt.lines(rt.alloc()) {
         judge(&rt, line?.as_str().as_bytes(), PACKETS)?;
     }
-    judge(&rt, longest(rt.alloc())?.as_slice(), 8)
+    for (statement, times) in LONG {
+        judge(&rt, long(rt.alloc(), statement, times)?.as_slice(), 8)?;
+    }
+    Ok(())
 }

@@ -1,5 +1,6 @@
 ghost use Rattle.std.specs.Prelude.{◌<◌, ◌≤◌};
 
+use nf_base::mac::Mac;
 use nf_base::packet::{Fields, Packet, PacketId};
 
 /// Makes packets of few hosts and ports, so that flows meet, fill their chains and expire.
@@ -47,8 +48,8 @@ impl Traffic {
     fn fields(&mut self) -> Fields {
         Fields {
             length: 60 + u32::from(self.draw() % 1440),
-            src_mac: u64::from(self.draw() % 3),
-            dst_mac: u64::from(self.draw() % 3),
+            src_mac: Mac::new(u64::from(self.draw() % 3)),
+            dst_mac: Mac::new(u64::from(self.draw() % 3)),
             src_ip: self.host(),
             dst_ip: self.host(),
             proto: if self.draw() % 2 == 0 { 6 } else { 17 },

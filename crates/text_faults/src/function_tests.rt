@@ -1,5 +1,5 @@
 //! The functions of texts.
-use nf_base::code::Code;
+use nf_base::block::{Block, Question};
 use nf_base::func::Func;
 use nf_syntax::parse;
 use nf_types::{CheckFault, TypingKind, check};
@@ -71,13 +71,16 @@ pub fn repeated(
     Ok(text)
 }
 
-/// Whether a handler's code begins with a look-up at this place.
+/// Whether a handler begins with a look-up at this place.
 fn looks_up_at(func: &Func, port: u32, wanted: u32) -> bool {
     if port >= func.handlers.len() {
         return false;
     }
-    match &func.handlers.item(port).code {
-        Code::Get { place, .. } => *place == wanted,
+    match &func.handlers.item(port).block {
+        Block::Ask {
+            question: Question::Get { place, .. },
+            ..
+        } => *place == wanted,
         _ => false,
     }
 }

@@ -3,7 +3,7 @@ use crate::function_tests::repeated;
 use nf_base::packet::Field;
 use nf_syntax::{ParseFault, SyntaxKind, parse};
 use nf_tokens::Place;
-use nf_tree::{Block, Declaration, Expr, Part};
+use nf_tree::{Block, Declaration, Ending, Expr, Operation, Part, Question};
 use std::alloc::Global;
 use std::test::*;
 
@@ -66,36 +66,19 @@ fn statements_have_their_places(rt: HostRuntime) {
     };
     assert!(rt; stands(handler.place, 4, 1));
     assert!(rt; stands(handler.port.place, 4, 4));
-    let Block::Forward {
-        before,
-        port: Expr::Number(port),
-    } = &handler.block
-    else {
-        assert!(rt; false);
-        return;
-    };
-    assert!(rt; stands(port.place, 6, 22));
-    let Block::Set {
-        before,
-        field,
-        place,
-        value: Expr::Number(value),
-    } = &**before
-    else {
-        assert!(rt; false);
-        return;
-    };
-    assert!(rt; *field == Field::Ttl);
-    assert!(rt; stands(*place, 6, 5));
-    assert!(rt; stands(value.place, 6, 11));
-    let Block::Get {
-        place,
-        variable,
-        chain,
-        map,
-        close,
+    let Block::Ask {
+        question:
+            Question::Get {
+                place,
+                variable,
+                chain,
+                map,
+                close,
+                ..
+            },
+        next,
         ..
-    } = &**before
+    } = &handler.block
     else {
         assert!(rt; false);
         return;
@@ -105,6 +88,27 @@ fn statements_have_their_places(rt: HostRuntime) {
     assert!(rt; stands(chain.place, 4, 22));
     assert!(rt; stands(map.place, 4, 28));
     assert!(rt; stands(*close, 4, 45));
+    let Block::Do {
+        operation:
+            Operation::Set {
+                field,
+                place,
+                value: Expr::Number(value),
+            },
+        next,
+    } = &**next
+    else {
+        assert!(rt; false);
+        return;
+    };
+    assert!(rt; *field == Field::Ttl);
+    assert!(rt; stands(*place, 6, 5));
+    assert!(rt; stands(value.place, 6, 11));
+    let Block::End(Ending::Forward(Expr::Number(port))) = &**next else {
+        assert!(rt; false);
+        return;
+    };
+    assert!(rt; stands(port.place, 6, 22));
 }
 
 #[test]
