@@ -56,15 +56,24 @@ operation_of (operations.Store x i v) = Store x (expression_of i) (expression_of
 abbrev pub question_of : declared_question.Question → Question
 question_of (questions.Get at x c m key close) = Get at x c m (map expression_of key) close
 question_of (questions.Find at x c i gs) = Find at x c (expression_of i) (guards_of gs)
-question_of (questions.Test left comparison right) = Test (expression_of left) comparison (expression_of right)
+question_of (questions.Test left comparison right) =
+    Test (expression_of left) comparison (expression_of right)
 
 -- the entry that a `new` makes
 abbrev pub creation_of : declared_creation.Creation → Creation
-creation_of n = record { place = n.place; variable = n.variable; chain = n.chain; given = map given_of n.given; close = n.close }
+creation_of n = record {
+  place = n.place;
+  variable = n.variable;
+  chain = n.chain;
+  given = map given_of n.given;
+  close = n.close;
+}
 
 -- a block, without the addresses of its boxes
 abbrev pub block_of : declared_block.Block → Block
 block_of (blocks.End e) = End (ending_of e)
 block_of (blocks.Do' o p next) = Do (operation_of o) (block_of next)
-block_of (blocks.Ask' q ph hit pm miss p next) = Ask (question_of q) (block_of hit) (block_of miss) (block_of next)
-block_of (blocks.Make' n pm made pt taken pf full p next) = Make (creation_of n) (block_of made) (block_of taken) (block_of full) (block_of next)
+block_of (blocks.Ask' q ph hit pm miss p next) =
+    Ask (question_of q) (block_of hit) (block_of miss) (block_of next)
+block_of (blocks.Make' n pm made pt taken pf full p next) =
+    Make (creation_of n) (block_of made) (block_of taken) (block_of full) (block_of next)

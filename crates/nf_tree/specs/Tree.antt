@@ -1,5 +1,5 @@
--- The tree of a text, without where its blocks lie in memory. Each name, number, field and word that begins
--- something has its place in the text.
+-- The tree of a text, without where its blocks lie in memory. Each name, number, field and word
+-- that begins something has its place in the text.
 use Rattle.std.specs.Prelude.{List}
 use Rattle.nf_base.specs.declared.expr.Comparison.{Comparison}
 use Rattle.nf_base.specs.declared.packet.Field.{Field}
@@ -46,7 +46,8 @@ pub data Operation : Type 0 where
 
 -- what a statement with two blocks asks
 pub data Question : Type 0 where
-  Get : (place : Place) (variable chain map : Name) (key : List Expression) (close : Place) → Question
+  Get : (place : Place) (variable chain map : Name) (key : List Expression) (close : Place)
+      → Question
   Find : (place : Place) (variable chain : Name) (index : Expression) (guards : Guards) → Question
   Test : (left : Expression) (comparison : Comparison) (right : Expression) → Question
 

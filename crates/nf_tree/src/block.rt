@@ -53,11 +53,12 @@ pub enum Operation {
     },
 }
 
-/// What a statement with two blocks asks: one for where it hits or holds, one for where it doesn't.
+/// What a statement with two blocks asks: one for where it hits or holds, one for where it does
+/// not.
 #[derive(Drop)]
 pub enum Question {
-    /// Looks a key up in a map of a chain. `place` is that of the word `get`, `close` that of the `)`
-    /// behind the key.
+    /// Looks a key up in a map of a chain. `place` is that of the word `get`, `close` that of the
+    /// `)` behind the key.
     Get {
         place: Place,
         variable: Name,
@@ -66,8 +67,8 @@ pub enum Question {
         key: Seq<Expr>,
         close: Place,
     },
-    /// Looks at an index of a chain, and asks for labels of the entry there. `place` is that of the word
-    /// `find`.
+    /// Looks at an index of a chain, and asks for labels of the entry there. `place` is that of the
+    /// word `find`.
     Find {
         place: Place,
         variable: Name,
@@ -97,7 +98,8 @@ pub struct Creation {
 
 /// Statements, each with the blocks in it, and an end.
 ///
-/// Code that goes along `next` is a loop and never a recursion, since a block may have 131,072 statements.
+/// Code that goes along `next` is a loop and never a recursion, since a block may have 131,072
+/// statements.
 pub enum Block {
     End(Ending),
     Do {
