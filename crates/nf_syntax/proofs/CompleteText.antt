@@ -16,8 +16,8 @@ use Rattle.nf_syntax.specs.declared.head.ChainHead.{ChainHead}
 use Rattle.nf_syntax.specs.declared.head.ArrayHead.{ArrayHead}
 use Rattle.nf_syntax.specs.declared.head.TextHead.{TextHead}
 use Rattle.nf_syntax.specs.Items.{Marked, name, number, sign, word}
-use Rattle.nf_syntax.specs.Grammar.{Body, IsPart, AreParts, IsDeclaration, AreDeclarations, AreHandlers, IsText, labels, braced, body, column_word, part, parts, declaration, declarations, handlers, spelling}
-use Rattle.nf_syntax.specs.Machine.{Place, End, CloseAt, SignAt, BlockAt, PartsAt, DeclarationsAt, HandlersAt, labels_at, map_one, column_one, chain_one, array_one, tree_one, whole}
+use Rattle.nf_syntax.specs.Grammar.{Required, IsPart, AreParts, IsDeclaration, AreDeclarations, AreHandlers, IsText, labels, braced, body, column_word, part, parts, declaration, declarations, handlers, spelling}
+use Rattle.nf_syntax.specs.Machine.{Place, TextEnd, CloseAt, SignAt, BlockAt, PartsAt, DeclarationsAt, HandlersAt, labels_at, map_one, column_one, chain_one, array_one, tree_one, whole}
 use Rattle.nf_syntax.specs.Reads.{without_end}
 use Rattle.nf_syntax.proofs.Going.{goes, IsFirm, skip_declarations}
 use Rattle.nf_syntax.proofs.CompleteLists.{all_labels, all_contents}
@@ -67,7 +67,7 @@ all_handlers [] g done k w = ap (λ x. goes (k x) w) (sym (append-nil done))
 all_handlers (h ∷ hs) g done k w =
     let k1 = λ (b : Block). HandlersAt (done ++ record { place = h.place; port = h.port; block = b } ∷ []) k in
     ap (goes (BlockAt 64 k1)) (append_assoc (braced 64 (body 63 h.block)) (handlers hs) (sign signs.CloseBrace ∷ w))
-    ∙ block h.block (complete Body h.block g.0) 64 k1 (handlers hs ++ sign signs.CloseBrace ∷ w)
+    ∙ block h.block (complete Required h.block g.0) 64 k1 (handlers hs ++ sign signs.CloseBrace ∷ w)
     ∙ all_handlers hs g.1 (done ++ h ∷ []) k w
     ∙ ap (λ x. goes (k x) w) (append_assoc done (h ∷ []) hs)
 
@@ -78,5 +78,5 @@ firm_handlers (h ∷ hs) = tt
 pub spelled_goes : (t : Tree) → IsText t → goes whole (spelling t) ≡ Some (without_end t)
 spelled_goes t g =
     let head : TextHead = record { name = t.name; ports = t.ports } in
-    all_declarations t.declarations g.0 [] (λ ds. HandlersAt [] (λ hs. End (tree_one head ds hs))) (handlers t.handlers ++ sign signs.CloseBrace ∷ []) (firm_handlers t.handlers)
-    ∙ all_handlers t.handlers g.1 [] (λ hs. End (tree_one head t.declarations hs)) []
+    all_declarations t.declarations g.0 [] (λ ds. HandlersAt [] (λ hs. TextEnd (tree_one head ds hs))) (handlers t.handlers ++ sign signs.CloseBrace ∷ []) (firm_handlers t.handlers)
+    ∙ all_handlers t.handlers g.1 [] (λ hs. TextEnd (tree_one head t.declarations hs)) []

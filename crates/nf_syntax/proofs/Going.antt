@@ -7,7 +7,7 @@ use Rattle.nf_tokens.specs.declared.token.Sign.TheVariants as signs
 use Rattle.nf_tree.specs.declared.place.Literal.{Literal}
 use Rattle.nf_tree.specs.declared.tree.Label.{Label}
 use Rattle.nf_tree.specs.declared.tree.Declaration.{Declaration}
-use Rattle.nf_tree.specs.Tree.{Tree, Expression, Given, Guards, Unguarded, Block, Missing}
+use Rattle.nf_tree.specs.Tree.{Tree, Expression, Given, Guards, Unguarded, Block, End, Missing}
 use Rattle.nf_syntax.specs.Items.{Item, AWord, AJoin, item, Marked, unmarked}
 use Rattle.nf_syntax.specs.Expressions.{sum_operator, product_operator}
 use Rattle.nf_syntax.specs.Machine.{Place, FactorsAt, TermsAt, MoreAt, MoreGivenAt, MoreLabelsAt, MoreNumbersAt, WhereAt, OptionalAt, BlockAt, DeclarationsAt, factor_at, term_at, Row, Go, No, go_or, go_some, step, finished, ended, judged, run, Verdict, Accepted}
@@ -91,8 +91,8 @@ pub misses : (s : Sign) (ms : List Marked) → IsFirm ms → Misses s ms
 misses s [] h = tt
 misses s (m ∷ ms) h = other s m.item h
 
-step_other : (s : Sign) (room : ℕ) (k : Block → Place) (i : Item) → IsOther s i → step (OptionalAt s room k) i ≡ step (k Missing) i
-step_other s room k (AJoin t) h = ap (λ b. go_or b (BlockAt room k) (step (k Missing) (AJoin t))) h
+step_other : (s : Sign) (room : ℕ) (k : Block → Place) (i : Item) → IsOther s i → step (OptionalAt s room k) i ≡ step (k (End Missing)) i
+step_other s room k (AJoin t) h = ap (λ b. go_or b (BlockAt room k) (step (k (End Missing)) (AJoin t))) h
 step_other s room k i h = refl
 
 step_more : (vs : List Expression) (k : List Expression → Place) (i : Item) → IsFirmItem i → step (MoreAt vs k) i ≡ step (k vs) i
@@ -132,9 +132,9 @@ step_declarations ds k i h = refl
 alike : (at by : Place) (m : Marked) (ms : List Marked) → step at m.item ≡ step by m.item → goes at (m ∷ ms) ≡ goes by (m ∷ ms)
 alike at by m ms h = ap (λ row. on_row row m.past (λ next. goes next ms)) h
 
-pub skip_optional : (s : Sign) (room : ℕ) (k : Block → Place) (ms : List Marked) → Misses s ms → goes (OptionalAt s room k) ms ≡ goes (k Missing) ms
+pub skip_optional : (s : Sign) (room : ℕ) (k : Block → Place) (ms : List Marked) → Misses s ms → goes (OptionalAt s room k) ms ≡ goes (k (End Missing)) ms
 skip_optional s room k [] h = refl
-skip_optional s room k (m ∷ ms) h = alike (OptionalAt s room k) (k Missing) m ms (step_other s room k m.item h)
+skip_optional s room k (m ∷ ms) h = alike (OptionalAt s room k) (k (End Missing)) m ms (step_other s room k m.item h)
 
 pub skip_more : (vs : List Expression) (k : List Expression → Place) (ms : List Marked) → IsFirm ms → goes (MoreAt vs k) ms ≡ goes (k vs) ms
 skip_more vs k [] h = refl

@@ -1,5 +1,6 @@
 pub mod SameSign
 pub mod Steps
+pub mod Bodies
 pub mod Going
 pub mod Live
 pub mod CompleteExpressions
@@ -9,10 +10,12 @@ pub mod CompleteText
 pub mod SoundTokens
 pub mod SoundExpressions
 pub mod SoundLists
+pub mod SoundStatements
 pub mod SoundBlocks
 pub mod SoundDeclarations
 pub mod Sound
 pub mod First
 pub mod Explained
+pub mod Shallow
 pub mod Marks
 pub mod OneFault

@@ -8,10 +8,11 @@ use Rattle.nf_tokens.specs.declared.token.Sign.{Sign}
 use Rattle.nf_tokens.specs.declared.token.Sign.TheVariants as signs
 use Rattle.nf_tree.specs.declared.place.Name.{Name}
 use Rattle.nf_tree.specs.declared.place.Literal.{Literal}
-use Rattle.nf_tree.specs.Tree.{Tree, Expression, Number, Index, Unguarded, Write, Start, Missing}
+use Rattle.nf_tree.specs.Tree.{Tree, Expression, Number, Index, Unguarded, Write, FallsOff, Missing, End}
 use Rattle.nf_syntax.specs.declared.head.SetHead.{SetHead}
 use Rattle.nf_syntax.specs.Items.{ANumber, Marked, name, number, field, sign, word, opening, operand}
-use Rattle.nf_syntax.specs.Machine.{Place, End, NameAt, NumberAt, FieldAt, SignAt, CloseAt, AtomAt, NamedAt, ColumnAt, FactorsAt, TermsAt, ComparisonAt, MoreAt, GivenAt, MoreGivenAt, MoreLabelsAt, MoreNumbersAt, ContentsAt, WhereAt, BlockAt, BodyAt, WrittenAt, OptionalAt, PartsAt, DeclarationsAt, HandlersAt, go_if, giving}
+use Rattle.nf_syntax.specs.Statements.{Does}
+use Rattle.nf_syntax.specs.Machine.{Place, TextEnd, NameAt, NumberAt, FieldAt, SignAt, CloseAt, AtomAt, NamedAt, ColumnAt, FactorsAt, TermsAt, ComparisonAt, MoreAt, GivenAt, MoreGivenAt, MoreLabelsAt, MoreNumbersAt, ContentsAt, WhereAt, BlockAt, BodyAt, WrittenAt, OptionalAt, PartsAt, DeclarationsAt, HandlersAt, go_if, giving}
 use Rattle.nf_syntax.proofs.Going.{goes, on_row, agree_itself, IsFirm, misses, no_factor, no_term, skip_optional, skip_more, skip_more_given, skip_more_labels, skip_more_numbers, skip_factors, skip_terms, skip_where, skip_declarations}
 
 -- an end that can be reached
@@ -34,7 +35,7 @@ abbrev ttl_here : SetHead
 ttl_here = record { field = fields.Ttl; place = start }
 
 pub live : (place : Place) → Ending place
-live (End t) = record { more = []; tree = t; firm = tt; reached = refl }
+live (TextEnd t) = record { more = []; tree = t; firm = tt; reached = refl }
 live (NameAt k) = let e = live (k no_name) in record { more = name no_name ∷ e.more; tree = e.tree; firm = tt; reached = e.reached }
 live (NumberAt k) = let e = live (k zero_here) in record { more = number zero_here ∷ e.more; tree = e.tree; firm = tt; reached = e.reached }
 live (FieldAt k) = let e = live (k ttl_here) in record { more = field fields.Ttl start ∷ e.more; tree = e.tree; firm = tt; reached = e.reached }
@@ -63,21 +64,21 @@ live (MoreLabelsAt ls k) = let e = live (k ls) in record { more = e.more; tree =
 live (MoreNumbersAt ns k) = let e = live (k ns) in record { more = e.more; tree = e.tree; firm = e.firm; reached = skip_more_numbers ns k e.more e.firm ∙ e.reached }
 live (ContentsAt k) = let e = live (k []) in record { more = sign signs.Semicolon ∷ e.more; tree = e.tree; firm = tt; reached = e.reached }
 live (WhereAt k) = let e = live (k Unguarded) in record { more = e.more; tree = e.tree; firm = e.firm; reached = skip_where k e.more e.firm ∙ e.reached }
-live (BlockAt room k) = let e = live (k Start) in record {
+live (BlockAt room k) = let e = live (k (End FallsOff)) in record {
   more = opening signs.OpenBrace room ∷ sign signs.CloseBrace ∷ e.more;
   tree = e.tree;
   firm = tt;
   reached = agree_itself (room == 0) _ ∙ e.reached;
 }
-live (BodyAt room b k) = let e = live (k b) in record { more = sign signs.CloseBrace ∷ e.more; tree = e.tree; firm = tt; reached = e.reached }
-live (WrittenAt room b x k) =
-    let e = live (k (Write b x no_name (Number zero_here))) in record {
-      more = sign signs.Dot ∷ name no_name ∷ sign signs.Assign ∷ number zero_here ∷ sign signs.Semicolon ∷ sign signs.CloseBrace ∷ e.more;
+live (BodyAt room k) = let e = live (k (End FallsOff)) in record { more = sign signs.CloseBrace ∷ e.more; tree = e.tree; firm = tt; reached = e.reached }
+live (WrittenAt x k) =
+    let e = live (k (Does (Write x no_name (Number zero_here)))) in record {
+      more = sign signs.Dot ∷ name no_name ∷ sign signs.Assign ∷ number zero_here ∷ sign signs.Semicolon ∷ e.more;
       tree = e.tree;
       firm = tt;
       reached = e.reached;
     }
-live (OptionalAt s room k) = let e = live (k Missing) in record {
+live (OptionalAt s room k) = let e = live (k (End Missing)) in record {
   more = e.more;
   tree = e.tree;
   firm = e.firm;

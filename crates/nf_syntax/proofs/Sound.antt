@@ -7,15 +7,15 @@ use Rattle.nf_tree.specs.declared.place.Literal.{Literal}
 use Rattle.nf_tree.specs.Tree.{Tree, Block, Handler}
 use Rattle.nf_syntax.specs.declared.head.TextHead.{TextHead}
 use Rattle.nf_syntax.specs.Items.{Item, ASign, AWord, Marked, name, number, sign, word}
-use Rattle.nf_syntax.specs.Grammar.{Body, Is, AreDeclarations, AreHandlers, braced, body, declarations, handlers, text_head, spelling}
-use Rattle.nf_syntax.specs.Machine.{Place, End, NameAt, NumberAt, SignAt, BlockAt, DeclarationsAt, HandlersAt, handler_at, handler_one, text_head_at, tree_one, whole}
+use Rattle.nf_syntax.specs.Grammar.{Required, IsBlock, AreDeclarations, AreHandlers, braced, body, declarations, handlers, text_head, spelling}
+use Rattle.nf_syntax.specs.Machine.{Place, TextEnd, NameAt, NumberAt, SignAt, BlockAt, DeclarationsAt, HandlersAt, handler_at, handler_one, text_head_at, tree_one, whole}
 use Rattle.nf_syntax.specs.Language.{Spells}
 use Rattle.nf_syntax.proofs.Going.{goes}
 use Rattle.nf_syntax.proofs.SoundTokens.{Good, mark, front, less, moved, good_name, good_number, good_sign}
 use Rattle.nf_syntax.proofs.SoundBlocks.{Blocks, all_blocks}
 use Rattle.nf_syntax.proofs.SoundDeclarations.{good_declarations}
 
-good_handler : (n : ℕ) (seen : List Marked) (at : places.Place) (k : Handler → Place) → Blocks n → ((p : Literal) (b : Block) → Is Body b → Good n (seen ++ number p ∷ braced 64 (body 63 b)) (k (handler_one at p b))) → Good n seen (handler_at at k)
+good_handler : (n : ℕ) (seen : List Marked) (at : places.Place) (k : Handler → Place) → Blocks n → ((p : Literal) (b : Block) → IsBlock Required b → Good n (seen ++ number p ∷ braced 64 (body 63 b)) (k (handler_one at p b))) → Good n seen (handler_at at k)
 good_handler n seen at k blocks f =
     good_number n seen (λ p. BlockAt 64 (λ b. k (handler_one at p b))) (λ p.
     blocks 64 (seen ++ number p ∷ []) (λ b. k (handler_one at p b)) (λ b g.
@@ -27,7 +27,7 @@ snoc_handlers [] h = ap (λ x. word signs.On h.place ∷ number h.port ∷ x) (a
 snoc_handlers (g ∷ hs) h = ap (λ x. word signs.On g.place ∷ number g.port ∷ braced 64 (body 63 g.block) ++ x) (snoc_handlers hs h)
     ∙ ap (λ x. word signs.On g.place ∷ number g.port ∷ x) (sym (append_assoc (braced 64 (body 63 g.block)) (handlers hs) (word signs.On h.place ∷ number h.port ∷ braced 64 (body 63 h.block))))
 
-are_more : (hs : List Handler) (h : Handler) → AreHandlers hs → Is Body h.block → AreHandlers (hs ++ h ∷ [])
+are_more : (hs : List Handler) (h : Handler) → AreHandlers hs → IsBlock Required h.block → AreHandlers (hs ++ h ∷ [])
 are_more [] h g b = (b, tt)
 are_more (x ∷ hs) h g b = (g.0, are_more hs h g.1 b)
 
@@ -38,7 +38,7 @@ behind_on : (s v : List Marked) (c : Marked) (one : List Marked) → s ++ (v ++ 
 behind_on s v c one = simp append_assoc
 
 handlers_token : (n : ℕ) (seen : List Marked) (done : List Handler) (k : List Handler → Place) → Blocks n → AreHandlers done → HandlersGood n seen k →
-    ((h : Handler) → Is Body h.block → Good n (seen ++ handlers (done ++ h ∷ [])) (HandlersAt (done ++ h ∷ []) k)) →
+    ((h : Handler) → IsBlock Required h.block → Good n (seen ++ handlers (done ++ h ∷ [])) (HandlersAt (done ++ h ∷ []) k)) →
     (t : Item) (past : Bool) (ms : List Marked) (tree : Tree) → length ms < n → goes (HandlersAt done k) (mark t past ∷ ms) ≡ Some tree → Spells ((seen ++ handlers done) ++ mark t past ∷ ms) tree
 handlers_token n seen done k blocks are f again (AWord signs.On at) false ms tree few h =
     front n (seen ++ handlers done) (word signs.On at) (handler_at at (λ x. HandlersAt (done ++ x ∷ []) k))
@@ -71,7 +71,7 @@ good_text_head n k f =
     good_number n (sign signs.Nf ∷ name x ∷ sign signs.OpenBrace ∷ sign signs.Ports ∷ []) (λ p. SignAt signs.Semicolon (k2 x p)) (λ p.
     good_sign n (sign signs.Nf ∷ name x ∷ sign signs.OpenBrace ∷ sign signs.Ports ∷ number p ∷ []) signs.Semicolon (k2 x p) (f (record { name = x; ports = p })))))))
 
-end_good : (n : ℕ) (t : Tree) → AreDeclarations t.declarations → AreHandlers t.handlers → Good n (spelling t) (End t)
+end_good : (n : ℕ) (t : Tree) → AreDeclarations t.declarations → AreHandlers t.handlers → Good n (spelling t) (TextEnd t)
 end_good n t gd gh [] tree few h =
     let e : t ≡ tree = cc in
     subst (λ x. Spells (spelling t ++ []) x) e (record { well_formed = (gd, gh); tokens = sym (append-nil (spelling t)) })
@@ -80,11 +80,11 @@ end_good n t gd gh (m ∷ ms) tree few h = absurd cc
 pub sound : (ms : List Marked) (tree : Tree) → goes whole ms ≡ Some tree → Spells ms tree
 sound ms tree h =
     let n = suc (length ms) in
-    good_text_head n (λ h. DeclarationsAt [] (λ ds. HandlersAt [] (λ hs. End (tree_one h ds hs)))) (λ h.
+    good_text_head n (λ h. DeclarationsAt [] (λ ds. HandlersAt [] (λ hs. TextEnd (tree_one h ds hs)))) (λ h.
     let s0 = text_head h.name h.ports in
-    good_declarations n s0 (λ ds. HandlersAt [] (λ hs. End (tree_one h ds hs))) (λ ds gd.
-    moved n ((s0 ++ declarations ds) ++ []) (s0 ++ declarations ds) (HandlersAt [] (λ hs. End (tree_one h ds hs))) (append-nil (s0 ++ declarations ds))
-    (good_handlers n all_blocks (s0 ++ declarations ds) [] (λ hs. End (tree_one h ds hs)) tt (λ hs gh.
-    moved n (spelling (tree_one h ds hs)) ((s0 ++ declarations ds) ++ (handlers hs ++ sign signs.CloseBrace ∷ [])) (End (tree_one h ds hs))
+    good_declarations n s0 (λ ds. HandlersAt [] (λ hs. TextEnd (tree_one h ds hs))) (λ ds gd.
+    moved n ((s0 ++ declarations ds) ++ []) (s0 ++ declarations ds) (HandlersAt [] (λ hs. TextEnd (tree_one h ds hs))) (append-nil (s0 ++ declarations ds))
+    (good_handlers n all_blocks (s0 ++ declarations ds) [] (λ hs. TextEnd (tree_one h ds hs)) tt (λ hs gh.
+    moved n (spelling (tree_one h ds hs)) ((s0 ++ declarations ds) ++ (handlers hs ++ sign signs.CloseBrace ∷ [])) (TextEnd (tree_one h ds hs))
     (sym (append_assoc s0 (declarations ds) (handlers hs ++ sign signs.CloseBrace ∷ [])))
     (end_good n (tree_one h ds hs) gd gh))))) ms tree (omega arith) h

@@ -7,8 +7,9 @@ use Rattle.nf_tokens.specs.declared.token.Placed.{Placed}
 use Rattle.nf_tree.specs.Tree.{Given, Block}
 use Rattle.nf_syntax.specs.declared.fault.Stop.{Stop}
 use Rattle.nf_syntax.specs.Items.{item}
-use Rattle.nf_syntax.specs.Machine.{Place, GivenAt, some_given_at, Go, step, judged, run}
-use Rattle.nf_syntax.specs.Reads.{Reads, ReadsOn, Extends, Fails}
+use Rattle.nf_syntax.specs.Statements.{Statement}
+use Rattle.nf_syntax.specs.Machine.{Place, GivenAt, BodyAt, some_given_at, behind, Go, step, judged, run}
+use Rattle.nf_syntax.specs.Reads.{Reads, ReadsOn, Begins, Fails}
 
 -- a place with this row at the first token goes on behind it
 pub gone_on : (at next : Place) (ps : List Placed) (p : Placed) (t : Token) → 1 ≤ length ps → p ≡ get_or ps 0 p → p.token ≡ t → step at (item t p.place) ≡ Go false next →
@@ -24,12 +25,20 @@ shorter_behind [] one = absurd (omega arith)
 shorter_behind (p ∷ ps) one = let all : take (suc (length ps) - 1) ps ≡ ps = take_all (suc (length ps) - 1) ps (omega arith) in let e = ap length all in omega (arith, e)
 
 -- what is read behind the first token is read from it on
-pub extends_on : {X : Type 0} → (room : ℕ) (wanted behind : (Block → Place) → Place) (part : X → Block) (rest : X → List Placed) (r : Result X Stop) (ps : List Placed) (p : Placed) (t : Token) →
-    1 ≤ length ps → p ≡ get_or ps 0 p → p.token ≡ t → ((k : Block → Place) → step (wanted k) (item t p.place) ≡ Go false (behind k)) →
-    Extends room behind part rest r (take (length ps - 1) (drop 1 ps)) → Extends room wanted part rest r ps
-extends_on room wanted behind part rest (Ok x) ps p t one h e s r =
+pub reads_on : {X A : Type 0} → (wanted behind : (A → Place) → Place) (part : X → A) (rest : X → List Placed) (r : Result X Stop) (ps : List Placed) (p : Placed) (t : Token) →
+    1 ≤ length ps → p ≡ get_or ps 0 p → p.token ≡ t → ((k : A → Place) → step (wanted k) (item t p.place) ≡ Go false (behind k)) →
+    Reads behind part rest r (take (length ps - 1) (drop 1 ps)) → Reads wanted part rest r ps
+reads_on wanted behind part rest (Ok x) ps p t one h e s r =
     (let l = r.0 in let b = shorter_behind ps one in omega (arith, l, b), λ k. gone_on (wanted k) (behind k) ps p t one h e (s k) ∙ r.1 k)
-extends_on room wanted behind part rest (Err f) ps p t one h e s r = λ k. subst (λ v. Fails f v) (sym (gone_on (wanted k) (behind k) ps p t one h e (s k))) (r k)
+reads_on wanted behind part rest (Err f) ps p t one h e s r = λ k. subst (λ v. Fails f v) (sym (gone_on (wanted k) (behind k) ps p t one h e (s k))) (r k)
+
+-- a statement is read behind the token that begins it
+pub begins_on : {X : Type 0} → (at : (Statement → Place) → Place) (part : X → Statement) (rest : X → List Placed) (r : Result X Stop) (ps : List Placed) (p : Placed) (t : Token) →
+    1 ≤ length ps → p ≡ get_or ps 0 p → p.token ≡ t → ((room : ℕ) (k : Block → Place) → step (BodyAt room k) (item t p.place) ≡ Go false (at (behind room k))) →
+    Reads at part rest r (take (length ps - 1) (drop 1 ps)) → Begins part rest r ps
+begins_on at part rest (Ok x) ps p t one h e s r =
+    (let l = r.0 in let b = shorter_behind ps one in omega (arith, l, b), λ room k. gone_on (BodyAt room k) (at (behind room k)) ps p t one h e (s room k) ∙ r.1 (behind room k))
+begins_on at part rest (Err f) ps p t one h e s r = λ room k. subst (λ v. Fails f v) (sym (gone_on (BodyAt room k) (at (behind room k)) ps p t one h e (s room k))) (r (behind room k))
 
 -- what may be missing is read behind the token that begins it
 pub reads_behind : {X A : Type 0} → (wanted behind : (A → Place) → Place) (part : X → A) (rest : X → List Placed) (r : Result X Stop) (ps : List Placed) (p : Placed) (t : Token) →

@@ -17,15 +17,14 @@ use Rattle.nf_tree.specs.declared.tree.ChainTree.{ChainTree}
 use Rattle.nf_tree.specs.declared.tree.ArrayTree.{ArrayTree}
 use Rattle.nf_tree.specs.declared.tree.Declaration.{Declaration}
 use Rattle.nf_tree.specs.declared.tree.Declaration.TheVariants as declared
-use Rattle.nf_tree.specs.Tree.{Expression, Given, Guards, Unguarded, Where, Block, Start, Missing, Touch, Get, Find, New, If, Free, Set, Write, Store, Forward, Flood, Discard, Handler, Tree}
+use Rattle.nf_tree.specs.Tree.{Expression, Given, Guards, Unguarded, Where, Ending, FallsOff, Missing, Flood, Discard, Forward, Operation, Touch, Free, Set, Write, Store, Question, Get, Find, Test, Creation, Block, End, Do, Ask, Make, Handler, Tree}
 use Rattle.nf_syntax.specs.Items.{Marked, sign, word, join, name, number, field, opening}
 use Rattle.nf_syntax.specs.Expressions.{IsValue, value}
 
--- what stands at a place of the grammar: statements that more may follow, a body, a body or nothing
-pub data Kind : Type 0 where
-  Opened : Kind
-  Body : Kind
-  Optional : Kind
+-- whether a block has to be written
+pub data Presence : Type 0 where
+  Required : Presence
+  Optional : Presence
 
 abbrev pub IsNotEmpty : {A : Type 0} → List A → Type 0
 IsNotEmpty [] = ⊥
@@ -43,26 +42,40 @@ abbrev pub AreGuards : Guards → Type 0
 AreGuards Unguarded = Unit {0}
 AreGuards (Where gs close) = IsNotEmpty gs × AreGiven gs
 
--- an action ends its body, and a key is not empty
-abbrev pub Is : Kind → Block → Type 0
-Is kind Start = Unit {0}
-Is Optional Missing = Unit {0}
-Is kind Missing = ⊥
-Is kind (Touch b x) = Is Opened b
-Is kind (Get b at x c m key close hit miss) = Is Opened b × IsNotEmpty key × AreValues key × Is Body hit × Is Optional miss
-Is kind (Find b at x c i gs hit miss) = Is Opened b × IsValue i × AreGuards gs × Is Body hit × Is Optional miss
-Is kind (New b at x c gs close made taken full) = Is Opened b × AreGiven gs × Is Body made × Is Optional taken × Is Optional full
-Is kind (If b l comparison r holds fails) = Is Opened b × IsValue l × IsValue r × Is Body holds × Is Optional fails
-Is kind (Free b at x) = Is Opened b
-Is kind (Set b f at v) = Is Opened b × IsValue v
-Is kind (Write b x c v) = Is Opened b × IsValue v
-Is kind (Store b x i v) = Is Opened b × IsValue i × IsValue v
-Is Opened (Forward b v) = ⊥
-Is kind (Forward b v) = Is Opened b × IsValue v
-Is Opened (Flood b) = ⊥
-Is kind (Flood b) = Is Opened b
-Is Opened (Discard b) = ⊥
-Is kind (Discard b) = Is Opened b
+-- only a block that may be left out is not written
+abbrev pub IsEnding : Presence → Ending → Type 0
+IsEnding presence FallsOff = Unit {0}
+IsEnding Required Missing = ⊥
+IsEnding Optional Missing = Unit {0}
+IsEnding presence (Forward v) = IsValue v
+IsEnding presence Flood = Unit {0}
+IsEnding presence Discard = Unit {0}
+
+abbrev pub IsOperation : Operation → Type 0
+IsOperation (Touch x) = Unit {0}
+IsOperation (Free at x) = Unit {0}
+IsOperation (Set f at v) = IsValue v
+IsOperation (Write x c v) = IsValue v
+IsOperation (Store x i v) = IsValue i × IsValue v
+
+-- a key is not empty
+abbrev pub IsQuestion : Question → Type 0
+IsQuestion (Get at x c m key close) = IsNotEmpty key × AreValues key
+IsQuestion (Find at x c i gs) = IsValue i × AreGuards gs
+IsQuestion (Test l comparison r) = IsValue l × IsValue r
+
+abbrev pub IsCreation : Creation → Type 0
+IsCreation n = AreGiven n.given
+
+-- the blocks for a miss, a taken key and a full chain may be left out
+abbrev pub IsBlock : Presence → Block → Type 0
+IsBlock presence (End e) = IsEnding presence e
+IsBlock presence (Do o next) = IsOperation o × IsBlock Required next
+IsBlock presence (Ask q hit miss next) =
+    IsQuestion q × IsBlock Required hit × IsBlock Optional miss × IsBlock Required next
+IsBlock presence (Make n made taken full next) =
+    IsCreation n × IsBlock Required made × IsBlock Optional taken × IsBlock Optional full
+    × IsBlock Required next
 
 -- a map has a label
 abbrev pub IsPart : Part → Type 0
@@ -83,7 +96,7 @@ AreDeclarations (d ∷ ds) = IsDeclaration d × AreDeclarations ds
 
 abbrev pub AreHandlers : List Handler → Type 0
 AreHandlers [] = Unit {0}
-AreHandlers (h ∷ hs) = Is Body h.block × AreHandlers hs
+AreHandlers (h ∷ hs) = IsBlock Required h.block × AreHandlers hs
 
 abbrev pub IsText : Tree → Type 0
 IsText t = AreDeclarations t.declarations × AreHandlers t.handlers
@@ -120,13 +133,13 @@ abbrev pub numbers_more : List Literal → List Marked
 numbers_more [] = []
 numbers_more (n ∷ ns) = join signs.Comma ∷ number n ∷ numbers_more ns
 
--- braces round the tokens of a body, where so many more blocks may be open
+-- a `{` and what stands behind it up to its `}`, where so many more blocks may be open
 abbrev pub braced : ℕ → List Marked → List Marked
-braced room inside = opening signs.OpenBrace room ∷ (inside ++ sign signs.CloseBrace ∷ [])
+braced room inside = opening signs.OpenBrace room ∷ inside
 
 -- a block behind its word, or nothing
 abbrev pub optional : Sign → ℕ → Block → List Marked → List Marked
-optional s room Missing inside = []
+optional s room (End Missing) inside = []
 optional s room written inside = join s ∷ braced room inside
 
 abbrev pub get_head : Name → Name → Name → List Marked
@@ -157,34 +170,48 @@ comparison_of signs.Greater = Some comparisons.Greater
 comparison_of signs.GreaterOrEqual = Some comparisons.GreaterOrEqual
 comparison_of s = None
 
--- the tokens of a body, where so many more blocks may be open in it
+-- the tokens of an operation
+abbrev pub operation : Operation → List Marked
+operation (Touch x) = sign signs.Touch ∷ name x ∷ sign signs.Semicolon ∷ []
+operation (Free at x) = word signs.Free at ∷ name x ∷ sign signs.Semicolon ∷ []
+operation (Set f at v) = sign signs.Set ∷ field f at ∷ sign signs.Assign
+    ∷ (value v ++ sign signs.Semicolon ∷ [])
+operation (Write x c v) = name x ∷ sign signs.Dot ∷ name c ∷ sign signs.Assign
+    ∷ (value v ++ sign signs.Semicolon ∷ [])
+operation (Store x i v) = name x ∷ sign signs.OpenBracket ∷ (value i
+    ++ sign signs.CloseBracket ∷ sign signs.Assign ∷ (value v ++ sign signs.Semicolon ∷ []))
+
+-- the tokens of a question, up to its blocks
+abbrev pub question : Question → List Marked
+question (Get at x c m key close) = word signs.Get at ∷ get_head x c m
+    ++ (values key ++ word signs.CloseParenthesis close ∷ [])
+question (Find at x c i gs) = word signs.Find at ∷ entry_head signs.OpenBracket x c
+    ++ (value i ++ sign signs.CloseBracket ∷ guards gs)
+question (Test l comparison r) = sign signs.If ∷ (value l ++ sign (comparing comparison) ∷ value r)
+
+-- the tokens of a `new`, up to its blocks
+abbrev pub creation : Creation → List Marked
+creation n = word signs.New n.place ∷ entry_head signs.OpenParenthesis n.variable n.chain
+    ++ (given n.given ++ word signs.CloseParenthesis n.close ∷ [])
+
+-- the tokens of an end, with the `}` of its block
+abbrev pub ending : Ending → List Marked
+ending FallsOff = sign signs.CloseBrace ∷ []
+ending Missing = []
+ending (Forward v) = sign signs.Forward
+    ∷ (value v ++ sign signs.Semicolon ∷ sign signs.CloseBrace ∷ [])
+ending Flood = sign signs.Flood ∷ sign signs.Semicolon ∷ sign signs.CloseBrace ∷ []
+ending Discard = sign signs.Discard ∷ sign signs.Semicolon ∷ sign signs.CloseBrace ∷ []
+
+-- the tokens of a block behind its `{`, where so many more blocks may be open in it
 abbrev pub body : ℕ → Block → List Marked
-body room Start = []
-body room Missing = []
-body room (Touch b x) = body room b ++ sign signs.Touch ∷ name x ∷ sign signs.Semicolon ∷ []
-body room (Get b at x c m key close hit miss) = body room b ++ (word signs.Get at ∷ get_head x c m
-    ++ (values key ++ (word signs.CloseParenthesis close ∷ []
-    ++ (braced room (body (room - 1) hit) ++ optional signs.Else room miss (body (room - 1) miss)))))
-body room (Find b at x c i gs hit miss) = body room b ++ (word signs.Find at ∷ entry_head signs.OpenBracket x c
-    ++ (value i ++ (sign signs.CloseBracket ∷ guards gs
-    ++ (braced room (body (room - 1) hit) ++ optional signs.Else room miss (body (room - 1) miss)))))
-body room (New b at x c gs close made taken full) = body room b ++ (word signs.New at ∷ entry_head signs.OpenParenthesis x c
-    ++ (given gs ++ (word signs.CloseParenthesis close ∷ []
-    ++ (braced room (body (room - 1) made) ++ (optional signs.Taken room taken (body (room - 1) taken)
-    ++ optional signs.Full room full (body (room - 1) full))))))
-body room (If b l comparison r holds fails) = body room b ++ (sign signs.If ∷ value l
-    ++ (sign (comparing comparison) ∷ value r
-    ++ (braced room (body (room - 1) holds) ++ optional signs.Else room fails (body (room - 1) fails))))
-body room (Free b at x) = body room b ++ word signs.Free at ∷ name x ∷ sign signs.Semicolon ∷ []
-body room (Set b f at v) = body room b ++ (sign signs.Set ∷ field f at ∷ sign signs.Assign ∷ []
-    ++ (value v ++ sign signs.Semicolon ∷ []))
-body room (Write b x c v) = body room b ++ (name x ∷ sign signs.Dot ∷ name c ∷ sign signs.Assign ∷ []
-    ++ (value v ++ sign signs.Semicolon ∷ []))
-body room (Store b x i v) = body room b ++ (name x ∷ sign signs.OpenBracket ∷ value i
-    ++ (sign signs.CloseBracket ∷ sign signs.Assign ∷ value v ++ sign signs.Semicolon ∷ []))
-body room (Forward b v) = body room b ++ (sign signs.Forward ∷ value v ++ sign signs.Semicolon ∷ [])
-body room (Flood b) = body room b ++ sign signs.Flood ∷ sign signs.Semicolon ∷ []
-body room (Discard b) = body room b ++ sign signs.Discard ∷ sign signs.Semicolon ∷ []
+body room (End e) = ending e
+body room (Do o next) = operation o ++ body room next
+body room (Ask q hit miss next) = question q ++ (braced room (body (room - 1) hit)
+    ++ (optional signs.Else room miss (body (room - 1) miss) ++ body room next))
+body room (Make n made taken full next) = creation n ++ (braced room (body (room - 1) made)
+    ++ (optional signs.Taken room taken (body (room - 1) taken)
+    ++ (optional signs.Full room full (body (room - 1) full) ++ body room next)))
 
 abbrev pub map : MapTree → List Marked
 map m = word signs.Map m.place ∷ name m.name ∷ sign signs.OpenParenthesis ∷ (labels m.labels

@@ -1,10 +1,12 @@
 -- Which texts are of the language, the tree of each, and the first fault of the others.
 use Rattle.std.specs.Prelude.{◌≡◌, ◌≤◌, ◌<◌, Bool, true, ℕ, List, [], ◌∷◌, ◌++◌, length, Result, Ok, Err}
+use Rattle.std.specs.List.{All}
 use Rattle.nf_tokens.specs.declared.token.Place.{Place}
 use Rattle.nf_tokens.specs.declared.token.Placed.{Placed}
 use Rattle.nf_tokens.specs.declared.token.Token.{Token}
 use Rattle.nf_tokens.specs.Tokens.{tokens_of, start, behind_all}
 use Rattle.nf_tree.specs.Tree.{Tree}
+use Rattle.nf_tree.specs.Depth.{depth}
 use Rattle.nf_syntax.specs.declared.fault.ParseFault.{ParseFault}
 use Rattle.nf_syntax.specs.declared.fault.ParseFault.TheVariants as faults
 use Rattle.nf_syntax.specs.declared.fault.SyntaxKind.{SyntaxKind}
@@ -47,6 +49,10 @@ pub record IsTreeOf (ps : List Placed) (tree : Tree) : Type 0 where
 pub record IsTextOf (text : List ℕ) (tree : Tree) : Type 0 where
   pub small : length text ≤ 1048576
   pub spelled : IsTreeOf (tokens_of 0 start text) tree
+
+-- at most 64 blocks are open at a place of each handler
+abbrev pub IsShallow : Tree → Type 0
+IsShallow tree = All (λ h. depth h.block ≤ 64) tree.handlers
 
 -- the first token that no text of the grammar has behind the tokens before it
 pub record IsFirstStuck (kind : SyntaxKind) (at : Place) (ps : List Placed) : Type 0 where

@@ -22,7 +22,7 @@ use Rattle.nf_tree.specs.declared.tree.ChainTree.{ChainTree}
 use Rattle.nf_tree.specs.declared.tree.ArrayTree.{ArrayTree}
 use Rattle.nf_tree.specs.declared.tree.Declaration.{Declaration}
 use Rattle.nf_tree.specs.declared.tree.Declaration.TheVariants as declared
-use Rattle.nf_tree.specs.Tree.{Expression, Number, Read, Column, Index, Cell, Group, Sum, Product, Given, Guards, Unguarded, Where, Block, Start, Missing, Touch, Get, Find, New, If, Free, Set, Write, Store, Forward, Flood, Discard, Handler, Tree}
+use Rattle.nf_tree.specs.Tree.{Expression, Number, Read, Column, Index, Cell, Group, Sum, Product, Given, Guards, Unguarded, Where, FallsOff, Missing, Flood, Discard, Forward, Touch, Free, Set, Write, Store, Get, Find, Test, Creation, Block, End, Do, Ask, Make, Handler, Tree}
 use Rattle.nf_syntax.specs.declared.fault.SyntaxKind.{SyntaxKind}
 use Rattle.nf_syntax.specs.declared.head.GetHead.{GetHead}
 use Rattle.nf_syntax.specs.declared.head.SetHead.{SetHead}
@@ -33,10 +33,11 @@ use Rattle.nf_syntax.specs.declared.head.TextHead.{TextHead}
 use Rattle.nf_syntax.specs.Items.{Item, AName, ANumber, AField, ASign, AWord, AJoin, item, kind_of}
 use Rattle.nf_syntax.specs.Expressions.{sum_operator, product_operator, operands}
 use Rattle.nf_syntax.specs.Grammar.{comparison_of}
+use Rattle.nf_syntax.specs.Statements.{Statement, Does, Asks, Makes, Ends}
 
 -- a place in a text: what has to come next, and the place behind it
 pub data Place : Type 0 where
-  End : Tree → Place
+  TextEnd : Tree → Place
   NameAt : (Name → Place) → Place
   NumberAt : (Literal → Place) → Place
   FieldAt : (SetHead → Place) → Place
@@ -56,8 +57,8 @@ pub data Place : Type 0 where
   ContentsAt : (List Literal → Place) → Place
   WhereAt : (Guards → Place) → Place
   BlockAt : ℕ → (Block → Place) → Place
-  BodyAt : ℕ → Block → (Block → Place) → Place
-  WrittenAt : ℕ → Block → Name → (Block → Place) → Place
+  BodyAt : ℕ → (Block → Place) → Place
+  WrittenAt : Name → (Statement → Place) → Place
   OptionalAt : Sign → ℕ → (Block → Place) → Place
   PartsAt : List Part → (List Part → Place) → Place
   DeclarationsAt : List Declaration → (List Declaration → Place) → Place
@@ -169,18 +170,25 @@ contents_at k = SignAt signs.OpenBrace (numbers_at (λ ns. SignAt signs.CloseBra
 abbrev pub guards_at : (Guards → Place) → Place
 guards_at k = SignAt signs.OpenParenthesis (some_given_at (λ gs. CloseAt (λ p. k (Where gs p))))
 
--- behind `get`, `find`, `new`, `if`, `touch`, `free`, `set`, a name, `forward`, `flood`, `drop`
-unfoldable pub get_at : ℕ → Block → places.Place → (Block → Place) → Place
-get_at room b at k = get_head_at (λ h. values_at (λ key. CloseAt (λ close. BlockAt room (λ hit. OptionalAt signs.Else room (λ miss. BodyAt room (Get b at h.variable h.chain h.map key close hit miss) k)))))
+-- behind `get`, `find`, `new`, `if`: up to the blocks
+unfoldable pub get_at : places.Place → (Statement → Place) → Place
+get_at at k = get_head_at (λ h. values_at (λ key. CloseAt (λ close.
+    k (Asks (Get at h.variable h.chain h.map key close)))))
 
-unfoldable pub find_at : ℕ → Block → places.Place → (Block → Place) → Place
-find_at room b at k = entry_head_at signs.OpenBracket (λ h. index_at (λ i. WhereAt (λ gs. BlockAt room (λ hit. OptionalAt signs.Else room (λ miss. BodyAt room (Find b at h.variable h.chain i gs hit miss) k)))))
+unfoldable pub find_at : places.Place → (Statement → Place) → Place
+find_at at k = entry_head_at signs.OpenBracket (λ h. index_at (λ i. WhereAt (λ gs.
+    k (Asks (Find at h.variable h.chain i gs)))))
 
-unfoldable pub new_at : ℕ → Block → places.Place → (Block → Place) → Place
-new_at room b at k = entry_head_at signs.OpenParenthesis (λ h. GivenAt (λ gs. CloseAt (λ close. BlockAt room (λ made. OptionalAt signs.Taken room (λ taken. OptionalAt signs.Full room (λ full. BodyAt room (New b at h.variable h.chain gs close made taken full) k))))))
+abbrev pub creation_one : places.Place → EntryHead → List Given → places.Place → Creation
+creation_one at h gs close =
+    record { place = at; variable = h.variable; chain = h.chain; given = gs; close = close }
 
-unfoldable pub if_at : ℕ → Block → (Block → Place) → Place
-if_at room b k = value_at (λ l. ComparisonAt (λ c. value_at (λ r. BlockAt room (λ holds. OptionalAt signs.Else room (λ fails. BodyAt room (If b l c r holds fails) k)))))
+unfoldable pub new_at : places.Place → (Statement → Place) → Place
+new_at at k = entry_head_at signs.OpenParenthesis (λ h. GivenAt (λ gs. CloseAt (λ close.
+    k (Makes (creation_one at h gs close)))))
+
+unfoldable pub if_at : (Statement → Place) → Place
+if_at k = value_at (λ l. ComparisonAt (λ c. value_at (λ r. k (Asks (Test l c r)))))
 
 -- a value between `=` and `;`
 abbrev pub assigned_at : (Expression → Place) → Place
@@ -190,29 +198,39 @@ assigned_at k = SignAt signs.Assign (value_at (λ v. SignAt signs.Semicolon (k v
 abbrev pub end_at : Place → Place
 end_at k = SignAt signs.Semicolon (SignAt signs.CloseBrace k)
 
-abbrev pub touch_at : ℕ → Block → (Block → Place) → Place
-touch_at room b k = name_before_at signs.Semicolon (λ x. BodyAt room (Touch b x) k)
+-- behind `touch`, `free`, `set`, a name, `forward`, `flood`, `drop`
+abbrev pub touch_at : (Statement → Place) → Place
+touch_at k = name_before_at signs.Semicolon (λ x. k (Does (Touch x)))
 
-abbrev pub free_at : ℕ → Block → places.Place → (Block → Place) → Place
-free_at room b at k = name_before_at signs.Semicolon (λ x. BodyAt room (Free b at x) k)
+abbrev pub free_at : places.Place → (Statement → Place) → Place
+free_at at k = name_before_at signs.Semicolon (λ x. k (Does (Free at x)))
 
-abbrev pub set_at : ℕ → Block → (Block → Place) → Place
-set_at room b k = FieldAt (λ h. assigned_at (λ v. BodyAt room (Set b h.field h.place v) k))
+abbrev pub set_at : (Statement → Place) → Place
+set_at k = FieldAt (λ h. assigned_at (λ v. k (Does (Set h.field h.place v))))
 
-abbrev pub write_at : ℕ → Block → Name → (Block → Place) → Place
-write_at room b x k = NameAt (λ c. assigned_at (λ v. BodyAt room (Write b x c v) k))
+abbrev pub write_at : Name → (Statement → Place) → Place
+write_at x k = NameAt (λ c. assigned_at (λ v. k (Does (Write x c v))))
 
-abbrev pub store_at : ℕ → Block → Name → (Block → Place) → Place
-store_at room b x k = index_at (λ i. assigned_at (λ v. BodyAt room (Store b x i v) k))
+abbrev pub store_at : Name → (Statement → Place) → Place
+store_at x k = index_at (λ i. assigned_at (λ v. k (Does (Store x i v))))
 
-unfoldable pub forward_at : Block → (Block → Place) → Place
-forward_at b k = value_at (λ v. end_at (k (Forward b v)))
+unfoldable pub forward_at : (Statement → Place) → Place
+forward_at k = value_at (λ v. end_at (k (Ends (Forward v))))
 
-abbrev pub flood_at : Block → (Block → Place) → Place
-flood_at b k = end_at (k (Flood b))
+abbrev pub flood_at : (Statement → Place) → Place
+flood_at k = end_at (k (Ends Flood))
 
-abbrev pub discard_at : Block → (Block → Place) → Place
-discard_at b k = end_at (k (Discard b))
+abbrev pub discard_at : (Statement → Place) → Place
+discard_at k = end_at (k (Ends Discard))
+
+-- behind a statement of a body: its blocks, and the statements that follow
+abbrev pub behind : ℕ → (Block → Place) → Statement → Place
+behind room k (Does o) = BodyAt room (λ next. k (Do o next))
+behind room k (Asks q) = BlockAt room (λ hit. OptionalAt signs.Else room (λ miss.
+    BodyAt room (λ next. k (Ask q hit miss next))))
+behind room k (Makes n) = BlockAt room (λ made. OptionalAt signs.Taken room (λ taken.
+    OptionalAt signs.Full room (λ full. BodyAt room (λ next. k (Make n made taken full next)))))
+behind room k (Ends e) = k (End e)
 
 -- behind `map`, `fixed`, `free`: up to the `;`
 abbrev pub map_one : places.Place → Name → List Label → places.Place → MapTree
@@ -263,7 +281,7 @@ tree_one h ds hs = record { name = h.name; ports = h.ports; declarations = ds; h
 
 -- a text, and nothing behind it
 abbrev pub whole : Place
-whole = text_head_at (λ h. DeclarationsAt [] (λ ds. HandlersAt [] (λ hs. End (tree_one h ds hs))))
+whole = text_head_at (λ h. DeclarationsAt [] (λ ds. HandlersAt [] (λ hs. TextEnd (tree_one h ds hs))))
 
 abbrev pub step : Place → Item → Row
 step (NameAt k) (AName x) = Go false (k x)
@@ -298,23 +316,23 @@ step (ContentsAt k) (ASign signs.Assign) = Go false (contents_at k)
 step (ContentsAt k) (ASign signs.Semicolon) = Go false (k [])
 step (WhereAt k) (AJoin signs.Where) = Go false (guards_at k)
 step (WhereAt k) i = step (k Unguarded) i
-step (BlockAt room k) (ASign signs.OpenBrace) = Go (room == 0) (BodyAt (room - 1) Start k)
-step (BodyAt room b k) (AWord signs.Get at) = Go false (get_at room b at k)
-step (BodyAt room b k) (AWord signs.Find at) = Go false (find_at room b at k)
-step (BodyAt room b k) (AWord signs.New at) = Go false (new_at room b at k)
-step (BodyAt room b k) (AWord signs.Free at) = Go false (free_at room b at k)
-step (BodyAt room b k) (ASign signs.If) = Go false (if_at room b k)
-step (BodyAt room b k) (ASign signs.Touch) = Go false (touch_at room b k)
-step (BodyAt room b k) (ASign signs.Set) = Go false (set_at room b k)
-step (BodyAt room b k) (AName x) = Go false (WrittenAt room b x k)
-step (BodyAt room b k) (ASign signs.Forward) = Go false (forward_at b k)
-step (BodyAt room b k) (ASign signs.Flood) = Go false (flood_at b k)
-step (BodyAt room b k) (ASign signs.Discard) = Go false (discard_at b k)
-step (BodyAt room b k) (ASign signs.CloseBrace) = Go false (k b)
-step (WrittenAt room b x k) (ASign signs.Dot) = Go false (write_at room b x k)
-step (WrittenAt room b x k) (ASign signs.OpenBracket) = Go false (store_at room b x k)
-step (OptionalAt s room k) (AJoin t) = go_or (nat_eq (number_of t) (number_of s)) (BlockAt room k) (step (k Missing) (AJoin t))
-step (OptionalAt s room k) i = step (k Missing) i
+step (BlockAt room k) (ASign signs.OpenBrace) = Go (room == 0) (BodyAt (room - 1) k)
+step (BodyAt room k) (AWord signs.Get at) = Go false (get_at at (behind room k))
+step (BodyAt room k) (AWord signs.Find at) = Go false (find_at at (behind room k))
+step (BodyAt room k) (AWord signs.New at) = Go false (new_at at (behind room k))
+step (BodyAt room k) (AWord signs.Free at) = Go false (free_at at (behind room k))
+step (BodyAt room k) (ASign signs.If) = Go false (if_at (behind room k))
+step (BodyAt room k) (ASign signs.Touch) = Go false (touch_at (behind room k))
+step (BodyAt room k) (ASign signs.Set) = Go false (set_at (behind room k))
+step (BodyAt room k) (AName x) = Go false (WrittenAt x (behind room k))
+step (BodyAt room k) (ASign signs.Forward) = Go false (forward_at (behind room k))
+step (BodyAt room k) (ASign signs.Flood) = Go false (flood_at (behind room k))
+step (BodyAt room k) (ASign signs.Discard) = Go false (discard_at (behind room k))
+step (BodyAt room k) (ASign signs.CloseBrace) = Go false (k (End FallsOff))
+step (WrittenAt x k) (ASign signs.Dot) = Go false (write_at x k)
+step (WrittenAt x k) (ASign signs.OpenBracket) = Go false (store_at x k)
+step (OptionalAt s room k) (AJoin t) = go_or (nat_eq (number_of t) (number_of s)) (BlockAt room k) (step (k (End Missing)) (AJoin t))
+step (OptionalAt s room k) i = step (k (End Missing)) i
 step (PartsAt ps k) (AWord signs.Map at) = Go false (map_at at (λ m. PartsAt (ps ++ part_of.Map m ∷ []) k))
 step (PartsAt ps k) (AWord signs.Fixed at) = Go false (column_at columns.Fixed at (λ c. PartsAt (ps ++ part_of.Column c ∷ []) k))
 step (PartsAt ps k) (AWord signs.Free at) = Go false (column_at columns.Free at (λ c. PartsAt (ps ++ part_of.Column c ∷ []) k))
@@ -334,7 +352,7 @@ pub data Verdict : Type 0 where
 
 -- the tree, where no more is needed
 abbrev pub finished : Place → Option Tree
-finished (End t) = Some t
+finished (TextEnd t) = Some t
 finished (FactorsAt room n e k) = finished (k e)
 finished (TermsAt room n e k) = finished (k e)
 finished (MoreAt vs k) = finished (k vs)
@@ -343,7 +361,7 @@ finished (MoreGivenAt gs k) = finished (k gs)
 finished (MoreLabelsAt ls k) = finished (k ls)
 finished (MoreNumbersAt ns k) = finished (k ns)
 finished (WhereAt k) = finished (k Unguarded)
-finished (OptionalAt s room k) = finished (k Missing)
+finished (OptionalAt s room k) = finished (k (End Missing))
 finished (DeclarationsAt ds k) = finished (k ds)
 finished place = None
 

@@ -10,7 +10,8 @@ use Rattle.nf_tree.specs.Tree.{Expression, Given, Block, Tree}
 use Rattle.nf_syntax.specs.declared.fault.Stop.{Stop}
 use Rattle.nf_syntax.specs.declared.fault.Stop.TheVariants as stops
 use Rattle.nf_syntax.specs.Expressions.{operands}
-use Rattle.nf_syntax.specs.Machine.{Place, NumberAt, FactorsAt, TermsAt, MoreAt, MoreGivenAt, MoreLabelsAt, MoreNumbersAt, BodyAt, Verdict, Accepted, Stuck, Past, Short, factor_at, term_at, value_at, one_given_at, one_label_at, run, whole}
+use Rattle.nf_syntax.specs.Statements.{Statement, turned}
+use Rattle.nf_syntax.specs.Machine.{Place, NumberAt, FactorsAt, TermsAt, MoreAt, MoreGivenAt, MoreLabelsAt, MoreNumbersAt, BodyAt, behind, Verdict, Accepted, Stuck, Past, Short, factor_at, term_at, value_at, one_given_at, one_label_at, run, whole}
 use Rattle.nf_syntax.specs.Language.{last_place}
 
 abbrev pub Fails : Stop → Verdict → Type 0
@@ -29,10 +30,21 @@ abbrev pub ReadsOn : {X A : Type 0} → ((A → Place) → Place) → (X → A) 
 ReadsOn {A = A} wanted part rest (Ok x) ps = (length (rest x) ≤ length ps) × ((k : A → Place) → run (wanted k) ps ≡ run (k (part x)) (rest x))
 ReadsOn {A = A} wanted part rest (Err e) ps = (k : A → Place) → Fails e (run (wanted k) ps)
 
--- statements of a body were read, and the body goes on
-abbrev pub Extends : {X : Type 0} → ℕ → ((Block → Place) → Place) → (X → Block) → (X → List Placed) → Result X Stop → List Placed → Type 0
-Extends room wanted part rest (Ok x) ps = (length (rest x) < length ps) × ((k : Block → Place) → run (wanted k) ps ≡ run (BodyAt room (part x) k) (rest x))
-Extends room wanted part rest (Err e) ps = (k : Block → Place) → Fails e (run (wanted k) ps)
+-- the first statement of a body was read, up to its blocks
+abbrev pub Begins : {X : Type 0} → (X → Statement) → (X → List Placed) → Result X Stop → List Placed
+    → Type 0
+Begins part rest (Ok x) ps = (length (rest x) < length ps)
+    × ((room : ℕ) (k : Block → Place) → run (BodyAt room k) ps ≡ run (behind room k (part x)) (rest x))
+Begins part rest (Err e) ps = (room : ℕ) (k : Block → Place) → Fails e (run (BodyAt room k) ps)
+
+-- the blocks of a statement were read, and it stands with those before it
+abbrev pub Extends : {X : Type 0} → ℕ → Block → Statement → (X → Block) → (X → List Placed)
+    → Result X Stop → List Placed → Type 0
+Extends room before s part rest (Ok x) ps = (length (rest x) < length ps)
+    × ((k : Block → Place) → run (behind room (λ next. k (turned before next)) s) ps
+    ≡ run (BodyAt room (λ next. k (turned (part x) next))) (rest x))
+Extends room before s part rest (Err e) ps =
+    (k : Block → Place) → Fails e (run (behind room (λ next. k (turned before next)) s) ps)
 
 -- a sign was passed
 abbrev pub Passes : {X : Type 0} → (Place → Place) → (X → List Placed) → Result X Stop → List Placed → Type 0

@@ -7,11 +7,11 @@ ghost use Rattle.nf_syntax.specs.Language.{last_place};
 ghost use Rattle.nf_syntax.specs.Machine.{handler_at, text_head_at, no_handlers_yet};
 ghost use Rattle.nf_syntax.specs.Reads.{Reads, Answers};
 
+use crate::block::block;
 use crate::declaration::declarations;
 use crate::fault::{Stop, stuck};
 use crate::head::TextHead;
 use crate::single::{name_before, number, number_before, sign};
-use crate::statement::block;
 use nf_base::seq::Seq;
 use nf_tokens::{Place, Placed, Sign, Token};
 use nf_tree::{HandlerTree, Tree};

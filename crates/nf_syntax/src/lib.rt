@@ -2,6 +2,7 @@
 #![tactic(auto)]
 
 mod action;
+mod block;
 mod declaration;
 mod expression;
 mod fault;

@@ -6,7 +6,7 @@ ghost use Rattle.nf_tree.specs.View.{tree_of};
 ghost use Rattle.nf_syntax.specs.declared.fault.SyntaxKind.{SyntaxKind};
 ghost use Rattle.nf_syntax.specs.declared.fault.ParseFault.TheVariants.{Syntax};
 ghost use Rattle.nf_syntax.specs.Items.{Item, Marked};
-ghost use Rattle.nf_syntax.specs.Language.{SyntaxTree, marked, CanGoOn, IsTreeOf, IsTextOf, IsFirstFault, IsFault, Gives, Finds, Explains};
+ghost use Rattle.nf_syntax.specs.Language.{SyntaxTree, marked, CanGoOn, IsTreeOf, IsTextOf, IsShallow, IsFirstFault, IsFault, Gives, Finds, Explains};
 
 use crate::fault::{ParseFault, Stop, SyntaxKind};
 use crate::function::whole;
@@ -44,6 +44,7 @@ pub fn parse(alloc: Global, text: &[u8]) -> Result<Tree, ParseFault>
     ensures found { IfOk result (λ tree. IsTextOf text.now (tree_of tree)) }
     // What is spelled so is answered, unless memory runs out.
     ensures only { (tree : SyntaxTree) → IsTextOf text.now tree → Gives tree_of tree result }
+    ensures shallow { IfOk result (λ tree. IsShallow (tree_of tree)) }
     // What is wrong, and where.
     ensures first { IfErr result (λ fault. Explains fault text.now) }
 {

@@ -2,6 +2,7 @@ use Rattle.std.proofs.Common.{◌≡◌, ◌∙◌, subst, arith}
 use Rattle.nf_syntax.specs.declared.fault.Stop.TheVariants as stops
 use Rattle.nf_syntax.specs.Language.{IsFirstFault}
 use Rattle.nf_syntax.proofs.Explained.{misplaced, passing, unfinished}
+use Rattle.nf_syntax.proofs.Shallow.{shallow}
 use Rattle.nf_syntax.proofs.text.parse.Goals as goal
 
 pub returns-in-Err-Stuck-clause-first : goal.returns-in-Err-Stuck-clause-first
@@ -21,3 +22,6 @@ returns-in-Err-Short-clause-first c =
     let e : c.in-Err-Short.field-0 ≡ stops.Short = grind (arith, c.in-Err-Short.field-0-is) in
     unfinished c.fault-in-Err-Short.result c.end_of.result c.args.text.now c.as_slice.result.now c.fault-in-Err-Short.ensures
     (omega (arith, c.if-text-gt-LONGEST.false)) (c.as_slice.ensures.value ∙ c.in-Ok.ensures) c.end_of.ensures (subst (λ s. IsFirstFault s c.as_slice.result.now) e c.in-Err-Short.ensures.first)
+
+pub returns-in-Ok-read-clause-shallow : goal.returns-in-Ok-read-clause-shallow
+returns-in-Ok-read-clause-shallow c = shallow c.in-Ok-read.tree
