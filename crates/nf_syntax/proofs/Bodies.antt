@@ -37,13 +37,6 @@ turned_depth n (Do o before) block g h = turned_depth n before (Do o block) g h
 turned_depth n (Ask q hit miss before) block g h = turned_depth n before (Ask q hit miss block) (omega (arith, g)) (omega (arith, g, h))
 turned_depth n (Make c made taken full before) block g h = turned_depth n before (Make c made taken full block) (omega (arith, g)) (omega (arith, g, h))
 
-end_depth : (e : Ending) → depth (End e) ≤ 1
-end_depth FallsOff = omega arith
-end_depth Missing = omega arith
-end_depth Flood = omega arith
-end_depth Discard = omega arith
-end_depth (Forward v) = omega arith
-
 -- a body with its end
 pub ended_depth : (room : ℕ) (before : Block) (e : Ending) → depth before ≤ suc room → depth (turned before (End e)) ≤ suc room
-ended_depth room before e g = turned_depth (suc room) before (End e) g (let h = end_depth e in omega (arith, h))
+ended_depth room before e g = turned_depth (suc room) before (End e) g (omega arith)

@@ -116,7 +116,7 @@ fn optional(
     requires { class_of word ≡ Joins }
     ensures reads { ReadsOn (λ k. OptionalAt word room k)
         (λ x. block_of x.0.value) (λ x. x.1.now) result tokens.now }
-    ensures shallow { IfOk result (λ x. depth (block_of x.0.value) ≤ room) }
+    ensures shallow { IfOk result (λ x. depth (block_of x.0.value) ≤ max 1 room) }
 {
     match tokens {
         [first, rest @ ..] => match &first.token {
@@ -139,6 +139,7 @@ pub fn block(alloc: Global, tokens: &[Placed], room: u32) -> Result<(Box<Block>,
     ensures reads { Reads (λ k. BlockAt room k)
         (λ x. block_of x.0.value) (λ x. x.1.now) result tokens.now }
     ensures shallow { IfOk result (λ x. depth (block_of x.0.value) ≤ room) }
+    ensures some_room { IfOk result (λ x. 1 ≤ room) }
 {
     match tokens {
         [] => Err(Stop::Short),
