@@ -14,8 +14,8 @@ use std::marker::Model;
 /// The indices of a chain, of which its share's own are given out, each with a stamp.
 ///
 /// Contracts see it as the list, by index, of the stamp of its entry or none, beside the greatest stamp
-/// given so far and the share. Times, stamps and lifetimes are in nanoseconds. No call but `new` and `copy`
-/// takes memory, and every other one goes a bounded number of steps, whatever the chain's size.
+/// given so far and the share. Times, stamps and lifetimes are in nanoseconds. No call but `new` takes
+/// memory, and each but `new` and `copy_from` goes a bounded number of steps, whatever the chain's size.
 #[derive(Drop)]
 pub struct Chain {
     /// By index the stamp of its entry.
@@ -58,19 +58,23 @@ impl Chain {
         })
     }
 
-    /// The same chain once more.
-    pub fn copy(&self, alloc: Global) -> Result<Chain, AllocError>
-        ensures { IfOk result (λ copy. copy ≡ self.now) }
+    /// Makes this chain the same as another one of as many indices.
+    pub fn copy_from(&mut self, other: &Chain)
+        requires { length self.old.slots ≡ length other.now.slots }
+        ensures { self.new ≡ other.now }
     {
-        let stamps = Vec::from_slice(alloc, self.stamps.as_slice())?;
-        let links = self.links.copy(alloc)?;
-        Ok(Chain {
-            stamps,
-            links,
-            size: self.size,
-            greatest: self.greatest,
-            share: self.share,
-        })
+        self.stamps.copy_from_slice(other.stamps.as_slice());
+        self.links.copy_from(&other.links);
+        self.size = other.size;
+        self.greatest = other.greatest;
+        self.share = other.share;
+    }
+
+    /// The share whose indices are given out.
+    pub fn share(&self) -> Share
+        ensures { result ≡ self.now.share }
+    {
+        self.share
     }
 
     /// The stamp of the entry at an index: none where the index is vacant or past the end.

@@ -39,15 +39,14 @@ fn copied(slot: &Option<Pair>) -> Option<Pair>
     }
 }
 
-/// The same slots once more.
-pub fn copied_slots(alloc: Global, slots: &[Option<Pair>]) -> Result<Vec<Option<Pair>>, AllocError>
-    ensures { IfOk result (λ copy. copy.items ≡ slots.now) }
+/// Makes slots the same as as many others.
+pub fn copy_slots(slots: &mut Vec<Option<Pair>>, others: &[Option<Pair>])
+    requires { length slots.old.items ≡ length others.now }
+    ensures { slots.new.items ≡ others.now }
 {
-    let mut copy = Vec::with_capacity(alloc, slots.len())?;
-    for slot in slots {
-        copy.push(copied(slot))?;
+    for i in 0..others.len() {
+        slots[i] = copied(&others[i]);
     }
-    Ok(copy)
 }
 
 /// Whether two keys are equal.

@@ -13,6 +13,10 @@ pub record Keyed : Type 0 where
 abbrev pub keyed : MapDecl → Bindings → Keyed
 keyed decl map = record { decl = decl; map = map }
 
+-- as many keys may be bound in a map
+abbrev pub HasRoomFor : ℕ → Keyed → Type 0
+HasRoomFor count m = m.map.most ≡ count
+
 -- the key of some labels
 abbrev pub key_of : List ℕ → Keyed → List ℕ
 key_of labels m = key_in m.decl labels

@@ -303,8 +303,9 @@ impl ChainTables {
     pub fn copy(&self, alloc: Global) -> Result<ChainTables, AllocError>
         ensures { IfOk result (λ copy. copy ≡ self.now) }
     {
-        let chain = self.chain.copy(alloc)?;
-        let maps = copied_maps(alloc, self.maps.as_slice())?;
+        let mut chain = Chain::new(alloc, self.decl.size, self.chain.share())?;
+        chain.copy_from(&self.chain);
+        let maps = copied_maps(alloc, self.maps.as_slice(), self.decl.size)?;
         let labels = self.labels.copy(alloc)?;
         let columns = self.columns.copy(alloc)?;
         let decl = self.decl.copy(alloc)?;
