@@ -10,7 +10,8 @@ use std::alloc::{AllocError, Global};
 use std::test::Fail;
 use toeplitz_hash::DEFAULT_KEY;
 
-// The tests call the table through these, which promise nothing: what the answers are is compared, and not proved.
+// The tests call the table through these, which promise nothing: what the answers are is compared,
+// and not proved.
 
 /// 1 to 16 workers.
 fn workers(count: u32) -> Option<Workers> {

@@ -7,7 +7,8 @@ use std::alloc::{AllocError, Global};
 use std::test::Fail;
 use toeplitz_hash::{DEFAULT_KEY, hash_packet, input_of, toeplitz};
 
-// The tests call the hash through these, which promise nothing: what the answers are is compared, and not proved.
+// The tests call the hash through these, which promise nothing: what the answers are is compared,
+// and not proved.
 
 /// The hash under the default key, of at most 36 bytes.
 fn hash(input: &[u8]) -> Option<u32> {
@@ -46,8 +47,8 @@ fn fields_of(src_ip: [u8; 4], src_port: u16, dst_ip: [u8; 4], dst_port: u16) -> 
     }
 }
 
-/// Microsoft, "Verifying the RSS Hash Calculation": each IPv4 row with its hash over the addresses alone
-/// and its hash with the ports.
+/// Microsoft, "Verifying the RSS Hash Calculation": each IPv4 row with its hash over the addresses
+/// alone and its hash with the ports.
 #[test]
 fn the_verification_suite_is_met(rt: HostRuntime) {
     let rows = [

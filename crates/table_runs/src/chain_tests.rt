@@ -4,7 +4,8 @@ use nf_base::size::Size;
 use std::test::Fail;
 use vig_chain::Chain;
 
-// The tests call a chain through these, which promise nothing: what the answers are is compared, and not proved.
+// The tests call a chain through these, which promise nothing: what the answers are is compared,
+// and not proved.
 
 fn stamp(chain: &Chain, index: u32) -> Option<u64> {
     chain.stamp(index)

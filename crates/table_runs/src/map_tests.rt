@@ -11,7 +11,8 @@ fn key(first: u64, second: u64) -> Key {
     key
 }
 
-// The tests call a map through these, which promise nothing: what the answers are is compared, and not proved.
+// The tests call a map through these, which promise nothing: what the answers are is compared, and
+// not proved.
 
 fn get(map: &Map, key: &Key) -> Option<u32> {
     map.get(key)

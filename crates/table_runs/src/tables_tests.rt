@@ -395,7 +395,8 @@ fn has_entry(chain: &Chain, labels: &[u64], free: &[u64], stamp: u64) -> bool {
     }
 }
 
-/// Whether the flows of a state have five indices, this greatest stamp, and at index 3 such an entry.
+/// Whether the flows of a state have five indices, this greatest stamp, and at index 3 such an
+/// entry.
 fn has_flow(state: &State, labels: &[u64], free: &[u64], stamp: u64, greatest: u64) -> bool {
     match state.chains.as_slice().first() {
         Some(flows) => {

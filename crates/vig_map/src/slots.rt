@@ -59,7 +59,8 @@ fn is_same(a: &Key, b: &Key) -> bool
 /// Whether the search for a key stops at a slot: it is empty, or the key stands there.
 fn stops(slot: &Option<Pair>, key: &Key) -> bool
     ensures at { IsTrue result → (pair : Pair) → slot.now ≡ Some pair → pair.key ≡ key.now }
-    ensures past { result ≡ false → (pair : Pair) × (slot.now ≡ Some pair) × (pair.key ≡ key.now → ⊥) }
+    ensures past { result ≡ false →
+        (pair : Pair) × (slot.now ≡ Some pair) × (pair.key ≡ key.now → ⊥) }
 {
     match slot {
         Some(pair) => is_same(&pair.key, key),
@@ -142,7 +143,8 @@ fn fits(slot: &Option<Pair>, gap: usize, starts: u32) -> bool
     requires { 0 < starts }
     ensures yes { IsTrue result →
         (pair : Pair) × (slot.now ≡ Some pair) × (first_slot starts pair.key ≤ gap) }
-    ensures no { result ≡ false → (pair : Pair) → slot.now ≡ Some pair → gap < first_slot starts pair.key }
+    ensures no { result ≡ false →
+        (pair : Pair) → slot.now ≡ Some pair → gap < first_slot starts pair.key }
 {
     match slot {
         Some(pair) => first_slot(&pair.key, starts) as usize <= gap,

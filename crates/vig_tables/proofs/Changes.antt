@@ -1,9 +1,18 @@
 -- Maps that are changed one after another.
 use Rattle.std.proofs.Common.{◌≡◌, ◌∙◌, ap, refl, arith, ℕ, suc, ◌<◌, List, [], ◌∷◌, length, get_or, map}
-use Rattle.std.specs.Prelude.{All}
+use Rattle.std.specs.Prelude.{All, ◌≤◌, slice_index_or}
 use Rattle.std.specs.List.{AllZip}
 use Rattle.std.proofs.lemmas.List.Elements.{All-nil, All-cons, All-head, All-tail}
 use Rattle.vig_tables.specs.Keyed.{Keyed}
+
+-- the first so many of some maps are changed in one way, and the others not
+pub record AreChangedBelow (n : ℕ) (Changed : Keyed → Keyed → Type 0)
+    (old new : List Keyed) : Type 0 where
+  pub count : length new ≡ length old
+  pub each :
+      (k : ℕ) (d : Keyed) → k < n → k < length old
+      → Changed (slice_index_or old k d) (slice_index_or new k d)
+  pub rest : (k : ℕ) (d : Keyed) → n ≤ k → slice_index_or new k d ≡ slice_index_or old k d
 
 -- where each of some maps is changed, all are
 pub all_changed : (Changed : Keyed → Keyed → Type 0) (old new : List Keyed) → length new ≡ length old → ((k : ℕ) (d : Keyed) → k < length old → Changed (get_or old k d) (get_or new k d)) → AllZip Changed old new

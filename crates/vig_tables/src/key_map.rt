@@ -139,7 +139,8 @@ pub fn unbind_all(maps: &mut Vec<KeyMap>, labels: &[u64])
 /// Maps for a chain of so many indices.
 pub fn new_maps(alloc: Global, decls: &[MapDecl], size: Size) -> Result<Vec<KeyMap>, AllocError>
     requires { HaveShortKeys decls.now }
-    ensures { IfOk result (λ maps. maps.items ≡ map (λ decl. keyed decl (bindings_of [] size)) decls.now) }
+    ensures { IfOk result (λ maps.
+        maps.items ≡ map (λ decl. keyed decl (bindings_of [] size)) decls.now) }
 {
     let mut maps = Vec::with_capacity(alloc, decls.len())?;
     for decl in decls {
