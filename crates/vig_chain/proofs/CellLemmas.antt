@@ -6,7 +6,10 @@ use Rattle.std.proofs.lemmas.List.FromFn.{length-range_with_len, get_or-range_wi
 use Rattle.vig_chain.specs.Sound.{LinksInRange}
 
 pub range_more : (i : ℕ) → range_with_len 0 (i + 1) ≡ range_with_len 0 i ++ i ∷ []
-range_more i = sym (map-id (range_with_len 0 (i + 1))) ∙ map-range_with_len_more (λ x. x) 0 i i (omega arith) ∙ ap (λ (xs : List ℕ). xs ++ i ∷ []) (map-id (range_with_len 0 i))
+range_more i =
+    sym (map-id (range_with_len 0 (i + 1)))
+    ∙ map-range_with_len_more (λ x. x) 0 i i (omega arith)
+    ∙ ap (λ (xs : List ℕ). xs ++ i ∷ []) (map-id (range_with_len 0 i))
 
 pub apart_within :
     (count : ℕ) (next prev : List ℕ) → next ≡ range_with_len 0 count → prev ≡ range_with_len 0 count

@@ -67,7 +67,10 @@ sound_set size i g v chain rings k w lt is_own' grows given = record {
     within = omega (arith, k.slots)
 
     new : (j s : ℕ) → j ≡ i → stamp_of (slice_set chain.slots i v) j ≡ Some s → v ≡ Some s
-    new j s e at = sym (stamp-set_same chain.slots i v within) ∙ ap (stamp_of (slice_set chain.slots i v)) (sym e) ∙ at
+    new j s e at =
+        sym (stamp-set_same chain.slots i v within)
+        ∙ ap (stamp_of (slice_set chain.slots i v)) (sym e)
+        ∙ at
 
     kept :
         (j s : ℕ) → j ≢ i → stamp_of (slice_set chain.slots i v) j ≡ Some s
@@ -77,7 +80,10 @@ sound_set size i g v chain rings k w lt is_own' grows given = record {
     m :
         IsPutLast size i (ring_for size true v) (unlinked i rings) (ring_of size (owns chain.share) (slice_set chain.slots i v)) k.linked.rank k.linked.rank_bound
     m = moved size i (ring_for size true v) rings (ring_of size (owns chain.share) chain.slots) (ring_of size (owns chain.share) (slice_set chain.slots i v)) k.linked w k.cells (own_ring size (owns chain.share) chain.slots i lt is_own') lt (ring_above size v) (ring_within size v) (ring_begins size (owns chain.share) chain.slots (ring_for size true v) (ring_above size v) (ring_within size v)) (record {
-      here = ring-set_same size (owns chain.share) chain.slots i v lt k.slots ∙ ap (λ (o : Bool). ring_for size o v) is_own' ∙ at_ring_of v;
+      here =
+          ring-set_same size (owns chain.share) chain.slots i v lt k.slots
+          ∙ ap (λ (o : Bool). ring_for size o v) is_own'
+          ∙ at_ring_of v;
       there = λ j ne. ring-set_other size (owns chain.share) chain.slots i j v ne;
     })
       where

@@ -40,7 +40,9 @@ same_rings size next prev ring_of ring_of' k same = record {
 ring_empty :
     (size : ℕ) (own : ℕ → Bool) (j : ℕ) → j < size
     → ring_of size own (replicate size None) j ≡ ring_for size (own j) None
-ring_empty size own j lt = ring_within_size size own (replicate size None) j lt ∙ ap (ring_for size (own j)) (stamp_replicate size j)
+ring_empty size own j lt =
+    ring_within_size size own (replicate size None) j lt
+    ∙ ap (ring_for size (own j)) (stamp_replicate size j)
 
 same_own :
     (size : ℕ) (own own' : ℕ → Bool) (j : ℕ) → (j < size → own j ≡ own' j)
@@ -77,12 +79,16 @@ pub linked_more :
     → length rings.next ≡ size + 2 → i < size → owns share i ≡ true
     → AreLinked size (owns_below (i + 1) share) (replicate size None) (appended i (size + 1) rings)
 linked_more size i share rings k w cells lt is_own = (put_last_in size i (size + 1) rings (ring_of size (owns_below i share) (replicate size None)) (ring_of size (owns_below (i + 1) share) (replicate size None)) k w cells off lt (omega arith) (omega arith) (ring_begins size (owns_below i share) (replicate size None) (size + 1) (omega arith) (omega arith)) (record {
-  here = ring_empty size (owns_below (i + 1) share) i lt ∙ ap (λ (o : Bool). ring_for size o None) now_own;
+  here =
+      ring_empty size (owns_below (i + 1) share) i lt
+      ∙ ap (λ (o : Bool). ring_for size o None) now_own;
   there = λ j ne. same_own size (owns_below (i + 1) share) (owns_below i share) j (λ _. below_next i share j ne);
 })).linked
   where
     off : ring_of size (owns_below i share) (replicate size None) i ≡ 0
-    off = ring_empty size (owns_below i share) i lt ∙ ap (λ (o : Bool). ring_for size o None) (and_left (nat_lt i i) (owns share i) (le-ltb i i (omega arith)))
+    off =
+        ring_empty size (owns_below i share) i lt
+        ∙ ap (λ (o : Bool). ring_for size o None) (and_left (nat_lt i i) (owns share i) (le-ltb i i (omega arith)))
 
     now_own : owns_below (i + 1) share i ≡ true
     now_own = let more : i < i + 1 = omega arith in rw (lt-ltb i (i + 1) more) is_own
@@ -113,7 +119,9 @@ linked_none size share some = record {
 }
   where
     off : (j : ℕ) → j < size → ring_of size (owns_below 0 share) (replicate size None) j ≡ 0
-    off j lt = ring_empty size (owns_below 0 share) j lt ∙ ap (λ (o : Bool). ring_for size o None) (and_left (nat_lt j 0) (owns share j) (le-ltb j 0 (omega arith)))
+    off j lt =
+        ring_empty size (owns_below 0 share) j lt
+        ∙ ap (λ (o : Bool). ring_for size o None) (and_left (nat_lt j 0) (owns share j) (le-ltb j 0 (omega arith)))
 
     within :
         (j : ℕ) → size ≤ ring_of size (owns_below 0 share) (replicate size None) j → j < size + 2

@@ -17,7 +17,9 @@ changed xs i v lt = record { here = get_or-set_same xs i v 0 lt; there = λ j ne
 changed_twice :
     (xs : List ℕ) (a b v w : ℕ) → a < length xs → a ≢ b
     → slice_index (slice_set (slice_set xs a v) b w) a ≡ v
-changed_twice xs a b v w lt ne = get_or-set_other (slice_set xs a v) b a w 0 ne ∙ get_or-set_same xs a v 0 lt
+changed_twice xs a b v w lt ne =
+    get_or-set_other (slice_set xs a v) b a w 0 ne
+    ∙ get_or-set_same xs a v 0 lt
 
 changed_last :
     (xs : List ℕ) (a b v w : ℕ) → b < length xs
@@ -27,7 +29,9 @@ changed_last xs a b v w lt = get_or-set_same (slice_set xs a v) b w 0 (rw (lengt
 unchanged :
     (xs : List ℕ) (a b v w j : ℕ) → j ≢ a → j ≢ b
     → slice_index (slice_set (slice_set xs a v) b w) j ≡ slice_index xs j
-unchanged xs a b v w j na nb = get_or-set_other (slice_set xs a v) b j w 0 nb ∙ get_or-set_other xs a j v 0 na
+unchanged xs a b v w j na nb =
+    get_or-set_other (slice_set xs a v) b j w 0 nb
+    ∙ get_or-set_other xs a j v 0 na
 
 -- the cells that begin as they did, with one in no ring
 without : (ℕ → ℕ) → ℕ → ℕ → ℕ
@@ -121,7 +125,12 @@ pub moved :
     → IsPutLast size i ring (unlinked i rings) ring_of' k.rank k.rank_bound
 unfolding taken_out
 moved size i ring rings ring_of ring_of' k w cells on below above ring_within begins h =
-    put_last_in size i ring (unlinked i rings) (without ring_of i) ring_of' out (unlinked_within size i rings w cells below) (length-set rings.next (slice_index rings.prev i) (slice_index rings.next i) ∙ cells) (without_it ring_of i).here below above ring_within ((without_it ring_of i).there ring (omega arith) ∙ begins) (record { here = h.here; there = λ j ne. h.there j ne ∙ sym ((without_it ring_of i).there j ne) })
+    put_last_in size i ring (unlinked i rings) (without ring_of i) ring_of' out (unlinked_within size i rings w cells below) (length-set rings.next (slice_index rings.prev i) (slice_index rings.next i) ∙ cells) (without_it ring_of i).here below above ring_within ((without_it ring_of i).there ring (omega arith) ∙ begins) (record {
+      here =
+          h.here;
+      there = λ j ne. h.there j ne
+          ∙ sym ((without_it ring_of i).there j ne);
+    })
   where
     out :
         IsLinked size (slice_index (unlinked i rings).next) (slice_index (unlinked i rings).prev) (without ring_of i)

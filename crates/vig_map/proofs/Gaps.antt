@@ -75,7 +75,9 @@ is_moved :
     → IsMoved slots (slice_set (slice_set slots at None) gap (Some p)) gap at p
 is_moved slots gap at p order lt = record {
   here = slot-set_same (slice_set slots at None) gap (Some p) (omega (arith, length-set slots at None));
-  gone = slot-set_other (slice_set slots at None) gap at (Some p) (omega arith) ∙ slot-set_same slots at None lt;
+  gone =
+      slot-set_other (slice_set slots at None) gap at (Some p) (omega arith)
+      ∙ slot-set_same slots at None lt;
   there = λ x ng na. slot-set_other (slice_set slots at None) gap x (Some p) ng ∙ slot-set_other slots at x None na;
 }
 

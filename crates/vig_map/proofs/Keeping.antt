@@ -48,8 +48,12 @@ found slots held most key i k stop = by_slot (slot_at slots i) refl
     by_slot :
         (o : Option Pair) → slot_at slots i ≡ o
         → option_map (λ (pair : Pair). pair.value) (slot_at slots i) ≡ value_of (pairs_of slots) key
-    by_slot None e = ap (option_map (λ (pair : Pair). pair.value)) e ∙ sym (value_none slots key (missed (2 * most) slots key i k.met stop e))
-    by_slot (Some p) e = ap (option_map (λ (pair : Pair). pair.value)) e ∙ sym (value_is slots i p key p.value k.met.apart e (stop.stops p e) refl)
+    by_slot None e =
+        ap (option_map (λ (pair : Pair). pair.value)) e
+        ∙ sym (value_none slots key (missed (2 * most) slots key i k.met stop e))
+    by_slot (Some p) e =
+        ap (option_map (λ (pair : Pair). pair.value)) e
+        ∙ sym (value_is slots i p key p.value k.met.apart e (stop.stops p e) refl)
 
 -- where the value at a slot is none, no pair stands there
 pub no_value : (o : Option Pair) → option_map (λ (pair : Pair). pair.value) o ≡ None → o ≡ None
@@ -69,7 +73,10 @@ pub looked_up :
     → IsSoundMap slots held most → IsStop slots (first_slot (2 * most) key) key i → read ≡ slots
     → o ≡ option_map (λ (pair : Pair). pair.value) (slot_at read i)
     → o ≡ value_of (pairs_of slots) key
-looked_up slots read held most key i o k stop same is = is ∙ ap (λ (xs : List (Option Pair)). option_map (λ (pair : Pair). pair.value) (slot_at xs i)) same ∙ found slots held most key i k stop
+looked_up slots read held most key i o k stop same is =
+    is
+    ∙ ap (λ (xs : List (Option Pair)). option_map (λ (pair : Pair). pair.value) (slot_at xs i)) same
+    ∙ found slots held most key i k stop
 
 -- the pair that stands where a value was read
 pub stands :

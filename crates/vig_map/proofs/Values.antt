@@ -54,7 +54,10 @@ pub value_is :
     (slots : List (Option Pair)) (i : ℕ) (p : Pair) (key : List ℕ) (value : ℕ) → AreApart slots
     → slot_at slots i ≡ Some p → p.key ≡ key → p.value ≡ value
     → value_of (pairs_of slots) key ≡ Some value
-value_is slots i p key value apart there k v = ap (value_of (pairs_of slots)) (sym k) ∙ value_there slots i p apart there ∙ ap (λ (x : ℕ). Some x) v
+value_is slots i p key value apart there k v =
+    ap (value_of (pairs_of slots)) (sym k)
+    ∙ value_there slots i p apart there
+    ∙ ap (λ (x : ℕ). Some x) v
 
 -- no value where the key stands nowhere
 pub value_none :
@@ -83,4 +86,6 @@ same_value slots others key apart apart' there back = by_value (value_of (pairs_
         let h = held slots key value e in
         let got = there h.at h.pair h.there h.key_is in
         value_is others got.0 h.pair key value apart' got.1 h.key_is h.value_is ∙ sym e
-    by_value None e = value_none others key (λ i p at k. let got = back i p at k in none-some p.value (sym e ∙ value_is slots got.0 p key p.value apart got.1 k refl)) ∙ sym e
+    by_value None e =
+        value_none others key (λ i p at k. let got = back i p at k in none-some p.value (sym e ∙ value_is slots got.0 p key p.value apart got.1 k refl))
+        ∙ sym e

@@ -73,7 +73,9 @@ freed_joined decl s maps maps' labels columns i stamp j at changed = record {
   column_rows = j.column_rows;
   label_width = j.label_width;
   column_width = j.column_width;
-  decls = same_after (λ (m : Keyed). m.decl) (IsUnbound (row_at labels i)) maps maps' (λ x y c. c.decl) changed ∙ j.decls;
+  decls =
+      same_after (λ (m : Keyed). m.decl) (IsUnbound (row_at labels i)) maps maps' (λ x y c. c.decl) changed
+      ∙ j.decls;
   joined = rw (stamp_set s.slots labels.rows columns.rows i None)
       (true_after (IsJoined decl.size (entries s labels columns)) (IsJoined decl.size (slice_set (entries s labels columns) i None)) (IsUnbound (row_at labels i)) maps maps'
       (λ x y b c. joined_freed decl.size (entries s labels columns) (row_at labels i) i (entry_with stamp labels columns i) x y b c (stands decl s maps labels columns i stamp j at) refl)

@@ -115,7 +115,10 @@ joined_entered size slots labels i e old new j to lt none unbound same = record 
     here :
         (key : List ℕ) (k : ℕ) → k ≡ i
         → has_key old.decl key (entry_at (slice_set slots i (Some e)) k) ≡ same_key (key_of labels old) key
-    here key k is = ap (λ (x : ℕ). has_key old.decl key (entry_at (slice_set slots i (Some e)) x)) is ∙ ap (has_key old.decl key) (entry-set_same slots i (Some e) lt) ∙ ap (λ (ls : List ℕ). same_key (key_in old.decl ls) key) same
+    here key k is =
+        ap (λ (x : ℕ). has_key old.decl key (entry_at (slice_set slots i (Some e)) x)) is
+        ∙ ap (has_key old.decl key) (entry-set_same slots i (Some e) lt)
+        ∙ ap (λ (ls : List ℕ). same_key (key_in old.decl ls) key) same
 
     elsewhere :
         (key : List ℕ) (k : ℕ) → k ≢ i
@@ -173,7 +176,10 @@ joined_freed size slots labels i e old new j un stood same = record {
     here :
         (key : List ℕ) (k : ℕ) → k ≡ i
         → has_key old.decl key (entry_at slots k) ≡ same_key (key_of labels old) key
-    here key k is = ap (λ (x : ℕ). has_key old.decl key (entry_at slots x)) is ∙ ap (has_key old.decl key) stood ∙ ap (λ (ls : List ℕ). same_key (key_in old.decl ls) key) same
+    here key k is =
+        ap (λ (x : ℕ). has_key old.decl key (entry_at slots x)) is
+        ∙ ap (has_key old.decl key) stood
+        ∙ ap (λ (ls : List ℕ). same_key (key_in old.decl ls) key) same
 
     elsewhere :
         (key : List ℕ) (k : ℕ) → k ≢ i

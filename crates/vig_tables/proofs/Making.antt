@@ -132,7 +132,9 @@ entered_joined decl s maps maps' labels columns time i row zs j may none changed
       column_rows = length-set columns.rows i zs ∙ j.column_rows;
       label_width = j.label_width;
       column_width = j.column_width;
-      decls = same_after (λ (m : Keyed). m.decl) (IsBoundTo row i) maps maps' (λ x y c. c.decl) changed ∙ j.decls;
+      decls =
+          same_after (λ (m : Keyed). m.decl) (IsBoundTo row i) maps maps' (λ x y c. c.decl) changed
+          ∙ j.decls;
       joined = rw (all_set s.slots labels.rows columns.rows i (Some (next_stamp time s)) row zs)
           (true_after Before (IsJoined decl.size (slice_set (entries s labels columns) i (Some e))) (IsBoundTo row i) maps maps'
           (λ x y b c. joined_entered decl.size (entries s labels columns) row i e x y b.0 c f.within f.none (no_value (value_for row x) b.1) refl)
@@ -161,4 +163,6 @@ pub bound_taken :
     (decl : ChainDecl) (s : Stamps) (maps : List Keyed) (labels columns : Grid) (row : List ℕ)
     → AreJoined decl s maps labels columns
     → list_any (keyed.is_bound row) maps ≡ is_taken decl.maps row (entries s labels columns)
-bound_taken decl s maps labels columns row j = taken_is decl.size (entries s labels columns) row maps j.joined ∙ rw j.decls refl
+bound_taken decl s maps labels columns row j =
+    taken_is decl.size (entries s labels columns) row maps j.joined
+    ∙ rw j.decls refl

@@ -72,7 +72,9 @@ pub stamp_is :
     (decl : ChainDecl) (s : Stamps) (maps : List Keyed) (labels columns : Grid)
     → AreJoined decl s maps labels columns → (i : ℕ)
     → stamp_of s.slots i ≡ option_map (λ (e : Entry). e.stamp) (entry_at (entries s labels columns) i)
-stamp_is decl s maps labels columns j i = by_stamp (stamp_of s.slots i) ∙ sym (ap (option_map (λ (e : Entry). e.stamp)) (entry_is decl s maps labels columns j i))
+stamp_is decl s maps labels columns j i =
+    by_stamp (stamp_of s.slots i)
+    ∙ sym (ap (option_map (λ (e : Entry). e.stamp)) (entry_is decl s maps labels columns j i))
   where
     by_stamp :
         (o : Option ℕ)
@@ -85,7 +87,9 @@ pub past_is :
     (decl : ChainDecl) (s : Stamps) (maps : List Keyed) (labels columns : Grid) (time lifetime : ℕ)
     → AreJoined decl s maps labels columns → (i : ℕ)
     → is_due_at time lifetime s i ≡ is_due time lifetime (entry_at (entries s labels columns) i)
-past_is decl s maps labels columns time lifetime j i = by_stamp (stamp_of s.slots i) refl ∙ sym (ap (is_due time lifetime) (entry_is decl s maps labels columns j i))
+past_is decl s maps labels columns time lifetime j i =
+    by_stamp (stamp_of s.slots i) refl
+    ∙ sym (ap (is_due time lifetime) (entry_is decl s maps labels columns j i))
   where
     by_stamp :
         (o : Option ℕ) → stamp_of s.slots i ≡ o
@@ -133,13 +137,17 @@ pub stands :
     (decl : ChainDecl) (s : Stamps) (maps : List Keyed) (labels columns : Grid) (i stamp : ℕ)
     → AreJoined decl s maps labels columns → stamp_of s.slots i ≡ Some stamp
     → entry_at (entries s labels columns) i ≡ Some (entry_with stamp labels columns i)
-stands decl s maps labels columns i stamp j at = entry_is decl s maps labels columns j i ∙ ap (λ (o : Option ℕ). slot_of o (row_at labels i) (row_at columns i)) at
+stands decl s maps labels columns i stamp j at =
+    entry_is decl s maps labels columns j i
+    ∙ ap (λ (o : Option ℕ). slot_of o (row_at labels i) (row_at columns i)) at
 
 pub stands_not :
     (decl : ChainDecl) (s : Stamps) (maps : List Keyed) (labels columns : Grid) (i : ℕ)
     → AreJoined decl s maps labels columns → stamp_of s.slots i ≡ None
     → entry_at (entries s labels columns) i ≡ None
-stands_not decl s maps labels columns i j none = entry_is decl s maps labels columns j i ∙ ap (λ (o : Option ℕ). slot_of o (row_at labels i) (row_at columns i)) none
+stands_not decl s maps labels columns i j none =
+    entry_is decl s maps labels columns j i
+    ∙ ap (λ (o : Option ℕ). slot_of o (row_at labels i) (row_at columns i)) none
 
 -- past the end no entry stands
 pub stands_past :
@@ -177,7 +185,9 @@ not_none_stamped s i (Some stamp) b is tells so = (stamp, sym is)
 pub length_is :
     (decl : ChainDecl) (s : Stamps) (maps : List Keyed) (labels columns : Grid)
     → AreJoined decl s maps labels columns → length (entries s labels columns) ≡ decl.size
-length_is decl s maps labels columns j = length-slots_of s.slots labels.rows columns.rows (j.label_rows ∙ sym j.size) (j.column_rows ∙ sym j.size) ∙ j.size
+length_is decl s maps labels columns j =
+    length-slots_of s.slots labels.rows columns.rows (j.label_rows ∙ sym j.size) (j.column_rows ∙ sym j.size)
+    ∙ j.size
 
 -- an index with a stamp has rows
 pub rows_within :

@@ -44,11 +44,15 @@ none_past (x ∷ xs) (suc k) at = omega (arith, none_past xs k at)
 decl_some :
     (tables : List Table) (k : ℕ) (t : Table) → slice_get tables k ≡ Some t
     → slice_get (decls_of tables) k ≡ Some t.decl
-decl_some tables k t at = slice_get-map (λ (x : Table). x.decl) tables k ∙ ap (option_map (λ (x : Table). x.decl)) at
+decl_some tables k t at =
+    slice_get-map (λ (x : Table). x.decl) tables k
+    ∙ ap (option_map (λ (x : Table). x.decl)) at
 
 decl_none :
     (tables : List Table) (k : ℕ) → slice_get tables k ≡ None → slice_get (decls_of tables) k ≡ None
-decl_none tables k at = slice_get-map (λ (x : Table). x.decl) tables k ∙ ap (option_map (λ (x : Table). x.decl)) at
+decl_none tables k at =
+    slice_get-map (λ (x : Table). x.decl) tables k
+    ∙ ap (option_map (λ (x : Table). x.decl)) at
 
 own_share :
     (tables : List Table) (share : Share) (k : ℕ) (t : Table) → All (IsOfShare share) tables
@@ -117,7 +121,9 @@ not_changed tables arrays share k change none =
 pub same_tables :
     (tables : List Table) (k : ℕ) (t t' : Table) → slice_get tables k ≡ Some t → t' ≡ t
     → slice_set tables k t' ≡ tables
-same_tables tables k t t' at same = ap (slice_set tables k) (same ∙ sym (get_or_from_slice_get tables k t t at)) ∙ set-get_or tables k t
+same_tables tables k t t' at same =
+    ap (slice_set tables k) (same ∙ sym (get_or_from_slice_get tables k t t at))
+    ∙ set-get_or tables k t
 
 -- each chain's tables are of the share after one is changed
 pub shares_kept :
