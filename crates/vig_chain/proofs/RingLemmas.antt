@@ -10,13 +10,17 @@ pub record IsAt (f g : ℕ → ℕ) (i v : ℕ) : Type 0 where
   pub there : (j : ℕ) → j ≢ i → g j ≡ f j
 
 -- a cell of a ring that is no beginning is not next to itself
-pub apart_prev : (size i : ℕ) (next prev ring_of : ℕ → ℕ) (k : IsLinked size next prev ring_of) → size ≤ ring_of i → i < size → prev i ≢ i
+pub apart_prev :
+    (size i : ℕ) (next prev ring_of : ℕ → ℕ) (k : IsLinked size next prev ring_of)
+    → size ≤ ring_of i → i < size → prev i ≢ i
 apart_prev size i next prev ring_of k on below same =
     let up : k.rank (prev i) < k.rank i = k.rising i on below (omega arith) in
     let e : k.rank (prev i) ≡ k.rank i = ap k.rank same in
     omega arith
 
-pub apart_next : (size i : ℕ) (next prev ring_of : ℕ → ℕ) (k : IsLinked size next prev ring_of) → size ≤ ring_of i → i < size → next i ≢ i
+pub apart_next :
+    (size i : ℕ) (next prev ring_of : ℕ → ℕ) (k : IsLinked size next prev ring_of)
+    → size ≤ ring_of i → i < size → next i ≢ i
 apart_next size i next prev ring_of k on below same = apart_prev size i next prev ring_of k on below (sym (ap prev same) ∙ k.back i on)
 
 -- what stays of a cell's place where a cell `i` is taken out
@@ -29,7 +33,10 @@ pub record Stays (size i : ℕ) (next prev ring_of ring_of' : ℕ → ℕ) (j : 
   pub from_prev : next j ≡ i → j ≡ prev i
   pub from_next : prev j ≡ i → j ≡ next i
 
-pub stays : (size i : ℕ) (next prev ring_of ring_of' : ℕ → ℕ) (k : IsLinked size next prev ring_of) → IsAt ring_of ring_of' i 0 → (j : ℕ) → size ≤ ring_of' j → Stays size i next prev ring_of ring_of' j
+pub stays :
+    (size i : ℕ) (next prev ring_of ring_of' : ℕ → ℕ) (k : IsLinked size next prev ring_of)
+    → IsAt ring_of ring_of' i 0 → (j : ℕ) → size ≤ ring_of' j
+    → Stays size i next prev ring_of ring_of' j
 stays size i next prev ring_of ring_of' k h j at =
     let some = k.some in
     let other : j ≢ i = λ same. let e : ring_of' j ≡ 0 = ap ring_of' same ∙ h.here in omega arith in
@@ -195,7 +202,9 @@ put_last size i ring next prev ring_of next' prev' ring_of' k off below above be
     last_other : prev ring ≢ i
     last_other = off_ring (prev ring) ring last_ring above
 
-    after_last : (j : ℕ) → j ≡ i → prev' j < size → ranked k.rank i k.rank_bound (prev' j) < ranked k.rank i k.rank_bound j
+    after_last :
+        (j : ℕ) → j ≡ i → prev' j < size
+        → ranked k.rank i k.rank_bound (prev' j) < ranked k.rank i k.rank_bound j
     after_last j e prev_below =
         let before : prev' j ≡ prev ring = ap prev' e ∙ a.prev_here in
         let low : prev ring < size = omega arith in
@@ -208,7 +217,10 @@ pub record IsFirst (size ring : ℕ) (next ring_of : ℕ → ℕ) (rank : ℕ �
   pub at_ring : ring_of (next ring) ≡ ring
   pub least : rank (next ring) ≤ rank j
 
-first_within : (n size ring j : ℕ) (next prev ring_of : ℕ → ℕ) (k : IsLinked size next prev ring_of) → size ≤ ring → ring_of j ≡ ring → j < size → k.rank j < n → IsFirst size ring next ring_of k.rank j
+first_within :
+    (n size ring j : ℕ) (next prev ring_of : ℕ → ℕ) (k : IsLinked size next prev ring_of)
+    → size ≤ ring → ring_of j ≡ ring → j < size → k.rank j < n
+    → IsFirst size ring next ring_of k.rank j
 first_within zero size ring j next prev ring_of k above is j_below low = absurd (omega arith)
 first_within (suc n) size ring j next prev ring_of k above is j_below low = elim (cases_lt (prev j) size) [
   | inl lt ↦
@@ -229,11 +241,15 @@ first_within (suc n) size ring j next prev ring_of k above is j_below low = elim
     first_is : next ring ≡ j → IsFirst size ring next ring_of k.rank j
     first_is e = record { below = omega arith; at_ring = ap ring_of e ∙ is; least = omega (arith, ap k.rank e) }
 
-pub first : (size ring j : ℕ) (next prev ring_of : ℕ → ℕ) (k : IsLinked size next prev ring_of) → size ≤ ring → ring_of j ≡ ring → j < size → IsFirst size ring next ring_of k.rank j
+pub first :
+    (size ring j : ℕ) (next prev ring_of : ℕ → ℕ) (k : IsLinked size next prev ring_of)
+    → size ≤ ring → ring_of j ≡ ring → j < size → IsFirst size ring next ring_of k.rank j
 first size ring j next prev ring_of k above is j_below = first_within (k.rank j + 1) size ring j next prev ring_of k above is j_below (omega arith)
 
 -- a ring that goes on beyond its beginning goes on to an index
-pub goes_on : (size ring : ℕ) (next prev ring_of : ℕ → ℕ) (k : IsLinked size next prev ring_of) → size ≤ ring → ring_of ring ≡ ring → next ring ≢ ring → next ring < size
+pub goes_on :
+    (size ring : ℕ) (next prev ring_of : ℕ → ℕ) (k : IsLinked size next prev ring_of) → size ≤ ring
+    → ring_of ring ≡ ring → next ring ≢ ring → next ring < size
 goes_on size ring next prev ring_of k above begins ne = elim (cases_lt (next ring) size) [
   | inl lt ↦ lt
   | inr ge ↦

@@ -1,5 +1,6 @@
--- Rings of cells, doubly linked in arrays. Those below `size` are a chain's indices; the cell `size`
--- is where the ring of the entries begins and ends, `size + 1` where that of the available indices does.
+-- Rings of cells, doubly linked in arrays. Those below `size` are a chain's indices; the cell
+-- `size` is where the ring of the entries begins and ends, `size + 1` where that of the available
+-- indices does.
 use Rattle.std.specs.Prelude.{◌≡◌, ℕ, ◌+◌, ◌<◌, ◌≤◌, Bool, nat_lt, if◌then◌else◌, List, Option, Some, None, slice_index, slice_set}
 use Rattle.std.specs.List.{range_with_len}
 use Rattle.vig_chain.specs.Stamps.{stamp_of}
@@ -27,8 +28,9 @@ appended i ring rings = record {
   prev = slice_set (slice_set rings.prev i (slice_index rings.prev ring)) ring i;
 }
 
--- The links of cells, each in the ring that begins at the cell `ring_of` gives, or in none where that
--- is 0. Along a ring the ranks rise, so each of its cells is met on the way from where it begins.
+-- The links of cells, each in the ring that begins at the cell `ring_of` gives, or in none where
+-- that is 0. Along a ring the ranks rise, so each of its cells is met on the way from where it
+-- begins.
 pub record IsLinked (size : ℕ) (next prev ring_of : ℕ → ℕ) : Type 0 where
   pub rank : ℕ → ℕ
   pub rank_bound : ℕ

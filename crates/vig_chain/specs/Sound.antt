@@ -10,7 +10,8 @@ pub record LinksInRange (rings : Rings) : Type 0 where
   pub next_within : (j : ℕ) → j < length rings.next → slice_index rings.next j < length rings.next
   pub prev_within : (j : ℕ) → j < length rings.next → slice_index rings.prev j < length rings.next
 
--- The entries stand in the one ring in the order of their stamps, and the available indices in the other.
+-- The entries stand in the one ring in the order of their stamps, and the available indices in the
+-- other.
 pub record IsSoundChain (size : ℕ) (chain : Stamps) (rings : Rings) : Type 0 where
   pub slots : length chain.slots ≡ size
   pub most : size ≤ 65536

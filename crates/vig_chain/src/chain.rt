@@ -13,15 +13,16 @@ use std::marker::Model;
 
 /// The indices of a chain, of which its share's own are given out, each with a stamp.
 ///
-/// Contracts see it as the list, by index, of the stamp of its entry or none, beside the greatest stamp
-/// given so far and the share. Times, stamps and lifetimes are in nanoseconds. No call but `new` and `copy`
-/// takes memory, and every other one goes a bounded number of steps, whatever the chain's size.
+/// Contracts see it as the list, by index, of the stamp of its entry or none, beside the greatest
+/// stamp given so far and the share. Times, stamps and lifetimes are in nanoseconds. No call but
+/// `new` takes memory, and each but `new` and `copy_from` goes a bounded number of steps, whatever
+/// the chain's size.
 #[derive(Drop)]
 pub struct Chain {
     /// By index the stamp of its entry.
     stamps: Vec<Option<u64>>,
-    /// A cell for each index, then the one where the ring of the entries begins, in the order of their
-    /// stamps, and then the one where the ring of the available indices does.
+    /// A cell for each index, then the one where the ring of the entries begins, in the order of
+    /// their stamps, and then the one where the ring of the available indices does.
     links: Links,
     /// How many indices there are.
     size: u32,
@@ -37,7 +38,8 @@ impl Model for Chain {
 
     ghost view = { λ a. stamps_of a.stamps.items a.greatest a.share };
 
-    ghost invariant = { λ a. IsSoundChain a.size (stamps_of a.stamps.items a.greatest a.share) a.links };
+    ghost invariant = { λ a.
+        IsSoundChain a.size (stamps_of a.stamps.items a.greatest a.share) a.links };
 }
 
 impl Chain {
@@ -58,19 +60,23 @@ impl Chain {
         })
     }
 
-    /// The same chain once more.
-    pub fn copy(&self, alloc: Global) -> Result<Chain, AllocError>
-        ensures { IfOk result (λ copy. copy ≡ self.now) }
+    /// Makes this chain the same as another one of as many indices.
+    pub fn copy_from(&mut self, other: &Chain)
+        requires { length self.old.slots ≡ length other.now.slots }
+        ensures { self.new ≡ other.now }
     {
-        let stamps = Vec::from_slice(alloc, self.stamps.as_slice())?;
-        let links = self.links.copy(alloc)?;
-        Ok(Chain {
-            stamps,
-            links,
-            size: self.size,
-            greatest: self.greatest,
-            share: self.share,
-        })
+        self.stamps.copy_from_slice(other.stamps.as_slice());
+        self.links.copy_from(&other.links);
+        self.size = other.size;
+        self.greatest = other.greatest;
+        self.share = other.share;
+    }
+
+    /// The share whose indices are given out.
+    pub fn share(&self) -> Share
+        ensures { result ≡ self.now.share }
+    {
+        self.share
     }
 
     /// The stamp of the entry at an index: none where the index is vacant or past the end.
@@ -91,13 +97,15 @@ impl Chain {
 
     /// Whether no own index is vacant.
     pub fn is_full(&self) -> bool
-        ensures { MatchBool result (NoIndexHas (is_available self.now)) (SomeIndexHas (is_available self.now)) }
+        ensures { let available = is_available self.now in
+            MatchBool result (NoIndexHas available) (SomeIndexHas available) }
     {
         let ring = self.size + 1;
         self.links.next(ring) == ring
     }
 
-    /// The entry with the least stamp, as its index and that stamp: none where there are no entries.
+    /// The entry with the least stamp, as its index and that stamp: none where there are no
+    /// entries.
     fn oldest(&self) -> Option<(u32, u64)>
         ensures some { IfSome result (λ entry. stamp_of self.now.slots entry.0 ≡ Some entry.1) }
         ensures oldest { IfSome result (λ entry. IsOldest self.now entry.0) }
@@ -153,7 +161,8 @@ impl Chain {
     ///
     /// Its stamp is the time, or the greatest stamp so far where that is later.
     pub fn allocate(&mut self, time: u64) -> Option<u32>
-        ensures cause { MatchOption result (NoIndexHas (is_available self.old)) (λ i. IsTrue (is_available self.old i)) }
+        ensures cause { let available = is_available self.old in
+            MatchOption result (NoIndexHas available) (λ i. IsTrue (available i)) }
         ensures stamped { IfSome result (λ i. self.new ≡ stamped time i self.old) }
         ensures unchanged { IfNone result (self.new ≡ self.old) }
     {
@@ -166,8 +175,8 @@ impl Chain {
         Some(index)
     }
 
-    /// Makes an entry at an index, with the stamp that `allocate` gives: false where the index is not own or
-    /// is live.
+    /// Makes an entry at an index, with the stamp that `allocate` gives: false where the index is
+    /// not own or is live.
     pub fn take(&mut self, index: u32, time: u64) -> bool
         ensures cause { result ≡ is_available self.old index }
         ensures stamped { OnTrue result (self.new ≡ stamped time index self.old) }
@@ -201,7 +210,8 @@ impl Chain {
         is_live
     }
 
-    /// Whether some entry is past its lifetime: its stamp and the lifetime, added exactly, come before the time.
+    /// Whether some entry is past its lifetime: its stamp and the lifetime, added exactly, come
+    /// before the time.
     pub fn due(&self, time: u64, lifetime: u64) -> bool
         ensures { let past = is_due_at time lifetime self.now in
             MatchBool result (SomeIndexHas past) (NoIndexHas past) }
@@ -212,8 +222,8 @@ impl Chain {
         }
     }
 
-    /// Gives up an entry with the least stamp, if it is past its lifetime, and says at which index: none where
-    /// no entry is past its lifetime.
+    /// Gives up an entry with the least stamp, if it is past its lifetime, and says at which index:
+    /// none where no entry is past its lifetime.
     pub fn expire_one(&mut self, time: u64, lifetime: u64) -> Option<u32>
         ensures cause { let past = is_due_at time lifetime self.old in
             MatchOption result (NoIndexHas past) (λ i. IsTrue (past i)) }

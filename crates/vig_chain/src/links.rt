@@ -35,14 +35,13 @@ impl Links {
         Ok(Links { next, prev })
     }
 
-    /// The same links once more.
-    pub fn copy(&self, alloc: Global) -> Result<Links, AllocError>
-        ensures { IfOk result (λ copy. copy ≡ self.now) }
+    /// Makes these links the same as those of as many other cells.
+    pub fn copy_from(&mut self, other: &Links)
+        requires { length self.old.next ≡ length other.now.next }
+        ensures { self.new ≡ other.now }
     {
-        Ok(Links {
-            next: Vec::from_slice(alloc, self.next.as_slice())?,
-            prev: Vec::from_slice(alloc, self.prev.as_slice())?,
-        })
+        self.next.copy_from_slice(other.next.as_slice());
+        self.prev.copy_from_slice(other.prev.as_slice());
     }
 
     /// The next cell in a cell's ring.

@@ -14,7 +14,10 @@ unfolding first_slot
 first_below starts key some = mod_below (hash_of key / 2 ^ 32) starts some
 
 -- the search that stops at an empty slot has missed no pair of the key
-pub missed : (starts : ℕ) (slots : List (Option Pair)) (key : List ℕ) (i : ℕ) → AreMet starts slots → IsStop slots (first_slot starts key) key i → slot_at slots i ≡ None → (j : ℕ) (p : Pair) → slot_at slots j ≡ Some p → p.key ≢ key
+pub missed :
+    (starts : ℕ) (slots : List (Option Pair)) (key : List ℕ) (i : ℕ) → AreMet starts slots
+    → IsStop slots (first_slot starts key) key i → slot_at slots i ≡ None → (j : ℕ) (p : Pair)
+    → slot_at slots j ≡ Some p → p.key ≢ key
 missed starts slots key i met stop none j p there same = elim (cases_lt j i) [
   | inl lt ↦
       let pass = stop.passed j (omega (arith, met.after j p there, at_first)) lt in
@@ -28,14 +31,21 @@ missed starts slots key i met stop none j p there same = elim (cases_lt j i) [
     at_first : first_slot starts p.key ≡ first_slot starts key
     at_first = ap (first_slot starts) same
 
-passed_some : (slots : List (Option Pair)) (key : List ℕ) (i : ℕ) → IsPassed slots key i → IsSome (slot_at slots i)
+passed_some :
+    (slots : List (Option Pair)) (key : List ℕ) (i : ℕ) → IsPassed slots key i
+    → IsSome (slot_at slots i)
 passed_some slots key i pass = some_from (slot_at slots i) pass.pair pass.there
 
 -- the search goes past as many slots as there are pairs at most
-pub stop_near : (slots : List (Option Pair)) (from : ℕ) (key : List ℕ) (i : ℕ) → IsStop slots from key i → i ≤ from + length (pairs_of slots)
+pub stop_near :
+    (slots : List (Option Pair)) (from : ℕ) (key : List ℕ) (i : ℕ) → IsStop slots from key i
+    → i ≤ from + length (pairs_of slots)
 stop_near slots from key i stop = omega (arith, filled_run slots from (i - from) (λ x ge lt. passed_some slots key x (stop.passed x ge (omega (arith, stop.from_on)))), stop.from_on)
 
-pub put_met : (starts : ℕ) (slots : List (Option Pair)) (i : ℕ) (p : Pair) → AreMet starts slots → IsStop slots (first_slot starts p.key) p.key i → slot_at slots i ≡ None → i < length slots → AreMet starts (slice_set slots i (Some p))
+pub put_met :
+    (starts : ℕ) (slots : List (Option Pair)) (i : ℕ) (p : Pair) → AreMet starts slots
+    → IsStop slots (first_slot starts p.key) p.key i → slot_at slots i ≡ None → i < length slots
+    → AreMet starts (slice_set slots i (Some p))
 put_met starts slots i p met stop none lt = record {
   after = λ j q at. elim (cases_eq j i) [
     | inl e ↦ omega (arith, ap (λ (x : Pair). first_slot starts x.key) (new j q e at), stop.from_on)
@@ -63,5 +73,7 @@ put_met starts slots i p met stop none lt = record {
     new : (j : ℕ) (q : Pair) → j ≡ i → slot_at (slice_set slots i (Some p)) j ≡ Some q → p ≡ q
     new j q e at = same_Some p q (sym (slot-set_same slots i (Some p) lt) ∙ ap (slot_at (slice_set slots i (Some p))) (sym e) ∙ at)
 
-    old : (j : ℕ) (q : Pair) → j ≢ i → slot_at (slice_set slots i (Some p)) j ≡ Some q → slot_at slots j ≡ Some q
+    old :
+        (j : ℕ) (q : Pair) → j ≢ i → slot_at (slice_set slots i (Some p)) j ≡ Some q
+        → slot_at slots j ≡ Some q
     old j q ne at = sym (slot-set_other slots i j (Some p) ne) ∙ at

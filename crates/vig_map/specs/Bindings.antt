@@ -2,7 +2,8 @@
 use Rattle.std.specs.Prelude.{◌≡◌, ◌≢◌, ℕ, ◌+◌, ◌&&◌, Bool, nat_lt, List, [], ◌∷◌, length, Option, Some, None, is_none, if◌then◌else◌}
 use Rattle.nf_base.specs.Chains.{same_key}
 
--- the pairs of a key and its value, in an order of which nothing is said, and how many pairs may stand
+-- the pairs of a key and its value, in an order of which nothing is said, and how many pairs may
+-- stand
 pub record Bindings : Type 0 where
   pub pairs : List (List ℕ × ℕ)
   pub most : ℕ

@@ -41,8 +41,8 @@ pub record AreMet (starts : ℕ) (slots : List (Option Pair)) : Type 0 where
       → (x : ℕ) → first_slot starts p.key ≤ x → x < i → IsSome (slot_at slots x)
   pub apart : AreApart slots
 
--- The same while one slot is a gap, and the pairs from slot `at` on have not been looked at: only over
--- the gap may the search for one of these fail to come to it.
+-- The same while one slot is a gap, and the pairs from slot `at` on have not been looked at: only
+-- over the gap may the search for one of these fail to come to it.
 pub record AreMetButOver (starts gap at : ℕ) (slots : List (Option Pair)) : Type 0 where
   pub order : gap < at
   pub empty : slot_at slots gap ≡ None

@@ -4,7 +4,8 @@ ghost use Rattle.vig_map.specs.Hashes.{mixed, first_slot};
 
 use nf_base::key::Key;
 
-/// An odd number near 2^64 divided by the golden ratio: a product with it spreads every bit over the high half.
+/// An odd number near 2^64 divided by the golden ratio: a product with it spreads every bit over
+/// the high half.
 const MULTIPLIER: u64 = 0x9e37_79b9_7f4a_7c15;
 
 /// A hash with a key's part mixed in.

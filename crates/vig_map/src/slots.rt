@@ -39,15 +39,14 @@ fn copied(slot: &Option<Pair>) -> Option<Pair>
     }
 }
 
-/// The same slots once more.
-pub fn copied_slots(alloc: Global, slots: &[Option<Pair>]) -> Result<Vec<Option<Pair>>, AllocError>
-    ensures { IfOk result (λ copy. copy.items ≡ slots.now) }
+/// Makes slots the same as as many others.
+pub fn copy_slots(slots: &mut Vec<Option<Pair>>, others: &[Option<Pair>])
+    requires { length slots.old.items ≡ length others.now }
+    ensures { slots.new.items ≡ others.now }
 {
-    let mut copy = Vec::with_capacity(alloc, slots.len())?;
-    for slot in slots {
-        copy.push(copied(slot))?;
+    for i in 0..others.len() {
+        slots[i] = copied(&others[i]);
     }
-    Ok(copy)
 }
 
 /// Whether two keys are equal.
@@ -60,7 +59,8 @@ fn is_same(a: &Key, b: &Key) -> bool
 /// Whether the search for a key stops at a slot: it is empty, or the key stands there.
 fn stops(slot: &Option<Pair>, key: &Key) -> bool
     ensures at { IsTrue result → (pair : Pair) → slot.now ≡ Some pair → pair.key ≡ key.now }
-    ensures past { result ≡ false → (pair : Pair) × (slot.now ≡ Some pair) × (pair.key ≡ key.now → ⊥) }
+    ensures past { result ≡ false →
+        (pair : Pair) × (slot.now ≡ Some pair) × (pair.key ≡ key.now → ⊥) }
 {
     match slot {
         Some(pair) => is_same(&pair.key, key),
@@ -143,7 +143,8 @@ fn fits(slot: &Option<Pair>, gap: usize, starts: u32) -> bool
     requires { 0 < starts }
     ensures yes { IsTrue result →
         (pair : Pair) × (slot.now ≡ Some pair) × (first_slot starts pair.key ≤ gap) }
-    ensures no { result ≡ false → (pair : Pair) → slot.now ≡ Some pair → gap < first_slot starts pair.key }
+    ensures no { result ≡ false →
+        (pair : Pair) → slot.now ≡ Some pair → gap < first_slot starts pair.key }
 {
     match slot {
         Some(pair) => first_slot(&pair.key, starts) as usize <= gap,

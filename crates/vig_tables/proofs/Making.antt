@@ -26,12 +26,19 @@ use Rattle.vig_tables.proofs.Changes.{true_after, same_after}
 use Rattle.vig_tables.proofs.Entries.{stamp-set_other, stamp_none, vacant_of, vacant_parts, all_set, length-slots_of, slots_of_none, live_room}
 use Rattle.vig_tables.proofs.Joining.{taken_is, joined_entered, joined_none}
 
-decls_of : (size : ℕ) (decls : List MapDecl) → map (λ (m : Keyed). m.decl) (map (λ (d : MapDecl). keyed.keyed d (bindings_of [] size)) decls) ≡ decls
+decls_of :
+    (size : ℕ) (decls : List MapDecl)
+    → map (λ (m : Keyed). m.decl) (map (λ (d : MapDecl). keyed.keyed d (bindings_of [] size)) decls) ≡ decls
 decls_of size [] = refl
 decls_of size (d ∷ decls) = ap (λ (rest : List MapDecl). d ∷ rest) (decls_of size decls)
 
 -- the fields of tables without entries
-pub opened_joined : (decl : ChainDecl) (share : Share) (maps : List Keyed) (labels columns : Grid) → maps ≡ map (λ (d : MapDecl). keyed.keyed d (bindings_of [] decl.size)) decl.maps → labels ≡ record { width = length decl.labels; rows = replicate decl.size (replicate (length decl.labels) 0) } → columns ≡ record { width = length decl.columns; rows = replicate decl.size (replicate (length decl.columns) 0) } → AreJoined decl (stamps.opened decl.size share) maps labels columns
+pub opened_joined :
+    (decl : ChainDecl) (share : Share) (maps : List Keyed) (labels columns : Grid)
+    → maps ≡ map (λ (d : MapDecl). keyed.keyed d (bindings_of [] decl.size)) decl.maps
+    → labels ≡ record { width = length decl.labels; rows = replicate decl.size (replicate (length decl.labels) 0) }
+    → columns ≡ record { width = length decl.columns; rows = replicate decl.size (replicate (length decl.columns) 0) }
+    → AreJoined decl (stamps.opened decl.size share) maps labels columns
 opened_joined decl share maps labels columns m l f = rw (m, l, f) (record {
   size = length-replicate decl.size None;
   label_rows = length-replicate decl.size (replicate (length decl.labels) 0);
@@ -44,7 +51,11 @@ opened_joined decl share maps labels columns m l f = rw (m, l, f) (record {
   own = λ i s at. absurd (none-some s (sym (stamp_none decl.size i) ∙ at));
 })
 
-pub opened_is : (decl : ChainDecl) (share : Share) (labels columns : Grid) → labels ≡ record { width = length decl.labels; rows = replicate decl.size (replicate (length decl.labels) 0) } → columns ≡ record { width = length decl.columns; rows = replicate decl.size (replicate (length decl.columns) 0) } → table_of decl (stamps.opened decl.size share) labels columns ≡ opened decl share
+pub opened_is :
+    (decl : ChainDecl) (share : Share) (labels columns : Grid)
+    → labels ≡ record { width = length decl.labels; rows = replicate decl.size (replicate (length decl.labels) 0) }
+    → columns ≡ record { width = length decl.columns; rows = replicate decl.size (replicate (length decl.columns) 0) }
+    → table_of decl (stamps.opened decl.size share) labels columns ≡ opened decl share
 opened_is decl share labels columns l f = rw (l, f, slots_of_none decl.size (replicate (length decl.labels) 0) (replicate (length decl.columns) 0)) refl
 
 -- an index that may be given out, by the fields
@@ -55,7 +66,10 @@ record IsFresh (s : Stamps) (labels columns : Grid) (i : ℕ) : Type 0 where
   pub within_stamps : i < length s.slots
   pub none : entry_at (entries s labels columns) i ≡ None
 
-fresh : (decl : ChainDecl) (s : Stamps) (maps : List Keyed) (labels columns : Grid) (i : ℕ) → AreJoined decl s maps labels columns → IsTrue (stamps.is_available s i) → IsFresh s labels columns i
+fresh :
+    (decl : ChainDecl) (s : Stamps) (maps : List Keyed) (labels columns : Grid) (i : ℕ)
+    → AreJoined decl s maps labels columns → IsTrue (stamps.is_available s i)
+    → IsFresh s labels columns i
 fresh decl s maps labels columns i j may =
     let l = j.label_rows ∙ sym j.size in
     let f = j.column_rows ∙ sym j.size in
@@ -65,13 +79,18 @@ fresh decl s maps labels columns i j may =
     record { own = parts.0; vacant = vacant; within = at.0; within_stamps = omega (arith, at.0, length-slots_of s.slots labels.rows columns.rows l f); none = at.1 }
 
 -- its rows
-pub open_rows : (decl : ChainDecl) (s : Stamps) (maps : List Keyed) (labels columns : Grid) (i : ℕ) → AreJoined decl s maps labels columns → IsTrue (stamps.is_available s i) → (i < length labels.rows) × (i < length columns.rows)
+pub open_rows :
+    (decl : ChainDecl) (s : Stamps) (maps : List Keyed) (labels columns : Grid) (i : ℕ)
+    → AreJoined decl s maps labels columns → IsTrue (stamps.is_available s i)
+    → (i < length labels.rows) × (i < length columns.rows)
 open_rows decl s maps labels columns i j may =
     let f = fresh decl s maps labels columns i j may in
     (omega (arith, f.within_stamps, j.size, j.label_rows), omega (arith, f.within_stamps, j.size, j.column_rows))
 
 -- where no key is bound in any map, it isn't in each
-each_unbound : (row : List ℕ) (maps : List Keyed) → list_any (keyed.is_bound row) maps ≡ false → All (λ (m : Keyed). keyed.is_bound row m ≡ false) maps
+each_unbound :
+    (row : List ℕ) (maps : List Keyed) → list_any (keyed.is_bound row) maps ≡ false
+    → All (λ (m : Keyed). keyed.is_bound row m ≡ false) maps
 each_unbound row maps none k d lt = elim (cases_Bool (keyed.is_bound row (get_or maps k d))) [
   | inl t ↦ absurd (both_ways (list_any (keyed.is_bound row) maps) none (list_any_at (keyed.is_bound row) maps k d lt t))
   | inr f ↦ f
@@ -82,7 +101,10 @@ no_value None e = refl
 no_value (Some v) e = absurd (grind arith)
 
 -- its keys can be bound
-pub bindable : (decl : ChainDecl) (s : Stamps) (maps : List Keyed) (labels columns : Grid) (i : ℕ) (row : List ℕ) → AreJoined decl s maps labels columns → IsTrue (stamps.is_available s i) → list_any (keyed.is_bound row) maps ≡ false → AreBindable row maps
+pub bindable :
+    (decl : ChainDecl) (s : Stamps) (maps : List Keyed) (labels columns : Grid) (i : ℕ)
+    (row : List ℕ) → AreJoined decl s maps labels columns → IsTrue (stamps.is_available s i)
+    → list_any (keyed.is_bound row) maps ≡ false → AreBindable row maps
 bindable decl s maps labels columns i row j may none k d lt =
     let m = get_or maps k d in
     let here = j.joined k d lt in
@@ -95,7 +117,11 @@ bindable decl s maps labels columns i row j may none k d lt =
     (lt-ltb (length m.map.pairs) m.map.most (omega (arith, here.count, here.room, few, j.size, length-slots_of s.slots labels.rows columns.rows l r)))
 
 -- the fields after an entry was made
-pub entered_joined : (decl : ChainDecl) (s : Stamps) (maps maps' : List Keyed) (labels columns : Grid) (time i : ℕ) (row zs : List ℕ) → AreJoined decl s maps labels columns → IsTrue (stamps.is_available s i) → list_any (keyed.is_bound row) maps ≡ false → AllZip (IsBoundTo row i) maps maps' → AreJoined decl (stamped time i s) maps' (with_row i row labels) (with_row i zs columns)
+pub entered_joined :
+    (decl : ChainDecl) (s : Stamps) (maps maps' : List Keyed) (labels columns : Grid) (time i : ℕ)
+    (row zs : List ℕ) → AreJoined decl s maps labels columns → IsTrue (stamps.is_available s i)
+    → list_any (keyed.is_bound row) maps ≡ false → AllZip (IsBoundTo row i) maps maps'
+    → AreJoined decl (stamped time i s) maps' (with_row i row labels) (with_row i zs columns)
 entered_joined decl s maps maps' labels columns time i row zs j may none changed =
     let e : Entry = record { stamp = next_stamp time s; labels = row; columns = zs } in
     let f = fresh decl s maps labels columns i j may in
@@ -106,7 +132,9 @@ entered_joined decl s maps maps' labels columns time i row zs j may none changed
       column_rows = length-set columns.rows i zs ∙ j.column_rows;
       label_width = j.label_width;
       column_width = j.column_width;
-      decls = same_after (λ (m : Keyed). m.decl) (IsBoundTo row i) maps maps' (λ x y c. c.decl) changed ∙ j.decls;
+      decls =
+          same_after (λ (m : Keyed). m.decl) (IsBoundTo row i) maps maps' (λ x y c. c.decl) changed
+          ∙ j.decls;
       joined = rw (all_set s.slots labels.rows columns.rows i (Some (next_stamp time s)) row zs)
           (true_after Before (IsJoined decl.size (slice_set (entries s labels columns) i (Some e))) (IsBoundTo row i) maps maps'
           (λ x y b c. joined_entered decl.size (entries s labels columns) row i e x y b.0 c f.within f.none (no_value (value_for row x) b.1) refl)
@@ -122,11 +150,19 @@ zeros_are [] = refl
 zeros_are (c ∷ columns) = ap (λ (rest : List ℕ). 0 ∷ rest) (zeros_are columns)
 
 -- the tables then
-pub entered_is : (decl : ChainDecl) (s : Stamps) (maps : List Keyed) (labels columns : Grid) (time i : ℕ) (row : List ℕ) → AreJoined decl s maps labels columns → table_of decl (stamped time i s) (with_row i row labels) (with_row i (replicate columns.width 0) columns) ≡ entered time i row (table_of decl s labels columns)
+pub entered_is :
+    (decl : ChainDecl) (s : Stamps) (maps : List Keyed) (labels columns : Grid) (time i : ℕ)
+    (row : List ℕ) → AreJoined decl s maps labels columns
+    → table_of decl (stamped time i s) (with_row i row labels) (with_row i (replicate columns.width 0) columns) ≡ entered time i row (table_of decl s labels columns)
 entered_is decl s maps labels columns time i row j =
     let zs : replicate columns.width 0 ≡ zeros decl.columns = ap (λ (n : ℕ). replicate n 0) j.column_width ∙ zeros_are decl.columns in
     rw (all_set s.slots labels.rows columns.rows i (Some (next_stamp time s)) row (replicate columns.width 0), zs) refl
 
 -- some labels' keys are bound in the maps where they are taken
-pub bound_taken : (decl : ChainDecl) (s : Stamps) (maps : List Keyed) (labels columns : Grid) (row : List ℕ) → AreJoined decl s maps labels columns → list_any (keyed.is_bound row) maps ≡ is_taken decl.maps row (entries s labels columns)
-bound_taken decl s maps labels columns row j = taken_is decl.size (entries s labels columns) row maps j.joined ∙ rw j.decls refl
+pub bound_taken :
+    (decl : ChainDecl) (s : Stamps) (maps : List Keyed) (labels columns : Grid) (row : List ℕ)
+    → AreJoined decl s maps labels columns
+    → list_any (keyed.is_bound row) maps ≡ is_taken decl.maps row (entries s labels columns)
+bound_taken decl s maps labels columns row j =
+    taken_is decl.size (entries s labels columns) row maps j.joined
+    ∙ rw j.decls refl

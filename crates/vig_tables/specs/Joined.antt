@@ -37,7 +37,8 @@ pub record IsJoined (size : ℕ) (slots : List (Option Entry)) (m : Keyed) : Typ
 
 -- Every map is joined with the entries, each index has a row of labels and one of free columns, and
 -- the live ones are own.
-pub record AreJoined (decl : ChainDecl) (stamps : Stamps) (maps : List Keyed) (labels columns : Grid) : Type 0 where
+pub record AreJoined (decl : ChainDecl) (stamps : Stamps) (maps : List Keyed)
+    (labels columns : Grid) : Type 0 where
   pub size : length stamps.slots ≡ decl.size
   pub label_rows : length labels.rows ≡ decl.size
   pub column_rows : length columns.rows ≡ decl.size

@@ -1,4 +1,5 @@
--- What the tables of one chain are seen as, and what their calls do: the words of the step, over a share.
+-- What the tables of one chain are seen as, and what their calls do: the words of the step, over a
+-- share.
 use Rattle.std.specs.Prelude.{◌≡◌, ℕ, ◌-◌, Bool, true, false, not, ◌&&◌, nat_lt, IsTrue, List, [], ◌∷◌, map, Option, Some, None, if◌then◌else◌, slice_get, option_and_then}
 use Rattle.nf_base.specs.declared.decl.ChainDecl.{ChainDecl}
 use Rattle.nf_base.specs.declared.decl.ColumnDecl.{ColumnDecl}
@@ -60,12 +61,14 @@ entered time i labels t =
     with_chain (stamped time i (fresh labels (zeros t.decl.columns)) t.chain) t
 
 -- No key of some labels is taken, and no own index is vacant.
-pub record FindsFull (maps : List MapDecl) (labels : List ℕ) (share : Share) (slots : List (Option Entry)) : Type 0 where
+pub record FindsFull (maps : List MapDecl) (labels : List ℕ) (share : Share)
+    (slots : List (Option Entry)) : Type 0 where
   pub untaken : is_taken maps labels slots ≡ false
   pub full : none_vacant (owns share) slots ≡ true
 
 -- No key of some labels is taken, and an index is own and vacant.
-pub record FindsOpen (maps : List MapDecl) (labels : List ℕ) (share : Share) (slots : List (Option Entry)) (i : ℕ) : Type 0 where
+pub record FindsOpen (maps : List MapDecl) (labels : List ℕ) (share : Share)
+    (slots : List (Option Entry)) (i : ℕ) : Type 0 where
   pub untaken : is_taken maps labels slots ≡ false
   pub own : IsTrue (owns share i)
   pub vacant : IsTrue (is_vacant (slice_get slots i))

@@ -80,7 +80,8 @@ index_over (decl ∷ decls) chains m key =
     else index_over decls (drop 1 chains) (m - length decl.maps) key
 
 -- the tables of a chain have these parts
-pub record HasParts (t : TablesState) (k : ℕ) (chain : Chain) (maps : List MapDecl) (zeros : List ℕ) (lifetime labels : ℕ) : Type 0 where
+pub record HasParts (t : TablesState) (k : ℕ) (chain : Chain) (maps : List MapDecl)
+    (zeros : List ℕ) (lifetime labels : ℕ) : Type 0 where
   pub chain_is : chain_at t.state.chains k ≡ chain
   pub maps_are : maps_of t.decls k ≡ maps
   pub zeros_are : zeros_of t.decls k ≡ zeros

@@ -24,8 +24,8 @@ use vig_chain::Chain;
 
 /// The entries of one chain, by index and by the keys of its maps.
 ///
-/// Contracts see them as a chain of the state, by index, beside the chain's declaration and the share
-/// whose indices are given out. Times and stamps are in nanoseconds.
+/// Contracts see them as a chain of the state, by index, beside the chain's declaration and the
+/// share whose indices are given out. Times and stamps are in nanoseconds.
 #[derive(Drop)]
 pub struct ChainTables {
     decl: ChainDecl,
@@ -135,7 +135,8 @@ impl ChainTables {
         requires { length labels.now ≡ length self.old.decl.labels }
         ensures cause { let old = self.old in
             CauseOf result old.decl.maps labels.now old.share old.chain.slots }
-        ensures changes { self.new ≡ if_made result (λ i. entered time i labels.now self.old) self.old }
+        ensures changes { self.new ≡
+            if_made result (λ i. entered time i labels.now self.old) self.old }
     {
         if is_any_bound(self.maps.as_slice(), labels) {
             return Created::Taken;
@@ -150,8 +151,8 @@ impl ChainTables {
         Created::Made(i)
     }
 
-    /// Makes an entry at an index, as `create` does: false where the index is not own or is live, or a key
-    /// is bound.
+    /// Makes an entry at an index, as `create` does: false where the index is not own or is live,
+    /// or a key is bound.
     pub fn create_at(&mut self, i: u32, labels: &[u64], time: u64) -> bool
         requires { length labels.now ≡ length self.old.decl.labels }
         ensures cause { let old = self.old in
@@ -171,7 +172,8 @@ impl ChainTables {
         true
     }
 
-    /// Gives the entry at an index the stamp that `create` gives; where there is none, nothing changes.
+    /// Gives the entry at an index the stamp that `create` gives; where there is none, nothing
+    /// changes.
     pub fn touch(&mut self, i: u32, time: u64)
         ensures { self.new ≡ with_chain (touched time i self.old.chain) self.old }
     {
@@ -211,7 +213,8 @@ impl ChainTables {
 
     /// A free column of the entry at an index, if there are both.
     pub fn free_column(&self, i: u32, column: u32) -> Option<u64>
-        ensures { result ≡ option_and_then (λ e. slice_get e.columns column) (entry_at self.now.chain.slots i) }
+        ensures { let entry = entry_at self.now.chain.slots i in
+            result ≡ option_and_then (λ e. slice_get e.columns column) entry }
     {
         if self.chain.stamp(i).is_none() {
             return None;
@@ -228,7 +231,8 @@ impl ChainTables {
         }
     }
 
-    /// An index, if it is one of the chain, is live and its entry has these labels, each with its number.
+    /// An index, if it is one of the chain, is live and its entry has these labels, each with its
+    /// number.
     pub fn find_at(&self, index: u64, guards: &[(u32, u64)]) -> Option<u32>
         ensures { result ≡ index_with index guards.now (entry_at self.now.chain.slots index) }
     {
@@ -303,8 +307,9 @@ impl ChainTables {
     pub fn copy(&self, alloc: Global) -> Result<ChainTables, AllocError>
         ensures { IfOk result (λ copy. copy ≡ self.now) }
     {
-        let chain = self.chain.copy(alloc)?;
-        let maps = copied_maps(alloc, self.maps.as_slice())?;
+        let mut chain = Chain::new(alloc, self.decl.size, self.chain.share())?;
+        chain.copy_from(&self.chain);
+        let maps = copied_maps(alloc, self.maps.as_slice(), self.decl.size)?;
         let labels = self.labels.copy(alloc)?;
         let columns = self.columns.copy(alloc)?;
         let decl = self.decl.copy(alloc)?;

@@ -25,11 +25,11 @@ use std::marker::Model;
 
 /// What a function remembers, in tables.
 ///
-/// Contracts see them as a state, by index, beside the declarations of its chains and the share whose
-/// indices are given out. Chains and arrays go by number, from 0, in text order, and maps over all
-/// chains. A number past the last chain stands for one with no index and no map, a number past the last
-/// array for one with no cell. Times and stamps are in nanoseconds. No call but `new`, `state` and `copy`
-/// takes memory.
+/// Contracts see them as a state, by index, beside the declarations of its chains and the share
+/// whose indices are given out. Chains and arrays go by number, from 0, in text order, and maps
+/// over all chains. A number past the last chain stands for one with no index and no map, a number
+/// past the last array for one with no cell. Times and stamps are in nanoseconds. No call but
+/// `new`, `state` and `copy` takes memory.
 #[derive(Drop)]
 pub struct Tables {
     chains: Seq<ChainTables>,
@@ -103,7 +103,8 @@ impl Tables {
 
     /// The index to which a key is bound in a map of a chain, by the map's number in the chain.
     pub fn lookup_in(&self, chain: u32, map: u32, key: &Key) -> Option<u32>
-        ensures { result ≡ index_under (maps_of self.now.decls chain) map key.now (slots_at self.now chain) }
+        ensures { let maps = maps_of self.now.decls chain in
+            result ≡ index_under maps map key.now (slots_at self.now chain) }
     {
         match self.table(chain) {
             Some(tables) => tables.lookup(map, key),
@@ -111,8 +112,8 @@ impl Tables {
         }
     }
 
-    /// An index of a chain, if it is one of the chain's, is live and its entry has these labels, each with its
-    /// number.
+    /// An index of a chain, if it is one of the chain's, is live and its entry has these labels,
+    /// each with its number.
     pub fn find_at(&self, chain: u32, index: u64, guards: &[(u32, u64)]) -> Option<u32>
         ensures { result ≡ index_with index guards.now (entry_at (slots_at self.now chain) index) }
     {
@@ -134,7 +135,8 @@ impl Tables {
 
     /// Whether some entry of a chain is past its lifetime.
     pub fn due(&self, chain: u32, time: u64) -> bool
-        ensures { result ≡ not (none_due time (lifetime_of self.now.decls chain) (slots_at self.now chain)) }
+        ensures { let lifetime = lifetime_of self.now.decls chain in
+            result ≡ not (none_due time lifetime (slots_at self.now chain)) }
     {
         match self.table(chain) {
             Some(tables) => tables.due(time),
@@ -144,14 +146,16 @@ impl Tables {
 
     /// Whether some entry of some chain is past its lifetime.
     pub fn any_due(&self, time: u64) -> bool
-        ensures { result ≡ not (all_none_due time (lifetime_of self.now.decls) self.now.state.chains) }
+        ensures { let lifetimes = lifetime_of self.now.decls in
+            result ≡ not (all_none_due time lifetimes self.now.state.chains) }
     {
         any_due(self.chains.as_slice(), time)
     }
 
     /// Whether a key of some labels is bound in a chain.
     pub fn is_taken(&self, chain: u32, labels: &[u64]) -> bool
-        ensures { result ≡ is_taken (maps_of self.now.decls chain) labels.now (slots_at self.now chain) }
+        ensures { let maps = maps_of self.now.decls chain in
+            result ≡ is_taken maps labels.now (slots_at self.now chain) }
     {
         match self.table(chain) {
             Some(tables) => tables.is_taken(labels),
@@ -179,8 +183,8 @@ impl Tables {
         }
     }
 
-    /// A column of the entry at an index of a chain, 0 where there is none: the labels come first, then the free
-    /// columns.
+    /// A column of the entry at an index of a chain, 0 where there is none: the labels come first,
+    /// then the free columns.
     pub fn cell(&self, chain: u32, i: u32, column: u32) -> u64
         ensures { let entry = entry_at (slots_at self.now chain) i in
             result ≡ cell_of (label_count self.now.decls chain) column entry }
@@ -203,8 +207,8 @@ impl Tables {
         }
     }
 
-    /// A free column of the entry at an index of a chain, by its number among the free columns, 0 where there is
-    /// none.
+    /// A free column of the entry at an index of a chain, by its number among the free columns, 0
+    /// where there is none.
     pub fn column(&self, chain: u32, i: u32, column: u32) -> u64
         ensures { result ≡ column_of column (entry_at (slots_at self.now chain) i) }
     {
@@ -214,7 +218,8 @@ impl Tables {
         }
     }
 
-    /// A free column of the entry at an index of a chain, by its number among the free columns, if there are both.
+    /// A free column of the entry at an index of a chain, by its number among the free columns, if
+    /// there are both.
     pub fn free_column(&self, chain: u32, i: u32, column: u32) -> Option<u64>
         ensures { let entry = entry_at (slots_at self.now chain) i in
             result ≡ option_and_then (λ e. slice_get e.columns column) entry }
@@ -245,8 +250,8 @@ impl Tables {
         }
     }
 
-    /// Makes an entry of a chain with these labels at an own vacant index, and with zeros in its free
-    /// columns.
+    /// Makes an entry of a chain with these labels at an own vacant index, and with zeros in its
+    /// free columns.
     ///
     /// Its stamp is the time, or the chain's greatest stamp so far where that is later.
     pub fn create(&mut self, chain: u32, labels: &[u64], time: u64) -> Created
@@ -255,7 +260,8 @@ impl Tables {
             let maps = maps_of old.decls chain in
             CauseOf result maps labels.now old.share (slots_at old chain) }
         ensures changes { let entry = fresh labels.now (zeros_of self.old.decls chain) in
-            self.new ≡ if_made result (λ i. changed chain (stamped time i entry) self.old) self.old }
+            let old = self.old in
+            self.new ≡ if_made result (λ i. changed chain (stamped time i entry) old) old }
     {
         if (chain as usize) < self.chains.len() {
             self.chains.item_mut(chain as usize).create(labels, time)
@@ -264,8 +270,8 @@ impl Tables {
         }
     }
 
-    /// Makes an entry of a chain at an index, as `create` does: false where the index is not own or is live, where
-    /// a key is bound, or where there is no such chain.
+    /// Makes an entry of a chain at an index, as `create` does: false where the index is not own or
+    /// is live, where a key is bound, or where there is no such chain.
     pub fn create_at(&mut self, chain: u32, i: u32, labels: &[u64], time: u64) -> bool
         requires { AreFor (length labels.now) (slice_get self.old.decls chain) }
         ensures cause { let old = self.old in
@@ -284,7 +290,8 @@ impl Tables {
         }
     }
 
-    /// Gives the entry at an index of a chain the stamp that `create` gives; where there is none, nothing changes.
+    /// Gives the entry at an index of a chain the stamp that `create` gives; where there is none,
+    /// nothing changes.
     pub fn touch(&mut self, chain: u32, i: u32, time: u64)
         ensures { self.new ≡ changed chain (touched time i) self.old }
     {
@@ -302,8 +309,8 @@ impl Tables {
         }
     }
 
-    /// Writes a free column of the entry at an index of a chain, if there are both; the labels come before the free
-    /// columns.
+    /// Writes a free column of the entry at an index of a chain, if there are both; the labels come
+    /// before the free columns.
     pub fn set_cell(&mut self, chain: u32, i: u32, column: u32, value: u64)
         requires { label_count self.old.decls chain ≤ column }
         ensures { let free = column - label_count self.old.decls chain in
@@ -313,8 +320,8 @@ impl Tables {
         self.set_column(chain, i, column - labels, value);
     }
 
-    /// Writes a free column of the entry at an index of a chain, by its number among the free columns, if there are
-    /// both.
+    /// Writes a free column of the entry at an index of a chain, by its number among the free
+    /// columns, if there are both.
     pub fn set_column(&mut self, chain: u32, i: u32, column: u32, value: u64)
         ensures { self.new ≡ changed chain (written column value i) self.old }
     {
@@ -382,7 +389,8 @@ fn lookup(chains: &[ChainTables], map: u32, key: &Key) -> Option<u32>
 
 /// Whether some entry of some chains is past its lifetime.
 fn any_due(chains: &[ChainTables], time: u64) -> bool
-    ensures { result ≡ not (all_none_due time (lifetime_of (decls_of chains.now)) (chains_of chains.now)) }
+    ensures { let lifetimes = lifetime_of (decls_of chains.now) in
+        result ≡ not (all_none_due time lifetimes (chains_of chains.now)) }
 {
     for chain in chains {
         if chain.due(time) {

@@ -11,7 +11,10 @@ use Rattle.vig_tables.proofs.StateLemmas.{stands_at, stands_none}
 use Rattle.vig_tables.proofs.tables.Tables.table.Goals as goal
 
 -- what a look at the list of the chains' tables gives
-table_at : (tables seen : List Table) (arrays : List (List ℕ)) (share : Share) (k : ℕ) (o : Option (Bor Table)) → seen ≡ tables → All (IsOfShare share) tables → IsItemAt seen k o → IsTableAt (state_of tables arrays share) k o
+table_at :
+    (tables seen : List Table) (arrays : List (List ℕ)) (share : Share) (k : ℕ)
+    (o : Option (Bor Table)) → seen ≡ tables → All (IsOfShare share) tables → IsItemAt seen k o
+    → IsTableAt (state_of tables arrays share) k o
 table_at tables seen arrays share k (Some t) same all is =
     let at = slice_get_read seen (length seen) k t.now refl (ltb-true _ _ (sym is.0)) is.1 in
     stands_at tables arrays share k t.now all (ap (λ (ts : List Table). slice_get ts k) (sym same) ∙ at)
