@@ -1,2 +1,4 @@
 pub mod Tree
+pub mod Depth
+pub mod BlockView
 pub mod View

@@ -1,6 +1,6 @@
 -- The tree of a text, without where its blocks lie in memory. Each name, number, field and word that begins
 -- something has its place in the text.
-use Rattle.std.specs.Prelude.{ℕ, List}
+use Rattle.std.specs.Prelude.{List}
 use Rattle.nf_base.specs.declared.expr.Comparison.{Comparison}
 use Rattle.nf_base.specs.declared.packet.Field.{Field}
 use Rattle.nf_tokens.specs.declared.token.Place.{Place}
@@ -31,22 +31,39 @@ pub data Guards : Type 0 where
   Unguarded : Guards
   Where : (given : List Given) (close : Place) → Guards
 
--- a block: each statement holds what stands before it; an optional block that is not written is Missing
+-- how a block ends; one that may be left out and is not written is Missing
+pub data Ending : Type 0 where
+  FallsOff Missing Flood Discard : Ending
+  Forward : (port : Expression) → Ending
+
+-- a statement with no block of its own
+pub data Operation : Type 0 where
+  Touch : (variable : Name) → Operation
+  Free : (place : Place) (variable : Name) → Operation
+  Set : (field : Field) (place : Place) (value : Expression) → Operation
+  Write : (variable column : Name) (value : Expression) → Operation
+  Store : (array : Name) (index value : Expression) → Operation
+
+-- what a statement with two blocks asks
+pub data Question : Type 0 where
+  Get : (place : Place) (variable chain map : Name) (key : List Expression) (close : Place) → Question
+  Find : (place : Place) (variable chain : Name) (index : Expression) (guards : Guards) → Question
+  Test : (left : Expression) (comparison : Comparison) (right : Expression) → Question
+
+-- the entry that a `new` makes, with values for labels
+pub record Creation : Type 0 where
+  pub place : Place
+  pub variable : Name
+  pub chain : Name
+  pub given : List Given
+  pub close : Place
+
+-- statements, each with the blocks in it, and an end
 pub data Block : Type 0 where
-  Start : Block
-  Missing : Block
-  Touch : (before : Block) (variable : Name) → Block
-  Get : (before : Block) (place : Place) (variable chain map : Name) (key : List Expression) (close : Place) (hit miss : Block) → Block
-  New : (before : Block) (place : Place) (variable chain : Name) (given : List Given) (close : Place) (made taken full : Block) → Block
-  Find : (before : Block) (place : Place) (variable chain : Name) (index : Expression) (guards : Guards) (hit miss : Block) → Block
-  If : (before : Block) (left : Expression) (comparison : Comparison) (right : Expression) (holds fails : Block) → Block
-  Free : (before : Block) (place : Place) (variable : Name) → Block
-  Set : (before : Block) (field : Field) (place : Place) (value : Expression) → Block
-  Write : (before : Block) (variable column : Name) (value : Expression) → Block
-  Store : (before : Block) (array : Name) (index value : Expression) → Block
-  Forward : (before : Block) (port : Expression) → Block
-  Flood : (before : Block) → Block
-  Discard : (before : Block) → Block
+  End : Ending → Block
+  Do : Operation → (next : Block) → Block
+  Ask : Question → (hit miss next : Block) → Block
+  Make : Creation → (made taken full next : Block) → Block
 
 -- the handler of a port; its place is that of its word
 pub record Handler : Type 0 where
