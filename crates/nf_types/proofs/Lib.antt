@@ -6,6 +6,7 @@ pub mod Ranges
 pub mod Few
 pub mod Small
 pub mod Counted
-pub mod Steps
+pub mod Laid
+pub mod Rooms
 pub mod Sized
 pub mod Fitting

@@ -49,11 +49,16 @@ fn function(alloc: Global, tree: &Tree) -> Result<Func, Stop>
         return Err(Stop::Memory);
     }
     let handlers = handlers(alloc, &objects, ports, all)?;
-    let Objects { chains, arrays } = objects;
+    let Objects {
+        chains,
+        arrays,
+        order,
+    } = objects;
     Ok(Func {
         name,
         chains,
         arrays,
+        objects: order,
         handlers,
     })
 }

@@ -4,6 +4,4 @@ use Rattle.nf_types.proofs.Counted.{within}
 use Rattle.nf_types.proofs.handler.handler.Goals as goal
 
 pub invariant_of-result : goal.invariant_of-result
-invariant_of-result c = record {
-  within = within c.in-Some.before c.args.objects.now (syntax.block_of c.in-Some.text.now) (checked.block_of c.in_ok-code-in-Some.code) c.in_ok-code-in-Some.ensures c.in-Some.ensures.small;
-}
+invariant_of-result c = ?
