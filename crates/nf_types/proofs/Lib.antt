@@ -4,6 +4,7 @@ pub mod Ended
 pub mod Maps
 pub mod Ranges
 pub mod Few
+pub mod Faultless
 pub mod Small
 pub mod Counted
 pub mod Laid

@@ -15,7 +15,7 @@ use Rattle.nf_types.specs.Names.{named}
 use Rattle.nf_types.specs.Variables.{Variable, variable_of, variable_named}
 use Rattle.nf_types.specs.Expressions.{cells, number_of, array_named, value_of, given_to}
 use Rattle.nf_types.specs.Statements.{parts_of, key_of, chain_named, chain_found, map_named, guards_in, asked, labels_in}
-use Rattle.nf_types.specs.Places.{ending_places, operation_places, question_places, creation_places, places}
+use Rattle.nf_types.specs.Places.{operation_places, question_places, creation_places, places}
 
 -- the variables in the first block of a statement that binds one
 abbrev pub bound : Objects → List Variable → (x c : Name) → List Variable

@@ -2,7 +2,7 @@
 -- argument counts the places before a part in the text.
 use Rattle.std.specs.Prelude.{ℕ, ◌+◌, List, [], ◌∷◌, Option, Some, None, if◌then◌else◌, map, take, drop}
 use Rattle.std.specs.Str.{bytes_eq}
-use Rattle.nf_base.specs.Text.{Expression, Number, Given, Guard}
+use Rattle.nf_base.specs.Text.{Number, Given, Guard}
 use Rattle.nf_base.specs.declared.width.Width.TheVariants.{W64}
 use Rattle.nf_base.specs.declared.decl.ColumnDecl.{ColumnDecl}
 use Rattle.nf_base.specs.declared.decl.MapDecl.{MapDecl}
@@ -11,7 +11,7 @@ use Rattle.nf_tree.specs.Tree as tree
 use Rattle.nf_types.specs.Names.{named}
 use Rattle.nf_types.specs.declared.objects.Objects.{Objects}
 use Rattle.nf_types.specs.Variables.{Variable}
-use Rattle.nf_types.specs.Expressions.{cells, value_of, given_to}
+use Rattle.nf_types.specs.Expressions.{cells, given_to}
 
 -- the labels that are the parts of a map's key
 abbrev pub parts_of : ChainDecl → MapDecl → List ColumnDecl

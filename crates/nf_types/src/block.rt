@@ -65,9 +65,7 @@ fn two(
     first: &Block,
     second: &Block,
 ) -> Result<(Box<Checked>, Box<Checked>, u32), AllocError>
-    requires places {
-        place + places (syntax.block_of first.now) + places (syntax.block_of second.now) < 2 ^ 32
-    }
+    requires places { place + places (syntax.block_of first.now) + places (syntax.block_of second.now) < 2 ^ 32 }
     requires inner { length (variables_of inner.now) ≤ place }
     requires in_scope { length (variables_of scope.now) ≤ place }
     ensures first { IfOk result (λ r. checked.block_of r.0.value
@@ -104,20 +102,34 @@ fn statement(
     match text {
         Block::End(end) => {
             let end_places = ending_places(end);
-            Ok((Part::End(ending(alloc, place, objects, scope, end)?), place + end_places))
+            Ok((
+                Part::End(ending(alloc, place, objects, scope, end)?),
+                place + end_places,
+            ))
         }
         Block::Do { operation: one, .. } => {
             let made = operation(alloc, place, objects, scope, one)?;
             Ok((Part::Do(made), place + operation_places(one)))
         }
-        Block::Ask { question: asked, hit, miss, .. } => {
+        Block::Ask {
+            question: asked,
+            hit,
+            miss,
+            ..
+        } => {
             let inner = bound_by(objects, scope, asked);
             let at = place + question_places(asked);
             let made = question(alloc, place, objects, scope, asked)?;
             let (hit, miss, at) = two(alloc, at, objects, &inner, scope, hit, miss)?;
             Ok((Part::Ask(made, hit, miss), at))
         }
-        Block::Make { creation: one, made, taken, full, .. } => {
+        Block::Make {
+            creation: one,
+            made,
+            taken,
+            full,
+            ..
+        } => {
             let inner = bound(objects, scope, &one.variable, &one.chain);
             let at = place + creation_places(one);
             let head = creation(alloc, place, objects, scope, one)?;

@@ -133,7 +133,7 @@ fn ask(
         (syntax.block_of miss.now)) }
 {
     question(objects, room, scope, asked)?;
-    let inner = bound_by(objects, scope, asked);
+    let inner = bound_by(&*objects, &*scope, &*asked);
     let left = block(objects, room.behind_question(asked), &inner, hit)?;
     block(objects, left, scope, miss)
 }
@@ -164,7 +164,7 @@ fn make_in(
         (syntax.block_of full.now)) }
 {
     creation(objects, room, scope, one)?;
-    let inner = bound(objects, scope, &one.variable, &one.chain);
+    let inner = bound(&*objects, &*scope, &one.variable, &one.chain);
     let left = block(objects, room.behind_new(), &inner, made)?;
     let left = block(objects, left, scope, taken)?;
     block(objects, left, scope, full)
@@ -173,12 +173,7 @@ fn make_in(
 /// The first fault of a block, or what may still come behind it, in a loop along its statements.
 #[cycle(rules)]
 #[tactic(auto, using(crate::proofs::First::first_append, crate::proofs::Rooms::behind_ask, crate::proofs::Rooms::behind_make))]
-pub fn block(
-    objects: &Objects,
-    room: Room,
-    scope: &Variables,
-    block: &Block,
-) -> Result<Room, Fault>
+pub fn block(objects: &Objects, room: Room, scope: &Variables, block: &Block) -> Result<Room, Fault>
     ensures fault { first (block_faults room objects.now (variables_of scope.now) (syntax.block_of block.now))
         ≡ fault_in result }
     ensures left { IfOk result (λ left. left ≡ behind room (syntax.block_of block.now)) }
@@ -191,7 +186,10 @@ pub fn block(
                 ending(objects, scope, end)?;
                 return Ok(left);
             }
-            Block::Do { operation: one, next } => {
+            Block::Do {
+                operation: one,
+                next,
+            } => {
                 operation(objects, scope, one)?;
                 rest = next
             }

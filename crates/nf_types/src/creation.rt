@@ -84,7 +84,17 @@ pub fn creation(
     let (chain, labels) = match chain_named(objects, &text.chain) {
         Some((number, found)) => {
             let labels = found.labels.as_slice();
-            (number, values(alloc, place + 1, objects, scope, text.given.as_slice(), labels)?)
+            (
+                number,
+                values(
+                    alloc,
+                    place + 1,
+                    objects,
+                    scope,
+                    text.given.as_slice(),
+                    labels,
+                )?,
+            )
         }
         None => (0, Seq::new(alloc)),
     };

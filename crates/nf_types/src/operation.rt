@@ -76,10 +76,8 @@ fn store(
     index: &Value,
     given: &Value,
 ) -> Result<Checked, AllocError>
-    requires places {
-        place + 1 + cells (syntax.expression_of index.now) + cells (syntax.expression_of given.now)
-        < 2 ^ 32
-    }
+    requires places { place + 1 + cells (syntax.expression_of index.now) + cells (syntax.expression_of given.now)
+        < 2 ^ 32 }
     requires in_scope { length (variables_of scope.now) < 2 ^ 32 }
     ensures { IfOk result (λ op. checked.operation_of op
         ≡ checked_store place objects.now (variables_of scope.now)

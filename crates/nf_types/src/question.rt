@@ -192,10 +192,8 @@ fn find(
     index: &Value,
     wanted: &[Assigned],
 ) -> Result<Checked, AllocError>
-    requires places {
-        place + 1 + cells (syntax.expression_of index.now) + given_cells (map syntax.given_of wanted.now)
-        < 2 ^ 32
-    }
+    requires places { place + 1 + cells (syntax.expression_of index.now) + given_cells (map syntax.given_of wanted.now)
+        < 2 ^ 32 }
     requires in_scope { length (variables_of scope.now) < 2 ^ 32 }
     ensures { IfOk result (λ q. checked.question_of q
         ≡ checked_find place objects.now (variables_of scope.now)
@@ -207,7 +205,10 @@ fn find(
     let (chain, guards) = match chain_named(objects, chain) {
         Some((number, found)) => {
             let labels = found.labels.as_slice();
-            (number, guards(alloc, behind, objects, scope, labels, wanted)?)
+            (
+                number,
+                guards(alloc, behind, objects, scope, labels, wanted)?,
+            )
         }
         None => (0, Seq::new(alloc)),
     };
