@@ -11,3 +11,4 @@ pub mod Laid
 pub mod Rooms
 pub mod Sized
 pub mod Fitting
+pub mod Listed

@@ -2,6 +2,7 @@
 
 ghost use Rattle.std.specs.Prelude.{◌≡◌, ◌≤◌, IfOk};
 ghost use Rattle.nf_base.specs.Functions.{function_of};
+ghost use Rattle.nf_base.specs.Objects.{ListsObjects};
 ghost use Rattle.nf_tree.specs.View.{tree_of};
 ghost use Rattle.nf_types.specs.DeclarationFaults.{port_faults};
 ghost use Rattle.nf_types.specs.Function.{function};
@@ -69,7 +70,9 @@ fn function(alloc: Global, tree: &Tree) -> Result<Func, Stop>
 /// The handlers of the function stand by port, whatever their order in the text.
 #[tactic(auto, using(crate::proofs::First::first_none))]
 pub fn check(alloc: Global, tree: &Tree) -> Result<Func, CheckFault>
-    ensures { Answers result (tree_of tree.now) }
+    ensures answer { Answers result (tree_of tree.now) }
+    // Each chain and each array is one of the objects, once.
+    ensures objects { IfOk result (λ f. ListsObjects (function_of f)) }
 {
     match function(alloc, tree) {
         Ok(func) => Ok(func),
