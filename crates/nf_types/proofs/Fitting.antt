@@ -35,7 +35,7 @@ use Rattle.nf_types.proofs.Faultless.{ask_faultless, make_faultless}
 use Rattle.nf_types.proofs.Sized.{IsSized}
 
 -- what holds of an item that was found
-abbrev Holds : {A : Type 0} → (A → Type 0) → Option (ℕ × A) → Type 0
+abbrev pub Holds : {A : Type 0} → (A → Type 0) → Option (ℕ × A) → Type 0
 Holds P None = Unit {0}
 Holds P (Some found) = P found.1
 
@@ -44,11 +44,11 @@ abbrev Stands : {A : Type 0} → ℕ → List A → Option (ℕ × A) → Type 0
 Stands i items None = Unit {0}
 Stands i items (Some found) = (k : ℕ) × ((found.0 ≡ i + k) × (slice_get items k ≡ Some found.1))
 
-one_of : {A : Type 0} (P : A → Type 0) (b : Bool) (x y : A) → P x → P y → P (if b then x else y)
+pub one_of : {A : Type 0} (P : A → Type 0) (b : Bool) (x y : A) → P x → P y → P (if b then x else y)
 one_of P true x y p q = p
 one_of P false x y p q = q
 
-named_holds : {A : Type 0} (P : A → Type 0) (i : ℕ) (name : A → List ℕ) (x : List ℕ) (items : List A) → All P items → Holds P (named_from i name x items)
+pub named_holds : {A : Type 0} (P : A → Type 0) (i : ℕ) (name : A → List ℕ) (x : List ℕ) (items : List A) → All P items → Holds P (named_from i name x items)
 named_holds P i name x [] all = tt
 named_holds P i name x (item ∷ items) all =
     one_of (Holds P) (bytes_eq x (name item)) (Some (i, item)) (named_from (i + 1) name x items)
@@ -183,7 +183,7 @@ at_fits : (ports : ℕ) (o : Objects) (hs : List tree.Handler) (port : ℕ) →
 unfolding handler_at
 at_fits ports o hs port all e = port_fits port 0 ports o [] hs all e
 
-All-map : {A B : Type 0} (P : B → Type 0) (f : A → B) (xs : List A) → ((x : A) → P (f x)) → All P (map f xs)
+pub All-map : {A B : Type 0} (P : B → Type 0) (f : A → B) (xs : List A) → ((x : A) → P (f x)) → All P (map f xs)
 All-map P f [] each = All-nil P
 All-map P f (x ∷ xs) each = All-cons P (f x) (map f xs) (each x) (All-map P f xs each)
 

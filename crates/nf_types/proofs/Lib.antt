@@ -12,3 +12,7 @@ pub mod Rooms
 pub mod Sized
 pub mod Fitting
 pub mod Listed
+pub mod Spread
+pub mod Named
+pub mod Placed
+pub mod Numbered

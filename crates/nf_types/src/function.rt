@@ -3,6 +3,7 @@
 ghost use Rattle.std.specs.Prelude.{◌≡◌, ◌≤◌, IfOk};
 ghost use Rattle.nf_base.specs.Functions.{function_of};
 ghost use Rattle.nf_base.specs.Objects.{ListsObjects};
+ghost use Rattle.nf_base.specs.TextPlaces.{HasPlaces};
 ghost use Rattle.nf_tree.specs.View.{tree_of};
 ghost use Rattle.nf_types.specs.DeclarationFaults.{port_faults};
 ghost use Rattle.nf_types.specs.Function.{function};
@@ -71,6 +72,7 @@ fn function(alloc: Global, tree: &Tree) -> Result<Func, Stop>
 #[tactic(auto, using(crate::proofs::First::first_none))]
 pub fn check(alloc: Global, tree: &Tree) -> Result<Func, CheckFault>
     ensures answer { Answers result (tree_of tree.now) }
+    ensures places { IfOk result (λ f. HasPlaces (function_of f)) }
     // Each chain and each array is one of the objects, once.
     ensures objects { IfOk result (λ f. ListsObjects (function_of f)) }
 {
