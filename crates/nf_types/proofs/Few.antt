@@ -12,7 +12,7 @@ use Rattle.nf_types.specs.Faults.{first, fault_if, each_behind}
 use Rattle.nf_types.specs.Counts.{whole_room}
 use Rattle.nf_types.specs.BlockFaults.{block_faults}
 use Rattle.nf_types.specs.TextFaults.{handler_faults, is_handled}
-use Rattle.nf_types.proofs.First.{front_none, back_none, test_none}
+use Rattle.nf_types.proofs.First.{front_none, back_none, test_none, or_false}
 
 abbrev port_of : tree.Handler → ℕ
 port_of h = h.port.value
@@ -21,10 +21,6 @@ port_of h = h.port.value
 record AreApart (n : ℕ) (ps : List ℕ) : Type 0 where
   distinct : IsDistinct eqb ps
   below : (q : ℕ) → list_any (eqb q) ps ≡ true → q < n
-
-or_false : (a b : Bool) → (a || b) ≡ false → (a ≡ false) × (b ≡ false)
-or_false true b e = cc
-or_false false b e = (refl, e)
 
 either_true : (a b : Bool) → (a || (b || false)) ≡ true → (a ≡ true) ⊎ (b ≡ true)
 either_true true b e = inl refl

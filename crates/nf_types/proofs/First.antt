@@ -1,5 +1,5 @@
 -- The first fault of lists one behind the other.
-use Rattle.std.proofs.Common.{◌≡◌, List, [], ◌∷◌, ◌++◌, None, Bool, true, false, refl}
+use Rattle.std.proofs.Common.{◌≡◌, List, [], ◌∷◌, ◌++◌, None, Bool, true, false, ◌||◌, refl}
 use Rattle.std.specs.Option.{option_or}
 use Rattle.nf_types.specs.declared.fault.Fault.{Fault}
 use Rattle.nf_tokens.specs.declared.token.Place.{Place}
@@ -27,3 +27,8 @@ back_none (x ∷ xs) ys e = cc
 pub test_none : (b : Bool) (kind : TypingKind) (place : Place) → first (fault_if b kind place) ≡ None → b ≡ false
 test_none true kind place e = cc
 test_none false kind place e = refl
+
+-- where neither of two tests holds
+pub or_false : (a b : Bool) → (a || b) ≡ false → (a ≡ false) × (b ≡ false)
+or_false true b e = cc
+or_false false b e = (refl, e)

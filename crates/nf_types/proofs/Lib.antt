@@ -4,8 +4,15 @@ pub mod Ended
 pub mod Maps
 pub mod Ranges
 pub mod Few
+pub mod Faultless
 pub mod Small
 pub mod Counted
-pub mod Steps
+pub mod Laid
+pub mod Rooms
 pub mod Sized
 pub mod Fitting
+pub mod Listed
+pub mod Spread
+pub mod Named
+pub mod Placed
+pub mod Numbered

@@ -1,8 +1,9 @@
 -- Where nothing is wrong with the declarations of a text, no key has more than 8 parts, and no chain more than 136 labels.
-use Rattle.std.proofs.Common.{◌≡◌, ℕ, ◌+◌, ◌*◌, ◌≤◌, List, [], ◌∷◌, ◌++◌, None, false, length, arith, subst, sym, refl, nat_le, length-append}
+use Rattle.std.proofs.Common.{◌≡◌, ℕ, ◌+◌, ◌*◌, ◌≤◌, List, [], ◌∷◌, ◌++◌, None, false, length, map, arith, subst, sym, refl, nat_le, length-append}
 use Rattle.std.specs.Prelude.{All, fold}
 use Rattle.std.proofs.lemmas.Bool.Decides.{nat_tests}
 use Rattle.std.proofs.lemmas.List.Elements.{All-nil, All-push}
+use Rattle.nf_base.specs.declared.decl.ColumnDecl.{ColumnDecl}
 use Rattle.nf_base.specs.declared.decl.MapDecl.{MapDecl}
 use Rattle.nf_base.specs.declared.decl.ChainDecl.{ChainDecl}
 use Rattle.nf_base.specs.Limits.{maps_in, HaveShortKeys, HaveAllShortKeys}
@@ -21,12 +22,15 @@ use Rattle.nf_types.specs.declared.objects.Objects.{Objects}
 use Rattle.nf_types.specs.Faults.{first, fault_if, length_faults}
 use Rattle.nf_types.specs.Declarations.{column_of, with_label_of, with_column, with_part, with_no_parts, with_declaration, no_objects, objects_of, chain_of}
 use Rattle.nf_types.specs.DeclarationFaults.{names_column, names_map, names_object, width_faults, size_faults, label_faults, labels_faults, map_name_faults, map_faults, columns_before, column_faults, part_faults, one_if_fixed, fixed_with, parts_faults, chain_faults, array_faults, declarations_faults}
-use Rattle.nf_types.proofs.First.{front_none, back_none, test_none}
+use Rattle.nf_types.specs.Names.{is_among}
+use Rattle.nf_types.proofs.First.{front_none, back_none, test_none, or_false}
+use Rattle.nf_types.proofs.Named.{AreNamedApart, names_push}
 
 -- a chain as tables and entries can hold it
 pub record IsSized (d : ChainDecl) : Type 0 where
   pub keys : HaveShortKeys d.maps
   pub labels : length d.labels ≤ 136
+  pub names : AreNamedApart d.labels
 
 -- a chain with so many fixed columns, while its parts are read
 record IsGrowing (fixed : ℕ) (d : ChainDecl) : Type 0 where
@@ -34,6 +38,7 @@ record IsGrowing (fixed : ℕ) (d : ChainDecl) : Type 0 where
   maps : length d.maps ≤ 16
   columns : fixed ≤ 8
   labels : length d.labels ≤ 8 * length d.maps + fixed
+  names : AreNamedApart d.labels
 
 -- a label behind seven others at most
 not_ninth : (d : ChainDecl) (n : ℕ) (l : declared_label.Label) → first (label_faults d n l) ≡ None → n + 1 ≤ 8
@@ -52,6 +57,28 @@ few_parts d n (l ∷ ls) h e =
     let one = not_ninth d n l (front_none (label_faults d n l) rest e) in
     let all = few_parts (with_label_of d l) (n + 1) ls one (back_none (label_faults d n l) rest e) in
     omega (arith, all)
+
+-- the names of some columns
+abbrev names_in : List ColumnDecl → List (List ℕ)
+names_in cs = map (λ (c : ColumnDecl). c.name) cs
+
+-- a label with a name that no other label has
+not_twice : (d : ChainDecl) (n : ℕ) (l : declared_label.Label) → first (label_faults d n l) ≡ None → is_among l.name.bytes (names_in d.labels) ≡ false
+unfolding label_faults
+not_twice d n l e =
+    let twice = fault_if (names_column d l.name.bytes) Twice l.name.place in
+    let limit = fault_if (nat_le 8 n) Limit l.name.place in
+    let rest = length_faults l.name ++ width_faults l.width in
+    let no = test_none (names_column d l.name.bytes) Twice l.name.place (front_none twice (limit ++ rest) e) in
+    (or_false (is_among l.name.bytes (names_in d.labels)) (is_among l.name.bytes (names_in d.columns)) no).0
+
+labels_named : (d : ChainDecl) (n : ℕ) (ls : List declared_label.Label) → AreNamedApart d.labels → first (labels_faults d n ls) ≡ None → AreNamedApart (fold with_label_of d ls).labels
+labels_named d n [] all e = all
+labels_named d n (l ∷ ls) all e =
+    let rest = labels_faults (with_label_of d l) (n + 1) ls in
+    labels_named (with_label_of d l) (n + 1) ls
+    (names_push d.labels (column_of l.name l.width) all (not_twice d n l (front_none (label_faults d n l) rest e)))
+    (back_none (label_faults d n l) rest e)
 
 -- the labels of a map come behind those of the chain
 labels_more : (d : ChainDecl) (ls : List declared_label.Label) → length (fold with_label_of d ls).labels ≡ length d.labels + length ls
@@ -84,13 +111,20 @@ map_grows maps fixed d m g e =
       maps = subst (λ (ms : List MapDecl). length (ms ++ map ∷ []) ≤ 16) (sym same) (omega (arith, one, few));
       columns = g.columns;
       labels = subst (λ (ms : List MapDecl). length before.labels ≤ 8 * length (ms ++ map ∷ []) + fixed) (sym same) (omega (arith, one, all, short, g.labels));
+      names = labels_named d 0 m.labels g.names (back_none (limit ++ rest) (labels_faults d 0 m.labels) e);
     }
 
 -- a column that is refused for nothing
-fixed_grows : (fixed : ℕ) (d : ChainDecl) (c : ColumnTree) → IsGrowing fixed d → nat_le 8 fixed ≡ false → IsGrowing (fixed + 1) (with_column Fixed d (column_of c.name c.width))
-fixed_grows fixed d c g few =
+fixed_grows : (fixed : ℕ) (d : ChainDecl) (c : ColumnTree) → IsGrowing fixed d → nat_le 8 fixed ≡ false → is_among c.name.bytes (names_in d.labels) ≡ false → IsGrowing (fixed + 1) (with_column Fixed d (column_of c.name c.width))
+fixed_grows fixed d c g few new =
     let one : length (d.labels ++ column_of c.name c.width ∷ []) ≡ length d.labels + 1 = length-append d.labels (column_of c.name c.width ∷ []) in
-    record { keys = g.keys; maps = g.maps; columns = grind (arith, nat_tests, few); labels = omega (arith, one, g.labels) }
+    record {
+      keys = g.keys;
+      maps = g.maps;
+      columns = grind (arith, nat_tests, few);
+      labels = omega (arith, one, g.labels);
+      names = names_push d.labels (column_of c.name c.width) g.names new;
+    }
 
 not_many : (fixed : ℕ) (d : ChainDecl) (c : ColumnTree) → first (column_faults fixed d c) ≡ None → nat_le 8 (columns_before c.kind fixed d) ≡ false
 unfolding column_faults
@@ -99,17 +133,27 @@ not_many fixed d c e =
     let rest = fault_if (names_column d c.name.bytes) Twice c.name.place ++ (length_faults c.name ++ width_faults c.width) in
     test_none (nat_le 8 (columns_before c.kind fixed d)) Limit c.place (front_none limit rest e)
 
-column_grows : (fixed : ℕ) (d : ChainDecl) (c : ColumnTree) (kind : ColumnKind) → IsGrowing fixed d → nat_le 8 (columns_before kind fixed d) ≡ false →
+not_named : (fixed : ℕ) (d : ChainDecl) (c : ColumnTree) → first (column_faults fixed d c) ≡ None → is_among c.name.bytes (names_in d.labels) ≡ false
+unfolding column_faults
+not_named fixed d c e =
+    let limit = fault_if (nat_le 8 (columns_before c.kind fixed d)) Limit c.place in
+    let twice = fault_if (names_column d c.name.bytes) Twice c.name.place in
+    let rest = length_faults c.name ++ width_faults c.width in
+    let no = test_none (names_column d c.name.bytes) Twice c.name.place (front_none twice rest (back_none limit (twice ++ rest) e)) in
+    (or_false (is_among c.name.bytes (names_in d.labels)) (is_among c.name.bytes (names_in d.columns)) no).0
+
+column_grows : (fixed : ℕ) (d : ChainDecl) (c : ColumnTree) (kind : ColumnKind) → IsGrowing fixed d → nat_le 8 (columns_before kind fixed d) ≡ false → is_among c.name.bytes (names_in d.labels) ≡ false →
     IsGrowing (fixed + one_if_fixed kind) (with_column kind d (column_of c.name c.width))
-column_grows fixed d c Fixed g few = fixed_grows fixed d c g few
-column_grows fixed d c Free g few = record { keys = g.keys; maps = g.maps; columns = omega (arith, g.columns); labels = omega (arith, g.labels) }
+column_grows fixed d c Fixed g few new = fixed_grows fixed d c g few new
+column_grows fixed d c Free g few new =
+    record { keys = g.keys; maps = g.maps; columns = omega (arith, g.columns); labels = omega (arith, g.labels); names = g.names }
 
 part_grows : (maps fixed : ℕ) (d : ChainDecl) (p : Part) → IsGrowing fixed d → first (part_faults maps fixed d p) ≡ None → IsGrowing (fixed_with fixed p) (with_part d p)
 part_grows maps fixed d (parts.Map m) g e = map_grows maps fixed d m g e
-part_grows maps fixed d (parts.Column c) g e = column_grows fixed d c c.kind g (not_many fixed d c e)
+part_grows maps fixed d (parts.Column c) g e = column_grows fixed d c c.kind g (not_many fixed d c e) (not_named fixed d c e)
 
 parts_sized : (maps fixed : ℕ) (d : ChainDecl) (ps : List Part) → IsGrowing fixed d → first (parts_faults maps fixed d ps) ≡ None → IsSized (fold with_part d ps)
-parts_sized maps fixed d [] g e = record { keys = g.keys; labels = omega (arith, g.labels, g.maps, g.columns) }
+parts_sized maps fixed d [] g e = record { keys = g.keys; labels = omega (arith, g.labels, g.maps, g.columns); names = g.names }
 parts_sized maps fixed d (p ∷ ps) g e =
     let rest = parts_faults maps (fixed_with fixed p) (with_part d p) ps in
     parts_sized maps (fixed_with fixed p) (with_part d p) ps
@@ -124,7 +168,7 @@ chain_sized o c e =
     let all = parts_faults (maps_in o.chains) 0 (with_no_parts c) c.parts in
     let behind_name = back_none twice (length_faults c.name ++ (size_faults c.size ++ all)) (back_none limit (twice ++ (length_faults c.name ++ (size_faults c.size ++ all))) e) in
     let none = back_none (size_faults c.size) all (back_none (length_faults c.name) (size_faults c.size ++ all) behind_name) in
-    let opening : IsGrowing 0 (with_no_parts c) = record { keys = All-nil (λ (decl : MapDecl). decl.parts ≤ 8); maps = omega arith; columns = omega arith; labels = omega arith } in
+    let opening : IsGrowing 0 (with_no_parts c) = record { keys = All-nil (λ (decl : MapDecl). decl.parts ≤ 8); maps = omega arith; columns = omega arith; labels = omega arith; names = tt } in
     parts_sized (maps_in o.chains) 0 (with_no_parts c) c.parts opening none
 
 declarations_sized : (o : Objects) (ds : List Declaration) → All IsSized o.chains → first (declarations_faults o ds) ≡ None → All IsSized (fold with_declaration o ds).chains

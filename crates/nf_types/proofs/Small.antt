@@ -2,23 +2,22 @@
 use Rattle.std.proofs.Common.{◌≡◌, ℕ, ◌==◌, ◌||◌, ◌≤◌, List, [], ◌∷◌, ◌++◌, None, nat_le, arith}
 use Rattle.std.proofs.lemmas.Grind.{common_steps}
 use Rattle.std.proofs.lemmas.Bool.Decides.{nat_tests}
-use Rattle.nf_base.specs.declared.expr.Comparison.{Comparison}
 use Rattle.nf_tokens.specs.declared.token.Place.{Place}
 use Rattle.nf_tree.specs.declared.place.Name.{Name}
 use Rattle.nf_tree.specs.Tree as tree
-use Rattle.nf_types.specs.declared.counts.Room.{Room}
+use Rattle.nf_types.specs.declared.room.Room.{Room}
 use Rattle.nf_types.specs.declared.objects.Objects.{Objects}
 use Rattle.nf_types.specs.declared.fault.TypingKind.TheVariants.{Limit, Twice}
 use Rattle.nf_types.specs.Faults.{first, fault_if, each_behind}
 use Rattle.nf_types.specs.Variables.{Variable}
-use Rattle.nf_types.specs.Expressions.{value_faults}
-use Rattle.nf_types.specs.Counts.{news, lookups, behind, behind_get, behind_new, whole_room}
-use Rattle.nf_types.specs.StatementFaults.{binding_faults, look_up_faults, making_faults, finding_faults, use_faults, set_faults, write_faults, store_faults}
-use Rattle.nf_types.specs.Blocks.{bound}
-use Rattle.nf_types.specs.BlockFaults.{get_faults, find_faults, new_faults, block_faults}
+use Rattle.nf_types.specs.Counts.{news, lookups, question_lookups, behind, behind_question, behind_new, whole_room}
+use Rattle.nf_types.specs.StatementFaults.{binding_faults, look_up_faults, making_faults, finding_faults}
+use Rattle.nf_types.specs.Blocks.{bound, bound_by}
+use Rattle.nf_types.specs.BlockFaults.{operation_faults, get_faults, find_faults, question_faults, creation_faults, block_faults}
 use Rattle.nf_types.specs.TextFaults.{handler_faults, is_handled}
 use Rattle.nf_types.specs.Small.{IsSmall, AreSmall}
 use Rattle.nf_types.proofs.First.{front_none, back_none, test_none}
+use Rattle.nf_types.proofs.Faultless.{ask_faultless, make_faultless}
 
 pub record Fits (room : Room) (b : tree.Block) : Type 0 where
   pub lookups : lookups b ≤ room.lookups
@@ -40,118 +39,56 @@ some_find room o xs at x c i gs e =
     let no = test_none (room.lookups == 0) Limit at (front_none front (binding_faults o xs x ++ finding_faults o xs c i gs) e) in
     grind (arith, nat_tests, no)
 
-some_new : (room : Room) (o : Objects) (xs : List Variable) (at : Place) (x c : Name) (gs : List tree.Given) (close : Place) →
-    first (new_faults room o xs at x c gs close) ≡ None → (1 ≤ room.lookups) × (1 ≤ room.news)
-unfolding new_faults
-some_new room o xs at x c gs close e =
-    let front = fault_if (room.lookups == 0 || room.news == 0) Limit at in
-    let no = test_none (room.lookups == 0 || room.news == 0) Limit at (front_none front (binding_faults o xs x ++ making_faults o xs c gs close) e) in
+some_question : (room : Room) (o : Objects) (xs : List Variable) (q : tree.Question) →
+    first (question_faults room o xs q) ≡ None → question_lookups q ≤ room.lookups
+some_question room o xs (tree.Get at x c m key close) e = some_get room o xs at x c m key close e
+some_question room o xs (tree.Find at x c i gs) e = some_find room o xs at x c i gs e
+some_question room o xs (tree.Test l comparison r) e = omega arith
+
+some_new : (room : Room) (o : Objects) (xs : List Variable) (n : tree.Creation) →
+    first (creation_faults room o xs n) ≡ None → (1 ≤ room.lookups) × (1 ≤ room.news)
+unfolding creation_faults
+some_new room o xs n e =
+    let front = fault_if (room.lookups == 0 || room.news == 0) Limit n.place in
+    let no = test_none (room.lookups == 0 || room.news == 0) Limit n.place (front_none front (binding_faults o xs n.variable ++ making_faults o xs n.chain n.given n.close) e) in
     (grind (arith, nat_tests, common_steps, no), grind (arith, nat_tests, common_steps, no))
 
-behind_one_get : (room : Room) (b hit miss : tree.Block) (at : Place) (x c m : Name) (key : List tree.Expression) (close : Place) →
-    Fits room b → 1 ≤ (behind room b).lookups → Fits (behind_get (behind room b)) hit → Fits (behind (behind_get (behind room b)) hit) miss →
-    Fits room (tree.Get b at x c m key close hit miss)
-behind_one_get room b hit miss at x c m key close p one q r = record {
-  lookups = omega (arith, p.lookups, q.lookups, r.lookups);
-  news = omega (arith, p.news, q.news, r.news);
+fits_ask : (room : Room) (q : tree.Question) (hit miss next : tree.Block) → question_lookups q ≤ room.lookups →
+    Fits (behind_question room q) hit → Fits (behind (behind_question room q) hit) miss → Fits (behind (behind (behind_question room q) hit) miss) next →
+    Fits room (tree.Ask q hit miss next)
+fits_ask room q hit miss next some h m n = record {
+  lookups = omega (arith, some, h.lookups, m.lookups, n.lookups);
+  news = omega (arith, h.news, m.news, n.news);
 }
 
-behind_one_find : (room : Room) (b hit miss : tree.Block) (at : Place) (x c : Name) (i : tree.Expression) (gs : tree.Guards) →
-    Fits room b → 1 ≤ (behind room b).lookups → Fits (behind_get (behind room b)) hit → Fits (behind (behind_get (behind room b)) hit) miss →
-    Fits room (tree.Find b at x c i gs hit miss)
-behind_one_find room b hit miss at x c i gs p one q r = record {
-  lookups = omega (arith, p.lookups, q.lookups, r.lookups);
-  news = omega (arith, p.news, q.news, r.news);
-}
-
-behind_one_new : (room : Room) (b made taken full : tree.Block) (at : Place) (x c : Name) (gs : List tree.Given) (close : Place) →
-    Fits room b → (1 ≤ (behind room b).lookups) × (1 ≤ (behind room b).news) → Fits (behind_new (behind room b)) made →
-    Fits (behind (behind_new (behind room b)) made) taken → Fits (behind (behind (behind_new (behind room b)) made) taken) full →
-    Fits room (tree.New b at x c gs close made taken full)
-behind_one_new room b made taken full at x c gs close p one q r s = record {
-  lookups = omega (arith, one.0, p.lookups, q.lookups, r.lookups, s.lookups);
-  news = omega (arith, one.1, p.news, q.news, r.news, s.news);
-}
-
-behind_if : (room : Room) (b holds fails : tree.Block) (l r : tree.Expression) (comparison : Comparison) →
-    Fits room b → Fits (behind room b) holds → Fits (behind (behind room b) holds) fails → Fits room (tree.If b l comparison r holds fails)
-behind_if room b holds fails l r comparison p q s = record {
-  lookups = omega (arith, p.lookups, q.lookups, s.lookups);
-  news = omega (arith, p.news, q.news, s.news);
+fits_make : (room : Room) (c : tree.Creation) (made taken full next : tree.Block) → (1 ≤ room.lookups) × (1 ≤ room.news) →
+    Fits (behind_new room) made → Fits (behind (behind_new room) made) taken → Fits (behind (behind (behind_new room) made) taken) full →
+    Fits (behind (behind (behind (behind_new room) made) taken) full) next → Fits room (tree.Make c made taken full next)
+fits_make room c made taken full next some m t f n = record {
+  lookups = omega (arith, some.0, m.lookups, t.lookups, f.lookups, n.lookups);
+  news = omega (arith, some.1, m.news, t.news, f.news, n.news);
 }
 
 pub fits : (room : Room) (o : Objects) (xs : List Variable) (b : tree.Block) → first (block_faults room o xs b) ≡ None → Fits room b
-fits room o xs tree.Start e = record { lookups = omega arith; news = omega arith }
-fits room o xs tree.Missing e = record { lookups = omega arith; news = omega arith }
-fits room o xs (tree.Touch b x) e =
-    let p = fits room o xs b (front_none (block_faults room o xs b) (use_faults xs x) e) in
-    record { lookups = p.lookups; news = p.news }
-fits room o xs (tree.Get b at x c m key close hit miss) e =
-    let inner = behind_get (behind room b) in
-    let f = get_faults (behind room b) o xs at x c m key close in
-    let h = block_faults inner o (bound o xs x c) hit in
-    let s = block_faults (behind inner hit) o xs miss in
-    let back = back_none (block_faults room o xs b) (f ++ (h ++ s)) e in
-    let blocks = back_none f (h ++ s) back in
-    behind_one_get room b hit miss at x c m key close
-    (fits room o xs b (front_none (block_faults room o xs b) (f ++ (h ++ s)) e))
-    (some_get (behind room b) o xs at x c m key close (front_none f (h ++ s) back))
-    (fits inner o (bound o xs x c) hit (front_none h s blocks))
-    (fits (behind inner hit) o xs miss (back_none h s blocks))
-fits room o xs (tree.Find b at x c i gs hit miss) e =
-    let inner = behind_get (behind room b) in
-    let f = find_faults (behind room b) o xs at x c i gs in
-    let h = block_faults inner o (bound o xs x c) hit in
-    let s = block_faults (behind inner hit) o xs miss in
-    let back = back_none (block_faults room o xs b) (f ++ (h ++ s)) e in
-    let blocks = back_none f (h ++ s) back in
-    behind_one_find room b hit miss at x c i gs
-    (fits room o xs b (front_none (block_faults room o xs b) (f ++ (h ++ s)) e))
-    (some_find (behind room b) o xs at x c i gs (front_none f (h ++ s) back))
-    (fits inner o (bound o xs x c) hit (front_none h s blocks))
-    (fits (behind inner hit) o xs miss (back_none h s blocks))
-fits room o xs (tree.New b at x c gs close made taken full) e =
-    let inner = behind_new (behind room b) in
-    let f = new_faults (behind room b) o xs at x c gs close in
-    let m = block_faults inner o (bound o xs x c) made in
-    let t = block_faults (behind inner made) o xs taken in
-    let s = block_faults (behind (behind inner made) taken) o xs full in
-    let back = back_none (block_faults room o xs b) (f ++ (m ++ (t ++ s))) e in
-    let blocks = back_none f (m ++ (t ++ s)) back in
-    let others = back_none m (t ++ s) blocks in
-    behind_one_new room b made taken full at x c gs close
-    (fits room o xs b (front_none (block_faults room o xs b) (f ++ (m ++ (t ++ s))) e))
-    (some_new (behind room b) o xs at x c gs close (front_none f (m ++ (t ++ s)) back))
-    (fits inner o (bound o xs x c) made (front_none m (t ++ s) blocks))
-    (fits (behind inner made) o xs taken (front_none t s others))
-    (fits (behind (behind inner made) taken) o xs full (back_none t s others))
-fits room o xs (tree.If b l comparison r holds fails) e =
-    let left = value_faults o xs l in
-    let right = value_faults o xs r in
-    let h = block_faults (behind room b) o xs holds in
-    let s = block_faults (behind (behind room b) holds) o xs fails in
-    let blocks = back_none right (h ++ s) (back_none left (right ++ (h ++ s)) (back_none (block_faults room o xs b) (left ++ (right ++ (h ++ s))) e)) in
-    behind_if room b holds fails l r comparison
-    (fits room o xs b (front_none (block_faults room o xs b) (left ++ (right ++ (h ++ s))) e))
-    (fits (behind room b) o xs holds (front_none h s blocks))
-    (fits (behind (behind room b) holds) o xs fails (back_none h s blocks))
-fits room o xs (tree.Free b at x) e =
-    let p = fits room o xs b (front_none (block_faults room o xs b) (use_faults xs x) e) in
-    record { lookups = p.lookups; news = p.news }
-fits room o xs (tree.Set b f at v) e =
-    let p = fits room o xs b (front_none (block_faults room o xs b) (set_faults o xs f at v) e) in
-    record { lookups = p.lookups; news = p.news }
-fits room o xs (tree.Write b x y v) e =
-    let p = fits room o xs b (front_none (block_faults room o xs b) (write_faults o xs x y v) e) in
-    record { lookups = p.lookups; news = p.news }
-fits room o xs (tree.Store b a i v) e =
-    let p = fits room o xs b (front_none (block_faults room o xs b) (store_faults o xs a i v) e) in
-    record { lookups = p.lookups; news = p.news }
-fits room o xs (tree.Forward b v) e =
-    let p = fits room o xs b (front_none (block_faults room o xs b) (value_faults o xs v) e) in
-    record { lookups = p.lookups; news = p.news }
-fits room o xs (tree.Flood b) e = let p = fits room o xs b e in record { lookups = p.lookups; news = p.news }
-fits room o xs (tree.Discard b) e = let p = fits room o xs b e in record { lookups = p.lookups; news = p.news }
+fits room o xs (tree.End end) e = record { lookups = omega arith; news = omega arith }
+fits room o xs (tree.Do op next) e =
+    let n = fits room o xs next (back_none (operation_faults o xs op) (block_faults room o xs next) e) in
+    record { lookups = n.lookups; news = n.news }
+fits room o xs (tree.Ask q hit miss next) e =
+    let inner = behind_question room q in
+    let none = ask_faultless room o xs q hit miss next e in
+    fits_ask room q hit miss next (some_question room o xs q none.question)
+    (fits inner o (bound_by o xs q) hit none.hit)
+    (fits (behind inner hit) o xs miss none.miss)
+    (fits (behind (behind inner hit) miss) o xs next none.next)
+fits room o xs (tree.Make c made taken full next) e =
+    let inner = behind_new room in
+    let none = make_faultless room o xs c made taken full next e in
+    fits_make room c made taken full next (some_new room o xs c none.creation)
+    (fits inner o (bound o xs c.variable c.chain) made none.made)
+    (fits (behind inner made) o xs taken none.taken)
+    (fits (behind (behind inner made) taken) o xs full none.full)
+    (fits (behind (behind (behind inner made) taken) full) o xs next none.next)
 
 small : (ports : ℕ) (o : Objects) (before : List tree.Handler) (h : tree.Handler) → first (handler_faults ports o before h) ≡ None → IsSmall h.block
 unfolding handler_faults

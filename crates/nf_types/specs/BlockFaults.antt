@@ -2,101 +2,74 @@
 use Rattle.std.specs.Prelude.{◌==◌, ◌||◌, List, [], ◌++◌}
 use Rattle.nf_tokens.specs.declared.token.Place.{Place}
 use Rattle.nf_tree.specs.declared.place.Name.{Name}
-use Rattle.nf_tree.specs.Tree as tree
-use Rattle.nf_types.specs.declared.counts.Room.{Room}
+use Rattle.nf_tree.specs.Tree.{Expression, Guards, Ending, FallsOff, Missing, Flood, Discard, Forward, Operation, Touch, Free, Set, Write, Store, Question, Get, Find, Test, Creation, Block, End, Do, Ask, Make}
+use Rattle.nf_types.specs.declared.room.Room.{Room}
 use Rattle.nf_types.specs.declared.fault.TypingKind.TheVariants.{Limit}
 use Rattle.nf_types.specs.declared.fault.Fault.{Fault}
 use Rattle.nf_types.specs.Faults.{fault_if}
 use Rattle.nf_types.specs.declared.objects.Objects.{Objects}
 use Rattle.nf_types.specs.Variables.{Variable}
 use Rattle.nf_types.specs.Expressions.{value_faults}
-use Rattle.nf_types.specs.Counts.{behind, behind_get, behind_new}
+use Rattle.nf_types.specs.Counts.{behind, behind_question, behind_new}
 use Rattle.nf_types.specs.StatementFaults.{binding_faults, use_faults, look_up_faults, making_faults, finding_faults, set_faults, write_faults, store_faults}
-use Rattle.nf_types.specs.Blocks.{bound}
+use Rattle.nf_types.specs.Blocks.{bound, bound_by}
 
--- the front of a `get`, where so many may still come
-unfoldable pub get_faults : Room → Objects → List Variable → (at : Place) → (x c m : Name) → List tree.Expression → (close : Place) → List Fault
+-- an end
+abbrev pub ending_faults : Objects → List Variable → Ending → List Fault
+ending_faults o xs FallsOff = []
+ending_faults o xs Missing = []
+ending_faults o xs Flood = []
+ending_faults o xs Discard = []
+ending_faults o xs (Forward v) = value_faults o xs v
+
+-- a statement with no block
+abbrev pub operation_faults : Objects → List Variable → Operation → List Fault
+operation_faults o xs (Touch x) = use_faults xs x
+operation_faults o xs (Free at x) = use_faults xs x
+operation_faults o xs (Set f at v) = set_faults o xs f at v
+operation_faults o xs (Write x y v) = write_faults o xs x y v
+operation_faults o xs (Store a i v) = store_faults o xs a i v
+
+-- a `get` without its blocks, where so many may still come
+unfoldable pub get_faults : Room → Objects → List Variable → (at : Place) → (x c m : Name) → List Expression → (close : Place) → List Fault
 get_faults room o xs at x c m key close =
     fault_if (room.lookups == 0) Limit at
     ++ (binding_faults o xs x
     ++ look_up_faults o xs c m key close)
 
--- the front of a `find`
-unfoldable pub find_faults : Room → Objects → List Variable → (at : Place) → (x c : Name) → tree.Expression → tree.Guards → List Fault
+-- a `find` without its blocks
+unfoldable pub find_faults : Room → Objects → List Variable → (at : Place) → (x c : Name) → Expression → Guards → List Fault
 find_faults room o xs at x c i gs =
     fault_if (room.lookups == 0) Limit at
     ++ (binding_faults o xs x
     ++ finding_faults o xs c i gs)
 
--- the front of a `new`
-unfoldable pub new_faults : Room → Objects → List Variable → (at : Place) → (x c : Name) → List tree.Given → (close : Place) → List Fault
-new_faults room o xs at x c gs close =
-    fault_if (room.lookups == 0 || room.news == 0) Limit at
-    ++ (binding_faults o xs x
-    ++ making_faults o xs c gs close)
+-- a statement with two blocks, without the blocks
+abbrev pub question_faults : Room → Objects → List Variable → Question → List Fault
+question_faults room o xs (Get at x c m key close) = get_faults room o xs at x c m key close
+question_faults room o xs (Find at x c i gs) = find_faults room o xs at x c i gs
+question_faults room o xs (Test l comparison r) = value_faults o xs l ++ value_faults o xs r
+
+-- a `new` without its blocks
+unfoldable pub creation_faults : Room → Objects → List Variable → Creation → List Fault
+creation_faults room o xs n =
+    fault_if (room.lookups == 0 || room.news == 0) Limit n.place
+    ++ (binding_faults o xs n.variable
+    ++ making_faults o xs n.chain n.given n.close)
 
 -- The faults of a block, where so many `get`, `find` and `new` may still come: over these chains and arrays, with
 -- these variables in scope. A variable is in scope in the first block of its statement alone.
-abbrev pub block_faults : Room → Objects → List Variable → tree.Block → List Fault
-block_faults room o xs tree.Start = []
-block_faults room o xs tree.Missing = []
-block_faults room o xs (tree.Touch b x) = block_faults room o xs b ++ use_faults xs x
-block_faults room o xs (tree.Get b at x c m key close hit miss) =
-    block_faults room o xs b
-    ++ (get_faults (behind room b) o xs at x c m key close
-    ++ (block_faults (behind_get (behind room b)) o (bound o xs x c) hit
-    ++ block_faults (behind (behind_get (behind room b)) hit) o xs miss))
-block_faults room o xs (tree.Find b at x c i gs hit miss) =
-    block_faults room o xs b
-    ++ (find_faults (behind room b) o xs at x c i gs
-    ++ (block_faults (behind_get (behind room b)) o (bound o xs x c) hit
-    ++ block_faults (behind (behind_get (behind room b)) hit) o xs miss))
-block_faults room o xs (tree.New b at x c gs close made taken full) =
-    block_faults room o xs b
-    ++ (new_faults (behind room b) o xs at x c gs close
-    ++ (block_faults (behind_new (behind room b)) o (bound o xs x c) made
-    ++ (block_faults (behind (behind_new (behind room b)) made) o xs taken
-    ++ block_faults (behind (behind (behind_new (behind room b)) made) taken) o xs full)))
-block_faults room o xs (tree.If b l comparison r holds fails) =
-    block_faults room o xs b
-    ++ (value_faults o xs l
-    ++ (value_faults o xs r
-    ++ (block_faults (behind room b) o xs holds
-    ++ block_faults (behind (behind room b) holds) o xs fails)))
-block_faults room o xs (tree.Free b at x) = block_faults room o xs b ++ use_faults xs x
-block_faults room o xs (tree.Set b f at v) = block_faults room o xs b ++ set_faults o xs f at v
-block_faults room o xs (tree.Write b x y v) = block_faults room o xs b ++ write_faults o xs x y v
-block_faults room o xs (tree.Store b a i v) = block_faults room o xs b ++ store_faults o xs a i v
-block_faults room o xs (tree.Forward b v) = block_faults room o xs b ++ value_faults o xs v
-block_faults room o xs (tree.Flood b) = block_faults room o xs b
-block_faults room o xs (tree.Discard b) = block_faults room o xs b
-
--- a `get` with its blocks
-abbrev pub got_faults : Room → Objects → List Variable → (at : Place) → (x c m : Name) → List tree.Expression → (close : Place) → (hit miss : tree.Block) → List Fault
-got_faults room o xs at x c m key close hit miss =
-    get_faults room o xs at x c m key close
-    ++ (block_faults (behind_get room) o (bound o xs x c) hit
-    ++ block_faults (behind (behind_get room) hit) o xs miss)
-
--- a `find` with its blocks
-abbrev pub sought_faults : Room → Objects → List Variable → (at : Place) → (x c : Name) → tree.Expression → tree.Guards → (hit miss : tree.Block) → List Fault
-sought_faults room o xs at x c i gs hit miss =
-    find_faults room o xs at x c i gs
-    ++ (block_faults (behind_get room) o (bound o xs x c) hit
-    ++ block_faults (behind (behind_get room) hit) o xs miss)
-
--- a `new` with its blocks
-abbrev pub made_faults : Room → Objects → List Variable → (at : Place) → (x c : Name) → List tree.Given → (close : Place) → (made taken full : tree.Block) → List Fault
-made_faults room o xs at x c gs close made taken full =
-    new_faults room o xs at x c gs close
-    ++ (block_faults (behind_new room) o (bound o xs x c) made
+abbrev pub block_faults : Room → Objects → List Variable → Block → List Fault
+block_faults room o xs (End e) = ending_faults o xs e
+block_faults room o xs (Do op next) = operation_faults o xs op ++ block_faults room o xs next
+block_faults room o xs (Ask q hit miss next) =
+    (question_faults room o xs q
+    ++ (block_faults (behind_question room q) o (bound_by o xs q) hit
+    ++ block_faults (behind (behind_question room q) hit) o xs miss))
+    ++ block_faults (behind (behind (behind_question room q) hit) miss) o xs next
+block_faults room o xs (Make n made taken full next) =
+    (creation_faults room o xs n
+    ++ (block_faults (behind_new room) o (bound o xs n.variable n.chain) made
     ++ (block_faults (behind (behind_new room) made) o xs taken
-    ++ block_faults (behind (behind (behind_new room) made) taken) o xs full))
-
--- an `if` with its blocks
-abbrev pub if_faults : Room → Objects → List Variable → (l r : tree.Expression) → (holds fails : tree.Block) → List Fault
-if_faults room o xs l r holds fails =
-    value_faults o xs l
-    ++ (value_faults o xs r
-    ++ (block_faults room o xs holds
-    ++ block_faults (behind room holds) o xs fails))
+    ++ block_faults (behind (behind (behind_new room) made) taken) o xs full)))
+    ++ block_faults (behind (behind (behind (behind_new room) made) taken) full) o xs next

@@ -37,7 +37,7 @@ width_faults n = fault_if (not (is_width n.value)) Limit n.place
 
 -- the labels and columns of a chain share one space of names, its maps another
 abbrev pub names_column : ChainDecl → List ℕ → Bool
-names_column d x = is_among x (map (λ (c : ColumnDecl). c.name) d.labels) || is_among x (map (λ (c : ColumnDecl). c.name) d.free)
+names_column d x = is_among x (map (λ (c : ColumnDecl). c.name) d.labels) || is_among x (map (λ (c : ColumnDecl). c.name) d.columns)
 
 abbrev pub names_map : ChainDecl → List ℕ → Bool
 names_map d x = is_among x (map (λ (m : MapDecl). m.name) d.maps)
@@ -68,7 +68,7 @@ map_faults maps d m = map_name_faults maps d m ++ labels_faults d 0 m.labels
 -- how many columns of a kind stand before
 abbrev pub columns_before : ColumnKind → (fixed : ℕ) → ChainDecl → ℕ
 columns_before Fixed fixed d = fixed
-columns_before Free fixed d = length d.free
+columns_before Free fixed d = length d.columns
 
 -- a column is the eighth of its kind in its chain at most
 unfoldable pub column_faults : ℕ → ChainDecl → ColumnTree → List Fault

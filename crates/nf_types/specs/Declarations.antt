@@ -4,6 +4,7 @@ use Rattle.nf_base.specs.declared.width.Width.{Width}
 use Rattle.nf_base.specs.declared.width.Width.TheVariants.{W8, W16, W32, W48, W64}
 use Rattle.nf_base.specs.declared.decl.ColumnDecl.{ColumnDecl}
 use Rattle.nf_base.specs.declared.decl.ColumnId.TheVariants as ids
+use Rattle.nf_base.specs.declared.decl.ObjectId.TheVariants as object
 use Rattle.nf_base.specs.declared.decl.ChainDecl.{ChainDecl}
 use Rattle.nf_base.specs.declared.decl.ArrayDecl.{ArrayDecl}
 use Rattle.nf_base.specs.Values.{narrowed}
@@ -37,7 +38,7 @@ column_of x n = record { name = x.bytes; width = width_of n.value }
 
 -- a chain with one label more
 abbrev pub with_label : ChainDecl → ColumnDecl → ChainDecl
-with_label d l = record d { labels = d.labels ++ l ∷ []; columns = d.columns ++ ids.Label (length d.labels) ∷ [] }
+with_label d l = record d { labels = d.labels ++ l ∷ []; order = d.order ++ ids.Label (length d.labels) ∷ [] }
 
 -- a chain with one map more, whose key is so many labels from a first one on
 abbrev pub with_map : ChainDecl → List ℕ → (first parts : ℕ) → ChainDecl
@@ -49,7 +50,7 @@ with_label_of d l = with_label d (column_of l.name l.width)
 -- a chain with one column more
 abbrev pub with_column : ColumnKind → ChainDecl → ColumnDecl → ChainDecl
 with_column Fixed d c = with_label d c
-with_column Free d c = record d { free = d.free ++ c ∷ []; columns = d.columns ++ ids.Free (length d.free) ∷ [] }
+with_column Free d c = record d { columns = d.columns ++ c ∷ []; order = d.order ++ ids.Column (length d.columns) ∷ [] }
 
 -- a chain with one part more: the labels of a map are its key
 abbrev pub with_part : ChainDecl → Part → ChainDecl
@@ -57,7 +58,7 @@ with_part d (parts.Map m) = with_map (fold with_label_of d m.labels) m.name.byte
 with_part d (parts.Column c) = with_column c.kind d (column_of c.name c.width)
 
 abbrev pub with_no_parts : ChainTree → ChainDecl
-with_no_parts c = record { name = c.name.bytes; size = c.size.value; lifetime = c.lifetime.value; labels = []; free = []; maps = []; columns = [] }
+with_no_parts c = record { name = c.name.bytes; size = c.size.value; lifetime = c.lifetime.value; labels = []; columns = []; maps = []; order = [] }
 
 -- the labels are the key parts of the maps and the fixed columns, in text order
 unfoldable pub chain_of : ChainTree → ChainDecl
@@ -73,11 +74,19 @@ array_of a = record {
 
 -- the chains and arrays so far, with one declaration more
 abbrev pub with_declaration : Objects → Declaration → Objects
-with_declaration o (declarations.Chain c) = record { chains = o.chains ++ chain_of c ∷ []; arrays = o.arrays }
-with_declaration o (declarations.Array a) = record { chains = o.chains; arrays = o.arrays ++ array_of a ∷ [] }
+with_declaration o (declarations.Chain c) = record {
+  chains = o.chains ++ chain_of c ∷ [];
+  arrays = o.arrays;
+  order = o.order ++ object.Chain (length o.chains) ∷ [];
+}
+with_declaration o (declarations.Array a) = record {
+  chains = o.chains;
+  arrays = o.arrays ++ array_of a ∷ [];
+  order = o.order ++ object.Array (length o.arrays) ∷ [];
+}
 
 abbrev pub no_objects : Objects
-no_objects = record { chains = []; arrays = [] }
+no_objects = record { chains = []; arrays = []; order = [] }
 
 -- the chains and arrays that a handler's text may name
 abbrev pub objects_of : List Declaration → Objects

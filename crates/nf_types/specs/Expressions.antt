@@ -54,7 +54,7 @@ product_operator products.And = operators.And
 abbrev pub column_value : ℕ → Option ColumnId → Expression
 column_value var None = Number 0
 column_value var (Some (ids.Label i)) = Label var i
-column_value var (Some (ids.Free i)) = Column var i
+column_value var (Some (ids.Column i)) = Column var i
 
 abbrev pub column_in : Option ChainDecl → List ℕ → Option ColumnId
 column_in None y = None

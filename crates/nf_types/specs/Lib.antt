@@ -6,6 +6,7 @@ pub mod Variables
 pub mod Expressions
 pub mod Statements
 pub mod StatementFaults
+pub mod Places
 pub mod Counts
 pub mod Blocks
 pub mod BlockFaults
@@ -14,8 +15,7 @@ pub mod TextFaults
 pub mod Small
 pub mod View
 pub mod Answers
-pub mod Fronts
+pub mod Parts
 pub mod Roomy
 pub mod Rows
 pub mod Samples
-pub mod Fields

@@ -13,7 +13,7 @@ use Rattle.nf_tree.specs.declared.place.Name.{Name}
 use Rattle.nf_tree.specs.Tree as tree
 use Rattle.nf_types.specs.declared.fault.TypingKind.TheVariants.{Unknown, Twice, Amount, FreeColumn, ReadOnly, NotInScope}
 use Rattle.nf_types.specs.declared.fault.Fault.{Fault}
-use Rattle.nf_types.specs.Fields.{is_settable}
+use Rattle.nf_base.specs.Values.{is_settable}
 use Rattle.nf_types.specs.Names.{is_among}
 use Rattle.nf_types.specs.Faults.{fault_if, each_behind}
 use Rattle.nf_types.specs.declared.objects.Objects.{Objects}
@@ -61,9 +61,9 @@ is_column_in cs x = is_among x (map (λ (c : ColumnDecl). c.name) cs)
 -- what a `new` or a `where` gives: each name is a label's, and stands once
 unfoldable pub given_faults : Objects → List Variable → ChainDecl → List tree.Given → tree.Given → List Fault
 given_faults o xs d before g =
-    fault_if (not (is_column_in d.labels g.name.bytes) && not (is_column_in d.free g.name.bytes)) Unknown g.name.place
+    fault_if (not (is_column_in d.labels g.name.bytes) && not (is_column_in d.columns g.name.bytes)) Unknown g.name.place
     ++ (fault_if (is_given before g.name.bytes) Twice g.name.place
-    ++ (fault_if (not (is_column_in d.labels g.name.bytes) && is_column_in d.free g.name.bytes) FreeColumn g.name.place
+    ++ (fault_if (not (is_column_in d.labels g.name.bytes) && is_column_in d.columns g.name.bytes) FreeColumn g.name.place
     ++ value_faults o xs g.value))
 
 -- whether some label is given no value
@@ -96,7 +96,7 @@ set_faults o xs f at v = fault_if (not (is_settable f)) ReadOnly at ++ value_fau
 abbrev pub written_faults : Option ColumnId → Name → List Fault
 written_faults None y = fault_if true Unknown y.place
 written_faults (Some (ids.Label i)) y = fault_if true ReadOnly y.place
-written_faults (Some (ids.Free i)) y = []
+written_faults (Some (ids.Column i)) y = []
 
 abbrev pub written_in_faults : Option ChainDecl → Name → List Fault
 written_in_faults None y = []

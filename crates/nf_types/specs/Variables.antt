@@ -25,14 +25,18 @@ abbrev pub variable_named : List Variable → List ℕ → Option (Option ChainD
 variable_named [] x = None
 variable_named (y ∷ ys) x = if bytes_eq x y.name then Some y.chain else variable_named ys x
 
-abbrev pub free_named : Option (ℕ × ColumnDecl) → Option ColumnId
-free_named None = None
-free_named (Some found) = Some (ids.Free found.0)
+-- a free column that was found
+abbrev pub as_column : Option (ℕ × ColumnDecl) → Option ColumnId
+as_column None = None
+as_column (Some found) = Some (ids.Column found.0)
 
-abbrev pub label_or_free : Option (ℕ × ColumnDecl) → Option ColumnId → Option ColumnId
-label_or_free None free = free
-label_or_free (Some found) free = Some (ids.Label found.0)
+-- a label that was found, or else a column
+abbrev pub label_or : Option (ℕ × ColumnDecl) → Option ColumnId → Option ColumnId
+label_or None column = column
+label_or (Some found) column = Some (ids.Label found.0)
 
 -- a label or a free column of a chain
 abbrev pub column_named : ChainDecl → List ℕ → Option ColumnId
-column_named d y = label_or_free (named (λ (c : ColumnDecl). c.name) y d.labels) (free_named (named (λ (c : ColumnDecl). c.name) y d.free))
+column_named d y =
+    label_or (named (λ (c : ColumnDecl). c.name) y d.labels)
+    (as_column (named (λ (c : ColumnDecl). c.name) y d.columns))

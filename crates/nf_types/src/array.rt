@@ -14,25 +14,13 @@ use crate::name::declared;
 use crate::objects::{Objects, is_object};
 use nf_base::decl::ArrayDecl;
 use nf_base::indexed::Indexed;
+use nf_base::value::narrowed;
 use nf_base::width::Width;
 use nf_tree::{ArrayTree, Literal};
 use std::alloc::{AllocError, Global};
 
 /// How many arrays a function may have.
 const MOST_ARRAYS: u32 = 8;
-
-/// A number taken to a width.
-fn narrowed(width: Width, number: u64) -> u64
-    ensures { result ≡ narrowed width number }
-{
-    match width {
-        Width::W8 => number % 256,
-        Width::W16 => number % 65536,
-        Width::W32 => number % 4294967296,
-        Width::W48 => number % 281474976710656,
-        Width::W64 => number,
-    }
-}
 
 /// The first number past the size is too many.
 fn contents(size: u32, contents: &[Literal]) -> Result<(), Fault>

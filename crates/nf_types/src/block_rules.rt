@@ -1,287 +1,217 @@
 //! What is wrong with a handler's blocks.
 
-ghost use Rattle.std.specs.Prelude.{◌≡◌, map, IfOk};
-ghost use Rattle.std.specs.Option.{option_or};
+ghost use Rattle.std.specs.Prelude.{◌≡◌, ◌++◌, IfOk};
 ghost use Rattle.nf_tree.specs.View as syntax;
-ghost use Rattle.nf_types.specs.BlockFaults.{get_faults, got_faults, find_faults, sought_faults, new_faults, made_faults, if_faults, block_faults};
-ghost use Rattle.nf_types.specs.Counts.{behind, behind_get, behind_new};
+ghost use Rattle.nf_types.specs.Blocks.{bound, bound_by};
+ghost use Rattle.nf_types.specs.BlockFaults.{ending_faults, operation_faults, get_faults, find_faults, question_faults, creation_faults, block_faults};
+ghost use Rattle.nf_types.specs.Counts.{behind, behind_question, behind_new};
 ghost use Rattle.nf_types.specs.Faults.{first, fault_in};
 ghost use Rattle.nf_types.specs.View.{variables_of};
 
-use crate::code::chain_with_name;
-use crate::counts::{Room, lookups_left};
 use crate::fault::{Fault, TypingKind, refuse_if};
 use crate::objects::Objects;
-use crate::statement_rules::{binding, find as seek, look_up, make, set, store, write};
-use crate::text::{FindText, GetText, IfText, NewText};
+use crate::room::Room;
+use crate::statement_rules::{binding, find, look_up, make, set, store, write};
 use crate::value_rules::{in_scope, value};
-use crate::variables::Variables;
-use nf_tree::Block;
+use crate::variables::{Variables, bound, bound_by};
+use nf_tree::{Block, Creation, Ending, Operation, Question};
 
-/// Of two faults the one that stands earlier in the text.
-fn earlier(front: Result<(), Fault>, later: Result<(), Fault>) -> Result<(), Fault>
-    ensures { fault_in result ≡ option_or (fault_in front) (fault_in later) }
+/// The first fault of an end.
+fn ending(objects: &Objects, scope: &Variables, ending: &Ending) -> Result<(), Fault>
+    ensures { first (ending_faults objects.now (variables_of scope.now) (syntax.ending_of ending.now))
+        ≡ fault_in result }
 {
-    match front {
-        Ok(()) => later,
-        Err(fault) => Err(fault),
+    match ending {
+        Ending::Forward(port) => value(objects, scope, port),
+        Ending::FallsOff => Ok(()),
+        Ending::Missing => Ok(()),
+        Ending::Flood => Ok(()),
+        Ending::Discard => Ok(()),
     }
 }
 
-/// The front of a `get`, and what may still come behind it.
-#[tactic(auto, using(crate::proofs::First::first_append), unfolding(crate::specs::BlockFaults::get_faults))]
-fn get_front(objects: &Objects, room: Room, scope: &Variables, x: &GetText) -> Result<Room, Fault>
-    ensures fault { first (get_faults (behind room (syntax.block_of x.now.before.now)) objects.now (variables_of scope.now) x.now.place x.now.variable.now x.now.chain.now x.now.wanted.now (map syntax.expression_of x.now.key.now) x.now.close) ≡ fault_in result }
-    ensures left { IfOk result (λ left. left ≡ behind_get (behind room (syntax.block_of x.now.before.now))) }
+/// The first fault of a statement with no block.
+fn operation(objects: &Objects, scope: &Variables, operation: &Operation) -> Result<(), Fault>
+    ensures { first (operation_faults objects.now (variables_of scope.now) (syntax.operation_of operation.now))
+        ≡ fault_in result }
 {
-    let left = lookups_left(room.lookups, x.before);
-    refuse_if(left == 0, TypingKind::Limit, x.place)?;
-    binding(objects, scope, x.variable)?;
-    look_up(objects, scope, x.chain, x.wanted, x.key.as_slice(), x.close)?;
-    Ok(room.behind(x.before).behind_get())
+    match operation {
+        Operation::Touch { variable } => in_scope(scope, variable),
+        Operation::Free { variable, .. } => in_scope(scope, variable),
+        Operation::Set {
+            field,
+            place,
+            value,
+        } => set(objects, scope, *field, *place, value),
+        Operation::Write {
+            variable,
+            column,
+            value,
+        } => write(objects, scope, variable, column, value),
+        Operation::Store {
+            array,
+            index,
+            value,
+        } => store(objects, scope, array, index, value),
+    }
 }
 
-/// The front of a `find`, and what may still come behind it.
-#[tactic(auto, using(crate::proofs::First::first_append), unfolding(crate::specs::BlockFaults::find_faults))]
-fn find_front(objects: &Objects, room: Room, scope: &Variables, x: &FindText) -> Result<Room, Fault>
-    ensures fault { first (find_faults (behind room (syntax.block_of x.now.before.now)) objects.now (variables_of scope.now) x.now.place x.now.variable.now x.now.chain.now (syntax.expression_of x.now.index.now) (syntax.guards_of x.now.guards.now)) ≡ fault_in result }
-    ensures left { IfOk result (λ left. left ≡ behind_get (behind room (syntax.block_of x.now.before.now))) }
+/// The first fault of a question, without its blocks.
+#[tactic(auto, using(crate::proofs::First::first_append), unfolding(crate::specs::BlockFaults::get_faults, crate::specs::BlockFaults::find_faults))]
+fn question(
+    objects: &Objects,
+    room: Room,
+    scope: &Variables,
+    question: &Question,
+) -> Result<(), Fault>
+    ensures { first (question_faults room objects.now (variables_of scope.now) (syntax.question_of question.now))
+        ≡ fault_in result }
 {
-    let left = lookups_left(room.lookups, x.before);
-    refuse_if(left == 0, TypingKind::Limit, x.place)?;
-    binding(objects, scope, x.variable)?;
-    seek(objects, scope, x.chain, x.index, x.guards)?;
-    Ok(room.behind(x.before).behind_get())
+    match question {
+        Question::Get {
+            place,
+            variable,
+            chain,
+            map,
+            key,
+            close,
+        } => {
+            refuse_if(room.lookups == 0, TypingKind::Limit, *place)?;
+            binding(objects, scope, variable)?;
+            look_up(objects, scope, chain, map, key.as_slice(), *close)
+        }
+        Question::Find {
+            place,
+            variable,
+            chain,
+            index,
+            guards,
+        } => {
+            refuse_if(room.lookups == 0, TypingKind::Limit, *place)?;
+            binding(objects, scope, variable)?;
+            find(objects, scope, chain, index, guards)
+        }
+        Question::Test { left, right, .. } => {
+            value(objects, scope, left)?;
+            value(objects, scope, right)
+        }
+    }
 }
 
-/// The front of a `new`, and what may still come behind it.
-#[tactic(auto, using(crate::proofs::First::first_append), unfolding(crate::specs::BlockFaults::new_faults))]
-fn new_front(objects: &Objects, room: Room, scope: &Variables, x: &NewText) -> Result<Room, Fault>
-    ensures fault { first (new_faults (behind room (syntax.block_of x.now.before.now)) objects.now (variables_of scope.now) x.now.place x.now.variable.now x.now.chain.now (map syntax.given_of x.now.given.now) x.now.close) ≡ fault_in result }
-    ensures left { IfOk result (λ left. left ≡ behind_new (behind room (syntax.block_of x.now.before.now))) }
+/// The first fault of a `new`, without its blocks.
+#[tactic(auto, using(crate::proofs::First::first_append), unfolding(crate::specs::BlockFaults::creation_faults))]
+fn creation(objects: &Objects, room: Room, scope: &Variables, one: &Creation) -> Result<(), Fault>
+    ensures { first (creation_faults room objects.now (variables_of scope.now) (syntax.creation_of one.now))
+        ≡ fault_in result }
 {
-    let left = lookups_left(room.lookups, x.before);
-    refuse_if(left == 0, TypingKind::Limit, x.place)?;
-    let room = room.behind(x.before);
-    refuse_if(room.news == 0, TypingKind::Limit, x.place)?;
-    binding(objects, scope, x.variable)?;
-    make(objects, scope, x.chain, x.given.as_slice(), x.close)?;
-    Ok(room.behind_new())
+    let is_full = room.lookups == 0 || room.news == 0;
+    refuse_if(is_full, TypingKind::Limit, one.place)?;
+    binding(objects, scope, &one.variable)?;
+    make(objects, scope, &one.chain, one.given.as_slice(), one.close)
 }
 
-/// A `get` with its blocks.
+/// A question with its blocks: its first fault, or what may still come behind it.
 #[cycle(rules)]
 #[tactic(auto, using(crate::proofs::First::first_append))]
-fn get(objects: &Objects, room: Room, scope: &Variables, x: &GetText) -> Result<(), Fault>
-    ensures { first (got_faults (behind room (syntax.block_of x.now.before.now)) objects.now (variables_of scope.now) x.now.place x.now.variable.now x.now.chain.now x.now.wanted.now (map syntax.expression_of x.now.key.now) x.now.close (syntax.block_of x.now.hit.now) (syntax.block_of x.now.miss.now)) ≡ fault_in result }
+fn ask(
+    objects: &Objects,
+    room: Room,
+    scope: &Variables,
+    asked: &Question,
+    hit: &Block,
+    miss: &Block,
+) -> Result<Room, Fault>
+    ensures fault { first (question_faults room objects.now (variables_of scope.now) (syntax.question_of asked.now)
+        ++ (block_faults (behind_question room (syntax.question_of asked.now)) objects.now
+        (bound_by objects.now (variables_of scope.now) (syntax.question_of asked.now))
+        (syntax.block_of hit.now)
+        ++ block_faults (behind (behind_question room (syntax.question_of asked.now)) (syntax.block_of hit.now))
+        objects.now (variables_of scope.now) (syntax.block_of miss.now)))
+        ≡ fault_in result }
+    ensures left { IfOk result (λ left. left
+        ≡ behind (behind (behind_question room (syntax.question_of asked.now)) (syntax.block_of hit.now))
+        (syntax.block_of miss.now)) }
 {
-    let room = get_front(objects, room, scope, x)?;
-    let inner = Variables::Bound {
-        name: &x.variable.bytes,
-        chain: chain_with_name(objects, x.chain),
-        outer: &*scope,
-    };
-    block(objects, room, &inner, x.hit)?;
-    block(objects, room.behind(x.hit), scope, x.miss)
+    question(objects, room, scope, asked)?;
+    let inner = bound_by(&*objects, &*scope, &*asked);
+    let left = block(objects, room.behind_question(asked), &inner, hit)?;
+    block(objects, left, scope, miss)
 }
 
-/// A `find` with its blocks.
+/// A `new` with its blocks: its first fault, or what may still come behind it.
 #[cycle(rules)]
 #[tactic(auto, using(crate::proofs::First::first_append))]
-fn find(objects: &Objects, room: Room, scope: &Variables, x: &FindText) -> Result<(), Fault>
-    ensures { first (sought_faults (behind room (syntax.block_of x.now.before.now)) objects.now (variables_of scope.now) x.now.place x.now.variable.now x.now.chain.now (syntax.expression_of x.now.index.now) (syntax.guards_of x.now.guards.now) (syntax.block_of x.now.hit.now) (syntax.block_of x.now.miss.now)) ≡ fault_in result }
+fn make_in(
+    objects: &Objects,
+    room: Room,
+    scope: &Variables,
+    one: &Creation,
+    made: &Block,
+    taken: &Block,
+    full: &Block,
+) -> Result<Room, Fault>
+    ensures fault { first (creation_faults room objects.now (variables_of scope.now) (syntax.creation_of one.now)
+        ++ (block_faults (behind_new room) objects.now
+        (bound objects.now (variables_of scope.now) one.now.variable one.now.chain) (syntax.block_of made.now)
+        ++ (block_faults (behind (behind_new room) (syntax.block_of made.now)) objects.now
+        (variables_of scope.now) (syntax.block_of taken.now)
+        ++ block_faults
+        (behind (behind (behind_new room) (syntax.block_of made.now)) (syntax.block_of taken.now))
+        objects.now (variables_of scope.now) (syntax.block_of full.now))))
+        ≡ fault_in result }
+    ensures left { IfOk result (λ left. left
+        ≡ behind (behind (behind (behind_new room) (syntax.block_of made.now)) (syntax.block_of taken.now))
+        (syntax.block_of full.now)) }
 {
-    let room = find_front(objects, room, scope, x)?;
-    let inner = Variables::Bound {
-        name: &x.variable.bytes,
-        chain: chain_with_name(objects, x.chain),
-        outer: &*scope,
-    };
-    block(objects, room, &inner, x.hit)?;
-    block(objects, room.behind(x.hit), scope, x.miss)
+    creation(objects, room, scope, one)?;
+    let inner = bound(&*objects, &*scope, &one.variable, &one.chain);
+    let left = block(objects, room.behind_new(), &inner, made)?;
+    let left = block(objects, left, scope, taken)?;
+    block(objects, left, scope, full)
 }
 
-/// An `if` with its blocks.
+/// The first fault of a block, or what may still come behind it, in a loop along its statements.
 #[cycle(rules)]
-#[tactic(auto, using(crate::proofs::First::first_append))]
-fn if_then(objects: &Objects, room: Room, scope: &Variables, x: &IfText) -> Result<(), Fault>
-    ensures { first (if_faults (behind room (syntax.block_of x.now.before.now)) objects.now (variables_of scope.now) (syntax.expression_of x.now.left.now) (syntax.expression_of x.now.right.now) (syntax.block_of x.now.holds.now) (syntax.block_of x.now.fails.now)) ≡ fault_in result }
+#[tactic(auto, using(crate::proofs::First::first_append, crate::proofs::Rooms::behind_ask, crate::proofs::Rooms::behind_make))]
+pub fn block(objects: &Objects, room: Room, scope: &Variables, block: &Block) -> Result<Room, Fault>
+    ensures fault { first (block_faults room objects.now (variables_of scope.now) (syntax.block_of block.now))
+        ≡ fault_in result }
+    ensures left { IfOk result (λ left. left ≡ behind room (syntax.block_of block.now)) }
 {
-    let room = room.behind(x.before);
-    value(objects, scope, x.left)?;
-    value(objects, scope, x.right)?;
-    block(objects, room, scope, x.holds)?;
-    block(objects, room.behind(x.holds), scope, x.fails)
-}
-
-/// A `new` with its blocks.
-#[cycle(rules)]
-#[tactic(auto, using(crate::proofs::First::first_append))]
-fn new(objects: &Objects, room: Room, scope: &Variables, x: &NewText) -> Result<(), Fault>
-    ensures { first (made_faults (behind room (syntax.block_of x.now.before.now)) objects.now (variables_of scope.now) x.now.place x.now.variable.now x.now.chain.now (map syntax.given_of x.now.given.now) x.now.close (syntax.block_of x.now.made.now) (syntax.block_of x.now.taken.now) (syntax.block_of x.now.full.now)) ≡ fault_in result }
-{
-    let room = new_front(objects, room, scope, x)?;
-    let inner = Variables::Bound {
-        name: &x.variable.bytes,
-        chain: chain_with_name(objects, x.chain),
-        outer: &*scope,
-    };
-    block(objects, room, &inner, x.made)?;
-    let room = room.behind(x.made);
-    block(objects, room, scope, x.taken)?;
-    block(objects, room.behind(x.taken), scope, x.full)
-}
-
-/// The first fault of a block, in a loop from its last statement to its first: what is found earlier in
-/// the text takes the place of what was found.
-#[cycle(rules)]
-#[tactic(auto, using(crate::proofs::First::first_append))]
-pub fn block(objects: &Objects, room: Room, scope: &Variables, block: &Block) -> Result<(), Fault>
-    ensures { first (block_faults room objects.now (variables_of scope.now) (syntax.block_of block.now)) ≡ fault_in result }
-{
-    let mut found = Ok(());
+    let mut left = room;
     let mut rest = block;
     loop {
         match rest {
-            Block::Start => return found,
-            Block::Missing => return found,
-            Block::Touch { before, variable } => {
-                found = earlier(in_scope(scope, variable), found);
-                rest = before
+            Block::End(end) => {
+                ending(objects, scope, end)?;
+                return Ok(left);
             }
-            Block::Get {
-                before,
-                place,
-                variable,
-                chain,
-                map,
-                key,
-                close,
+            Block::Do {
+                operation: one,
+                next,
+            } => {
+                operation(objects, scope, one)?;
+                rest = next
+            }
+            Block::Ask {
+                question: asked,
                 hit,
                 miss,
+                next,
             } => {
-                let x = GetText {
-                    before,
-                    place: *place,
-                    variable,
-                    chain,
-                    wanted: map,
-                    key,
-                    close: *close,
-                    hit,
-                    miss,
-                };
-                found = earlier(get(objects, room, scope, &x), found);
-                rest = before
+                left = ask(objects, left, scope, asked, hit, miss)?;
+                rest = next
             }
-            Block::New {
-                before,
-                place,
-                variable,
-                chain,
-                given,
-                close,
+            Block::Make {
+                creation: one,
                 made,
                 taken,
                 full,
+                next,
             } => {
-                let x = NewText {
-                    before,
-                    place: *place,
-                    variable,
-                    chain,
-                    given,
-                    close: *close,
-                    made,
-                    taken,
-                    full,
-                };
-                found = earlier(new(objects, room, scope, &x), found);
-                rest = before
+                left = make_in(objects, left, scope, one, made, taken, full)?;
+                rest = next
             }
-            Block::Find {
-                before,
-                place,
-                variable,
-                chain,
-                index,
-                guards,
-                hit,
-                miss,
-            } => {
-                let x = FindText {
-                    before,
-                    place: *place,
-                    variable,
-                    chain,
-                    index,
-                    guards,
-                    hit,
-                    miss,
-                };
-                found = earlier(find(objects, room, scope, &x), found);
-                rest = before
-            }
-            Block::If {
-                before,
-                left,
-                comparison,
-                right,
-                holds,
-                fails,
-            } => {
-                let x = IfText {
-                    before,
-                    left,
-                    comparison: *comparison,
-                    right,
-                    holds,
-                    fails,
-                };
-                found = earlier(if_then(objects, room, scope, &x), found);
-                rest = before
-            }
-            Block::Free {
-                before,
-                variable,
-                ..
-            } => {
-                found = earlier(in_scope(scope, variable), found);
-                rest = before
-            }
-            Block::Set {
-                before,
-                field,
-                place,
-                value: given,
-            } => {
-                found = earlier(set(objects, scope, *field, *place, given), found);
-                rest = before
-            }
-            Block::Write {
-                before,
-                variable,
-                column,
-                value: given,
-            } => {
-                found = earlier(write(objects, scope, variable, column, given), found);
-                rest = before
-            }
-            Block::Store {
-                before,
-                array,
-                index,
-                value: given,
-            } => {
-                found = earlier(store(objects, scope, array, index, given), found);
-                rest = before
-            }
-            Block::Forward { before, port } => {
-                found = earlier(value(objects, scope, port), found);
-                rest = before
-            }
-            Block::Flood { before } => rest = before,
-            Block::Discard { before } => rest = before,
         }
     }
 }

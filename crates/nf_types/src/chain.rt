@@ -123,8 +123,8 @@ pub fn chain(alloc: Global, objects: &Objects, tree: &ChainTree) -> Result<Chain
         size,
         lifetime: tree.lifetime.value,
         labels: Limited::new(alloc),
-        free: Limited::new(alloc),
         maps: Limited::new(alloc),
+        order: Limited::new(alloc),
         columns: Limited::new(alloc),
     };
     parts(

@@ -44,7 +44,7 @@ pub fn width(bits: &Literal) -> Result<Width, Stop>
 fn names_column(chain: &ChainDecl, name: &[u8]) -> bool
     ensures { result ≡ names_column chain.now name.now }
 {
-    is_among(name, chain.labels.as_slice()) || is_among(name, chain.free.as_slice())
+    is_among(name, chain.labels.as_slice()) || is_among(name, chain.columns.as_slice())
 }
 
 /// A label behind so many others of its map.
@@ -65,10 +65,10 @@ fn label(alloc: Global, chain: &ChainDecl, number: usize, label: &Label) -> Resu
 /// A chain with one label more.
 fn with_label(mut chain: ChainDecl, label: ColumnDecl) -> Result<ChainDecl, AllocError>
     requires labels { length chain.labels < 136 }
-    requires columns { length chain.columns < 144 }
+    requires order { length chain.order < 144 }
     ensures { IfOk result (λ d. d ≡ with_label chain label) }
 {
-    chain.columns.push(ColumnId::Label(chain.labels.len()))?;
+    chain.order.push(ColumnId::Label(chain.labels.len()))?;
     chain.labels.push(label)?;
     Ok(chain)
 }
@@ -76,12 +76,12 @@ fn with_label(mut chain: ChainDecl, label: ColumnDecl) -> Result<ChainDecl, Allo
 /// A chain with the labels of a map.
 fn labels(alloc: Global, mut chain: ChainDecl, labels: &[Label]) -> Result<ChainDecl, Stop>
     requires labels { length chain.labels ≤ 128 }
-    requires columns { length chain.columns ≤ 136 }
+    requires order { length chain.order ≤ 136 }
     ensures found { Finds (λ d. d) (labels_faults chain 0 labels.now) (fold with_label_of chain labels.now) result }
     ensures few { IfOk result (λ d. length labels.now ≤ 8) }
     ensures labels { IfOk result (λ d. length d.labels ≡ length chain.labels + length labels.now) }
-    ensures columns { IfOk result (λ d. length d.columns ≡ length chain.columns + length labels.now) }
-    ensures free { IfOk result (λ d. d.free ≡ chain.free) }
+    ensures order { IfOk result (λ d. length d.order ≡ length chain.order + length labels.now) }
+    ensures columns { IfOk result (λ d. d.columns ≡ chain.columns) }
     ensures maps { IfOk result (λ d. d.maps ≡ chain.maps) }
 {
     for (i, one) in labels.iter().enumerate() {
@@ -136,7 +136,7 @@ pub fn map(
 ) -> Result<ChainDecl, Stop>
     requires maps { maps ≤ 16 }
     requires fixed { fixed ≤ 8 }
-    requires free { length chain.free ≤ 8 }
+    requires columns { length chain.columns ≤ 8 }
     requires roomy { IsRoomy fixed chain }
     ensures found { Finds (λ d. d) (map_faults maps chain tree.now) (with_part chain (parts.Map tree.now)) result }
     ensures few { IfOk result (λ d. maps + length d.maps ≤ 16) }
@@ -152,12 +152,12 @@ pub fn map(
 
 /// A chain with one free column more.
 fn with_free(mut chain: ChainDecl, column: ColumnDecl) -> Result<ChainDecl, AllocError>
-    requires free { length chain.free < 8 }
-    requires columns { length chain.columns < 144 }
+    requires columns { length chain.columns < 8 }
+    requires order { length chain.order < 144 }
     ensures { IfOk result (λ d. d ≡ with_column kinds.Free chain column) }
 {
-    chain.columns.push(ColumnId::Free(chain.free.len()))?;
-    chain.free.push(column)?;
+    chain.order.push(ColumnId::Column(chain.columns.len()))?;
+    chain.columns.push(column)?;
     Ok(chain)
 }
 
@@ -172,7 +172,7 @@ pub fn with_column(
     requires fixed { fixed ≤ 8 }
     requires roomy { IsRoomy fixed chain }
     requires maps { length chain.maps ≤ 16 }
-    requires free { length chain.free ≤ 8 }
+    requires columns { length chain.columns ≤ 8 }
     ensures found { IfOk result (λ d. d ≡ with_column kind chain column) }
     ensures roomy { IfOk result (λ d. IsRoomy (fixed + one_if_fixed kind) d) }
 {
@@ -188,7 +188,7 @@ fn columns_before(kind: ColumnKind, fixed: u32, chain: &ChainDecl) -> u32
 {
     match kind {
         ColumnKind::Fixed => fixed,
-        ColumnKind::Free => chain.free.len(),
+        ColumnKind::Free => chain.columns.len(),
     }
 }
 

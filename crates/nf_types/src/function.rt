@@ -2,6 +2,8 @@
 
 ghost use Rattle.std.specs.Prelude.{◌≡◌, ◌≤◌, IfOk};
 ghost use Rattle.nf_base.specs.Functions.{function_of};
+ghost use Rattle.nf_base.specs.Objects.{ListsObjects};
+ghost use Rattle.nf_base.specs.TextPlaces.{HasPlaces};
 ghost use Rattle.nf_tree.specs.View.{tree_of};
 ghost use Rattle.nf_types.specs.DeclarationFaults.{port_faults};
 ghost use Rattle.nf_types.specs.Function.{function};
@@ -49,11 +51,16 @@ fn function(alloc: Global, tree: &Tree) -> Result<Func, Stop>
         return Err(Stop::Memory);
     }
     let handlers = handlers(alloc, &objects, ports, all)?;
-    let Objects { chains, arrays } = objects;
+    let Objects {
+        chains,
+        arrays,
+        order,
+    } = objects;
     Ok(Func {
         name,
         chains,
         arrays,
+        objects: order,
         handlers,
     })
 }
@@ -64,7 +71,10 @@ fn function(alloc: Global, tree: &Tree) -> Result<Func, Stop>
 /// The handlers of the function stand by port, whatever their order in the text.
 #[tactic(auto, using(crate::proofs::First::first_none))]
 pub fn check(alloc: Global, tree: &Tree) -> Result<Func, CheckFault>
-    ensures { Answers result (tree_of tree.now) }
+    ensures answer { Answers result (tree_of tree.now) }
+    ensures places { IfOk result (λ f. HasPlaces (function_of f)) }
+    // Each chain and each array is one of the objects, once.
+    ensures objects { IfOk result (λ f. ListsObjects (function_of f)) }
 {
     match function(alloc, tree) {
         Ok(func) => Ok(func),

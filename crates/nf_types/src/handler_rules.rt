@@ -8,9 +8,9 @@ ghost use Rattle.nf_types.specs.Small.{AreSmall};
 ghost use Rattle.nf_types.specs.TextFaults.{is_handled, lacks_handler, handler_faults};
 
 use crate::block_rules::block;
-use crate::counts::{MOST_LOOKUPS, MOST_NEWS, Room};
 use crate::fault::{Fault, TypingKind, refuse_if};
 use crate::objects::Objects;
+use crate::room::Room;
 use crate::variables::Variables;
 use nf_tokens::Place;
 use nf_tree::HandlerTree;
@@ -40,11 +40,8 @@ fn handler(
     let port = one.port.value;
     refuse_if(is_handled(before, port), TypingKind::Twice, one.port.place)?;
     refuse_if(ports <= port, TypingKind::Limit, one.port.place)?;
-    let room = Room {
-        lookups: MOST_LOOKUPS,
-        news: MOST_NEWS,
-    };
-    block(objects, room, &Variables::Empty, &one.block)
+    block(objects, Room::whole(), &Variables::Empty, &one.block)?;
+    Ok(())
 }
 
 /// The handlers one by one.

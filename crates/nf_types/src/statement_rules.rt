@@ -12,8 +12,8 @@ ghost use Rattle.nf_types.specs.View.{variables_of};
 use crate::fault::{Fault, TypingKind, refuse_if};
 use crate::field::is_settable;
 use crate::name::{Named, first_named, is_among};
-use crate::objects::{Objects, is_object};
-use crate::statement::{asked, parts};
+use crate::objects::{Objects, chain_named, is_object};
+use crate::question::{asked, parts};
 use crate::value::column_named;
 use crate::value_rules::{array, value, values, wrong};
 use crate::variables::{Variables, chain_of, is_in_scope};
@@ -66,7 +66,7 @@ pub fn look_up(
 ) -> Result<(), Fault>
     ensures { first (look_up_faults objects.now (variables_of scope.now) chain.now wanted.now (map syntax.expression_of key.now) close) ≡ fault_in result }
 {
-    match first_named(chain.bytes.as_slice(), objects.chains.as_slice()) {
+    match chain_named(objects, chain) {
         None => wrong(TypingKind::Unknown, chain),
         Some((_, found)) => {
             map_of(found, wanted)?;
@@ -101,7 +101,7 @@ fn given(
     let name = one.name.bytes.as_slice();
     let place = one.name.place;
     let is_label = is_among(name, chain.labels.as_slice());
-    let is_free = is_among(name, chain.free.as_slice());
+    let is_free = is_among(name, chain.columns.as_slice());
     refuse_if(!is_label && !is_free, TypingKind::Unknown, place)?;
     refuse_if(is_given(before, name), TypingKind::Twice, place)?;
     refuse_if(!is_label && is_free, TypingKind::FreeColumn, place)?;
@@ -146,7 +146,7 @@ pub fn make(
 ) -> Result<(), Fault>
     ensures { first (making_faults objects.now (variables_of scope.now) chain.now (map syntax.given_of given.now) close) ≡ fault_in result }
 {
-    match first_named(chain.bytes.as_slice(), objects.chains.as_slice()) {
+    match chain_named(objects, chain) {
         None => wrong(TypingKind::Unknown, chain),
         Some((_, found)) => {
             each_given(objects, scope, found, given)?;
@@ -167,7 +167,7 @@ pub fn find(
 ) -> Result<(), Fault>
     ensures { first (finding_faults objects.now (variables_of scope.now) chain.now (syntax.expression_of index.now) (syntax.guards_of guards.now)) ≡ fault_in result }
 {
-    match first_named(chain.bytes.as_slice(), objects.chains.as_slice()) {
+    match chain_named(objects, chain) {
         None => wrong(TypingKind::Unknown, chain),
         Some((_, found)) => {
             value(objects, scope, index)?;
@@ -199,7 +199,7 @@ fn written(scope: &Variables, variable: &Name, column: &Name) -> Result<(), Faul
         None => wrong(TypingKind::NotInScope, variable),
         Some(None) => Ok(()),
         Some(Some(chain)) => match column_named(chain, &column.bytes) {
-            Some(ColumnId::Free(_)) => Ok(()),
+            Some(ColumnId::Column(_)) => Ok(()),
             Some(ColumnId::Label(_)) => wrong(TypingKind::ReadOnly, column),
             None => wrong(TypingKind::Unknown, column),
         },

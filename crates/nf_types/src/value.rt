@@ -10,7 +10,7 @@ ghost use Rattle.nf_types.specs.View.{variables_of};
 
 use crate::cells::cells;
 use crate::name::first_named;
-use crate::objects::Objects;
+use crate::objects::{Objects, array_named};
 use crate::variables::{Variables, chain_of, number_of};
 use nf_base::decl::{ChainDecl, ColumnId};
 use nf_base::expr::{Expr, Given, Operator};
@@ -47,8 +47,8 @@ pub fn column_named(chain: &ChainDecl, name: &Seq<u8>) -> Option<ColumnId>
     if let Some((i, _)) = first_named(name, chain.labels.as_slice()) {
         return Some(ColumnId::Label(i));
     }
-    match first_named(name, chain.free.as_slice()) {
-        Some((i, _)) => Some(ColumnId::Free(i)),
+    match first_named(name, chain.columns.as_slice()) {
+        Some((i, _)) => Some(ColumnId::Column(i)),
         None => None,
     }
 }
@@ -62,7 +62,7 @@ fn column(scope: &Variables, variable: &Name, column: &Name) -> Expr
     match chain_of(scope, &variable.bytes) {
         Some(Some(chain)) => match column_named(chain, &column.bytes) {
             Some(ColumnId::Label(label)) => Expr::Label { var, label },
-            Some(ColumnId::Free(column)) => Expr::Column { var, column },
+            Some(ColumnId::Column(column)) => Expr::Column { var, column },
             None => Expr::Number(0),
         },
         Some(None) => Expr::Number(0),
@@ -71,10 +71,10 @@ fn column(scope: &Variables, variable: &Name, column: &Name) -> Expr
 }
 
 /// The number of an array.
-pub fn array_number(objects: &Objects, name: &Name) -> u32
+fn array_number(objects: &Objects, name: &Name) -> u32
     ensures { result ≡ number_of (array_named objects.now.arrays name.now.bytes) }
 {
-    match first_named(name.bytes.as_slice(), objects.arrays.as_slice()) {
+    match array_named(objects, name) {
         Some((number, _)) => number,
         None => 0,
     }

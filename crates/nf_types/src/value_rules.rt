@@ -8,8 +8,7 @@ ghost use Rattle.nf_types.specs.Variables.{variable_named};
 ghost use Rattle.nf_types.specs.View.{variables_of};
 
 use crate::fault::{Fault, TypingKind};
-use crate::name::first_named;
-use crate::objects::Objects;
+use crate::objects::{Objects, array_named};
 use crate::value::column_named;
 use crate::variables::{Variables, chain_of};
 use nf_tree::{Expr as Value, Name};
@@ -38,7 +37,7 @@ pub fn in_scope(scope: &Variables, name: &Name) -> Result<(), Fault>
 pub fn array(objects: &Objects, name: &Name) -> Result<(), Fault>
     ensures { first (array_faults_at (array_named objects.now.arrays name.now.bytes) name.now) ≡ fault_in result }
 {
-    match first_named(name.bytes.as_slice(), objects.arrays.as_slice()) {
+    match array_named(objects, name) {
         Some(_) => Ok(()),
         None => wrong(TypingKind::Unknown, name),
     }

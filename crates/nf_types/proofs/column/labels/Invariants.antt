@@ -11,7 +11,7 @@ invariant-loop-i l = record {
   good : first (labels_faults l.chain l.i (drop l.i l.labels)) ≡ first (labels_faults l.initial.chain 0 l.labels);
   few : l.i ≤ 8;
   labels : length l.chain.labels ≡ length l.initial.chain.labels + l.i;
-  columns : length l.chain.columns ≡ length l.initial.chain.columns + l.i;
-  free : l.chain.free ≡ l.initial.chain.free;
+  order : length l.chain.order ≡ length l.initial.chain.order + l.i;
+  columns : l.chain.columns ≡ l.initial.chain.columns;
   maps : l.chain.maps ≡ l.initial.chain.maps;
 }

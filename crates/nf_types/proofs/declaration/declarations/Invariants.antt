@@ -1,5 +1,5 @@
 -- what comes of the rest of the declarations is what comes of all
-use Rattle.std.proofs.Common.{◌≡◌, ◌≤◌, drop, fold}
+use Rattle.std.proofs.Common.{◌≡◌, ◌+◌, ◌≤◌, drop, fold, length}
 use Rattle.nf_base.specs.Limits.{maps_in}
 use Rattle.nf_types.specs.Declarations.{with_declaration, no_objects, objects_of}
 use Rattle.nf_types.specs.DeclarationFaults.{declarations_faults}
@@ -11,4 +11,5 @@ invariant-loop-one l = record {
   so_far : fold with_declaration l.objects (drop l.one-index l.declarations) ≡ objects_of l.declarations;
   good : first (declarations_faults l.objects (drop l.one-index l.declarations)) ≡ first (declarations_faults no_objects l.declarations);
   maps : maps_in l.objects.chains ≤ 16;
+  each : length l.objects.order ≡ length l.objects.chains + length l.objects.arrays;
 }

@@ -1,7 +1,7 @@
 -- A text in which nothing is wrong stands for a function whose keys are short and whose handlers fit its chains.
 use Rattle.std.proofs.Common.{subst, sym}
 use Rattle.std.specs.Prelude.{All}
-use Rattle.nf_base.specs.Fits.{AllFit}
+use Rattle.nf_base.specs.FitsOnce.{AllFit}
 use Rattle.nf_base.specs.Limits.{HaveAllShortKeys}
 use Rattle.nf_types.specs.declared.objects.Objects.{Objects}
 use Rattle.nf_types.proofs.First.{front_none}

@@ -8,5 +8,5 @@ use Rattle.nf_types.proofs.handler.handlers.Given as goal
 abbrev pub invariant-loop-port : goal.invariant-loop-port
 invariant-loop-port l = record {
   made : length l.all ≡ l.port;
-  so_far : map (λ h. checked.block_of h.code) l.all ≡ handlers_of l.objects l.port (map syntax.handler_of l.handlers);
+  so_far : map (λ h. checked.block_of h.block) l.all ≡ handlers_of l.objects l.port (map syntax.handler_of l.handlers);
 }

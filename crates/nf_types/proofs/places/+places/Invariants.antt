@@ -1,8 +1,8 @@
 -- what was counted and what is left are the whole
 use Rattle.std.proofs.Common.{◌≡◌, ◌+◌, ◌*◌, ◌≤◌, max}
-use Rattle.nf_tree.specs.declared.tree.Block.{size-Block}
+use Rattle.nf_tree.specs.declared.block.Block.{size-Block}
 use Rattle.nf_tree.specs.View.{block_of}
-use Rattle.nf_types.specs.Counts.{places}
+use Rattle.nf_types.specs.Places.{places}
 use Rattle.nf_types.proofs.places.+places.Given as goal
 
 abbrev pub decreases-two_left : goal.decreases-two_left

@@ -4,7 +4,7 @@ use Rattle.nf_base.specs.View as checked
 use Rattle.nf_tree.specs.View as syntax
 use Rattle.nf_types.specs.Statements.{value_for}
 use Rattle.nf_types.specs.View.{variables_of}
-use Rattle.nf_types.proofs.statement.values.Given as goal
+use Rattle.nf_types.proofs.creation.values.Given as goal
 
 abbrev pub invariant-loop-label : goal.invariant-loop-label
 invariant-loop-label l =

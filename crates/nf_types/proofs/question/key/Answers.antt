@@ -2,7 +2,7 @@ use Rattle.std.proofs.Common.{◌≤◌, min, length, arith}
 use Rattle.std.proofs.lemmas.Grind.{common_steps}
 use Rattle.nf_types.specs.View.{variables_of}
 use Rattle.nf_types.proofs.Ended.{ended}
-use Rattle.nf_types.proofs.statement.key.Goals as goal
+use Rattle.nf_types.proofs.question.key.Goals as goal
 
 pub returns : goal.returns
 returns c =

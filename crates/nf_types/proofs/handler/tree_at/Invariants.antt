@@ -3,7 +3,7 @@ use Rattle.std.proofs.Common.{◌≡◌, ◌+◌, ◌<◌, ◌^◌, length, map}
 use Rattle.nf_tree.specs.View.{handler_of}
 use Rattle.nf_types.specs.Function.{all_places, block_at}
 use Rattle.nf_types.specs.Small.{AreSmall}
-use Rattle.nf_types.proofs.handler.block_at.Given as goal
+use Rattle.nf_types.proofs.handler.tree_at.Given as goal
 
 abbrev pub invariant-loop-rest : goal.invariant-loop-rest
 invariant-loop-rest l = record {

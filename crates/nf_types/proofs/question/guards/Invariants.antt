@@ -4,7 +4,7 @@ use Rattle.nf_base.specs.View as checked
 use Rattle.nf_tree.specs.View as syntax
 use Rattle.nf_types.specs.Statements.{guards_in, given_cells}
 use Rattle.nf_types.specs.View.{variables_of}
-use Rattle.nf_types.proofs.statement.guards.Given as goal
+use Rattle.nf_types.proofs.question.guards.Given as goal
 
 abbrev pub invariant-loop-one : goal.invariant-loop-one
 invariant-loop-one l = record {

@@ -3,7 +3,7 @@ use Rattle.std.proofs.Common.{◌≡◌, ◌+◌, drop, map}
 use Rattle.nf_tree.specs.View as syntax
 use Rattle.nf_types.specs.Statements.{value_for, given_cells}
 use Rattle.nf_types.specs.View.{variables_of}
-use Rattle.nf_types.proofs.statement.value_for.Given as goal
+use Rattle.nf_types.proofs.creation.value_for.Given as goal
 
 abbrev pub invariant-loop-one : goal.invariant-loop-one
 invariant-loop-one l = record {

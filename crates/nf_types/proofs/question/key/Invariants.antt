@@ -4,7 +4,7 @@ use Rattle.nf_base.specs.View as checked
 use Rattle.nf_tree.specs.View as syntax
 use Rattle.nf_types.specs.Statements.{key_of, key_cells}
 use Rattle.nf_types.specs.View.{variables_of}
-use Rattle.nf_types.proofs.statement.key.Given as goal
+use Rattle.nf_types.proofs.question.key.Given as goal
 
 abbrev pub invariant-loop-i : goal.invariant-loop-i
 invariant-loop-i l = record {
