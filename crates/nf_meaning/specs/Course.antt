@@ -1,0 +1,97 @@
+-- What the interpreter's calls come to, by all the choices that a packet may have.
+use Rattle.std.specs.Prelude.{◌≡◌, ℕ, Bool, true, false, List, [], ◌∷◌, ◌++◌, length, drop, Option, Some, None, Result, Ok, Err, if◌then◌else◌, slice_set}
+use Rattle.std.specs.List.{count_by}
+use Rattle.nf_base.specs.Context as context
+use Rattle.nf_base.specs.Operations as step
+use Rattle.nf_base.specs.Operations.{never, bound, with_chains}
+use Rattle.nf_base.specs.Chains.{chain_at, maps_of, zeros_of, is_taken, is_full, stamped, fresh}
+use Rattle.nf_base.specs.Course.{NoStep, exec}
+use Rattle.nf_base.specs.Statements.{is_new, statements}
+use Rattle.nf_base.specs.Text.{Block, Creation}
+use Rattle.nf_meaning.specs.declared.context.Context.{Context}
+use Rattle.nf_meaning.specs.declared.context.Input.{Input}
+use Rattle.nf_meaning.specs.declared.context.Flow.{Flow}
+use Rattle.nf_meaning.specs.declared.creation.NewResult.{NewResult}
+use Rattle.nf_meaning.specs.declared.creation.NewResult.TheVariants.{Made, Taken, Full, Illegal}
+use Rattle.nf_meaning.specs.declared.fault.StepFault.{StepFault}
+use Rattle.nf_meaning.specs.declared.fault.StepFault.TheVariants.{BadChoice, Memory}
+use Rattle.nf_meaning.specs.View.{context_of, input_of, completion_of}
+use Rattle.nf_meaning.specs.Choices.{Choices, MayBe, AreGiven, context_by}
+
+-- how many `new` stand in a block
+abbrev pub news : Block → ℕ
+news b = count_by is_new (statements b)
+
+-- whether a question hits, and the context then, whatever choices are left; a miss changes nothing
+abbrev pub Answers : Bool → Context → Context → (context.Context → Option context.Context) → Type 0
+Answers true old new meant = (left : List ℕ) → meant (context_of left old) ≡ Some (context_of left new)
+Answers false old new meant = (new ≡ old) × ((left : List ℕ) → meant (context_of left old) ≡ None)
+
+-- what a `new` with these labels comes to, by the choices that are left
+abbrev pub result_with : context.Input → context.Context → ℕ → List ℕ → List ℕ → step.NewResult
+result_with p c chain labels left =
+    let slots = (chain_at c.state.chains chain).slots in
+    if is_taken (maps_of p.decls chain) labels slots then step.Taken
+    else if is_full slots then step.Full
+    else step.chosen slots left
+
+-- the context with an entry made that has these labels
+abbrev pub new_with : context.Input → context.Context → Creation → List ℕ → ℕ → context.Context
+new_with p c n labels i =
+    let entry = fresh labels (zeros_of p.decls n.chain) in
+    let chain = stamped p.time i entry (chain_at c.state.chains n.chain) in
+    let d = bound n.var n.chain (with_chains (slice_set c.state.chains n.chain chain) c) i in
+    record d { left = drop 1 c.left }
+
+-- where an entry is made
+abbrev pub IfMade : NewResult → (ℕ → Type 0) → Type 0
+IfMade (Made i) P = P i
+IfMade Taken P = Unit {0}
+IfMade Full P = Unit {0}
+IfMade Illegal P = Unit {0}
+
+-- what a `new` comes to, by the choices that are left
+abbrev pub ComesTo : NewResult → Choices → List ℕ → (List ℕ → step.NewResult) → Type 0
+ComesTo (Made i) choices taken meant =
+    (all : List ℕ)
+    → MayBe choices (taken ++ i ∷ []) all
+    → MayBe choices taken all
+    × (drop (length taken) all ≡ i ∷ drop (length (taken ++ i ∷ [])) all)
+    × (meant (drop (length taken) all) ≡ step.Made i)
+ComesTo Taken choices taken meant = (left : List ℕ) → meant left ≡ step.Taken
+ComesTo Full choices taken meant = (left : List ℕ) → meant left ≡ step.Full
+ComesTo Illegal choices taken meant =
+    AreGiven choices
+    × ((all : List ℕ) → MayBe choices taken all → meant (drop (length taken) all) ≡ step.Illegal)
+
+-- what a `new` makes; where it makes no entry nothing changes
+abbrev pub Makes : NewResult → Choices → Context → Context → (context.Context → step.NewResult) → (context.Context → ℕ → context.Context) → Type 0
+Makes (Made i) choices old new meant made =
+    (new.picks ≡ old.picks ++ i ∷ [])
+    × ((all : List ℕ)
+    → MayBe choices new.picks all
+    → MayBe choices old.picks all
+    × (meant (context_by all old) ≡ step.Made i)
+    × (made (context_by all old) i ≡ context_by all new))
+Makes Taken choices old new meant made =
+    (new ≡ old) × ((left : List ℕ) → meant (context_of left old) ≡ step.Taken)
+Makes Full choices old new meant made =
+    (new ≡ old) × ((left : List ℕ) → meant (context_of left old) ≡ step.Full)
+Makes Illegal choices old new meant made =
+    (new ≡ old)
+    × AreGiven choices
+    × ((all : List ℕ) → MayBe choices old.picks all → meant (context_by all old) ≡ step.Illegal)
+
+-- How a block goes. Want of memory says nothing.
+abbrev pub Goes : Result Flow StepFault → Input → Block → Context → Context → Type 0
+Goes (Ok flow) p b old new =
+    (all : List ℕ)
+    → MayBe p.choices new.picks all
+    → MayBe p.choices old.picks all
+    × (exec never (input_of p) b (context_by all old) ≡ completion_of flow (context_by all new))
+Goes (Err BadChoice) p b old new =
+    AreGiven p.choices
+    × ((all : List ℕ)
+    → MayBe p.choices new.picks all
+    → exec never (input_of p) b (context_by all old) ≡ NoStep)
+Goes (Err Memory) p b old new = Unit {0}
