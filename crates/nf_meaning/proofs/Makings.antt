@@ -10,9 +10,10 @@ use Rattle.nf_meaning.specs.View.{context_of}
 use Rattle.nf_meaning.specs.Choices.{Choices}
 use Rattle.nf_meaning.specs.Course.{ComesTo, Makes, result_with, new_with}
 
-pub is_made : (p : meant.Input) (choices : Choices) (n : Creation) (old new : Context) (labels : List ℕ) (i : ℕ) → labels ≡ map (given p (context_of [] old)) n.labels → ComesTo (Made i) choices old.picks (result_with p (context_of [] old) n.chain labels) → new.picks ≡ old.picks ++ i ∷ [] → ((left : List ℕ) → new_with p (context_of (i ∷ left) old) n labels i ≡ context_of left new) → Makes (Made i) choices old new (λ c. step.new_result step.never p c n) (λ c. step.with_new p c n)
-is_made p choices n old new labels i are comes picks made = (
+pub is_made : (p : meant.Input) (choices : Choices) (n : Creation) (old new : Context) (labels : List ℕ) (i : ℕ) → labels ≡ map (given p (context_of [] old)) n.labels → ComesTo (Made i) choices old.picks (result_with p (context_of [] old) n.chain labels) → new.picks ≡ old.picks ++ i ∷ [] → new.full ≡ old.full → ((left : List ℕ) → new_with p (context_of (i ∷ left) old) n labels i ≡ context_of left new) → Makes (Made i) choices old new (λ c. step.new_result step.never p c n) (λ c. step.with_new p c n)
+is_made p choices n old new labels i are comes picks full made = (
   picks,
+  full,
   λ all h.
       let next = comes all (rw picks at h) in
       let left = drop (length new.picks) all in

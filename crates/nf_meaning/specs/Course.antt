@@ -1,16 +1,22 @@
 -- What the interpreter's calls come to, by all the choices that a packet may have.
-use Rattle.std.specs.Prelude.{◌≡◌, ℕ, Bool, true, false, List, [], ◌∷◌, ◌++◌, length, drop, Option, Some, None, Result, Ok, Err, if◌then◌else◌, slice_set}
+use Rattle.std.specs.Prelude.{◌≡◌, ℕ, Bool, true, false, List, [], ◌∷◌, ◌++◌, ◌||◌, length, drop, Option, Some, None, Result, Ok, Err, if◌then◌else◌, slice_set}
 use Rattle.std.specs.List.{count_by}
+use Rattle.std.specs.Borrow.{Bor}
 use Rattle.nf_base.specs.Context as context
 use Rattle.nf_base.specs.Operations as step
 use Rattle.nf_base.specs.Operations.{never, bound, with_chains}
 use Rattle.nf_base.specs.Chains.{chain_at, maps_of, zeros_of, is_taken, is_full, stamped, fresh}
-use Rattle.nf_base.specs.Course.{NoStep, exec}
+use Rattle.nf_base.specs.Course.{NoStep, and_then, exec, events}
+use Rattle.nf_base.specs.Events.{Event}
+use Rattle.nf_base.specs.Record.{answers_full}
 use Rattle.nf_base.specs.Statements.{is_new, statements}
-use Rattle.nf_base.specs.Text.{Block, Creation}
+use Rattle.nf_base.specs.Text.{Block, End, Do, Ask, Make, Creation}
+use Rattle.nf_base.specs.declared.block.Block as block
+use Rattle.nf_base.specs.View.{block_of}
 use Rattle.nf_meaning.specs.declared.context.Context.{Context}
 use Rattle.nf_meaning.specs.declared.context.Input.{Input}
 use Rattle.nf_meaning.specs.declared.context.Flow.{Flow}
+use Rattle.nf_meaning.specs.declared.context.Flow.TheVariants.{Falls, Ends}
 use Rattle.nf_meaning.specs.declared.creation.NewResult.{NewResult}
 use Rattle.nf_meaning.specs.declared.creation.NewResult.TheVariants.{Made, Taken, Full, Illegal}
 use Rattle.nf_meaning.specs.declared.fault.StepFault.{StepFault}
@@ -68,6 +74,7 @@ ComesTo Illegal choices taken meant =
 abbrev pub Makes : NewResult → Choices → Context → Context → (context.Context → step.NewResult) → (context.Context → ℕ → context.Context) → Type 0
 Makes (Made i) choices old new meant made =
     (new.picks ≡ old.picks ++ i ∷ [])
+    × (new.full ≡ old.full)
     × ((all : List ℕ)
     → MayBe choices new.picks all
     → MayBe choices old.picks all
@@ -76,22 +83,61 @@ Makes (Made i) choices old new meant made =
 Makes Taken choices old new meant made =
     (new ≡ old) × ((left : List ℕ) → meant (context_of left old) ≡ step.Taken)
 Makes Full choices old new meant made =
-    (new ≡ old) × ((left : List ℕ) → meant (context_of left old) ≡ step.Full)
+    (new ≡ record old { full = true }) × ((left : List ℕ) → meant (context_of left old) ≡ step.Full)
 Makes Illegal choices old new meant made =
     (new ≡ old)
     × AreGiven choices
     × ((all : List ℕ) → MayBe choices old.picks all → meant (context_by all old) ≡ step.Illegal)
 
+-- A block goes, and its record answers full, as another one does from a later context.
+pub record GoesOn (p : Input) (b : Block) (old : Context) (next : Block) (new : Context) : Type 0 where
+  pub may : (all : List ℕ) → MayBe p.choices new.picks all → MayBe p.choices old.picks all
+  pub goes : (all : List ℕ) → MayBe p.choices new.picks all → exec never (input_of p) b (context_by all old) ≡ exec never (input_of p) next (context_by all new)
+  pub tells : (all : List ℕ) (k : context.Context → List Event) → MayBe p.choices new.picks all → (old.full || answers_full (events never (input_of p) b (context_by all old) k)) ≡ (new.full || answers_full (events never (input_of p) next (context_by all new) k))
+
+-- A statement with what stands behind it goes as one of its blocks does, and then what stands behind.
+pub record Enters (p : Input) (statement : Block → Block) (old : Context) (inner : Block) (new : Context) : Type 0 where
+  pub may : (all : List ℕ) → MayBe p.choices new.picks all → MayBe p.choices old.picks all
+  pub goes : (all : List ℕ) (next : Block) → MayBe p.choices new.picks all → exec never (input_of p) (statement next) (context_by all old) ≡ and_then (exec never (input_of p) inner (context_by all new)) (exec never (input_of p) next)
+  pub tells : (all : List ℕ) (next : Block) (k : context.Context → List Event) → MayBe p.choices new.picks all → (old.full || answers_full (events never (input_of p) (statement next) (context_by all old) k)) ≡ (new.full || answers_full (events never (input_of p) inner (context_by all new) (λ c. events never (input_of p) next c k)))
+
+-- A block has no step with the choices that are given.
+pub record Refuses (p : Input) (b : Block) (old new : Context) : Type 0 where
+  pub given : AreGiven p.choices
+  pub none : (all : List ℕ) → MayBe p.choices new.picks all → exec never (input_of p) b (context_by all old) ≡ NoStep
+
+-- the record of what follows a block that went so
+abbrev pub record_after : Flow → List Event → List Event
+record_after Falls rest = rest
+record_after (Ends a) rest = []
+
+-- A block went so.
+pub record Goes (p : Input) (b : Block) (old : Context) (flow : Flow) (new : Context) : Type 0 where
+  pub may : (all : List ℕ) → MayBe p.choices new.picks all → MayBe p.choices old.picks all
+  pub goes : (all : List ℕ) → MayBe p.choices new.picks all → exec never (input_of p) b (context_by all old) ≡ completion_of flow (context_by all new)
+  pub tells : (all : List ℕ) (k : context.Context → List Event) → MayBe p.choices new.picks all → (old.full || answers_full (events never (input_of p) b (context_by all old) k)) ≡ (new.full || answers_full (record_after flow (k (context_by all new))))
+
 -- How a block goes. Want of memory says nothing.
-abbrev pub Goes : Result Flow StepFault → Input → Block → Context → Context → Type 0
-Goes (Ok flow) p b old new =
-    (all : List ℕ)
-    → MayBe p.choices new.picks all
-    → MayBe p.choices old.picks all
-    × (exec never (input_of p) b (context_by all old) ≡ completion_of flow (context_by all new))
-Goes (Err BadChoice) p b old new =
-    AreGiven p.choices
-    × ((all : List ℕ)
-    → MayBe p.choices new.picks all
-    → exec never (input_of p) b (context_by all old) ≡ NoStep)
-Goes (Err Memory) p b old new = Unit {0}
+abbrev pub Went : Result Flow StepFault → Input → Block → Context → Context → Type 0
+Went (Ok flow) p b old new = Goes p b old flow new
+Went (Err BadChoice) p b old new = Refuses p b old new
+Went (Err Memory) p b old new = Unit {0}
+
+-- which of its blocks a statement goes into, if a choice is legal
+abbrev pub Chooses : Option (Bor block.Block) → Input → (Block → Block) → Context → Context → Type 0
+Chooses (Some inner) p statement old new = Enters p statement old (block_of inner.now) new
+Chooses None p statement old new = (next : Block) → Refuses p (statement next) old new
+
+-- what stands behind a statement; behind an end, the end again
+abbrev pub behind : Block → Block
+behind (End e) = End e
+behind (Do op next) = next
+behind (Ask q hit miss next) = next
+behind (Make n made taken full next) = next
+
+-- whether nothing stands behind
+abbrev pub is_end : Block → Bool
+is_end (End e) = true
+is_end (Do op next) = false
+is_end (Ask q hit miss next) = false
+is_end (Make n made taken full next) = false

@@ -23,6 +23,8 @@ pub struct Context {
     pub edits: Edits,
     /// The choices taken so far.
     pub picks: Picks,
+    /// Whether some `new` found no index vacant.
+    pub full: bool,
 }
 
 /// What does not change while a handler runs.
@@ -62,6 +64,7 @@ pub fn var_at(vars: &[Option<EntryRef>], var: u32) -> Option<EntryRef>
 pub fn bind(context: &mut Context, var: u32, chain: u32, i: u32) -> Result<(), AllocError>
     ensures bound { OnOk result ((left : List ℕ) → context_of left context.new ≡ bound var chain (context_of left context.old) i) }
     ensures picks { context.new.picks ≡ context.old.picks }
+    ensures full { context.new.full ≡ context.old.full }
 {
     context.vars.truncate(var as usize);
     context.vars.push(Some(EntryRef::new(chain, i)))

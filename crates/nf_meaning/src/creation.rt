@@ -82,6 +82,7 @@ fn enter(
     requires index { i < length (chain_at context.old.state.chains creation.now.chain).slots }
     requires room { length context.old.picks < 16 }
     ensures picks { OnOk result (context.new.picks ≡ context.old.picks ++ i ∷ []) }
+    ensures full { context.new.full ≡ context.old.full }
     ensures made { OnOk result ((left : List ℕ) → new_with (input_of p.now) (context_of (i ∷ left) context.old) (creation_of creation.now) labels.items i ≡ context_of left context.new) }
 {
     let columns = zeros_of(alloc, p.decls, creation.chain)?;
@@ -115,7 +116,10 @@ pub fn make(
             Ok(NewResult::Made(i))
         }
         NewResult::Taken => Ok(NewResult::Taken),
-        NewResult::Full => Ok(NewResult::Full),
+        NewResult::Full => {
+            context.full = true;
+            Ok(NewResult::Full)
+        }
         NewResult::Illegal => Ok(NewResult::Illegal),
     }
 }

@@ -2,11 +2,13 @@
 ghost use Rattle.std.specs.Prelude.{◌≡◌, ℕ, ◌≤◌, ◌<◌, [], List, length, drop, IfOk, Some};
 ghost use Rattle.nf_base.specs.Functions.{function_of};
 ghost use Rattle.nf_base.specs.Operations.{never};
-ghost use Rattle.nf_base.specs.Step.{no_edits, start_context, step_of, if_none_left};
+ghost use Rattle.nf_base.specs.Step.{no_edits, start_context, step_of, record_of};
+ghost use Rattle.nf_base.specs.Events.{Event};
+ghost use Rattle.nf_base.specs.Record.{answers_full};
 ghost use Rattle.nf_base.specs.View.{block_of};
 ghost use Rattle.nf_base.specs.declared.done.Action.TheVariants.{Skip};
 ghost use Rattle.nf_meaning.specs.View.{context_of, action_of};
-ghost use Rattle.nf_meaning.specs.Whole.{Starts, Runs, Comes, handled};
+ghost use Rattle.nf_meaning.specs.Whole.{Starts, Runs, Comes, left_by, handled, told};
 
 use crate::block::exec;
 use crate::context::{Context, Flow, Input};
@@ -25,6 +27,8 @@ use std::alloc::{AllocError, Global};
 pub struct Step {
     pub state: State,
     pub done: Done,
+    /// Whether some `new` found no index vacant.
+    pub full: bool,
 }
 
 /// A handler that came to its end.
@@ -45,6 +49,7 @@ fn start(alloc: Global, func: &Func, state: &State, time: u64) -> Result<Context
         vars: Seq::new(alloc),
         edits: no_edits(),
         picks: Picks::new(),
+        full: false,
     })
 }
 
@@ -68,7 +73,9 @@ fn run(
     fields: Fields,
     choices: Option<&Picks>,
 ) -> Result<Ran, StepFault>
-    ensures { Runs result choices.entry (handled (function_of func.now) state.now time fields (block_of handler.now.block)) }
+    ensures { Runs result choices.entry
+        (handled (function_of func.now) state.now time fields (block_of handler.now.block))
+        (told (function_of func.now) state.now time fields (block_of handler.now.block)) }
 {
     let p = Input {
         decls: func.chains.as_slice(),
@@ -96,7 +103,9 @@ pub fn step_with(
     fields: Fields,
     picks: &Picks,
 ) -> Result<Step, StepFault>
-    ensures { Comes result (step_of never (function_of func.now) state.now packet.now picks.now (Some fields)) }
+    ensures { Comes result
+        (step_of never (function_of func.now) state.now packet.now picks.now (Some fields))
+        (record_of never (function_of func.now) state.now packet.now picks.now (Some fields)) }
 {
     let Some(handler) = func.handlers.as_slice().get(packet.id.port as usize) else {
         return Err(StepFault::BadChoice);
@@ -116,7 +125,8 @@ pub fn step_with(
 /// The answer of a handler that took each choice.
 #[tactic(auto, using(crate::proofs::Handled::left_over))]
 fn finish(ran: Ran, picks: &Picks) -> Result<Step, StepFault>
-    ensures { Comes result (if_none_left picks.now (drop (length ran.context.picks) picks.now) (context_of [] ran.context) ran.action) }
+    ensures { (told : List Event) → answers_full told ≡ ran.context.full
+        → Comes result (left_by ran picks.now) told }
 {
     let Ran { context, action } = ran;
     let Context {
@@ -124,6 +134,7 @@ fn finish(ran: Ran, picks: &Picks) -> Result<Step, StepFault>
         vars: _,
         edits,
         picks: taken,
+        full,
     } = context;
     if taken.len() < picks.len() {
         return Err(StepFault::BadChoice);
@@ -135,6 +146,7 @@ fn finish(ran: Ran, picks: &Picks) -> Result<Step, StepFault>
             edits,
             picks: picks.again(),
         },
+        full,
     })
 }
 
@@ -161,6 +173,7 @@ pub fn step_at_least(
         vars: _,
         edits,
         picks,
+        full,
     } = context;
     Ok(Step {
         state,
@@ -169,6 +182,7 @@ pub fn step_at_least(
             edits,
             picks,
         },
+        full,
     })
 }
 

@@ -120,6 +120,7 @@ pub fn operate(
 ) -> Result<(), AllocError>
     ensures done { OnOk result ((left : List ℕ) → context_of left context.new ≡ after (input_of p.now) (context_of left context.old) (operation_of operation.now)) }
     ensures picks { context.new.picks ≡ context.old.picks }
+    ensures full { context.new.full ≡ context.old.full }
 {
     match operation {
         Operation::Touch { var } => {

@@ -88,6 +88,7 @@ fn bind_found(
 ) -> Result<bool, AllocError>
     ensures bound { IfOk result (λ hits. Answers hits context.old context.new (λ c. option_map (bound var chain c) hit)) }
     ensures picks { context.new.picks ≡ context.old.picks }
+    ensures full { context.new.full ≡ context.old.full }
 {
     match hit {
         None => Ok(false),
@@ -107,6 +108,7 @@ pub fn ask(
 ) -> Result<bool, AllocError>
     ensures answers { IfOk result (λ hits. Answers hits context.old context.new (λ c. answer (input_of p.now) c (question_of question.now))) }
     ensures picks { context.new.picks ≡ context.old.picks }
+    ensures full { context.new.full ≡ context.old.full }
 {
     match question {
         Question::Get {

@@ -1,6 +1,7 @@
 // The interpreter over whole packets.
-ghost use Rattle.std.specs.Prelude.{◌≡◌, ◌<◌, length, IfOk, OnErr, Some, IsSome};
-ghost use Rattle.nf_base.specs.Step.{step, skipped, opening};
+ghost use Rattle.std.specs.Prelude.{◌≡◌, ◌<◌, length, IfOk, OnErr, Some, IsSome, false};
+ghost use Rattle.nf_base.specs.Step.{step, recorded, skipped, opening};
+ghost use Rattle.nf_base.specs.Record.{answers_full};
 ghost use Rattle.nf_base.specs.declared.state.State as states;
 ghost use Rattle.nf_base.specs.Functions.{function_of};
 ghost use Rattle.nf_meaning.specs.Answers.{Answers};
@@ -22,6 +23,14 @@ use std::marker::Model;
 pub struct Undivided {
     /// What the packets so far left.
     state: State,
+}
+
+/// What the handling of a packet with given choices came to.
+#[derive(Debug, Drop)]
+pub struct Handled {
+    pub done: Done,
+    /// Whether some `new` found each index of its chain with an entry.
+    pub full: bool,
 }
 
 impl Model for Undivided {
@@ -69,16 +78,27 @@ impl Undivided {
         func: &Func,
         packet: &Packet,
         picks: &Picks,
-    ) -> Result<Done, StepFault>
-        ensures step { Answers result self.new (step (function_of func.now) self.old packet.now picks.now) }
+    ) -> Result<Handled, StepFault>
+        ensures step { Answers result self.new
+            (step (function_of func.now) self.old packet.now picks.now) }
+        ensures full { IfOk result (λ handled.
+            handled.full
+            ≡ answers_full (recorded (function_of func.now) self.old packet.now picks.now)) }
         ensures err { OnErr result (self.new ≡ self.old) }
     {
         let Some(fields) = packet.fields else {
             return skip_with(picks);
         };
-        let Step { state, done } = step_with(alloc, func, &self.state, packet, fields, picks)?;
+        let Step { state, done, full } = step_with(
+            alloc,
+            func,
+            &self.state,
+            packet,
+            fields,
+            picks,
+        )?;
         self.state = state;
-        Ok(done)
+        Ok(Handled { done, full })
     }
 
     /// Handles one packet, with choices that the interpreter takes itself: they stand in the answer.
@@ -97,7 +117,11 @@ impl Undivided {
         let Some(fields) = packet.fields else {
             return Ok(skipped());
         };
-        let Step { state, done } = step_at_least(alloc, func, &self.state, packet, fields)?;
+        let Step {
+            state,
+            done,
+            full: _,
+        } = step_at_least(alloc, func, &self.state, packet, fields)?;
         self.state = state;
         Ok(done)
     }
@@ -116,11 +140,15 @@ impl Undivided {
 }
 
 /// A packet that no handler sees takes no choice.
-fn skip_with(picks: &Picks) -> Result<Done, StepFault>
-    ensures { (s : states.State) → Answers result s (skipped s picks.now) }
+fn skip_with(picks: &Picks) -> Result<Handled, StepFault>
+    ensures answers { (s : states.State) → Answers result s (skipped s picks.now) }
+    ensures full { IfOk result (λ handled. handled.full ≡ false) }
 {
     if picks.len() == 0 {
-        Ok(skipped())
+        Ok(Handled {
+            done: skipped(),
+            full: false,
+        })
     } else {
         Err(StepFault::BadChoice)
     }

@@ -6,4 +6,4 @@ pub returns : goal.returns
 returns c =
     let picks = c.in-Ok.ran.context.picks in
     rw (handler_at c.args.func.now.handlers c.args.packet.now.id.port c.item-handler.result.now c.requires.port c.item-handler.ensures)
-    (rw (drop-length picks) at (c.in-Ok.ensures picks (take-length picks)))
+    (rw (drop-length picks) at (c.in-Ok.ensures picks (take-length picks)).0)
