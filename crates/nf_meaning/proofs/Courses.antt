@@ -1,31 +1,23 @@
 -- How a block goes on, statement by statement.
-use Rattle.std.proofs.Common.{◌≡◌, ◌∙◌, ℕ, Bool, ◌||◌, List, [], length, drop, true, false, Some, None, Err, refl, ap, sym}
-use Rattle.nf_base.specs.declared.done.Action.{Action}
+use Rattle.std.proofs.Common.{◌≡◌, ◌∙◌, ℕ, Bool, ◌||◌, List, [], length, drop, true, false, Some, None, refl, ap, sym}
 use Rattle.nf_base.specs.Context as meant
-use Rattle.nf_base.specs.Course.{Completion, NoStep, StoppedAt, and_then, exec, events, ended, if_hit, if_new}
-use Rattle.nf_base.specs.Events.{Event, ended_by}
+use Rattle.nf_base.specs.Course.{Completion, NoStep, StoppedAt, and_then, exec, events, if_hit, if_new}
+use Rattle.nf_base.specs.Events.{Event}
 use Rattle.nf_base.specs.Operations.{never, after, answer, new_result, with_new, NewResult, Made, Taken, Full}
 use Rattle.nf_base.specs.Record.{answers_full, is_full_answer}
-use Rattle.nf_base.specs.Text.{Block, Ending, Operation, Question, Creation, End, Do, Ask, Make}
+use Rattle.nf_base.specs.Text.{Block, Operation, Question, Creation, Do, Ask, Make}
 use Rattle.nf_meaning.specs.declared.context.Context.{Context}
 use Rattle.nf_meaning.specs.declared.context.Input.{Input}
-use Rattle.nf_meaning.specs.declared.context.Flow.{Flow}
-use Rattle.nf_meaning.specs.declared.context.Flow.TheVariants.{Falls, Ends}
-use Rattle.nf_meaning.specs.View.{context_of, input_of, completion_of}
+use Rattle.nf_meaning.specs.declared.context.Flow.TheVariants.{Falls}
+use Rattle.nf_meaning.specs.View.{context_of, input_of}
 use Rattle.nf_meaning.specs.Choices.{MayBe, context_by}
-use Rattle.nf_meaning.specs.Course.{Makes, GoesOn, Enters, Refuses, Goes, Went, record_after}
+use Rattle.nf_meaning.specs.Course.{Makes, GoesOn, Enters, Refuses, Goes}
 use Rattle.nf_meaning.specs.declared.creation.NewResult.TheVariants as result
-use Rattle.nf_meaning.specs.declared.fault.StepFault.{StepFault}
-use Rattle.nf_meaning.specs.declared.fault.StepFault.TheVariants.{BadChoice, Memory}
 use Rattle.nf_meaning.proofs.Fronts.{given_any}
 use Rattle.nf_meaning.proofs.Refusals.{did_is, asked_is, new_is}
 
--- nothing was gone through yet
-pub at_first : (p : Input) (b : Block) (c : Context) → GoesOn p b c b c
-at_first p b c = record { may = λ all may. may; goes = λ all may. refl; tells = λ all k may. refl }
-
 -- over an operation
-pub over_operation : (p : Input) (b next : Block) (old mid new : Context) (op : Operation) → GoesOn p b old (Do op next) mid → ((left : List ℕ) → context_of left new ≡ after (input_of p) (context_of left mid) op) → new.picks ≡ mid.picks → new.full ≡ mid.full → GoesOn p b old next new
+pub over_operation : (p : Input) (b next : Block) (old mid new : Context) (op : Operation) → GoesOn p b (Do op next) old mid → ((left : List ℕ) → context_of left new ≡ after (input_of p) (context_of left mid) op) → new.picks ≡ mid.picks → new.full ≡ mid.full → GoesOn p b next old new
 over_operation p b next old mid new op on done picks full = record {
   may = λ all may. on.may all (rw picks at may);
   goes = λ all may. on.goes all (rw picks at may) ∙ ap (exec never (input_of p) next) (sym (same all));
@@ -39,7 +31,7 @@ over_operation p b next old mid new op on done picks full = record {
     same all = rw picks (done (drop (length mid.picks) all))
 
 -- over a statement, one of whose blocks fell off its end
-pub over_statement : (p : Input) (b inner next : Block) (statement : Block → Block) (old mid start new : Context) → GoesOn p b old (statement next) mid → Enters p statement mid inner start → Goes p inner start Falls new → GoesOn p b old next new
+pub over_statement : (p : Input) (b inner next : Block) (statement : Block → Block) (old mid start new : Context) → GoesOn p b (statement next) old mid → Enters p statement inner mid start → Goes p inner start Falls new → GoesOn p b next old new
 over_statement p b inner next statement old mid start new on into went = record {
   may = λ all may. on.may all (into.may all (went.may all may));
   goes = λ all may.
@@ -52,30 +44,8 @@ over_statement p b inner next statement old mid start new on into went = record 
       ∙ went.tells all (λ c. events never (input_of p) next c k) may;
 }
 
--- out of a statement, one of whose blocks ended the handler
-pub out_of_statement : (p : Input) (b inner next : Block) (statement : Block → Block) (old mid start new : Context) (a : Action) → GoesOn p b old (statement next) mid → Enters p statement mid inner start → Goes p inner start (Ends a) new → Goes p b old (Ends a) new
-out_of_statement p b inner next statement old mid start new a on into went = record {
-  may = λ all may. on.may all (into.may all (went.may all may));
-  goes = λ all may.
-      on.goes all (into.may all (went.may all may))
-      ∙ into.goes all next (went.may all may)
-      ∙ ap (λ (done : Completion). and_then done (exec never (input_of p) next)) (went.goes all may);
-  tells = λ all k may.
-      on.tells all k (into.may all (went.may all may))
-      ∙ into.tells all next k (went.may all may)
-      ∙ went.tells all (λ c. events never (input_of p) next c k) may;
-}
-
--- at the end of the block
-pub at_end : (p : Input) (b : Block) (old mid : Context) (e : Ending) (flow : Flow) → GoesOn p b old (End e) mid → ((left : List ℕ) → ended (input_of p) (context_of left mid) e ≡ completion_of flow (context_of left mid)) → ((c : meant.Context) (k : meant.Context → List Event) → answers_full (ended_by (input_of p) c e k) ≡ answers_full (record_after flow (k c))) → Goes p b old flow mid
-at_end p b old mid e flow on end told = record {
-  may = on.may;
-  goes = λ all may. on.goes all may ∙ end (drop (length mid.picks) all);
-  tells = λ all k may. on.tells all k may ∙ ap (λ t. mid.full || t) (told (context_by all mid) k);
-}
-
 -- into the block of a question
-pub hit_into : (p : Input) (q : Question) (hit miss : Block) (old new : Context) → ((left : List ℕ) → answer (input_of p) (context_of left old) q ≡ Some (context_of left new)) → new.picks ≡ old.picks → new.full ≡ old.full → Enters p (Ask q hit miss) old hit new
+pub hit_into : (p : Input) (q : Question) (hit miss : Block) (old new : Context) → ((left : List ℕ) → answer (input_of p) (context_of left old) q ≡ Some (context_of left new)) → new.picks ≡ old.picks → new.full ≡ old.full → Enters p (Ask q hit miss) hit old new
 hit_into p q hit miss old new answers picks full = record {
   may = λ all may. rw picks at may;
   goes = λ all next may.
@@ -88,7 +58,7 @@ hit_into p q hit miss old new answers picks full = record {
     hits : (all : List ℕ) → answer (input_of p) (context_by all old) q ≡ Some (context_by all new)
     hits all = rw picks (answers (drop (length old.picks) all))
 
-pub miss_into : (p : Input) (q : Question) (hit miss : Block) (old new : Context) → new ≡ old → ((left : List ℕ) → answer (input_of p) (context_of left old) q ≡ None) → Enters p (Ask q hit miss) old miss new
+pub miss_into : (p : Input) (q : Question) (hit miss : Block) (old new : Context) → new ≡ old → ((left : List ℕ) → answer (input_of p) (context_of left old) q ≡ None) → Enters p (Ask q hit miss) miss old new
 miss_into p q hit miss old new same answers = rw same (record {
   may = λ all may. may;
   goes = λ all next may.
@@ -101,7 +71,7 @@ miss_into p q hit miss old new same answers = rw same (record {
 -- into the block of a `new`, by what it comes to
 into_new : (p : Input) (n : Creation) (made taken full inner : Block) (old new : Context) (to : NewResult) → ((all : List ℕ) → MayBe p.choices new.picks all → MayBe p.choices old.picks all × (new_result never (input_of p) (context_by all old) n ≡ to)) →
     ((all : List ℕ) (A : Type 0) (go : Block → meant.Context → A) (illegal stopped : A) → MayBe p.choices new.picks all → if_new to (λ i. go made (with_new (input_of p) (context_by all old) n i)) (go taken (context_by all old)) (go full (context_by all old)) illegal stopped ≡ go inner (context_by all new)) →
-    ((told : Bool) → (old.full || (is_full_answer to || told)) ≡ (new.full || told)) → Enters p (Make n made taken full) old inner new
+    ((told : Bool) → (old.full || (is_full_answer to || told)) ≡ (new.full || told)) → Enters p (Make n made taken full) inner old new
 into_new p n made taken full inner old new to comes goes_ full_ = record {
   may = λ all may. (comes all may).0;
   goes = λ all next may.
@@ -116,17 +86,17 @@ into_new p n made taken full inner old new to comes goes_ full_ = record {
       ∙ ap (λ es. new.full || answers_full es) (goes_ all (List Event) go [] [] may);
 }
 
-pub made_into : (p : Input) (n : Creation) (made taken full : Block) (old new : Context) (i : ℕ) → Makes (result.Made i) p.choices old new (λ c. new_result never (input_of p) c n) (λ c. with_new (input_of p) c n) → Enters p (Make n made taken full) old made new
+pub made_into : (p : Input) (n : Creation) (made taken full : Block) (old new : Context) (i : ℕ) → Makes (result.Made i) p.choices old new (λ c. new_result never (input_of p) c n) (λ c. with_new (input_of p) c n) → Enters p (Make n made taken full) made old new
 made_into p n made taken full old new i makes =
     into_new p n made taken full made old new (Made i) (λ all may. let m = makes.2 all may in (m.0, m.1))
     (λ all A go illegal stopped may. ap (go made) (makes.2 all may).2) (λ told. rw makes.1 refl)
 
-pub taken_into : (p : Input) (n : Creation) (made taken full : Block) (old new : Context) → Makes result.Taken p.choices old new (λ c. new_result never (input_of p) c n) (λ c. with_new (input_of p) c n) → Enters p (Make n made taken full) old taken new
+pub taken_into : (p : Input) (n : Creation) (made taken full : Block) (old new : Context) → Makes result.Taken p.choices old new (λ c. new_result never (input_of p) c n) (λ c. with_new (input_of p) c n) → Enters p (Make n made taken full) taken old new
 taken_into p n made taken full old new makes = rw makes.0
     (into_new p n made taken full taken old old Taken (λ all may. (may, makes.1 (drop (length old.picks) all)))
     (λ all A go illegal stopped may. refl) (λ told. refl))
 
-pub full_into : (p : Input) (n : Creation) (made taken full : Block) (old new : Context) → Makes result.Full p.choices old new (λ c. new_result never (input_of p) c n) (λ c. with_new (input_of p) c n) → Enters p (Make n made taken full) old full new
+pub full_into : (p : Input) (n : Creation) (made taken full : Block) (old new : Context) → Makes result.Full p.choices old new (λ c. new_result never (input_of p) c n) (λ c. with_new (input_of p) c n) → Enters p (Make n made taken full) full old new
 full_into p n made taken full old new makes = rw makes.0
     (into_new p n made taken full full old (record old { full = true }) Full (λ all may. (may, makes.1 (drop (length old.picks) all)))
     (λ all A go illegal stopped may. refl) (λ told. either old.full))
@@ -136,22 +106,8 @@ full_into p n made taken full old new makes = rw makes.0
     either false = refl
 
 -- no step, where a statement has none
-pub refused_at : (p : Input) (b statement : Block) (old mid new : Context) → GoesOn p b old statement mid → Refuses p statement mid new → Refuses p b old new
+pub refused_at : (p : Input) (b statement : Block) (old mid new : Context) → GoesOn p b statement old mid → Refuses p statement mid new → Refuses p b old new
 refused_at p b statement old mid new on refuses = record {
   given = refuses.given;
   none = λ all may. on.goes all (given_any p.choices new.picks mid.picks all refuses.given may) ∙ refuses.none all may;
 }
-
--- no step, where a block of a statement has none
-refused_in : (p : Input) (statement : Block → Block) (inner next : Block) (mid start new : Context) → Enters p statement mid inner start → Refuses p inner start new → Refuses p (statement next) mid new
-refused_in p statement inner next mid start new into refuses = record {
-  given = refuses.given;
-  none = λ all may.
-      into.goes all next (given_any p.choices new.picks start.picks all refuses.given may)
-      ∙ ap (λ done. and_then done (exec never (input_of p) next)) (refuses.none all may);
-}
-
--- no step behind what was gone through
-pub refused_behind : (p : Input) (b inner next : Block) (statement : Block → Block) (old mid start new : Context) (fault : StepFault) → GoesOn p b old (statement next) mid → Enters p statement mid inner start → Went (Err fault) p inner start new → Went (Err fault) p b old new
-refused_behind p b inner next statement old mid start new BadChoice on into went = refused_at p b (statement next) old mid new on (refused_in p statement inner next mid start new into went)
-refused_behind p b inner next statement old mid start new Memory on into went = tt

@@ -17,8 +17,8 @@ least_vacant [] = 0
 least_vacant (None ∷ slots) = 0
 least_vacant (Some entry ∷ slots) = suc (least_vacant slots)
 
--- What may be all the choices of a packet, where some were taken: those given, or else any that begin
--- with the ones taken.
+-- What may be all the choices of a packet, where some were taken: those given, or else any that
+-- begin with the ones taken.
 abbrev pub MayBe : Choices → List ℕ → List ℕ → Type 0
 MayBe None taken all = take (length taken) all ≡ taken
 MayBe (Some choices) taken all = all ≡ choices.now

@@ -6,7 +6,7 @@ use Rattle.nf_base.specs.Context as context
 use Rattle.nf_base.specs.Operations as step
 use Rattle.nf_base.specs.Operations.{never, bound, with_chains}
 use Rattle.nf_base.specs.Chains.{chain_at, maps_of, zeros_of, is_taken, is_full, stamped, fresh}
-use Rattle.nf_base.specs.Course.{NoStep, and_then, exec, events}
+use Rattle.nf_base.specs.Course.{Completion, NoStep, and_then, exec, events}
 use Rattle.nf_base.specs.Events.{Event}
 use Rattle.nf_base.specs.Record.{answers_full}
 use Rattle.nf_base.specs.Statements.{is_new, statements}
@@ -30,7 +30,8 @@ news b = count_by is_new (statements b)
 
 -- whether a question hits, and the context then, whatever choices are left; a miss changes nothing
 abbrev pub Answers : Bool → Context → Context → (context.Context → Option context.Context) → Type 0
-Answers true old new meant = (left : List ℕ) → meant (context_of left old) ≡ Some (context_of left new)
+Answers true old new meant =
+    (left : List ℕ) → meant (context_of left old) ≡ Some (context_of left new)
 Answers false old new meant = (new ≡ old) × ((left : List ℕ) → meant (context_of left old) ≡ None)
 
 -- what a `new` with these labels comes to, by the choices that are left
@@ -70,8 +71,15 @@ ComesTo Illegal choices taken meant =
     AreGiven choices
     × ((all : List ℕ) → MayBe choices taken all → meant (drop (length taken) all) ≡ step.Illegal)
 
+-- what a `new` comes to in a context, and the context with an entry made at an index
+abbrev pub Meant : Type 0
+Meant = context.Context → step.NewResult
+
+abbrev pub MeantMade : Type 0
+MeantMade = context.Context → ℕ → context.Context
+
 -- what a `new` makes; where it makes no entry nothing changes
-abbrev pub Makes : NewResult → Choices → Context → Context → (context.Context → step.NewResult) → (context.Context → ℕ → context.Context) → Type 0
+abbrev pub Makes : NewResult → Choices → Context → Context → Meant → MeantMade → Type 0
 Makes (Made i) choices old new meant made =
     (new.picks ≡ old.picks ++ i ∷ [])
     × (new.full ≡ old.full)
@@ -89,22 +97,41 @@ Makes Illegal choices old new meant made =
     × AreGiven choices
     × ((all : List ℕ) → MayBe choices old.picks all → meant (context_by all old) ≡ step.Illegal)
 
--- A block goes, and its record answers full, as another one does from a later context.
-pub record GoesOn (p : Input) (b : Block) (old : Context) (next : Block) (new : Context) : Type 0 where
-  pub may : (all : List ℕ) → MayBe p.choices new.picks all → MayBe p.choices old.picks all
-  pub goes : (all : List ℕ) → MayBe p.choices new.picks all → exec never (input_of p) b (context_by all old) ≡ exec never (input_of p) next (context_by all new)
-  pub tells : (all : List ℕ) (k : context.Context → List Event) → MayBe p.choices new.picks all → (old.full || answers_full (events never (input_of p) b (context_by all old) k)) ≡ (new.full || answers_full (events never (input_of p) next (context_by all new) k))
+-- what follows a block
+abbrev pub Follows : Type 0
+Follows = context.Context → List Event
 
--- A statement with what stands behind it goes as one of its blocks does, and then what stands behind.
-pub record Enters (p : Input) (statement : Block → Block) (old : Context) (inner : Block) (new : Context) : Type 0 where
+-- how a block goes by all choices from a context
+abbrev pub course : Input → Block → List ℕ → Context → Completion
+course p b all c = exec never (input_of p) b (context_by all c)
+
+-- its record, with what follows it
+abbrev pub told : Input → Block → List ℕ → Context → Follows → List Event
+told p b all c k = events never (input_of p) b (context_by all c) k
+
+-- A block goes, and its record answers full, as another one does from a later context.
+pub record GoesOn (p : Input) (b next : Block) (old new : Context) : Type 0 where
   pub may : (all : List ℕ) → MayBe p.choices new.picks all → MayBe p.choices old.picks all
-  pub goes : (all : List ℕ) (next : Block) → MayBe p.choices new.picks all → exec never (input_of p) (statement next) (context_by all old) ≡ and_then (exec never (input_of p) inner (context_by all new)) (exec never (input_of p) next)
-  pub tells : (all : List ℕ) (next : Block) (k : context.Context → List Event) → MayBe p.choices new.picks all → (old.full || answers_full (events never (input_of p) (statement next) (context_by all old) k)) ≡ (new.full || answers_full (events never (input_of p) inner (context_by all new) (λ c. events never (input_of p) next c k)))
+  pub goes : (all : List ℕ) → MayBe p.choices new.picks all
+      → course p b all old ≡ course p next all new
+  pub tells : (all : List ℕ) (k : Follows) → MayBe p.choices new.picks all
+      → (old.full || answers_full (told p b all old k))
+      ≡ (new.full || answers_full (told p next all new k))
+
+-- A statement with what stands behind it goes as one of its blocks does, and then that.
+pub record Enters (p : Input) (s : Block → Block) (inner : Block) (old new : Context) : Type 0 where
+  pub may : (all : List ℕ) → MayBe p.choices new.picks all → MayBe p.choices old.picks all
+  pub goes : (all : List ℕ) (next : Block) → MayBe p.choices new.picks all
+      → course p (s next) all old
+      ≡ and_then (course p inner all new) (exec never (input_of p) next)
+  pub tells : (all : List ℕ) (next : Block) (k : Follows) → MayBe p.choices new.picks all
+      → (old.full || answers_full (told p (s next) all old k))
+      ≡ (new.full || answers_full (told p inner all new (λ c. events never (input_of p) next c k)))
 
 -- A block has no step with the choices that are given.
 pub record Refuses (p : Input) (b : Block) (old new : Context) : Type 0 where
   pub given : AreGiven p.choices
-  pub none : (all : List ℕ) → MayBe p.choices new.picks all → exec never (input_of p) b (context_by all old) ≡ NoStep
+  pub none : (all : List ℕ) → MayBe p.choices new.picks all → course p b all old ≡ NoStep
 
 -- the record of what follows a block that went so
 abbrev pub record_after : Flow → List Event → List Event
@@ -114,8 +141,11 @@ record_after (Ends a) rest = []
 -- A block went so.
 pub record Goes (p : Input) (b : Block) (old : Context) (flow : Flow) (new : Context) : Type 0 where
   pub may : (all : List ℕ) → MayBe p.choices new.picks all → MayBe p.choices old.picks all
-  pub goes : (all : List ℕ) → MayBe p.choices new.picks all → exec never (input_of p) b (context_by all old) ≡ completion_of flow (context_by all new)
-  pub tells : (all : List ℕ) (k : context.Context → List Event) → MayBe p.choices new.picks all → (old.full || answers_full (events never (input_of p) b (context_by all old) k)) ≡ (new.full || answers_full (record_after flow (k (context_by all new))))
+  pub goes : (all : List ℕ) → MayBe p.choices new.picks all
+      → course p b all old ≡ completion_of flow (context_by all new)
+  pub tells : (all : List ℕ) (k : Follows) → MayBe p.choices new.picks all
+      → (old.full || answers_full (told p b all old k))
+      ≡ (new.full || answers_full (record_after flow (k (context_by all new))))
 
 -- How a block goes. Want of memory says nothing.
 abbrev pub Went : Result Flow StepFault → Input → Block → Context → Context → Type 0
@@ -125,7 +155,7 @@ Went (Err Memory) p b old new = Unit {0}
 
 -- which of its blocks a statement goes into, if a choice is legal
 abbrev pub Chooses : Option (Bor block.Block) → Input → (Block → Block) → Context → Context → Type 0
-Chooses (Some inner) p statement old new = Enters p statement old (block_of inner.now) new
+Chooses (Some inner) p statement old new = Enters p statement (block_of inner.now) old new
 Chooses None p statement old new = (next : Block) → Refuses p (statement next) old new
 
 -- what stands behind a statement; behind an end, the end again

@@ -4,10 +4,10 @@ ghost use Rattle.nf_base.specs.Text.{Ask, Make};
 ghost use Rattle.nf_base.specs.declared.block.Block.{size-Block};
 ghost use Rattle.nf_base.specs.Course.{sent, ended};
 ghost use Rattle.nf_base.specs.Context as meant;
-ghost use Rattle.nf_base.specs.Events.{Event, ended_by};
+ghost use Rattle.nf_base.specs.Events.{ended_by};
 ghost use Rattle.nf_base.specs.Record.{answers_full};
 ghost use Rattle.nf_base.specs.View.{block_of, ending_of, question_of, creation_of};
-ghost use Rattle.nf_meaning.specs.Course.{Went, Enters, Chooses, record_after, behind, is_end, news};
+ghost use Rattle.nf_meaning.specs.Course.{Follows, Went, Enters, Chooses, record_after, behind, is_end, news};
 ghost use Rattle.nf_meaning.specs.View.{context_of, input_of, completion_of};
 
 use crate::context::{Context, Flow, Input};
@@ -33,8 +33,12 @@ fn sent(ports: u32, port: u64) -> Action
 
 #[tactic(auto, using(crate::proofs::Refusals::reads_is))]
 fn end(context: &Context, p: &Input, ending: &Ending) -> Flow
-    ensures goes { (left : List ℕ) → ended (input_of p.now) (context_of left context.now) (ending_of ending.now) ≡ completion_of result (context_of left context.now) }
-    ensures told { (c : meant.Context) (k : meant.Context → List Event) → answers_full (ended_by (input_of p.now) c (ending_of ending.now) k) ≡ answers_full (record_after result (k c)) }
+    ensures goes { (left : List ℕ) →
+        ended (input_of p.now) (context_of left context.now) (ending_of ending.now)
+        ≡ completion_of result (context_of left context.now) }
+    ensures told { (c : meant.Context) (k : Follows) →
+        answers_full (ended_by (input_of p.now) c (ending_of ending.now) k)
+        ≡ answers_full (record_after result (k c)) }
 {
     match ending {
         Ending::FallsOff => Flow::Falls,
@@ -55,7 +59,7 @@ fn ask_into<'a>(
 ) -> Result<&'a Block, AllocError>
     ensures enters { IfOk result (λ inner. Enters p.now
         (Ask (question_of question.now) (block_of hit.now) (block_of miss.now))
-        context.old (block_of inner.now) context.new) }
+        (block_of inner.now) context.old context.new) }
     ensures smaller { IfOk result (λ inner.
         size-Block inner.now ≤ max (size-Block hit.now) (size-Block miss.now)) }
     ensures room { IfOk result (λ inner.
@@ -82,7 +86,8 @@ fn make_into<'a>(
 ) -> Result<Option<&'a Block>, AllocError>
     requires room { length context.old.picks < 16 }
     ensures chooses { IfOk result (λ chosen. Chooses chosen p.now
-        (Make (creation_of creation.now) (block_of made.now) (block_of taken.now) (block_of full.now))
+        (Make (creation_of creation.now)
+        (block_of made.now) (block_of taken.now) (block_of full.now))
         context.old context.new) }
     ensures smaller { IfOk result (λ chosen. IfSome chosen (λ inner.
         size-Block inner.now
@@ -103,7 +108,8 @@ fn make_into<'a>(
 /// What stands behind a statement.
 fn behind(block: &Block) -> &Block
     ensures value { block_of result.now ≡ behind (block_of block.now) }
-    ensures smaller { is_end (block_of block.now) ≡ false → size-Block result.now < size-Block block.now }
+    ensures smaller { is_end (block_of block.now) ≡ false
+        → size-Block result.now < size-Block block.now }
 {
     match block {
         Block::End(_) => block,
@@ -116,8 +122,8 @@ fn behind(block: &Block) -> &Block
 /// Runs a block in its context, in a loop along its statements, calling itself for nested blocks
 /// alone.
 ///
-/// `BadChoice` comes only where choices are given, and then exactly where a `new` that is to make an
-/// entry has no next choice, or one that is not vacant.
+/// `BadChoice` comes only where choices are given, and then exactly where a `new` that is to make
+/// an entry has no next choice, or one that is not vacant.
 pub fn exec(
     alloc: Global,
     context: &mut Context,
@@ -126,7 +132,8 @@ pub fn exec(
 ) -> Result<Flow, StepFault>
     requires room { length context.old.picks + news (block_of block.now) ≤ 16 }
     ensures goes { Went result p.now (block_of block.now) context.old context.new }
-    ensures room { IfOk result (λ _. length context.new.picks ≤ length context.old.picks + news (block_of block.now)) }
+    ensures room { IfOk result (λ _.
+        length context.new.picks ≤ length context.old.picks + news (block_of block.now)) }
 {
     let mut rest = block;
     loop {

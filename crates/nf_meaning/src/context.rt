@@ -36,8 +36,8 @@ pub struct Input<'a> {
     /// In nanoseconds.
     pub time: u64,
     pub fields: Fields,
-    /// The indices of the entries to be made, in order. Where none are given, an entry gets the least
-    /// vacant index of its chain.
+    /// The indices of the entries to be made, in order. Where none are given, an entry gets the
+    /// least vacant index of its chain.
     pub choices: Option<&'a Picks>,
 }
 
@@ -62,7 +62,8 @@ pub fn var_at(vars: &[Option<EntryRef>], var: u32) -> Option<EntryRef>
 
 /// Binds a variable to the entry at an index of a chain.
 pub fn bind(context: &mut Context, var: u32, chain: u32, i: u32) -> Result<(), AllocError>
-    ensures bound { OnOk result ((left : List ℕ) → context_of left context.new ≡ bound var chain (context_of left context.old) i) }
+    ensures bound { OnOk result ((left : List ℕ) →
+        context_of left context.new ≡ bound var chain (context_of left context.old) i) }
     ensures picks { context.new.picks ≡ context.old.picks }
     ensures full { context.new.full ≡ context.old.full }
 {

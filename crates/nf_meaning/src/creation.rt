@@ -47,8 +47,11 @@ fn next_choice(choices: Option<&Picks>, picks: &Picks, slots: &[Option<Entry>]) 
 /// What a `new` with these labels comes to.
 #[tactic(auto, using(crate::proofs::Vacant::chain_there, crate::proofs::Vacant::vacant_index))]
 fn new_result(context: &Context, p: &Input, chain: u32, labels: &[u64]) -> NewResult
-    ensures comes { ComesTo result p.now.choices context.now.picks (result_with (input_of p.now) (context_of [] context.now) chain labels.now) }
-    ensures there { IfMade result (λ i. (chain < length context.now.state.chains) × (i < length (chain_at context.now.state.chains chain).slots)) }
+    ensures comes { ComesTo result p.now.choices context.now.picks
+        (result_with (input_of p.now) (context_of [] context.now) chain labels.now) }
+    ensures there { IfMade result (λ i.
+        (chain < length context.now.state.chains)
+        × (i < length (chain_at context.now.state.chains chain).slots)) }
 {
     let slots = slots_of(context.state.chains.as_slice(), chain);
     if is_taken(maps_of(p.decls, chain), labels, slots) {
@@ -83,7 +86,10 @@ fn enter(
     requires room { length context.old.picks < 16 }
     ensures picks { OnOk result (context.new.picks ≡ context.old.picks ++ i ∷ []) }
     ensures full { context.new.full ≡ context.old.full }
-    ensures made { OnOk result ((left : List ℕ) → new_with (input_of p.now) (context_of (i ∷ left) context.old) (creation_of creation.now) labels.items i ≡ context_of left context.new) }
+    ensures made { OnOk result ((left : List ℕ) →
+        new_with (input_of p.now) (context_of (i ∷ left) context.old) (creation_of creation.now)
+        labels.items i
+        ≡ context_of left context.new) }
 {
     let columns = zeros_of(alloc, p.decls, creation.chain)?;
     let chain = context.state.chains.item_mut(creation.chain as usize);
@@ -107,7 +113,9 @@ pub fn make(
     creation: &Creation,
 ) -> Result<NewResult, AllocError>
     requires room { length context.old.picks < 16 }
-    ensures { IfOk result (λ new. Makes new p.now.choices context.old context.new (λ c. new_result never (input_of p.now) c (creation_of creation.now)) (λ c. with_new (input_of p.now) c (creation_of creation.now))) }
+    ensures { IfOk result (λ new. Makes new p.now.choices context.old context.new
+        (λ c. new_result never (input_of p.now) c (creation_of creation.now))
+        (λ c. with_new (input_of p.now) c (creation_of creation.now))) }
 {
     let labels = all_given(alloc, context, p, creation.labels.as_slice())?;
     match new_result(context, p, creation.chain, &labels) {

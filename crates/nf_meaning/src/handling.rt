@@ -159,7 +159,9 @@ pub fn step_at_least(
     fields: Fields,
 ) -> Result<Step, AllocError>
     requires port { packet.now.id.port < length func.now.handlers }
-    ensures { IfOk result (λ s. step_of never (function_of func.now) state.now packet.now s.done.picks (Some fields) ≡ Some (record { state = s.state; done = s.done })) }
+    ensures { IfOk result (λ s.
+        step_of never (function_of func.now) state.now packet.now s.done.picks (Some fields)
+        ≡ Some (record { state = s.state; done = s.done })) }
 {
     let handler = func.handlers.item(packet.id.port);
     let ran = match run(alloc, func, handler, state, packet.time, fields, None) {

@@ -118,7 +118,9 @@ pub fn operate(
     p: &Input,
     operation: &Operation,
 ) -> Result<(), AllocError>
-    ensures done { OnOk result ((left : List ℕ) → context_of left context.new ≡ after (input_of p.now) (context_of left context.old) (operation_of operation.now)) }
+    ensures done { OnOk result ((left : List ℕ) →
+        context_of left context.new
+        ≡ after (input_of p.now) (context_of left context.old) (operation_of operation.now)) }
     ensures picks { context.new.picks ≡ context.old.picks }
     ensures full { context.new.full ≡ context.old.full }
 {

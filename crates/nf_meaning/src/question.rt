@@ -33,7 +33,9 @@ fn look_up(
     m: u32,
     key: &[Given],
 ) -> Result<Option<u32>, AllocError>
-    ensures { IfOk result (λ hit. hit ≡ key_found (input_of p.now) (context_of [] context.now) chain m (map (given (input_of p.now) (context_of [] context.now)) (map given_of key.now))) }
+    ensures { IfOk result (λ hit.
+        hit ≡ key_found (input_of p.now) (context_of [] context.now) chain m
+        (map (given (input_of p.now) (context_of [] context.now)) (map given_of key.now))) }
 {
     let key = all_given(alloc, context, p, key)?;
     Ok(key_found(context, p, chain, m, &key))
@@ -41,7 +43,9 @@ fn look_up(
 
 /// Whether an entry has the labels that a `find` asks for.
 fn has_labels(context: &Context, p: &Input, guards: &[Guard], entry: &Entry) -> bool
-    ensures { result ≡ has_labels (input_of p.now) (context_of [] context.now) (map guard_of guards.now) entry.now }
+    ensures { result
+        ≡ has_labels (input_of p.now) (context_of [] context.now)
+        (map guard_of guards.now) entry.now }
 {
     for g in guards {
         if !has_label(entry, g.label, given(context, p, &g.given)) {
@@ -62,7 +66,10 @@ fn has_label(entry: &Entry, label: u32, v: u64) -> bool
 
 /// The index that a `find` finds in a chain.
 fn search(context: &Context, p: &Input, chain: u32, at: &Expr, guards: &[Guard]) -> Option<u32>
-    ensures { result ≡ index_found (input_of p.now) (context_of [] context.now) chain (value (input_of p.now) (context_of [] context.now) (expression_of at.now)) (map guard_of guards.now) }
+    ensures { result
+        ≡ index_found (input_of p.now) (context_of [] context.now) chain
+        (value (input_of p.now) (context_of [] context.now) (expression_of at.now))
+        (map guard_of guards.now) }
 {
     let i = value(context, p, at);
     let slots = slots_of(context.state.chains.as_slice(), chain);
@@ -86,7 +93,8 @@ fn bind_found(
     chain: u32,
     var: u32,
 ) -> Result<bool, AllocError>
-    ensures bound { IfOk result (λ hits. Answers hits context.old context.new (λ c. option_map (bound var chain c) hit)) }
+    ensures bound { IfOk result (λ hits.
+        Answers hits context.old context.new (λ c. option_map (bound var chain c) hit)) }
     ensures picks { context.new.picks ≡ context.old.picks }
     ensures full { context.new.full ≡ context.old.full }
 {
@@ -106,7 +114,8 @@ pub fn ask(
     p: &Input,
     question: &Question,
 ) -> Result<bool, AllocError>
-    ensures answers { IfOk result (λ hits. Answers hits context.old context.new (λ c. answer (input_of p.now) c (question_of question.now))) }
+    ensures answers { IfOk result (λ hits. Answers hits context.old context.new
+        (λ c. answer (input_of p.now) c (question_of question.now))) }
     ensures picks { context.new.picks ≡ context.old.picks }
     ensures full { context.new.full ≡ context.old.full }
 {

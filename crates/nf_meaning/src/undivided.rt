@@ -17,8 +17,8 @@ use nf_base::state::State;
 use std::alloc::{AllocError, Global};
 use std::marker::Model;
 
-/// The plain interpreter: what a function remembers, in one list of indices for each chain. Contracts
-/// see it as that state.
+/// The plain interpreter: what a function remembers, in one list of indices for each chain.
+/// Contracts see it as that state.
 #[derive(Drop)]
 pub struct Undivided {
     /// What the packets so far left.
@@ -70,8 +70,8 @@ impl Undivided {
 
     /// Handles one packet with these choices: the indices of the entries that it makes, in order.
     ///
-    /// `BadChoice` comes exactly where the packet has no step with them, `Memory` where the allocator
-    /// gave none. After an `Err` nothing is changed.
+    /// `BadChoice` comes exactly where the packet has no step with them, `Memory` where the
+    /// allocator gave none. After an `Err` nothing is changed.
     pub fn packet(
         &mut self,
         alloc: Global,
@@ -101,7 +101,7 @@ impl Undivided {
         Ok(Handled { done, full })
     }
 
-    /// Handles one packet, with choices that the interpreter takes itself: they stand in the answer.
+    /// Handles one packet with choices that the interpreter takes itself: they stand in the answer.
     ///
     /// After an `Err` nothing is changed.
     pub fn handle(
@@ -111,7 +111,9 @@ impl Undivided {
         packet: &Packet,
     ) -> Result<Done, AllocError>
         requires port { packet.now.id.port < length func.now.handlers }
-        ensures step { IfOk result (λ done. step (function_of func.now) self.old packet.now done.picks ≡ Some (record { state = self.new; done = done })) }
+        ensures step { IfOk result (λ done.
+            step (function_of func.now) self.old packet.now done.picks
+            ≡ Some (record { state = self.new; done = done })) }
         ensures err { OnErr result (self.new ≡ self.old) }
     {
         let Some(fields) = packet.fields else {
@@ -129,7 +131,8 @@ impl Undivided {
     /// Choices with which the packet has a step.
     pub fn pick(&self, alloc: Global, func: &Func, packet: &Packet) -> Result<Picks, AllocError>
         requires port { packet.now.id.port < length func.now.handlers }
-        ensures legal { IfOk result (λ picks. IsSome (step (function_of func.now) self.now packet.now picks)) }
+        ensures legal { IfOk result (λ picks.
+            IsSome (step (function_of func.now) self.now packet.now picks)) }
     {
         let Some(fields) = packet.fields else {
             return Ok(Picks::new());

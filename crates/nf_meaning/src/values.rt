@@ -23,7 +23,8 @@ fn index(context: &Context, var: u32) -> u64
 }
 
 fn label(context: &Context, var: u32, label: u32) -> u64
-    ensures { result ≡ label_of label (entry_in context.now.state.chains (var_at context.now.vars var)) }
+    ensures { result
+        ≡ label_of label (entry_in context.now.state.chains (var_at context.now.vars var)) }
 {
     let Some(at) = var_at(context.vars.as_slice(), var) else {
         return 0;
@@ -39,7 +40,8 @@ fn label(context: &Context, var: u32, label: u32) -> u64
 }
 
 fn column(context: &Context, var: u32, column: u32) -> u64
-    ensures { result ≡ column_of column (entry_in context.now.state.chains (var_at context.now.vars var)) }
+    ensures { result
+        ≡ column_of column (entry_in context.now.state.chains (var_at context.now.vars var)) }
 {
     let Some(at) = var_at(context.vars.as_slice(), var) else {
         return 0;
@@ -111,7 +113,8 @@ pub fn all_given(
     p: &Input,
     gs: &[Given],
 ) -> Result<Vec<u64>, AllocError>
-    ensures { IfOk result (λ v. v.items ≡ map (given (input_of p.now) (context_of [] context.now)) (map given_of gs.now)) }
+    ensures { IfOk result (λ v.
+        v.items ≡ map (given (input_of p.now) (context_of [] context.now)) (map given_of gs.now)) }
 {
     let mut values = Vec::new(alloc);
     for g in gs {

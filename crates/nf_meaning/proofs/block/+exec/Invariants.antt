@@ -9,5 +9,5 @@ abbrev pub invariant-loop-rest : goal.invariant-loop-rest
 invariant-loop-rest l = record {
   smaller : size-Block l.rest ≤ size-Block l.block;
   room : length l.context.picks + news (block_of l.rest) ≤ length l.fn.context.picks + news (block_of l.block);
-  goes : GoesOn l.p (block_of l.block) l.fn.context (block_of l.rest) l.context;
+  goes : GoesOn l.p (block_of l.block) (block_of l.rest) l.fn.context l.context;
 }
