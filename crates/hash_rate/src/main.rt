@@ -1,6 +1,6 @@
 //! Hashes as many inputs of 12 bytes as each line says, under one of four keys each, and prints the
-//! `xor` of their hashes, in hexadecimal. `bench/hash` times it. Its tests are those of the hash and of
-//! the table.
+//! `xor` of their hashes, in hexadecimal. `bench/hash` times it. Its tests are those of the hash
+//! and of the table.
 #![tactic(auto)]
 
 #[cfg(test)]

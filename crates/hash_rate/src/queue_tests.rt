@@ -1,6 +1,7 @@
 //! The table, and the shares of its queues.
 use nf_base::keys::Keys;
 use nf_base::limited::Limited;
+use nf_base::mac::Mac;
 use nf_base::packet::{Fields, Packet, PacketId};
 use nf_base::share::Share;
 use nf_base::workers::Workers;
@@ -9,7 +10,8 @@ use std::alloc::{AllocError, Global};
 use std::test::Fail;
 use toeplitz_hash::DEFAULT_KEY;
 
-// The tests call the table through these, which promise nothing: what the answers are is compared, and not proved.
+// The tests call the table through these, which promise nothing: what the answers are is compared,
+// and not proved.
 
 /// 1 to 16 workers.
 fn workers(count: u32) -> Option<Workers> {
@@ -47,8 +49,8 @@ fn share_of(queue: u32, count: u32) -> Option<Share> {
 fn packet_between(src_ip: [u8; 4], src_port: u16, dst_ip: [u8; 4], dst_port: u16) -> Packet {
     let fields = Fields {
         length: 42,
-        src_mac: 0x0200_0000_0001,
-        dst_mac: 0x0200_0000_0002,
+        src_mac: Mac::new(0x0200_0000_0001),
+        dst_mac: Mac::new(0x0200_0000_0002),
         src_ip: u32::from_be_bytes(src_ip),
         dst_ip: u32::from_be_bytes(dst_ip),
         proto: 17,

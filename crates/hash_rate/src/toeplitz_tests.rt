@@ -1,12 +1,14 @@
 //! The Toeplitz hash, and which key a packet is hashed with.
 use nf_base::keys::Keys;
 use nf_base::limited::Limited;
+use nf_base::mac::Mac;
 use nf_base::packet::{Fields, Packet, PacketId};
 use std::alloc::{AllocError, Global};
 use std::test::Fail;
 use toeplitz_hash::{DEFAULT_KEY, hash_packet, input_of, toeplitz};
 
-// The tests call the hash through these, which promise nothing: what the answers are is compared, and not proved.
+// The tests call the hash through these, which promise nothing: what the answers are is compared,
+// and not proved.
 
 /// The hash under the default key, of at most 36 bytes.
 fn hash(input: &[u8]) -> Option<u32> {
@@ -34,8 +36,8 @@ fn packet_hash(keys: &Keys, packet: &Packet) -> Option<Option<u32>> {
 fn fields_of(src_ip: [u8; 4], src_port: u16, dst_ip: [u8; 4], dst_port: u16) -> Fields {
     Fields {
         length: 60,
-        src_mac: 0x0200_0000_0001,
-        dst_mac: 0x0200_0000_0002,
+        src_mac: Mac::new(0x0200_0000_0001),
+        dst_mac: Mac::new(0x0200_0000_0002),
         src_ip: u32::from_be_bytes(src_ip),
         dst_ip: u32::from_be_bytes(dst_ip),
         proto: 17,
@@ -45,8 +47,8 @@ fn fields_of(src_ip: [u8; 4], src_port: u16, dst_ip: [u8; 4], dst_port: u16) -> 
     }
 }
 
-/// Microsoft, "Verifying the RSS Hash Calculation": each IPv4 row with its hash over the addresses alone
-/// and its hash with the ports.
+/// Microsoft, "Verifying the RSS Hash Calculation": each IPv4 row with its hash over the addresses
+/// alone and its hash with the ports.
 #[test]
 fn the_verification_suite_is_met(rt: HostRuntime) {
     let rows = [

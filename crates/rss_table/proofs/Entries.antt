@@ -14,7 +14,9 @@ unfolding even_table
 entry_even workers i within = get_or-map-range_with_len (λ i. i % workers) 0 128 i i 0 within (omega arith)
 
 -- 128 entries that go round are an even table
-pub even_from_entries : (workers : ℕ) (table : List ℕ) → length table ≡ 128 → ((i : ℕ) → i < 128 → get_or table i 0 ≡ i % workers) → table ≡ even_table workers
+pub even_from_entries :
+    (workers : ℕ) (table : List ℕ) → length table ≡ 128
+    → ((i : ℕ) → i < 128 → get_or table i 0 ≡ i % workers) → table ≡ even_table workers
 unfolding even_table
 even_from_entries workers table entries go_round = fill_by_all (λ i. i % workers) table 128 0 entries go_round
 

@@ -9,7 +9,7 @@ shares_part_indices workers index some = (
   index % workers,
   record {
     below = mod_below index workers some;
-    holds_it = λ share of queue. eq-eqb (index % share.of) share.queue (ap (λ (w : ℕ). index % w) of ∙ sym queue);
-    alone = λ share of holds. sym (eqb-true (index % share.of) share.queue holds) ∙ ap (λ (w : ℕ). index % w) of;
+    owns_it = λ share of queue. eq-eqb (index % share.of) share.queue (ap (λ (w : ℕ). index % w) of ∙ sym queue);
+    alone = λ share of own. sym (eqb-true (index % share.of) share.queue own) ∙ ap (λ (w : ℕ). index % w) of;
   },
 )

@@ -1,20 +1,16 @@
 -- Which queue owns an index of a chain.
-use Rattle.std.specs.Prelude.{◌≡◌, ℕ, ◌%◌, ◌<◌, Bool, ◌==◌, IsTrue}
+use Rattle.std.specs.Prelude.{◌≡◌, ℕ, ◌<◌, IsTrue}
 use Rattle.nf_base.specs.declared.share.Share.{Share}
+use Rattle.nf_base.specs.Shares.{owns}
 
--- the queue that owns an index, of as many as there are workers
-abbrev pub owner : ℕ → ℕ → ℕ
-owner workers index = index % workers
-
--- The share of a queue holds an index.
-abbrev pub holds : Share → ℕ → Bool
-holds share index = owner share.of index == share.queue
-
--- the queue whose share holds an index
+-- the queue whose share owns an index, of as many queues as there are workers
 pub record IsOwner (workers index queue : ℕ) : Type 0 where
   pub below : queue < workers
-  pub holds_it : (share : Share) → share.of ≡ workers → share.queue ≡ queue → IsTrue (holds share index)
-  pub alone : (share : Share) → share.of ≡ workers → IsTrue (holds share index) → share.queue ≡ queue
+  pub owns_it :
+      (share : Share) → share.of ≡ workers → share.queue ≡ queue → IsTrue (owns share index)
+  pub alone :
+      (share : Share) → share.of ≡ workers → IsTrue (owns share index) → share.queue ≡ queue
 
+-- each index has an owner, however many queues there are
 abbrev pub SharesPartIndices : Type 0
 SharesPartIndices = (workers index : ℕ) → 0 < workers → (queue : ℕ) × IsOwner workers index queue

@@ -34,5 +34,6 @@ pub record GoesRound (workers : ℕ) : Type 0 where
   pub of_skipped : queue_at (even_table workers) None ≡ 0
   pub of_hash : (hash : ℕ) → queue_at (even_table workers) (Some hash) ≡ hash % 128 % workers
 
+-- the table of each number of workers goes round
 abbrev pub EntriesGoRound : Type 0
 EntriesGoRound = (workers : ℕ) → GoesRound workers

@@ -1,5 +1,5 @@
-//! The indirection table of receive side scaling (Microsoft RSS), and which indices of a chain each of
-//! its queues owns.
+//! The indirection table of receive side scaling (Microsoft RSS), and which indices of a chain each
+//! of its queues owns.
 #![tactic(auto)]
 
 pub mod laws;

@@ -1,5 +1,5 @@
 ghost use Rattle.std.specs.Prelude.{◌≡◌, ℕ, ◌%◌, ◌<◌, ◌↔◌, IsTrue};
-ghost use Rattle.rss_table.specs.Shares.{holds};
+ghost use Rattle.nf_base.specs.Shares.{owns};
 
 use nf_base::share::Share;
 use nf_base::workers::Workers;
@@ -9,7 +9,7 @@ pub fn share(queue: u32, workers: Workers) -> Share
     requires { queue < workers }
     ensures queue { result.queue ≡ queue }
     ensures of { result.of ≡ workers }
-    ensures indices { (index : ℕ) → IsTrue (holds result index) ↔ (index % workers ≡ queue) }
+    ensures indices { (index : ℕ) → IsTrue (owns result index) ↔ (index % workers ≡ queue) }
 {
     Share {
         queue,

@@ -36,7 +36,8 @@ impl Table {
         Table { queues }
     }
 
-    /// The queue of a packet: the entry at the table index of its hash, and 0 for one that is skipped.
+    /// The queue of a packet: the entry at the table index of its hash, and 0 for one that is
+    /// skipped.
     pub fn queue(&self, keys: &Keys, packet: &Packet) -> u32
         requires { packet.now.id.port < length keys.now.ports }
         ensures value { result ≡ queue_of self.now keys.now packet.now }

@@ -4,7 +4,8 @@ use nf_base::size::Size;
 use std::test::Fail;
 use vig_chain::Chain;
 
-// The tests call a chain through these, which promise nothing: what the answers are is compared, and not proved.
+// The tests call a chain through these, which promise nothing: what the answers are is compared,
+// and not proved.
 
 fn stamp(chain: &Chain, index: u32) -> Option<u64> {
     chain.stamp(index)
@@ -62,7 +63,8 @@ fn an_empty_share_is_full(rt: HostRuntime) -> Result<(), Fail> {
 fn a_copy_goes_on_by_itself(rt: HostRuntime) -> Result<(), Fail> {
     let mut chain = Chain::new(rt.alloc(), Size::new(3), Share { queue: 0, of: 1 })?;
     assert!(rt; take(&mut chain, 1, 10));
-    let mut copy = chain.copy(rt.alloc())?;
+    let mut copy = Chain::new(rt.alloc(), Size::new(3), Share { queue: 1, of: 2 })?;
+    copy.copy_from(&chain);
     assert_eq!(rt;
         (stamp(&copy, 0), stamp(&copy, 1), copy.greatest()),
         (None, Some(10), 10)

@@ -1,5 +1,5 @@
-//! Prints what the calls of a chain answer in a short run: five indices, of which the second of two queues owns 1 and 3.
-//! Its tests are those of the tables.
+//! Prints what the calls of a chain answer in a short run: five indices, of which the second of two
+//! queues owns 1 and 3. Its tests are those of the tables.
 #![tactic(auto)]
 
 #[cfg(test)]
@@ -14,7 +14,8 @@ use nf_base::size::Size;
 use std::io;
 use vig_chain::Chain;
 
-/// Two indices, the lesser first: no order is said in which indices are given out, or those of one stamp expire.
+/// Two indices, the lesser first: no order is said in which indices are given out, or those of one
+/// stamp expire.
 fn in_order(a: Option<u32>, b: Option<u32>) -> Option<(u32, u32)> {
     let (a, b) = (a?, b?);
     Some((a.min(b), a.max(b)))

@@ -1,11 +1,12 @@
 //! Tables of a function with two chains and an array.
-ghost use Rattle.nf_base.specs.Fits.{Fits};
+ghost use Rattle.nf_base.specs.Limits.{Fits};
+ghost use Rattle.nf_base.specs.Statements.{statements};
 ghost use Rattle.nf_base.specs.View.{block_of};
 ghost use Rattle.nf_base.specs.declared.decl.ChainDecl.{ChainDecl};
 ghost use Rattle.std.specs.Prelude.{◌≡◌, ◌≤◌, length, IfOk, All, List};
 
-use nf_base::code::Code;
-use nf_base::decl::{ArrayDecl, ChainDecl, ColumnDecl, MapDecl, Name};
+use nf_base::block::{Block, Ending};
+use nf_base::decl::{ArrayDecl, ChainDecl, ColumnDecl, MapDecl, Name, ObjectId};
 use nf_base::func::{Func, Handler};
 use nf_base::indexed::Indexed;
 use nf_base::key::Key;
@@ -58,9 +59,9 @@ fn flows(alloc: Global) -> Result<ChainDecl, AllocError>
         size: Size::new(5),
         lifetime: 10,
         labels: columns(alloc, 4)?,
-        free: columns(alloc, 1)?,
+        columns: columns(alloc, 1)?,
         maps,
-        columns: Limited::new(alloc),
+        order: Limited::new(alloc),
     })
 }
 
@@ -76,9 +77,9 @@ fn hosts(alloc: Global) -> Result<ChainDecl, AllocError>
         size: Size::new(3),
         lifetime: 100,
         labels: columns(alloc, 1)?,
-        free: Limited::new(alloc),
-        maps,
         columns: Limited::new(alloc),
+        maps,
+        order: Limited::new(alloc),
     })
 }
 
@@ -94,10 +95,10 @@ fn cells(alloc: Global) -> Result<ArrayDecl, AllocError> {
 
 /// Sends nothing on.
 fn silent() -> Handler
-    ensures { (decls : List ChainDecl) → Fits decls (block_of result.code) }
+    ensures { (decls : List ChainDecl) → All (Fits decls) (statements (block_of result.block)) }
 {
     Handler {
-        code: Code::Discard,
+        block: Block::End(Ending::Discard),
     }
 }
 
@@ -107,12 +108,17 @@ fn function(alloc: Global) -> Result<Func, AllocError> {
     chains.push(hosts(alloc)?)?;
     let mut arrays = Limited::new(alloc);
     arrays.push(cells(alloc)?)?;
+    let mut objects = Limited::new(alloc);
+    objects.push(ObjectId::Chain(0))?;
+    objects.push(ObjectId::Chain(1))?;
+    objects.push(ObjectId::Array(0))?;
     let mut handlers = Vec::new(alloc);
     handlers.push(silent())?;
     Ok(Func {
         name: Name::new(alloc),
         chains: Limited::from_vec(chains),
         arrays,
+        objects,
         handlers: Limited::from_vec(handlers),
     })
 }
@@ -377,7 +383,7 @@ fn has_cells(state: &State, array: usize, cells: &[u64]) -> bool {
 
 /// Whether an entry has these labels, these free columns and this stamp.
 fn is_entry(entry: &Entry, labels: &[u64], free: &[u64], stamp: u64) -> bool {
-    entry.labels.as_slice() == labels && entry.free.as_slice() == free && entry.stamp == stamp
+    entry.labels.as_slice() == labels && entry.columns.as_slice() == free && entry.stamp == stamp
 }
 
 /// Whether a chain has such an entry at index 3.
@@ -389,7 +395,8 @@ fn has_entry(chain: &Chain, labels: &[u64], free: &[u64], stamp: u64) -> bool {
     }
 }
 
-/// Whether the flows of a state have five indices, this greatest stamp, and at index 3 such an entry.
+/// Whether the flows of a state have five indices, this greatest stamp, and at index 3 such an
+/// entry.
 fn has_flow(state: &State, labels: &[u64], free: &[u64], stamp: u64, greatest: u64) -> bool {
     match state.chains.as_slice().first() {
         Some(flows) => {

@@ -12,7 +12,9 @@ unfolding bit_of
 bit_of-lt bytes i = bit_at-lt (get_or bytes (i / 8) 0) (7 - i % 8)
 
 -- the bits of one byte
-pub bit_of_byte : (bytes : List ℕ) (n i : ℕ) → i < 8 → bit_of bytes (8 * n + i) ≡ bit_at (get_or bytes n 0) (7 - i)
+pub bit_of_byte :
+    (bytes : List ℕ) (n i : ℕ) → i < 8
+    → bit_of bytes (8 * n + i) ≡ bit_at (get_or bytes n 0) (7 - i)
 unfolding bit_of
 bit_of_byte bytes n i within =
     let row : (8 * n + i) / 8 ≡ n = omega arith in
@@ -58,27 +60,35 @@ unfolding number_of
 bits_of_byte b = omega arith
 
 -- the number of n bytes, and of one more
-pub number_of_byte : (bytes : List ℕ) (n : ℕ) → number_of (8 * n + 8) (bit_of bytes) ≡ number_of (8 * n) (bit_of bytes) * 256 + get_or bytes n 0 % 256
+pub number_of_byte :
+    (bytes : List ℕ) (n : ℕ)
+    → number_of (8 * n + 8) (bit_of bytes) ≡ number_of (8 * n) (bit_of bytes) * 256 + get_or bytes n 0 % 256
 number_of_byte bytes n =
     let last : number_of 8 (λ i. bit_of bytes (8 * n + i)) ≡ get_or bytes n 0 % 256 =
     number_of-same 8 (λ i. bit_of bytes (8 * n + i)) (λ i. bit_at (get_or bytes n 0) (7 - i)) (bit_of_byte bytes n) ∙ bits_of_byte (get_or bytes n 0) in
     number_of-append (8 * n) 8 (bit_of bytes) ∙ ap (λ k. number_of (8 * n) (bit_of bytes) * 256 + k) last
 
 -- the first 16, 32 and 40 bits of bytes
-pub first_two : (bytes : List ℕ) → number_of 16 (bit_of bytes) ≡ get_or bytes 0 0 % 256 * 256 + get_or bytes 1 0 % 256
+pub first_two :
+    (bytes : List ℕ)
+    → number_of 16 (bit_of bytes) ≡ get_or bytes 0 0 % 256 * 256 + get_or bytes 1 0 % 256
 first_two bytes =
     let none : number_of 0 (bit_of bytes) ≡ 0 = number_of-none (bit_of bytes) in
     let first : number_of 8 (bit_of bytes) ≡ number_of 0 (bit_of bytes) * 256 + get_or bytes 0 0 % 256 = number_of_byte bytes 0 in
     let second : number_of 16 (bit_of bytes) ≡ number_of 8 (bit_of bytes) * 256 + get_or bytes 1 0 % 256 = number_of_byte bytes 1 in
     omega (arith, none, first, second)
 
-pub first_four : (bytes : List ℕ) → number_of 32 (bit_of bytes) ≡ ((get_or bytes 0 0 % 256 * 256 + get_or bytes 1 0 % 256) * 256 + get_or bytes 2 0 % 256) * 256 + get_or bytes 3 0 % 256
+pub first_four :
+    (bytes : List ℕ)
+    → number_of 32 (bit_of bytes) ≡ ((get_or bytes 0 0 % 256 * 256 + get_or bytes 1 0 % 256) * 256 + get_or bytes 2 0 % 256) * 256 + get_or bytes 3 0 % 256
 first_four bytes =
     let third : number_of 24 (bit_of bytes) ≡ number_of 16 (bit_of bytes) * 256 + get_or bytes 2 0 % 256 = number_of_byte bytes 2 in
     let fourth : number_of 32 (bit_of bytes) ≡ number_of 24 (bit_of bytes) * 256 + get_or bytes 3 0 % 256 = number_of_byte bytes 3 in
     omega (arith, first_two bytes, third, fourth)
 
-pub first_five : (bytes : List ℕ) → ((i : ℕ) → get_or bytes i 0 < 256) → number_of 40 (bit_of bytes) ≡ (((get_or bytes 0 0 * 256 + get_or bytes 1 0) * 256 + get_or bytes 2 0) * 256 + get_or bytes 3 0) * 256 + get_or bytes 4 0
+pub first_five :
+    (bytes : List ℕ) → ((i : ℕ) → get_or bytes i 0 < 256)
+    → number_of 40 (bit_of bytes) ≡ (((get_or bytes 0 0 * 256 + get_or bytes 1 0) * 256 + get_or bytes 2 0) * 256 + get_or bytes 3 0) * 256 + get_or bytes 4 0
 first_five bytes below =
     let fifth : number_of 40 (bit_of bytes) ≡ number_of 32 (bit_of bytes) * 256 + get_or bytes 4 0 % 256 = number_of_byte bytes 4 in
     omega (arith, first_four bytes, fifth, below 0, below 1, below 2, below 3, below 4)

@@ -13,7 +13,10 @@ unfolding hash_bit
 hash_bit-lt n key input j = omega arith
 
 -- The hash depends on the first n bits of the input and n + 31 of the key.
-pub hash_of_bits-same : (n : ℕ) (key other input further : ℕ → ℕ) → ((i : ℕ) → i < n + 31 → key i ≡ other i) → ((i : ℕ) → i < n → input i ≡ further i) → hash_of_bits n key input ≡ hash_of_bits n other further
+pub hash_of_bits-same :
+    (n : ℕ) (key other input further : ℕ → ℕ) → ((i : ℕ) → i < n + 31 → key i ≡ other i)
+    → ((i : ℕ) → i < n → input i ≡ further i)
+    → hash_of_bits n key input ≡ hash_of_bits n other further
 unfolding hash_of_bits hash_bit
 hash_of_bits-same n key other input further keys inputs =
     number_of-same 32 (hash_bit n key input) (hash_bit n other further)
@@ -22,7 +25,9 @@ hash_of_bits-same n key other input further keys inputs =
     (λ i below. let left : input i ≡ further i = inputs i below in let right : key (i + j) ≡ other (i + j) = keys (i + j) (omega arith) in cc)))
 
 -- the hash of n bits, and of k further ones
-pub hash_of_bits-append : (n k : ℕ) (key input : ℕ → ℕ) → hash_of_bits (n + k) key input ≡ bit_xor (hash_of_bits n key input) (hash_of_bits k (λ i. key (n + i)) (λ i. input (n + i)))
+pub hash_of_bits-append :
+    (n k : ℕ) (key input : ℕ → ℕ)
+    → hash_of_bits (n + k) key input ≡ bit_xor (hash_of_bits n key input) (hash_of_bits k (λ i. key (n + i)) (λ i. input (n + i)))
 unfolding hash_of_bits hash_bit
 hash_of_bits-append n k key input =
     number_of-same 32 (hash_bit (n + k) key input)
@@ -43,7 +48,9 @@ bit_product (suc zero) y p q = omega arith
 bit_product (suc (suc x)) y p q = absurd (omega arith)
 
 -- the hash of one bit
-hash_of_one : (key input : ℕ → ℕ) → ((i : ℕ) → key i < 2) → ((i : ℕ) → input i < 2) → hash_of_bits 1 key input ≡ input 0 * number_of 32 key
+hash_of_one :
+    (key input : ℕ → ℕ) → ((i : ℕ) → key i < 2) → ((i : ℕ) → input i < 2)
+    → hash_of_bits 1 key input ≡ input 0 * number_of 32 key
 unfolding hash_of_bits hash_bit sum_below
 hash_of_one key input keys inputs =
     number_of-same 32 (hash_bit 1 key input) (λ j. input 0 * key j)
@@ -55,14 +62,18 @@ unfolding hash_of_bits hash_bit sum_below
 hash_of_none key input = number_of-zero 32 (hash_bit 0 key input) (λ j within. refl)
 
 -- the hash of n bits, and of one more: a bit that is 1 adds the 32 bits of the key from there on
-pub hash_of_bits-more : (n : ℕ) (key input : ℕ → ℕ) → ((i : ℕ) → key i < 2) → ((i : ℕ) → input i < 2) → hash_of_bits (n + 1) key input ≡ bit_xor (hash_of_bits n key input) (input n * number_of 32 (λ j. key (n + j)))
+pub hash_of_bits-more :
+    (n : ℕ) (key input : ℕ → ℕ) → ((i : ℕ) → key i < 2) → ((i : ℕ) → input i < 2)
+    → hash_of_bits (n + 1) key input ≡ bit_xor (hash_of_bits n key input) (input n * number_of 32 (λ j. key (n + j)))
 hash_of_bits-more n key input keys inputs =
     hash_of_bits-append n 1 key input
     ∙ ap (bit_xor (hash_of_bits n key input)) (hash_of_one (λ i. key (n + i)) (λ i. input (n + i)) (λ i. keys (n + i)) (λ i. inputs (n + i)))
     ∙ ap (λ m. bit_xor (hash_of_bits n key input) (input m * number_of 32 (λ j. key (n + j)))) (add-zero n)
 
 -- the hash of bytes, and of further ones
-pub toeplitz_of-append : (key xs ys : List ℕ) → toeplitz_of key (xs ++ ys) ≡ bit_xor (toeplitz_of key xs) (toeplitz_of (drop (length xs) key) ys)
+pub toeplitz_of-append :
+    (key xs ys : List ℕ)
+    → toeplitz_of key (xs ++ ys) ≡ bit_xor (toeplitz_of key xs) (toeplitz_of (drop (length xs) key) ys)
 unfolding toeplitz_of
 toeplitz_of-append key xs ys =
     let bits : 8 * length (xs ++ ys) ≡ 8 * length xs + 8 * length ys = omega (arith, length-append xs ys) in
@@ -77,7 +88,9 @@ toeplitz_of-append key xs ys =
     ∙ ap (bit_xor (hash_of_bits (8 * length xs) (bit_of key) (bit_of xs))) back
 
 -- the hash of the first bytes, and of one more
-pub toeplitz_of_more : (key input : List ℕ) (i : ℕ) → i < length input → toeplitz_of key (take (i + 1) input) ≡ bit_xor (toeplitz_of key (take i input)) (toeplitz_of (drop i key) (get_or input i 0 ∷ []))
+pub toeplitz_of_more :
+    (key input : List ℕ) (i : ℕ) → i < length input
+    → toeplitz_of key (take (i + 1) input) ≡ bit_xor (toeplitz_of key (take i input)) (toeplitz_of (drop i key) (get_or input i 0 ∷ []))
 toeplitz_of_more key input i within =
     let front : length (take i input) ≡ i = length-take-le i input (omega arith) in
     ap (toeplitz_of key) (take_more input i 0 within)

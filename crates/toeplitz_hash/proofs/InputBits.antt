@@ -10,7 +10,9 @@ use Rattle.toeplitz_hash.proofs.Numbers.{bit_at-number_of}
 use Rattle.toeplitz_hash.proofs.Bytes.{bit_of-lt, bit_of-drop, first_two, first_four}
 
 -- the bits of a number that is known modulo 2 ^ n
-bit_of_number : (n v : ℕ) (f : ℕ → ℕ) → ((i : ℕ) → f i < 2) → number_of n f ≡ v % 2 ^ n → (i : ℕ) → i < n → f i ≡ bit_at v (n - 1 - i)
+bit_of_number :
+    (n v : ℕ) (f : ℕ → ℕ) → ((i : ℕ) → f i < 2) → number_of n f ≡ v % 2 ^ n → (i : ℕ) → i < n
+    → f i ≡ bit_at v (n - 1 - i)
 bit_of_number n v f bits is i within =
     let k : ℕ = n - 1 - i in
     let there : bit_at (number_of n f) (n - 1 - i) ≡ f i =
@@ -21,12 +23,16 @@ bit_of_number n v f bits is i within =
     sym there ∙ ap (λ (m : ℕ). bit_at m (n - 1 - i)) is ∙ sym low ∙ whole
 
 -- the bits of an address or a port in front
-of_address : (v : ℕ) (rest : List ℕ) (i : ℕ) → i < 32 → bit_of (to_be_bytes w32 v ++ rest) i ≡ bit_at v (31 - i)
+of_address :
+    (v : ℕ) (rest : List ℕ) (i : ℕ) → i < 32
+    → bit_of (to_be_bytes w32 v ++ rest) i ≡ bit_at v (31 - i)
 of_address v rest =
     bit_of_number 32 v (bit_of (to_be_bytes w32 v ++ rest)) (bit_of-lt (to_be_bytes w32 v ++ rest))
     (omega (arith, first_four (to_be_bytes w32 v ++ rest)))
 
-of_port : (v : ℕ) (rest : List ℕ) (i : ℕ) → i < 16 → bit_of (to_be_bytes w16 v ++ rest) i ≡ bit_at v (15 - i)
+of_port :
+    (v : ℕ) (rest : List ℕ) (i : ℕ) → i < 16
+    → bit_of (to_be_bytes w16 v ++ rest) i ≡ bit_at v (15 - i)
 of_port v rest =
     bit_of_number 16 v (bit_of (to_be_bytes w16 v ++ rest)) (bit_of-lt (to_be_bytes w16 v ++ rest))
     (omega (arith, first_two (to_be_bytes w16 v ++ rest)))

@@ -6,3 +6,4 @@ pub mod Masks
 pub mod Linear
 pub mod OneBit
 pub mod InputBits
+pub mod Hashed

@@ -15,7 +15,9 @@ and_bit w (suc zero) small bit = omega (arith, and_mask w 32)
 and_bit w (suc (suc x)) small bit = absurd (omega arith)
 
 -- of 40 bits the 32 from bit i on
-middle_bits : (i : ℕ) (f : ℕ → ℕ) → ((i : ℕ) → f i < 2) → i < 8 → number_of 40 f / 2 ^ (8 - i) % 2 ^ 32 ≡ number_of 32 (λ j. f (i + j))
+middle_bits :
+    (i : ℕ) (f : ℕ → ℕ) → ((i : ℕ) → f i < 2) → i < 8
+    → number_of 40 f / 2 ^ (8 - i) % 2 ^ 32 ≡ number_of 32 (λ j. f (i + j))
 middle_bits i f bits within =
     let parts : number_of 40 f ≡ number_of (i + 32) f * 2 ^ (8 - i) + number_of (8 - i) (λ j. f (i + 32 + j)) =
     ap (λ m. number_of m f) (omega arith) ∙ number_of-append (i + 32) (8 - i) f in
@@ -26,7 +28,11 @@ middle_bits i f bits within =
     ∙ mod_low (number_of i f) 32 (number_of 32 (λ j. f (i + j))) (number_of-lt 32 (λ j. f (i + j)) (λ j. bits (i + j)))
 
 -- one more bit of a byte
-pub masked_more : (key : List ℕ) (byte i hash window bits mask : ℕ) → i < 8 → window ≡ number_of 40 (bit_of key) → bits ≡ window / 2 ^ (8 - i) % 2 ^ 32 → mask ≡ bit_of (byte ∷ []) i * (2 ^ 32 - 1) → hash ≡ hash_of_bits i (bit_of key) (bit_of (byte ∷ [])) → bit_xor hash (bit_and bits mask) ≡ hash_of_bits (i + 1) (bit_of key) (bit_of (byte ∷ []))
+pub masked_more :
+    (key : List ℕ) (byte i hash window bits mask : ℕ) → i < 8 → window ≡ number_of 40 (bit_of key)
+    → bits ≡ window / 2 ^ (8 - i) % 2 ^ 32 → mask ≡ bit_of (byte ∷ []) i * (2 ^ 32 - 1)
+    → hash ≡ hash_of_bits i (bit_of key) (bit_of (byte ∷ []))
+    → bit_xor hash (bit_and bits mask) ≡ hash_of_bits (i + 1) (bit_of key) (bit_of (byte ∷ []))
 masked_more key byte i hash window bits mask within is_window is_bits is_mask is_hash =
     let middle : bits ≡ number_of 32 (λ j. bit_of key (i + j)) =
     is_bits ∙ ap (λ m. m / 2 ^ (8 - i) % 2 ^ 32) is_window ∙ middle_bits i (bit_of key) (bit_of-lt key) within in

@@ -16,7 +16,8 @@ pub number_of-none : (f : ℕ → ℕ) → number_of 0 f ≡ 0
 unfolding number_of
 number_of-none f = refl
 
-pub number_of-same : (n : ℕ) (f g : ℕ → ℕ) → ((i : ℕ) → i < n → f i ≡ g i) → number_of n f ≡ number_of n g
+pub number_of-same :
+    (n : ℕ) (f g : ℕ → ℕ) → ((i : ℕ) → i < n → f i ≡ g i) → number_of n f ≡ number_of n g
 unfolding number_of
 number_of-same zero f g same = refl
 number_of-same (suc n) f g same =
@@ -28,7 +29,9 @@ number_of-zero zero f none = refl
 number_of-zero (suc n) f none = omega (arith, number_of-zero n f (λ i h. none i (omega arith)), none n (omega arith))
 
 -- the number of n bits, and of k further ones
-pub number_of-append : (n k : ℕ) (f : ℕ → ℕ) → number_of (n + k) f ≡ number_of n f * 2 ^ k + number_of k (λ i. f (n + i))
+pub number_of-append :
+    (n k : ℕ) (f : ℕ → ℕ)
+    → number_of (n + k) f ≡ number_of n f * 2 ^ k + number_of k (λ i. f (n + i))
 unfolding number_of
 number_of-append n zero f =
     let whole : number_of (n + 0) f ≡ number_of n f = ap (λ m. number_of m f) (add-zero n) in
@@ -51,7 +54,9 @@ xor_of_bits (suc zero) (suc (suc s)) p q = absurd (omega arith)
 xor_of_bits (suc (suc r)) s p q = absurd (omega arith)
 
 -- Bits that are the sums modulo 2 of two numbers' bits are those of the two with `xor`.
-pub number_of-xor : (n : ℕ) (f g : ℕ → ℕ) → ((i : ℕ) → f i < 2) → ((i : ℕ) → g i < 2) → number_of n (λ i. (f i + g i) % 2) ≡ bit_xor (number_of n f) (number_of n g)
+pub number_of-xor :
+    (n : ℕ) (f g : ℕ → ℕ) → ((i : ℕ) → f i < 2) → ((i : ℕ) → g i < 2)
+    → number_of n (λ i. (f i + g i) % 2) ≡ bit_xor (number_of n f) (number_of n g)
 unfolding number_of
 number_of-xor zero f g p q = refl
 number_of-xor (suc n) f g p q =
@@ -62,7 +67,8 @@ number_of-xor (suc n) f g p q =
     omega (arith, front, last, both)
 
 -- bit j, with k bits behind it
-pub bit_at-number_of : (j k : ℕ) (f : ℕ → ℕ) → ((i : ℕ) → f i < 2) → bit_at (number_of (suc j + k) f) k ≡ f j
+pub bit_at-number_of :
+    (j k : ℕ) (f : ℕ → ℕ) → ((i : ℕ) → f i < 2) → bit_at (number_of (suc j + k) f) k ≡ f j
 unfolding number_of
 bit_at-number_of j k f bits =
     let low : number_of k (λ i. f (suc j + i)) < 2 ^ k = number_of-lt k (λ i. f (suc j + i)) (λ i. bits (suc j + i)) in

@@ -17,7 +17,9 @@ zero_times : (x y : ℕ) → x ≡ 0 → x * y ≡ 0
 zero_times x y none = rw none (omega arith)
 
 -- no product is 1
-none_selected : (n : ℕ) (key input : ℕ → ℕ) (j : ℕ) → ((i : ℕ) → i < n → key (i + j) ≡ 0) → hash_bit n key input j ≡ 0
+none_selected :
+    (n : ℕ) (key input : ℕ → ℕ) (j : ℕ) → ((i : ℕ) → i < n → key (i + j) ≡ 0)
+    → hash_bit n key input j ≡ 0
 unfolding hash_bit
 none_selected n key input j zeros =
     let none : sum_below n (λ i. input i * key (i + j)) ≡ 0 =
@@ -25,7 +27,9 @@ none_selected n key input j zeros =
     omega (arith, none)
 
 -- the bit of the input that meets the key's 1
-one_selected : (n : ℕ) (key : List ℕ) (input : ℕ → ℕ) (j k : ℕ) → ((i : ℕ) → input i < 2) → HasOneBit key k → j ≤ k → k - j < n → hash_bit n (bit_of key) input j ≡ input (k - j)
+one_selected :
+    (n : ℕ) (key : List ℕ) (input : ℕ → ℕ) (j k : ℕ) → ((i : ℕ) → input i < 2) → HasOneBit key k
+    → j ≤ k → k - j < n → hash_bit n (bit_of key) input j ≡ input (k - j)
 unfolding hash_bit
 one_selected n key input j k bits one low within =
     let alone : sum_below n (λ i. input i * bit_of key (i + j)) ≡ input (k - j) * bit_of key (k - j + j) =
@@ -35,7 +39,9 @@ one_selected n key input j k bits one low within =
     let product : input (k - j) * bit_of key (k - j + j) ≡ input (k - j) = rw there (omega arith) in
     omega (arith, alone, product, bits (k - j))
 
-selected : (key input : List ℕ) (k j : ℕ) → HasOneBit key k → j ≤ k → hash_bit (8 * length input) (bit_of key) (bit_of input) j ≡ bit_of input (k - j)
+selected :
+    (key input : List ℕ) (k j : ℕ) → HasOneBit key k → j ≤ k
+    → hash_bit (8 * length input) (bit_of key) (bit_of input) j ≡ bit_of input (k - j)
 selected key input k j one low =
     elim (cases_lt (k - j) (8 * length input)) [
       | inl within ↦ one_selected (8 * length input) key (bit_of input) j k (bit_of-lt input) one low within

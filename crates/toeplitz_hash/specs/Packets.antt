@@ -8,7 +8,9 @@ use Rattle.toeplitz_hash.specs.Toeplitz.{toeplitz_of}
 
 -- source address, destination address, source port, destination port, in network order
 abbrev pub input_bytes : Fields → List ℕ
-input_bytes fields = to_be_bytes w32 fields.src_ip ++ to_be_bytes w32 fields.dst_ip ++ to_be_bytes w16 fields.src_port ++ to_be_bytes w16 fields.dst_port
+input_bytes fields =
+    to_be_bytes w32 fields.src_ip ++ to_be_bytes w32 fields.dst_ip
+    ++ to_be_bytes w16 fields.src_port ++ to_be_bytes w16 fields.dst_port
 
 -- the key of a port
 abbrev pub key_at : Keys → ℕ → List ℕ
@@ -16,4 +18,7 @@ key_at keys port = slice_index_or keys.ports port []
 
 -- a packet's hash under the key of its port; none of one that is skipped
 abbrev pub hash_of : Keys → Packet → Option ℕ
-hash_of keys packet = option_map (λ (fields : Fields). toeplitz_of (key_at keys packet.id.port) (input_bytes fields)) packet.fields
+hash_of keys packet =
+    option_map
+    (λ (fields : Fields). toeplitz_of (key_at keys packet.id.port) (input_bytes fields))
+    packet.fields

@@ -1,7 +1,7 @@
 //! The hash, bit by bit.
 //!
-//! Which bits of the input are 1 is up to whoever sends the packets, so no branch depends on one: a bit
-//! is spread to a mask of 32 bits.
+//! Which bits of the input are 1 is up to whoever sends the packets, so no branch depends on one: a
+//! bit is spread to a mask of 32 bits.
 ghost use Rattle.std.specs.Prelude.{◌≡◌, ◌-◌, ◌*◌, ◌/◌, ◌%◌, ◌^◌, ◌<◌, ◌≤◌, ◌∷◌, [], length};
 ghost use Rattle.toeplitz_hash.specs.Bits.{bit_of, number_of};
 ghost use Rattle.toeplitz_hash.specs.Toeplitz.{toeplitz_of};

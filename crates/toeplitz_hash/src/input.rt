@@ -39,7 +39,8 @@ pub fn input_of(fields: &Fields) -> [u8; 12]
     ]
 }
 
-/// The hash of a packet under the key of the port that it came in at, and None for one that is skipped.
+/// The hash of a packet under the key of the port that it came in at, and None for one that is
+/// skipped.
 pub fn hash_packet(keys: &Keys, packet: &Packet) -> Option<u32>
     requires { packet.now.id.port < length keys.now.ports }
     ensures { result ≡ hash_of keys.now packet.now }

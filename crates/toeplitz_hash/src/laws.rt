@@ -1,15 +1,16 @@
-//! Laws over the definition of the hash, which is a sum modulo 2 in the bits of the key as in those of
-//! the input. Each function's contract is one law; its body does nothing.
-ghost use Rattle.toeplitz_hash.specs.Laws.{HashesHaveBits, IsLinearInKey, IsLinearInInput, OnlyFirstBitsMatter, OnlyBitsTo126Matter, ZerosHashToZero, OneKeyBitSelects, OneInputBitSelects, InputsAddUp, InputsAreLaidOut, PacketsUseTheKeyOfTheirPort};
+//! Laws over the definition of the hash, which is a sum modulo 2 in the bits of the key as in those
+//! of the input. Each function's contract is one law; its body does nothing.
+ghost use Rattle.toeplitz_hash.specs.Laws.{HashesHaveBits, IsLinearInKey, IsLinearInInput, OnlyFirstBitsMatter, OnlyBitsTo126Matter, ZerosHashToZero, OneKeyBitSelects, OneInputBitSelects, InputsAddUp, InputsAreLaidOut, OnlyHashedFieldsMatter, PacketsUseTheKeyOfTheirPort};
 ghost use Rattle.toeplitz_hash.specs.Suite.{SuiteIsMet};
 
-/// Bit `j` of a hash is the sum modulo 2 over the bits `i` of the input of `input_i * key_(i+j)`, and
-/// it has no other bits.
+/// Bit `j` of a hash is the sum modulo 2 over the bits `i` of the input of `input_i * key_(i+j)`,
+/// and it has no other bits.
 pub fn hashes_have_bits()
     ensures { HashesHaveBits }
 {}
 
-/// The hash under a key that is the sum modulo 2 of two keys is the `xor` of the hashes under these.
+/// The hash under a key that is the sum modulo 2 of two keys is the `xor` of the hashes under
+/// these.
 pub fn is_linear_in_key()
     ensures { IsLinearInKey }
 {}
@@ -44,16 +45,22 @@ pub fn one_input_bit_selects()
     ensures { OneInputBitSelects }
 {}
 
-/// The hash of two inputs in a row is the `xor` of their hashes, the second one's under the key from
-/// there on.
+/// The hash of two inputs in a row is the `xor` of their hashes, the second one's under the key
+/// from there on.
 pub fn inputs_add_up()
     ensures { InputsAddUp }
 {}
 
-/// Bits 0 to 31 of a packet's input are the source address, 32 to 63 the destination address, 64 to 79
-/// the source port and 80 to 95 the destination port, each from its highest bit down.
+/// Bits 0 to 31 of a packet's input are the source address, 32 to 63 the destination address, 64 to
+/// 79 the source port and 80 to 95 the destination port, each from its highest bit down.
 pub fn inputs_are_laid_out()
     ensures { InputsAreLaidOut }
+{}
+
+/// Packets whose addresses and ports agree, each at its width, have one input, and so one hash
+/// under each key.
+pub fn only_hashed_fields_matter()
+    ensures { OnlyHashedFieldsMatter }
 {}
 
 /// A packet is hashed with the key of the port that it came in at, and a skipped one has no hash.

@@ -1,4 +1,3 @@
 pub mod Stamps
-pub mod Shares
 pub mod Rings
-pub mod Kept
+pub mod Sound

@@ -1,9 +1,9 @@
 //! The chain.
 ghost use Rattle.std.specs.Prelude.{◌≡◌, ℕ, ◌<◌, ◌≤◌, length, IsTrue, IsSome, IfSome, IfNone, IfOk, MatchBool, MatchOption, ◌↔◌, ◌⊎◌, ◌+◌, None, Some, replicate};
 ghost use Rattle.std.specs.Bool.{OnTrue, OnFalse};
-ghost use Rattle.vig_chain.specs.Rings.{apart, AreLinked};
-ghost use Rattle.vig_chain.specs.Shares.{owns};
-ghost use Rattle.vig_chain.specs.Stamps.{opened, stamp_at, is_own, is_empty, is_free, is_past, is_past_at, Somewhere, Nowhere, IsOldest, NoneAbove, put, freed};
+ghost use Rattle.vig_chain.specs.Rings.{lone_cells, AreLinked};
+ghost use Rattle.nf_base.specs.Shares.{owns};
+ghost use Rattle.vig_chain.specs.Stamps.{opened, stamp_of, is_vacant_at, is_available, is_past, is_due_at, SomeIndexHas, NoIndexHas, IsOldest, NoneAbove, stamped, freed};
 
 use crate::links::Links;
 use nf_base::share::Share;
@@ -13,15 +13,16 @@ use std::marker::Model;
 
 /// The indices of a chain, of which its share's own are given out, each with a stamp.
 ///
-/// Contracts see it as the list, by index, of the stamp of its entry or none, beside the greatest stamp
-/// given so far and the share. Times, stamps and lifetimes are in nanoseconds. No call but `new` and `copy`
-/// takes memory, and every other one goes a bounded number of steps, whatever the chain's size.
+/// Contracts see it as the list, by index, of the stamp of its entry or none, beside the greatest
+/// stamp given so far and the share. Times, stamps and lifetimes are in nanoseconds. No call but
+/// `new` takes memory, and each but `new` and `copy_from` goes a bounded number of steps, whatever
+/// the chain's size.
 #[derive(Drop)]
 pub struct Chain {
     /// By index the stamp of its entry.
     stamps: Vec<Option<u64>>,
-    /// A cell for each index, then the one where the ring of the entries begins, in the order of their
-    /// stamps, and then the one where the ring of the free own indices does.
+    /// A cell for each index, then the one where the ring of the entries begins, in the order of
+    /// their stamps, and then the one where the ring of the available indices does.
     links: Links,
     /// How many indices there are.
     size: u32,
@@ -31,19 +32,20 @@ pub struct Chain {
 
 impl Model for Chain {
     ghost use Rattle.vig_chain.specs.Stamps.{Stamps, stamps_of};
-    ghost use Rattle.vig_chain.specs.Kept.{IsKept};
+    ghost use Rattle.vig_chain.specs.Sound.{IsSoundChain};
 
     ghost Value = { Stamps };
 
-    ghost view = { λ a. stamps_of a.stamps.items a.greatest a.share.queue a.share.of };
+    ghost view = { λ a. stamps_of a.stamps.items a.greatest a.share };
 
-    ghost invariant = { λ a. IsKept a.size (stamps_of a.stamps.items a.greatest a.share.queue a.share.of) a.links };
+    ghost invariant = { λ a.
+        IsSoundChain a.size (stamps_of a.stamps.items a.greatest a.share) a.links };
 }
 
 impl Chain {
-    /// A chain of so many indices, all of them free, whose share's own are given out.
+    /// A chain of so many indices, all of them vacant, whose share's own are given out.
     pub fn new(alloc: Global, size: Size, share: Share) -> Result<Chain, AllocError>
-        ensures { IfOk result (λ chain. chain ≡ opened size share.queue share.of) }
+        ensures { IfOk result (λ chain. chain ≡ opened size share) }
     {
         let count = size.get();
         let stamps = no_stamps(alloc, count)?;
@@ -58,25 +60,29 @@ impl Chain {
         })
     }
 
-    /// The same chain once more.
-    pub fn copy(&self, alloc: Global) -> Result<Chain, AllocError>
-        ensures { IfOk result (λ copy. copy ≡ self.now) }
+    /// Makes this chain the same as another one of as many indices.
+    pub fn copy_from(&mut self, other: &Chain)
+        requires { length self.old.slots ≡ length other.now.slots }
+        ensures { self.new ≡ other.now }
     {
-        let stamps = Vec::from_slice(alloc, self.stamps.as_slice())?;
-        let links = self.links.copy(alloc)?;
-        Ok(Chain {
-            stamps,
-            links,
-            size: self.size,
-            greatest: self.greatest,
-            share: self.share,
-        })
+        self.stamps.copy_from_slice(other.stamps.as_slice());
+        self.links.copy_from(&other.links);
+        self.size = other.size;
+        self.greatest = other.greatest;
+        self.share = other.share;
     }
 
-    /// The stamp of the entry at an index: none where the index is free or past the end.
+    /// The share whose indices are given out.
+    pub fn share(&self) -> Share
+        ensures { result ≡ self.now.share }
+    {
+        self.share
+    }
+
+    /// The stamp of the entry at an index: none where the index is vacant or past the end.
     pub fn stamp(&self, index: u32) -> Option<u64>
-        ensures value { result ≡ stamp_at self.now.slots index }
-        ensures own { IsSome result → IsTrue (is_own self.now index) }
+        ensures value { result ≡ stamp_of self.now.slots index }
+        ensures own { IsSome result → IsTrue (owns self.now.share index) }
     {
         *self.stamps.get(index as usize)?
     }
@@ -89,19 +95,21 @@ impl Chain {
         self.greatest
     }
 
-    /// Whether no own index is free.
+    /// Whether no own index is vacant.
     pub fn is_full(&self) -> bool
-        ensures { MatchBool result (Nowhere (is_free self.now)) (Somewhere (is_free self.now)) }
+        ensures { let available = is_available self.now in
+            MatchBool result (NoIndexHas available) (SomeIndexHas available) }
     {
-        let free = self.size + 1;
-        self.links.next(free) == free
+        let ring = self.size + 1;
+        self.links.next(ring) == ring
     }
 
-    /// The entry with the least stamp, as its index and that stamp: none where there are no entries.
+    /// The entry with the least stamp, as its index and that stamp: none where there are no
+    /// entries.
     fn oldest(&self) -> Option<(u32, u64)>
-        ensures some { IfSome result (λ entry. stamp_at self.now.slots entry.0 ≡ Some entry.1) }
+        ensures some { IfSome result (λ entry. stamp_of self.now.slots entry.0 ≡ Some entry.1) }
         ensures oldest { IfSome result (λ entry. IsOldest self.now entry.0) }
-        ensures none { IfNone result ((i s : ℕ) → stamp_at self.now.slots i ≡ Some s → ⊥) }
+        ensures none { IfNone result ((i s : ℕ) → stamp_of self.now.slots i ≡ Some s → ⊥) }
     {
         let first = self.links.next(self.size);
         match self.stamp(first) {
@@ -110,16 +118,16 @@ impl Chain {
         }
     }
 
-    /// Whether an index is own and free.
-    fn is_free(&self, index: u32) -> bool
-        ensures { result ≡ is_free self.now index }
+    /// Whether an index is own and vacant.
+    fn is_available(&self, index: u32) -> bool
+        ensures { result ≡ is_available self.now index }
     {
-        index % self.share.of == self.share.queue && self.is_empty(index)
+        self.share.owns(index) && self.is_vacant_at(index)
     }
 
-    /// Whether there is room at an index.
-    fn is_empty(&self, index: u32) -> bool
-        ensures { result ≡ is_empty self.now.slots index }
+    /// Whether an index is vacant: past the end none is.
+    fn is_vacant_at(&self, index: u32) -> bool
+        ensures { result ≡ is_vacant_at self.now.slots index }
     {
         match self.stamps.get(index as usize) {
             Some(stamp) => stamp.is_none(),
@@ -127,10 +135,10 @@ impl Chain {
         }
     }
 
-    /// Puts an entry at an own free index, or gives the one there the next stamp.
+    /// Puts an entry at an available index, or gives the one there the next stamp.
     fn put(&mut self, index: u32, time: u64)
-        requires { IsTrue (is_free self.old index) ⊎ IsSome (stamp_at self.old.slots index) }
-        ensures { self.new ≡ put time index self.old }
+        requires { IsTrue (is_available self.old index) ⊎ IsSome (stamp_of self.old.slots index) }
+        ensures { self.new ≡ stamped time index self.old }
     {
         let stamp = time.max(self.greatest);
         self.links.unlink(index);
@@ -141,7 +149,7 @@ impl Chain {
 
     /// Gives up the entry at an index.
     fn give_up(&mut self, index: u32)
-        requires { IsSome (stamp_at self.old.slots index) }
+        requires { IsSome (stamp_of self.old.slots index) }
         ensures { self.new ≡ freed index self.old }
     {
         self.links.unlink(index);
@@ -149,48 +157,49 @@ impl Chain {
         self.stamps[index as usize] = None;
     }
 
-    /// Makes an entry at a free own index: none where no own index is free.
+    /// Makes an entry at an own vacant index: none where no own index is vacant.
     ///
     /// Its stamp is the time, or the greatest stamp so far where that is later.
     pub fn allocate(&mut self, time: u64) -> Option<u32>
-        ensures cause { MatchOption result (Nowhere (is_free self.old)) (λ i. IsTrue (is_free self.old i)) }
-        ensures put { IfSome result (λ i. self.new ≡ put time i self.old) }
+        ensures cause { let available = is_available self.old in
+            MatchOption result (NoIndexHas available) (λ i. IsTrue (available i)) }
+        ensures stamped { IfSome result (λ i. self.new ≡ stamped time i self.old) }
         ensures unchanged { IfNone result (self.new ≡ self.old) }
     {
-        let free = self.size + 1;
-        let index = self.links.next(free);
-        if index == free {
+        let ring = self.size + 1;
+        let index = self.links.next(ring);
+        if index == ring {
             return None;
         }
         self.put(index, time);
         Some(index)
     }
 
-    /// Makes an entry at an index, with the stamp that `allocate` gives: false where the index is not own or
-    /// is live.
+    /// Makes an entry at an index, with the stamp that `allocate` gives: false where the index is
+    /// not own or is live.
     pub fn take(&mut self, index: u32, time: u64) -> bool
-        ensures cause { result ≡ is_free self.old index }
-        ensures put { OnTrue result (self.new ≡ put time index self.old) }
+        ensures cause { result ≡ is_available self.old index }
+        ensures stamped { OnTrue result (self.new ≡ stamped time index self.old) }
         ensures unchanged { OnFalse result (self.new ≡ self.old) }
     {
-        let is_free = self.is_free(index);
-        if is_free {
+        let is_available = self.is_available(index);
+        if is_available {
             self.put(index, time);
         }
-        is_free
+        is_available
     }
 
     /// Gives a live index the stamp that `allocate` gives.
     pub fn touch(&mut self, index: u32, time: u64)
-        requires { IsSome (stamp_at self.old.slots index) }
-        ensures { self.new ≡ put time index self.old }
+        requires { IsSome (stamp_of self.old.slots index) }
+        ensures { self.new ≡ stamped time index self.old }
     {
         self.put(index, time);
     }
 
     /// Gives up the entry at an index: false where there is none.
     pub fn free(&mut self, index: u32) -> bool
-        ensures cause { IsTrue result ↔ IsSome (stamp_at self.old.slots index) }
+        ensures cause { IsTrue result ↔ IsSome (stamp_of self.old.slots index) }
         ensures freed { OnTrue result (self.new ≡ freed index self.old) }
         ensures unchanged { OnFalse result (self.new ≡ self.old) }
     {
@@ -201,10 +210,11 @@ impl Chain {
         is_live
     }
 
-    /// Whether some entry is past its lifetime: its stamp and the lifetime, added exactly, come before the time.
+    /// Whether some entry is past its lifetime: its stamp and the lifetime, added exactly, come
+    /// before the time.
     pub fn due(&self, time: u64, lifetime: u64) -> bool
-        ensures { let past = is_past_at time lifetime self.now in
-            MatchBool result (Somewhere past) (Nowhere past) }
+        ensures { let past = is_due_at time lifetime self.now in
+            MatchBool result (SomeIndexHas past) (NoIndexHas past) }
     {
         match self.oldest() {
             Some((_, stamp)) => is_past(stamp, time, lifetime),
@@ -212,11 +222,11 @@ impl Chain {
         }
     }
 
-    /// Gives up an entry with the least stamp, if it is past its lifetime, and says at which index: none where
-    /// no entry is past its lifetime.
+    /// Gives up an entry with the least stamp, if it is past its lifetime, and says at which index:
+    /// none where no entry is past its lifetime.
     pub fn expire_one(&mut self, time: u64, lifetime: u64) -> Option<u32>
-        ensures cause { let past = is_past_at time lifetime self.old in
-            MatchOption result (Nowhere past) (λ i. IsTrue (past i)) }
+        ensures cause { let past = is_due_at time lifetime self.old in
+            MatchOption result (NoIndexHas past) (λ i. IsTrue (past i)) }
         ensures oldest { IfSome result (λ i. IsOldest self.old i) }
         ensures freed { IfSome result (λ i. self.new ≡ freed i self.old) }
         ensures unchanged { IfNone result (self.new ≡ self.old) }
@@ -248,16 +258,16 @@ fn no_stamps(alloc: Global, count: u32) -> Result<Vec<Option<u64>>, AllocError>
     Ok(stamps)
 }
 
-/// Puts a share's indices, of so many, in the ring of the free ones.
+/// Puts a share's indices, of so many, in the ring of the available ones.
 fn link_free(links: &mut Links, size: u32, share: Share)
     requires some { 1 ≤ size }
     requires most { size ≤ 65536 }
-    requires apart { links.old ≡ apart (size + 2) }
+    requires alone { links.old ≡ lone_cells (size + 2) }
     ensures linked { AreLinked size (owns share) (replicate size None) links.new }
     ensures cells { length links.new.next ≡ size + 2 }
 {
     for index in 0..size {
-        if index % share.of == share.queue {
+        if share.owns(index) {
             links.append(index, size + 1);
         }
     }

@@ -1,8 +1,8 @@
 //! Doubly linked rings of cells, in two arrays.
 ghost use Rattle.std.specs.Prelude.{◌≡◌, ℕ, ◌<◌, ◌≤◌, length, IfOk, slice_index};
 ghost use Rattle.std.specs.List.{range_with_len};
-ghost use Rattle.vig_chain.specs.Kept.{IsWithin};
-ghost use Rattle.vig_chain.specs.Rings.{apart, unlinked, appended};
+ghost use Rattle.vig_chain.specs.Sound.{LinksInRange};
+ghost use Rattle.vig_chain.specs.Rings.{lone_cells, unlinked, appended};
 
 use std::alloc::{AllocError, Global};
 use std::marker::Model;
@@ -16,33 +16,32 @@ pub struct Links {
 
 impl Model for Links {
     ghost use Rattle.vig_chain.specs.Rings.{Rings};
-    ghost use Rattle.vig_chain.specs.Kept.{IsWithin};
+    ghost use Rattle.vig_chain.specs.Sound.{LinksInRange};
 
     ghost Value = { Rings };
 
     ghost view = { λ a. record { next = a.next.items; prev = a.prev.items } };
 
-    ghost invariant = { λ a. IsWithin (record { next = a.next.items; prev = a.prev.items }) };
+    ghost invariant = { λ a. LinksInRange (record { next = a.next.items; prev = a.prev.items }) };
 }
 
 impl Links {
     /// So many cells, each a ring of its own.
     pub fn new(alloc: Global, count: u32) -> Result<Links, AllocError>
-        ensures { IfOk result (λ links. links ≡ apart count) }
+        ensures { IfOk result (λ links. links ≡ lone_cells count) }
     {
         let next = cells(alloc, count)?;
         let prev = cells(alloc, count)?;
         Ok(Links { next, prev })
     }
 
-    /// The same links once more.
-    pub fn copy(&self, alloc: Global) -> Result<Links, AllocError>
-        ensures { IfOk result (λ copy. copy ≡ self.now) }
+    /// Makes these links the same as those of as many other cells.
+    pub fn copy_from(&mut self, other: &Links)
+        requires { length self.old.next ≡ length other.now.next }
+        ensures { self.new ≡ other.now }
     {
-        Ok(Links {
-            next: Vec::from_slice(alloc, self.next.as_slice())?,
-            prev: Vec::from_slice(alloc, self.prev.as_slice())?,
-        })
+        self.next.copy_from_slice(other.next.as_slice());
+        self.prev.copy_from_slice(other.prev.as_slice());
     }
 
     /// The next cell in a cell's ring.
@@ -58,7 +57,7 @@ impl Links {
     pub fn unlink(&mut self, cell: u32)
         requires { cell < length self.old.next }
         ensures value { self.new ≡ unlinked cell self.old }
-        ensures within { IsWithin self.old }
+        ensures within { LinksInRange self.old }
     {
         let before = self.prev[cell as usize];
         let after = self.next[cell as usize];
@@ -71,7 +70,7 @@ impl Links {
         requires cell_within { cell < length self.old.next }
         requires ring_within { ring < length self.old.next }
         ensures value { self.new ≡ appended cell ring self.old }
-        ensures within { IsWithin self.old }
+        ensures within { LinksInRange self.old }
     {
         let last = self.prev[ring as usize];
         self.next[last as usize] = cell;

@@ -9,6 +9,6 @@ mixed hash part = bit_xor hash part * 0x9E3779B97F4A7C15 % 2 ^ 64
 abbrev pub hash_of : List ℕ → ℕ
 hash_of key = fold mixed 0 key
 
--- the slot at which the search for a key begins, of so many, by the hash's high half
-unfoldable pub home : ℕ → List ℕ → ℕ
-home homes key = hash_of key / 2 ^ 32 % homes
+-- the slot at which the search for a key begins, of so many first ones, by the hash's high half
+unfoldable pub first_slot : ℕ → List ℕ → ℕ
+first_slot starts key = hash_of key / 2 ^ 32 % starts

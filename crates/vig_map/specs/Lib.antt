@@ -1,4 +1,4 @@
 pub mod Bindings
 pub mod Hashes
 pub mod Slots
-pub mod Kept
+pub mod Sound

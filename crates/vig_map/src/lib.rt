@@ -1,5 +1,5 @@
-//! A finite map from keys to numbers, by open addressing in memory taken once. A look-up stays short
-//! however much was erased before.
+//! A finite map from keys to numbers, by open addressing in memory taken once. A look-up stays
+//! short however much was erased before.
 #![tactic(auto)]
 
 mod hash;

@@ -3,7 +3,7 @@ ghost use Rattle.std.specs.Prelude.{◌≡◌, ◌≤◌, [], length, IfOk, IfNo
 ghost use Rattle.std.specs.Bool.{OnTrue, OnFalse};
 ghost use Rattle.vig_map.specs.Bindings.{bindings_of, value_of, is_bindable, IsPut, IsErased};
 
-use crate::slots::{Pair, close_gap, copied_slots, empty_slots, search, value_at};
+use crate::slots::{Pair, close_gap, copy_slots, empty_slots, search, value_at};
 use nf_base::key::Key;
 use nf_base::size::Size;
 use std::alloc::{AllocError, Global};
@@ -11,11 +11,12 @@ use std::marker::Model;
 
 /// A finite map from keys to numbers, of so many pairs at most.
 ///
-/// Contracts see it as a list of its pairs, of whose order they say nothing. No call but `new` and `copy` takes
-/// memory. A look-up goes past as many slots as there are pairs at most, whatever was erased before.
+/// Contracts see it as a list of its pairs, of whose order they say nothing. No call but `new`
+/// takes memory. A look-up goes past as many slots as there are pairs at most, whatever was erased
+/// before.
 #[derive(Drop)]
 pub struct Map {
-    /// Three for each pair that may stand: two in which keys have their homes, and one behind these.
+    /// Three for each pair that may stand: two in which searches begin, and one behind these.
     slots: Vec<Option<Pair>>,
     /// How many pairs stand.
     held: u32,
@@ -26,13 +27,13 @@ pub struct Map {
 impl Model for Map {
     ghost use Rattle.vig_map.specs.Bindings.{Bindings, bindings_of};
     ghost use Rattle.vig_map.specs.Slots.{pairs_of};
-    ghost use Rattle.vig_map.specs.Kept.{IsKept};
+    ghost use Rattle.vig_map.specs.Sound.{IsSoundMap};
 
     ghost Value = { Bindings };
 
     ghost view = { λ a. bindings_of (pairs_of a.slots.items) a.most };
 
-    ghost invariant = { λ a. IsKept a.slots.items a.held a.most };
+    ghost invariant = { λ a. IsSoundMap a.slots.items a.held a.most };
 }
 
 impl Map {
@@ -49,16 +50,13 @@ impl Map {
         })
     }
 
-    /// The same map once more.
-    pub fn copy(&self, alloc: Global) -> Result<Map, AllocError>
-        ensures { IfOk result (λ copy. copy ≡ self.now) }
+    /// Makes this map the same as another one that may have as many pairs.
+    pub fn copy_from(&mut self, other: &Map)
+        requires { self.old.most ≡ other.now.most }
+        ensures { self.new ≡ other.now }
     {
-        let slots = copied_slots(alloc, self.slots.as_slice())?;
-        Ok(Map {
-            slots,
-            held: self.held,
-            most: self.most,
-        })
+        copy_slots(&mut self.slots, other.slots.as_slice());
+        self.held = other.held;
     }
 
     /// The value of a key: none where it is not bound.

@@ -1,10 +1,10 @@
 //! Slots, each with a pair or empty.
 ghost use Rattle.std.specs.Prelude.{◌≡◌, ℕ, ◌+◌, ◌<◌, ◌≤◌, ◌↔◌, length, None, Some, vec_len, IsTrue, IfOk, replicate, false};
 ghost use Rattle.std.specs.Option.{option_map};
-ghost use Rattle.vig_map.specs.Hashes.{home};
+ghost use Rattle.vig_map.specs.Hashes.{first_slot};
 ghost use Rattle.vig_map.specs.Slots.{slot_at, IsStop, AreMet, AreMetButOver, AreSamePairs};
 
-use crate::hash::home;
+use crate::hash::first_slot;
 use nf_base::key::Key;
 use std::alloc::{AllocError, Global};
 
@@ -39,15 +39,14 @@ fn copied(slot: &Option<Pair>) -> Option<Pair>
     }
 }
 
-/// The same slots once more.
-pub fn copied_slots(alloc: Global, slots: &[Option<Pair>]) -> Result<Vec<Option<Pair>>, AllocError>
-    ensures { IfOk result (λ copy. copy.items ≡ slots.now) }
+/// Makes slots the same as as many others.
+pub fn copy_slots(slots: &mut Vec<Option<Pair>>, others: &[Option<Pair>])
+    requires { length slots.old.items ≡ length others.now }
+    ensures { slots.new.items ≡ others.now }
 {
-    let mut copy = Vec::with_capacity(alloc, slots.len())?;
-    for slot in slots {
-        copy.push(copied(slot))?;
+    for i in 0..others.len() {
+        slots[i] = copied(&others[i]);
     }
-    Ok(copy)
 }
 
 /// Whether two keys are equal.
@@ -60,7 +59,8 @@ fn is_same(a: &Key, b: &Key) -> bool
 /// Whether the search for a key stops at a slot: it is empty, or the key stands there.
 fn stops(slot: &Option<Pair>, key: &Key) -> bool
     ensures at { IsTrue result → (pair : Pair) → slot.now ≡ Some pair → pair.key ≡ key.now }
-    ensures past { result ≡ false → (pair : Pair) × (slot.now ≡ Some pair) × (pair.key ≡ key.now → ⊥) }
+    ensures past { result ≡ false →
+        (pair : Pair) × (slot.now ≡ Some pair) × (pair.key ≡ key.now → ⊥) }
 {
     match slot {
         Some(pair) => is_same(&pair.key, key),
@@ -68,14 +68,16 @@ fn stops(slot: &Option<Pair>, key: &Key) -> bool
     }
 }
 
-/// The first slot, from a key's home of so many on, that is empty or has the key: the number of slots where
-/// none is.
-pub fn search(slots: &[Option<Pair>], homes: u32, key: &Key) -> usize
-    requires some { 0 < homes }
-    requires within { homes ≤ length slots.now }
-    ensures { IsStop slots.now (home homes key.now) key.now result }
+/// The first slot, from where a key's search begins on, that is empty or has the key: the number of
+/// slots where none is.
+///
+/// The searches begin in so many slots, the first ones.
+pub fn search(slots: &[Option<Pair>], starts: u32, key: &Key) -> usize
+    requires some { 0 < starts }
+    requires within { starts ≤ length slots.now }
+    ensures { IsStop slots.now (first_slot starts key.now) key.now result }
 {
-    for i in home(key, homes) as usize..slots.len() {
+    for i in first_slot(key, starts) as usize..slots.len() {
         if stops(&slots[i], key) {
             return i;
         }
@@ -103,11 +105,11 @@ fn value_in(slot: &Option<Pair>) -> Option<u32>
 }
 
 /// Moves pairs from behind an empty slot, so that the search for each key comes to it again.
-pub fn close_gap(slots: &mut Vec<Option<Pair>>, empty: usize, homes: u32)
-    requires some { 0 < homes }
+pub fn close_gap(slots: &mut Vec<Option<Pair>>, empty: usize, starts: u32)
+    requires some { 0 < starts }
     requires within { empty < vec_len slots.old }
-    requires gap { AreMetButOver homes empty (empty + 1) slots.old.items }
-    ensures met { AreMet homes slots.new.items }
+    requires gap { AreMetButOver starts empty (empty + 1) slots.old.items }
+    ensures met { AreMet starts slots.new.items }
     ensures same { AreSamePairs slots.old.items slots.new.items }
 {
     let mut gap = empty;
@@ -115,20 +117,20 @@ pub fn close_gap(slots: &mut Vec<Option<Pair>>, empty: usize, homes: u32)
         if slots[at].is_none() {
             return;
         }
-        gap = shift(slots, gap, at, homes);
+        gap = shift(slots, gap, at, starts);
     }
 }
 
-/// Moves the pair at a slot into the gap before it, where its key's home is not behind the gap, and says where
-/// the gap is then.
-fn shift(slots: &mut Vec<Option<Pair>>, gap: usize, at: usize, homes: u32) -> usize
-    requires some { 0 < homes }
+/// Moves the pair at a slot into the gap before it, where its key's search begins no later than the
+/// gap, and says where the gap is then.
+fn shift(slots: &mut Vec<Option<Pair>>, gap: usize, at: usize, starts: u32) -> usize
+    requires some { 0 < starts }
     requires within { at < vec_len slots.old }
-    requires gap { AreMetButOver homes gap at slots.old.items }
-    ensures gap { AreMetButOver homes result (at + 1) slots.new.items }
+    requires gap { AreMetButOver starts gap at slots.old.items }
+    ensures gap { AreMetButOver starts result (at + 1) slots.new.items }
     ensures same { AreSamePairs slots.old.items slots.new.items }
 {
-    if !fits(&slots[at], gap, homes) {
+    if !fits(&slots[at], gap, starts) {
         return gap;
     }
     let moved = slots[at].take();
@@ -136,14 +138,16 @@ fn shift(slots: &mut Vec<Option<Pair>>, gap: usize, at: usize, homes: u32) -> us
     at
 }
 
-/// Whether a slot has a pair whose key's home is a slot or before it.
-fn fits(slot: &Option<Pair>, gap: usize, homes: u32) -> bool
-    requires { 0 < homes }
-    ensures yes { IsTrue result → (pair : Pair) × (slot.now ≡ Some pair) × (home homes pair.key ≤ gap) }
-    ensures no { result ≡ false → (pair : Pair) → slot.now ≡ Some pair → gap < home homes pair.key }
+/// Whether a slot has a pair whose key's search begins no later than a gap.
+fn fits(slot: &Option<Pair>, gap: usize, starts: u32) -> bool
+    requires { 0 < starts }
+    ensures yes { IsTrue result →
+        (pair : Pair) × (slot.now ≡ Some pair) × (first_slot starts pair.key ≤ gap) }
+    ensures no { result ≡ false →
+        (pair : Pair) → slot.now ≡ Some pair → gap < first_slot starts pair.key }
 {
     match slot {
-        Some(pair) => home(&pair.key, homes) as usize <= gap,
+        Some(pair) => first_slot(&pair.key, starts) as usize <= gap,
         None => false,
     }
 }

@@ -6,4 +6,4 @@ pub mod Expiring
 pub mod Reading
 pub mod Making
 pub mod Changing
-pub mod WholeLemmas
+pub mod StateLemmas

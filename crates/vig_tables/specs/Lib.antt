@@ -3,4 +3,4 @@ pub mod Keyed
 pub mod Slots
 pub mod Table
 pub mod Joined
-pub mod Whole
+pub mod TablesState

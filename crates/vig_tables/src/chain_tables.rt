@@ -1,13 +1,12 @@
 //! The tables of one chain.
-ghost use Rattle.std.specs.Prelude.{◌≡◌, ◌≤◌, ◌<◌, length, not, IsTrue, IfOk, MatchBool, option_and_then, slice_get, replicate};
+ghost use Rattle.std.specs.Prelude.{◌≡◌, ◌≤◌, ◌<◌, length, not, IfOk, option_and_then, slice_get, replicate};
 ghost use Rattle.std.specs.Bool.{OnTrue, OnFalse};
 ghost use Rattle.std.specs.Option.{option_map};
-ghost use Rattle.nf_base.specs.Chains.{has_label, has_labels, touched, freed, written};
-ghost use Rattle.nf_base.specs.Context.{or_zero, label_of, free_of};
+ghost use Rattle.nf_base.specs.Chains.{entry_at, is_taken, none_due, touched, freed, written};
+ghost use Rattle.nf_base.specs.Context.{or_zero, label_of, column_of};
 ghost use Rattle.nf_base.specs.Limits.{HaveShortKeys};
-ghost use Rattle.nf_base.specs.Runs.{none_past};
-ghost use Rattle.vig_chain.specs.Stamps.{Somewhere, Nowhere};
-ghost use Rattle.vig_tables.specs.Table.{opened, with_chain, entry, is_open, found, found_at, has_taken, Creates, can_enter, entered, column_of, with_column, without_past};
+ghost use Rattle.nf_base.specs.Shares.{owns, none_vacant};
+ghost use Rattle.vig_tables.specs.Table.{opened, with_chain, index_under, index_with, has_label, has_labels, CauseOf, if_made, can_make_at, entered, without_past};
 ghost use Rattle.vig_tables.specs.Slots.{labelled, live};
 
 use crate::created::Created;
@@ -25,8 +24,8 @@ use vig_chain::Chain;
 
 /// The entries of one chain, by index and by the keys of its maps.
 ///
-/// Contracts see them as a chain of the state, by index, beside the chain's declaration and the share whose
-/// indices are given out. Times and stamps are in nanoseconds.
+/// Contracts see them as a chain of the state, by index, beside the chain's declaration and the
+/// share whose indices are given out. Times and stamps are in nanoseconds.
 #[derive(Drop)]
 pub struct ChainTables {
     decl: ChainDecl,
@@ -35,7 +34,7 @@ pub struct ChainTables {
     maps: Vec<KeyMap>,
     /// By index the labels of its entry, and its free columns.
     labels: Rows,
-    free: Rows,
+    columns: Rows,
 }
 
 impl Model for ChainTables {
@@ -44,29 +43,29 @@ impl Model for ChainTables {
 
     ghost Value = { Table };
 
-    ghost view = { λ a. table_of a.decl a.chain a.labels a.free };
+    ghost view = { λ a. table_of a.decl a.chain a.labels a.columns };
 
-    ghost invariant = { λ a. AreJoined a.decl a.chain a.maps.items a.labels a.free };
+    ghost invariant = { λ a. AreJoined a.decl a.chain a.maps.items a.labels a.columns };
 }
 
 impl ChainTables {
     /// The tables of a chain without entries.
     pub fn new(alloc: Global, decl: &ChainDecl, share: Share) -> Result<ChainTables, AllocError>
         requires { HaveShortKeys decl.now.maps }
-        ensures { IfOk result (λ tables. tables ≡ opened decl.now share.queue share.of) }
+        ensures { IfOk result (λ tables. tables ≡ opened decl.now share) }
     {
         let size = decl.size.get();
         let chain = Chain::new(alloc, decl.size, share)?;
         let maps = new_maps(alloc, decl.maps.as_slice(), decl.size)?;
         let labels = Rows::new(alloc, size, decl.labels.len())?;
-        let free = Rows::new(alloc, size, decl.free.len())?;
+        let columns = Rows::new(alloc, size, decl.columns.len())?;
         let decl = decl.copy(alloc)?;
         Ok(ChainTables {
             decl,
             chain,
             maps,
             labels,
-            free,
+            columns,
         })
     }
 
@@ -86,7 +85,7 @@ impl ChainTables {
 
     /// The index to which a key is bound in a map, by the map's number in the chain.
     pub fn lookup(&self, map: u32, key: &Key) -> Option<u32>
-        ensures { result ≡ found self.now.decl self.now.chain map key.now }
+        ensures { result ≡ index_under self.now.decl.maps map key.now self.now.chain.slots }
     {
         match self.maps.get(map as usize) {
             Some(map) => map.get(key),
@@ -96,7 +95,7 @@ impl ChainTables {
 
     /// The stamp of the entry at an index: none where there is no entry.
     pub fn stamp(&self, i: u32) -> Option<u64>
-        ensures { result ≡ option_map (λ e. e.stamp) (entry self.now i) }
+        ensures { result ≡ option_map (λ e. e.stamp) (entry_at self.now.chain.slots i) }
     {
         self.chain.stamp(i)
     }
@@ -108,33 +107,36 @@ impl ChainTables {
         self.chain.greatest()
     }
 
-    /// Whether no own index is free.
+    /// Whether no own index is vacant.
     pub fn is_full(&self) -> bool
-        ensures { MatchBool result (Nowhere (is_open self.now)) (Somewhere (is_open self.now)) }
+        ensures { result ≡ none_vacant (owns self.now.share) self.now.chain.slots }
     {
         self.chain.is_full()
     }
 
     /// Whether some entry is past its lifetime.
     pub fn due(&self, time: u64) -> bool
-        ensures { result ≡ not (none_past time self.now.decl.lifetime self.now.chain.slots) }
+        ensures { result ≡ not (none_due time self.now.decl.lifetime self.now.chain.slots) }
     {
         self.chain.due(time, self.decl.lifetime)
     }
 
     /// Whether a key of some labels is bound.
     pub fn is_taken(&self, labels: &[u64]) -> bool
-        ensures { result ≡ has_taken self.now labels.now }
+        ensures { result ≡ is_taken self.now.decl.maps labels.now self.now.chain.slots }
     {
         is_any_bound(self.maps.as_slice(), labels)
     }
 
-    /// Makes an entry with these labels at an own free index, and with zeros in its free columns.
+    /// Makes an entry with these labels at an own vacant index, and with zeros in its free columns.
     ///
     /// Its stamp is the time, or the greatest stamp so far where that is later.
     pub fn create(&mut self, labels: &[u64], time: u64) -> Created
         requires { length labels.now ≡ length self.old.decl.labels }
-        ensures { Creates time labels.now self.old result self.new }
+        ensures cause { let old = self.old in
+            CauseOf result old.decl.maps labels.now old.share old.chain.slots }
+        ensures changes { self.new ≡
+            if_made result (λ i. entered time i labels.now self.old) self.old }
     {
         if is_any_bound(self.maps.as_slice(), labels) {
             return Created::Taken;
@@ -144,16 +146,17 @@ impl ChainTables {
             None => return Created::Full,
         };
         self.labels.set_row(i, labels);
-        self.free.clear_row(i);
+        self.columns.clear_row(i);
         bind_all(&mut self.maps, labels, i);
         Created::Made(i)
     }
 
-    /// Makes an entry at an index, as `create` does: false where the index is not own or is live, or a key is
-    /// bound.
+    /// Makes an entry at an index, as `create` does: false where the index is not own or is live,
+    /// or a key is bound.
     pub fn create_at(&mut self, i: u32, labels: &[u64], time: u64) -> bool
         requires { length labels.now ≡ length self.old.decl.labels }
-        ensures cause { result ≡ can_enter self.old i labels.now }
+        ensures cause { let old = self.old in
+            result ≡ can_make_at old.decl.maps labels.now old.share old.chain.slots i }
         ensures entered { OnTrue result (self.new ≡ entered time i labels.now self.old) }
         ensures unchanged { OnFalse result (self.new ≡ self.old) }
     {
@@ -164,12 +167,13 @@ impl ChainTables {
             return false;
         }
         self.labels.set_row(i, labels);
-        self.free.clear_row(i);
+        self.columns.clear_row(i);
         bind_all(&mut self.maps, labels, i);
         true
     }
 
-    /// Gives the entry at an index the stamp that `create` gives; where there is none, nothing changes.
+    /// Gives the entry at an index the stamp that `create` gives; where there is none, nothing
+    /// changes.
     pub fn touch(&mut self, i: u32, time: u64)
         ensures { self.new ≡ with_chain (touched time i self.old.chain) self.old }
     {
@@ -187,35 +191,9 @@ impl ChainTables {
         }
     }
 
-    /// A column of the entry at an index, 0 where there is none: the labels come first, then the free columns.
-    pub fn cell(&self, i: u32, column: u32) -> u64
-        ensures { result ≡ column_of self.now.decl column (entry self.now i) }
-    {
-        if self.chain.stamp(i).is_none() {
-            return 0;
-        }
-        let labels = self.decl.labels.len();
-        if column < labels {
-            number_at(self.labels.row(i), column)
-        } else {
-            number_at(self.free.row(i), column - labels)
-        }
-    }
-
-    /// Writes a free column of the entry at an index, if there are both.
-    pub fn set_cell(&mut self, i: u32, column: u32, value: u64)
-        requires { length self.old.decl.labels ≤ column }
-        ensures { self.new ≡ with_column i column value self.old }
-    {
-        if self.chain.stamp(i).is_some() {
-            let free = column - self.decl.labels.len();
-            self.free.set(i, free, value);
-        }
-    }
-
     /// A label of the entry at an index, 0 where there is none.
     pub fn label(&self, i: u32, label: u32) -> u64
-        ensures { result ≡ label_of label (entry self.now i) }
+        ensures { result ≡ label_of label (entry_at self.now.chain.slots i) }
     {
         if self.chain.stamp(i).is_none() {
             return 0;
@@ -225,36 +203,38 @@ impl ChainTables {
 
     /// A free column of the entry at an index, 0 where there is none.
     pub fn column(&self, i: u32, column: u32) -> u64
-        ensures { result ≡ free_of column (entry self.now i) }
+        ensures { result ≡ column_of column (entry_at self.now.chain.slots i) }
     {
         if self.chain.stamp(i).is_none() {
             return 0;
         }
-        number_at(self.free.row(i), column)
+        number_at(self.columns.row(i), column)
     }
 
     /// A free column of the entry at an index, if there are both.
     pub fn free_column(&self, i: u32, column: u32) -> Option<u64>
-        ensures { result ≡ option_and_then (λ e. slice_get e.free column) (entry self.now i) }
+        ensures { let entry = entry_at self.now.chain.slots i in
+            result ≡ option_and_then (λ e. slice_get e.columns column) entry }
     {
         if self.chain.stamp(i).is_none() {
             return None;
         }
-        number_in(self.free.row(i), column)
+        number_in(self.columns.row(i), column)
     }
 
-    /// Writes a free column of the entry at an index, by its number among the free columns, if there are both.
+    /// Writes a free column of the entry at an index, if there are both.
     pub fn set_column(&mut self, i: u32, column: u32, value: u64)
         ensures { self.new ≡ with_chain (written column value i self.old.chain) self.old }
     {
         if self.chain.stamp(i).is_some() {
-            self.free.set(i, column, value);
+            self.columns.set(i, column, value);
         }
     }
 
-    /// An index, if it is one of the chain, is live and its entry has these labels, each with its number.
+    /// An index, if it is one of the chain, is live and its entry has these labels, each with its
+    /// number.
     pub fn find_at(&self, index: u64, guards: &[(u32, u64)]) -> Option<u32>
-        ensures { result ≡ found_at self.now index guards.now }
+        ensures { result ≡ index_with index guards.now (entry_at self.now.chain.slots index) }
     {
         if index >= u64::from(self.decl.size.get()) {
             return None;
@@ -293,18 +273,18 @@ impl ChainTables {
 
     /// The entry at an index.
     fn entry(&self, alloc: Global, i: u32) -> Result<Option<Entry>, AllocError>
-        ensures { IfOk result (λ e. e ≡ entry self.now i) }
+        ensures { IfOk result (λ e. e ≡ entry_at self.now.chain.slots i) }
     {
         let stamp = match self.chain.stamp(i) {
             Some(stamp) => stamp,
             None => return Ok(None),
         };
         let labels = Vec::from_slice(alloc, self.labels.row(i))?;
-        let free = Vec::from_slice(alloc, self.free.row(i))?;
+        let columns = Vec::from_slice(alloc, self.columns.row(i))?;
         Ok(Some(Entry {
             stamp,
             labels: Seq::from_vec(labels),
-            free: Seq::from_vec(free),
+            columns: Seq::from_vec(columns),
         }))
     }
 
@@ -327,17 +307,18 @@ impl ChainTables {
     pub fn copy(&self, alloc: Global) -> Result<ChainTables, AllocError>
         ensures { IfOk result (λ copy. copy ≡ self.now) }
     {
-        let chain = self.chain.copy(alloc)?;
-        let maps = copied_maps(alloc, self.maps.as_slice())?;
+        let mut chain = Chain::new(alloc, self.decl.size, self.chain.share())?;
+        chain.copy_from(&self.chain);
+        let maps = copied_maps(alloc, self.maps.as_slice(), self.decl.size)?;
         let labels = self.labels.copy(alloc)?;
-        let free = self.free.copy(alloc)?;
+        let columns = self.columns.copy(alloc)?;
         let decl = self.decl.copy(alloc)?;
         Ok(ChainTables {
             decl,
             chain,
             maps,
             labels,
-            free,
+            columns,
         })
     }
 }

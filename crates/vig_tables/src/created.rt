@@ -5,6 +5,6 @@ pub enum Created {
     Made(u32),
     /// One of its keys is bound.
     Taken,
-    /// No own index is free.
+    /// No own index is vacant.
     Full,
 }

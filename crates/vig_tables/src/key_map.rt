@@ -1,10 +1,10 @@
 //! A map of a chain.
-ghost use Rattle.std.specs.Prelude.{◌≡◌, ◌≤◌, ◌<◌, [], length, take, drop, is_some, IsSome, IsTrue, IfOk, map};
+ghost use Rattle.std.specs.Prelude.{◌≡◌, ◌≤◌, ◌<◌, [], length, take, drop, is_some, IsSome, IsTrue, IfOk, All, map};
 ghost use Rattle.std.specs.List.{AllZip, list_any};
 ghost use Rattle.nf_base.specs.Chains.{key_in};
 ghost use Rattle.nf_base.specs.Limits.{HaveShortKeys};
 ghost use Rattle.vig_map.specs.Bindings.{bindings_of, value_of, is_bindable, IsPut, IsErased};
-ghost use Rattle.vig_tables.specs.Keyed.{key_of, value_for, is_bound, keyed, AreBindable, AreBound, IsBoundTo, IsUnbound};
+ghost use Rattle.vig_tables.specs.Keyed.{key_of, value_for, is_bound, keyed, HasRoomFor, AreBindable, AreBound, IsBoundTo, IsUnbound};
 
 use nf_base::decl::MapDecl;
 use nf_base::key::Key;
@@ -75,14 +75,15 @@ impl KeyMap {
         self.map.erase(&key(&self.decl, labels));
     }
 
-    /// The same map once more.
-    pub fn copy(&self, alloc: Global) -> Result<KeyMap, AllocError>
+    /// The same map once more, with room for so many.
+    fn copy(&self, alloc: Global, size: Size) -> Result<KeyMap, AllocError>
+        requires { HasRoomFor size self.now }
         ensures { IfOk result (λ copy. copy ≡ self.now) }
     {
-        Ok(KeyMap {
-            decl: self.decl.copy(alloc)?,
-            map: self.map.copy(alloc)?,
-        })
+        let decl = self.decl.copy(alloc)?;
+        let mut map = Map::new(alloc, size)?;
+        map.copy_from(&self.map);
+        Ok(KeyMap { decl, map })
     }
 }
 
@@ -138,7 +139,8 @@ pub fn unbind_all(maps: &mut Vec<KeyMap>, labels: &[u64])
 /// Maps for a chain of so many indices.
 pub fn new_maps(alloc: Global, decls: &[MapDecl], size: Size) -> Result<Vec<KeyMap>, AllocError>
     requires { HaveShortKeys decls.now }
-    ensures { IfOk result (λ maps. maps.items ≡ map (λ decl. keyed decl (bindings_of [] size)) decls.now) }
+    ensures { IfOk result (λ maps.
+        maps.items ≡ map (λ decl. keyed decl (bindings_of [] size)) decls.now) }
 {
     let mut maps = Vec::with_capacity(alloc, decls.len())?;
     for decl in decls {
@@ -147,13 +149,14 @@ pub fn new_maps(alloc: Global, decls: &[MapDecl], size: Size) -> Result<Vec<KeyM
     Ok(maps)
 }
 
-/// The same maps once more.
-pub fn copied_maps(alloc: Global, maps: &[KeyMap]) -> Result<Vec<KeyMap>, AllocError>
+/// The same maps once more, of a chain of so many indices.
+pub fn copied_maps(alloc: Global, maps: &[KeyMap], size: Size) -> Result<Vec<KeyMap>, AllocError>
+    requires { All (HasRoomFor size) maps.now }
     ensures { IfOk result (λ copy. copy.items ≡ maps.now) }
 {
     let mut copy = Vec::with_capacity(alloc, maps.len())?;
     for map in maps {
-        copy.push(map.copy(alloc)?)?;
+        copy.push(map.copy(alloc, size)?)?;
     }
     Ok(copy)
 }

@@ -1,5 +1,5 @@
-//! The tables of a network function: by chain the entries by index and by key, and by array the cells,
-//! in memory taken once.
+//! The tables of a network function: by chain the entries by index and by key, and by array the
+//! cells, in memory taken once.
 #![tactic(auto)]
 
 mod chain_tables;

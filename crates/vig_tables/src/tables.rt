@@ -1,15 +1,15 @@
 //! The tables of a function.
-ghost use Rattle.std.specs.Prelude.{◌≡◌, ◌≤◌, ◌<◌, length, map, not, IfOk, option_and_then, slice_get, slice_set};
+ghost use Rattle.std.specs.Prelude.{◌≡◌, ◌≤◌, ◌-◌, length, map, not, IfOk, option_and_then, slice_get, slice_set};
 ghost use Rattle.std.specs.Bool.{OnTrue, OnFalse};
 ghost use Rattle.std.specs.Option.{option_map};
-ghost use Rattle.nf_base.specs.Chains.{touched, freed, written};
-ghost use Rattle.nf_base.specs.Context.{cell_at, or_zero, label_of, free_of};
+ghost use Rattle.nf_base.specs.Chains.{all_none_due, array_at, chain_at, entry_at, expired, fresh, freed, is_taken, lifetime_of, maps_of, none_due, stamped, touched, written, zeros_of};
+ghost use Rattle.nf_base.specs.Context.{or_zero, label_of, column_of};
 ghost use Rattle.nf_base.specs.Functions.{function_of};
-ghost use Rattle.nf_base.specs.Limits.{HaveAllShortKeys};
-ghost use Rattle.nf_base.specs.Runs.{all_none_past};
-ghost use Rattle.nf_base.specs.Step.{opening_cells, expired_state};
-ghost use Rattle.vig_tables.specs.Table.{Table, opened, entry, found, found_at, column_of, entered, with_chain, with_column, without_past};
-ghost use Rattle.vig_tables.specs.Whole.{opened_whole, with_state, table_at, changed, found_in, found_among, Fits, CreatesIn, can_enter_in, IsFull, is_due, has_taken_in, number_of, with_cell};
+ghost use Rattle.nf_base.specs.Limits.{AreFor, HaveAllShortKeys};
+ghost use Rattle.nf_base.specs.Shares.{owns, none_vacant};
+ghost use Rattle.nf_base.specs.Step.{opening_cells};
+ghost use Rattle.vig_tables.specs.Table.{opened, index_under, index_with, CauseOf, if_made, can_make_at, cell_of, without_past};
+ghost use Rattle.vig_tables.specs.TablesState.{opened_tables, decls_of, chains_of, with_chains, slots_at, changed, with_cell, label_count, index_over, IsTableAt};
 
 use crate::chain_tables::ChainTables;
 use crate::created::Created;
@@ -25,9 +25,11 @@ use std::marker::Model;
 
 /// What a function remembers, in tables.
 ///
-/// Contracts see them as a state, by index, beside the declarations of its chains and the share whose indices are
-/// given out. Chains and arrays go by number, from 0, in text order, and maps over all chains. Times and stamps are
-/// in nanoseconds. No call but `new`, `state` and `copy` takes memory.
+/// Contracts see them as a state, by index, beside the declarations of its chains and the share
+/// whose indices are given out. Chains and arrays go by number, from 0, in text order, and maps
+/// over all chains. A number past the last chain stands for one with no index and no map, a number
+/// past the last array for one with no cell. Times and stamps are in nanoseconds. No call but
+/// `new`, `state` and `copy` takes memory.
 #[derive(Drop)]
 pub struct Tables {
     chains: Seq<ChainTables>,
@@ -37,20 +39,19 @@ pub struct Tables {
 
 impl Model for Tables {
     ghost use Rattle.std.specs.Prelude.{All};
-    ghost use Rattle.vig_tables.specs.Whole.{Whole, whole_of, IsOfShare};
+    ghost use Rattle.vig_tables.specs.TablesState.{TablesState, state_of, IsOfShare};
 
-    ghost Value = { Whole };
+    ghost Value = { TablesState };
 
-    ghost view = { λ a. whole_of a.chains a.arrays a.share.queue a.share.of };
+    ghost view = { λ a. state_of a.chains a.arrays a.share };
 
-    ghost invariant = { λ a. All (IsOfShare a.share.queue a.share.of) a.chains };
+    ghost invariant = { λ a. All (IsOfShare a.share) a.chains };
 }
 
 impl Tables {
     /// The tables of a function that has handled nothing yet.
     pub fn new(alloc: Global, func: &Func, share: Share) -> Result<Tables, AllocError>
-        ensures { IfOk result (λ tables.
-            tables ≡ opened_whole (function_of func.now) share.queue share.of) }
+        ensures { IfOk result (λ tables. tables ≡ opened_tables (function_of func.now) share) }
     {
         let chains = new_chains(alloc, func.chains.as_slice(), share)?;
         let arrays = new_arrays(alloc, func.arrays.as_slice())?;
@@ -63,8 +64,7 @@ impl Tables {
 
     /// The share whose indices are given out.
     pub fn share(&self) -> Share
-        ensures queue { result.queue ≡ self.now.queue }
-        ensures of { result.of ≡ self.now.of }
+        ensures { result ≡ self.now.share }
     {
         self.share
     }
@@ -77,11 +77,18 @@ impl Tables {
         self.chains.len()
     }
 
+    /// The tables of a chain: none past the last.
+    fn table(&self, chain: u32) -> Option<&ChainTables>
+        ensures { IsTableAt self.now chain result }
+    {
+        self.chains.as_slice().get(chain as usize)
+    }
+
     /// How many labels each entry of a chain has, 0 where there is no such chain.
     pub fn label_count(&self, chain: u32) -> u32
-        ensures { result ≡ number_of (λ t. length t.decl.labels) (table_at self.now chain) }
+        ensures { result ≡ label_count self.now.decls chain }
     {
-        match self.chains.as_slice().get(chain as usize) {
+        match self.table(chain) {
             Some(tables) => tables.label_count(),
             None => 0,
         }
@@ -89,37 +96,38 @@ impl Tables {
 
     /// The index to which a key is bound in a map, by the map's number over all chains.
     pub fn lookup(&self, map: u32, key: &Key) -> Option<u32>
-        ensures { result ≡ found_in self.now.decls self.now.state.chains map key.now }
+        ensures { result ≡ index_over self.now.decls self.now.state.chains map key.now }
     {
         lookup(self.chains.as_slice(), map, key)
     }
 
     /// The index to which a key is bound in a map of a chain, by the map's number in the chain.
     pub fn lookup_in(&self, chain: u32, map: u32, key: &Key) -> Option<u32>
-        ensures { result ≡ option_and_then (λ t. found t.decl t.chain map key.now) (table_at self.now chain) }
+        ensures { let maps = maps_of self.now.decls chain in
+            result ≡ index_under maps map key.now (slots_at self.now chain) }
     {
-        match self.chains.as_slice().get(chain as usize) {
+        match self.table(chain) {
             Some(tables) => tables.lookup(map, key),
             None => None,
         }
     }
 
-    /// An index of a chain, if it is one of the chain's, is live and its entry has these labels, each with its
-    /// number.
+    /// An index of a chain, if it is one of the chain's, is live and its entry has these labels,
+    /// each with its number.
     pub fn find_at(&self, chain: u32, index: u64, guards: &[(u32, u64)]) -> Option<u32>
-        ensures { result ≡ option_and_then (λ t. found_at t index guards.now) (table_at self.now chain) }
+        ensures { result ≡ index_with index guards.now (entry_at (slots_at self.now chain) index) }
     {
-        match self.chains.as_slice().get(chain as usize) {
+        match self.table(chain) {
             Some(tables) => tables.find_at(index, guards),
             None => None,
         }
     }
 
-    /// Whether no own index of a chain is free.
+    /// Whether no own index of a chain is vacant.
     pub fn is_full(&self, chain: u32) -> bool
-        ensures { IsFull (table_at self.now chain) result }
+        ensures { result ≡ none_vacant (owns self.now.share) (slots_at self.now chain) }
     {
-        match self.chains.as_slice().get(chain as usize) {
+        match self.table(chain) {
             Some(tables) => tables.is_full(),
             None => true,
         }
@@ -127,9 +135,10 @@ impl Tables {
 
     /// Whether some entry of a chain is past its lifetime.
     pub fn due(&self, chain: u32, time: u64) -> bool
-        ensures { result ≡ is_due time (table_at self.now chain) }
+        ensures { let lifetime = lifetime_of self.now.decls chain in
+            result ≡ not (none_due time lifetime (slots_at self.now chain)) }
     {
-        match self.chains.as_slice().get(chain as usize) {
+        match self.table(chain) {
             Some(tables) => tables.due(time),
             None => false,
         }
@@ -137,16 +146,18 @@ impl Tables {
 
     /// Whether some entry of some chain is past its lifetime.
     pub fn any_due(&self, time: u64) -> bool
-        ensures { result ≡ not (all_none_past time self.now.decls self.now.state.chains) }
+        ensures { let lifetimes = lifetime_of self.now.decls in
+            result ≡ not (all_none_due time lifetimes self.now.state.chains) }
     {
         any_due(self.chains.as_slice(), time)
     }
 
     /// Whether a key of some labels is bound in a chain.
     pub fn is_taken(&self, chain: u32, labels: &[u64]) -> bool
-        ensures { result ≡ has_taken_in (table_at self.now chain) labels.now }
+        ensures { let maps = maps_of self.now.decls chain in
+            result ≡ is_taken maps labels.now (slots_at self.now chain) }
     {
-        match self.chains.as_slice().get(chain as usize) {
+        match self.table(chain) {
             Some(tables) => tables.is_taken(labels),
             None => false,
         }
@@ -154,9 +165,9 @@ impl Tables {
 
     /// The stamp of the entry at an index of a chain: none where there is no entry.
     pub fn stamp(&self, chain: u32, i: u32) -> Option<u64>
-        ensures { result ≡ option_and_then (λ t. option_map (λ e. e.stamp) (entry t i)) (table_at self.now chain) }
+        ensures { result ≡ option_map (λ e. e.stamp) (entry_at (slots_at self.now chain) i) }
     {
-        match self.chains.as_slice().get(chain as usize) {
+        match self.table(chain) {
             Some(tables) => tables.stamp(i),
             None => None,
         }
@@ -164,53 +175,56 @@ impl Tables {
 
     /// The greatest stamp that a chain gave so far, 0 before the first.
     pub fn greatest(&self, chain: u32) -> u64
-        ensures { result ≡ number_of (λ t. t.chain.greatest) (table_at self.now chain) }
+        ensures { result ≡ (chain_at self.now.state.chains chain).greatest }
     {
-        match self.chains.as_slice().get(chain as usize) {
+        match self.table(chain) {
             Some(tables) => tables.greatest(),
             None => 0,
         }
     }
 
-    /// A column of the entry at an index of a chain, 0 where there is none: the labels come first, then the free
-    /// columns.
+    /// A column of the entry at an index of a chain, 0 where there is none: the labels come first,
+    /// then the free columns.
     pub fn cell(&self, chain: u32, i: u32, column: u32) -> u64
-        ensures { result ≡ number_of (λ t. column_of t.decl column (entry t i)) (table_at self.now chain) }
+        ensures { let entry = entry_at (slots_at self.now chain) i in
+            result ≡ cell_of (label_count self.now.decls chain) column entry }
     {
-        match self.chains.as_slice().get(chain as usize) {
-            Some(tables) => tables.cell(i, column),
-            None => 0,
+        let labels = self.label_count(chain);
+        if column < labels {
+            self.label(chain, i, column)
+        } else {
+            self.column(chain, i, column - labels)
         }
     }
 
     /// A label of the entry at an index of a chain, 0 where there is none.
     pub fn label(&self, chain: u32, i: u32, label: u32) -> u64
-        ensures { result ≡ number_of (λ t. label_of label (entry t i)) (table_at self.now chain) }
+        ensures { result ≡ label_of label (entry_at (slots_at self.now chain) i) }
     {
-        match self.chains.as_slice().get(chain as usize) {
+        match self.table(chain) {
             Some(tables) => tables.label(i, label),
             None => 0,
         }
     }
 
-    /// A free column of the entry at an index of a chain, by its number among the free columns, 0 where there is
-    /// none.
+    /// A free column of the entry at an index of a chain, by its number among the free columns, 0
+    /// where there is none.
     pub fn column(&self, chain: u32, i: u32, column: u32) -> u64
-        ensures { result ≡ number_of (λ t. free_of column (entry t i)) (table_at self.now chain) }
+        ensures { result ≡ column_of column (entry_at (slots_at self.now chain) i) }
     {
-        match self.chains.as_slice().get(chain as usize) {
+        match self.table(chain) {
             Some(tables) => tables.column(i, column),
             None => 0,
         }
     }
 
-    /// A free column of the entry at an index of a chain, by its number among the free columns, if there are both.
+    /// A free column of the entry at an index of a chain, by its number among the free columns, if
+    /// there are both.
     pub fn free_column(&self, chain: u32, i: u32, column: u32) -> Option<u64>
-        ensures { result ≡ option_and_then
-            (λ t. option_and_then (λ e. slice_get e.free column) (entry t i))
-            (table_at self.now chain) }
+        ensures { let entry = entry_at (slots_at self.now chain) i in
+            result ≡ option_and_then (λ e. slice_get e.columns column) entry }
     {
-        match self.chains.as_slice().get(chain as usize) {
+        match self.table(chain) {
             Some(tables) => tables.free_column(i, column),
             None => None,
         }
@@ -218,7 +232,7 @@ impl Tables {
 
     /// A cell of an array, if there is one.
     pub fn array_cell(&self, array: u32, i: u64) -> Option<u64>
-        ensures { result ≡ cell_at self.now.state.arrays array i }
+        ensures { result ≡ slice_get (array_at self.now.state.arrays array) i }
     {
         match self.arrays.as_slice().get(array as usize) {
             Some(cells) => cell(cells, i),
@@ -228,20 +242,26 @@ impl Tables {
 
     /// A cell of an array, 0 where there is none.
     pub fn read(&self, array: u32, i: u64) -> u64
-        ensures { result ≡ or_zero (cell_at self.now.state.arrays array i) }
+        ensures { result ≡ or_zero (slice_get (array_at self.now.state.arrays array) i) }
     {
-        match self.arrays.as_slice().get(array as usize) {
-            Some(cells) => read(cells, i),
+        match self.array_cell(array, i) {
+            Some(value) => value,
             None => 0,
         }
     }
 
-    /// Makes an entry of a chain with these labels at an own free index, and with zeros in its free columns.
+    /// Makes an entry of a chain with these labels at an own vacant index, and with zeros in its
+    /// free columns.
     ///
     /// Its stamp is the time, or the chain's greatest stamp so far where that is later.
     pub fn create(&mut self, chain: u32, labels: &[u64], time: u64) -> Created
-        requires { Fits labels.now (table_at self.old chain) }
-        ensures { CreatesIn chain time labels.now self.old result self.new }
+        requires { AreFor (length labels.now) (slice_get self.old.decls chain) }
+        ensures cause { let old = self.old in
+            let maps = maps_of old.decls chain in
+            CauseOf result maps labels.now old.share (slots_at old chain) }
+        ensures changes { let entry = fresh labels.now (zeros_of self.old.decls chain) in
+            let old = self.old in
+            self.new ≡ if_made result (λ i. changed chain (stamped time i entry) old) old }
     {
         if (chain as usize) < self.chains.len() {
             self.chains.item_mut(chain as usize).create(labels, time)
@@ -250,12 +270,15 @@ impl Tables {
         }
     }
 
-    /// Makes an entry of a chain at an index, as `create` does: false where the index is not own or is live, where
-    /// a key is bound, or where there is no such chain.
+    /// Makes an entry of a chain at an index, as `create` does: false where the index is not own or
+    /// is live, where a key is bound, or where there is no such chain.
     pub fn create_at(&mut self, chain: u32, i: u32, labels: &[u64], time: u64) -> bool
-        requires { Fits labels.now (table_at self.old chain) }
-        ensures cause { result ≡ can_enter_in (table_at self.old chain) i labels.now }
-        ensures entered { OnTrue result (self.new ≡ changed chain (entered time i labels.now) self.old) }
+        requires { AreFor (length labels.now) (slice_get self.old.decls chain) }
+        ensures cause { let old = self.old in
+            let maps = maps_of old.decls chain in
+            result ≡ can_make_at maps labels.now old.share (slots_at old chain) i }
+        ensures made { let entry = fresh labels.now (zeros_of self.old.decls chain) in
+            OnTrue result (self.new ≡ changed chain (stamped time i entry) self.old) }
         ensures unchanged { OnFalse result (self.new ≡ self.old) }
     {
         if (chain as usize) < self.chains.len() {
@@ -267,9 +290,10 @@ impl Tables {
         }
     }
 
-    /// Gives the entry at an index of a chain the stamp that `create` gives; where there is none, nothing changes.
+    /// Gives the entry at an index of a chain the stamp that `create` gives; where there is none,
+    /// nothing changes.
     pub fn touch(&mut self, chain: u32, i: u32, time: u64)
-        ensures { self.new ≡ changed chain (λ t. with_chain (touched time i t.chain) t) self.old }
+        ensures { self.new ≡ changed chain (touched time i) self.old }
     {
         if (chain as usize) < self.chains.len() {
             self.chains.item_mut(chain as usize).touch(i, time);
@@ -278,30 +302,28 @@ impl Tables {
 
     /// Gives up the entry at an index of a chain, if there is one.
     pub fn free(&mut self, chain: u32, i: u32)
-        ensures { self.new ≡ changed chain (λ t. with_chain (freed i t.chain) t) self.old }
+        ensures { self.new ≡ changed chain (freed i) self.old }
     {
         if (chain as usize) < self.chains.len() {
             self.chains.item_mut(chain as usize).free(i);
         }
     }
 
-    /// Writes a free column of the entry at an index of a chain, if there are both; the labels come before the free
-    /// columns.
+    /// Writes a free column of the entry at an index of a chain, if there are both; the labels come
+    /// before the free columns.
     pub fn set_cell(&mut self, chain: u32, i: u32, column: u32, value: u64)
-        requires { number_of (λ t. length t.decl.labels) (table_at self.old chain) ≤ column }
-        ensures { self.new ≡ changed chain (with_column i column value) self.old }
+        requires { label_count self.old.decls chain ≤ column }
+        ensures { let free = column - label_count self.old.decls chain in
+            self.new ≡ changed chain (written free value i) self.old }
     {
-        if (chain as usize) < self.chains.len() {
-            self.chains
-                .item_mut(chain as usize)
-                .set_cell(i, column, value);
-        }
+        let labels = self.label_count(chain);
+        self.set_column(chain, i, column - labels, value);
     }
 
-    /// Writes a free column of the entry at an index of a chain, by its number among the free columns, if there are
-    /// both.
+    /// Writes a free column of the entry at an index of a chain, by its number among the free
+    /// columns, if there are both.
     pub fn set_column(&mut self, chain: u32, i: u32, column: u32, value: u64)
-        ensures { self.new ≡ changed chain (λ t. with_chain (written column value i t.chain) t) self.old }
+        ensures { self.new ≡ changed chain (written column value i) self.old }
     {
         if (chain as usize) < self.chains.len() {
             self.chains
@@ -312,8 +334,7 @@ impl Tables {
 
     /// Writes a cell of an array, if there is one.
     pub fn write(&mut self, array: u32, i: u64, value: u64)
-        ensures { let state = self.old.state in
-            self.new ≡ with_state (record state { arrays = with_cell array i value state.arrays }) self.old }
+        ensures { self.new ≡ with_cell array i value self.old }
     {
         if (array as usize) < self.arrays.len() {
             write(self.arrays.item_mut(array as usize), i, value);
@@ -322,7 +343,8 @@ impl Tables {
 
     /// Gives up each entry that is past its lifetime at a time.
     pub fn expire(&mut self, time: u64)
-        ensures { self.new ≡ with_state (expired_state time self.old.decls self.old.state) self.old }
+        ensures { let chains = expired time (lifetime_of self.old.decls) self.old.state.chains in
+            self.new ≡ with_chains chains self.old }
     {
         expire_all(&mut self.chains, time);
     }
@@ -352,7 +374,7 @@ impl Tables {
 
 /// The index to which a key is bound in a map, by the map's number over some chains.
 fn lookup(chains: &[ChainTables], map: u32, key: &Key) -> Option<u32>
-    ensures { result ≡ found_among chains.now map key.now }
+    ensures { result ≡ index_over (decls_of chains.now) (chains_of chains.now) map key.now }
 {
     let mut left = map;
     for chain in chains {
@@ -367,7 +389,8 @@ fn lookup(chains: &[ChainTables], map: u32, key: &Key) -> Option<u32>
 
 /// Whether some entry of some chains is past its lifetime.
 fn any_due(chains: &[ChainTables], time: u64) -> bool
-    ensures { result ≡ not (all_none_past time (map (λ t. t.decl) chains.now) (map (λ t. t.chain) chains.now)) }
+    ensures { let lifetimes = lifetime_of (decls_of chains.now) in
+        result ≡ not (all_none_due time lifetimes (chains_of chains.now)) }
 {
     for chain in chains {
         if chain.due(time) {
@@ -385,17 +408,6 @@ fn cell(cells: &Indexed<u64>, i: u64) -> Option<u64>
         Some(*cells.item(i as u32))
     } else {
         None
-    }
-}
-
-/// A cell, 0 past the end.
-fn read(cells: &Indexed<u64>, i: u64) -> u64
-    ensures { result ≡ or_zero (slice_get cells.now i) }
-{
-    if i < u64::from(cells.len()) {
-        *cells.item(i as u32)
-    } else {
-        0
     }
 }
 
@@ -419,7 +431,7 @@ fn expire_all(chains: &mut Seq<ChainTables>, time: u64)
 
 /// The chains of the state.
 fn states(alloc: Global, chains: &[ChainTables]) -> Result<Seq<Chain>, AllocError>
-    ensures { IfOk result (λ states. states ≡ map (λ t. t.chain) chains.now) }
+    ensures { IfOk result (λ states. states ≡ chains_of chains.now) }
 {
     let mut states = Seq::new(alloc);
     for chain in chains {
@@ -457,7 +469,7 @@ fn new_chains(
     share: Share,
 ) -> Result<Seq<ChainTables>, AllocError>
     requires { HaveAllShortKeys decls.now }
-    ensures { IfOk result (λ chains. chains ≡ map (λ decl. opened decl share.queue share.of) decls.now) }
+    ensures { IfOk result (λ chains. chains ≡ map (λ decl. opened decl share) decls.now) }
 {
     let mut chains = Seq::new(alloc);
     for decl in decls {

@@ -1,10 +1,15 @@
 -- Two chains, whose keys are short, and one handler, which fits any chains.
-use Rattle.std.proofs.Common.{◌≡◌, [], ◌∷◌, sym, subst, arith}
+use Rattle.std.proofs.Common.{◌≡◌, [], ◌∷◌, sym, subst, arith, List, map}
+use Rattle.std.specs.Prelude.{All}
 use Rattle.std.proofs.lemmas.Grind.{common_steps}
 use Rattle.std.proofs.lemmas.List.Elements.{All-nil, All-cons}
 use Rattle.nf_base.specs.declared.decl.ChainDecl.{ChainDecl}
-use Rattle.nf_base.specs.Limits.{HaveShortKeys, HaveAllShortKeys}
-use Rattle.nf_base.proofs.Fitting.{HandlersFit, none_fit, more_fit}
+use Rattle.nf_base.specs.declared.func.Handler.{Handler}
+use Rattle.nf_base.specs.FitsOnce.{AllFit}
+use Rattle.nf_base.specs.Limits.{HaveShortKeys, HaveAllShortKeys, Fits}
+use Rattle.nf_base.specs.Statements.{statements}
+use Rattle.nf_base.specs.Text.{Block}
+use Rattle.nf_base.specs.View.{block_of}
 use Rattle.table_runs.proofs.tables_tests.function.Goals as goal
 
 pub invariant_of-result-clause-keys : goal.invariant_of-result-clause-keys
@@ -18,5 +23,7 @@ invariant_of-result-clause-keys c =
 pub invariant_of-result-clause-fits : goal.invariant_of-result-clause-fits
 invariant_of-result-clause-fits c =
     let decls = c.from_vec.result in
+    let IsFitting : Block → Type 0 = λ block. All (Fits decls) (statements block) in
     let handlers : c.from_vec-2.result ≡ c.silent.result ∷ [] = grind (arith, common_steps) in
-    subst (HandlersFit decls) (sym handlers) (more_fit decls c.silent.result [] (c.silent.ensures decls) (none_fit decls))
+    subst (λ (hs : List Handler). AllFit decls (map (λ (h : Handler). block_of h.block) hs)) (sym handlers)
+    (All-cons IsFitting (block_of c.silent.result.block) [] (c.silent.ensures decls) (All-nil IsFitting))

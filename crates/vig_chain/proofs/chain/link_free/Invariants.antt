@@ -1,7 +1,7 @@
 use Rattle.std.proofs.Common.{◌≡◌, ◌+◌, length}
 use Rattle.std.specs.Prelude.{None, replicate}
 use Rattle.vig_chain.specs.Rings.{AreLinked}
-use Rattle.vig_chain.specs.Shares.{owns_below}
+use Rattle.vig_chain.proofs.Opening.{owns_below}
 use Rattle.vig_chain.proofs.chain.link_free.Given as goal
 
 abbrev pub invariant-loop-index : goal.invariant-loop-index

@@ -20,7 +20,7 @@ loop-i-preserved c =
 
 pub returns : goal.returns
 returns c = record {
-  from_on = omega (arith, c.home-i.ensures.value, c.home-i.ensures.within, c.requires.within);
+  from_on = omega (arith, c.first_slot-i.ensures.value, c.first_slot-i.ensures.within, c.requires.within);
   passed = λ x ge x_lt. c.loop-i.invariant.passed x ge (omega (arith, c.loop-i-test.false));
   stops = λ pair there. absurd (none-some pair (sym (slot_past c.args.slots.now (length c.args.slots.now) (omega arith)) ∙ there));
 }

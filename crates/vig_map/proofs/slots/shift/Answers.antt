@@ -11,7 +11,7 @@ returns-clause-gap c =
     let yes = c.if-not-fits.ensures.yes refl in
     let stood : slot_at c.args.slots.now.items c.args.at ≡ Some yes.0 = sym (slot_read c.args.slots.now.items c.args.at c.index.result.now lt c.index.ensures) ∙ yes.1 in
     let taken : c.take-moved.result ≡ Some yes.0 = c.take-moved.ensures.value ∙ slot_read c.args.slots.now.items c.args.at c.index_mut.result.now lt c.index_mut.ensures.value ∙ stood in
-    rw (c.take-moved.ensures.after, taken) (shifted c.args.homes c.args.gap c.args.at c.args.slots.now.items yes.0 c.requires.gap stood yes.2)
+    rw (c.take-moved.ensures.after, taken) (shifted c.args.starts c.args.gap c.args.at c.args.slots.now.items yes.0 c.requires.gap stood yes.2)
 
 pub returns-clause-same : goal.returns-clause-same
 returns-clause-same c =

@@ -1,6 +1,6 @@
 -- what is left decides
 use Rattle.std.proofs.Common.{◌≡◌, drop}
-use Rattle.nf_base.specs.Chains.{has_labels}
+use Rattle.vig_tables.specs.Table.{has_labels}
 use Rattle.vig_tables.specs.Slots.{labelled}
 use Rattle.vig_tables.proofs.chain_tables.has_labels.Given as goal
 

@@ -1,5 +1,6 @@
 -- those so far are changed
-use Rattle.vig_tables.specs.Keyed.{AreChangedBelow, IsBoundTo}
+use Rattle.vig_tables.specs.Keyed.{IsBoundTo}
+use Rattle.vig_tables.proofs.Changes.{AreChangedBelow}
 use Rattle.vig_tables.proofs.key_map.bind_all.Given as goal
 
 abbrev pub invariant-loop-k : goal.invariant-loop-k

@@ -1,5 +1,6 @@
 -- those so far are changed
-use Rattle.vig_tables.specs.Keyed.{AreChangedBelow, IsUnbound}
+use Rattle.vig_tables.specs.Keyed.{IsUnbound}
+use Rattle.vig_tables.proofs.Changes.{AreChangedBelow}
 use Rattle.vig_tables.proofs.key_map.unbind_all.Given as goal
 
 abbrev pub invariant-loop-k : goal.invariant-loop-k

@@ -7,7 +7,9 @@ use Rattle.rss_table.proofs.table.Table.even.Goals as goal
 
 pub loop-i-preserved : goal.loop-i-preserved
 loop-i-preserved c = record {
-  entries = length-set c.loop-i.queues c.loop-i.i (c.loop-i.i % c.get-count.result) ∙ c.loop-i.invariant.entries;
+  entries =
+      length-set c.loop-i.queues c.loop-i.i (c.loop-i.i % c.get-count.result)
+      ∙ c.loop-i.invariant.entries;
   go_round = fill_by_more (λ i. i % c.get-count.result) c.loop-i.queues c.loop-i.i 0 (omega (arith, c.loop-i.invariant.entries)) c.loop-i.invariant.go_round;
 }
 

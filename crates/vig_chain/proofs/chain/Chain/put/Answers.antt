@@ -2,7 +2,7 @@ use Rattle.std.proofs.Common.{sym, arith}
 use Rattle.std.specs.Prelude.{Some}
 use Rattle.std.proofs.Math.ListN.{length-set}
 use Rattle.std.proofs.lemmas.Option.{same_Some}
-use Rattle.vig_chain.proofs.Keeping.{kept_set, own_at}
+use Rattle.vig_chain.proofs.Keeping.{sound_set, own_at}
 use Rattle.vig_chain.proofs.chain.Chain.put.Goals as goal
 
 pub unlink-requires : goal.unlink-requires
@@ -23,4 +23,4 @@ index_mut-requires c =
 pub invariant_of-self : goal.invariant_of-self
 invariant_of-self c =
     let own = own_at _ _ _ c.self.invariant c.args.index (rw (← c.self.view_is) at c.requires) in
-    rw (c.append.ensures.value, c.unlink.ensures.value) (kept_set _ c.args.index c.max-stamp.result (Some c.max-stamp.result) _ _ c.self.invariant c.unlink.ensures.within own.1 own.0 (omega arith) (λ u e. same_Some u c.max-stamp.result (sym e)))
+    rw (c.append.ensures.value, c.unlink.ensures.value) (sound_set _ c.args.index c.max-stamp.result (Some c.max-stamp.result) _ _ c.self.invariant c.unlink.ensures.within own.1 own.0 (omega arith) (λ u e. same_Some u c.max-stamp.result (sym e)))

@@ -2,7 +2,7 @@ use Rattle.std.proofs.Common.{◌∙◌, ap, sym, arith, ◌*◌}
 use Rattle.vig_map.specs.Bindings.{Bindings, value_of}
 use Rattle.vig_map.proofs.SlotLemmas.{slot_within}
 use Rattle.vig_map.proofs.Gaps.{gapped}
-use Rattle.vig_map.proofs.Keeping.{looked_up, stands, held_some, erase_kept, erase_is}
+use Rattle.vig_map.proofs.Keeping.{looked_up, stands, held_some, erase_sound, erase_is}
 use Rattle.vig_map.proofs.map.Map.erase.Goals as goal
 
 pub returns-in-None-clause-value : goal.returns-in-None-clause-value
@@ -33,7 +33,7 @@ overflow_sub-self c =
 pub invariant_of-self : goal.invariant_of-self
 invariant_of-self c =
     let t = stands c.self.inside.slots.items c.deref-2.result.now c.search-at.result c.value_at.result c.in-Some.value c.deref-2.ensures.value c.value_at.ensures c.in-Some.is in
-    erase_kept c.self.inside.slots.items c.close_gap.new.slots.items c.self.inside.held c.self.inside.most c.search-at.result t.0 c.self.invariant t.1 c.close_gap.ensures.met c.close_gap.ensures.same
+    erase_sound c.self.inside.slots.items c.close_gap.new.slots.items c.self.inside.held c.self.inside.most c.search-at.result t.0 c.self.invariant t.1 c.close_gap.ensures.met c.close_gap.ensures.same
 
 pub returns-clause-value : goal.returns-clause-value
 returns-clause-value c =

@@ -31,7 +31,7 @@ bind_all-requires c =
 pub invariant_of-self-2 : goal.invariant_of-self-2
 invariant_of-self-2 c =
     let unbound = ap (list_any (is_bound c.args.labels.now)) (sym c.as_slice.ensures.value) ∙ sym c.is_any_bound.ensures ∙ c.if-is_any_bound.false in
-    rw (c.if-not-take.ensures.put, c.set_row.ensures, c.clear_row.ensures)
+    rw (c.if-not-take.ensures.stamped, c.set_row.ensures, c.clear_row.ensures)
     (entered_joined _ _ _ _ _ _ c.args.time c.args.i c.args.labels.now _ c.self.invariant (sym c.take.ensures.cause ∙ c.if-not-take.false) unbound c.bind_all.ensures)
 
 pub returns-clause-cause : goal.returns-clause-cause
@@ -43,5 +43,5 @@ returns-clause-cause c =
 
 pub returns-clause-entered : goal.returns-clause-entered
 returns-clause-entered c =
-    rw (← c.self.view_is, c.if-not-take.ensures.put, c.set_row.ensures, c.clear_row.ensures)
+    rw (← c.self.view_is, c.if-not-take.ensures.stamped, c.set_row.ensures, c.clear_row.ensures)
     (entered_is _ _ _ _ _ c.args.time c.args.i c.args.labels.now c.self.invariant)

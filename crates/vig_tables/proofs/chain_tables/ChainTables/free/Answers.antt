@@ -12,7 +12,7 @@ invariant_of-self c =
     rw c.if-free.ensures.freed (freed_joined _ _ _ _ _ _ c.args.i at.0 c.self.invariant at.1 (rw c.row.ensures at c.unbind_all.ensures))
 
 pub returns-then-free : goal.returns-then-free
-returns-then-free c = rw (← c.self.view_is, c.if-free.ensures.freed) (freed_is c.self.inside.decl c.self.inside.chain c.self.inside.labels c.self.inside.free c.args.i)
+returns-then-free c = rw (← c.self.view_is, c.if-free.ensures.freed) (freed_is c.self.inside.decl c.self.inside.chain c.self.inside.labels c.self.inside.columns c.args.i)
 
 pub returns-else-free : goal.returns-else-free
 returns-else-free c =

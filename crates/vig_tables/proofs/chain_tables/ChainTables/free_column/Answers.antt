@@ -1,4 +1,4 @@
-use Rattle.std.proofs.Common.{◌∙◌, sym, refl}
+use Rattle.std.proofs.Common.{refl}
 use Rattle.vig_tables.proofs.Reading.{none_stamped, not_none_stamped, rows_within, stands, stands_not}
 use Rattle.vig_tables.proofs.chain_tables.ChainTables.free_column.Goals as goal
 

@@ -1,4 +1,4 @@
-use Rattle.std.proofs.Common.{◌∙◌, ap, sym}
+use Rattle.std.proofs.Common.{◌∙◌, ap}
 use Rattle.std.specs.List.{list_any}
 use Rattle.vig_tables.specs.Keyed.{is_bound}
 use Rattle.vig_tables.proofs.Making.{bound_taken}

@@ -10,12 +10,12 @@ invariant_of-result c =
     let decl = c.args.decl.now in
     let maps = c.in_ok-maps.ensures ∙ ap (map (λ (d : MapDecl). keyed d (bindings_of [] decl.size))) c.as_slice.ensures.value in
     let labels = rw (c.len.ensures.value, c.get-size.ensures.value) at c.in_ok-labels.ensures in
-    let free = rw (c.len-2.ensures.value, c.get-size.ensures.value) at c.in_ok-free.ensures in
-    rw (c.in_ok-decl.ensures, c.in_ok-chain.ensures) (opened_joined decl c.args.share.queue c.args.share.of c.in_ok-maps.maps.items c.in_ok-labels.labels c.in_ok-free.free maps labels free)
+    let columns = rw (c.len-2.ensures.value, c.get-size.ensures.value) at c.in_ok-columns.ensures in
+    rw (c.in_ok-decl.ensures, c.in_ok-chain.ensures) (opened_joined decl c.args.share c.in_ok-maps.maps.items c.in_ok-labels.labels c.in_ok-columns.columns maps labels columns)
 
 pub returns : goal.returns
 returns c =
     let decl = c.args.decl.now in
     let labels = rw (c.len.ensures.value, c.get-size.ensures.value) at c.in_ok-labels.ensures in
-    let free = rw (c.len-2.ensures.value, c.get-size.ensures.value) at c.in_ok-free.ensures in
-    rw (c.in_ok-decl.ensures, c.in_ok-chain.ensures) (opened_is decl c.args.share.queue c.args.share.of c.in_ok-labels.labels c.in_ok-free.free labels free)
+    let columns = rw (c.len-2.ensures.value, c.get-size.ensures.value) at c.in_ok-columns.ensures in
+    rw (c.in_ok-decl.ensures, c.in_ok-chain.ensures) (opened_is decl c.args.share c.in_ok-labels.labels c.in_ok-columns.columns labels columns)

@@ -1,8 +1,8 @@
-use Rattle.std.proofs.Common.{◌<◌, ap, refl, arith, length}
-use Rattle.std.proofs.lemmas.Option.{slice_get_read}
+use Rattle.std.proofs.Common.{◌<◌, ◌≤◌, ap, refl, arith, length}
+use Rattle.std.proofs.lemmas.Option.{slice_get_read, slice_get_past}
 use Rattle.nf_base.specs.Chains.{touched}
-use Rattle.vig_tables.specs.Table.{Table, with_chain}
-use Rattle.vig_tables.proofs.WholeLemmas.{changed_is}
+use Rattle.vig_tables.specs.Table.{Table}
+use Rattle.vig_tables.proofs.StateLemmas.{changed_is, not_changed}
 use Rattle.vig_tables.proofs.tables.Tables.touch.Goals as goal
 
 pub returns-then-chain-len : goal.returns-then-chain-len
@@ -10,4 +10,10 @@ returns-then-chain-len c =
     let a = c.self.inside in
     let lt : c.args.chain < length a.chains = omega (arith, c.len.ensures, c.if-chain-len.true) in
     let at = slice_get_read a.chains (length a.chains) c.args.chain c.item_mut.result.now refl lt c.item_mut.ensures.value in
-    rw (← c.self.view_is) (changed_is a.chains a.arrays a.share.queue a.share.of c.args.chain c.item_mut.result.now c.touch.new.self (λ (t : Table). with_chain (touched c.args.time c.args.i t.chain) t) c.self.invariant at c.touch.ensures (ap (λ (t : Table). t.decl) c.touch.ensures))
+    rw (← c.self.view_is) (changed_is a.chains a.arrays a.share c.args.chain c.item_mut.result.now c.touch.new.self (touched c.args.time c.args.i) at (ap (λ (t : Table). t.chain) c.touch.ensures) (ap (λ (t : Table). t.decl) c.touch.ensures))
+
+pub returns-else-chain-len : goal.returns-else-chain-len
+returns-else-chain-len c =
+    let a = c.self.inside in
+    let past : length a.chains ≤ c.args.chain = omega (arith, c.len.ensures, c.if-chain-len.false) in
+    rw (← c.self.view_is) (not_changed a.chains a.arrays a.share c.args.chain (touched c.args.time c.args.i) (slice_get_past a.chains c.args.chain past))

@@ -1,6 +1,0 @@
--- what was copied is the front
-use Rattle.std.proofs.Common.{◌≡◌, take}
-use Rattle.vig_map.proofs.slots.copied_slots.Given as goal
-
-abbrev pub invariant-loop-slot : goal.invariant-loop-slot
-invariant-loop-slot l = l.copy.items ≡ take l.slot-index l.slots
