@@ -1,7 +1,6 @@
 // Copies of a state.
 ghost use Rattle.std.specs.Prelude.{◌≡◌, ℕ, ◌+◌, ◌<◌, ◌≤◌, ◌++◌, length, take, drop, IfOk, map, Some, None};
-ghost use Rattle.nf_base.specs.Chains.{unexpired, kept};
-ghost use Rattle.nf_base.specs.Step.{expired};
+ghost use Rattle.nf_base.specs.Chains.{alive, lifetime_of, unexpired, expired};
 
 use nf_base::decl::ChainDecl;
 use nf_base::indexed::Indexed;
@@ -16,13 +15,13 @@ fn copy_numbers(alloc: Global, xs: &Seq<u64>) -> Result<Seq<u64>, AllocError>
 }
 
 // A copy of what an index holds, unless it is past its lifetime.
-fn copy_kept(
+fn copy_alive(
     alloc: Global,
     time: u64,
     lifetime: u64,
     slot: &Option<Entry>,
 ) -> Result<Option<Entry>, AllocError>
-    ensures { IfOk result (λ v. v ≡ kept time lifetime slot.now) }
+    ensures { IfOk result (λ v. v ≡ alive time lifetime slot.now) }
 {
     let Some(entry) = slot else {
         return Ok(None);
@@ -32,25 +31,25 @@ fn copy_kept(
         return Ok(None);
     }
     let labels = copy_numbers(alloc, &entry.labels)?;
-    let free = copy_numbers(alloc, &entry.free)?;
+    let columns = copy_numbers(alloc, &entry.columns)?;
     Ok(Some(Entry {
         stamp: entry.stamp,
         labels,
-        free,
+        columns,
     }))
 }
 
 fn copy_unexpired(
     alloc: Global,
     time: u64,
-    decl: &ChainDecl,
+    lifetime: u64,
     chain: &Chain,
 ) -> Result<Chain, AllocError>
-    ensures { IfOk result (λ v. v ≡ unexpired time decl.now chain.now) }
+    ensures { IfOk result (λ v. v ≡ unexpired time lifetime chain.now) }
 {
     let mut slots = Vec::new(alloc);
     for k in 0..chain.slots.len() {
-        slots.push(copy_kept(alloc, time, decl.lifetime, chain.slots.item(k))?)?;
+        slots.push(copy_alive(alloc, time, lifetime, chain.slots.item(k))?)?;
     }
     Ok(Chain {
         slots: Indexed::from_vec(slots),
@@ -58,28 +57,31 @@ fn copy_unexpired(
     })
 }
 
+// How long an entry of the chain of a number stays after its stamp, in nanoseconds.
+fn lifetime_of(decls: &[ChainDecl], chain: usize) -> u64
+    ensures { result ≡ lifetime_of decls.now chain }
+{
+    match decls.get(chain) {
+        None => 0,
+        Some(decl) => decl.lifetime,
+    }
+}
+
 // A copy of the chains in which nothing is past its lifetime.
+#[tactic(auto, using(crate::proofs::Expiry::one_more_chain))]
 pub fn copy_expired(
     alloc: Global,
     time: u64,
     decls: &[ChainDecl],
     chains: &[Chain],
 ) -> Result<Seq<Chain>, AllocError>
-    requires { length decls.now ≡ length chains.now }
-    ensures { IfOk result (λ v. v ≡ expired time decls.now chains.now) }
+    ensures { IfOk result (λ v. v ≡ expired time (lifetime_of decls.now) chains.now) }
 {
     let mut out = Seq::new(alloc);
     for k in 0..chains.len() {
-        out.push(copy_unexpired(alloc, time, &decls[k], &chains[k])?)?;
+        out.push(copy_unexpired(alloc, time, lifetime_of(decls, k), &chains[k])?)?;
     }
     Ok(out)
-}
-
-pub fn copy_cells(alloc: Global, cells: &Indexed<u64>) -> Result<Indexed<u64>, AllocError>
-    ensures { IfOk result (λ v. v ≡ cells.now) }
-{
-    let _len = cells.len();
-    Ok(Indexed::from_vec(Vec::from_slice(alloc, cells.as_slice())?))
 }
 
 pub fn copy_arrays(alloc: Global, arrays: &[Indexed<u64>]) -> Result<Seq<Indexed<u64>>, AllocError>
@@ -87,7 +89,7 @@ pub fn copy_arrays(alloc: Global, arrays: &[Indexed<u64>]) -> Result<Seq<Indexed
 {
     let mut out = Seq::new(alloc);
     for cells in arrays {
-        out.push(copy_cells(alloc, cells)?)?;
+        out.push(cells.copy(alloc)?)?;
     }
     Ok(out)
 }

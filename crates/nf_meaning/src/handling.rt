@@ -1,37 +1,46 @@
 // The steps of packets, from one state to another.
-ghost use Rattle.std.specs.Prelude.{◌≡◌, ℕ, ◌≤◌, ◌<◌, [], ◌∷◌, ◌++◌, length, take, IfOk, Some};
-ghost use Rattle.nf_base.specs.Step.{handled, skipped, if_none_left, no_edits, begun};
+ghost use Rattle.std.specs.Prelude.{◌≡◌, ℕ, ◌≤◌, ◌<◌, [], List, length, drop, IfOk, Some};
 ghost use Rattle.nf_base.specs.Functions.{function_of};
-ghost use Rattle.nf_base.specs.Handler.{trace, flow_of};
+ghost use Rattle.nf_base.specs.Operations.{never};
+ghost use Rattle.nf_base.specs.Step.{no_edits, start_context, step_of, record_of};
+ghost use Rattle.nf_base.specs.Events.{Event};
+ghost use Rattle.nf_base.specs.Record.{answers_full};
 ghost use Rattle.nf_base.specs.View.{block_of};
 ghost use Rattle.nf_base.specs.declared.done.Action.TheVariants.{Skip};
-ghost use Rattle.nf_meaning.specs.Whole.{Answers, Handles, action_of};
-ghost use Rattle.nf_meaning.specs.Seen.{context_of, input_of, Goes};
-ghost use Rattle.nf_meaning.specs.declared.context.Choosing.TheVariants.{Given};
+ghost use Rattle.nf_meaning.specs.View.{context_of, action_of};
+ghost use Rattle.nf_meaning.specs.Whole.{Starts, Runs, Comes, left_by, handled, told};
 
-use crate::context::{Choosing, Context, Flow, Input};
+use crate::block::exec;
+use crate::context::{Context, Flow, Input};
 use crate::copies::{copy_arrays, copy_expired};
 use crate::fault::StepFault;
-use crate::statements::exec;
-use nf_base::code::Code;
 use nf_base::done::{Action, Done, Edits};
-use nf_base::func::Func;
-use nf_base::packet::{Fields, PacketId};
+use nf_base::func::{Func, Handler};
+use nf_base::packet::{Fields, Packet};
 use nf_base::picks::Picks;
 use nf_base::seq::Seq;
 use nf_base::state::State;
 use std::alloc::{AllocError, Global};
 
-// What a handler begins with, in a copy of the state.
-fn begin(
-    alloc: Global,
-    func: &Func,
-    state: &State,
-    time: u64,
-    choices: Seq<u32>,
-) -> Result<Context, AllocError>
-    requires of_func { length func.now.chains ≡ length state.now.chains }
-    ensures { IfOk result (λ c. context_of c ≡ begun (function_of func.now) state.now time choices) }
+/// One packet's step: the state after it, and what it answers.
+#[derive(Drop)]
+pub struct Step {
+    pub state: State,
+    pub done: Done,
+    /// Whether some `new` found no index vacant.
+    pub full: bool,
+}
+
+/// A handler that came to its end.
+#[derive(Drop)]
+pub struct Ran {
+    pub context: Context,
+    pub action: Action,
+}
+
+/// What a handler begins with, in a copy of the state.
+fn start(alloc: Global, func: &Func, state: &State, time: u64) -> Result<Context, AllocError>
+    ensures { IfOk result (λ c. Starts c (start_context (function_of func.now) state.now time)) }
 {
     let chains = copy_expired(alloc, time, func.chains.as_slice(), state.chains.as_slice())?;
     let arrays = copy_arrays(alloc, state.arrays.as_slice())?;
@@ -39,17 +48,12 @@ fn begin(
         state: State { chains, arrays },
         vars: Seq::new(alloc),
         edits: no_edits(),
-        choices,
+        picks: Picks::new(),
+        full: false,
     })
 }
 
-fn copy_choices(alloc: Global, picks: &Picks) -> Result<Seq<u32>, AllocError>
-    ensures { IfOk result (λ v. v ≡ picks.now) }
-{
-    Ok(Seq::from_vec(Vec::from_slice(alloc, picks.as_slice())?))
-}
-
-// A handler that falls off its end drops its packet.
+/// A handler that falls off its end drops its packet.
 fn action_of(flow: Flow) -> Action
     ensures { result ≡ action_of flow }
 {
@@ -59,134 +63,146 @@ fn action_of(flow: Flow) -> Action
     }
 }
 
-// With given choices a block goes as its trace does.
-fn exec_given(
-    alloc: Global,
-    context: &mut Context,
-    p: &Input,
-    code: &Code,
-) -> Result<Flow, StepFault>
-    requires { p.now.choosing ≡ Given }
-    ensures { Goes result context.new (flow_of (trace (input_of p.now) (block_of code.now) (context_of context.old))) }
-{
-    exec(alloc, context, p, code)
-}
-
-// The step of a packet that is handled, with these choices.
-pub fn handle_with(
+/// Runs the handler of a packet.
+fn run(
     alloc: Global,
     func: &Func,
+    handler: &Handler,
     state: &State,
-    id: PacketId,
     time: u64,
     fields: Fields,
-    picks: &Picks,
-) -> Result<(State, Done), StepFault>
-    requires of_func { length func.now.chains ≡ length state.now.chains }
-    ensures { Handles result (handled (function_of func.now) state.now id time fields picks.now) }
+    choices: Option<&Picks>,
+) -> Result<Ran, StepFault>
+    ensures { Runs result choices.entry
+        (handled (function_of func.now) state.now time fields (block_of handler.now.block))
+        (told (function_of func.now) state.now time fields (block_of handler.now.block)) }
 {
-    let Some(handler) = func.handlers.as_slice().get(id.port as usize) else {
-        return Err(StepFault::BadChoice);
-    };
     let p = Input {
         decls: func.chains.as_slice(),
         ports: func.handlers.len(),
         time,
         fields,
-        choosing: Choosing::Given,
+        choices,
     };
-    let choices = copy_choices(alloc, picks)?;
-    let mut context = begin(alloc, func, state, time, choices)?;
-    match exec_given(alloc, &mut context, &p, &handler.code)? {
-        Flow::Falls => settle(context, Action::Drop, picks),
-        Flow::Ends(action) => settle(context, action, picks),
+    let mut context = start(alloc, func, state, time)?;
+    match exec(alloc, &mut context, &p, &handler.block) {
+        Ok(flow) => Ok(Ran {
+            context,
+            action: action_of(flow),
+        }),
+        Err(fault) => Err(fault),
     }
 }
 
-// The answer where no choice is left.
-fn settle(context: Context, action: Action, picks: &Picks) -> Result<(State, Done), StepFault>
-    ensures { Handles result (if_none_left picks.now (context_of context) action) }
+/// The step of a packet with these fields and these choices.
+pub fn step_with(
+    alloc: Global,
+    func: &Func,
+    state: &State,
+    packet: &Packet,
+    fields: Fields,
+    picks: &Picks,
+) -> Result<Step, StepFault>
+    ensures { Comes result
+        (step_of never (function_of func.now) state.now packet.now picks.now (Some fields))
+        (record_of never (function_of func.now) state.now packet.now picks.now (Some fields)) }
 {
+    let Some(handler) = func.handlers.as_slice().get(packet.id.port as usize) else {
+        return Err(StepFault::BadChoice);
+    };
+    let ran = run(
+        alloc,
+        func,
+        handler,
+        state,
+        packet.time,
+        fields,
+        Some(picks),
+    )?;
+    finish(ran, picks)
+}
+
+/// The answer of a handler that took each choice.
+#[tactic(auto, using(crate::proofs::Handled::left_over))]
+fn finish(ran: Ran, picks: &Picks) -> Result<Step, StepFault>
+    ensures { (told : List Event) → answers_full told ≡ ran.context.full
+        → Comes result (left_by ran picks.now) told }
+{
+    let Ran { context, action } = ran;
     let Context {
         state,
         vars: _,
         edits,
-        choices,
+        picks: taken,
+        full,
     } = context;
-    if choices.len() > 0 {
+    if taken.len() < picks.len() {
         return Err(StepFault::BadChoice);
     }
-    Ok((
+    Ok(Step {
         state,
-        Done {
+        done: Done {
             action,
             edits,
             picks: picks.again(),
         },
-    ))
+        full,
+    })
 }
 
-// The step of a packet that is handled, at the least free indices.
-pub fn handle_at_least(
+/// The step of a packet with these fields, at the least vacant indices.
+pub fn step_at_least(
     alloc: Global,
     func: &Func,
     state: &State,
-    id: PacketId,
-    time: u64,
+    packet: &Packet,
     fields: Fields,
-) -> Result<(State, Done), AllocError>
-    requires of_func { length func.now.chains ≡ length state.now.chains }
-    requires port { id.port < length func.now.handlers }
-    ensures { IfOk result (λ found. handled (function_of func.now) state.now id time fields found.1.picks ≡ Some (record { state = found.0; done = found.1 })) }
+) -> Result<Step, AllocError>
+    requires port { packet.now.id.port < length func.now.handlers }
+    ensures { IfOk result (λ s.
+        step_of never (function_of func.now) state.now packet.now s.done.picks (Some fields)
+        ≡ Some (record { state = s.state; done = s.done })) }
 {
-    let handler = func.handlers.item(id.port);
-    let p = Input {
-        decls: func.chains.as_slice(),
-        ports: func.handlers.len(),
-        time,
-        fields,
-        choosing: Choosing::LeastFree,
-    };
-    let mut context = begin(alloc, func, state, time, Seq::new(alloc))?;
-    let flow = match exec(alloc, &mut context, &p, &handler.code) {
-        Ok(flow) => flow,
+    let handler = func.handlers.item(packet.id.port);
+    let ran = match run(alloc, func, handler, state, packet.time, fields, None) {
+        Ok(ran) => ran,
         Err(StepFault::BadChoice) => unreachable!(),
         Err(StepFault::Memory) => return Err(AllocError),
     };
+    let Ran { context, action } = ran;
     let Context {
         state,
         vars: _,
         edits,
-        choices,
+        picks,
+        full,
     } = context;
-    Ok((
+    Ok(Step {
         state,
-        Done {
-            action: action_of(flow),
+        done: Done {
+            action,
             edits,
-            picks: picks_of(choices.as_slice()),
+            picks,
         },
-    ))
-}
-
-fn picks_of(choices: &[u32]) -> Picks
-    requires { length choices.now ≤ 16 }
-    ensures { result ≡ choices.now }
-{
-    let mut picks = Picks::new();
-    for i in choices {
-        picks.push(*i);
-    }
-    picks
+        full,
+    })
 }
 
 fn no_edits() -> Edits
     ensures { result ≡ no_edits }
 {
-    Edits { values: [None; 7] }
+    Edits {
+        src_mac: None,
+        dst_mac: None,
+        src_ip: None,
+        dst_ip: None,
+        ttl: None,
+        src_port: None,
+        dst_port: None,
+    }
 }
 
-// What a packet comes to that no handler sees.
+/// What a packet comes to that no handler sees.
 pub fn skipped() -> Done
     ensures { result ≡ record { action = Skip; edits = no_edits; picks = [] } }
 {
@@ -194,15 +210,5 @@ pub fn skipped() -> Done
         action: Action::Skip,
         edits: no_edits(),
         picks: Picks::new(),
-    }
-}
-
-pub fn skip_with(state: &State, picks: &Picks) -> Result<Done, StepFault>
-    ensures { Answers result state.now (skipped state.now picks.now) }
-{
-    if picks.len() == 0 {
-        Ok(skipped())
-    } else {
-        Err(StepFault::BadChoice)
     }
 }

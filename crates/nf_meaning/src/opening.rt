@@ -2,7 +2,6 @@
 ghost use Rattle.std.specs.Prelude.{◌≡◌, ℕ, ◌+◌, ◌≤◌, length, take, IfOk, map, None, replicate};
 ghost use Rattle.nf_base.specs.Step.{opening_chain, opening_cells};
 
-use crate::copies::copy_cells;
 use nf_base::decl::{ArrayDecl, ChainDecl};
 use nf_base::indexed::Indexed;
 use nf_base::seq::Seq;
@@ -36,7 +35,7 @@ pub fn opening_arrays(alloc: Global, decls: &[ArrayDecl]) -> Result<Seq<Indexed<
 {
     let mut arrays = Seq::new(alloc);
     for decl in decls {
-        arrays.push(copy_cells(alloc, &decl.cells)?)?;
+        arrays.push(decl.cells.copy(alloc)?)?;
     }
     Ok(arrays)
 }

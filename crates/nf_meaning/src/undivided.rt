@@ -1,11 +1,13 @@
 // The interpreter over whole packets.
-ghost use Rattle.std.specs.Prelude.{◌≡◌, ◌<◌, length, map, IfOk, OnErr, Some, IsSome};
-ghost use Rattle.nf_base.specs.Step.{step, opening};
+ghost use Rattle.std.specs.Prelude.{◌≡◌, ◌<◌, length, IfOk, OnErr, Some, IsSome, false};
+ghost use Rattle.nf_base.specs.Step.{step, recorded, skipped, opening};
+ghost use Rattle.nf_base.specs.Record.{answers_full};
+ghost use Rattle.nf_base.specs.declared.state.State as states;
 ghost use Rattle.nf_base.specs.Functions.{function_of};
-ghost use Rattle.nf_meaning.specs.Whole.{Answers};
+ghost use Rattle.nf_meaning.specs.Answers.{Answers};
 
 use crate::fault::StepFault;
-use crate::handling::{handle_at_least, handle_with, skip_with, skipped};
+use crate::handling::{Step, skipped, step_at_least, step_with};
 use crate::opening::{opening_arrays, opening_chains};
 use nf_base::done::Done;
 use nf_base::func::Func;
@@ -13,18 +15,36 @@ use nf_base::packet::Packet;
 use nf_base::picks::Picks;
 use nf_base::state::State;
 use std::alloc::{AllocError, Global};
+use std::marker::Model;
 
 /// The plain interpreter: what a function remembers, in one list of indices for each chain.
+/// Contracts see it as that state.
 #[derive(Drop)]
 pub struct Undivided {
     /// What the packets so far left.
-    pub state: State,
+    state: State,
+}
+
+/// What the handling of a packet with given choices came to.
+#[derive(Debug, Drop)]
+pub struct Handled {
+    pub done: Done,
+    /// Whether some `new` found each index of its chain with an entry.
+    pub full: bool,
+}
+
+impl Model for Undivided {
+    ghost use Rattle.nf_base.specs.declared.state.State as states;
+
+    ghost Value = { states.State };
+
+    ghost view = { λ a. a.state };
 }
 
 impl Undivided {
     /// The state in which nothing was handled yet.
     pub fn new(alloc: Global, func: &Func) -> Result<Undivided, AllocError>
-        ensures { IfOk result (λ u. u.state ≡ opening (function_of func.now)) }
+        ensures { IfOk result (λ u. u ≡ opening (function_of func.now)) }
     {
         let chains = opening_chains(alloc, func.chains.as_slice())?;
         let arrays = opening_arrays(alloc, func.arrays.as_slice())?;
@@ -33,9 +53,16 @@ impl Undivided {
         })
     }
 
+    /// What is remembered.
+    pub fn state(&self) -> &State
+        ensures { result.now ≡ self.now }
+    {
+        &self.state
+    }
+
     /// What is remembered, in place of the interpreter.
     pub fn finish(self) -> State
-        ensures { result ≡ self.state }
+        ensures { result ≡ self }
     {
         let Undivided { state } = self;
         state
@@ -43,91 +70,89 @@ impl Undivided {
 
     /// Handles one packet with these choices: the indices of the entries that it makes, in order.
     ///
-    /// `BadChoice` comes exactly where the packet has no step with them, `Memory` where the allocator
-    /// gave none. After an `Err` nothing is changed.
-    #[tactic(auto, using(crate::proofs::Lengths::handled_length))]
+    /// `BadChoice` comes exactly where the packet has no step with them, `Memory` where the
+    /// allocator gave none. After an `Err` nothing is changed.
     pub fn packet(
         &mut self,
         alloc: Global,
         func: &Func,
         packet: &Packet,
         picks: &Picks,
-    ) -> Result<Done, StepFault>
-        requires of_func { length func.now.chains ≡ length self.old.state.chains }
-        ensures same_chains { length self.new.state.chains ≡ length self.old.state.chains }
-        ensures step { Answers result self.new.state (step (function_of func.now) self.old.state packet.now picks.now) }
+    ) -> Result<Handled, StepFault>
+        ensures step { Answers result self.new
+            (step (function_of func.now) self.old packet.now picks.now) }
+        ensures full { IfOk result (λ handled.
+            handled.full
+            ≡ answers_full (recorded (function_of func.now) self.old packet.now picks.now)) }
         ensures err { OnErr result (self.new ≡ self.old) }
     {
-        match packet.fields {
-            None => skip_with(&self.state, picks),
-            Some(fields) => {
-                let (state, done) = handle_with(
-                    alloc,
-                    func,
-                    &self.state,
-                    packet.id,
-                    packet.time,
-                    fields,
-                    picks,
-                )?;
-                self.state = state;
-                Ok(done)
-            }
-        }
+        let Some(fields) = packet.fields else {
+            return skip_with(picks);
+        };
+        let Step { state, done, full } = step_with(
+            alloc,
+            func,
+            &self.state,
+            packet,
+            fields,
+            picks,
+        )?;
+        self.state = state;
+        Ok(Handled { done, full })
     }
 
-    /// Handles one packet, with the least free index of its chain for each entry that it makes.
+    /// Handles one packet with choices that the interpreter takes itself: they stand in the answer.
     ///
-    /// The choices stand in the answer. After an `Err` nothing is changed.
-    #[tactic(auto, using(crate::proofs::Lengths::handled_length))]
+    /// After an `Err` nothing is changed.
     pub fn handle(
         &mut self,
         alloc: Global,
         func: &Func,
         packet: &Packet,
     ) -> Result<Done, AllocError>
-        requires of_func { length func.now.chains ≡ length self.old.state.chains }
         requires port { packet.now.id.port < length func.now.handlers }
-        ensures same_chains { length self.new.state.chains ≡ length self.old.state.chains }
-        ensures step { IfOk result (λ done. step (function_of func.now) self.old.state packet.now done.picks ≡ Some (record { state = self.new.state; done = done })) }
+        ensures step { IfOk result (λ done.
+            step (function_of func.now) self.old packet.now done.picks
+            ≡ Some (record { state = self.new; done = done })) }
         ensures err { OnErr result (self.new ≡ self.old) }
     {
-        match packet.fields {
-            None => Ok(skipped()),
-            Some(fields) => {
-                let (state, done) = handle_at_least(
-                    alloc,
-                    func,
-                    &self.state,
-                    packet.id,
-                    packet.time,
-                    fields,
-                )?;
-                self.state = state;
-                Ok(done)
-            }
-        }
+        let Some(fields) = packet.fields else {
+            return Ok(skipped());
+        };
+        let Step {
+            state,
+            done,
+            full: _,
+        } = step_at_least(alloc, func, &self.state, packet, fields)?;
+        self.state = state;
+        Ok(done)
     }
 
-    /// Choices with which the packet has a step: the least free index of its chain for each entry.
+    /// Choices with which the packet has a step.
     pub fn pick(&self, alloc: Global, func: &Func, packet: &Packet) -> Result<Picks, AllocError>
-        requires of_func { length func.now.chains ≡ length self.now.state.chains }
         requires port { packet.now.id.port < length func.now.handlers }
-        ensures legal { IfOk result (λ picks. IsSome (step (function_of func.now) self.now.state packet.now picks)) }
+        ensures legal { IfOk result (λ picks.
+            IsSome (step (function_of func.now) self.now packet.now picks)) }
     {
-        match packet.fields {
-            None => Ok(Picks::new()),
-            Some(fields) => {
-                let (_, done) = handle_at_least(
-                    alloc,
-                    func,
-                    &self.state,
-                    packet.id,
-                    packet.time,
-                    fields,
-                )?;
-                Ok(done.picks)
-            }
-        }
+        let Some(fields) = packet.fields else {
+            return Ok(Picks::new());
+        };
+        let step = step_at_least(alloc, func, &self.state, packet, fields)?;
+        Ok(step.done.picks)
+    }
+}
+
+/// A packet that no handler sees takes no choice.
+fn skip_with(picks: &Picks) -> Result<Handled, StepFault>
+    ensures answers { (s : states.State) → Answers result s (skipped s picks.now) }
+    ensures full { IfOk result (λ handled. handled.full ≡ false) }
+{
+    if picks.len() == 0 {
+        Ok(Handled {
+            done: skipped(),
+            full: false,
+        })
+    } else {
+        Err(StepFault::BadChoice)
     }
 }

@@ -1,91 +1,36 @@
 // The values of expressions.
-ghost use Rattle.std.specs.Prelude.{◌≡◌, ℕ, ◌+◌, ◌≤◌, length, take, drop, IfOk, map, slice_get};
-ghost use Rattle.nf_base.specs.Values.{field_of, narrowed, result_of, compares};
-ghost use Rattle.nf_base.specs.Context.{value, given, guard, var_at, entry_in, label_of, free_of, cell_at, index_of};
-ghost use Rattle.nf_base.specs.View.{expression_of, given_of, guard_of};
-ghost use Rattle.nf_meaning.specs.Seen.{context_of, input_of};
+ghost use Rattle.std.specs.Prelude.{◌≡◌, ℕ, ◌+◌, ◌≤◌, [], length, take, drop, IfOk, map, slice_get};
+ghost use Rattle.nf_base.specs.Context.{value, given, var_at, entry_in, label_of, column_of, index_of, or_zero};
+ghost use Rattle.nf_base.specs.Chains.{array_at};
+ghost use Rattle.nf_base.specs.View.{expression_of, given_of};
+ghost use Rattle.nf_meaning.specs.View.{context_of, input_of};
 
-use crate::context::{Context, Input};
-use nf_base::expr::{Comparison, Expr, Given, Guard, Operator};
-use nf_base::packet::{Field, Fields};
+use crate::chain::slots_of;
+use crate::context::{Context, Input, var_at};
+use nf_base::expr::{Expr, Given};
+use nf_base::indexed::Indexed;
+use nf_base::value::{field_of, narrowed, result_of};
 use nf_base::width::Width;
 use std::alloc::{AllocError, Global};
 
-fn field_of(time: u64, fields: &Fields, field: Field) -> u64
-    ensures { result ≡ field_of time fields.now field }
+fn index(context: &Context, var: u32) -> u64
+    ensures { result ≡ index_of (var_at context.now.vars var) }
 {
-    match field {
-        Field::Time => time,
-        Field::Length => u64::from(fields.length),
-        Field::SrcMac => fields.src_mac,
-        Field::DstMac => fields.dst_mac,
-        Field::SrcIp => u64::from(fields.src_ip),
-        Field::DstIp => u64::from(fields.dst_ip),
-        Field::Proto => u64::from(fields.proto),
-        Field::Ttl => u64::from(fields.ttl),
-        Field::SrcPort => u64::from(fields.src_port),
-        Field::DstPort => u64::from(fields.dst_port),
-    }
-}
-
-pub fn narrowed(width: Width, v: u64) -> u64
-    ensures { result ≡ narrowed width v }
-{
-    match width {
-        Width::W8 => v % 0x100,
-        Width::W16 => v % 0x1_0000,
-        Width::W32 => v % 0x1_0000_0000,
-        Width::W48 => v % 0x1_0000_0000_0000,
-        Width::W64 => v,
-    }
-}
-
-fn result_of(operator: Operator, a: u64, b: u64) -> u64
-    ensures { result ≡ result_of operator a b }
-{
-    match operator {
-        Operator::Plus => a.saturating_add(b),
-        Operator::Minus => a.saturating_sub(b),
-        Operator::Times => a.saturating_mul(b),
-        Operator::Over => { if b == 0 { 0 } else { a / b } }
-        Operator::Modulo => { if b == 0 { 0 } else { a % b } }
-        Operator::And => a & b,
-    }
-}
-
-pub fn compares(comparison: Comparison, a: u64, b: u64) -> bool
-    ensures { result ≡ compares comparison a b }
-{
-    match comparison {
-        Comparison::Equal => a == b,
-        Comparison::NotEqual => a != b,
-        Comparison::Less => a < b,
-        Comparison::LessOrEqual => a <= b,
-        Comparison::Greater => a > b,
-        Comparison::GreaterOrEqual => a >= b,
-    }
-}
-
-// The live entry of a variable, as its chain and its index.
-pub fn var_at(vars: &[Option<(u32, u32)>], var: u32) -> Option<(u32, u32)>
-    ensures { result ≡ var_at vars.now var }
-{
-    match vars.get(var as usize) {
-        None => None,
-        Some(at) => *at,
+    match var_at(context.vars.as_slice(), var) {
+        None => 0,
+        Some(at) => u64::from(at.index()),
     }
 }
 
 fn label(context: &Context, var: u32, label: u32) -> u64
-    ensures { result ≡ label_of label (entry_in context.now.state.chains (var_at context.now.vars var)) }
+    ensures { result
+        ≡ label_of label (entry_in context.now.state.chains (var_at context.now.vars var)) }
 {
-    let Some((chain, i)) = var_at(context.vars.as_slice(), var) else {
+    let Some(at) = var_at(context.vars.as_slice(), var) else {
         return 0;
     };
-    let Some(state) = context.state.chains.as_slice().get(chain as usize) else {
-        return 0;
-    };
-    let Some(Some(entry)) = state.slots.as_slice().get(i as usize) else {
+    let slots = slots_of(context.state.chains.as_slice(), at.chain());
+    let Some(Some(entry)) = slots.get(at.index() as usize) else {
         return 0;
     };
     match entry.labels.as_slice().get(label as usize) {
@@ -94,50 +39,54 @@ fn label(context: &Context, var: u32, label: u32) -> u64
     }
 }
 
-fn free(context: &Context, var: u32, column: u32) -> u64
-    ensures { result ≡ free_of column (entry_in context.now.state.chains (var_at context.now.vars var)) }
+fn column(context: &Context, var: u32, column: u32) -> u64
+    ensures { result
+        ≡ column_of column (entry_in context.now.state.chains (var_at context.now.vars var)) }
 {
-    let Some((chain, i)) = var_at(context.vars.as_slice(), var) else {
+    let Some(at) = var_at(context.vars.as_slice(), var) else {
         return 0;
     };
-    let Some(state) = context.state.chains.as_slice().get(chain as usize) else {
+    let slots = slots_of(context.state.chains.as_slice(), at.chain());
+    let Some(Some(entry)) = slots.get(at.index() as usize) else {
         return 0;
     };
-    let Some(Some(entry)) = state.slots.as_slice().get(i as usize) else {
-        return 0;
-    };
-    match entry.free.as_slice().get(column as usize) {
+    match entry.columns.as_slice().get(column as usize) {
         None => 0,
         Some(v) => *v,
     }
 }
 
-fn cell(context: &Context, array: u32, i: u64) -> Option<u64>
-    ensures { result ≡ cell_at context.now.state.arrays array i }
+/// The cells of the array of a number; past the last one there are none.
+fn cells_of(arrays: &[Indexed<u64>], array: u32) -> &[u64]
+    ensures { result.now ≡ array_at arrays.now array }
 {
-    let cells = context.state.arrays.as_slice().get(array as usize)?;
-    let v = cells.as_slice().get(i as usize)?;
-    Some(*v)
+    match arrays.get(array as usize) {
+        None => &[],
+        Some(cells) => cells.as_slice(),
+    }
+}
+
+fn cell(context: &Context, array: u32, i: u64) -> u64
+    ensures { result ≡ or_zero (slice_get (array_at context.now.state.arrays array) i) }
+{
+    match cells_of(context.state.arrays.as_slice(), array).get(i as usize) {
+        None => 0,
+        Some(v) => *v,
+    }
 }
 
 pub fn value(context: &Context, p: &Input, e: &Expr) -> u64
-    ensures { result ≡ value (input_of p.now) (context_of context.now) (expression_of e.now) }
+    ensures { result ≡ value (input_of p.now) (context_of [] context.now) (expression_of e.now) }
 {
     match e {
         Expr::Number(n) => *n,
         Expr::Read(field) => field_of(p.time, &p.fields, *field),
-        Expr::Index { var } => match var_at(context.vars.as_slice(), *var) {
-            None => 0,
-            Some((_, i)) => u64::from(i),
-        },
+        Expr::Index { var } => index(context, *var),
         Expr::Label { var, label: k } => label(context, *var, *k),
-        Expr::Column { var, column } => free(context, *var, *column),
+        Expr::Column { var, column: k } => column(context, *var, *k),
         Expr::Cell { array, at, .. } => {
             let i = narrowed(Width::W16, value(context, p, at));
-            match cell(context, *array, i) {
-                None => 0,
-                Some(v) => v,
-            }
+            cell(context, *array, i)
         }
         Expr::Both {
             operator,
@@ -151,8 +100,9 @@ pub fn value(context: &Context, p: &Input, e: &Expr) -> u64
     }
 }
 
+/// A value taken to the width of what it is given to.
 pub fn given(context: &Context, p: &Input, g: &Given) -> u64
-    ensures { result ≡ given (input_of p.now) (context_of context.now) (given_of g.now) }
+    ensures { result ≡ given (input_of p.now) (context_of [] context.now) (given_of g.now) }
 {
     narrowed(g.width, value(context, p, &g.value))
 }
@@ -163,26 +113,12 @@ pub fn all_given(
     p: &Input,
     gs: &[Given],
 ) -> Result<Vec<u64>, AllocError>
-    ensures { IfOk result (λ v. v.items ≡ map (given (input_of p.now) (context_of context.now)) (map given_of gs.now)) }
+    ensures { IfOk result (λ v.
+        v.items ≡ map (given (input_of p.now) (context_of [] context.now)) (map given_of gs.now)) }
 {
     let mut values = Vec::new(alloc);
     for g in gs {
         values.push(given(context, p, g))?;
     }
     Ok(values)
-}
-
-pub fn guards(
-    alloc: Global,
-    context: &Context,
-    p: &Input,
-    gs: &[Guard],
-) -> Result<Vec<(u32, u64)>, AllocError>
-    ensures { IfOk result (λ v. v.items ≡ map (guard (input_of p.now) (context_of context.now)) (map guard_of gs.now)) }
-{
-    let mut wanted = Vec::new(alloc);
-    for g in gs {
-        wanted.push((g.label, given(context, p, &g.given)))?;
-    }
-    Ok(wanted)
 }

@@ -1,7 +1,0 @@
--- what is left decides
-use Rattle.std.proofs.Common.{◌≡◌, drop}
-use Rattle.nf_base.specs.Chains.{is_taken}
-use Rattle.nf_meaning.proofs.slots.is_taken.Given as goal
-
-abbrev pub invariant-loop-m : goal.invariant-loop-m
-invariant-loop-m l = is_taken (drop l.m-index l.maps) l.labels l.slots ≡ is_taken l.maps l.labels l.slots
