@@ -1,6 +1,8 @@
-//! Laws over the definitions of nf_base, and worked rows. Each function's contract is one law; its
-//! body does nothing.
+//! Laws over the definitions of nf_core. Each function's contract is one law; its body does nothing.
 #![tactic(auto)]
 
-pub mod laws;
-pub mod rows;
+pub mod news;
+pub mod orders;
+pub mod quiet;
+pub mod steps;
+pub mod touching;
