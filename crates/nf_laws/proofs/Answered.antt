@@ -1,19 +1,31 @@
--- What a `new` answers.
-use Rattle.std.proofs.Common.{◌≡◌, ℕ, zero, suc, Bool, true, false, ◌||◌, List, [], ◌∷◌, map, Option, Some, None, slice_get, if◌then◌else◌, refl, ap, sym, ◌∙◌, subst, bytes_eq}
-use Rattle.std.specs.Option.{option_map}
+-- What a `new` comes to.
+use Rattle.std.proofs.Common.{◌≡◌, ◌↔◌, ℕ, zero, suc, Bool, true, false, ◌||◌, List, [], ◌∷◌, map, Option, Some, None, slice_get, if◌then◌else◌, refl, ap, sym, ◌∙◌, subst, ◌⊎◌, inl, inr}
 use Rattle.std.proofs.lemmas.Option.{same_Some}
-use Rattle.std.proofs.lemmas.Slice.Eq.{bytes_eq-Decides}
 use Rattle.nf_base.specs.declared.state.Entry.{Entry}
-use Rattle.nf_base.specs.declared.state.Chain.{Chain}
 use Rattle.nf_base.specs.declared.decl.MapDecl.{MapDecl}
 use Rattle.nf_base.specs.Text.{Creation}
-use Rattle.nf_base.specs.Chains.{chain_at, maps_of, key_in, has_key, found, is_found, is_taken, is_full, is_vacant}
+use Rattle.nf_base.specs.Chains.{chain_at, maps_of, key_in, found, is_found, is_taken, is_full, is_vacant}
 use Rattle.nf_base.specs.Context.{Context, Input, given}
 use Rattle.nf_base.specs.Operations.{Stops, NewResult, Made, Taken, Full, Illegal, Stopped, chosen, new_result}
-use Rattle.nf_laws.specs.News.{BoundKeysAreTaken, EntriesTakeTheNextChoice, FullIsFull}
+use Rattle.nf_laws.specs.Entries.{IsVacant, HasKeyAt}
+use Rattle.nf_laws.specs.Creations.{slots_for, IsBound, MayMake, HasVacant, IsNextChoice, AnswersNew, NewsAreAnswered}
+use Rattle.nf_laws.proofs.Found.{is_first, none_has}
 
-same_key : (xs ys : List ℕ) → xs ≡ ys → bytes_eq xs ys ≡ true
-same_key xs ys e = (bytes_eq-Decides xs ys).1 e
+-- a bound key is taken
+abbrev BoundIn : List MapDecl → List ℕ → List (Option Entry) → Type 0
+BoundIn maps labels slots = (m : ℕ) × (decl : MapDecl) × (i : ℕ) × (slice_get maps m ≡ Some decl) × HasKeyAt decl (key_in decl labels) slots i
+
+of_found : (decl : MapDecl) (key : List ℕ) (slots : List (Option Entry)) (o : Option ℕ) → found decl key slots ≡ o → is_found o ≡ true → (i : ℕ) × HasKeyAt decl key slots i
+of_found decl key slots None q e = cc
+of_found decl key slots (Some i) q e = (i, (is_first decl key slots i q).here)
+
+found_is : (decl : MapDecl) (key : List ℕ) (slots : List (Option Entry)) (i : ℕ) → HasKeyAt decl key slots i → (o : Option ℕ) → found decl key slots ≡ o → is_found o ≡ true
+found_is decl key slots i h None q = absurd (none_has decl key slots i q h)
+found_is decl key slots i h (Some j) q = refl
+
+or_cases : (a b : Bool) → (a || b) ≡ true → (a ≡ true) ⊎ (b ≡ true)
+or_cases true b e = inl refl
+or_cases false b e = inr e
 
 or_left : (a b : Bool) → a ≡ true → (a || b) ≡ true
 or_left true b e = refl
@@ -23,81 +35,122 @@ or_right : (a b : Bool) → b ≡ true → (a || b) ≡ true
 or_right true b e = refl
 or_right false b e = e
 
-hit_head : (b : Bool) (o : Option ℕ) → b ≡ true → is_found (if b then Some 0 else option_map (λ i. suc i) o) ≡ true
-hit_head true o e = refl
-hit_head false o e = cc
+taken_bound : (maps : List MapDecl) (labels : List ℕ) (slots : List (Option Entry)) → is_taken maps labels slots ≡ true → BoundIn maps labels slots
+taken_bound [] labels slots e = cc
+taken_bound (d ∷ maps) labels slots e = elim (or_cases (is_found (found d (key_in d labels) slots)) (is_taken maps labels slots) e) [
+  | inl h ↦ let w = of_found d (key_in d labels) slots (found d (key_in d labels) slots) refl h in (0, d, w.0, refl, w.1)
+  | inr t ↦ let w = taken_bound maps labels slots t in (suc w.0, w.1, w.2, w.3, w.4)
+]
 
-hit_tail : (b : Bool) (o : Option ℕ) → is_found o ≡ true → is_found (if b then Some 0 else option_map (λ i. suc i) o) ≡ true
-hit_tail true o e = refl
-hit_tail false (Some i) e = refl
-hit_tail false None e = cc
+bound_taken : (maps : List MapDecl) (labels : List ℕ) (slots : List (Option Entry)) (m : ℕ) (decl : MapDecl) (i : ℕ) → slice_get maps m ≡ Some decl → HasKeyAt decl (key_in decl labels) slots i → is_taken maps labels slots ≡ true
+bound_taken [] labels slots m decl i q h = cc
+bound_taken (d ∷ maps) labels slots zero decl i q h =
+    or_left _ _ (subst (λ (x : MapDecl). is_found (found x (key_in x labels) slots) ≡ true) (sym (same_Some _ _ q)) (found_is decl (key_in decl labels) slots i h (found decl (key_in decl labels) slots) refl))
+bound_taken (d ∷ maps) labels slots (suc m) decl i q h = or_right _ _ (bound_taken maps labels slots m decl i q h)
 
-hits : (m : MapDecl) (key : List ℕ) (slots : List (Option Entry)) (i : ℕ) (entry : Entry) → slice_get slots i ≡ Some (Some entry) → key_in m entry.labels ≡ key → is_found (found m key slots) ≡ true
-hits m key [] i entry q e = cc
-hits m key (s ∷ slots) zero entry q e = hit_head (has_key m key s) (found m key slots) (ap (has_key m key) (same_Some _ _ q) ∙ same_key (key_in m entry.labels) key e)
-hits m key (s ∷ slots) (suc i) entry q e = hit_tail (has_key m key s) (found m key slots) (hits m key slots i entry q e)
+-- full where no index is vacant
+pub some_vacant : (slots : List (Option Entry)) → is_full slots ≡ false → (i : ℕ) × IsVacant slots i
+some_vacant [] e = cc
+some_vacant (None ∷ slots) e = (0, refl)
+some_vacant (Some x ∷ slots) e = let w = some_vacant slots e in (suc w.0, w.1)
 
-is_taken_at : (maps : List MapDecl) (labels : List ℕ) (slots : List (Option Entry)) (m : ℕ) (decl : MapDecl) → slice_get maps m ≡ Some decl → is_found (found decl (key_in decl labels) slots) ≡ true → is_taken maps labels slots ≡ true
-is_taken_at [] labels slots m decl q h = cc
-is_taken_at (d ∷ maps) labels slots zero decl q h = or_left _ _ (ap (λ (x : MapDecl). is_found (found x (key_in x labels) slots)) (same_Some _ _ q) ∙ h)
-is_taken_at (d ∷ maps) labels slots (suc m) decl q h = or_right _ _ (is_taken_at maps labels slots m decl q h)
+pub vacant_not_full : (slots : List (Option Entry)) (i : ℕ) → IsVacant slots i → is_full slots ≡ false
+vacant_not_full [] i e = cc
+vacant_not_full (None ∷ slots) i e = refl
+vacant_not_full (Some x ∷ slots) zero e = cc
+vacant_not_full (Some x ∷ slots) (suc i) e = vacant_not_full slots i e
 
-when_taken : (a : Bool) (x : NewResult) → a ≡ true → (if a then Taken else x) ≡ Taken
-when_taken true x e = refl
-when_taken false x e = cc
+-- the next choice
+vacant : (o : Option (Option Entry)) → is_vacant o ≡ true → o ≡ Some None
+vacant None e = cc
+vacant (Some None) e = refl
+vacant (Some (Some x)) e = cc
 
-pub bound_taken : BoundKeysAreTaken
-bound_taken stops p c n m decl i entry q r e =
-    let slots = (chain_at c.state.chains n.chain).slots in
-    let labels = map (given p c) n.labels in
-    when_taken (is_taken (maps_of p.decls n.chain) labels slots) _ (is_taken_at (maps_of p.decls n.chain) labels slots m decl q (hits decl (key_in decl labels) slots i entry r e))
+-- a `new` that comes to this, by what stands
+when_taken : (stops : Stops) (p : Input) (c : Context) (n : Creation) → new_result stops p c n ≡ Taken → IsBound p c n → AnswersNew stops p c n
+when_taken stops p c n r b = record {
+  taken = (λ e. b, λ h. r);
+  stopped = (λ e. cc, λ h. absurd (h.0 b));
+  full = (λ e. cc, λ h. absurd (h.0.unbound b));
+  made = λ i. (λ e. cc, λ h. absurd (h.0.unbound b));
+  illegal = (λ e. cc, λ h. absurd (h.0.unbound b));
+}
 
-gap : (o : Option (Option Entry)) → is_vacant o ≡ true → o ≡ Some None
-gap None e = cc
-gap (Some None) e = refl
-gap (Some (Some x)) e = cc
+when_stopped : (stops : Stops) (p : Input) (c : Context) (n : Creation) → new_result stops p c n ≡ Stopped → (IsBound p c n → ⊥) → stops n.chain (chain_at c.state.chains n.chain) ≡ true → AnswersNew stops p c n
+when_stopped stops p c n r b s = record {
+  taken = (λ e. cc, λ h. absurd (b h));
+  stopped = (λ e. (b, s), λ h. r);
+  full = (λ e. cc, λ h. let on = h.0.goes_on in cc);
+  made = λ i. (λ e. cc, λ h. let on = h.0.goes_on in cc);
+  illegal = (λ e. cc, λ h. let on = h.0.goes_on in cc);
+}
 
-of_gap : (b : Bool) (i j : ℕ) → (if b then Made i else Illegal) ≡ Made j → (i ≡ j) × (b ≡ true)
-of_gap true i j e = (cc, refl)
-of_gap false i j e = cc
+when_full : (stops : Stops) (p : Input) (c : Context) (n : Creation) → new_result stops p c n ≡ Full → MayMake stops p c n → (HasVacant c n → ⊥) → AnswersNew stops p c n
+when_full stops p c n r may none =
+    let on = may.goes_on in
+    record {
+      taken = (λ e. cc, λ h. absurd (may.unbound h));
+      stopped = (λ e. cc, λ h. let stop = h.1 in cc);
+      full = (λ e. (may, none), λ h. r);
+      made = λ i. (λ e. cc, λ h. absurd (none (i, h.1.vacant)));
+      illegal = (λ e. cc, λ h. absurd (none h.1));
+    }
 
-of_choice : (slots : List (Option Entry)) (left : List ℕ) (i : ℕ) → chosen slots left ≡ Made i → (slice_get slots i ≡ Some None) × ((rest : List ℕ) × (left ≡ i ∷ rest))
-of_choice slots [] i e = cc
-of_choice slots (j ∷ left) i e = let w = of_gap (is_vacant (slice_get slots j)) j i e in
-    (subst (λ k. slice_get slots k ≡ Some None) w.0 (gap (slice_get slots j) w.1), (left, ap (λ k. k ∷ left) w.0))
+same_head : (left : List ℕ) (i j : ℕ) (xs ys : List ℕ) → left ≡ i ∷ xs → left ≡ j ∷ ys → i ≡ j
+same_head left i j xs ys e q = cc
 
-of_made : (a b c : Bool) (to : NewResult) (i : ℕ) → (if a then Taken else if b then Stopped else if c then Full else to) ≡ Made i → to ≡ Made i
-of_made true b c to i e = cc
-of_made false true c to i e = cc
-of_made false false true to i e = cc
-of_made false false false to i e = e
+when_made : (stops : Stops) (p : Input) (c : Context) (n : Creation) (i : ℕ) → new_result stops p c n ≡ Made i → MayMake stops p c n → IsNextChoice c n i → AnswersNew stops p c n
+when_made stops p c n i r may next =
+    let on = may.goes_on in
+    record {
+      taken = (λ e. cc, λ h. absurd (may.unbound h));
+      stopped = (λ e. cc, λ h. let stop = h.1 in cc);
+      full = (λ e. cc, λ h. absurd (h.1 (i, next.vacant)));
+      made = λ j. (λ e. let same : i ≡ j = cc in (may, subst (λ (k : ℕ). IsNextChoice c n k) same next), λ h. r ∙ ap Made (same_head c.left i j next.rest h.1.rest next.next h.1.next));
+      illegal = (λ e. cc, λ h. absurd (h.2 i next));
+    }
 
-pub next_choice : EntriesTakeTheNextChoice
-next_choice stops p c n i e =
-    let chain = chain_at c.state.chains n.chain in
-    of_choice chain.slots c.left i (of_made (is_taken (maps_of p.decls n.chain) (map (given p c) n.labels) chain.slots) (stops n.chain chain) (is_full chain.slots) (chosen chain.slots c.left) i e)
+when_illegal : (stops : Stops) (p : Input) (c : Context) (n : Creation) → new_result stops p c n ≡ Illegal → MayMake stops p c n → HasVacant c n → ((i : ℕ) → IsNextChoice c n i → ⊥) → AnswersNew stops p c n
+when_illegal stops p c n r may some none =
+    let on = may.goes_on in
+    record {
+      taken = (λ e. cc, λ h. absurd (may.unbound h));
+      stopped = (λ e. cc, λ h. let stop = h.1 in cc);
+      full = (λ e. cc, λ h. absurd (h.1 some));
+      made = λ i. (λ e. cc, λ h. absurd (none i h.1));
+      illegal = (λ e. (may, some, none), λ h. r);
+    }
 
-full_slot : (slots : List (Option Entry)) (i : ℕ) → is_full slots ≡ true → is_vacant (slice_get slots i) ≡ false
-full_slot [] i e = refl
-full_slot (None ∷ slots) i e = cc
-full_slot (Some x ∷ slots) zero e = refl
-full_slot (Some x ∷ slots) (suc i) e = full_slot slots i e
+-- a choice makes an entry, or is illegal
+of_choice : (stops : Stops) (p : Input) (c : Context) (n : Creation) (left : List ℕ) → c.left ≡ left → new_result stops p c n ≡ chosen (slots_for c n) left → MayMake stops p c n → HasVacant c n → AnswersNew stops p c n
+of_choice stops p c n [] q r may some = when_illegal stops p c n r may some (λ i h. let next = h.next in cc)
+of_choice stops p c n (i ∷ left) q r may some = of_slot (is_vacant (slice_get (slots_for c n) i)) refl r
+  where
+    of_slot : (b : Bool) → is_vacant (slice_get (slots_for c n) i) ≡ b → new_result stops p c n ≡ (if b then Made i else Illegal) → AnswersNew stops p c n
+    of_slot true e r = when_made stops p c n i r may (record { rest = left; next = q; vacant = vacant (slice_get (slots_for c n) i) e })
+    of_slot false e r = when_illegal stops p c n r may some (λ j h.
+        let same : i ≡ j = same_head c.left i j left h.rest q h.next in
+        let there : is_vacant (slice_get (slots_for c n) j) ≡ true = ap is_vacant h.vacant in
+        let not : is_vacant (slice_get (slots_for c n) j) ≡ false = subst (λ (k : ℕ). is_vacant (slice_get (slots_for c n) k) ≡ false) same e in
+        cc)
 
-of_gap_full : (b : Bool) (i : ℕ) → (if b then Made i else Illegal) ≡ Full → ⊥
-of_gap_full true i e = cc
-of_gap_full false i e = cc
+of_tests : (stops : Stops) (p : Input) (c : Context) (n : Creation) (a b f : Bool) → is_taken (maps_of p.decls n.chain) (map (given p c) n.labels) (slots_for c n) ≡ a →
+    stops n.chain (chain_at c.state.chains n.chain) ≡ b → is_full (slots_for c n) ≡ f →
+    new_result stops p c n ≡ (if a then Taken else if b then Stopped else if f then Full else chosen (slots_for c n) c.left) → AnswersNew stops p c n
+of_tests stops p c n true b f ea eb ef r =
+    let w = taken_bound (maps_of p.decls n.chain) (map (given p c) n.labels) (slots_for c n) ea in
+    when_taken stops p c n r (record { m = w.0; decl = w.1; index = w.2; declared = w.3; bound = w.4 })
+of_tests stops p c n false b f ea eb ef r = unbound b f eb ef r
+  where
+    free : IsBound p c n → ⊥
+    free h = let yes = bound_taken (maps_of p.decls n.chain) (map (given p c) n.labels) (slots_for c n) h.m h.decl h.index h.declared h.bound in cc
 
-not_chosen : (slots : List (Option Entry)) (left : List ℕ) → chosen slots left ≡ Full → ⊥
-not_chosen slots [] e = cc
-not_chosen slots (j ∷ left) e = of_gap_full (is_vacant (slice_get slots j)) j e
+    unbound : (b f : Bool) → stops n.chain (chain_at c.state.chains n.chain) ≡ b → is_full (slots_for c n) ≡ f →
+        new_result stops p c n ≡ (if b then Stopped else if f then Full else chosen (slots_for c n) c.left) → AnswersNew stops p c n
+    unbound true f eb ef r = when_stopped stops p c n r free eb
+    unbound false true eb ef r = when_full stops p c n r (record { unbound = free; goes_on = eb }) (λ h. let not = vacant_not_full (slots_for c n) h.0 h.1 in cc)
+    unbound false false eb ef r = of_choice stops p c n c.left refl r (record { unbound = free; goes_on = eb }) (some_vacant (slots_for c n) ef)
 
-of_full : (a b c : Bool) (to : NewResult) → (to ≡ Full → ⊥) → (if a then Taken else if b then Stopped else if c then Full else to) ≡ Full → c ≡ true
-of_full true b c to h e = cc
-of_full false true c to h e = cc
-of_full false false true to h e = refl
-of_full false false false to h e = absurd (h e)
-
-pub full_full : FullIsFull
-full_full stops p c n i e =
-    let chain = chain_at c.state.chains n.chain in
-    full_slot chain.slots i (of_full (is_taken (maps_of p.decls n.chain) (map (given p c) n.labels) chain.slots) (stops n.chain chain) (is_full chain.slots) (chosen chain.slots c.left) (λ f. not_chosen chain.slots c.left f) e)
+pub news_answer : NewsAreAnswered
+news_answer stops p c n =
+    of_tests stops p c n (is_taken (maps_of p.decls n.chain) (map (given p c) n.labels) (slots_for c n)) (stops n.chain (chain_at c.state.chains n.chain)) (is_full (slots_for c n)) refl refl refl refl

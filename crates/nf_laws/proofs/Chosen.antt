@@ -16,7 +16,7 @@ use Rattle.nf_base.specs.Course.{Completion, Normal, Ended, NoStep, StoppedAt, a
 use Rattle.nf_base.specs.Step.{StepResult, step_result, step_of, input, start_context, completes}
 use Rattle.nf_laws.specs.Steps.{HasHandler, skips, handles, SomeChoicesAreLegal}
 use Rattle.nf_laws.proofs.Consumed.{left_of, then_then}
-use Rattle.nf_laws.proofs.Legal.{settles_back, then_normal}
+use Rattle.nf_laws.proofs.Legal.{block_at, settles_back, then_normal}
 
 -- a context with other choices left
 abbrev pub leaving : List ℕ → Context → Context
@@ -144,7 +144,10 @@ legal p (Make n made taken full next) c g h =
 on_port : (f : Function) (s : State) (packet : Packet) (fields : Option Fields) → HasHandler f packet → packet.fields ≡ fields → (choices : List ℕ) × ((r : StepResult) × (step_of never f s packet choices fields ≡ Some r))
 on_port f s packet None h q = ([], (_, refl))
 on_port f s packet (Some fields) (skips none) q = cc
-on_port f s packet (Some fields) (handles block at) q =
+on_port f s packet (Some fields) (handles lt) q =
+    let there = block_at f.handlers packet.id.port lt in
+    let block = there.0 in
+    let at = there.1 in
     let w = legal (input f packet.time fields) block (start_context f s packet.time []) Normal (λ d. ([], refl)) in
     let ends : left_of (completes never f s packet.time fields w.0 (Some block)) ≡ Some [] = ap left_of (sym (then_normal (completes never f s packet.time fields w.0 (Some block)))) ∙ w.1 in
     (w.0, rw at (settles_back w.0 (completes never f s packet.time fields w.0 (Some block)) ends))

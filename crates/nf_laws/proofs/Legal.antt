@@ -1,5 +1,5 @@
 -- A step is there exactly where its record is legal and takes each choice.
-use Rattle.std.proofs.Common.{◌≡◌, ℕ, Bool, true, false, ◌==◌, List, [], ◌∷◌, ◌++◌, Option, Some, None, slice_get, if◌then◌else◌, refl, ap, sym, ◌∙◌, subst, arith, eq-eqb, eqb-true, append-nil, inl, inr}
+use Rattle.std.proofs.Common.{◌≡◌, ◌<◌, ◌≤◌, length, zero, suc, ℕ, Bool, true, false, ◌==◌, List, [], ◌∷◌, ◌++◌, Option, Some, None, slice_get, if◌then◌else◌, refl, ap, sym, ◌∙◌, subst, arith, eq-eqb, eqb-true, append-nil, inl, inr}
 use Rattle.std.specs.Option.{option_and_then}
 use Rattle.std.proofs.lemmas.Option.{same_Some}
 use Rattle.std.proofs.lemmas.Bool.{cases_Bool}
@@ -14,7 +14,7 @@ use Rattle.nf_base.specs.Events.{Event, AskedNew}
 use Rattle.nf_base.specs.Course.{Completion, Normal, Ended, NoStep, StoppedAt, and_then, exec, events}
 use Rattle.nf_base.specs.Record.{is_legal, indices_made}
 use Rattle.nf_base.specs.Step.{StepResult, if_none_left, step_result, skipped, input, start_context, completes, records, step_of, record_of}
-use Rattle.nf_laws.specs.Steps.{StepsAreLegal, LegalStepsAre, HasHandler, skips, handles}
+use Rattle.nf_laws.specs.Steps.{StepsAreLegal, LegalStepsAre, IsLegalRecord, OtherPortsHaveNone, HasHandler, skips, handles}
 use Rattle.nf_laws.proofs.Consumed.{taken, after_came, unused, left_of, consumes}
 
 taken_head : (i : ℕ) (left rest : List ℕ) → taken i left ≡ Some rest → left ≡ i ∷ rest
@@ -84,28 +84,46 @@ leaves f s time fields choices block =
     ∙ consumes never (input f time fields) block (start_context f s time choices) Normal (λ _. []) (λ d. refl)
 
 legal : (f : Function) (s : State) (packet : Packet) (choices : List ℕ) (fields : Option Fields) (handler : Option Block) (r : StepResult) → slice_get f.handlers packet.id.port ≡ handler →
-    step_of never f s packet choices fields ≡ Some r → (is_legal (record_of never f s packet choices fields) ≡ true) × (indices_made (record_of never f s packet choices fields) ≡ choices)
-legal f s packet [] None handler r at e = (refl, refl)
+    step_of never f s packet choices fields ≡ Some r → IsLegalRecord (record_of never f s packet choices fields) choices
+legal f s packet [] None handler r at e = record { legal = refl; made = refl }
 legal f s packet (i ∷ choices) None handler r at e = cc
 legal f s packet choices (Some fields) None r at e = let e = rw at at e in cc
 legal f s packet choices (Some fields) (Some block) r at e =
     let told = says (records never f s packet.time fields choices (Some block)) choices [] (sym (leaves f s packet.time fields choices block) ∙ settles choices (completes never f s packet.time fields choices (Some block)) r (rw at at e)) in
-    rw at (told.0, sym (append-nil _) ∙ sym told.1)
+    rw at (record { legal = told.0; made = sym (append-nil _) ∙ sym told.1 })
 
 pub steps_legal : StepsAreLegal
 steps_legal f s packet choices r e = legal f s packet choices packet.fields (slice_get f.handlers packet.id.port) r refl e
 
-back : (f : Function) (s : State) (packet : Packet) (choices : List ℕ) (fields : Option Fields) → HasHandler f packet → packet.fields ≡ fields →
-    is_legal (record_of never f s packet choices fields) ≡ true → indices_made (record_of never f s packet choices fields) ≡ choices → (r : StepResult) × (step_of never f s packet choices fields ≡ Some r)
-back f s packet [] None h q l i = (_, refl)
-back f s packet (j ∷ choices) None h q l i = cc
-back f s packet choices (Some fields) (skips none) q l i = cc
-back f s packet choices (Some fields) (handles block at) q l i =
+-- a port of the function has a block
+pub block_at : (blocks : List Block) (port : ℕ) → port < length blocks → (block : Block) × (slice_get blocks port ≡ Some block)
+block_at [] port lt = absurd (omega (arith, lt))
+block_at (b ∷ blocks) zero lt = (b, refl)
+block_at (b ∷ blocks) (suc port) lt = block_at blocks port (omega (arith, lt))
+
+pub no_block : (blocks : List Block) (port : ℕ) → length blocks ≤ port → slice_get blocks port ≡ None
+no_block [] port le = refl
+no_block (b ∷ blocks) zero le = absurd (omega (arith, le))
+no_block (b ∷ blocks) (suc port) le = no_block blocks port (omega (arith, le))
+
+at_port : (f : Function) (s : State) (packet : Packet) (choices : List ℕ) (fields : Fields) (block : Block) → slice_get f.handlers packet.id.port ≡ Some block →
+    IsLegalRecord (record_of never f s packet choices (Some fields)) choices → (r : StepResult) × (step_of never f s packet choices (Some fields) ≡ Some r)
+at_port f s packet choices fields block at h =
     let es = records never f s packet.time fields choices (Some block) in
-    let l2 : is_legal es ≡ true = rw at at l in
-    let i2 : indices_made es ≡ choices = rw at at i in
+    let l2 : is_legal es ≡ true = rw at at h.legal in
+    let i2 : indices_made es ≡ choices = rw at at h.made in
     let t : unused es choices ≡ Some [] = subst (λ (left : List ℕ). unused es left ≡ Some []) (append-nil _ ∙ i2) (takes es [] l2) in
     rw at (settles_back choices (completes never f s packet.time fields choices (Some block)) (leaves f s packet.time fields choices block ∙ t))
 
+back : (f : Function) (s : State) (packet : Packet) (choices : List ℕ) (fields : Option Fields) → HasHandler f packet → packet.fields ≡ fields →
+    IsLegalRecord (record_of never f s packet choices fields) choices → (r : StepResult) × (step_of never f s packet choices fields ≡ Some r)
+back f s packet [] None h q l = (_, refl)
+back f s packet (j ∷ choices) None h q l = let made = l.made in cc
+back f s packet choices (Some fields) (skips none) q l = cc
+back f s packet choices (Some fields) (handles lt) q l = let at = block_at f.handlers packet.id.port lt in at_port f s packet choices fields at.0 at.1 l
+
 pub legal_steps : LegalStepsAre
-legal_steps f s packet choices h l i = back f s packet choices packet.fields h refl l i
+legal_steps f s packet choices h l = back f s packet choices packet.fields h refl l
+
+pub other_ports : OtherPortsHaveNone
+other_ports f s packet fields choices e le = rw (e, no_block f.handlers packet.id.port le) refl

@@ -2,12 +2,15 @@ pub mod Listed
 pub mod Plain
 pub mod Consumed
 pub mod Legal
-pub mod Shares
+pub mod Alike
 pub mod Ordered
 pub mod Touched
 pub mod Numbered
 pub mod Telling
 pub mod Shared
+pub mod Found
 pub mod Answered
+pub mod Asked
 pub mod Quietly
 pub mod Chosen
+pub mod Picked

@@ -1,21 +1,27 @@
-ghost use Rattle.nf_laws.specs.Steps.{StepsAreLegal, LegalStepsAre, SharesStepAlike, SomeChoicesAreLegal};
+//! A packet's step.
+ghost use Rattle.nf_laws.specs.Steps.{StepsAreLegal, LegalStepsAre, OtherPortsHaveNone, SomeChoicesAreLegal, StepsPickTheirChoices, OneStepAtMost, SkippedIsNothing};
 
-/// Where a packet has a step, each `new` of its record got an answer, and the choices are the indices of the entries made.
+/// A packet has a step exactly where each `new` of its record got an answer, and its choices are the
+/// indices of the entries made, in order.
 pub fn steps_are_legal()
-    ensures { StepsAreLegal }
+    ensures legal { StepsAreLegal }
+    ensures steps { LegalStepsAre }
+    ensures other { OtherPortsHaveNone }
 {}
 
-/// Where each `new` of a packet's record got an answer, and the choices are the indices of the entries made, it has a step.
-pub fn legal_steps_are()
-    ensures { LegalStepsAre }
-{}
-
-/// A share's handler does what the undivided one does, unless it stops.
-pub fn shares_step_alike()
-    ensures { SharesStepAlike }
-{}
-
-/// A packet that is skipped or comes in at one of the function's ports has a step with some choices, at every state.
+/// A packet that is skipped, or came in at one of the function's ports, has a step with some choices,
+/// at every state.
 pub fn some_choices_are_legal()
     ensures { SomeChoicesAreLegal }
+{}
+
+/// By its choices a packet has one step at most, and the step picks them.
+pub fn steps_pick_their_choices()
+    ensures picks { StepsPickTheirChoices }
+    ensures once { OneStepAtMost }
+{}
+
+/// A packet whose fields are not known has a step with no choices alone, which changes nothing.
+pub fn skipped_is_nothing()
+    ensures { SkippedIsNothing }
 {}

@@ -5,7 +5,7 @@ use Rattle.nf_base.specs.Chains.{chain_at, is_taken, is_full, maps_of}
 use Rattle.nf_base.specs.Context.{Context, Input, given}
 use Rattle.nf_base.specs.Operations.{Stops, never, NewResult, Made, Taken, Full, Illegal, Stopped, new_result, chosen, with_new, answer, after}
 use Rattle.nf_base.specs.Course.{Completion, Normal, Ended, NoStep, StoppedAt, and_then, if_hit, if_new, exec}
-use Rattle.nf_laws.specs.Steps.{is_stopped, SharesStepAlike}
+use Rattle.nf_laws.specs.Shares.{is_stopped, SharesGoAlike}
 
 -- the same, or a stop
 abbrev pub Alike : Completion → Completion → Type 0
@@ -66,5 +66,5 @@ unless_stopped : (x y : Completion) → Alike x y → is_stopped x ≡ false →
 unless_stopped x y (inl e) s = e
 unless_stopped x y (inr t) s = cc
 
-pub shares_alike : SharesStepAlike
+pub shares_alike : SharesGoAlike
 shares_alike stops p b c s = unless_stopped (exec stops p b c) (exec never p b c) (share_alike stops p b c) s
