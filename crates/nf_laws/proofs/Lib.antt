@@ -11,6 +11,8 @@ pub mod Shared
 pub mod Found
 pub mod Answered
 pub mod Asked
+pub mod Walked
+pub mod Going
 pub mod Quietly
 pub mod Chosen
 pub mod Picked

@@ -1,5 +1,6 @@
 pub mod Steps
 pub mod Shares
+pub mod Paths
 pub mod Touching
 pub mod Orders
 pub mod Entries

@@ -4,6 +4,7 @@
 pub mod creations;
 pub mod lookups;
 pub mod orders;
+pub mod paths;
 pub mod quiet;
 pub mod shares;
 pub mod steps;
