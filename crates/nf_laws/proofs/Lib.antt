@@ -7,7 +7,12 @@ pub mod Ordered
 pub mod Touched
 pub mod Numbered
 pub mod Telling
-pub mod Shared
+pub mod Told
+pub mod Within
+pub mod Apart
+pub mod Written
+pub mod Placed
+pub mod OnObjects
 pub mod Found
 pub mod Answered
 pub mod Asked

@@ -7,7 +7,8 @@ use Rattle.nf_base.specs.Chains.{array_at}
 use Rattle.nf_base.specs.Context.{Context, Input, EntryRef, Var, var_at, entry_in, value, given}
 use Rattle.nf_base.specs.Operations.{Stops, new_result, key_found, index_found}
 use Rattle.nf_base.specs.Events.{Event, Tested, LookedUp, Found, AskedNew, EntryUsed, EntryFreed, CellRead, CellWritten, used, frees, loads, stores, reads, reads_all, reads_guards, restamps_at, rewrites, did, asked, asked_new}
-use Rattle.nf_laws.specs.Touching.{Reads, by_index, by_label, by_column, by_cell, in_index, in_left, in_right, DoesThen, touches, frees_it, set_reads, write_reads, writes_it, store_index, store_reads, stores_it, AsksThen, key_reads, looks_up, index_reads, guard_reads, finds, left_reads, right_reads, tests, OperationsAreTold, QuestionsAreTold, NewsAreTold, EndsAreTold}
+use Rattle.nf_base.specs.Statements.{Statement, Ends, Does, Asks, Makes}
+use Rattle.nf_laws.specs.Telling.{Reads, by_index, by_label, by_column, by_cell, in_index, in_left, in_right, DoesThen, touches, frees_it, set_reads, write_reads, writes_it, store_index, store_reads, stores_it, AsksThen, key_reads, looks_up, index_reads, guard_reads, finds, left_reads, right_reads, tests, Tells, ends, does, asks, label_reads, makes, OperationsAreTold, QuestionsAreTold, NewsAreTold, EndsAreTold}
 use Rattle.nf_laws.proofs.Listed.{here, there, has, has_none}
 
 -- what is told behind stays told
@@ -83,7 +84,8 @@ questions p c q rest e (right_reads place comparison a b d r) = behind p c a _ d
 questions p c q rest e (tests place comparison a b) = behind p c a _ _ (behind p c b _ _ (here _ rest))
 
 pub news : NewsAreTold
-news stops p c n rest = (behind_all p c n.labels _ _ (here _ rest), λ g e h r. reading_all p c n.labels _ g e h r)
+news stops p c n rest e (label_reads m g d h r) = reading_all p c n.labels _ g d h r
+news stops p c n rest e (makes m) = behind_all p c n.labels _ _ (here _ rest)
 
-pub ends : EndsAreTold
-ends p c port k e r = reading p c port [] e r
+pub ending : EndsAreTold
+ending stops p c port k e (ends x d r) = reading p c port [] d r

@@ -9,7 +9,7 @@ use Rattle.nf_base.specs.Chains.{maps_of, key_in}
 use Rattle.nf_base.specs.Operations.{NewResult, Made, Taken, Full, Illegal, Stopped}
 use Rattle.nf_base.specs.Events.{Event, Tested, LookedUp, Found, AskedNew, EntryUsed, EntryFreed, CellRead, CellWritten}
 use Rattle.nf_base.specs.Locations.{Location, EntryNo, KeyOf, CellAt, Numbers, numbers_after, all_numbers, keys_from, keys_of, entry_if, entry_made, locations_of, locations}
-use Rattle.nf_laws.specs.Touching.{Touches, by_get, by_new, by_making, by_hit, by_find, by_use, by_free, by_read, by_write, WhatIsTouchedIsAPlace, Toucher, NoOtherPlaceIs}
+use Rattle.nf_laws.specs.Touching.{Touches, by_get, by_new, by_making, by_hit, by_find, by_use, by_free, by_read, by_write, TouchedIsALocation, Toucher, NoOtherLocationIs}
 use Rattle.nf_laws.proofs.Listed.{here, there, has, has_none}
 
 named : (key : ℕ → List ℕ → Location) (m : ℕ) (maps : List MapDecl) (labels : List ℕ) (decl : MapDecl) → slice_get maps m ≡ Some decl → Contains (keys_from key maps labels) (key m (key_in decl labels))
@@ -29,7 +29,7 @@ at_event decls ns e x (by_free chain i) = here (EntryNo chain (ns.entry_no chain
 at_event decls ns e x (by_read at array i) = here (CellAt array i) []
 at_event decls ns e x (by_write at array i changed) = here (CellAt array i) []
 
-pub touched_is : WhatIsTouchedIsAPlace
+pub touched_is : TouchedIsALocation
 touched_is decls ns [] e fs x t = Contains-append_left (locations_of decls ns e) (locations decls (numbers_after ns e) fs) x (at_event decls ns e x t)
 touched_is decls ns (d ∷ es) e fs x t = Contains-append_right (locations_of decls ns d) (locations decls (numbers_after ns d) (es ++ e ∷ fs)) x (touched_is decls (numbers_after ns d) es e fs x t)
 
@@ -77,7 +77,7 @@ from_event decls ns (EntryFreed chain i) x h = one_place (Touches decls ns (Entr
 from_event decls ns (CellRead at array i) x h = one_place (Touches decls ns (CellRead at array i)) h (by_read at array i)
 from_event decls ns (CellWritten at array i changed) x h = one_place (Touches decls ns (CellWritten at array i changed)) h (by_write at array i changed)
 
-pub only_touched : NoOtherPlaceIs
+pub only_touched : NoOtherLocationIs
 only_touched decls ns [] x h = absurd (has_none x h)
 only_touched decls ns (e ∷ es) x h = elim (Contains-append_cases (locations_of decls ns e) (locations decls (numbers_after ns e) es) x h) [
   | inl i ↦ record { earlier = []; event = e; later = es; whole = refl; touches = from_event decls ns e x i }

@@ -1,9 +1,13 @@
+pub mod Entries
 pub mod Steps
+pub mod Creations
+pub mod Lookups
 pub mod Shares
 pub mod Paths
 pub mod Touching
+pub mod Telling
+pub mod Numbering
+pub mod Objects
+pub mod Places
 pub mod Orders
-pub mod Entries
-pub mod Creations
-pub mod Lookups
 pub mod Quiet

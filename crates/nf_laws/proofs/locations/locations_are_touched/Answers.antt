@@ -1,4 +1,4 @@
-use Rattle.nf_laws.proofs.touching.places_are_touched.Goals as goal
+use Rattle.nf_laws.proofs.locations.locations_are_touched.Goals as goal
 use Rattle.nf_laws.proofs.Touched.{touched_is, only_touched}
 
 pub returns-clause-each : goal.returns-clause-each
