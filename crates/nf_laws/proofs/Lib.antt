@@ -21,3 +21,8 @@ pub mod Going
 pub mod Quietly
 pub mod Chosen
 pub mod Picked
+pub mod Indexed
+pub mod Kept
+pub mod Chained
+pub mod Sound
+pub mod Shaped

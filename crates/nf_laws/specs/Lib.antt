@@ -1,4 +1,5 @@
 pub mod Entries
+pub mod States
 pub mod Steps
 pub mod Creations
 pub mod Lookups

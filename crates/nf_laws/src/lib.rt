@@ -12,4 +12,5 @@ pub mod paths;
 pub mod quiet;
 pub mod records;
 pub mod shares;
+pub mod states;
 pub mod steps;
