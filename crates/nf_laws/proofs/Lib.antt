@@ -26,3 +26,5 @@ pub mod Kept
 pub mod Chained
 pub mod Sound
 pub mod Shaped
+pub mod Quieted
+pub mod Changed

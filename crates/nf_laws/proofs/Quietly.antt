@@ -14,9 +14,14 @@ use Rattle.nf_base.specs.Operations.{Stops, NewResult, Made, Taken, Full, Illega
 use Rattle.nf_base.specs.Events.{Event, AskedNew, used, frees, stores, reads, restamps, restamps_at, differs, rewrites, did, asked}
 use Rattle.nf_base.specs.Course.{Completion, Normal, Ended, NoStep, StoppedAt, and_then, if_hit, if_new, exec, events}
 use Rattle.nf_base.specs.Record.{is_quiet}
-use Rattle.nf_laws.specs.Quiet.{LeavesState, QuietIsSame}
 use Rattle.nf_laws.proofs.Plain.{SkipsReads, plain_reads, plain_all, plain_asked, question_event}
 use Rattle.nf_laws.proofs.Consumed.{then_then}
+use Rattle.nf_laws.proofs.Indexed.{set_past}
+use Rattle.nf_laws.proofs.Kept.{EndsIn, answer_state}
+
+-- a course ends in this state
+abbrev pub LeavesState : State → Completion → Type 0
+LeavesState s w = EndsIn (λ x. x ≡ s) w
 
 quiet_reads : SkipsReads is_quiet
 quiet_reads = record { use_ = λ chain i es. refl; load_ = λ place array i es. refl }
@@ -26,11 +31,6 @@ set_same : {A : Type 0} (xs : List A) (k : ℕ) (d : A) → slice_set xs k (get_
 set_same [] k d = refl
 set_same (x ∷ xs) zero d = refl
 set_same (x ∷ xs) (suc k) d = ap (λ zs. x ∷ zs) (set_same xs k d)
-
-set_past : {A : Type 0} (xs : List A) (k : ℕ) (x : A) → slice_get xs k ≡ None → slice_set xs k x ≡ xs
-set_past [] k x e = refl
-set_past (y ∷ xs) zero x e = cc
-set_past (y ∷ xs) (suc k) x e = ap (λ zs. y ∷ zs) (set_past xs k x e)
 
 set_there : {A : Type 0} (xs : List A) (k : ℕ) (x : A) → slice_get xs k ≡ Some x → slice_set xs k x ≡ xs
 set_there [] k x e = cc
@@ -121,19 +121,6 @@ quiet_question p c (Get place chain m key var) rest = refl
 quiet_question p c (Find place chain at guards var) rest = refl
 quiet_question p c (Test place comparison a b) rest = refl
 
-hit_state : (var chain : ℕ) (c d : Context) (o : Option ℕ) → option_map (bound var chain c) o ≡ Some d → d.state ≡ c.state
-hit_state var chain c d None e = cc
-hit_state var chain c d (Some i) e = ap (λ (x : Context). x.state) (sym (same_Some _ _ e))
-
-test_state : (b : Bool) (c d : Context) → (if b then Some c else None) ≡ Some d → d.state ≡ c.state
-test_state true c d e = ap (λ (x : Context). x.state) (sym (same_Some _ _ e))
-test_state false c d e = cc
-
-answer_state : (p : Input) (c d : Context) (q : Question) → answer p c q ≡ Some d → d.state ≡ c.state
-answer_state p c d (Get place chain m key var) e = hit_state var chain c d (key_found p c chain m (map (given p c) key)) e
-answer_state p c d (Find place chain at guards var) e = hit_state var chain c d (index_found p c chain (value p c at) guards) e
-answer_state p c d (Test place comparison a b) e = test_state (compares comparison (value p c a) (value p c b)) c d e
-
 hit_case : (o : Option Context) (s : State) (f : Context → Completion) (x : Completion) (g : Context → Completion) (es : Context → List Event) (fs : List Event) →
     ((d : Context) → o ≡ Some d → is_quiet (es d) ≡ true → LeavesState s (and_then (f d) g)) → (is_quiet fs ≡ true → LeavesState s (and_then x g)) → is_quiet (if_hit o es fs) ≡ true → LeavesState s (and_then (if_hit o f x) g)
 hit_case (Some d) s f x g es fs h m e = h d refl e
@@ -181,5 +168,5 @@ then_normal (Ended a c) = refl
 then_normal NoStep = refl
 then_normal (StoppedAt chain left) = refl
 
-pub quiet_same : QuietIsSame
-quiet_same stops p b c e = rw (then_normal (exec stops p b c)) at (quietly stops p b c Normal (λ _. []) (λ d q. refl) e)
+pub course_same : (stops : Stops) (p : Input) (block : Block) (c : Context) → is_quiet (events stops p block c (λ _. [])) ≡ true → LeavesState c.state (exec stops p block c)
+course_same stops p b c e = rw (then_normal (exec stops p b c)) at (quietly stops p b c Normal (λ _. []) (λ d q. refl) e)
