@@ -28,3 +28,5 @@ pub mod Sound
 pub mod Shaped
 pub mod Quieted
 pub mod Changed
+pub mod Parted
+pub mod Reported

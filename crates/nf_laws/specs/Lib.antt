@@ -3,6 +3,7 @@ pub mod States
 pub mod Steps
 pub mod Creations
 pub mod Lookups
+pub mod Runs
 pub mod Shares
 pub mod Paths
 pub mod Touching

@@ -11,6 +11,7 @@ pub mod orders;
 pub mod paths;
 pub mod quiet;
 pub mod records;
+pub mod runs;
 pub mod shares;
 pub mod states;
 pub mod steps;
