@@ -5,7 +5,7 @@ use Rattle.nf_base.specs.Chains.{chain_at, is_taken, is_full, maps_of}
 use Rattle.nf_base.specs.Context.{Context, Input, given}
 use Rattle.nf_base.specs.Operations.{Stops, never, NewResult, Made, Taken, Full, Illegal, Stopped, new_result, chosen, with_new, answer, after}
 use Rattle.nf_base.specs.Course.{Completion, Normal, Ended, NoStep, StoppedAt, and_then, if_hit, if_new, exec}
-use Rattle.nf_laws.specs.Shares.{is_stopped, SharesGoAlike}
+use Rattle.nf_laws.specs.Shares.{is_stopped}
 
 -- the same, or a stop
 abbrev pub Alike : Completion → Completion → Type 0
@@ -29,7 +29,7 @@ hit_alike (Some c) f g x y h m = h c
 hit_alike None f g x y h m = m
 
 -- a `new` comes to the same, or it stops
-tests_alike : (a b c : Bool) (to : NewResult) → ((if a then Taken else if b then Stopped else if c then Full else to) ≡ (if a then Taken else if false then Stopped else if c then Full else to)) ⊎ ((if a then Taken else if b then Stopped else if c then Full else to) ≡ Stopped)
+pub tests_alike : (a b c : Bool) (to : NewResult) → ((if a then Taken else if b then Stopped else if c then Full else to) ≡ (if a then Taken else if false then Stopped else if c then Full else to)) ⊎ ((if a then Taken else if b then Stopped else if c then Full else to) ≡ Stopped)
 tests_alike true b c to = inl refl
 tests_alike false true c to = inr refl
 tests_alike false false c to = inl refl
@@ -66,5 +66,5 @@ unless_stopped : (x y : Completion) → Alike x y → is_stopped x ≡ false →
 unless_stopped x y (inl e) s = e
 unless_stopped x y (inr t) s = cc
 
-pub shares_alike : SharesGoAlike
-shares_alike stops p b c s = unless_stopped (exec stops p b c) (exec never p b c) (share_alike stops p b c) s
+pub course_alike : (stops : Stops) (p : Input) (b : Block) (c : Context) → is_stopped (exec stops p b c) ≡ false → exec stops p b c ≡ exec never p b c
+course_alike stops p b c s = unless_stopped (exec stops p b c) (exec never p b c) (share_alike stops p b c) s

@@ -40,7 +40,7 @@ left_of (StoppedAt chain left) = None
 unused_plain : (left : List ℕ) → IsPlain (λ es. unused es left)
 unused_plain left = record { reads_ = record { use_ = λ chain i es. refl; load_ = λ place array i es. refl }; touch_ = λ chain i es. refl; free_ = λ chain i es. refl; store_ = λ place array i changed es. refl }
 
-after_left : (p : Input) (c : Context) (op : Operation) → (after p c op).left ≡ c.left
+pub after_left : (p : Input) (c : Context) (op : Operation) → (after p c op).left ≡ c.left
 after_left p c (Touch var) = refl
 after_left p c (Free var) = refl
 after_left p c (Set field g) = refl
@@ -61,7 +61,7 @@ test_left : (b : Bool) (c d : Context) → (if b then Some c else None) ≡ Some
 test_left true c d e = ap (λ (x : Context). x.left) (sym (same_Some _ _ e))
 test_left false c d e = cc
 
-answer_left : (p : Input) (c d : Context) (q : Question) → answer p c q ≡ Some d → d.left ≡ c.left
+pub answer_left : (p : Input) (c d : Context) (q : Question) → answer p c q ≡ Some d → d.left ≡ c.left
 answer_left p c d (Get place chain m key var) e = hit_left var chain c d (key_found p c chain m (map (given p c) key)) e
 answer_left p c d (Find place chain at guards var) e = hit_left var chain c d (index_found p c chain (value p c at) guards) e
 answer_left p c d (Test place comparison a b) e = test_left (compares comparison (value p c a) (value p c b)) c d e

@@ -17,7 +17,7 @@ use Rattle.nf_base.specs.Step.{StepResult, if_none_left, step_result, skipped, i
 use Rattle.nf_laws.specs.Steps.{StepsAreLegal, LegalStepsAre, IsLegalRecord, OtherPortsHaveNone, HasHandler, skips, handles}
 use Rattle.nf_laws.proofs.Consumed.{taken, after_came, unused, left_of, consumes}
 
-taken_head : (i : ℕ) (left rest : List ℕ) → taken i left ≡ Some rest → left ≡ i ∷ rest
+pub taken_head : (i : ℕ) (left rest : List ℕ) → taken i left ≡ Some rest → left ≡ i ∷ rest
 taken_head i [] rest e = cc
 taken_head i (j ∷ left) rest e = elim (cases_Bool (i == j)) [
   | inl same ↦ let f : left ≡ rest = same_Some _ _ (rw same at e) in rw (eqb-true i j same, f) refl
@@ -39,7 +39,7 @@ says (AskedNew place chain labels Illegal ∷ es) left rest e = cc
 says (AskedNew place chain labels Stopped ∷ es) left rest e = cc
 says (x ∷ es) left rest e = says es left rest e
 
-taken_first : (i : ℕ) (left : List ℕ) → taken i (i ∷ left) ≡ Some left
+pub taken_first : (i : ℕ) (left : List ℕ) → taken i (i ∷ left) ≡ Some left
 taken_first i left = rw (eq-eqb i i refl) refl
 
 pub takes : (es : List Event) (rest : List ℕ) → is_legal es ≡ true → unused es (indices_made es ++ rest) ≡ Some rest

@@ -30,3 +30,7 @@ pub mod Quieted
 pub mod Changed
 pub mod Parted
 pub mod Reported
+pub mod Owned
+pub mod AlikeTold
+pub mod Stopping
+pub mod StoppedTold
