@@ -20,12 +20,12 @@ use Rattle.nf_laws.proofs.Answered.{news_answer}
 use Rattle.nf_laws.proofs.Sound.{slot_of}
 
 -- a chain with an entry is one of the list
-chain_there : (chains : List Chain) (k i : ℕ) (entry : Entry) → entry_at (chain_at chains k).slots i ≡ Some entry → slice_get chains k ≡ Some (chain_at chains k)
+pub chain_there : (chains : List Chain) (k i : ℕ) (entry : Entry) → entry_at (chain_at chains k).slots i ≡ Some entry → slice_get chains k ≡ Some (chain_at chains k)
 chain_there [] k i entry e = cc
 chain_there (c ∷ chains) zero i entry e = refl
 chain_there (c ∷ chains) (suc k) i entry e = chain_there chains k i entry e
 
-slot_there : (chains : List Chain) (k i : ℕ) → IsVacant (chain_at chains k).slots i → slice_get chains k ≡ Some (chain_at chains k)
+pub slot_there : (chains : List Chain) (k i : ℕ) → IsVacant (chain_at chains k).slots i → slice_get chains k ≡ Some (chain_at chains k)
 slot_there [] k i e = cc
 slot_there (c ∷ chains) zero i e = refl
 slot_there (c ∷ chains) (suc k) i e = slot_there chains k i e

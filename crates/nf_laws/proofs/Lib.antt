@@ -34,3 +34,5 @@ pub mod Owned
 pub mod AlikeTold
 pub mod Stopping
 pub mod StoppedTold
+pub mod Effected
+pub mod Edited

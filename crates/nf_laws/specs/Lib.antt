@@ -8,6 +8,7 @@ pub mod Shares
 pub mod Paths
 pub mod Touching
 pub mod Telling
+pub mod Effects
 pub mod Numbering
 pub mod Objects
 pub mod Places

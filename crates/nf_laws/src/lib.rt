@@ -7,6 +7,7 @@ pub mod creations;
 pub mod locations;
 pub mod lookups;
 pub mod objects;
+pub mod operations;
 pub mod orders;
 pub mod paths;
 pub mod quiet;
