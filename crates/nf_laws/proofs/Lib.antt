@@ -36,3 +36,4 @@ pub mod Stopping
 pub mod StoppedTold
 pub mod Effected
 pub mod Edited
+pub mod Flows

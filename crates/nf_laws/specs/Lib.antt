@@ -14,3 +14,10 @@ pub mod Objects
 pub mod Places
 pub mod Orders
 pub mod Quiet
+pub mod Samples
+pub mod Firewall
+pub mod Policer
+pub mod Nat
+pub mod Bridge
+pub mod Tickets
+pub mod Sums

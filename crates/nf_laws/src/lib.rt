@@ -12,6 +12,7 @@ pub mod orders;
 pub mod paths;
 pub mod quiet;
 pub mod records;
+pub mod rows;
 pub mod runs;
 pub mod shares;
 pub mod states;
