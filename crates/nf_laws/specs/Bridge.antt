@@ -1,38 +1,76 @@
--- A learning bridge as a checked function, and what it does with a few packets.
-use Rattle.std.specs.Prelude.{◌≡◌, ℕ, [], ◌∷◌, Option, Some}
-use Rattle.nf_base.specs.Text.{Block, End, Forward, Get, New, Touch, Write, Number, Column, Function}
-use Rattle.nf_base.specs.Text as text
+-- A learning bridge, and what it does with a few packets.
+--
+-- nf bridge {
+--   ports 2;
+--   chain macs 4 lifetime 10 { map by_mac(m: 48); free at: 8; }
+--   on 0 {
+--     get e = macs.by_mac(src_mac) { touch e; e.at = 0; }
+--     else { new f = macs(m = src_mac) { f.at = 0; } }
+--     get g = macs.by_mac(dst_mac) { forward g.at; }
+--     flood;
+--   }
+--   on 1 {
+--     get e = macs.by_mac(src_mac) { touch e; e.at = 1; }
+--     else { new f = macs(m = src_mac) { f.at = 1; } }
+--     get g = macs.by_mac(dst_mac) { forward g.at; }
+--     flood;
+--   }
+-- }
+use Rattle.std.specs.Prelude.{◌≡◌, ℕ, ◌+◌, List, [], ◌∷◌, Option, Some, None}
 use Rattle.nf_base.specs.declared.width.Width.TheVariants.{W8, W48}
+use Rattle.nf_base.specs.declared.decl.ObjectId.TheVariants as object
 use Rattle.nf_base.specs.declared.packet.Field.TheVariants.{SrcMac, DstMac}
 use Rattle.nf_base.specs.declared.packet.Fields.{Fields}
 use Rattle.nf_base.specs.declared.done.Action.TheVariants.{To, Flood}
-use Rattle.nf_base.specs.Runs.{Ran, run, start}
-use Rattle.nf_laws.specs.Samples.{read, column, map_of, arrives, actions_of}
+use Rattle.nf_base.specs.Text.{Number, Column, Forward, Touch, Write, Get, Block, End, Do, Ask, Make, Function}
+use Rattle.nf_base.specs.Text as text
+use Rattle.nf_base.specs.Runs.{RunResult}
+use Rattle.nf_laws.specs.Samples.{column, map_of, valued, read, new_at, nothing, arrives, run_of, actions_of}
 
--- the port of a MAC address is the one that it was last seen at
-abbrev pub bridged : ℕ → Block
-bridged port =
-    Get 0 0 0 (read W48 SrcMac ∷ []) 0
-    (Touch 0 (Write 0 0 (record { width = W8; value = Number port }) End))
-    (New 1 0 (read W48 SrcMac ∷ []) 0 (Write 0 0 (record { width = W8; value = Number port }) End) End End End)
-    (Get 2 0 0 (read W48 DstMac ∷ []) 0 (Forward (Column 0 0)) End text.Flood)
+-- what a port does, from a place of the text on: it learns the sender's port, and sends to the receiver's
+abbrev pub bridged : ℕ → ℕ → Block
+bridged place port =
+    Ask (Get place 0 0 (read W48 SrcMac ∷ []) 0)
+    (Do (Touch 0) (Do (Write 0 0 (valued W8 (Number port))) nothing))
+    (Make (new_at (place + 1) 0 (read W48 SrcMac ∷ [])) (Do (Write 0 0 (valued W8 (Number port))) nothing) nothing nothing nothing)
+    (Ask (Get (place + 2) 0 0 (read W48 DstMac ∷ []) 0) (End (Forward (Column 0 0))) nothing (End text.Flood))
 
 -- MAC addresses at 4 indices, for 10 nanoseconds
 abbrev pub bridge : Function
 bridge = record {
   name = [];
-  chains = record { name = []; size = 4; lifetime = 10; labels = column W48 ∷ []; free = column W8 ∷ []; maps = map_of 0 1 ∷ []; columns = [] } ∷ [];
+  chains = record {
+    name = [];
+    size = 4;
+    lifetime = 10;
+    labels = column W48 ∷ [];
+    columns = column W8 ∷ [];
+    maps = map_of 0 1 ∷ [];
+    order = [];
+  } ∷ [];
   arrays = [];
-  handlers = bridged 0 ∷ bridged 1 ∷ [];
+  objects = object.Chain 0 ∷ [];
+  handlers = bridged 0 0 ∷ bridged 3 1 ∷ [];
 }
 
 -- a frame from a MAC address to another
 abbrev pub between : ℕ → ℕ → Option Fields
-between a b = Some (record { length = 42; src_mac = a; dst_mac = b; src_ip = 0; dst_ip = 0; proto = 17; ttl = 64; src_port = 0; dst_port = 0 })
+between a b = Some (record {
+  length = 42;
+  src_mac = a;
+  dst_mac = b;
+  src_ip = 0;
+  dst_ip = 0;
+  proto = 17;
+  ttl = 64;
+  src_port = 0;
+  dst_port = 0;
+})
 
--- to an unknown address, back, there again, back after the address moved to the other port, and after its lifetime
-abbrev pub learns : Option Ran
-learns = run bridge (Some (start bridge))
+-- To an unknown address, back, there again, to an unknown one from another port, back after the address moved
+-- to that port, and after its lifetime.
+abbrev pub learns : Option RunResult
+learns = run_of bridge
     (arrives 0 0 0 (between 2 4) (0 ∷ [])
     ∷ arrives 1 0 1 (between 4 2) (1 ∷ [])
     ∷ arrives 0 1 2 (between 2 4) []

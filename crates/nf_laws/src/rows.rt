@@ -1,9 +1,10 @@
 //! Worked rows: what checked functions do with a few packets, as the definitions compute it.
-ghost use Rattle.nf_laws.specs.Firewall.{AFlowIsLetBack, AStrangerIsDropped, OnlyOneFlowMeets};
-ghost use Rattle.nf_laws.specs.Policer.{AnEntryOutlivesItsLastTick, OnlyFreeIndicesAreChoices, TheSixthHostIsDropped, StampsDontFall};
+ghost use Rattle.nf_laws.specs.Firewall.{AFlowIsLetBack, AStrangerIsDropped, OnlyOneFlowMeets, APacketIsQuiet, APacketTakesAPath};
+ghost use Rattle.nf_laws.specs.Policer.{AnEntryOutlivesItsLastTick, OnlyVacantIndicesAreChoices, TheSixthHostIsDropped, StampsDontFall, AColumnAddsUp};
 ghost use Rattle.nf_laws.specs.Nat.{OnlyTheAnswerIsLetBack};
 ghost use Rattle.nf_laws.specs.Bridge.{ABridgeLearns};
-ghost use Rattle.nf_laws.specs.Tickets.{ATakenKeyComesBeforeAFullChain, AFreedIndexIsFree};
+ghost use Rattle.nf_laws.specs.Tickets.{ATakenKeyComesBeforeAFullChain, AFreedIndexIsVacant, QueueOneStops, TwoQueuesAnswerAlike};
+ghost use Rattle.nf_laws.specs.Sums.{AnArrayCounts, ADivisionByNothingIsNothing};
 
 /// A firewall lets the answer to a packet in.
 pub fn a_flow_is_let_back()
@@ -20,14 +21,24 @@ pub fn only_one_flow_meets()
     ensures { OnlyOneFlowMeets }
 {}
 
+/// A packet that uses an entry again at once changes nothing.
+pub fn a_packet_is_quiet()
+    ensures { APacketIsQuiet }
+{}
+
+/// A firewall's port 0 has four paths, and a packet takes one of them.
+pub fn a_packet_takes_a_path()
+    ensures { APacketTakesAPath }
+{}
+
 /// An entry stands at the last nanosecond of its lifetime, and not at the next one.
 pub fn an_entry_outlives_its_last_tick()
     ensures { AnEntryOutlivesItsLastTick }
 {}
 
 /// No step takes an index that is live or past the end, or one choice too few or too many.
-pub fn only_free_indices_are_choices()
-    ensures { OnlyFreeIndicesAreChoices }
+pub fn only_vacant_indices_are_choices()
+    ensures { OnlyVacantIndicesAreChoices }
 {}
 
 /// A policer for five hosts drops the packets of the sixth.
@@ -38,6 +49,11 @@ pub fn the_sixth_host_is_dropped()
 /// A packet that comes with an earlier time gets the greatest stamp so far.
 pub fn stamps_dont_fall()
     ensures { StampsDontFall }
+{}
+
+/// A free column adds up, packet by packet.
+pub fn a_column_adds_up()
+    ensures { AColumnAddsUp }
 {}
 
 /// A NAT lets the answer in, translated back, and nobody else.
@@ -55,7 +71,27 @@ pub fn a_taken_key_comes_before_a_full_chain()
     ensures { ATakenKeyComesBeforeAFullChain }
 {}
 
-/// A freed index is free, and the entry made there next is another one.
-pub fn a_freed_index_is_free()
-    ensures { AFreedIndexIsFree }
+/// A freed index is vacant, its variable reads 0, and the entry made there next is another one.
+pub fn a_freed_index_is_vacant()
+    ensures { AFreedIndexIsVacant }
+{}
+
+/// Queue 1 of 2 stops once its indices 1 and 3 have entries.
+pub fn queue_one_stops()
+    ensures { QueueOneStops }
+{}
+
+/// Two queues answer their packets as the undivided function does.
+pub fn two_queues_answer_alike()
+    ensures { TwoQueuesAnswerAlike }
+{}
+
+/// An array counts in 8 bits, and not past its end.
+pub fn an_array_counts()
+    ensures { AnArrayCounts }
+{}
+
+/// A division by 0 gives 0, and a difference stops at 0.
+pub fn a_division_by_nothing_is_nothing()
+    ensures { ADivisionByNothingIsNothing }
 {}
