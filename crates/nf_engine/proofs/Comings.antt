@@ -6,12 +6,12 @@ use Rattle.nf_base.specs.declared.state.Entry.{Entry}
 use Rattle.nf_base.specs.declared.state.Chain.{Chain}
 use Rattle.nf_base.specs.Chains.{chain_at, maps_of, is_taken, is_full, is_vacant}
 use Rattle.nf_base.specs.Operations as step
-use Rattle.nf_base.specs.Shares.{AreOwn, owns, none_vacant, share_stops}
+use Rattle.nf_base.specs.Shares.{owns, none_vacant, share_stops}
 use Rattle.vig_tables.specs.Table.{is_open, FindsFull, FindsOpen}
 use Rattle.nf_engine.specs.declared.context.Input.{Input}
 use Rattle.nf_engine.specs.declared.creation.NewResult.{NewResult}
 use Rattle.nf_engine.specs.declared.creation.NewResult.TheVariants.{Made, Taken, Full, Illegal, Stopped}
-use Rattle.nf_engine.specs.Choices.{Choices, MayBe, AreGiven, Consumes}
+use Rattle.nf_engine.specs.Choices.{MayBe, AreGiven, are_own}
 use Rattle.nf_engine.specs.Creations.{IfMade, IfIllegal, Finds, FindsSome, IsClosed, result_with, ComesToMade, ComesTo}
 use Rattle.nf_engine.proofs.Vacant.{some_vacant, not_full, some_not_full, all_full, owns_all}
 use Rattle.nf_engine.proofs.Fronts.{next_front, next_at, next_given, none_next, one_more_own}
@@ -54,20 +54,13 @@ illegal_is p k labels chains left h chosen =
     rw (h.untaken, h.some, and_false (nat_lt 1 p.share.of), some_not_full (owns p.share) slots h.some) chosen
 
 -- of choices that are own each is
-own_at : (share : Share) (xs : List ℕ) (n i : ℕ) → AreOwn share xs → slice_get xs n ≡ Some i → owns share i ≡ true
-own_at share xs n i own e = subst (λ x. owns share x ≡ true) (is_at xs n i e) (own n i (inside xs n i e))
-  where
-    is_at : (xs : List ℕ) (n i : ℕ) → slice_get xs n ≡ Some i → get_or xs n i ≡ i
-    is_at [] n i e = cc
-    is_at (x ∷ xs) zero i e = cc
-    is_at (x ∷ xs) (suc n) i e = is_at xs n i e
-    inside : (xs : List ℕ) (n i : ℕ) → slice_get xs n ≡ Some i → n < length xs
-    inside [] n i e = cc
-    inside (x ∷ xs) zero i e = omega arith
-    inside (x ∷ xs) (suc n) i e = let rest = inside xs n i e in omega arith
+own_at : (share : Share) (xs : List ℕ) (n i : ℕ) → are_own share xs ≡ true → slice_get xs n ≡ Some i → owns share i ≡ true
+own_at share [] n i own e = cc
+own_at share (x ∷ xs) zero i own e = let same : x ≡ i = cc in rw (← same) (and_parts (owns share x) (are_own share xs) own).0
+own_at share (x ∷ xs) (suc n) i own e = own_at share xs n i (and_parts (owns share x) (are_own share xs) own).1 e
 
 -- a choice that can't be made
-pub closed_is : (p : Input) (k : ℕ) (labels : List ℕ) (chains : List Chain) (all : List ℕ) (n : ℕ) (next : Option ℕ) → slice_get all n ≡ next → AreOwn p.share all → FindsSome p k labels (chain_at chains k).slots → IsClosed p.share (chain_at chains k).slots next → result_with p k labels chains (drop n all) ≡ step.Illegal
+pub closed_is : (p : Input) (k : ℕ) (labels : List ℕ) (chains : List Chain) (all : List ℕ) (n : ℕ) (next : Option ℕ) → slice_get all n ≡ next → are_own p.share all ≡ true → FindsSome p k labels (chain_at chains k).slots → IsClosed p.share (chain_at chains k).slots next → result_with p k labels chains (drop n all) ≡ step.Illegal
 closed_is p k labels chains all n None at own h closed = rw (none_next all n at) (illegal_is p k labels chains [] h refl)
 closed_is p k labels chains all n (Some i) at own h closed =
     rw (next_at all n i at) (illegal_is p k labels chains (i ∷ drop (suc n) all) h (chosen_illegal p (chain_at chains k).slots i (drop (suc n) all) (own_at p.share all n i own at) closed))

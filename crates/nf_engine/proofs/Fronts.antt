@@ -1,11 +1,11 @@
 -- Choices that are taken one after another.
-use Rattle.std.proofs.Common.{◌≡◌, ◌∙◌, ℕ, zero, suc, ◌+◌, add-one, All, List, [], ◌∷◌, ◌++◌, length, take, drop, refl, ap, sym, subst, arith, Option, Some, None, slice_get}
+use Rattle.std.proofs.Common.{◌≡◌, ◌∙◌, ℕ, zero, suc, ◌+◌, add-one, List, [], ◌∷◌, ◌++◌, length, take, drop, refl, ap, sym, arith, Option, Some, None, slice_get}
 use Rattle.std.proofs.Math.Seq.{take-add}
-use Rattle.std.proofs.lemmas.List.Elements.{All-push}
-use Rattle.nf_base.specs.Shares.{AreOwn, owns}
+use Rattle.std.proofs.lemmas.List.Folds.{list_all-append}
+use Rattle.nf_base.specs.Shares.{owns}
 use Rattle.nf_base.specs.declared.share.Share.{Share}
 use Rattle.std.specs.Prelude.{IsTrue}
-use Rattle.nf_engine.specs.Choices.{Choices, MayBe, AreGiven, FirstAreOwn}
+use Rattle.nf_engine.specs.Choices.{Choices, MayBe, AreGiven, are_own}
 
 -- where one more is taken
 pub more_taken : (taken : List ℕ) (i : ℕ) → length (taken ++ i ∷ []) ≡ length taken + 1
@@ -41,8 +41,7 @@ none_next (x ∷ xs) zero e = cc
 none_next (x ∷ xs) (suc n) e = none_next xs n e
 
 -- one more that is own
-pub one_more_own : (share : Share) (taken : List ℕ) (i : ℕ) (all : List ℕ) → drop (length taken) all ≡ i ∷ drop (length (taken ++ i ∷ [])) all → IsTrue (owns share i) → FirstAreOwn share (length taken) all → FirstAreOwn share (length (taken ++ i ∷ [])) all
+pub one_more_own : (share : Share) (taken : List ℕ) (i : ℕ) (all : List ℕ) → drop (length taken) all ≡ i ∷ drop (length (taken ++ i ∷ [])) all → IsTrue (owns share i) → IsTrue (are_own share (take (length taken) all)) → IsTrue (are_own share (take (length (taken ++ i ∷ [])) all))
 one_more_own share taken i all next own before =
-    let P = λ (k : ℕ). IsTrue (owns share k) in
     let front : take (length (taken ++ i ∷ [])) all ≡ take (length taken) all ++ i ∷ [] = ap (λ n. take n all) (more_taken taken i) ∙ take-add (length taken) 1 all ∙ ap (λ xs. take (length taken) all ++ take 1 xs) next in
-    subst (λ xs. All P xs) (sym front) (All-push P (take (length taken) all) i before own)
+    ap (are_own share) front ∙ list_all-append (owns share) (take (length taken) all) (i ∷ []) ∙ rw (before, own) refl

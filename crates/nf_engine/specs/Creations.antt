@@ -1,12 +1,12 @@
 -- What a `new` finds and makes.
-use Rattle.std.specs.Prelude.{◌≡◌, ℕ, ◌==◌, ◌≤◌, Bool, true, false, List, [], ◌∷◌, ◌++◌, length, drop, Option, Some, None, if◌then◌else◌}
+use Rattle.std.specs.Prelude.{◌≡◌, ℕ, ◌==◌, ◌≤◌, Bool, IsTrue, true, false, List, [], ◌∷◌, ◌++◌, length, drop, Option, Some, None, if◌then◌else◌}
 use Rattle.nf_base.specs.declared.share.Share.{Share}
 use Rattle.nf_base.specs.declared.state.Entry.{Entry}
 use Rattle.nf_base.specs.declared.state.Chain.{Chain}
 use Rattle.nf_base.specs.Context as context
 use Rattle.nf_base.specs.Operations as step
 use Rattle.nf_base.specs.Chains.{chain_at, maps_of, zeros_of, is_taken, is_full, stamped, fresh}
-use Rattle.nf_base.specs.Shares.{AreOwn, owns, none_vacant, share_stops}
+use Rattle.nf_base.specs.Shares.{owns, none_vacant, share_stops}
 use Rattle.nf_base.specs.Text.{Creation}
 use Rattle.vig_tables.specs.Table.{is_open, FindsFull, FindsOpen}
 use Rattle.vig_tables.specs.TablesState.{TablesState, changed}
@@ -15,7 +15,7 @@ use Rattle.nf_engine.specs.declared.context.Input.{Input}
 use Rattle.nf_engine.specs.declared.creation.NewResult.{NewResult}
 use Rattle.nf_engine.specs.declared.creation.NewResult.TheVariants.{Made, Taken, Full, Illegal, Stopped}
 use Rattle.nf_engine.specs.View.{context_of, input_of}
-use Rattle.nf_engine.specs.Choices.{MayBe, AreGiven, Consumes, context_by}
+use Rattle.nf_engine.specs.Choices.{MayBe, AreGiven, Consumes, are_own, context_by}
 
 -- where an entry is made
 abbrev pub IfMade : NewResult → (ℕ → Type 0) → Type 0
@@ -91,7 +91,7 @@ ComesTo Illegal p taken meant =
     AreGiven p.choices
     × ((all : List ℕ)
     → MayBe p.choices taken all
-    → AreOwn p.share all
+    → IsTrue (are_own p.share all)
     → meant (drop (length taken) all) ≡ step.Illegal)
 ComesTo Stopped p taken meant =
     (2 ≤ p.share.of) × ((left : List ℕ) → meant left ≡ step.Stopped)
@@ -122,7 +122,7 @@ Makes Illegal p n t old u new =
     × AreGiven p.choices
     × ((all : List ℕ)
     → MayBe p.choices old.picks all
-    → AreOwn p.share all
+    → IsTrue (are_own p.share all)
     → meant_result p n (context_by all t old) ≡ step.Illegal)
 Makes Stopped p n t old u new =
     (new ≡ old)

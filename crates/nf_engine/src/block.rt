@@ -2,7 +2,7 @@
 ghost use Rattle.std.specs.Prelude.{◌≡◌, List, ℕ, IfOk};
 ghost use Rattle.nf_base.specs.Course.{sent, ended};
 ghost use Rattle.nf_base.specs.View.{block_of, ending_of};
-ghost use Rattle.nf_engine.specs.Course.{AllFits, HasRoom, UsesRoom, Goes};
+ghost use Rattle.nf_engine.specs.Course.{BlockFits, HasRoom, UsesRoom, Goes};
 ghost use Rattle.nf_engine.specs.View.{context_of, input_of, completion_of, fixed_of, fixed_in};
 
 use crate::context::{Context, Flow, Halt, Input};
@@ -46,7 +46,7 @@ pub fn exec(
     block: &Block,
 ) -> Result<Flow, Halt>
     requires over { fixed_of tables.old ≡ fixed_in p.now }
-    requires fits { AllFits p.now.decls.now (block_of block.now) }
+    requires fits { BlockFits p.now.decls.now (block_of block.now) }
     requires room { HasRoom context.old (block_of block.now) }
     ensures goes { Goes result p.now (block_of block.now)
         tables.old context.old tables.new context.new }
