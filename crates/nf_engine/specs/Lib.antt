@@ -1,8 +1,4 @@
+pub mod View
 pub mod Choices
-pub mod Going
-pub mod Kinds
-pub mod Seen
-pub mod Moves
-pub mod Whole
-pub mod Quietly
-pub mod ReadOnly
+pub mod Creations
+pub mod Course

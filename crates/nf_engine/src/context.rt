@@ -1,9 +1,10 @@
-ghost use Rattle.std.proofs.Props.{props};
-ghost use Rattle.std.specs.Prelude.{◌≡◌, IfSome};
+// A handler in its context, beside the tables.
+ghost use Rattle.std.specs.Prelude.{◌≡◌, []};
+ghost use Rattle.nf_base.specs.Step.{no_edits};
 
-use crate::scope::Scope;
+use crate::vars::Vars;
 use nf_base::decl::ChainDecl;
-use nf_base::done::{Action, Done, Edits};
+use nf_base::done::{Action, Edits};
 use nf_base::packet::Fields;
 use nf_base::picks::Picks;
 use nf_base::share::Share;
@@ -11,10 +12,23 @@ use nf_base::share::Share;
 /// A handler in its context, beside the tables.
 #[derive(Drop)]
 pub struct Context {
-    pub scope: Scope,
+    pub vars: Vars,
     pub edits: Edits,
     /// The indices of the entries made so far.
     pub picks: Picks,
+}
+
+impl Context {
+    /// What a handler begins with.
+    pub fn new() -> Context
+        ensures { result ≡ record { vars = []; edits = no_edits; picks = [] } }
+    {
+        Context {
+            vars: Vars::new(),
+            edits: Edits::none(),
+            picks: Picks::new(),
+        }
+    }
 }
 
 /// What does not change while a handler runs.
@@ -28,10 +42,9 @@ pub struct Input<'a> {
     pub fields: Fields,
     /// Whose indices new entries get.
     pub share: Share,
-    /// The indices that new entries get, in order: without them they get any free ones of the share.
+    /// The indices of the entries to be made, in order. Where none are given, an entry gets any vacant
+    /// index of the share.
     pub choices: Option<&'a Picks>,
-    /// Choices are given to the whole share alone.
-    pub ghost whole: { IfSome choices (λ _. share.of ≡ 1) } by { Prim.hlevel props },
 }
 
 /// How a block went.
@@ -46,28 +59,8 @@ pub enum Flow {
 /// Why a handler comes to no end.
 #[derive(Clone, Copy)]
 pub enum Halt {
-    /// A `new` on the chain of this number wants an index, and the share has none left.
+    /// A `new` of the chain of this number is to make an entry, and no index of the share is vacant.
     ShareFull(u32),
-    /// A `new` wants an index, and the next choice is not free or there is none.
+    /// A `new` is to make an entry, and the next choice is not vacant, not own, or missing.
     BadChoice,
-}
-
-/// What `new` came to.
-#[derive(Clone, Copy)]
-pub enum Making {
-    /// An entry at this index.
-    Made(u32),
-    /// One of its keys is bound.
-    Taken,
-    /// No index is free.
-    Full,
-}
-
-/// What a look at a packet came to.
-#[derive(Debug, Drop)]
-pub enum Look {
-    /// It is done, and nothing had to be written.
-    Done(Done),
-    /// Something past its lifetime is to be given up, or an operation of the handler would change something.
-    NeedsWrite,
 }

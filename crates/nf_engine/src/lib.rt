@@ -1,17 +1,12 @@
 //! The interpreter of a handler on the tables of a function, in place and without memory of its own.
 #![tactic(auto)]
 
+mod block;
 mod context;
 mod creation;
-mod handling;
+mod entry_ref;
 mod labels;
-mod looking;
-mod looks;
-mod operations;
-mod scope;
-mod statements;
+mod operation;
+mod question;
 mod values;
-
-pub use context::Look;
-pub use handling::{Handled, handle, replay};
-pub use looking::look;
+mod vars;
