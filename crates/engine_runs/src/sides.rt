@@ -1,6 +1,6 @@
 // The tables and the plain interpreter, side by side.
 ghost use Rattle.std.specs.Prelude.{◌≡◌, ◌<◌, length};
-ghost use Rattle.nf_engine.specs.Seen.{frame};
+ghost use Rattle.nf_engine.specs.View.{fixed_of};
 
 use crate::traffic::Traffic;
 use nf_base::done::Done;
@@ -46,11 +46,9 @@ fn handle_both(
     packet: &Packet,
 ) -> Result<bool, StepFault>
     requires decls { tables.old.decls ≡ func.now.chains }
-    requires whole { tables.old.of ≡ 1 }
-    requires chains { length func.now.chains ≡ length plain.old.state.chains }
+    requires whole { tables.old.share.of ≡ 1 }
     requires port { packet.now.id.port < length func.now.handlers }
-    ensures same { frame tables.new ≡ frame tables.old }
-    ensures same_chains { length plain.new.state.chains ≡ length plain.old.state.chains }
+    ensures same { fixed_of tables.new ≡ fixed_of tables.old }
 {
     let seen = look(tables, func, packet);
     let Handled::Done(done) = handle(tables, func, packet) else {
@@ -60,7 +58,7 @@ fn handle_both(
         return Ok(false);
     }
     match plain.packet(alloc, func, packet, &done.picks) {
-        Ok(other) => Ok(is_same(&done, &other)),
+        Ok(other) => Ok(is_same(&done, &other.done)),
         Err(StepFault::BadChoice) => Ok(false),
         Err(fault) => Err(fault),
     }
@@ -89,11 +87,9 @@ fn replay_both(
     packet: &Packet,
 ) -> Result<bool, StepFault>
     requires decls { tables.old.decls ≡ func.now.chains }
-    requires whole { tables.old.of ≡ 1 }
-    requires chains { length func.now.chains ≡ length plain.old.state.chains }
+    requires whole { tables.old.share.of ≡ 1 }
     requires port { packet.now.id.port < length func.now.handlers }
-    ensures same { frame tables.new ≡ frame tables.old }
-    ensures same_chains { length plain.new.state.chains ≡ length plain.old.state.chains }
+    ensures same { fixed_of tables.new ≡ fixed_of tables.old }
 {
     let picks = plain.pick(alloc, func, packet)?;
     let mut spare = tables.copy(alloc)?;
@@ -104,7 +100,7 @@ fn replay_both(
         return Ok(false);
     };
     match plain.packet(alloc, func, packet, &picks) {
-        Ok(other) => Ok(is_same(&done, &other)),
+        Ok(other) => Ok(is_same(&done, &other.done)),
         Err(StepFault::BadChoice) => Ok(false),
         Err(fault) => Err(fault),
     }

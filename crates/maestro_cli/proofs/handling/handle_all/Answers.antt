@@ -1,8 +1,8 @@
 use Rattle.std.proofs.Common.{◌≡◌, ◌<◌, ◌∙◌, ◌+◌, ◌++◌, length, map, drop, sym, refl, ap, subst}
 use Rattle.std.specs.List.{AllByRecursion}
 use Rattle.nf_base.specs.Functions.{function_of}
-use Rattle.nf_engine.specs.Seen.{Frame}
-use Rattle.vig_tables.specs.Whole.{Whole}
+use Rattle.nf_engine.specs.View.{Fixed}
+use Rattle.vig_tables.specs.TablesState.{TablesState}
 use Rattle.run_files.specs.Written.{arrival_in}
 use Rattle.maestro_cli.specs.Runs.{IsUndivided}
 use Rattle.maestro_cli.proofs.Handlings.{undivided_none, handles_more, arrivals_after, all_got, arrivals_more}
@@ -14,9 +14,9 @@ loop-arrival-init c =
     let opens = c.in_ok-tables.ensures in
     record {
       all = ap (λ hs. map arrival_in hs ++ c.args.arrivals.now) c.in_ok-handled.ensures.items;
-      undivided = subst (λ hs. IsUndivided f hs c.in_ok-tables.tables.state) (sym c.in_ok-handled.ensures.items) (undivided_none f c.in_ok-tables.tables.state (ap (λ (w : Whole). w.state) opens));
-      of_func = ap (λ (w : Whole). w.decls) opens;
-      whole = ap (λ (w : Whole). w.of) opens;
+      undivided = subst (λ hs. IsUndivided f hs c.in_ok-tables.tables.state) (sym c.in_ok-handled.ensures.items) (undivided_none f c.in_ok-tables.tables.state (ap (λ (t : TablesState). t.state) opens));
+      of_func = ap (λ (t : TablesState). t.decls) opens;
+      whole = ap (λ (t : TablesState). t.share.of) opens;
       ports = c.requires;
     }
 
@@ -30,7 +30,7 @@ loop-arrival-preserved c =
     record {
       all = ap (λ ys. ys ++ drop (i + 1) xs) (arrivals_after f _ _ _ _ _ one) ∙ arrivals_more (map arrival_in c.loop-arrival.handled.items) xs i _ c.loop-arrival-test.true inv.all;
       undivided = handles_more f _ _ _ _ _ one inv.undivided;
-      of_func = ap (λ (frame : Frame). frame.decls) c.in_ok-handle_one.ensures.same ∙ inv.of_func;
-      whole = ap (λ (frame : Frame). frame.of) c.in_ok-handle_one.ensures.same ∙ inv.whole;
+      of_func = ap (λ (x : Fixed). x.decls) c.in_ok-handle_one.ensures.same ∙ inv.of_func;
+      whole = ap (λ (x : Fixed). x.share.of) c.in_ok-handle_one.ensures.same ∙ inv.whole;
       ports = inv.ports;
     }

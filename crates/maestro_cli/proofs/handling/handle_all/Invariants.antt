@@ -11,6 +11,6 @@ invariant-loop-arrival l = record {
   all : map arrival_in l.handled.items ++ drop l.arrival-index l.arrivals ≡ l.arrivals;
   undivided : IsUndivided (function_of l.func) l.handled.items l.tables.state;
   of_func : l.tables.decls ≡ l.func.chains;
-  whole : l.tables.of ≡ 1;
+  whole : l.tables.share.of ≡ 1;
   ports : AllByRecursion (λ arrival. arrival.packet.id.port < length l.func.handlers) l.arrivals;
 }
