@@ -2,3 +2,4 @@ pub mod View
 pub mod Choices
 pub mod Creations
 pub mod Course
+pub mod Handlings

@@ -5,8 +5,11 @@ mod block;
 mod context;
 mod creation;
 mod entry_ref;
+mod handling;
 mod labels;
 mod operation;
 mod question;
 mod values;
 mod vars;
+
+pub use handling::{Handled, handle, replay};
