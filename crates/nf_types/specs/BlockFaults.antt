@@ -31,14 +31,16 @@ operation_faults o xs (Write x y v) = write_faults o xs x y v
 operation_faults o xs (Store a i v) = store_faults o xs a i v
 
 -- a `get` without its blocks, where so many may still come
-unfoldable pub get_faults : Room → Objects → List Variable → (at : Place) → (x c m : Name) → List Expression → (close : Place) → List Fault
+unfoldable pub get_faults : Room → Objects → List Variable → (at : Place) → (x c m : Name) →
+    List Expression → (close : Place) → List Fault
 get_faults room o xs at x c m key close =
     fault_if (room.lookups == 0) Limit at
     ++ (binding_faults o xs x
     ++ look_up_faults o xs c m key close)
 
 -- a `find` without its blocks
-unfoldable pub find_faults : Room → Objects → List Variable → (at : Place) → (x c : Name) → Expression → Guards → List Fault
+unfoldable pub find_faults : Room → Objects → List Variable → (at : Place) →
+    (x c : Name) → Expression → Guards → List Fault
 find_faults room o xs at x c i gs =
     fault_if (room.lookups == 0) Limit at
     ++ (binding_faults o xs x

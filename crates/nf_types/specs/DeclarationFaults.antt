@@ -37,7 +37,9 @@ width_faults n = fault_if (not (is_width n.value)) Limit n.place
 
 -- the labels and columns of a chain share one space of names, its maps another
 abbrev pub names_column : ChainDecl → List ℕ → Bool
-names_column d x = is_among x (map (λ (c : ColumnDecl). c.name) d.labels) || is_among x (map (λ (c : ColumnDecl). c.name) d.columns)
+names_column d x =
+    is_among x (map (λ (c : ColumnDecl). c.name) d.labels)
+    || is_among x (map (λ (c : ColumnDecl). c.name) d.columns)
 
 abbrev pub names_map : ChainDecl → List ℕ → Bool
 names_map d x = is_among x (map (λ (m : MapDecl). m.name) d.maps)
@@ -94,11 +96,14 @@ fixed_with fixed (parts.Column c) = fixed + one_if_fixed c.kind
 
 abbrev pub parts_faults : (maps fixed : ℕ) → ChainDecl → List Part → List Fault
 parts_faults maps fixed d [] = []
-parts_faults maps fixed d (p ∷ ps) = part_faults maps fixed d p ++ parts_faults maps (fixed_with fixed p) (with_part d p) ps
+parts_faults maps fixed d (p ∷ ps) =
+    part_faults maps fixed d p ++ parts_faults maps (fixed_with fixed p) (with_part d p) ps
 
 -- chains and arrays share one space of names
 abbrev pub names_object : Objects → List ℕ → Bool
-names_object o x = is_among x (map (λ (d : ChainDecl). d.name) o.chains) || is_among x (map (λ (d : ArrayDecl). d.name) o.arrays)
+names_object o x =
+    is_among x (map (λ (d : ChainDecl). d.name) o.chains)
+    || is_among x (map (λ (d : ArrayDecl). d.name) o.arrays)
 
 -- a chain is the eighth at most
 unfoldable pub chain_faults : Objects → ChainTree → List Fault
@@ -130,4 +135,5 @@ declaration_faults o (declarations.Array a) = array_faults o a
 
 abbrev pub declarations_faults : Objects → List Declaration → List Fault
 declarations_faults o [] = []
-declarations_faults o (d ∷ ds) = declaration_faults o d ++ declarations_faults (with_declaration o d) ds
+declarations_faults o (d ∷ ds) =
+    declaration_faults o d ++ declarations_faults (with_declaration o d) ds

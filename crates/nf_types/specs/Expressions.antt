@@ -64,16 +64,20 @@ abbrev pub column_of_variable : Option (Option ChainDecl) → List ℕ → Optio
 column_of_variable None y = None
 column_of_variable (Some chain) y = column_in chain y
 
--- A value, of which the first argument counts the look-ups and cells before it in the text. Parentheses only group.
+-- A value, of which the first argument counts the places before it in the text. Parentheses only group.
 abbrev pub value_of : ℕ → Objects → List Variable → tree.Expression → Expression
 value_of place o xs (tree.Number n) = Number n.value
 value_of place o xs (tree.Read field at) = Read field
-value_of place o xs (tree.Column x y) = column_value (variable_of xs x.bytes) (column_of_variable (variable_named xs x.bytes) y.bytes)
+value_of place o xs (tree.Column x y) =
+    column_value (variable_of xs x.bytes) (column_of_variable (variable_named xs x.bytes) y.bytes)
 value_of place o xs (tree.Index x) = Index (variable_of xs x.bytes)
-value_of place o xs (tree.Cell a i) = Cell place (number_of (array_named o.arrays a.bytes)) (value_of (place + 1) o xs i)
+value_of place o xs (tree.Cell a i) =
+    Cell place (number_of (array_named o.arrays a.bytes)) (value_of (place + 1) o xs i)
 value_of place o xs (tree.Group e close) = value_of place o xs e
-value_of place o xs (tree.Sum operator l r) = Both (sum_operator operator) (value_of place o xs l) (value_of (place + cells l) o xs r)
-value_of place o xs (tree.Product operator l r) = Both (product_operator operator) (value_of place o xs l) (value_of (place + cells l) o xs r)
+value_of place o xs (tree.Sum operator l r) =
+    Both (sum_operator operator) (value_of place o xs l) (value_of (place + cells l) o xs r)
+value_of place o xs (tree.Product operator l r) =
+    Both (product_operator operator) (value_of place o xs l) (value_of (place + cells l) o xs r)
 
 -- a name of an array
 abbrev pub array_faults_at : Option (ℕ × ArrayDecl) → Name → List Fault
@@ -104,7 +108,8 @@ value_faults o xs (tree.Number n) = []
 value_faults o xs (tree.Read field at) = []
 value_faults o xs (tree.Column x y) = read_faults (variable_named xs x.bytes) x y
 value_faults o xs (tree.Index x) = scope_faults (variable_named xs x.bytes) x
-value_faults o xs (tree.Cell a i) = array_faults_at (array_named o.arrays a.bytes) a ++ value_faults o xs i
+value_faults o xs (tree.Cell a i) =
+    array_faults_at (array_named o.arrays a.bytes) a ++ value_faults o xs i
 value_faults o xs (tree.Group e close) = value_faults o xs e
 value_faults o xs (tree.Sum operator l r) = value_faults o xs l ++ value_faults o xs r
 value_faults o xs (tree.Product operator l r) = value_faults o xs l ++ value_faults o xs r

@@ -18,4 +18,5 @@ chain_found_of (Some chain) = Some (chain_seen chain)
 -- the variables in scope, the innermost first
 abbrev pub variables_of : Variables → List Variable
 variables_of Empty = []
-variables_of (Bound' name chain p outer) = record { name = name.now; chain = chain_seen chain } ∷ variables_of outer
+variables_of (Bound' name chain p outer) =
+    record { name = name.now; chain = chain_seen chain } ∷ variables_of outer

@@ -18,7 +18,8 @@ use nf_tree::{Block, Creation, Ending, Operation, Question};
 
 /// The first fault of an end.
 fn ending(objects: &Objects, scope: &Variables, ending: &Ending) -> Result<(), Fault>
-    ensures { first (ending_faults objects.now (variables_of scope.now) (syntax.ending_of ending.now))
+    ensures { first (ending_faults objects.now (variables_of scope.now)
+        (syntax.ending_of ending.now))
         ≡ fault_in result }
 {
     match ending {
@@ -32,7 +33,8 @@ fn ending(objects: &Objects, scope: &Variables, ending: &Ending) -> Result<(), F
 
 /// The first fault of a statement with no block.
 fn operation(objects: &Objects, scope: &Variables, operation: &Operation) -> Result<(), Fault>
-    ensures { first (operation_faults objects.now (variables_of scope.now) (syntax.operation_of operation.now))
+    ensures { first (operation_faults objects.now (variables_of scope.now)
+        (syntax.operation_of operation.now))
         ≡ fault_in result }
 {
     match operation {
@@ -64,7 +66,8 @@ fn question(
     scope: &Variables,
     question: &Question,
 ) -> Result<(), Fault>
-    ensures { first (question_faults room objects.now (variables_of scope.now) (syntax.question_of question.now))
+    ensures { first (question_faults room objects.now (variables_of scope.now)
+        (syntax.question_of question.now))
         ≡ fault_in result }
 {
     match question {
@@ -101,7 +104,8 @@ fn question(
 /// The first fault of a `new`, without its blocks.
 #[tactic(auto, using(crate::proofs::First::first_append), unfolding(crate::specs::BlockFaults::creation_faults))]
 fn creation(objects: &Objects, room: Room, scope: &Variables, one: &Creation) -> Result<(), Fault>
-    ensures { first (creation_faults room objects.now (variables_of scope.now) (syntax.creation_of one.now))
+    ensures { first (creation_faults room objects.now (variables_of scope.now)
+        (syntax.creation_of one.now))
         ≡ fault_in result }
 {
     let is_full = room.lookups == 0 || room.news == 0;
@@ -121,15 +125,18 @@ fn ask(
     hit: &Block,
     miss: &Block,
 ) -> Result<Room, Fault>
-    ensures fault { first (question_faults room objects.now (variables_of scope.now) (syntax.question_of asked.now)
+    ensures fault { first (question_faults room objects.now (variables_of scope.now)
+        (syntax.question_of asked.now)
         ++ (block_faults (behind_question room (syntax.question_of asked.now)) objects.now
         (bound_by objects.now (variables_of scope.now) (syntax.question_of asked.now))
         (syntax.block_of hit.now)
-        ++ block_faults (behind (behind_question room (syntax.question_of asked.now)) (syntax.block_of hit.now))
+        ++ block_faults (behind (behind_question room (syntax.question_of asked.now))
+        (syntax.block_of hit.now))
         objects.now (variables_of scope.now) (syntax.block_of miss.now)))
         ≡ fault_in result }
     ensures left { IfOk result (λ left. left
-        ≡ behind (behind (behind_question room (syntax.question_of asked.now)) (syntax.block_of hit.now))
+        ≡ behind (behind (behind_question room (syntax.question_of asked.now))
+        (syntax.block_of hit.now))
         (syntax.block_of miss.now)) }
 {
     question(objects, room, scope, asked)?;
@@ -150,9 +157,11 @@ fn make_in(
     taken: &Block,
     full: &Block,
 ) -> Result<Room, Fault>
-    ensures fault { first (creation_faults room objects.now (variables_of scope.now) (syntax.creation_of one.now)
+    ensures fault { first (creation_faults room objects.now (variables_of scope.now)
+        (syntax.creation_of one.now)
         ++ (block_faults (behind_new room) objects.now
-        (bound objects.now (variables_of scope.now) one.now.variable one.now.chain) (syntax.block_of made.now)
+        (bound objects.now (variables_of scope.now) one.now.variable one.now.chain)
+        (syntax.block_of made.now)
         ++ (block_faults (behind (behind_new room) (syntax.block_of made.now)) objects.now
         (variables_of scope.now) (syntax.block_of taken.now)
         ++ block_faults
@@ -160,7 +169,8 @@ fn make_in(
         objects.now (variables_of scope.now) (syntax.block_of full.now))))
         ≡ fault_in result }
     ensures left { IfOk result (λ left. left
-        ≡ behind (behind (behind (behind_new room) (syntax.block_of made.now)) (syntax.block_of taken.now))
+        ≡ behind (behind (behind (behind_new room) (syntax.block_of made.now))
+        (syntax.block_of taken.now))
         (syntax.block_of full.now)) }
 {
     creation(objects, room, scope, one)?;
@@ -174,7 +184,8 @@ fn make_in(
 #[cycle(rules)]
 #[tactic(auto, using(crate::proofs::First::first_append, crate::proofs::Rooms::behind_ask, crate::proofs::Rooms::behind_make))]
 pub fn block(objects: &Objects, room: Room, scope: &Variables, block: &Block) -> Result<Room, Fault>
-    ensures fault { first (block_faults room objects.now (variables_of scope.now) (syntax.block_of block.now))
+    ensures fault { first
+        (block_faults room objects.now (variables_of scope.now) (syntax.block_of block.now))
         ≡ fault_in result }
     ensures left { IfOk result (λ left. left ≡ behind room (syntax.block_of block.now)) }
 {
