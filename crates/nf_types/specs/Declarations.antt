@@ -25,6 +25,7 @@ use Rattle.nf_tree.specs.declared.tree.Declaration.TheVariants as declarations
 abbrev pub is_width : ℕ → Bool
 is_width n = n == 8 || n == 16 || n == 32 || n == 48 || n == 64
 
+-- the width of so many bits
 abbrev pub width_of : ℕ → Width
 width_of n =
     if n == 8 then W8 else
@@ -48,6 +49,7 @@ abbrev pub with_map : ChainDecl → List ℕ → (first parts : ℕ) → ChainDe
 with_map d m first parts =
     record d { maps = d.maps ++ record { name = m; first = first; parts = parts } ∷ [] }
 
+-- a chain with a label of the text more
 abbrev pub with_label_of : ChainDecl → declared_label.Label → ChainDecl
 with_label_of d l = with_label d (column_of l.name l.width)
 
@@ -66,6 +68,7 @@ with_part d (parts.Map m) =
     with_map (fold with_label_of d m.labels) m.name.bytes (length d.labels) (length m.labels)
 with_part d (parts.Column c) = with_column c.kind d (column_of c.name c.width)
 
+-- a chain before its parts
 abbrev pub with_no_parts : ChainTree → ChainDecl
 with_no_parts c = record {
   name = c.name.bytes;
@@ -103,6 +106,7 @@ with_declaration o (declarations.Array a) = record {
   order = o.order ++ object.Array (length o.arrays) ∷ [];
 }
 
+-- what a text may name before its declarations
 abbrev pub no_objects : Objects
 no_objects = record { chains = []; arrays = []; order = [] }
 

@@ -32,6 +32,7 @@ cells (tree.Group e close) = cells e
 cells (tree.Sum operator l r) = cells l + cells r
 cells (tree.Product operator l r) = cells l + cells r
 
+-- the array with a name, and its number
 abbrev pub array_named : List ArrayDecl → List ℕ → Option (ℕ × ArrayDecl)
 array_named ds a = named (λ (d : ArrayDecl). d.name) a ds
 
@@ -40,6 +41,7 @@ abbrev pub number_of : {A : Type 0} → Option (ℕ × A) → ℕ
 number_of None = 0
 number_of (Some found) = found.0
 
+-- the operators of sums and of products
 abbrev pub sum_operator : SumOperator → Operator
 sum_operator sums.Plus = operators.Plus
 sum_operator sums.Minus = operators.Minus
@@ -56,10 +58,12 @@ column_value var None = Number 0
 column_value var (Some (ids.Label i)) = Label var i
 column_value var (Some (ids.Column i)) = Column var i
 
+-- the label or column of a chain with a name
 abbrev pub column_in : Option ChainDecl → List ℕ → Option ColumnId
 column_in None y = None
 column_in (Some d) y = column_named d y
 
+-- the label or column of a variable's entry
 abbrev pub column_of_variable : Option (Option ChainDecl) → List ℕ → Option ColumnId
 column_of_variable None y = None
 column_of_variable (Some chain) y = column_in chain y
@@ -103,6 +107,7 @@ abbrev pub scope_faults : Option (Option ChainDecl) → Name → List Fault
 scope_faults None x = fault_if true NotInScope x.place
 scope_faults (Some chain) x = []
 
+-- a value
 abbrev pub value_faults : Objects → List Variable → tree.Expression → List Fault
 value_faults o xs (tree.Number n) = []
 value_faults o xs (tree.Read field at) = []
@@ -114,6 +119,7 @@ value_faults o xs (tree.Group e close) = value_faults o xs e
 value_faults o xs (tree.Sum operator l r) = value_faults o xs l ++ value_faults o xs r
 value_faults o xs (tree.Product operator l r) = value_faults o xs l ++ value_faults o xs r
 
+-- some values, one by one
 abbrev pub each_value_faults : Objects → List Variable → List tree.Expression → List Fault
 each_value_faults o xs [] = []
 each_value_faults o xs (v ∷ vs) = value_faults o xs v ++ each_value_faults o xs vs

@@ -40,6 +40,7 @@ abbrev pub checked_rest : ℕ → Objects → List Variable → Option Block →
 checked_rest place o xs None = text.End text.FallsOff
 checked_rest place o xs (Some b) = checked_block place o xs b
 
+-- how many places it has
 abbrev pub rest_places : Option Block → ℕ
 rest_places None = 0
 rest_places (Some b) = places b

@@ -37,6 +37,7 @@ abbrev pub map_faults_at : Option (ℕ × MapDecl) → Name → List Fault
 map_faults_at None m = fault_if true Unknown m.place
 map_faults_at (Some found) m = []
 
+-- as many values as the key has parts
 abbrev pub amount_faults : ChainDecl → Option (ℕ × MapDecl) → ℕ → (close : Place) → List Fault
 amount_faults d None n close = []
 amount_faults d (Some found) n close =
@@ -51,13 +52,16 @@ look_in_faults o xs (Some found) c m key close =
     ++ (each_value_faults o xs key
     ++ amount_faults found.1 (map_named found.1 m.bytes) (length key) close)
 
+-- where a `get` looks
 abbrev pub look_up_faults : Objects → List Variable → (c m : Name) → List tree.Expression →
     (close : Place) → List Fault
 look_up_faults o xs c m key close = look_in_faults o xs (chain_named o.chains c.bytes) c m key close
 
+-- whether a name is given a value
 abbrev pub is_given : List tree.Given → List ℕ → Bool
 is_given gs x = is_among x (map (λ (g : tree.Given). g.name.bytes) gs)
 
+-- whether a column has a name
 abbrev pub is_column_in : List ColumnDecl → List ℕ → Bool
 is_column_in cs x = is_among x (map (λ (c : ColumnDecl). c.name) cs)
 
@@ -76,6 +80,7 @@ given_faults o xs d before g =
 abbrev pub lacks_label : List tree.Given → List ColumnDecl → Bool
 lacks_label gs labels = list_any (λ (l : ColumnDecl). not (is_given gs l.name)) labels
 
+-- what a `new` gives, in the chain that was found
 abbrev pub make_in_faults : Objects → List Variable → Option (ℕ × ChainDecl) → Name →
     List tree.Given → (close : Place) → List Fault
 make_in_faults o xs None c gs close = fault_if true Unknown c.place
@@ -95,6 +100,7 @@ find_in_faults o xs None c i gs = fault_if true Unknown c.place ++ value_faults 
 find_in_faults o xs (Some found) c i gs =
     value_faults o xs i ++ each_behind (given_faults o xs found.1) [] gs
 
+-- what a `find` looks for
 abbrev pub finding_faults : Objects → List Variable → Name → tree.Expression → tree.Guards →
     List Fault
 finding_faults o xs c i gs = find_in_faults o xs (chain_named o.chains c.bytes) c i (asked gs)
@@ -110,17 +116,21 @@ written_faults None y = fault_if true Unknown y.place
 written_faults (Some (ids.Label i)) y = fault_if true ReadOnly y.place
 written_faults (Some (ids.Column i)) y = []
 
+-- a column that is written, in the chain that is known
 abbrev pub written_in_faults : Option ChainDecl → Name → List Fault
 written_in_faults None y = []
 written_in_faults (Some d) y = written_faults (column_named d y.bytes) y
 
+-- a column of a variable's entry that is written
 abbrev pub write_at_faults : Option (Option ChainDecl) → (x y : Name) → List Fault
 write_at_faults None x y = fault_if true NotInScope x.place
 write_at_faults (Some chain) x y = written_in_faults chain y
 
+-- a free column that is given a value
 abbrev pub write_faults : Objects → List Variable → (x y : Name) → tree.Expression → List Fault
 write_faults o xs x y v = write_at_faults (variable_named xs x.bytes) x y ++ value_faults o xs v
 
+-- a cell that is given a value
 abbrev pub store_faults : Objects → List Variable → (a : Name) → (i v : tree.Expression) →
     List Fault
 store_faults o xs a i v =

@@ -1,10 +1,9 @@
 //! What is wrong with a handler's blocks.
 
-ghost use Rattle.std.specs.Prelude.{◌≡◌, ◌++◌, IfOk};
+ghost use Rattle.std.specs.Prelude.{◌≡◌, IfOk};
 ghost use Rattle.nf_tree.specs.View as syntax;
-ghost use Rattle.nf_types.specs.Blocks.{bound, bound_by};
-ghost use Rattle.nf_types.specs.BlockFaults.{ending_faults, operation_faults, get_faults, find_faults, question_faults, creation_faults, block_faults};
-ghost use Rattle.nf_types.specs.Counts.{behind, behind_question, behind_new};
+ghost use Rattle.nf_types.specs.BlockFaults.{ending_faults, operation_faults, get_faults, find_faults, question_faults, creation_faults, block_faults, asked_faults, made_faults};
+ghost use Rattle.nf_types.specs.Counts.{behind, behind_asked, behind_made};
 ghost use Rattle.nf_types.specs.Faults.{first, fault_in};
 ghost use Rattle.nf_types.specs.View.{variables_of};
 
@@ -125,18 +124,11 @@ fn ask(
     hit: &Block,
     miss: &Block,
 ) -> Result<Room, Fault>
-    ensures fault { first (question_faults room objects.now (variables_of scope.now)
-        (syntax.question_of asked.now)
-        ++ (block_faults (behind_question room (syntax.question_of asked.now)) objects.now
-        (bound_by objects.now (variables_of scope.now) (syntax.question_of asked.now))
-        (syntax.block_of hit.now)
-        ++ block_faults (behind (behind_question room (syntax.question_of asked.now))
-        (syntax.block_of hit.now))
-        objects.now (variables_of scope.now) (syntax.block_of miss.now)))
+    ensures fault { first (asked_faults room objects.now (variables_of scope.now)
+        (syntax.question_of asked.now) (syntax.block_of hit.now) (syntax.block_of miss.now))
         ≡ fault_in result }
     ensures left { IfOk result (λ left. left
-        ≡ behind (behind (behind_question room (syntax.question_of asked.now))
-        (syntax.block_of hit.now))
+        ≡ behind_asked room (syntax.question_of asked.now) (syntax.block_of hit.now)
         (syntax.block_of miss.now)) }
 {
     question(objects, room, scope, asked)?;
@@ -157,20 +149,12 @@ fn make_in(
     taken: &Block,
     full: &Block,
 ) -> Result<Room, Fault>
-    ensures fault { first (creation_faults room objects.now (variables_of scope.now)
-        (syntax.creation_of one.now)
-        ++ (block_faults (behind_new room) objects.now
-        (bound objects.now (variables_of scope.now) one.now.variable one.now.chain)
-        (syntax.block_of made.now)
-        ++ (block_faults (behind (behind_new room) (syntax.block_of made.now)) objects.now
-        (variables_of scope.now) (syntax.block_of taken.now)
-        ++ block_faults
-        (behind (behind (behind_new room) (syntax.block_of made.now)) (syntax.block_of taken.now))
-        objects.now (variables_of scope.now) (syntax.block_of full.now))))
+    ensures fault { first (made_faults room objects.now (variables_of scope.now)
+        (syntax.creation_of one.now) (syntax.block_of made.now) (syntax.block_of taken.now)
+        (syntax.block_of full.now))
         ≡ fault_in result }
     ensures left { IfOk result (λ left. left
-        ≡ behind (behind (behind (behind_new room) (syntax.block_of made.now))
-        (syntax.block_of taken.now))
+        ≡ behind_made room (syntax.block_of made.now) (syntax.block_of taken.now)
         (syntax.block_of full.now)) }
 {
     creation(objects, room, scope, one)?;
