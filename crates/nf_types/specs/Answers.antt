@@ -21,5 +21,9 @@ Finds view wrong wanted (Err stops.Memory) = Unit {0}
 -- the function of a tree that has no fault; or its first fault in text order; or memory ran out
 abbrev pub Answers : Result Func CheckFault → Tree → Type 0
 Answers (Ok func) tree = (faults tree ≡ []) × (function_of func ≡ function tree)
-Answers (Err (answers.Typing kind line column)) tree = first (faults tree) ≡ Some (record { kind = kind; place = record { line = line; column = column } })
+Answers (Err (answers.Typing kind line column)) tree =
+    first (faults tree) ≡ Some (record {
+      kind = kind;
+      place = record { line = line; column = column };
+    })
 Answers (Err answers.Memory) tree = Unit {0}

@@ -10,7 +10,7 @@ use Rattle.nf_types.specs.Faults.{fault_if}
 use Rattle.nf_types.specs.declared.objects.Objects.{Objects}
 use Rattle.nf_types.specs.Variables.{Variable}
 use Rattle.nf_types.specs.Expressions.{value_faults}
-use Rattle.nf_types.specs.Counts.{behind, behind_question, behind_new}
+use Rattle.nf_types.specs.Counts.{behind, behind_question, behind_new, behind_asked, behind_made}
 use Rattle.nf_types.specs.StatementFaults.{binding_faults, use_faults, look_up_faults, making_faults, finding_faults, set_faults, write_faults, store_faults}
 use Rattle.nf_types.specs.Blocks.{bound, bound_by}
 
@@ -31,14 +31,16 @@ operation_faults o xs (Write x y v) = write_faults o xs x y v
 operation_faults o xs (Store a i v) = store_faults o xs a i v
 
 -- a `get` without its blocks, where so many may still come
-unfoldable pub get_faults : Room → Objects → List Variable → (at : Place) → (x c m : Name) → List Expression → (close : Place) → List Fault
+unfoldable pub get_faults : Room → Objects → List Variable → (at : Place) → (x c m : Name) →
+    List Expression → (close : Place) → List Fault
 get_faults room o xs at x c m key close =
     fault_if (room.lookups == 0) Limit at
     ++ (binding_faults o xs x
     ++ look_up_faults o xs c m key close)
 
 -- a `find` without its blocks
-unfoldable pub find_faults : Room → Objects → List Variable → (at : Place) → (x c : Name) → Expression → Guards → List Fault
+unfoldable pub find_faults : Room → Objects → List Variable → (at : Place) →
+    (x c : Name) → Expression → Guards → List Fault
 find_faults room o xs at x c i gs =
     fault_if (room.lookups == 0) Limit at
     ++ (binding_faults o xs x
@@ -66,10 +68,27 @@ block_faults room o xs (Ask q hit miss next) =
     (question_faults room o xs q
     ++ (block_faults (behind_question room q) o (bound_by o xs q) hit
     ++ block_faults (behind (behind_question room q) hit) o xs miss))
-    ++ block_faults (behind (behind (behind_question room q) hit) miss) o xs next
+    ++ block_faults (behind_asked room q hit miss) o xs next
 block_faults room o xs (Make n made taken full next) =
     (creation_faults room o xs n
     ++ (block_faults (behind_new room) o (bound o xs n.variable n.chain) made
     ++ (block_faults (behind (behind_new room) made) o xs taken
     ++ block_faults (behind (behind (behind_new room) made) taken) o xs full)))
-    ++ block_faults (behind (behind (behind (behind_new room) made) taken) full) o xs next
+    ++ block_faults (behind_made room made taken full) o xs next
+
+-- a question with its blocks
+abbrev pub asked_faults : Room → Objects → List Variable → Question → (hit miss : Block) →
+    List Fault
+asked_faults room o xs q hit miss =
+    question_faults room o xs q
+    ++ (block_faults (behind_question room q) o (bound_by o xs q) hit
+    ++ block_faults (behind (behind_question room q) hit) o xs miss)
+
+-- a `new` with its blocks
+abbrev pub made_faults : Room → Objects → List Variable → Creation → (made taken full : Block) →
+    List Fault
+made_faults room o xs n made taken full =
+    creation_faults room o xs n
+    ++ (block_faults (behind_new room) o (bound o xs n.variable n.chain) made
+    ++ (block_faults (behind (behind_new room) made) o xs taken
+    ++ block_faults (behind (behind (behind_new room) made) taken) o xs full))

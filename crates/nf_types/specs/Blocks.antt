@@ -55,12 +55,14 @@ checked_ending place o xs Discard = text.Discard
 checked_ending place o xs (Forward v) = text.Forward (value_of place o xs v)
 
 -- a free column that is given a value
-abbrev pub checked_write : ℕ → Objects → List Variable → (x : Name) → Option (ℕ × ColumnDecl) → Expression → text.Operation
+abbrev pub checked_write : ℕ → Objects → List Variable → (x : Name) → Option (ℕ × ColumnDecl) →
+    Expression → text.Operation
 checked_write place o xs x column v =
     text.Write (variable_of xs x.bytes) (number_of column) (given_to place o xs (width_in column) v)
 
 -- a cell that is given a value; the array's name has the first place
-abbrev pub checked_store : ℕ → Objects → List Variable → Option (ℕ × ArrayDecl) → (i v : Expression) → text.Operation
+abbrev pub checked_store : ℕ → Objects → List Variable → Option (ℕ × ArrayDecl) →
+    (i v : Expression) → text.Operation
 checked_store place o xs array i v =
     text.Store place (number_of array) (value_of (place + 1) o xs i)
     (given_to (place + 1 + cells i) o xs (cell_width array) v)
@@ -76,19 +78,22 @@ checked_operation place o xs (Store a i v) =
     checked_store place o xs (array_named o.arrays a.bytes) i v
 
 -- a `get` in a map that was found, of the chain with a number
-abbrev pub checked_get_in : ℕ → Objects → List Variable → ℕ → ChainDecl → Option (ℕ × MapDecl) → List Expression → text.Question
+abbrev pub checked_get_in : ℕ → Objects → List Variable → ℕ → ChainDecl → Option (ℕ × MapDecl) →
+    List Expression → text.Question
 checked_get_in place o xs chain d None key = text.Get place chain 0 [] (length xs)
 checked_get_in place o xs chain d (Some found) key =
     text.Get place chain found.0 (key_of (place + 1) o xs (parts_of d found.1) key) (length xs)
 
 -- a `get` in a chain that was found
-abbrev pub checked_get : ℕ → Objects → List Variable → Option (ℕ × ChainDecl) → (m : Name) → List Expression → text.Question
+abbrev pub checked_get : ℕ → Objects → List Variable → Option (ℕ × ChainDecl) →
+    (m : Name) → List Expression → text.Question
 checked_get place o xs None m key = text.Get place 0 0 [] (length xs)
 checked_get place o xs (Some found) m key =
     checked_get_in place o xs found.0 found.1 (map_named found.1 m.bytes) key
 
 -- a `find` in a chain that was found
-abbrev pub checked_find : ℕ → Objects → List Variable → Option (ℕ × ChainDecl) → Expression → List Given → text.Question
+abbrev pub checked_find : ℕ → Objects → List Variable → Option (ℕ × ChainDecl) → Expression →
+    List Given → text.Question
 checked_find place o xs None i gs = text.Find place 0 (value_of (place + 1) o xs i) [] (length xs)
 checked_find place o xs (Some found) i gs =
     text.Find place found.0 (value_of (place + 1) o xs i)
@@ -118,7 +123,8 @@ checked_creation place o xs n = record {
 abbrev pub checked_block : ℕ → Objects → List Variable → Block → text.Block
 checked_block place o xs (End e) = text.End (checked_ending place o xs e)
 checked_block place o xs (Do op next) =
-    text.Do (checked_operation place o xs op) (checked_block (place + operation_places op) o xs next)
+    text.Do (checked_operation place o xs op)
+    (checked_block (place + operation_places op) o xs next)
 checked_block place o xs (Ask q hit miss next) =
     text.Ask (checked_question place o xs q)
     (checked_block (place + question_places q) o (bound_by o xs q) hit)

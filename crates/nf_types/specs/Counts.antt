@@ -38,3 +38,10 @@ behind_question room q = record { lookups = room.lookups - question_lookups q; n
 
 abbrev pub behind_new : Room → Room
 behind_new room = record { lookups = room.lookups - 1; news = room.news - 1 }
+
+-- the same, behind their blocks too
+abbrev pub behind_asked : Room → Question → (hit miss : Block) → Room
+behind_asked room q hit miss = behind (behind (behind_question room q) hit) miss
+
+abbrev pub behind_made : Room → (made taken full : Block) → Room
+behind_made room made taken full = behind (behind (behind (behind_new room) made) taken) full

@@ -32,12 +32,15 @@ port_faults n = fault_if (nat_lt n.value 1 || nat_lt 4 n.value) Limit n.place
 abbrev pub size_faults : Literal → List Fault
 size_faults n = fault_if (nat_lt n.value 1 || nat_lt 65536 n.value) Limit n.place
 
+-- one of the five widths
 abbrev pub width_faults : Literal → List Fault
 width_faults n = fault_if (not (is_width n.value)) Limit n.place
 
 -- the labels and columns of a chain share one space of names, its maps another
 abbrev pub names_column : ChainDecl → List ℕ → Bool
-names_column d x = is_among x (map (λ (c : ColumnDecl). c.name) d.labels) || is_among x (map (λ (c : ColumnDecl). c.name) d.columns)
+names_column d x =
+    is_among x (map (λ (c : ColumnDecl). c.name) d.labels)
+    || is_among x (map (λ (c : ColumnDecl). c.name) d.columns)
 
 abbrev pub names_map : ChainDecl → List ℕ → Bool
 names_map d x = is_among x (map (λ (m : MapDecl). m.name) d.maps)
@@ -50,6 +53,7 @@ label_faults d n l =
     ++ (length_faults l.name
     ++ width_faults l.width))
 
+-- the labels of a map, one by one
 abbrev pub labels_faults : ChainDecl → ℕ → List declared_label.Label → List Fault
 labels_faults d n [] = []
 labels_faults d n (l ∷ ls) = label_faults d n l ++ labels_faults (with_label_of d l) (n + 1) ls
@@ -83,6 +87,7 @@ abbrev pub part_faults : (maps fixed : ℕ) → ChainDecl → Part → List Faul
 part_faults maps fixed d (parts.Map m) = map_faults maps d m
 part_faults maps fixed d (parts.Column c) = column_faults fixed d c
 
+-- 1 for a fixed column, or 0
 abbrev pub one_if_fixed : ColumnKind → ℕ
 one_if_fixed Fixed = 1
 one_if_fixed Free = 0
@@ -92,13 +97,17 @@ abbrev pub fixed_with : ℕ → Part → ℕ
 fixed_with fixed (parts.Map m) = fixed
 fixed_with fixed (parts.Column c) = fixed + one_if_fixed c.kind
 
+-- the parts of a chain, one by one
 abbrev pub parts_faults : (maps fixed : ℕ) → ChainDecl → List Part → List Fault
 parts_faults maps fixed d [] = []
-parts_faults maps fixed d (p ∷ ps) = part_faults maps fixed d p ++ parts_faults maps (fixed_with fixed p) (with_part d p) ps
+parts_faults maps fixed d (p ∷ ps) =
+    part_faults maps fixed d p ++ parts_faults maps (fixed_with fixed p) (with_part d p) ps
 
 -- chains and arrays share one space of names
 abbrev pub names_object : Objects → List ℕ → Bool
-names_object o x = is_among x (map (λ (d : ChainDecl). d.name) o.chains) || is_among x (map (λ (d : ArrayDecl). d.name) o.arrays)
+names_object o x =
+    is_among x (map (λ (d : ChainDecl). d.name) o.chains)
+    || is_among x (map (λ (d : ArrayDecl). d.name) o.arrays)
 
 -- a chain is the eighth at most
 unfoldable pub chain_faults : Objects → ChainTree → List Fault
@@ -124,10 +133,13 @@ array_faults o a =
     ++ (width_faults a.width
     ++ contents_faults (drop a.size.value a.contents)))))
 
+-- a declaration behind others
 abbrev pub declaration_faults : Objects → Declaration → List Fault
 declaration_faults o (declarations.Chain c) = chain_faults o c
 declaration_faults o (declarations.Array a) = array_faults o a
 
+-- the declarations of a text, one by one
 abbrev pub declarations_faults : Objects → List Declaration → List Fault
 declarations_faults o [] = []
-declarations_faults o (d ∷ ds) = declaration_faults o d ++ declarations_faults (with_declaration o d) ds
+declarations_faults o (d ∷ ds) =
+    declaration_faults o d ++ declarations_faults (with_declaration o d) ds

@@ -25,6 +25,7 @@ use Rattle.nf_tree.specs.declared.tree.Declaration.TheVariants as declarations
 abbrev pub is_width : ℕ → Bool
 is_width n = n == 8 || n == 16 || n == 32 || n == 48 || n == 64
 
+-- the width of so many bits
 abbrev pub width_of : ℕ → Width
 width_of n =
     if n == 8 then W8 else
@@ -38,27 +39,46 @@ column_of x n = record { name = x.bytes; width = width_of n.value }
 
 -- a chain with one label more
 abbrev pub with_label : ChainDecl → ColumnDecl → ChainDecl
-with_label d l = record d { labels = d.labels ++ l ∷ []; order = d.order ++ ids.Label (length d.labels) ∷ [] }
+with_label d l = record d {
+  labels = d.labels ++ l ∷ [];
+  order = d.order ++ ids.Label (length d.labels) ∷ [];
+}
 
 -- a chain with one map more, whose key is so many labels from a first one on
 abbrev pub with_map : ChainDecl → List ℕ → (first parts : ℕ) → ChainDecl
-with_map d m first parts = record d { maps = d.maps ++ record { name = m; first = first; parts = parts } ∷ [] }
+with_map d m first parts =
+    record d { maps = d.maps ++ record { name = m; first = first; parts = parts } ∷ [] }
 
+-- a chain with a label of the text more
 abbrev pub with_label_of : ChainDecl → declared_label.Label → ChainDecl
 with_label_of d l = with_label d (column_of l.name l.width)
 
 -- a chain with one column more
 abbrev pub with_column : ColumnKind → ChainDecl → ColumnDecl → ChainDecl
 with_column Fixed d c = with_label d c
-with_column Free d c = record d { columns = d.columns ++ c ∷ []; order = d.order ++ ids.Column (length d.columns) ∷ [] }
+with_column Free d c =
+    record d {
+      columns = d.columns ++ c ∷ [];
+      order = d.order ++ ids.Column (length d.columns) ∷ [];
+    }
 
 -- a chain with one part more: the labels of a map are its key
 abbrev pub with_part : ChainDecl → Part → ChainDecl
-with_part d (parts.Map m) = with_map (fold with_label_of d m.labels) m.name.bytes (length d.labels) (length m.labels)
+with_part d (parts.Map m) =
+    with_map (fold with_label_of d m.labels) m.name.bytes (length d.labels) (length m.labels)
 with_part d (parts.Column c) = with_column c.kind d (column_of c.name c.width)
 
+-- a chain before its parts
 abbrev pub with_no_parts : ChainTree → ChainDecl
-with_no_parts c = record { name = c.name.bytes; size = c.size.value; lifetime = c.lifetime.value; labels = []; columns = []; maps = []; order = [] }
+with_no_parts c = record {
+  name = c.name.bytes;
+  size = c.size.value;
+  lifetime = c.lifetime.value;
+  labels = [];
+  columns = [];
+  maps = [];
+  order = [];
+}
 
 -- the labels are the key parts of the maps and the fixed columns, in text order
 unfoldable pub chain_of : ChainTree → ChainDecl
@@ -69,7 +89,8 @@ unfoldable pub array_of : ArrayTree → ArrayDecl
 array_of a = record {
   name = a.name.bytes;
   width = width_of a.width.value;
-  cells = map (λ (n : Literal). narrowed (width_of a.width.value) n.value) (take a.size.value a.contents) ++ replicate (a.size.value - length a.contents) 0;
+  cells = map (λ (n : Literal). narrowed (width_of a.width.value) n.value)
+      (take a.size.value a.contents) ++ replicate (a.size.value - length a.contents) 0;
 }
 
 -- the chains and arrays so far, with one declaration more
@@ -85,6 +106,7 @@ with_declaration o (declarations.Array a) = record {
   order = o.order ++ object.Array (length o.arrays) ∷ [];
 }
 
+-- what a text may name before its declarations
 abbrev pub no_objects : Objects
 no_objects = record { chains = []; arrays = []; order = [] }
 

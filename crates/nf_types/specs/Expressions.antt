@@ -32,6 +32,7 @@ cells (tree.Group e close) = cells e
 cells (tree.Sum operator l r) = cells l + cells r
 cells (tree.Product operator l r) = cells l + cells r
 
+-- the array with a name, and its number
 abbrev pub array_named : List ArrayDecl → List ℕ → Option (ℕ × ArrayDecl)
 array_named ds a = named (λ (d : ArrayDecl). d.name) a ds
 
@@ -40,6 +41,7 @@ abbrev pub number_of : {A : Type 0} → Option (ℕ × A) → ℕ
 number_of None = 0
 number_of (Some found) = found.0
 
+-- the operators of sums and of products
 abbrev pub sum_operator : SumOperator → Operator
 sum_operator sums.Plus = operators.Plus
 sum_operator sums.Minus = operators.Minus
@@ -56,24 +58,30 @@ column_value var None = Number 0
 column_value var (Some (ids.Label i)) = Label var i
 column_value var (Some (ids.Column i)) = Column var i
 
+-- the label or column of a chain with a name
 abbrev pub column_in : Option ChainDecl → List ℕ → Option ColumnId
 column_in None y = None
 column_in (Some d) y = column_named d y
 
+-- the label or column of a variable's entry
 abbrev pub column_of_variable : Option (Option ChainDecl) → List ℕ → Option ColumnId
 column_of_variable None y = None
 column_of_variable (Some chain) y = column_in chain y
 
--- A value, of which the first argument counts the look-ups and cells before it in the text. Parentheses only group.
+-- A value, of which the first argument counts the places before it in the text. Parentheses only group.
 abbrev pub value_of : ℕ → Objects → List Variable → tree.Expression → Expression
 value_of place o xs (tree.Number n) = Number n.value
 value_of place o xs (tree.Read field at) = Read field
-value_of place o xs (tree.Column x y) = column_value (variable_of xs x.bytes) (column_of_variable (variable_named xs x.bytes) y.bytes)
+value_of place o xs (tree.Column x y) =
+    column_value (variable_of xs x.bytes) (column_of_variable (variable_named xs x.bytes) y.bytes)
 value_of place o xs (tree.Index x) = Index (variable_of xs x.bytes)
-value_of place o xs (tree.Cell a i) = Cell place (number_of (array_named o.arrays a.bytes)) (value_of (place + 1) o xs i)
+value_of place o xs (tree.Cell a i) =
+    Cell place (number_of (array_named o.arrays a.bytes)) (value_of (place + 1) o xs i)
 value_of place o xs (tree.Group e close) = value_of place o xs e
-value_of place o xs (tree.Sum operator l r) = Both (sum_operator operator) (value_of place o xs l) (value_of (place + cells l) o xs r)
-value_of place o xs (tree.Product operator l r) = Both (product_operator operator) (value_of place o xs l) (value_of (place + cells l) o xs r)
+value_of place o xs (tree.Sum operator l r) =
+    Both (sum_operator operator) (value_of place o xs l) (value_of (place + cells l) o xs r)
+value_of place o xs (tree.Product operator l r) =
+    Both (product_operator operator) (value_of place o xs l) (value_of (place + cells l) o xs r)
 
 -- a name of an array
 abbrev pub array_faults_at : Option (ℕ × ArrayDecl) → Name → List Fault
@@ -99,16 +107,19 @@ abbrev pub scope_faults : Option (Option ChainDecl) → Name → List Fault
 scope_faults None x = fault_if true NotInScope x.place
 scope_faults (Some chain) x = []
 
+-- a value
 abbrev pub value_faults : Objects → List Variable → tree.Expression → List Fault
 value_faults o xs (tree.Number n) = []
 value_faults o xs (tree.Read field at) = []
 value_faults o xs (tree.Column x y) = read_faults (variable_named xs x.bytes) x y
 value_faults o xs (tree.Index x) = scope_faults (variable_named xs x.bytes) x
-value_faults o xs (tree.Cell a i) = array_faults_at (array_named o.arrays a.bytes) a ++ value_faults o xs i
+value_faults o xs (tree.Cell a i) =
+    array_faults_at (array_named o.arrays a.bytes) a ++ value_faults o xs i
 value_faults o xs (tree.Group e close) = value_faults o xs e
 value_faults o xs (tree.Sum operator l r) = value_faults o xs l ++ value_faults o xs r
 value_faults o xs (tree.Product operator l r) = value_faults o xs l ++ value_faults o xs r
 
+-- some values, one by one
 abbrev pub each_value_faults : Objects → List Variable → List tree.Expression → List Fault
 each_value_faults o xs [] = []
 each_value_faults o xs (v ∷ vs) = value_faults o xs v ++ each_value_faults o xs vs

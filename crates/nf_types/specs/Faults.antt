@@ -11,7 +11,8 @@ abbrev pub fault_if : Bool → TypingKind → Place → List Fault
 fault_if wrong kind place = if wrong then record { kind = kind; place = place } ∷ [] else []
 
 -- what is wrong with each item, by the items before it
-abbrev pub each_behind : {A : Type 0} → (List A → A → List Fault) → (before : List A) → List A → List Fault
+abbrev pub each_behind : {A : Type 0} → (List A → A → List Fault) → (before : List A) → List A →
+    List Fault
 each_behind faults before [] = []
 each_behind faults before (x ∷ xs) = faults before x ++ each_behind faults (before ++ x ∷ []) xs
 

@@ -46,5 +46,6 @@ function_with t o = record {
   handlers = handlers_of o t.ports.value t.handlers;
 }
 
+-- the function of a text
 abbrev pub function : tree.Tree → Function
 function t = function_with t (objects_of t.declarations)

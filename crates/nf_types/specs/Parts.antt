@@ -17,9 +17,11 @@ use Rattle.nf_types.specs.Blocks.{checked_block}
 abbrev pub in_front : Part → text.Block → text.Block
 in_front (parts.End e) next = text.End (ending_of e)
 in_front (parts.Do op) next = text.Do (operation_of op) next
-in_front (parts.Ask q hit miss) next = text.Ask (question_of q) (block_of hit.value) (block_of miss.value) next
+in_front (parts.Ask q hit miss) next =
+    text.Ask (question_of q) (block_of hit.value) (block_of miss.value) next
 in_front (parts.Make n made taken full) next =
-    text.Make (creation_of n) (block_of made.value) (block_of taken.value) (block_of full.value) next
+    text.Make (creation_of n) (block_of made.value) (block_of taken.value) (block_of full.value)
+    next
 
 -- statements in front of a block
 abbrev pub laid : List Part → text.Block → text.Block
@@ -38,6 +40,7 @@ abbrev pub checked_rest : ℕ → Objects → List Variable → Option Block →
 checked_rest place o xs None = text.End text.FallsOff
 checked_rest place o xs (Some b) = checked_block place o xs b
 
+-- how many places it has
 abbrev pub rest_places : Option Block → ℕ
 rest_places None = 0
 rest_places (Some b) = places b

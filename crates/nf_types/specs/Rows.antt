@@ -41,7 +41,14 @@ fault kind place = record { kind = kind; place = place }
 
 -- `nf x { ports N;` and what follows
 abbrev pub text : ℕ → List Declaration → List tree.Handler → Place → tree.Tree
-text ports ds hs end = record { name = name (codes "x") (at 1 4); ports = number ports (at 1 14); declarations = ds; handlers = hs; end = end }
+text ports ds hs end =
+    record {
+      name = name (codes "x") (at 1 4);
+      ports = number ports (at 1 14);
+      declarations = ds;
+      handlers = hs;
+      end = end;
+    }
 
 -- a handler of which no fault is at its word
 abbrev pub handler : ℕ → Place → tree.Block → tree.Handler
@@ -90,11 +97,14 @@ FaultsStandInTextOrder =
     ∷ handler 0 (at 1 38) empty
     ∷ handler 7 (at 1 47) (touched (codes "f") (at 1 57)) ∷ [])
     (at 1 62))
-    ≡ fault NotInScope (at 1 30) ∷ fault Twice (at 1 38) ∷ fault Limit (at 1 47) ∷ fault NotInScope (at 1 57) ∷ fault NoHandler (at 1 62) ∷ []
+    ≡ fault NotInScope (at 1 30) ∷ fault Twice (at 1 38) ∷ fault Limit (at 1 47)
+    ∷ fault NotInScope (at 1 57) ∷ fault NoHandler (at 1 62) ∷ []
 
 -- nf x { ports 1; on 0 { forward 7; } }: a port that is none is no fault
 abbrev pub any_forward : tree.Tree
-any_forward = text 1 [] (handler 0 (at 1 20) (tree.End (tree.Forward (tree.Number (number 7 (at 1 32))))) ∷ []) (at 1 37)
+any_forward = text 1 []
+    (handler 0 (at 1 20) (tree.End (tree.Forward (tree.Number (number 7 (at 1 32))))) ∷ [])
+    (at 1 37)
 
 abbrev pub AnyPortMayBeForwardedTo : Type 0
 AnyPortMayBeForwardedTo =
@@ -115,10 +125,18 @@ abbrev pub map_part : List ℕ → List declared_label.Label → Part
 map_part x ls = Map (record { place = at 9 9; name = plain x; labels = ls; close = at 9 9 })
 
 abbrev pub column_part : ColumnKind → List ℕ → ℕ → Part
-column_part kind x n = Column (record { kind = kind; place = at 9 9; name = plain x; width = number n (at 9 9) })
+column_part kind x n =
+    Column (record { kind = kind; place = at 9 9; name = plain x; width = number n (at 9 9) })
 
 abbrev pub chain : List ℕ → (size lifetime : ℕ) → List Part → Declaration
-chain x size lifetime ps = Chain (record { place = at 9 9; name = plain x; size = number size (at 9 9); lifetime = number lifetime (at 9 9); parts = ps })
+chain x size lifetime ps =
+    Chain (record {
+      place = at 9 9;
+      name = plain x;
+      size = number size (at 9 9);
+      lifetime = number lifetime (at 9 9);
+      parts = ps;
+    })
 
 -- a label or a column, and a map, of the function
 abbrev pub column : List ℕ → Width → ColumnDecl
@@ -138,7 +156,9 @@ read w f = given w (code.Read f)
 
 -- chain c 4 lifetime 7 { map m(a: 16, b: 32); free u: 8; }
 abbrev pub one_chain : Declaration
-one_chain = chain (codes "c") 4 7 (map_part (codes "m") (label (codes "a") 16 ∷ label (codes "b") 32 ∷ []) ∷ column_part Free (codes "u") 8 ∷ [])
+one_chain = chain (codes "c") 4 7
+    (map_part (codes "m") (label (codes "a") 16 ∷ label (codes "b") 32 ∷ [])
+    ∷ column_part Free (codes "u") 8 ∷ [])
 
 -- a handler of port 0 with one statement, under this chain
 abbrev pub one_statement : tree.Block → tree.Tree
@@ -148,7 +168,8 @@ one_statement b = text 1 (one_chain ∷ []) (handler 0 (at 4 1) b ∷ []) (at 9 
 abbrev pub got : (chain map : List ℕ) → tree.Tree
 got c m =
     one_statement (tree.Ask
-    (tree.Get (at 5 1) (name (codes "e") (at 5 5)) (name c (at 5 9)) (name m (at 5 11)) (constant 1 ∷ []) (at 5 14))
+    (tree.Get (at 5 1) (name (codes "e") (at 5 5)) (name c (at 5 9)) (name m (at 5 11))
+    (constant 1 ∷ []) (at 5 14))
     empty left_out empty)
 
 abbrev pub AGetLooksWhereItCan : Type 0
@@ -165,48 +186,71 @@ ANewGivesEachLabelOnce =
       place = at 5 1;
       variable = name (codes "c") (at 5 5);
       chain = name (codes "c") (at 5 9);
-      given = assigned (codes "b") (at 5 11) SrcIp ∷ assigned (codes "x") (at 5 23) SrcIp ∷ assigned (codes "u") (at 5 35) SrcIp ∷ assigned (codes "b") (at 5 47) DstIp ∷ [];
+      given = assigned (codes "b") (at 5 11) SrcIp ∷ assigned (codes "x") (at 5 23) SrcIp
+          ∷ assigned (codes "u") (at 5 35) SrcIp ∷ assigned (codes "b") (at 5 47) DstIp ∷ [];
       close = at 5 57;
     }) empty left_out left_out empty))
-    ≡ fault Twice (at 5 5) ∷ fault Unknown (at 5 23) ∷ fault FreeColumn (at 5 35) ∷ fault Twice (at 5 47) ∷ fault Amount (at 5 57) ∷ []
+    ≡ fault Twice (at 5 5) ∷ fault Unknown (at 5 23) ∷ fault FreeColumn (at 5 35)
+    ∷ fault Twice (at 5 47) ∷ fault Amount (at 5 57) ∷ []
 
 -- find e = c[x[1]] where (u = 1, a = e.b) { e.a = e.z; e.u = e.b; } e.u = 1;
 abbrev pub AFindAsksLabels : Type 0
 AFindAsksLabels =
     faults (one_statement (tree.Ask
-    (tree.Find (at 5 1) (plain (codes "e")) (plain (codes "c")) (tree.Cell (name (codes "x") (at 5 12)) (constant 1))
+    (tree.Find (at 5 1) (plain (codes "e")) (plain (codes "c"))
+    (tree.Cell (name (codes "x") (at 5 12)) (constant 1))
     (tree.Where (record { name = name (codes "u") (at 5 25); value = constant 1 }
-    ∷ record { name = plain (codes "a"); value = tree.Column (name (codes "e") (at 5 36)) (plain (codes "b")) } ∷ []) (at 5 39)))
-    (tree.Do (tree.Write (plain (codes "e")) (name (codes "a") (at 5 45)) (tree.Column (plain (codes "e")) (name (codes "z") (at 5 51))))
-    (tree.Do (tree.Write (plain (codes "e")) (plain (codes "u")) (tree.Column (plain (codes "e")) (plain (codes "b")))) empty))
+    ∷ record {
+      name = plain (codes "a");
+      value = tree.Column (name (codes "e") (at 5 36)) (plain (codes "b"));
+    } ∷ []) (at 5 39)))
+    (tree.Do (tree.Write (plain (codes "e")) (name (codes "a") (at 5 45))
+    (tree.Column (plain (codes "e")) (name (codes "z") (at 5 51))))
+    (tree.Do (tree.Write (plain (codes "e")) (plain (codes "u"))
+    (tree.Column (plain (codes "e")) (plain (codes "b")))) empty))
     left_out
     (tree.Do (tree.Write (name (codes "e") (at 5 67)) (plain (codes "u")) (constant 1)) empty)))
-    ≡ fault Unknown (at 5 12) ∷ fault FreeColumn (at 5 25) ∷ fault NotInScope (at 5 36) ∷ fault ReadOnly (at 5 45) ∷ fault Unknown (at 5 51) ∷ fault NotInScope (at 5 67) ∷ []
+    ≡ fault Unknown (at 5 12) ∷ fault FreeColumn (at 5 25) ∷ fault NotInScope (at 5 36)
+    ∷ fault ReadOnly (at 5 45) ∷ fault Unknown (at 5 51) ∷ fault NotInScope (at 5 67) ∷ []
 
 -- array v 2: 8 = { 300, 0, 7, 8 }: the first number past the size is too many
 abbrev pub array : ℕ → List Literal → Declaration
-array size contents = Array (record { place = at 2 1; name = name (codes "v") (at 2 7); size = number size (at 2 9); width = number 8 (at 2 12); contents = contents })
+array size contents =
+    Array (record {
+      place = at 2 1;
+      name = name (codes "v") (at 2 7);
+      size = number size (at 2 9);
+      width = number 8 (at 2 12);
+      contents = contents;
+    })
 
 abbrev pub NumbersPastTheSizeAreTooMany : Type 0
 NumbersPastTheSizeAreTooMany =
-    faults (text 1 (array 2 (number 300 (at 2 18) ∷ number 0 (at 2 23) ∷ number 7 (at 2 26) ∷ number 8 (at 2 29) ∷ []) ∷ []) (handler 0 (at 3 4) empty ∷ []) (at 4 1))
+    faults (text 1 (array 2 (number 300 (at 2 18) ∷ number 0 (at 2 23) ∷ number 7 (at 2 26)
+    ∷ number 8 (at 2 29) ∷ []) ∷ []) (handler 0 (at 3 4) empty ∷ []) (at 4 1))
     ≡ fault Limit (at 2 26) ∷ []
 
 -- array v 4: 8 = { 300, 255 }: contents are taken to the width, and what is left is 0
 abbrev pub filled : tree.Tree
-filled = text 1 (array 4 (number 300 (at 2 18) ∷ number 255 (at 2 23) ∷ []) ∷ []) (handler 0 (at 3 4) empty ∷ []) (at 4 1)
+filled = text 1 (array 4 (number 300 (at 2 18) ∷ number 255 (at 2 23) ∷ []) ∷ [])
+    (handler 0 (at 3 4) empty ∷ []) (at 4 1)
 
 abbrev pub ContentsAreTakenToTheWidth : Type 0
 ContentsAreTakenToTheWidth =
     (faults filled ≡ [])
-    × ((function filled).arrays ≡ record { name = codes "v"; width = W8; cells = 44 ∷ 255 ∷ 0 ∷ 0 ∷ [] } ∷ [])
+    × ((function filled).arrays ≡ record {
+      name = codes "v";
+      width = W8;
+      cells = 44 ∷ 255 ∷ 0 ∷ 0 ∷ [];
+    } ∷ [])
 
 -- get e = flows.by_flow(src_ip, dst_ip, src_port, dst_port) { touch e; }
 -- else { new f = flows(b = dst_ip, a = src_ip, c = src_port, d = dst_port) { } full { drop; } } forward 1;
 abbrev pub outward_text : tree.Block
 outward_text =
     tree.Ask
-    (tree.Get (at 4 5) (name (codes "e") (at 4 9)) (name (codes "flows") (at 4 13)) (name (codes "by_flow") (at 4 19))
+    (tree.Get (at 4 5) (name (codes "e") (at 4 9)) (name (codes "flows") (at 4 13))
+    (name (codes "by_flow") (at 4 19))
     (field SrcIp ∷ field DstIp ∷ field SrcPort ∷ field DstPort ∷ []) (at 4 61))
     (touched (codes "e") (at 4 71))
     (tree.Make (record {
@@ -223,7 +267,8 @@ outward_text =
 abbrev pub inward_text : tree.Block
 inward_text =
     tree.Ask
-    (tree.Get (at 11 5) (name (codes "e") (at 11 9)) (name (codes "flows") (at 11 13)) (name (codes "by_flow") (at 11 19))
+    (tree.Get (at 11 5) (name (codes "e") (at 11 9)) (name (codes "flows") (at 11 13))
+    (name (codes "by_flow") (at 11 19))
     (field DstIp ∷ field SrcIp ∷ field DstPort ∷ field SrcPort ∷ []) (at 11 61))
     (tree.Do (tree.Touch (name (codes "e") (at 11 71))) (tree.End (tree.Forward (constant 0))))
     left_out
@@ -235,7 +280,8 @@ firewall_text = record {
   name = name (codes "fw") (at 1 4);
   ports = number 2 (at 2 9);
   declarations = chain (codes "flows") 1 60000000000
-      (map_part (codes "by_flow") (label (codes "a") 32 ∷ label (codes "b") 32 ∷ label (codes "c") 16 ∷ label (codes "d") 16 ∷ []) ∷ []) ∷ [];
+      (map_part (codes "by_flow") (label (codes "a") 32 ∷ label (codes "b") 32
+      ∷ label (codes "c") 16 ∷ label (codes "d") 16 ∷ []) ∷ []) ∷ [];
   handlers = handler 0 (at 3 6) outward_text ∷ handler 1 (at 10 6) inward_text ∷ [];
   end = at 14 1;
 }
@@ -272,7 +318,8 @@ firewall = record {
     name = codes "flows";
     size = 1;
     lifetime = 60000000000;
-    labels = column (codes "a") W32 ∷ column (codes "b") W32 ∷ column (codes "c") W16 ∷ column (codes "d") W16 ∷ [];
+    labels = column (codes "a") W32 ∷ column (codes "b") W32 ∷ column (codes "c") W16
+        ∷ column (codes "d") W16 ∷ [];
     columns = [];
     maps = map_of (codes "by_flow") 0 4 ∷ [];
     order = ids.Label 0 ∷ ids.Label 1 ∷ ids.Label 2 ∷ ids.Label 3 ∷ [];
@@ -289,12 +336,14 @@ TheFirewallIsAFunction = (faults firewall_text ≡ []) × (function firewall_tex
 abbrev pub looked_up : ℕ → tree.Block
 looked_up n =
     tree.Ask
-    (tree.Get (at 5 1) (name (codes "e") (at 5 5)) (name (codes "c") (at 5 9)) (name (codes "m") (at 5 11))
+    (tree.Get (at 5 1) (name (codes "e") (at 5 5)) (name (codes "c") (at 5 9))
+    (name (codes "m") (at 5 11))
     (constant n ∷ constant n ∷ []) (at 5 17))
     empty left_out empty
 
 abbrev pub exchanged : tree.Tree
-exchanged = text 2 (one_chain ∷ []) (handler 1 (at 4 1) (looked_up 7) ∷ handler 0 (at 5 1) (looked_up 8) ∷ []) (at 9 1)
+exchanged = text 2 (one_chain ∷ []) (handler 1 (at 4 1) (looked_up 7)
+    ∷ handler 0 (at 5 1) (looked_up 8) ∷ []) (at 9 1)
 
 abbrev pub found : ℕ → ℕ → code.Block
 found place n =
@@ -302,4 +351,5 @@ found place n =
     nothing nothing nothing
 
 abbrev pub HandlersStandByPort : Type 0
-HandlersStandByPort = (faults exchanged ≡ []) × ((function exchanged).handlers ≡ found 1 8 ∷ found 0 7 ∷ [])
+HandlersStandByPort =
+    (faults exchanged ≡ []) × ((function exchanged).handlers ≡ found 1 8 ∷ found 0 7 ∷ [])

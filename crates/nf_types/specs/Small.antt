@@ -8,6 +8,7 @@ pub record IsSmall (b : Block) : Type 0 where
   pub news : news b ≤ 16
   pub lookups : lookups b ≤ 32
 
+-- the same of the block of each handler
 abbrev pub AreSmall : List Handler → Type 0
 AreSmall [] = Unit {0}
 AreSmall (h ∷ hs) = IsSmall h.block × AreSmall hs

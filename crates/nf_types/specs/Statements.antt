@@ -18,7 +18,8 @@ abbrev pub parts_of : ChainDecl → MapDecl → List ColumnDecl
 parts_of d m = take m.parts (drop m.first d.labels)
 
 -- a key has a value for each part, in the order of the parts
-abbrev pub key_of : ℕ → Objects → List Variable → List ColumnDecl → List tree.Expression → List Given
+abbrev pub key_of : ℕ → Objects → List Variable → List ColumnDecl → List tree.Expression →
+    List Given
 key_of place o xs [] key = []
 key_of place o xs (part ∷ parts) [] = []
 key_of place o xs (part ∷ parts) (v ∷ vs) =
@@ -52,9 +53,11 @@ abbrev pub label_named : List ColumnDecl → List ℕ → Option (ℕ × ColumnD
 label_named ls x = named (λ (l : ColumnDecl). l.name) x ls
 
 -- a label that was found, with the value that it has to have
-abbrev pub guard_to : ℕ → Objects → List Variable → Option (ℕ × ColumnDecl) → tree.Expression → Guard
+abbrev pub guard_to : ℕ → Objects → List Variable → Option (ℕ × ColumnDecl) → tree.Expression →
+    Guard
 guard_to place o xs None v = record { label = 0; given = given_to place o xs W64 v }
-guard_to place o xs (Some found) v = record { label = found.0; given = given_to place o xs found.1.width v }
+guard_to place o xs (Some found) v =
+    record { label = found.0; given = given_to place o xs found.1.width v }
 
 -- each label that a `find` asks for, with its value
 abbrev pub guards_in : ℕ → Objects → List Variable → List ColumnDecl → List tree.Given → List Guard
@@ -76,6 +79,7 @@ value_for place o xs (g ∷ gs) label =
     else value_for (place + cells g.value) o xs gs label
 
 -- the values that a `new` gives the labels of its chain, in the order of the labels
-abbrev pub labels_in : ℕ → Objects → List Variable → Option (ℕ × ChainDecl) → List tree.Given → List Given
+abbrev pub labels_in : ℕ → Objects → List Variable → Option (ℕ × ChainDecl) → List tree.Given →
+    List Given
 labels_in place o xs None gs = []
 labels_in place o xs (Some found) gs = map (value_for place o xs gs) found.1.labels

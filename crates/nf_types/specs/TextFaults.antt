@@ -12,6 +12,7 @@ use Rattle.nf_types.specs.DeclarationFaults.{port_faults, declarations_faults}
 use Rattle.nf_types.specs.BlockFaults.{block_faults}
 use Rattle.nf_types.specs.Function.{is_at}
 
+-- whether a port has a handler among these
 abbrev pub is_handled : ℕ → List tree.Handler → Bool
 is_handled port hs = list_any (is_at port) hs
 
@@ -26,6 +27,7 @@ handler_faults ports o before h =
 abbrev pub lacks_handler : ℕ → List tree.Handler → Bool
 lacks_handler ports hs = list_any (λ port. not (is_handled port hs)) (range_with_len 0 ports)
 
+-- the faults of a text
 abbrev pub faults : tree.Tree → List Fault
 faults t =
     length_faults t.name

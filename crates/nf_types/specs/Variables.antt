@@ -12,6 +12,7 @@ pub record Variable : Type 0 where
   pub name : List ℕ
   pub chain : Option ChainDecl
 
+-- the names of variables
 abbrev pub names_of : List Variable → List (List ℕ)
 names_of xs = map (λ (x : Variable). x.name) xs
 

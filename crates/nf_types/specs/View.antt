@@ -11,6 +11,7 @@ abbrev pub chain_seen : Option (Bor ChainDecl) → Option ChainDecl
 chain_seen None = None
 chain_seen (Some d) = Some d.now
 
+-- the same, where a variable was found
 abbrev pub chain_found_of : Option (Option (Bor ChainDecl)) → Option (Option ChainDecl)
 chain_found_of None = None
 chain_found_of (Some chain) = Some (chain_seen chain)
@@ -18,4 +19,5 @@ chain_found_of (Some chain) = Some (chain_seen chain)
 -- the variables in scope, the innermost first
 abbrev pub variables_of : Variables → List Variable
 variables_of Empty = []
-variables_of (Bound' name chain p outer) = record { name = name.now; chain = chain_seen chain } ∷ variables_of outer
+variables_of (Bound' name chain p outer) =
+    record { name = name.now; chain = chain_seen chain } ∷ variables_of outer

@@ -56,7 +56,8 @@ fn cells(
 ) -> Result<Indexed<u64>, AllocError>
     requires few { length contents.now ≤ size }
     requires size { size ≤ 65536 }
-    ensures { IfOk result (λ cells. cells ≡ map (λ n. narrowed width n.value) contents.now ++ replicate (size - length contents.now) 0) }
+    ensures { IfOk result (λ cells. cells ≡ map (λ n. narrowed width n.value) contents.now
+        ++ replicate (size - length contents.now) 0) }
 {
     let mut all = all_narrowed(alloc, width, contents)?;
     all.resize(size as usize, 0)?;

@@ -65,7 +65,8 @@ fn two(
     first: &Block,
     second: &Block,
 ) -> Result<(Box<Checked>, Box<Checked>, u32), AllocError>
-    requires places { place + places (syntax.block_of first.now) + places (syntax.block_of second.now) < 2 ^ 32 }
+    requires places { place + places (syntax.block_of first.now) + places
+        (syntax.block_of second.now) < 2 ^ 32 }
     requires inner { length (variables_of inner.now) ≤ place }
     requires in_scope { length (variables_of scope.now) ≤ place }
     ensures first { IfOk result (λ r. checked.block_of r.0.value
@@ -93,7 +94,8 @@ fn statement(
     requires places { place + places (syntax.block_of text.now) < 2 ^ 32 }
     requires in_scope { length (variables_of scope.now) ≤ place }
     ensures made { IfOk result (λ r.
-        in_front r.0 (checked_rest r.1 objects.now (variables_of scope.now) (rest_of (syntax.block_of text.now)))
+        in_front r.0 (checked_rest r.1 objects.now (variables_of scope.now)
+        (rest_of (syntax.block_of text.now)))
         ≡ checked_block place objects.now (variables_of scope.now) (syntax.block_of text.now)) }
     ensures behind { IfOk result (λ r. r.1 + rest_places (rest_of (syntax.block_of text.now))
         ≡ place + places (syntax.block_of text.now)) }
@@ -101,11 +103,8 @@ fn statement(
 {
     match text {
         Block::End(end) => {
-            let end_places = ending_places(end);
-            Ok((
-                Part::End(ending(alloc, place, objects, scope, end)?),
-                place + end_places,
-            ))
+            let made = ending(alloc, place, objects, scope, end)?;
+            Ok((Part::End(made), place + ending_places(end)))
         }
         Block::Do { operation: one, .. } => {
             let made = operation(alloc, place, objects, scope, one)?;
@@ -117,7 +116,7 @@ fn statement(
             miss,
             ..
         } => {
-            let inner = bound_by(objects, scope, asked);
+            let inner = bound_by(&*objects, &*scope, &*asked);
             let at = place + question_places(asked);
             let made = question(alloc, place, objects, scope, asked)?;
             let (hit, miss, at) = two(alloc, at, objects, &inner, scope, hit, miss)?;
@@ -130,7 +129,7 @@ fn statement(
             full,
             ..
         } => {
-            let inner = bound(objects, scope, &one.variable, &one.chain);
+            let inner = bound(&*objects, &*scope, &one.variable, &one.chain);
             let at = place + creation_places(one);
             let head = creation(alloc, place, objects, scope, one)?;
             let (made, taken, at) = two(alloc, at, objects, &inner, scope, made, taken)?;
@@ -140,8 +139,8 @@ fn statement(
     }
 }
 
-/// The checked block of a block, and how many places stand before what follows it, in a loop along the
-/// statements.
+/// The checked block of a block, and how many places stand before what follows it, in a loop along
+/// the statements.
 ///
 /// `place` counts the places before the block in the text.
 #[cycle(blocks)]

@@ -1,10 +1,9 @@
 //! What is wrong with a handler's blocks.
 
-ghost use Rattle.std.specs.Prelude.{◌≡◌, ◌++◌, IfOk};
+ghost use Rattle.std.specs.Prelude.{◌≡◌, IfOk};
 ghost use Rattle.nf_tree.specs.View as syntax;
-ghost use Rattle.nf_types.specs.Blocks.{bound, bound_by};
-ghost use Rattle.nf_types.specs.BlockFaults.{ending_faults, operation_faults, get_faults, find_faults, question_faults, creation_faults, block_faults};
-ghost use Rattle.nf_types.specs.Counts.{behind, behind_question, behind_new};
+ghost use Rattle.nf_types.specs.BlockFaults.{ending_faults, operation_faults, get_faults, find_faults, question_faults, creation_faults, block_faults, asked_faults, made_faults};
+ghost use Rattle.nf_types.specs.Counts.{behind, behind_asked, behind_made};
 ghost use Rattle.nf_types.specs.Faults.{first, fault_in};
 ghost use Rattle.nf_types.specs.View.{variables_of};
 
@@ -18,7 +17,8 @@ use nf_tree::{Block, Creation, Ending, Operation, Question};
 
 /// The first fault of an end.
 fn ending(objects: &Objects, scope: &Variables, ending: &Ending) -> Result<(), Fault>
-    ensures { first (ending_faults objects.now (variables_of scope.now) (syntax.ending_of ending.now))
+    ensures { first (ending_faults objects.now (variables_of scope.now)
+        (syntax.ending_of ending.now))
         ≡ fault_in result }
 {
     match ending {
@@ -32,7 +32,8 @@ fn ending(objects: &Objects, scope: &Variables, ending: &Ending) -> Result<(), F
 
 /// The first fault of a statement with no block.
 fn operation(objects: &Objects, scope: &Variables, operation: &Operation) -> Result<(), Fault>
-    ensures { first (operation_faults objects.now (variables_of scope.now) (syntax.operation_of operation.now))
+    ensures { first (operation_faults objects.now (variables_of scope.now)
+        (syntax.operation_of operation.now))
         ≡ fault_in result }
 {
     match operation {
@@ -64,7 +65,8 @@ fn question(
     scope: &Variables,
     question: &Question,
 ) -> Result<(), Fault>
-    ensures { first (question_faults room objects.now (variables_of scope.now) (syntax.question_of question.now))
+    ensures { first (question_faults room objects.now (variables_of scope.now)
+        (syntax.question_of question.now))
         ≡ fault_in result }
 {
     match question {
@@ -101,7 +103,8 @@ fn question(
 /// The first fault of a `new`, without its blocks.
 #[tactic(auto, using(crate::proofs::First::first_append), unfolding(crate::specs::BlockFaults::creation_faults))]
 fn creation(objects: &Objects, room: Room, scope: &Variables, one: &Creation) -> Result<(), Fault>
-    ensures { first (creation_faults room objects.now (variables_of scope.now) (syntax.creation_of one.now))
+    ensures { first (creation_faults room objects.now (variables_of scope.now)
+        (syntax.creation_of one.now))
         ≡ fault_in result }
 {
     let is_full = room.lookups == 0 || room.news == 0;
@@ -121,15 +124,11 @@ fn ask(
     hit: &Block,
     miss: &Block,
 ) -> Result<Room, Fault>
-    ensures fault { first (question_faults room objects.now (variables_of scope.now) (syntax.question_of asked.now)
-        ++ (block_faults (behind_question room (syntax.question_of asked.now)) objects.now
-        (bound_by objects.now (variables_of scope.now) (syntax.question_of asked.now))
-        (syntax.block_of hit.now)
-        ++ block_faults (behind (behind_question room (syntax.question_of asked.now)) (syntax.block_of hit.now))
-        objects.now (variables_of scope.now) (syntax.block_of miss.now)))
+    ensures fault { first (asked_faults room objects.now (variables_of scope.now)
+        (syntax.question_of asked.now) (syntax.block_of hit.now) (syntax.block_of miss.now))
         ≡ fault_in result }
     ensures left { IfOk result (λ left. left
-        ≡ behind (behind (behind_question room (syntax.question_of asked.now)) (syntax.block_of hit.now))
+        ≡ behind_asked room (syntax.question_of asked.now) (syntax.block_of hit.now)
         (syntax.block_of miss.now)) }
 {
     question(objects, room, scope, asked)?;
@@ -150,17 +149,12 @@ fn make_in(
     taken: &Block,
     full: &Block,
 ) -> Result<Room, Fault>
-    ensures fault { first (creation_faults room objects.now (variables_of scope.now) (syntax.creation_of one.now)
-        ++ (block_faults (behind_new room) objects.now
-        (bound objects.now (variables_of scope.now) one.now.variable one.now.chain) (syntax.block_of made.now)
-        ++ (block_faults (behind (behind_new room) (syntax.block_of made.now)) objects.now
-        (variables_of scope.now) (syntax.block_of taken.now)
-        ++ block_faults
-        (behind (behind (behind_new room) (syntax.block_of made.now)) (syntax.block_of taken.now))
-        objects.now (variables_of scope.now) (syntax.block_of full.now))))
+    ensures fault { first (made_faults room objects.now (variables_of scope.now)
+        (syntax.creation_of one.now) (syntax.block_of made.now) (syntax.block_of taken.now)
+        (syntax.block_of full.now))
         ≡ fault_in result }
     ensures left { IfOk result (λ left. left
-        ≡ behind (behind (behind (behind_new room) (syntax.block_of made.now)) (syntax.block_of taken.now))
+        ≡ behind_made room (syntax.block_of made.now) (syntax.block_of taken.now)
         (syntax.block_of full.now)) }
 {
     creation(objects, room, scope, one)?;
@@ -174,7 +168,8 @@ fn make_in(
 #[cycle(rules)]
 #[tactic(auto, using(crate::proofs::First::first_append, crate::proofs::Rooms::behind_ask, crate::proofs::Rooms::behind_make))]
 pub fn block(objects: &Objects, room: Room, scope: &Variables, block: &Block) -> Result<Room, Fault>
-    ensures fault { first (block_faults room objects.now (variables_of scope.now) (syntax.block_of block.now))
+    ensures fault { first
+        (block_faults room objects.now (variables_of scope.now) (syntax.block_of block.now))
         ≡ fault_in result }
     ensures left { IfOk result (λ left. left ≡ behind room (syntax.block_of block.now)) }
 {

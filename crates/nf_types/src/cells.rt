@@ -9,7 +9,8 @@ use nf_tree::{Expr as Value, Given};
 
 /// What is left of so many places behind a value, where it has no more.
 pub fn value_left(room: u32, value: &Value) -> Option<u32>
-    ensures { MatchOption result (room < cells (syntax.expression_of value.now)) (λ left. left + cells (syntax.expression_of value.now) ≡ room) }
+    ensures { MatchOption result (room < cells (syntax.expression_of value.now))
+        (λ left. left + cells (syntax.expression_of value.now) ≡ room) }
 {
     match value {
         Value::Number(_) => Some(room),
@@ -25,7 +26,8 @@ pub fn value_left(room: u32, value: &Value) -> Option<u32>
 
 /// The same, behind a key.
 pub fn key_left(room: u32, key: &[Value]) -> Option<u32>
-    ensures { MatchOption result (room < key_cells (map syntax.expression_of key.now)) (λ left. left + key_cells (map syntax.expression_of key.now) ≡ room) }
+    ensures { MatchOption result (room < key_cells (map syntax.expression_of key.now))
+        (λ left. left + key_cells (map syntax.expression_of key.now) ≡ room) }
 {
     let mut left = room;
     for one in key {
@@ -36,7 +38,8 @@ pub fn key_left(room: u32, key: &[Value]) -> Option<u32>
 
 /// The same, behind what a `new` or a `where` gives.
 pub fn given_left(room: u32, given: &[Given]) -> Option<u32>
-    ensures { MatchOption result (room < given_cells (map syntax.given_of given.now)) (λ left. left + given_cells (map syntax.given_of given.now) ≡ room) }
+    ensures { MatchOption result (room < given_cells (map syntax.given_of given.now))
+        (λ left. left + given_cells (map syntax.given_of given.now) ≡ room) }
 {
     let mut left = room;
     for one in given {
@@ -51,28 +54,6 @@ pub fn cells(value: &Value) -> u32
     ensures { result ≡ cells (syntax.expression_of value.now) }
 {
     match value_left(u32::MAX, value) {
-        Some(left) => u32::MAX - left,
-        None => unreachable!(),
-    }
-}
-
-/// How many cells a key reads.
-pub fn key_cells(key: &[Value]) -> u32
-    requires { key_cells (map syntax.expression_of key.now) < 2 ^ 32 }
-    ensures { result ≡ key_cells (map syntax.expression_of key.now) }
-{
-    match key_left(u32::MAX, key) {
-        Some(left) => u32::MAX - left,
-        None => unreachable!(),
-    }
-}
-
-/// How many cells the values read that a `new` or a `where` gives.
-pub fn given_cells(given: &[Given]) -> u32
-    requires { given_cells (map syntax.given_of given.now) < 2 ^ 32 }
-    ensures { result ≡ given_cells (map syntax.given_of given.now) }
-{
-    match given_left(u32::MAX, given) {
         Some(left) => u32::MAX - left,
         None => unreachable!(),
     }

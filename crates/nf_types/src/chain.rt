@@ -36,7 +36,8 @@ pub fn size(size: &Literal) -> Result<Size, Stop>
     Ok(Size::new(number as u32))
 }
 
-/// A chain with one part more, behind so many maps of other chains and so many fixed columns of its own.
+/// A chain with one part more, behind so many maps of other chains and so many fixed columns of its
+/// own.
 fn part(
     alloc: Global,
     maps: u32,
@@ -47,7 +48,8 @@ fn part(
     requires maps { maps ≤ 16 }
     requires fixed { fixed ≤ 8 }
     requires roomy { IsRoomy fixed chain }
-    ensures found { Finds (λ d. d) (part_faults maps fixed chain part.now) (with_part chain part.now) result }
+    ensures found { Finds (λ d. d) (part_faults maps fixed chain part.now)
+        (with_part chain part.now) result }
     ensures maps { maps + length chain.maps ≤ 16 → IfOk result (λ d. maps + length d.maps ≤ 16) }
     ensures fixed { IfOk result (λ d. fixed_with fixed part.now ≤ 8) }
     ensures roomy { IfOk result (λ d. IsRoomy (fixed_with fixed part.now) d) }
@@ -81,7 +83,8 @@ fn fixed_with(fixed: u32, part: &Part) -> u32
 fn parts(alloc: Global, maps: u32, mut chain: ChainDecl, parts: &[Part]) -> Result<ChainDecl, Stop>
     requires maps { maps + length chain.maps ≤ 16 }
     requires roomy { IsRoomy 0 chain }
-    ensures found { Finds (λ d. d) (parts_faults maps 0 chain parts.now) (fold with_part chain parts.now) result }
+    ensures found { Finds (λ d. d) (parts_faults maps 0 chain parts.now)
+        (fold with_part chain parts.now) result }
     ensures maps { IfOk result (λ d. maps + length d.maps ≤ 16) }
 {
     let mut fixed = 0;

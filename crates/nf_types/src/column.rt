@@ -50,7 +50,8 @@ fn names_column(chain: &ChainDecl, name: &[u8]) -> bool
 /// A label behind so many others of its map.
 #[tactic(auto, using(crate::proofs::First::first_append), unfolding(crate::specs::DeclarationFaults::label_faults))]
 fn label(alloc: Global, chain: &ChainDecl, number: usize, label: &Label) -> Result<ColumnDecl, Stop>
-    ensures found { Finds (λ x. x) (label_faults chain.now number label.now) (column_of label.now.name label.now.width) result }
+    ensures found { Finds (λ x. x) (label_faults chain.now number label.now)
+        (column_of label.now.name label.now.width) result }
     ensures few { IfOk result (λ x. number ≤ 7) }
 {
     let place = label.name.place;
@@ -77,7 +78,8 @@ fn with_label(mut chain: ChainDecl, label: ColumnDecl) -> Result<ChainDecl, Allo
 fn labels(alloc: Global, mut chain: ChainDecl, labels: &[Label]) -> Result<ChainDecl, Stop>
     requires labels { length chain.labels ≤ 128 }
     requires order { length chain.order ≤ 136 }
-    ensures found { Finds (λ d. d) (labels_faults chain 0 labels.now) (fold with_label_of chain labels.now) result }
+    ensures found { Finds (λ d. d) (labels_faults chain 0 labels.now)
+        (fold with_label_of chain labels.now) result }
     ensures few { IfOk result (λ d. length labels.now ≤ 8) }
     ensures labels { IfOk result (λ d. length d.labels ≡ length chain.labels + length labels.now) }
     ensures order { IfOk result (λ d. length d.order ≡ length chain.order + length labels.now) }
@@ -115,7 +117,8 @@ fn names_map(chain: &ChainDecl, name: &[u8]) -> bool
 #[tactic(auto, using(crate::proofs::First::first_append), unfolding(crate::specs::DeclarationFaults::map_name_faults))]
 fn map_name(alloc: Global, maps: u32, chain: &ChainDecl, tree: &MapTree) -> Result<Name, Stop>
     requires maps { maps ≤ 16 }
-    ensures found { Finds (λ x. x) (map_name_faults maps chain.now tree.now) tree.now.name.bytes result }
+    ensures found { Finds (λ x. x) (map_name_faults maps chain.now tree.now) tree.now.name.bytes
+        result }
     ensures few { IfOk result (λ x. maps + length chain.now.maps ≤ 15) }
 {
     let is_many = maps + chain.maps.len() >= MOST_MAPS;
@@ -138,7 +141,8 @@ pub fn map(
     requires fixed { fixed ≤ 8 }
     requires columns { length chain.columns ≤ 8 }
     requires roomy { IsRoomy fixed chain }
-    ensures found { Finds (λ d. d) (map_faults maps chain tree.now) (with_part chain (parts.Map tree.now)) result }
+    ensures found { Finds (λ d. d) (map_faults maps chain tree.now)
+        (with_part chain (parts.Map tree.now)) result }
     ensures few { IfOk result (λ d. maps + length d.maps ≤ 16) }
     ensures roomy { IfOk result (λ d. IsRoomy fixed d) }
 {
@@ -200,7 +204,8 @@ pub fn column(
     chain: &ChainDecl,
     tree: &ColumnTree,
 ) -> Result<ColumnDecl, Stop>
-    ensures found { Finds (λ c. c) (column_faults fixed chain.now tree.now) (column_of tree.now.name tree.now.width) result }
+    ensures found { Finds (λ c. c) (column_faults fixed chain.now tree.now)
+        (column_of tree.now.name tree.now.width) result }
     ensures few { IfOk result (λ c. columns_before tree.now.kind fixed chain.now ≤ 7) }
 {
     let before = columns_before(tree.kind, fixed, chain);

@@ -31,7 +31,8 @@ fn value_for(
     requires places { place + given_cells (map syntax.given_of given.now) < 2 ^ 32 }
     requires in_scope { length (variables_of scope.now) < 2 ^ 32 }
     ensures { IfOk result (λ g. checked.given_of g
-        ≡ value_for place objects.now (variables_of scope.now) (map syntax.given_of given.now) label.now) }
+        ≡ value_for place objects.now (variables_of scope.now) (map syntax.given_of given.now)
+        label.now) }
 {
     let mut at = place;
     for one in given {
@@ -79,7 +80,8 @@ pub fn creation(
     requires places { place + creation_places (syntax.creation_of text.now) < 2 ^ 32 }
     requires in_scope { length (variables_of scope.now) < 2 ^ 32 }
     ensures { IfOk result (λ n. checked.creation_of n
-        ≡ checked_creation place objects.now (variables_of scope.now) (syntax.creation_of text.now)) }
+        ≡ checked_creation place objects.now (variables_of scope.now)
+        (syntax.creation_of text.now)) }
 {
     let (chain, labels) = match chain_named(objects, &text.chain) {
         Some((number, found)) => {

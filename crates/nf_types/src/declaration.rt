@@ -48,7 +48,8 @@ fn with_declaration(
 /// The chains and arrays of a text.
 #[tactic(auto, using(crate::proofs::First::first_append))]
 pub fn declarations(alloc: Global, declarations: &[Declaration]) -> Result<Objects, Stop>
-    ensures found { Finds (λ o. o) (declarations_faults no_objects declarations.now) (objects_of declarations.now) result }
+    ensures found { Finds (λ o. o) (declarations_faults no_objects declarations.now)
+        (objects_of declarations.now) result }
     ensures maps { IfOk result (λ o. maps_in o.chains ≤ 16) }
 {
     let mut objects = Objects {

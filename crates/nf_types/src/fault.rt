@@ -29,8 +29,8 @@ pub enum TypingKind {
     /// A variable that is not in scope.
     #[error("T06")]
     NotInScope,
-    /// A limit passed, a width that is none, more contents than cells, or a handler of a port that is
-    /// not declared.
+    /// A limit passed, a width that is none, more contents than cells, or a handler of a port that
+    /// is not declared.
     #[error("T07")]
     Limit,
     /// A declared port without a handler.

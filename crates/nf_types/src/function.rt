@@ -65,8 +65,8 @@ fn function(alloc: Global, tree: &Tree) -> Result<Func, Stop>
     })
 }
 
-/// Checks the tree of a text against the type rules and the limits of the language: the function that
-/// it stands for, or its first fault in text order.
+/// Checks the tree of a text against the type rules and the limits of the language: the function
+/// that it stands for, or its first fault in text order.
 ///
 /// The handlers of the function stand by port, whatever their order in the text.
 #[tactic(auto, using(crate::proofs::First::first_none))]

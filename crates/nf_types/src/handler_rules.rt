@@ -35,7 +35,8 @@ fn handler(
     before: &[HandlerTree],
     one: &HandlerTree,
 ) -> Result<(), Fault>
-    ensures { first (handler_faults ports objects.now (map syntax.handler_of before.now) (syntax.handler_of one.now)) ≡ fault_in result }
+    ensures { first (handler_faults ports objects.now (map syntax.handler_of before.now)
+        (syntax.handler_of one.now)) ≡ fault_in result }
 {
     let port = one.port.value;
     refuse_if(is_handled(before, port), TypingKind::Twice, one.port.place)?;
@@ -46,7 +47,8 @@ fn handler(
 
 /// The handlers one by one.
 fn each_handler(ports: u64, objects: &Objects, handlers: &[HandlerTree]) -> Result<(), Fault>
-    ensures { first (each_behind (handler_faults ports objects.now) [] (map syntax.handler_of handlers.now)) ≡ fault_in result }
+    ensures { first (each_behind (handler_faults ports objects.now) []
+        (map syntax.handler_of handlers.now)) ≡ fault_in result }
 {
     for (i, one) in handlers.iter().enumerate() {
         handler(ports, objects, &handlers[..i], one)?;
@@ -74,7 +76,10 @@ pub fn handlers(
     handlers: &[HandlerTree],
     end: Place,
 ) -> Result<(), Fault>
-    ensures fault { first (each_behind (handler_faults ports objects.now) [] (map syntax.handler_of handlers.now) ++ fault_if (lacks_handler ports (map syntax.handler_of handlers.now)) NoHandler end) ≡ fault_in result }
+    ensures fault { first
+        (each_behind (handler_faults ports objects.now) [] (map syntax.handler_of handlers.now)
+        ++ fault_if (lacks_handler ports (map syntax.handler_of handlers.now)) NoHandler end)
+        ≡ fault_in result }
     ensures small { IfOk result (λ _. AreSmall (map syntax.handler_of handlers.now)) }
     ensures few { IfOk result (λ _. length handlers.now ≤ ports) }
 {

@@ -87,7 +87,8 @@ pub fn is_among<T: Named>(name: &[u8], items: &[T]) -> bool
 /// The first item with a name, and its number.
 pub fn first_named<'a, T: Named>(name: &[u8], items: &'a [T]) -> Option<(u32, &'a T)>
     requires { length items.now ≤ 65536 }
-    ensures { option_map (λ found. (found.0, found.1.now)) result ≡ named T.name_of name.now items.now }
+    ensures { option_map (λ found. (found.0, found.1.now)) result
+        ≡ named T.name_of name.now items.now }
 {
     for (i, item) in items.iter().enumerate() {
         if name == item.name() {

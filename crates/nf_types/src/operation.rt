@@ -29,7 +29,8 @@ fn column_of_entry<'a>(
     column: &Name,
 ) -> Option<(u32, &'a ColumnDecl)>
     ensures { option_map (λ found. (found.0, found.1.now)) result
-        ≡ column_of_entry (variable_named (variables_of scope.now) variable.now.bytes) column.now.bytes }
+        ≡ column_of_entry (variable_named (variables_of scope.now) variable.now.bytes)
+        column.now.bytes }
 {
     match chain_of(scope, &variable.bytes) {
         Some(Some(chain)) => first_named(column.bytes.as_slice(), chain.columns.as_slice()),
@@ -52,7 +53,8 @@ fn write(
     requires in_scope { length (variables_of scope.now) < 2 ^ 32 }
     ensures { IfOk result (λ op. checked.operation_of op
         ≡ checked_write place objects.now (variables_of scope.now) variable.now
-        (column_of_entry (variable_named (variables_of scope.now) variable.now.bytes) column.now.bytes)
+        (column_of_entry (variable_named (variables_of scope.now) variable.now.bytes)
+        column.now.bytes)
         (syntax.expression_of given.now)) }
 {
     let (column, width) = match column_of_entry(scope, variable, column) {
@@ -76,7 +78,8 @@ fn store(
     index: &Value,
     given: &Value,
 ) -> Result<Checked, AllocError>
-    requires places { place + 1 + cells (syntax.expression_of index.now) + cells (syntax.expression_of given.now)
+    requires places { place + 1 + cells (syntax.expression_of index.now) + cells
+        (syntax.expression_of given.now)
         < 2 ^ 32 }
     requires in_scope { length (variables_of scope.now) < 2 ^ 32 }
     ensures { IfOk result (λ op. checked.operation_of op
@@ -110,7 +113,8 @@ pub fn operation(
     requires places { place + operation_places (syntax.operation_of text.now) < 2 ^ 32 }
     requires in_scope { length (variables_of scope.now) < 2 ^ 32 }
     ensures { IfOk result (λ op. checked.operation_of op
-        ≡ checked_operation place objects.now (variables_of scope.now) (syntax.operation_of text.now)) }
+        ≡ checked_operation place objects.now (variables_of scope.now)
+        (syntax.operation_of text.now)) }
 {
     match text {
         Operation::Touch { variable } => Ok(Checked::Touch {

@@ -45,7 +45,8 @@ fn key(
     requires places { place + key_cells (map syntax.expression_of key.now) < 2 ^ 32 }
     requires in_scope { length (variables_of scope.now) < 2 ^ 32 }
     ensures { IfOk result (λ gs. map checked.given_of gs
-        ≡ key_of place objects.now (variables_of scope.now) parts.now (map syntax.expression_of key.now)) }
+        ≡ key_of place objects.now (variables_of scope.now) parts.now
+        (map syntax.expression_of key.now)) }
 {
     let mut all = Seq::new(alloc);
     let mut at = place;
@@ -110,7 +111,8 @@ fn get(
     requires in_scope { length (variables_of scope.now) < 2 ^ 32 }
     ensures { IfOk result (λ q. checked.question_of q
         ≡ checked_get place objects.now (variables_of scope.now)
-        (chain_named objects.now.chains chain.now.bytes) wanted.now (map syntax.expression_of values.now)) }
+        (chain_named objects.now.chains chain.now.bytes) wanted.now
+        (map syntax.expression_of values.now)) }
 {
     match chain_named(objects, chain) {
         Some(found) => get_in(alloc, place, objects, scope, found, wanted, values),
@@ -161,7 +163,8 @@ fn guards(
     requires places { place + given_cells (map syntax.given_of given.now) < 2 ^ 32 }
     requires in_scope { length (variables_of scope.now) < 2 ^ 32 }
     ensures { IfOk result (λ gs. map checked.guard_of gs
-        ≡ guards_in place objects.now (variables_of scope.now) labels.now (map syntax.given_of given.now)) }
+        ≡ guards_in place objects.now (variables_of scope.now) labels.now
+        (map syntax.given_of given.now)) }
 {
     let mut all = Seq::new(alloc);
     let mut at = place;
@@ -192,7 +195,8 @@ fn find(
     index: &Value,
     wanted: &[Assigned],
 ) -> Result<Checked, AllocError>
-    requires places { place + 1 + cells (syntax.expression_of index.now) + given_cells (map syntax.given_of wanted.now)
+    requires places { place + 1 + cells (syntax.expression_of index.now) + given_cells
+        (map syntax.given_of wanted.now)
         < 2 ^ 32 }
     requires in_scope { length (variables_of scope.now) < 2 ^ 32 }
     ensures { IfOk result (λ q. checked.question_of q
@@ -232,7 +236,8 @@ pub fn question(
     requires places { place + question_places (syntax.question_of text.now) < 2 ^ 32 }
     requires in_scope { length (variables_of scope.now) < 2 ^ 32 }
     ensures { IfOk result (λ q. checked.question_of q
-        ≡ checked_question place objects.now (variables_of scope.now) (syntax.question_of text.now)) }
+        ≡ checked_question place objects.now (variables_of scope.now)
+        (syntax.question_of text.now)) }
 {
     match text {
         Question::Get {

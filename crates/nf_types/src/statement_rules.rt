@@ -24,7 +24,8 @@ use nf_tree::{Expr as Value, Given as Assigned, Guards, Name};
 
 /// A new variable differs from every chain and array, and from every variable in scope.
 pub fn binding(objects: &Objects, scope: &Variables, name: &Name) -> Result<(), Fault>
-    ensures { first (binding_faults objects.now (variables_of scope.now) name.now) ≡ fault_in result }
+    ensures { first (binding_faults objects.now (variables_of scope.now) name.now)
+        ≡ fault_in result }
 {
     let is_named = is_object(objects, name.bytes.as_slice());
     let is_taken = is_named || is_in_scope(scope, &name.bytes);
@@ -33,7 +34,8 @@ pub fn binding(objects: &Objects, scope: &Variables, name: &Name) -> Result<(), 
 
 /// A map of a chain.
 fn map_of(chain: &ChainDecl, wanted: &Name) -> Result<(), Fault>
-    ensures { first (map_faults_at (map_named chain.now wanted.now.bytes) wanted.now) ≡ fault_in result }
+    ensures { first (map_faults_at (map_named chain.now wanted.now.bytes) wanted.now)
+        ≡ fault_in result }
 {
     match first_named(wanted.bytes.as_slice(), chain.maps.as_slice()) {
         Some(_) => Ok(()),
@@ -43,7 +45,8 @@ fn map_of(chain: &ChainDecl, wanted: &Name) -> Result<(), Fault>
 
 /// As many values as the key of a map has parts.
 fn amount(chain: &ChainDecl, wanted: &Name, values: usize, close: Place) -> Result<(), Fault>
-    ensures { first (amount_faults chain.now (map_named chain.now wanted.now.bytes) values close) ≡ fault_in result }
+    ensures { first (amount_faults chain.now (map_named chain.now wanted.now.bytes) values close)
+        ≡ fault_in result }
 {
     match first_named(wanted.bytes.as_slice(), chain.maps.as_slice()) {
         Some((_, found)) => {
@@ -64,7 +67,8 @@ pub fn look_up(
     key: &[Value],
     close: Place,
 ) -> Result<(), Fault>
-    ensures { first (look_up_faults objects.now (variables_of scope.now) chain.now wanted.now (map syntax.expression_of key.now) close) ≡ fault_in result }
+    ensures { first (look_up_faults objects.now (variables_of scope.now) chain.now wanted.now
+        (map syntax.expression_of key.now) close) ≡ fault_in result }
 {
     match chain_named(objects, chain) {
         None => wrong(TypingKind::Unknown, chain),
@@ -96,7 +100,8 @@ fn given(
     before: &[Assigned],
     one: &Assigned,
 ) -> Result<(), Fault>
-    ensures { first (given_faults objects.now (variables_of scope.now) chain.now (map syntax.given_of before.now) (syntax.given_of one.now)) ≡ fault_in result }
+    ensures { first (given_faults objects.now (variables_of scope.now) chain.now
+        (map syntax.given_of before.now) (syntax.given_of one.now)) ≡ fault_in result }
 {
     let name = one.name.bytes.as_slice();
     let place = one.name.place;
@@ -115,7 +120,8 @@ fn each_given(
     chain: &ChainDecl,
     all: &[Assigned],
 ) -> Result<(), Fault>
-    ensures { first (each_behind (given_faults objects.now (variables_of scope.now) chain.now) [] (map syntax.given_of all.now)) ≡ fault_in result }
+    ensures { first (each_behind (given_faults objects.now (variables_of scope.now) chain.now) []
+        (map syntax.given_of all.now)) ≡ fault_in result }
 {
     for (i, one) in all.iter().enumerate() {
         given(objects, scope, chain, &all[..i], one)?;
@@ -144,7 +150,8 @@ pub fn make(
     given: &[Assigned],
     close: Place,
 ) -> Result<(), Fault>
-    ensures { first (making_faults objects.now (variables_of scope.now) chain.now (map syntax.given_of given.now) close) ≡ fault_in result }
+    ensures { first (making_faults objects.now (variables_of scope.now) chain.now
+        (map syntax.given_of given.now) close) ≡ fault_in result }
 {
     match chain_named(objects, chain) {
         None => wrong(TypingKind::Unknown, chain),
@@ -165,7 +172,8 @@ pub fn find(
     index: &Value,
     guards: &Guards,
 ) -> Result<(), Fault>
-    ensures { first (finding_faults objects.now (variables_of scope.now) chain.now (syntax.expression_of index.now) (syntax.guards_of guards.now)) ≡ fault_in result }
+    ensures { first (finding_faults objects.now (variables_of scope.now) chain.now
+        (syntax.expression_of index.now) (syntax.guards_of guards.now)) ≡ fault_in result }
 {
     match chain_named(objects, chain) {
         None => wrong(TypingKind::Unknown, chain),
@@ -185,7 +193,8 @@ pub fn set(
     place: Place,
     given: &Value,
 ) -> Result<(), Fault>
-    ensures { first (set_faults objects.now (variables_of scope.now) field place (syntax.expression_of given.now)) ≡ fault_in result }
+    ensures { first (set_faults objects.now (variables_of scope.now) field place
+        (syntax.expression_of given.now)) ≡ fault_in result }
 {
     refuse_if(!is_settable(field), TypingKind::ReadOnly, place)?;
     value(objects, scope, given)
@@ -193,7 +202,8 @@ pub fn set(
 
 /// A column that is written is a free one of a variable's entry.
 fn written(scope: &Variables, variable: &Name, column: &Name) -> Result<(), Fault>
-    ensures { first (write_at_faults (variable_named (variables_of scope.now) variable.now.bytes) variable.now column.now) ≡ fault_in result }
+    ensures { first (write_at_faults (variable_named (variables_of scope.now) variable.now.bytes)
+        variable.now column.now) ≡ fault_in result }
 {
     match chain_of(scope, &variable.bytes) {
         None => wrong(TypingKind::NotInScope, variable),
@@ -215,7 +225,8 @@ pub fn write(
     column: &Name,
     given: &Value,
 ) -> Result<(), Fault>
-    ensures { first (write_faults objects.now (variables_of scope.now) variable.now column.now (syntax.expression_of given.now)) ≡ fault_in result }
+    ensures { first (write_faults objects.now (variables_of scope.now) variable.now column.now
+        (syntax.expression_of given.now)) ≡ fault_in result }
 {
     written(scope, variable, column)?;
     value(objects, scope, given)
@@ -230,7 +241,8 @@ pub fn store(
     index: &Value,
     given: &Value,
 ) -> Result<(), Fault>
-    ensures { first (store_faults objects.now (variables_of scope.now) name.now (syntax.expression_of index.now) (syntax.expression_of given.now)) ≡ fault_in result }
+    ensures { first (store_faults objects.now (variables_of scope.now) name.now
+        (syntax.expression_of index.now) (syntax.expression_of given.now)) ≡ fault_in result }
 {
     array(objects, name)?;
     value(objects, scope, index)?;

@@ -56,7 +56,10 @@ pub fn column_named(chain: &ChainDecl, name: &Seq<u8>) -> Option<ColumnId>
 /// What is read of a variable's entry.
 fn column(scope: &Variables, variable: &Name, column: &Name) -> Expr
     requires { length (variables_of scope.now) < 2 ^ 32 }
-    ensures { checked.expression_of result ≡ column_value (variable_of (variables_of scope.now) variable.now.bytes) (column_of_variable (variable_named (variables_of scope.now) variable.now.bytes) column.now.bytes) }
+    ensures { checked.expression_of result
+        ≡ column_value (variable_of (variables_of scope.now) variable.now.bytes)
+        (column_of_variable (variable_named (variables_of scope.now) variable.now.bytes)
+        column.now.bytes) }
 {
     let var = number_of(scope, &variable.bytes);
     match chain_of(scope, &variable.bytes) {
@@ -81,7 +84,9 @@ fn array_number(objects: &Objects, name: &Name) -> u32
 }
 
 fn both(alloc: Global, operator: Operator, left: Expr, right: Expr) -> Result<Expr, AllocError>
-    ensures { IfOk result (λ e. checked.expression_of e ≡ text.Both operator (checked.expression_of left) (checked.expression_of right)) }
+    ensures { IfOk result
+        (λ e. checked.expression_of e ≡ text.Both operator (checked.expression_of left)
+        (checked.expression_of right)) }
 {
     Ok(Expr::Both {
         operator,
@@ -90,7 +95,7 @@ fn both(alloc: Global, operator: Operator, left: Expr, right: Expr) -> Result<Ex
     })
 }
 
-/// A value, of which `place` counts the look-ups and cells before it in the text.
+/// A value, of which `place` counts the places before it in the text.
 pub fn value(
     alloc: Global,
     place: u32,
@@ -100,7 +105,8 @@ pub fn value(
 ) -> Result<Expr, AllocError>
     requires places { place + cells (syntax.expression_of value.now) < 2 ^ 32 }
     requires in_scope { length (variables_of scope.now) < 2 ^ 32 }
-    ensures { IfOk result (λ e. checked.expression_of e ≡ value_of place objects.now (variables_of scope.now) (syntax.expression_of value.now)) }
+    ensures { IfOk result (λ e. checked.expression_of e ≡ value_of place objects.now
+        (variables_of scope.now) (syntax.expression_of value.now)) }
 {
     match value {
         Value::Number(n) => Ok(Expr::Number(n.value)),
@@ -153,7 +159,9 @@ pub fn given_to(
 ) -> Result<Given, AllocError>
     requires places { place + cells (syntax.expression_of given.now) < 2 ^ 32 }
     requires in_scope { length (variables_of scope.now) < 2 ^ 32 }
-    ensures { IfOk result (λ g. checked.given_of g ≡ given_to place objects.now (variables_of scope.now) width (syntax.expression_of given.now)) }
+    ensures { IfOk result
+        (λ g. checked.given_of g ≡ given_to place objects.now (variables_of scope.now) width
+        (syntax.expression_of given.now)) }
 {
     let value = value(alloc, place, objects, scope, given)?;
     Ok(Given { width, value })

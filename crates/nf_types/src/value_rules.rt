@@ -25,7 +25,8 @@ pub fn wrong(kind: TypingKind, name: &Name) -> Result<(), Fault>
 
 /// A variable that is used is in scope.
 pub fn in_scope(scope: &Variables, name: &Name) -> Result<(), Fault>
-    ensures { first (scope_faults (variable_named (variables_of scope.now) name.now.bytes) name.now) ≡ fault_in result }
+    ensures { first (scope_faults (variable_named (variables_of scope.now) name.now.bytes) name.now)
+        ≡ fault_in result }
 {
     match chain_of(scope, &name.bytes) {
         Some(_) => Ok(()),
@@ -35,7 +36,8 @@ pub fn in_scope(scope: &Variables, name: &Name) -> Result<(), Fault>
 
 /// An array that is read or written is declared.
 pub fn array(objects: &Objects, name: &Name) -> Result<(), Fault>
-    ensures { first (array_faults_at (array_named objects.now.arrays name.now.bytes) name.now) ≡ fault_in result }
+    ensures { first (array_faults_at (array_named objects.now.arrays name.now.bytes) name.now)
+        ≡ fault_in result }
 {
     match array_named(objects, name) {
         Some(_) => Ok(()),
@@ -45,7 +47,8 @@ pub fn array(objects: &Objects, name: &Name) -> Result<(), Fault>
 
 /// A read through a variable.
 fn read(scope: &Variables, variable: &Name, column: &Name) -> Result<(), Fault>
-    ensures { first (read_faults (variable_named (variables_of scope.now) variable.now.bytes) variable.now column.now) ≡ fault_in result }
+    ensures { first (read_faults (variable_named (variables_of scope.now) variable.now.bytes)
+        variable.now column.now) ≡ fault_in result }
 {
     match chain_of(scope, &variable.bytes) {
         None => wrong(TypingKind::NotInScope, variable),
@@ -60,7 +63,8 @@ fn read(scope: &Variables, variable: &Name, column: &Name) -> Result<(), Fault>
 /// The first fault of a value.
 #[tactic(auto, using(crate::proofs::First::first_append))]
 pub fn value(objects: &Objects, scope: &Variables, value: &Value) -> Result<(), Fault>
-    ensures { first (value_faults objects.now (variables_of scope.now) (syntax.expression_of value.now)) ≡ fault_in result }
+    ensures { first (value_faults objects.now (variables_of scope.now)
+        (syntax.expression_of value.now)) ≡ fault_in result }
 {
     match value {
         Value::Number(_) => Ok(()),
@@ -86,7 +90,8 @@ pub fn value(objects: &Objects, scope: &Variables, value: &Value) -> Result<(), 
 /// The first fault of some values.
 #[tactic(auto, using(crate::proofs::First::first_append))]
 pub fn values(objects: &Objects, scope: &Variables, values: &[Value]) -> Result<(), Fault>
-    ensures { first (each_value_faults objects.now (variables_of scope.now) (map syntax.expression_of values.now)) ≡ fault_in result }
+    ensures { first (each_value_faults objects.now (variables_of scope.now)
+        (map syntax.expression_of values.now)) ≡ fault_in result }
 {
     for one in values {
         value(objects, scope, one)?;
