@@ -37,3 +37,6 @@ pub mod StoppedTold
 pub mod Effected
 pub mod Edited
 pub mod Flows
+pub mod Valued
+pub mod ReadValues
+pub mod Expiring

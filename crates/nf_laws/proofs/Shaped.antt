@@ -147,7 +147,7 @@ kept stops f time fields =
       };
     }
 
-expired_length : (time : ℕ) (lifetime : ℕ → ℕ) (chains : List Chain) → length (expired time lifetime chains) ≡ length chains
+pub expired_length : (time : ℕ) (lifetime : ℕ → ℕ) (chains : List Chain) → length (expired time lifetime chains) ≡ length chains
 expired_length time lifetime [] = refl
 expired_length time lifetime (c ∷ chains) = ap suc (expired_length time (λ k. lifetime (suc k)) chains)
 

@@ -21,3 +21,5 @@ pub mod Nat
 pub mod Bridge
 pub mod Tickets
 pub mod Sums
+pub mod Values
+pub mod Expiry
