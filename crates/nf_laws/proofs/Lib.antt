@@ -40,3 +40,6 @@ pub mod Flows
 pub mod Valued
 pub mod ReadValues
 pub mod Expiring
+pub mod Replied
+pub mod Counted
+pub mod PlacedApart

@@ -28,4 +28,4 @@ pub cells_read : CellsRead
 cells_read p c place array at = record { within = λ v e. ap or_zero e; past = λ e. ap or_zero e }
 
 pub expressions_read : ExpressionsRead
-expressions_read p c = record { number = λ n. refl; field = λ field. refl; both = λ operator a b. refl }
+expressions_read p c = record { number = λ n. refl; field = λ field. refl; both = λ operator a b. refl; given_ = λ g. refl }

@@ -34,14 +34,14 @@ or_cases : (a b : Bool) → (a || b) ≡ true → (a ≡ true) ⊎ (b ≡ true)
 or_cases true b e = inl refl
 or_cases false b e = inr e
 
-any_of : {A : Type 0} (test : A → Bool) (xs : List A) (x : A) → Contains xs x → test x ≡ true → list_any test xs ≡ true
+pub any_of : {A : Type 0} (test : A → Bool) (xs : List A) (x : A) → Contains xs x → test x ≡ true → list_any test xs ≡ true
 any_of test [] x h t = absurd (has_none x h)
 any_of test (y ∷ xs) x h t = elim (has y xs x h) [
   | inl e ↦ or_left (test y) (list_any test xs) (ap test e ∙ t)
   | inr i ↦ or_right (test y) (list_any test xs) (any_of test xs x i t)
 ]
 
-some_of : {A : Type 0} (test : A → Bool) (xs : List A) → list_any test xs ≡ true → (x : A) × Contains xs x × (test x ≡ true)
+pub some_of : {A : Type 0} (test : A → Bool) (xs : List A) → list_any test xs ≡ true → (x : A) × Contains xs x × (test x ≡ true)
 some_of test [] e = cc
 some_of test (y ∷ xs) e = elim (or_cases (test y) (list_any test xs) e) [
   | inl t ↦ (y, here y xs, t)

@@ -20,8 +20,10 @@ use Rattle.nf_base.specs.declared.packet.Field.TheVariants.{SrcIp, DstIp, SrcPor
 use Rattle.nf_base.specs.declared.done.Action.TheVariants.{To, Drop}
 use Rattle.nf_base.specs.declared.state.State.{State}
 use Rattle.nf_base.specs.Text.{Forward, Number, Discard, Touch, Get, Given, Block, Do, Ask, Make, Function}
-use Rattle.nf_base.specs.Paths.{PathStep, Doing, Asking, Making, Closing, Hits, Misses, Makes, IsTaken, IsFull, paths}
-use Rattle.nf_base.specs.Step.{opening, quiet, path_taken}
+use Rattle.nf_base.specs.Paths.{PathStep, Outcome, Doing, Asking, Making, Closing, Hits, Misses, Makes, IsTaken, IsFull, paths}
+use Rattle.nf_base.specs.Step.{opening, quiet, recorded, path_taken}
+use Rattle.nf_base.specs.Statements.{open_blocks}
+use Rattle.nf_base.specs.Record.{outcomes}
 use Rattle.nf_base.specs.Locations.{EntryNo, KeyOf}
 use Rattle.nf_base.specs.Runs.{Handling, RunResult, Report, Meet}
 use Rattle.nf_laws.specs.Samples.{column, map_of, read, new_at, nothing, drops, forwards, frame, packet_at, arrives, run_of, state_of, actions_of, touched_in}
@@ -151,8 +153,13 @@ four_paths =
     ∷ (Asking (Get 0 0 0 there 0) Misses ∷ Making (new_at 1 0 there) IsFull ∷ Closing Discard ∷ [])
     ∷ []
 
--- port 0 has four paths, and a packet of a known flow takes the first one
+-- port 0 has four paths in three blocks within one another, and a packet of a known flow takes the first one
 pub record APacketTakesAPath : Type 0 where
   pub all : paths outward ([] ∷ []) ≡ four_paths
+  pub nested : open_blocks outward ≡ 3
   pub taken : path_taken (firewall 1) (with_flow 5) (packet_at 0 1 6 (frame 167772161 1000 167772162 80)) []
       ≡ Asking (Get 0 0 0 there 0) Hits ∷ Doing (Touch 0) ∷ Closing (Forward (Number 1)) ∷ []
+  pub known : outcomes (recorded (firewall 1) (with_flow 5) (packet_at 0 1 6 (frame 167772161 1000 167772162 80)) [])
+      ≡ record { place = 0; branch = Hits } ∷ []
+  pub new_ : outcomes (recorded (firewall 1) (opening (firewall 1)) (packet_at 0 1 6 (frame 167772161 1000 167772162 80)) (0 ∷ []))
+      ≡ record { place = 0; branch = Misses } ∷ record { place = 1; branch = Makes } ∷ []

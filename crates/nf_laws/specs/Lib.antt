@@ -10,6 +10,8 @@ pub mod Touching
 pub mod Telling
 pub mod Effects
 pub mod Numbering
+pub mod Answers
+pub mod Statements
 pub mod Objects
 pub mod Places
 pub mod Orders

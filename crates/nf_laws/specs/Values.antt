@@ -11,9 +11,9 @@ use Rattle.nf_base.specs.declared.expr.Operator.TheVariants.{Plus, Minus, Times,
 use Rattle.nf_base.specs.declared.expr.Comparison.TheVariants.{Equal, NotEqual, Less, LessOrEqual, Greater, GreaterOrEqual}
 use Rattle.nf_base.specs.declared.state.Entry.{Entry}
 use Rattle.nf_base.specs.Values.{field_of, bits, field_width, is_settable, is_hashable, narrowed, result_of, compares}
-use Rattle.nf_base.specs.Text.{Expression, Number, Read, Index, Label, Column, Cell, Both}
+use Rattle.nf_base.specs.Text.{Expression, Number, Read, Index, Label, Column, Cell, Both, Given}
 use Rattle.nf_base.specs.Chains.{array_at}
-use Rattle.nf_base.specs.Context.{Context, Input, EntryRef, var_at, value}
+use Rattle.nf_base.specs.Context.{Context, Input, EntryRef, var_at, value, given}
 use Rattle.nf_laws.specs.Effects.{StandsAt}
 use Rattle.nf_laws.specs.Telling.{Names, HasCell}
 
@@ -122,12 +122,14 @@ pub record ReadsCell (p : Input) (c : Context) (place array : ℕ) (at : Express
 abbrev pub CellsRead : Type 0
 CellsRead = (p : Input) (c : Context) (place array : ℕ) (at : Expression) → ReadsCell p c place array at
 
--- numbers are themselves, fields are read, and operators take the values of both sides
+-- numbers are themselves, fields are read, operators take the values of both sides, and what is given
+-- is taken to its width
 pub record ReadsRest (p : Input) (c : Context) : Type 0 where
   pub number : (n : ℕ) → value p c (Number n) ≡ n
   pub field : (field : Field) → value p c (Read field) ≡ field_of p.time p.fields field
   pub both : (operator : Operator) (a b : Expression) →
       value p c (Both operator a b) ≡ result_of operator (value p c a) (value p c b)
+  pub given_ : (g : Given) → given p c g ≡ narrowed g.width (value p c g.value)
 
 abbrev pub ExpressionsRead : Type 0
 ExpressionsRead = (p : Input) (c : Context) → ReadsRest p c
