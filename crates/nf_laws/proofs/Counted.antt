@@ -1,12 +1,12 @@
 -- Kinds of statements, and the objects of a function.
-use Rattle.std.proofs.Common.{◌≡◌, ◌↔◌, ◌<◌, ◌≤◌, ◌+◌, ℕ, zero, suc, Bool, true, false, List, [], ◌∷◌, length, Contains, Option, Some, None, refl, ap, sym, ◌∙◌, subst, arith, ◌⊎◌, inl, inr}
+use Rattle.std.proofs.Common.{◌≡◌, ◌↔◌, ◌<◌, ◌≤◌, ◌+◌, ℕ, zero, suc, true, List, [], ◌∷◌, length, Contains, Option, Some, None, refl, ap, sym, ◌∙◌, subst, arith, ◌⊎◌, inl, inr}
 use Rattle.std.specs.List.{filter_map, cons_option, range_with_len}
 use Rattle.std.proofs.lemmas.Option.{same_Some}
 use Rattle.nf_base.specs.declared.decl.ObjectId.{ObjectId}
 use Rattle.nf_base.specs.declared.decl.ObjectId.TheVariants as object
 use Rattle.nf_base.specs.Text.{Question, Get, Find, Test}
 use Rattle.nf_base.specs.Statements.{Statement, Ends, Does, Asks, Makes, is_new, is_entry_question, is_lookup}
-use Rattle.nf_base.specs.Objects.{chain_number, array_number, ListsObjects}
+use Rattle.nf_base.specs.Objects.{chain_number, array_number}
 use Rattle.nf_laws.specs.Statements.{IsNew, makes, LooksUp, gets, finds, makes_too, StatementsAreCounted, ObjectsAreListed}
 use Rattle.nf_laws.proofs.Listed.{here, there, has, has_none}
 

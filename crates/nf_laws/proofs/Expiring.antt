@@ -1,10 +1,9 @@
 -- What expiry leaves.
-use Rattle.std.proofs.Common.{◌≡◌, ◌↔◌, ◌<◌, ◌≤◌, ◌+◌, ℕ, zero, suc, Bool, true, false, nat_lt, List, [], ◌∷◌, length, map, Option, Some, None, slice_get, if◌then◌else◌, refl, ap, ap₂, sym, ◌∙◌, subst, arith, inl, inr}
+use Rattle.std.proofs.Common.{◌≡◌, ◌<◌, ◌≤◌, ◌+◌, ℕ, zero, suc, Bool, true, false, nat_lt, List, [], ◌∷◌, map, Option, Some, None, slice_get, if◌then◌else◌, refl, ap, ap₂, sym, ◌∙◌, subst, arith, inl, inr}
 use Rattle.std.proofs.lemmas.Option.{same_Some}
 use Rattle.std.proofs.lemmas.List.{length-map}
 use Rattle.std.proofs.lemmas.Bool.{cases_Bool, ltb-true, ltb-false}
 use Rattle.nf_base.specs.declared.decl.MapDecl.{MapDecl}
-use Rattle.nf_base.specs.declared.packet.Packet.{Packet}
 use Rattle.nf_base.specs.declared.packet.Fields.{Fields}
 use Rattle.nf_base.specs.declared.state.Entry.{Entry}
 use Rattle.nf_base.specs.declared.state.Chain.{Chain}
@@ -15,7 +14,7 @@ use Rattle.nf_base.specs.Operations.{never}
 use Rattle.nf_base.specs.Step.{no_edits, input, expired_state, step_of, step_result, completes}
 use Rattle.nf_base.specs.Course.{exec}
 use Rattle.nf_laws.specs.Entries.{IsLive, IsVacant, HasKeyAt}
-use Rattle.nf_laws.specs.Expiry.{EntriesStayToTheirLastTick, IsWithin, HasKeyWithin, IsExpiry, ChainsExpire, NoChainIsLost, StepsExpireFirst}
+use Rattle.nf_laws.specs.Expiry.{EntriesStayToTheirLastTick, IsExpiry, ChainsExpire, NoChainIsLost, StepsExpireFirst}
 use Rattle.nf_laws.proofs.Found.{is_first, none_has}
 use Rattle.nf_laws.proofs.Sound.{kept_stood}
 use Rattle.nf_laws.proofs.Shaped.{expired_length}

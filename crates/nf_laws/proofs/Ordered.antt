@@ -1,12 +1,11 @@
 -- Capture order is an order of all packets.
-use Rattle.std.proofs.Common.{◌≡◌, ◌<◌, ◌≤◌, ◌+◌, ℕ, zero, suc, Bool, true, false, ◌==◌, ◌||◌, ◌&&◌, nat_lt, List, [], ◌∷◌, length, Contains, filter, slice_index_or, if◌then◌else◌, refl, ap, sym, ◌∙◌, subst, arith, ◌⊎◌, inl, inr, eqb-true, eq-eqb}
+use Rattle.std.proofs.Common.{◌≡◌, ◌<◌, ℕ, Bool, true, false, ◌==◌, ◌||◌, ◌&&◌, nat_lt, Contains, refl, sym, subst, arith, ◌⊎◌, inl, inr, eqb-true, eq-eqb}
 use Rattle.std.proofs.lemmas.Bool.{cases_Bool, and_parts, ltb-true, ltb-false}
 use Rattle.std.specs.Cmp.{IsStrictWeakOrder}
-use Rattle.std.specs.List.Sorted.{IsSortedBy}
 use Rattle.std.proofs.lemmas.List.Sorted.{sorted_far, Contains-permutation, IsPermutation-sym}
 use Rattle.std.proofs.lemmas.List.Kept.{IsSortedBy-filter}
 use Rattle.nf_base.specs.declared.packet.Packet.{Packet}
-use Rattle.nf_base.specs.Orders.{comes_before, IsCaptureOrder, at_port, KeepsPortOrder}
+use Rattle.nf_base.specs.Orders.{comes_before, at_port}
 use Rattle.nf_laws.proofs.Listed.{kept, was}
 use Rattle.nf_laws.specs.Orders.{ComesBefore, by_time, by_port, by_number, PacketsComeInOrder, NoneComesLate, EachPacketIsOrdered, NoPacketIsLost, PortsRise}
 

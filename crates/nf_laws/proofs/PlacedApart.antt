@@ -1,13 +1,13 @@
 -- The places of a text are different, and rise.
-use Rattle.std.proofs.Common.{◌≡◌, ◌≢◌, ◌<◌, ◌≤◌, ◌+◌, ℕ, zero, suc, List, [], ◌∷◌, ◌++◌, length, AllPairs, Contains, refl, ap, sym, ◌∙◌, subst, arith, inl, inr}
+use Rattle.std.proofs.Common.{◌≡◌, ◌≢◌, ◌<◌, suc, List, [], ◌∷◌, ◌++◌, AllPairs, Contains, refl, ap, ◌∙◌, subst, arith, inl, inr}
 use Rattle.std.specs.List.{flat_map}
 use Rattle.std.proofs.lemmas.List.Concat.{flat_map-cons}
 use Rattle.std.proofs.lemmas.Grind.{flat_map-append}
 use Rattle.std.proofs.lemmas.List.Kept.{AllPairs-from_increasing}
-use Rattle.std.proofs.lemmas.List.Elements.{Contains-append_left, Contains-append_right}
+use Rattle.std.proofs.lemmas.List.Elements.{Contains-append_right}
 use Rattle.nf_base.specs.Text.{Function}
 use Rattle.nf_base.specs.Statements.{Statement}
-use Rattle.nf_base.specs.TextPlaces.{own_place, places_in, all_statements, HasPlaces}
+use Rattle.nf_base.specs.TextPlaces.{own_place, places_in, all_statements}
 use Rattle.nf_laws.specs.Places.{PlacesAreOfOneStatement, PlacesRise}
 use Rattle.nf_laws.proofs.Listed.{has, in_flat}
 

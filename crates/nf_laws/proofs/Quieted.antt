@@ -1,9 +1,8 @@
 -- A step that is quiet changes nothing, and one that isn't does.
-use Rattle.std.proofs.Common.{◌≡◌, ◌<◌, ◌+◌, ◌↔◌, ℕ, zero, suc, Bool, true, false, ◌&&◌, nat_lt, List, [], ◌∷◌, map, Contains, Option, Some, None, slice_get, if◌then◌else◌, refl, ap, ap₂, sym, ◌∙◌, subst, arith, ◌⊎◌, inl, inr}
+use Rattle.std.proofs.Common.{◌≡◌, ◌<◌, ◌+◌, ℕ, zero, suc, Bool, true, false, ◌&&◌, nat_lt, List, [], ◌∷◌, map, Contains, Option, Some, None, slice_get, if◌then◌else◌, refl, ap, ap₂, sym, ◌∙◌, arith, ◌⊎◌, inl, inr}
 use Rattle.std.specs.Option.{option_map}
 use Rattle.std.proofs.lemmas.Option.{same_Some}
 use Rattle.std.proofs.lemmas.Bool.{and_parts, ltb-true, ltb-false}
-use Rattle.std.proofs.lemmas.Bool.Decides.{nat_tests}
 use Rattle.nf_base.specs.declared.packet.Packet.{Packet}
 use Rattle.nf_base.specs.declared.packet.Fields.{Fields}
 use Rattle.nf_base.specs.declared.state.Entry.{Entry}
@@ -11,18 +10,17 @@ use Rattle.nf_base.specs.declared.state.Chain.{Chain}
 use Rattle.nf_base.specs.declared.state.State.{State}
 use Rattle.nf_base.specs.declared.done.Action.{Action}
 use Rattle.nf_base.specs.Text.{Function, Block}
-use Rattle.nf_base.specs.Chains.{alive, unexpired, expired, lifetime_of, is_due, none_due, all_none_due}
+use Rattle.nf_base.specs.Chains.{alive, expired, lifetime_of, is_due, none_due, all_none_due}
 use Rattle.nf_base.specs.Context.{Context}
-use Rattle.nf_base.specs.Operations.{never, NewResult, Made, Taken, Full, Illegal, Stopped}
+use Rattle.nf_base.specs.Operations.{never, Made, Taken, Full, Illegal, Stopped}
 use Rattle.nf_base.specs.Events.{Event, Tested, LookedUp, Found, AskedNew, EntryUsed, EntryFreed, CellRead, CellWritten}
 use Rattle.nf_base.specs.Course.{Completion, Normal, Ended, NoStep, StoppedAt}
 use Rattle.nf_base.specs.Record.{changes, is_quiet}
-use Rattle.nf_base.specs.Step.{StepResult, if_none_left, step_result, skipped, expired_state, input, start_context, completes, records, step_of, record_of, step, recorded, expires_nothing, quiet}
+use Rattle.nf_base.specs.Step.{StepResult, if_none_left, step_result, expired_state, input, start_context, completes, records, step_of, record_of, step, recorded, expires_nothing, quiet}
 use Rattle.nf_base.specs.Locations.{Numbers, numbers_after, all_numbers}
 use Rattle.nf_laws.specs.Entries.{IsLive}
 use Rattle.nf_laws.specs.Quiet.{QuietAnswersSteps, QuietIsSame, QuietNumbersNothing, Expires, ChangesIt, Changes, by_expiry, by_event, QuietChangesNothing, Changing, makes, uses, frees, stores, ChangesAreTheseEvents}
 use Rattle.nf_laws.proofs.Listed.{here, there, has, has_none}
-use Rattle.nf_laws.proofs.Kept.{EndsIn}
 use Rattle.nf_laws.proofs.Quietly.{LeavesState, course_same}
 
 map_none : {A B : Type 0} (f : A → B) (o : Option A) → option_map f o ≡ None → o ≡ None

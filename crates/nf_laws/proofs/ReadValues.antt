@@ -1,8 +1,8 @@
 -- What expressions read.
-use Rattle.std.proofs.Common.{◌≡◌, ℕ, Option, Some, None, slice_get, refl, ap, sym, ◌∙◌}
+use Rattle.std.proofs.Common.{◌≡◌, ℕ, Some, refl, ap, ◌∙◌}
 use Rattle.nf_base.specs.declared.state.Entry.{Entry}
 use Rattle.nf_base.specs.Chains.{joined}
-use Rattle.nf_base.specs.Context.{Context, Var, EntryRef, Input, var_at, entry_in, or_zero, index_of, label_of, column_of}
+use Rattle.nf_base.specs.Context.{Context, Var, EntryRef, var_at, entry_in, or_zero, index_of, label_of, column_of}
 use Rattle.nf_laws.specs.Telling.{Names}
 use Rattle.nf_laws.specs.Effects.{StandsAt}
 use Rattle.nf_laws.specs.Values.{VariablesRead, FreedVariablesReadNothing, CellsRead, ExpressionsRead}

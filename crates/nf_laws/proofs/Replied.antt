@@ -1,10 +1,9 @@
 -- What a record says of its `new`s.
-use Rattle.std.proofs.Common.{◌≡◌, ◌↔◌, ℕ, Bool, true, false, ◌||◌, List, [], ◌∷◌, Contains, Option, Some, None, if◌then◌else◌, refl, ap, sym, ◌∙◌, subst, ◌⊎◌, inl, inr}
-use Rattle.std.specs.List.{list_any}
+use Rattle.std.proofs.Common.{◌≡◌, Bool, true, false, List, [], ◌∷◌, Contains, Option, Some, None, if◌then◌else◌, refl, ap, sym, ◌∙◌, inl, inr}
 use Rattle.std.proofs.lemmas.Option.{same_Some}
 use Rattle.nf_base.specs.Operations.{NewResult, Made, Taken, Full, Illegal, Stopped}
 use Rattle.nf_base.specs.Events.{Event, Tested, LookedUp, Found, AskedNew, EntryUsed, EntryFreed, CellRead, CellWritten}
-use Rattle.nf_base.specs.Record.{result_of_new, is_answer, answers, is_legal, is_full_answer, is_refusal, answers_full}
+use Rattle.nf_base.specs.Record.{result_of_new, is_answer, answers, is_legal, is_refusal, answers_full}
 use Rattle.nf_laws.specs.Answers.{IsNew, ResultsAreOfNews, HasNew, LegalRecordsAreAnswered, FullAnswersAreTold}
 use Rattle.nf_laws.proofs.Listed.{here, there, has, has_none}
 use Rattle.nf_laws.proofs.Written.{any_of, some_of}

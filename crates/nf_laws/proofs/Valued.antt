@@ -1,14 +1,13 @@
 -- The values of a text at their edges.
-use Rattle.std.proofs.Common.{◌≡◌, ◌≢◌, ◌↔◌, ◌<◌, ◌≤◌, ◌+◌, ◌-◌, ◌*◌, ◌/◌, ◌%◌, ◌^◌, ◌==◌, min, ℕ, zero, suc, Bool, true, false, not, nat_lt, nat_le, if◌then◌else◌, refl, ap, ap₂, sym, ◌∙◌, subst, arith, ◌⊎◌, inl, inr, eqb-true, eq-eqb}
+use Rattle.std.proofs.Common.{◌≡◌, ◌≢◌, ◌<◌, ◌≤◌, ◌+◌, ◌-◌, ◌*◌, ◌/◌, ◌%◌, ◌^◌, ◌==◌, min, ℕ, zero, suc, Bool, true, false, not, nat_lt, if◌then◌else◌, refl, ap₂, sym, ◌∙◌, subst, arith, inl, inr, eqb-true, eq-eqb}
 use Rattle.std.proofs.lemmas.Bool.{cases_Bool, ltb-true, ltb-false, leb-true, le-leb}
 use Rattle.std.proofs.Math.Nat.{mod-lt, mod-eq_of_lt, add-mod_right, div-le_self, mod-le}
 use Rattle.std.proofs.lemmas.Nat.{div-add-mod', and_le_l}
 use Rattle.std.proofs.lemmas.Nat.Bits.{bit_at_and}
 use Rattle.nf_base.specs.declared.width.Width.{Width}
 use Rattle.nf_base.specs.declared.width.Width.TheVariants.{W8, W16, W32, W48, W64}
-use Rattle.nf_base.specs.declared.expr.Operator.{Operator}
 use Rattle.nf_base.specs.declared.expr.Operator.TheVariants.{Plus, Minus, Times, Over, Modulo, And}
-use Rattle.nf_base.specs.Values.{bits, narrowed, result_of}
+use Rattle.nf_base.specs.Values.{bits, result_of}
 use Rattle.nf_laws.specs.Values.{HaveTheirWidths, FieldsAreRead, ValuesAreNarrowed, Saturates, Divides, OperatorsCompute, ValuesStayInBounds, ComparisonsCompare}
 
 pub their_widths : HaveTheirWidths

@@ -16,7 +16,7 @@
 --     flood;
 --   }
 -- }
-use Rattle.std.specs.Prelude.{◌≡◌, ℕ, ◌+◌, List, [], ◌∷◌, Option, Some, None}
+use Rattle.std.specs.Prelude.{◌≡◌, ℕ, ◌+◌, [], ◌∷◌, Option, Some}
 use Rattle.nf_base.specs.declared.width.Width.TheVariants.{W8, W48}
 use Rattle.nf_base.specs.declared.decl.ObjectId.TheVariants as object
 use Rattle.nf_base.specs.declared.packet.Field.TheVariants.{SrcMac, DstMac}

@@ -1,5 +1,5 @@
 -- What a `new` comes to.
-use Rattle.std.specs.Prelude.{◌≡◌, ◌↔◌, ℕ, true, false, List, ◌∷◌, map, Option, Some, None, slice_get}
+use Rattle.std.specs.Prelude.{◌≡◌, ◌↔◌, ℕ, true, false, List, ◌∷◌, map, Option, Some, slice_get}
 use Rattle.nf_base.specs.declared.state.Entry.{Entry}
 use Rattle.nf_base.specs.declared.decl.MapDecl.{MapDecl}
 use Rattle.nf_base.specs.Text.{Creation}

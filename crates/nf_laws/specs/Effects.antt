@@ -14,12 +14,12 @@ use Rattle.nf_base.specs.Values.{narrowed, is_settable}
 use Rattle.nf_base.specs.Text.{Expression, Given, FallsOff, Forward, Discard, Touch, Free, Set, Write, Store, Creation, End}
 use Rattle.nf_base.specs.Text as text
 use Rattle.nf_base.specs.Chains.{chain_at, array_at, maps_of, zeros_of, lifetime_of}
-use Rattle.nf_base.specs.Context.{Context, Input, EntryRef, var_at, entry_in, value, given}
-use Rattle.nf_base.specs.Operations.{Stops, Made, new_result, with_new, edited, after}
+use Rattle.nf_base.specs.Context.{Context, Input, EntryRef, var_at, value, given}
+use Rattle.nf_base.specs.Operations.{Stops, Made, new_result, with_new, after}
 use Rattle.nf_base.specs.Course.{Normal, Ended, exec}
-use Rattle.nf_base.specs.Step.{StepResult, step_result}
+use Rattle.nf_base.specs.Step.{step_result}
 use Rattle.nf_laws.specs.Entries.{IsLive, IsVacant}
-use Rattle.nf_laws.specs.Telling.{Names, HasCell}
+use Rattle.nf_laws.specs.Telling.{Names}
 
 -- the entry at an index of a chain of a state
 abbrev pub StandsAt : State → EntryRef → Entry → Type 0

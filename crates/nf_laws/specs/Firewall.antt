@@ -20,7 +20,7 @@ use Rattle.nf_base.specs.declared.packet.Field.TheVariants.{SrcIp, DstIp, SrcPor
 use Rattle.nf_base.specs.declared.done.Action.TheVariants.{To, Drop}
 use Rattle.nf_base.specs.declared.state.State.{State}
 use Rattle.nf_base.specs.Text.{Forward, Number, Discard, Touch, Get, Given, Block, Do, Ask, Make, Function}
-use Rattle.nf_base.specs.Paths.{PathStep, Outcome, Doing, Asking, Making, Closing, Hits, Misses, Makes, IsTaken, IsFull, paths}
+use Rattle.nf_base.specs.Paths.{PathStep, Doing, Asking, Making, Closing, Hits, Misses, Makes, IsTaken, IsFull, paths}
 use Rattle.nf_base.specs.Step.{opening, quiet, recorded, path_taken}
 use Rattle.nf_base.specs.Statements.{open_blocks}
 use Rattle.nf_base.specs.Record.{outcomes}

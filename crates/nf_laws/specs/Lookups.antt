@@ -4,9 +4,9 @@ use Rattle.nf_base.specs.declared.decl.MapDecl.{MapDecl}
 use Rattle.nf_base.specs.declared.expr.Comparison.{Comparison}
 use Rattle.nf_base.specs.declared.state.Entry.{Entry}
 use Rattle.nf_base.specs.Values.{compares}
-use Rattle.nf_base.specs.Text.{Expression, Given, Guard, Question, Get, Find, Test}
+use Rattle.nf_base.specs.Text.{Expression, Given, Guard, Get, Find, Test}
 use Rattle.nf_base.specs.Chains.{chain_at, maps_of, found}
-use Rattle.nf_base.specs.Context.{Context, Input, EntryRef, Var, value, given, var_at}
+use Rattle.nf_base.specs.Context.{Context, Input, EntryRef, value, given, var_at}
 use Rattle.nf_base.specs.Operations.{bound, answer}
 use Rattle.nf_laws.specs.Entries.{IsLive, HasKeyAt, IsFirstWith}
 

@@ -24,7 +24,7 @@
 --     drop;
 --   }
 -- }
-use Rattle.std.specs.Prelude.{◌≡◌, ℕ, List, [], ◌∷◌, Option, Some, None}
+use Rattle.std.specs.Prelude.{◌≡◌, List, [], ◌∷◌, Option, Some}
 use Rattle.nf_base.specs.declared.width.Width.TheVariants.{W16, W32}
 use Rattle.nf_base.specs.declared.expr.Operator.TheVariants.{Plus, Minus}
 use Rattle.nf_base.specs.declared.expr.Comparison.TheVariants.{Less}

@@ -1,5 +1,5 @@
 -- What the orders of packets mean.
-use Rattle.std.specs.Prelude.{◌≡◌, ◌<◌, ◌≤◌, ◌↔◌, ℕ, Bool, true, false, List, length, Contains, slice_index_or, filter}
+use Rattle.std.specs.Prelude.{◌≡◌, ◌<◌, ◌≤◌, ◌↔◌, ℕ, true, false, List, length, Contains, slice_index_or, filter}
 use Rattle.std.specs.List.Sorted.{IsSortedBy}
 use Rattle.nf_base.specs.declared.packet.Packet.{Packet}
 use Rattle.nf_base.specs.Orders.{comes_before, IsCaptureOrder, at_port, KeepsPortOrder}

@@ -9,7 +9,7 @@ use Rattle.nf_base.specs.Text.{Expression, Number, Read, Index, Label, Column, C
 use Rattle.nf_base.specs.Context.{Context, Input, value}
 use Rattle.nf_base.specs.Operations.{Stops}
 use Rattle.nf_base.specs.Paths.{Asking, Branch, PathStep, paths, outcomes_along}
-use Rattle.nf_base.specs.Course.{events, route}
+use Rattle.nf_base.specs.Course.{route}
 use Rattle.nf_base.specs.Record.{is_legal, outcomes, test_branch}
 use Rattle.nf_base.specs.Step.{recorded, path_taken}
 

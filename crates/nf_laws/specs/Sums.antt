@@ -12,9 +12,8 @@
 --   on 1 { forward length % ttl; }
 --   on 2 { forward length - 40 - ttl; }
 -- }
-use Rattle.std.specs.Prelude.{◌≡◌, ℕ, true, List, [], ◌∷◌, Option, Some, None}
+use Rattle.std.specs.Prelude.{◌≡◌, ℕ, true, List, [], ◌∷◌, Some}
 use Rattle.nf_base.specs.declared.width.Width.TheVariants.{W8}
-use Rattle.nf_base.specs.declared.expr.Operator.{Operator}
 use Rattle.nf_base.specs.declared.expr.Operator.TheVariants.{Plus, Minus, Over, Modulo}
 use Rattle.nf_base.specs.declared.decl.ObjectId.TheVariants as object
 use Rattle.nf_base.specs.declared.packet.Field.TheVariants.{Length, Ttl, SrcPort, DstPort}

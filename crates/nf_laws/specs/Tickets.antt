@@ -23,7 +23,7 @@ use Rattle.nf_base.specs.Text.{Index, Forward, Touch, Free, Get, Block, End, Do,
 use Rattle.nf_base.specs.Course.{Completion, StoppedAt}
 use Rattle.nf_base.specs.Step.{StepResult, step, step_by, completes}
 use Rattle.nf_base.specs.Locations.{EntryNo, KeyOf}
-use Rattle.nf_base.specs.Runs.{Handling, RunResult}
+use Rattle.nf_base.specs.Runs.{Handling}
 use Rattle.nf_base.specs.Shares.{share_stops}
 use Rattle.nf_laws.specs.Samples.{column, map_of, read, new_at, nothing, drops, forwards, frame, packet_at, arrives, run_of, state_of, actions_of, touched_in}
 
