@@ -12,7 +12,8 @@ pub record IsNew (e : Event) (result : NewResult) : Type 0 where
   pub is : e ≡ AskedNew place chain labels result
 
 abbrev pub ResultsAreOfNews : Type 0
-ResultsAreOfNews = (e : Event) (result : NewResult) → (result_of_new e ≡ Some result) ↔ IsNew e result
+ResultsAreOfNews = (e : Event) (result : NewResult) →
+    (result_of_new e ≡ Some result) ↔ IsNew e result
 
 -- some `new` of a record came to this
 pub record HasNew (es : List Event) (result : NewResult) : Type 0 where

@@ -30,9 +30,11 @@ pub record KeepsOthers (at : EntryRef) (before after : State) : Type 0 where
   pub arrays : after.arrays ≡ before.arrays
   pub count : length after.chains ≡ length before.chains
   pub chains : (k : ℕ) → k ≢ at.chain → chain_at after.chains k ≡ chain_at before.chains k
-  pub size : length (chain_at after.chains at.chain).slots ≡ length (chain_at before.chains at.chain).slots
+  pub size : length (chain_at after.chains at.chain).slots
+      ≡ length (chain_at before.chains at.chain).slots
   pub slots : (i : ℕ) → i ≢ at.index →
-      slice_get (chain_at after.chains at.chain).slots i ≡ slice_get (chain_at before.chains at.chain).slots i
+      slice_get (chain_at after.chains at.chain).slots i
+      ≡ slice_get (chain_at before.chains at.chain).slots i
 
 -- the variables, the edits and the choices as before
 pub record KeepsRest (c d : Context) : Type 0 where
@@ -61,15 +63,19 @@ pub record Rewrites (column v : ℕ) (at : EntryRef) (entry : Entry) (c d : Cont
   pub entry_now : StandsAt d.state at now
   pub stamp : now.stamp ≡ entry.stamp
   pub labels : now.labels ≡ entry.labels
-  pub value_now : (before : ℕ) → slice_get entry.columns column ≡ Some before → slice_get now.columns column ≡ Some v
-  pub columns : (other : ℕ) → other ≢ column → slice_get now.columns other ≡ slice_get entry.columns other
+  pub value_now : (before : ℕ) → slice_get entry.columns column ≡ Some before →
+      slice_get now.columns column ≡ Some v
+  pub columns : (other : ℕ) → other ≢ column →
+      slice_get now.columns other ≡ slice_get entry.columns other
   pub greatest : greatest_at d.state at ≡ greatest_at c.state at
   pub others : KeepsOthers at c.state d.state
   pub rest : KeepsRest c d
 
 abbrev pub WritesRewrite : Type 0
-WritesRewrite = (p : Input) (c : Context) (var column : ℕ) (g : Given) (at : EntryRef) (entry : Entry) →
-    Names c var at → StandsAt c.state at entry → Rewrites column (given p c g) at entry c (after p c (Write var column g))
+WritesRewrite =
+    (p : Input) (c : Context) (var column : ℕ) (g : Given) (at : EntryRef) (entry : Entry) →
+    Names c var at → StandsAt c.state at entry →
+    Rewrites column (given p c g) at entry c (after p c (Write var column g))
 
 -- where a freed entry stood the index is vacant, and no variable stands for it any more
 pub record Frees (at : EntryRef) (c d : Context) : Type 0 where
@@ -92,14 +98,16 @@ pub record DoNothing (p : Input) (c : Context) (var : ℕ) : Type 0 where
   pub write : (column : ℕ) (g : Given) → after p c (Write var column g) ≡ c
 
 abbrev pub FreedVariablesDoNothing : Type 0
-FreedVariablesDoNothing = (p : Input) (c : Context) (var : ℕ) → var_at c.vars var ≡ None → DoNothing p c var
+FreedVariablesDoNothing = (p : Input) (c : Context) (var : ℕ) → var_at c.vars var ≡ None →
+    DoNothing p c var
 
 -- a stored cell has its value, and all other cells, arrays and chains are as before
 pub record Stores (array i v : ℕ) (c d : Context) : Type 0 where
   pub value_now : (before : ℕ) → slice_get (array_at c.state.arrays array) i ≡ Some before →
       slice_get (array_at d.state.arrays array) i ≡ Some v
   pub cells : (other : ℕ) → other ≢ i →
-      slice_get (array_at d.state.arrays array) other ≡ slice_get (array_at c.state.arrays array) other
+      slice_get (array_at d.state.arrays array) other
+      ≡ slice_get (array_at c.state.arrays array) other
   pub size : length (array_at d.state.arrays array) ≡ length (array_at c.state.arrays array)
   pub arrays : (k : ℕ) → k ≢ array → array_at d.state.arrays k ≡ array_at c.state.arrays k
   pub count : length d.state.arrays ≡ length c.state.arrays
@@ -123,7 +131,8 @@ edit_of Time edits = None
 edit_of Length edits = None
 edit_of Proto edits = None
 
--- a field that may be set has the value, and all other fields, the state, the variables and the choices are as before
+-- a field that may be set has the value, and all other fields, the state, the variables and the
+-- choices are as before
 pub record Sets (field : Field) (v : ℕ) (c d : Context) : Type 0 where
   pub value_now : is_settable field ≡ true → edit_of field d.edits ≡ Some v
   pub none : is_settable field ≡ false → d.edits ≡ c.edits
@@ -133,9 +142,11 @@ pub record Sets (field : Field) (v : ℕ) (c d : Context) : Type 0 where
   pub left : d.left ≡ c.left
 
 abbrev pub SetsEdit : Type 0
-SetsEdit = (p : Input) (c : Context) (field : Field) (g : Given) → Sets field (given p c g) c (after p c (Set field g))
+SetsEdit = (p : Input) (c : Context) (field : Field) (g : Given) →
+    Sets field (given p c g) c (after p c (Set field g))
 
--- a new entry at the next choice, with the labels given and a 0 in each column, bound to its variable
+-- a new entry at the next choice, with the labels given and a 0 in each column, bound to its
+-- variable
 pub record Makes (p : Input) (n : Creation) (at : EntryRef) (c d : Context) : Type 0 where
   pub entry_now : StandsAt d.state at (record {
     stamp = max p.time (greatest_at c.state at);
@@ -150,7 +161,8 @@ pub record Makes (p : Input) (n : Creation) (at : EntryRef) (c d : Context) : Ty
   pub left : c.left ≡ at.index ∷ d.left
 
 abbrev pub NewsMakeEntries : Type 0
-NewsMakeEntries = (stops : Stops) (p : Input) (c : Context) (n : Creation) (i : ℕ) → new_result stops p c n ≡ Made i →
+NewsMakeEntries = (stops : Stops) (p : Input) (c : Context) (n : Creation) (i : ℕ) →
+    new_result stops p c n ≡ Made i →
     Makes p n (record { chain = n.chain; index = i }) c (with_new p c n i)
 
 -- what is declared of a chain is found by its number
@@ -176,7 +188,8 @@ pub record EndsSo (stops : Stops) (p : Input) (c : Context) (port : Expression) 
   pub falls_off : exec stops p (End FallsOff) c ≡ Normal c
   pub flood : exec stops p (End text.Flood) c ≡ Ended Flood c
   pub discard : exec stops p (End Discard) c ≡ Ended Drop c
-  pub forward : value p c port < p.ports → exec stops p (End (Forward port)) c ≡ Ended (To (value p c port)) c
+  pub forward : value p c port < p.ports →
+      exec stops p (End (Forward port)) c ≡ Ended (To (value p c port)) c
   pub no_port : p.ports ≤ value p c port → exec stops p (End (Forward port)) c ≡ Ended Drop c
 
 abbrev pub BlocksEndSo : Type 0
@@ -186,4 +199,7 @@ BlocksEndSo = (stops : Stops) (p : Input) (c : Context) (port : Expression) → 
 abbrev pub FallingOffDrops : Type 0
 FallingOffDrops = (choices : List ℕ) (c : Context) → c.left ≡ [] →
     step_result choices (Normal c)
-    ≡ Some (record { state = c.state; done = record { action = Drop; edits = c.edits; picks = choices } })
+    ≡ Some (record {
+      state = c.state;
+      done = record { action = Drop; edits = c.edits; picks = choices };
+    })

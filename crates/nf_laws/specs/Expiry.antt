@@ -26,12 +26,14 @@ abbrev pub IsWithin : ℕ → ℕ → Entry → Type 0
 IsWithin time lifetime entry = time ≤ entry.stamp + lifetime
 
 -- some entry of a chain that is within its lifetime has a key in a map
-pub record HasKeyWithin (time lifetime : ℕ) (chain : Chain) (m : MapDecl) (key : List ℕ) : Type 0 where
+pub record HasKeyWithin (time lifetime : ℕ) (chain : Chain) (m : MapDecl)
+    (key : List ℕ) : Type 0 where
   pub index : ℕ
   pub has : HasKeyAt m key chain.slots index
   pub within : IsWithin time lifetime has.entry
 
--- What is past its lifetime is gone, its index vacant and its keys unbound; the rest stands as it stood.
+-- What is past its lifetime is gone, its index vacant and its keys unbound; the rest stands as it
+-- stood.
 pub record IsExpiry (time lifetime : ℕ) (before after : Chain) : Type 0 where
   pub entries : (i : ℕ) (entry : Entry) →
       IsLive after.slots i entry ↔ (IsLive before.slots i entry × IsWithin time lifetime entry)
@@ -47,13 +49,18 @@ pub record IsExpiry (time lifetime : ℕ) (before after : Chain) : Type 0 where
 abbrev pub ChainsExpire : Type 0
 ChainsExpire = (time : ℕ) (lifetime : ℕ → ℕ) (chains : List Chain) (k : ℕ) (before : Chain) →
     slice_get chains k ≡ Some before →
-    (after : Chain) × ((slice_get (expired time lifetime chains) k ≡ Some after) × IsExpiry time (lifetime k) before after)
+    (after : Chain)
+    × ((slice_get (expired time lifetime chains) k ≡ Some after)
+    × IsExpiry time (lifetime k) before after)
 
 abbrev pub NoChainIsLost : Type 0
 NoChainIsLost = (time : ℕ) (lifetime : ℕ → ℕ) (chains : List Chain) →
     length (expired time lifetime chains) ≡ length chains
 
--- expiry comes before all else that a packet's handler does: what has expired by then makes no difference
+-- expiry comes before all else that a packet's handler does: what has expired by then makes no
+-- difference
 abbrev pub StepsExpireFirst : Type 0
-StepsExpireFirst = (f : Function) (s : State) (packet : Packet) (fields : Fields) (choices : List ℕ) →
-    packet.fields ≡ Some fields → step f (expired_state f packet.time s) packet choices ≡ step f s packet choices
+StepsExpireFirst =
+    (f : Function) (s : State) (packet : Packet) (fields : Fields) (choices : List ℕ) →
+    packet.fields ≡ Some fields →
+    step f (expired_state f packet.time s) packet choices ≡ step f s packet choices

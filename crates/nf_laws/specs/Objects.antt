@@ -26,7 +26,8 @@ pub data Stands (s : Statement) : Block → Type 0 where
   where_hit : (q : Question) (hit miss next : Block) → Stands s hit → Stands s (Ask q hit miss next)
   where_missed : (q : Question) (hit miss next : Block) → Stands s miss →
       Stands s (Ask q hit miss next)
-  behind_ask : (q : Question) (hit miss next : Block) → Stands s next → Stands s (Ask q hit miss next)
+  behind_ask : (q : Question) (hit miss next : Block) → Stands s next →
+      Stands s (Ask q hit miss next)
   where_made : (n : Creation) (made taken full next : Block) → Stands s made →
       Stands s (Make n made taken full next)
   where_taken : (n : Creation) (made taken full next : Block) → Stands s taken →
@@ -38,7 +39,8 @@ pub data Stands (s : Statement) : Block → Type 0 where
 
 -- exactly these are a block's statements
 abbrev pub StatementsAreThoseThatStand : Type 0
-StatementsAreThoseThatStand = (s : Statement) (block : Block) → Contains (statements block) s ↔ Stands s block
+StatementsAreThoseThatStand = (s : Statement) (block : Block) →
+    Contains (statements block) s ↔ Stands s block
 
 -- a `new` writes its chain, and a store its array
 pub data Writes : ObjectId → Statement → Type 0 where
@@ -62,7 +64,8 @@ WrittenIsByTheText = (f : Function) (o : ObjectId) → (is_written f o ≡ true)
 pub record WritesAreOfTheText (f : Function) (es : List Event) : Type 0 where
   pub chains : (e : Event) (made : NewEntry) → Contains es e → made_of e ≡ Some made →
       is_written f (object.Chain made.chain) ≡ true
-  pub arrays : (place array i : ℕ) (changed : Bool) → Contains es (CellWritten place array i changed) →
+  pub arrays : (place array i : ℕ) (changed : Bool) →
+      Contains es (CellWritten place array i changed) →
       is_written f (object.Array array) ≡ true
 
 abbrev pub PacketsWriteWhatIsWritten : Type 0

@@ -4,7 +4,8 @@ use Rattle.std.specs.List.Sorted.{IsSortedBy}
 use Rattle.nf_base.specs.declared.packet.Packet.{Packet}
 use Rattle.nf_base.specs.Orders.{comes_before, IsCaptureOrder, at_port, KeepsPortOrder}
 
--- a packet comes before another: it is earlier; or at one time its port is less; or there its number is
+-- a packet comes before another: it is earlier; or at one time its port is less; or there its
+-- number is
 pub data ComesBefore (a b : Packet) : Type 0 where
   by_time : a.time < b.time → ComesBefore a b
   by_port : a.time ≡ b.time → a.id.port < b.id.port → ComesBefore a b

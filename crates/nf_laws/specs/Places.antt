@@ -19,20 +19,23 @@ pub data StandsAt : Event → ℕ → Type 0 where
   asked : (place chain : ℕ) (labels : List ℕ) (result : NewResult) →
       StandsAt (AskedNew place chain labels result) place
   read : (place array i : ℕ) → StandsAt (CellRead place array i) place
-  written : (place array i : ℕ) (changed : Bool) → StandsAt (CellWritten place array i changed) place
+  written : (place array i : ℕ) (changed : Bool) →
+      StandsAt (CellWritten place array i changed) place
 
 abbrev pub EventsStandAtPlaces : Type 0
 EventsStandAtPlaces = (e : Event) (place : ℕ) → (text_place e ≡ Some place) ↔ StandsAt e place
 
 -- and the place is one of the text's
 abbrev pub PlacesAreOfTheText : Type 0
-PlacesAreOfTheText = (stops : Stops) (p : Input) (block : Block) (c : Context) (e : Event) (place : ℕ) →
+PlacesAreOfTheText =
+    (stops : Stops) (p : Input) (block : Block) (c : Context) (e : Event) (place : ℕ) →
     Contains (events stops p block c (λ _. [])) e → text_place e ≡ Some place →
     Contains (flat_map places_in (statements block)) place
 
 -- a place of a text is that of one statement alone
 abbrev pub PlacesAreOfOneStatement : Type 0
-PlacesAreOfOneStatement = (f : Function) (earlier later : List Statement) (s t : Statement) (place : ℕ) →
+PlacesAreOfOneStatement =
+    (f : Function) (earlier later : List Statement) (s t : Statement) (place : ℕ) →
     HasPlaces f → all_statements f ≡ earlier ++ s ∷ later → Contains later t →
     Contains (places_in s) place → Contains (places_in t) place → ⊥
 

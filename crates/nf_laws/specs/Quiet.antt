@@ -27,7 +27,8 @@ QuietIsSame = (f : Function) (s : State) (packet : Packet) (choices : List ℕ) 
     quiet f s packet choices ≡ Some true → step f s packet choices ≡ Some r → r.state ≡ s
 
 abbrev pub QuietNumbersNothing : Type 0
-QuietNumbersNothing = (f : Function) (s : State) (packet : Packet) (choices : List ℕ) (ns : Numbers) →
+QuietNumbersNothing =
+    (f : Function) (s : State) (packet : Packet) (choices : List ℕ) (ns : Numbers) →
     quiet f s packet choices ≡ Some true → all_numbers ns (recorded f s packet choices) ≡ ns
 
 -- an entry that is past its lifetime where a packet is handled
@@ -55,12 +56,14 @@ pub data Changes (f : Function) (s : State) (packet : Packet) (choices : List �
 
 -- a step isn't quiet exactly where it changes something
 abbrev pub QuietChangesNothing : Type 0
-QuietChangesNothing = (f : Function) (s : State) (packet : Packet) (choices : List ℕ) (is_quiet : Bool) →
+QuietChangesNothing =
+    (f : Function) (s : State) (packet : Packet) (choices : List ℕ) (is_quiet : Bool) →
     quiet f s packet choices ≡ Some is_quiet → (is_quiet ≡ false) ↔ Changes f s packet choices
 
 -- the events that change something: an entry made or freed, a use or a write with another value
 pub data Changing : Event → Type 0 where
-  makes : (place chain : ℕ) (labels : List ℕ) (i : ℕ) → Changing (AskedNew place chain labels (Made i))
+  makes : (place chain : ℕ) (labels : List ℕ) (i : ℕ) →
+      Changing (AskedNew place chain labels (Made i))
   uses : (chain i : ℕ) → Changing (EntryUsed chain i true)
   frees : (chain i : ℕ) → Changing (EntryFreed chain i)
   stores : (place array i : ℕ) → Changing (CellWritten place array i true)
@@ -71,7 +74,8 @@ ChangesAreTheseEvents = (e : Event) → (changes e ≡ true) ↔ Changing e
 -- an operation that frees an entry frees a live one
 abbrev pub FreesLive : Context → Operation → Type 0
 FreesLive c (Touch var) = Unit {0}
-FreesLive c (Free var) = (entry : Entry) × (entry_in c.state.chains (var_at c.vars var) ≡ Some entry)
+FreesLive c (Free var) = (entry : Entry)
+    × (entry_in c.state.chains (var_at c.vars var) ≡ Some entry)
 FreesLive c (Set field g) = Unit {0}
 FreesLive c (Write var column g) = Unit {0}
 FreesLive c (Store place array at g) = Unit {0}

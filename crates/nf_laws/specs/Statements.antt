@@ -11,7 +11,8 @@ pub data IsNew : Statement → Type 0 where
 
 -- a `get`, a `find` and a `new` look keys or an index up
 pub data LooksUp : Statement → Type 0 where
-  gets : (place chain m : ℕ) (key : List Given) (var : ℕ) → LooksUp (Asks (Get place chain m key var))
+  gets : (place chain m : ℕ) (key : List Given) (var : ℕ) →
+      LooksUp (Asks (Get place chain m key var))
   finds : (place chain : ℕ) (at : Expression) (guards : List Guard) (var : ℕ) →
       LooksUp (Asks (Find place chain at guards var))
   makes_too : (n : Creation) → LooksUp (Makes n)

@@ -36,7 +36,8 @@ pub record HaveTheirWidths : Type 0 where
 abbrev pub FieldsAreRead : Type 0
 FieldsAreRead = (time : ℕ) (p : Fields) →
     map (field_of time p) all_fields
-    ≡ time ∷ p.length ∷ p.src_mac ∷ p.dst_mac ∷ p.src_ip ∷ p.dst_ip ∷ p.proto ∷ p.ttl ∷ p.src_port ∷ p.dst_port ∷ []
+    ≡ time ∷ p.length ∷ p.src_mac ∷ p.dst_mac ∷ p.src_ip ∷ p.dst_ip ∷ p.proto ∷ p.ttl ∷ p.src_port
+    ∷ p.dst_port ∷ []
 
 -- a value taken to a width: itself where it fits, and the same again one round of the width later
 pub record IsNarrowed (w : Width) (v : ℕ) : Type 0 where
@@ -94,10 +95,13 @@ abbrev pub ComparisonsCompare : Type 0
 ComparisonsCompare = (a b : ℕ) → Compares a b
 
 -- what a variable reads of a live entry
-pub record ReadsEntry (p : Input) (c : Context) (var : ℕ) (at : EntryRef) (entry : Entry) : Type 0 where
+pub record ReadsEntry (p : Input) (c : Context) (var : ℕ) (at : EntryRef)
+    (entry : Entry) : Type 0 where
   pub index : value p c (Index var) ≡ at.index
-  pub label : (label v : ℕ) → slice_get entry.labels label ≡ Some v → value p c (Label var label) ≡ v
-  pub column : (column v : ℕ) → slice_get entry.columns column ≡ Some v → value p c (Column var column) ≡ v
+  pub label : (label v : ℕ) → slice_get entry.labels label ≡ Some v →
+      value p c (Label var label) ≡ v
+  pub column : (column v : ℕ) → slice_get entry.columns column ≡ Some v →
+      value p c (Column var column) ≡ v
 
 abbrev pub VariablesRead : Type 0
 VariablesRead = (p : Input) (c : Context) (var : ℕ) (at : EntryRef) (entry : Entry) →
@@ -120,9 +124,11 @@ pub record ReadsCell (p : Input) (c : Context) (place array : ℕ) (at : Express
       value p c (Cell place array at) ≡ 0
 
 abbrev pub CellsRead : Type 0
-CellsRead = (p : Input) (c : Context) (place array : ℕ) (at : Expression) → ReadsCell p c place array at
+CellsRead = (p : Input) (c : Context) (place array : ℕ) (at : Expression) →
+    ReadsCell p c place array at
 
--- numbers are themselves, fields are read, operators take the values of both sides, and what is given
+-- numbers are themselves, fields are read, operators take the values of both sides, and what is
+-- given
 -- is taken to its width
 pub record ReadsRest (p : Input) (c : Context) : Type 0 where
   pub number : (n : ℕ) → value p c (Number n) ≡ n

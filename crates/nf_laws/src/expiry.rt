@@ -6,8 +6,8 @@ pub fn entries_stay_to_their_last_tick()
     ensures { EntriesStayToTheirLastTick }
 {}
 
-/// After expiry what is past its lifetime is gone, its index vacant and its keys unbound, and the rest
-/// stands.
+/// After expiry what is past its lifetime is gone, its index vacant and its keys unbound, and the
+/// rest stands.
 pub fn chains_expire()
     ensures each { ChainsExpire }
     ensures lost { NoChainIsLost }

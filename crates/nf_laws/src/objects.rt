@@ -13,8 +13,8 @@ pub fn objects_are_listed()
     ensures { ObjectsAreListed }
 {}
 
-/// A function writes the chains that a `new` of its text is on and the arrays that it stores to, and no
-/// other object.
+/// A function writes the chains that a `new` of its text is on and the arrays that it stores to,
+/// and no other object.
 pub fn written_is_by_the_text()
     ensures text { WrittenIsByTheText }
     ensures packets { PacketsWriteWhatIsWritten }

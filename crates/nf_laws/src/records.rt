@@ -28,8 +28,8 @@ pub fn places_rise()
     ensures rise { PlacesRise }
 {}
 
-/// A record is legal where no choice was illegal and no `new` stopped, and answers full where some `new`
-/// found no index vacant.
+/// A record is legal where no choice was illegal and no `new` stopped, and answers full where some
+/// `new` found no index vacant.
 pub fn answers_are_told()
     ensures news { ResultsAreOfNews }
     ensures legal { LegalRecordsAreAnswered }
