@@ -43,3 +43,4 @@ pub mod Expiring
 pub mod Replied
 pub mod Counted
 pub mod PlacedApart
+pub mod Unquiet
