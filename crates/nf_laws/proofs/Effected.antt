@@ -9,7 +9,7 @@ use Rattle.nf_base.specs.Chains.{no_chain, chain_at, joined, entry_at, next_stam
 use Rattle.nf_base.specs.Context.{Context, Input, EntryRef, Var, var_at, given}
 use Rattle.nf_base.specs.Operations.{new_entry, with_chains, on_var, unless_at, without}
 use Rattle.nf_laws.specs.Entries.{IsLive}
-use Rattle.nf_laws.specs.Effects.{StandsAt, KeepsOthers, Restamps, TouchesRestamp, Rewrites, WritesRewrite, Frees, FreesVacate, FreedVariablesDoNothing, NewsMakeEntries}
+use Rattle.nf_laws.specs.Effects.{StandsAt, KeepsOthers, Restamps, TouchesRestamp, Rewrites, WritesRewrite, Frees, FreesVacate, FreedVariablesDoNothing, NewsPutEntries}
 use Rattle.nf_laws.proofs.Indexed.{set_length, set_here, set_other, get_set, get_other}
 use Rattle.nf_laws.proofs.Changed.{chain_there, slot_there}
 use Rattle.nf_laws.proofs.Asked.{hits_bind}
@@ -156,7 +156,7 @@ freed_do_nothing p c var q = record {
 drop_next : (left : List ℕ) (i : ℕ) (rest : List ℕ) → left ≡ i ∷ rest → left ≡ i ∷ drop 1 left
 drop_next left i rest e = e ∙ ap (λ xs. i ∷ xs) (sym (ap (drop 1) e))
 
-pub news_make_entries : NewsMakeEntries
+pub news_make_entries : NewsPutEntries
 news_make_entries stops p c n i e =
     let at : EntryRef = record { chain = n.chain; index = i } in
     let chain = chain_at c.state.chains n.chain in

@@ -11,6 +11,7 @@ pub record IsNew (e : Event) (result : NewResult) : Type 0 where
   pub labels : List ℕ
   pub is : e ≡ AskedNew place chain labels result
 
+-- exactly the event of a `new` has a result, the one that it came to
 abbrev pub ResultsAreOfNews : Type 0
 ResultsAreOfNews = (e : Event) (result : NewResult) →
     (result_of_new e ≡ Some result) ↔ IsNew e result

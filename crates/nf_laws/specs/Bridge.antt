@@ -89,5 +89,6 @@ learns = run_of bridge
     ∷ arrives 0 2 15 (between 6 4) (1 ∷ [])
     ∷ [])
 
+-- flooded until the address is known, then to its port, wherever it moves, until its lifetime ends
 abbrev pub ABridgeLearns : Type 0
 ABridgeLearns = actions_of learns ≡ Flood ∷ To 0 ∷ To 1 ∷ Flood ∷ To 1 ∷ Flood ∷ []

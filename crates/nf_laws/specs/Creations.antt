@@ -48,5 +48,6 @@ pub record AnswersNew (stops : Stops) (p : Input) (c : Context) (n : Creation) :
   pub illegal : (new_result stops p c n ≡ Illegal)
       ↔ (MayMake stops p c n × HasVacant c n × ((i : ℕ) → IsNextChoice c n i → ⊥))
 
+-- so each `new` answers, a share's too
 abbrev pub NewsAreAnswered : Type 0
 NewsAreAnswered = (stops : Stops) (p : Input) (c : Context) (n : Creation) → AnswersNew stops p c n

@@ -53,6 +53,7 @@ pub record Restamps (p : Input) (at : EntryRef) (entry : Entry) (c d : Context) 
   pub others : KeepsOthers at c.state d.state
   pub rest : KeepsRest c d
 
+-- a touch restamps its entry
 abbrev pub TouchesRestamp : Type 0
 TouchesRestamp = (p : Input) (c : Context) (var : ℕ) (at : EntryRef) (entry : Entry) →
     Names c var at → StandsAt c.state at entry → Restamps p at entry c (after p c (Touch var))
@@ -71,6 +72,7 @@ pub record Rewrites (column v : ℕ) (at : EntryRef) (entry : Entry) (c d : Cont
   pub others : KeepsOthers at c.state d.state
   pub rest : KeepsRest c d
 
+-- a write rewrites its entry
 abbrev pub WritesRewrite : Type 0
 WritesRewrite =
     (p : Input) (c : Context) (var column : ℕ) (g : Given) (at : EntryRef) (entry : Entry) →
@@ -87,6 +89,7 @@ pub record Frees (at : EntryRef) (c d : Context) : Type 0 where
   pub edits : d.edits ≡ c.edits
   pub left : d.left ≡ c.left
 
+-- a free vacates the index of its entry
 abbrev pub FreesVacate : Type 0
 FreesVacate = (p : Input) (c : Context) (var : ℕ) (at : EntryRef) (entry : Entry) →
     Names c var at → StandsAt c.state at entry → Frees at c (after p c (Free var))
@@ -97,6 +100,7 @@ pub record DoNothing (p : Input) (c : Context) (var : ℕ) : Type 0 where
   pub free : after p c (Free var) ≡ c
   pub write : (column : ℕ) (g : Given) → after p c (Write var column g) ≡ c
 
+-- so it is of each such variable
 abbrev pub FreedVariablesDoNothing : Type 0
 FreedVariablesDoNothing = (p : Input) (c : Context) (var : ℕ) → var_at c.vars var ≡ None →
     DoNothing p c var
@@ -114,6 +118,7 @@ pub record Stores (array i v : ℕ) (c d : Context) : Type 0 where
   pub chains : d.state.chains ≡ c.state.chains
   pub rest : KeepsRest c d
 
+-- a store gives a cell its value, by the index in 16 bits
 abbrev pub StoresGiveCells : Type 0
 StoresGiveCells = (p : Input) (c : Context) (place array : ℕ) (at : Expression) (g : Given) →
     Stores array (narrowed W16 (value p c at)) (given p c g) c (after p c (Store place array at g))
@@ -141,6 +146,7 @@ pub record Sets (field : Field) (v : ℕ) (c d : Context) : Type 0 where
   pub vars : d.vars ≡ c.vars
   pub left : d.left ≡ c.left
 
+-- a `set` edits its field
 abbrev pub SetsEdit : Type 0
 SetsEdit = (p : Input) (c : Context) (field : Field) (g : Given) →
     Sets field (given p c g) c (after p c (Set field g))
@@ -160,8 +166,9 @@ pub record Makes (p : Input) (n : Creation) (at : EntryRef) (c d : Context) : Ty
   pub edits : d.edits ≡ c.edits
   pub left : c.left ≡ at.index ∷ d.left
 
-abbrev pub NewsMakeEntries : Type 0
-NewsMakeEntries = (stops : Stops) (p : Input) (c : Context) (n : Creation) (i : ℕ) →
+-- a `new` that makes an entry puts it so
+abbrev pub NewsPutEntries : Type 0
+NewsPutEntries = (stops : Stops) (p : Input) (c : Context) (n : Creation) (i : ℕ) →
     new_result stops p c n ≡ Made i →
     Makes p n (record { chain = n.chain; index = i }) c (with_new p c n i)
 
@@ -171,14 +178,17 @@ pub record IsFound (decls : List ChainDecl) (k : ℕ) (decl : ChainDecl) : Type 
   pub zeros : zeros_of decls k ≡ map (λ (column : ColumnDecl). 0) decl.columns
   pub lifetime : lifetime_of decls k ≡ decl.lifetime
 
+-- so it is of each chain that is declared
 abbrev pub DeclarationsAreFound : Type 0
 DeclarationsAreFound = (decls : List ChainDecl) (k : ℕ) (decl : ChainDecl) →
     slice_get decls k ≡ Some decl → IsFound decls k decl
 
+-- the state of a chain is found by its number
 abbrev pub ChainsAreFound : Type 0
 ChainsAreFound = (chains : List Chain) (k : ℕ) (chain : Chain) →
     slice_get chains k ≡ Some chain → chain_at chains k ≡ chain
 
+-- the cells of an array are found by its number
 abbrev pub ArraysAreFound : Type 0
 ArraysAreFound = (arrays : List (List ℕ)) (k : ℕ) (cells : List ℕ) →
     slice_get arrays k ≡ Some cells → array_at arrays k ≡ cells
@@ -192,6 +202,7 @@ pub record EndsSo (stops : Stops) (p : Input) (c : Context) (port : Expression) 
       exec stops p (End (Forward port)) c ≡ Ended (To (value p c port)) c
   pub no_port : p.ports ≤ value p c port → exec stops p (End (Forward port)) c ≡ Ended Drop c
 
+-- so each block ends, a share's too
 abbrev pub BlocksEndSo : Type 0
 BlocksEndSo = (stops : Stops) (p : Input) (c : Context) (port : Expression) → EndsSo stops p c port
 

@@ -18,6 +18,7 @@ pub record StaysToItsLastTick (lifetime : ℕ) (entry : Entry) : Type 0 where
   pub not_due : is_due (entry.stamp + lifetime) lifetime (Some entry) ≡ false
   pub due : is_due (suc (entry.stamp + lifetime)) lifetime (Some entry) ≡ true
 
+-- so each entry stays
 abbrev pub EntriesStayToTheirLastTick : Type 0
 EntriesStayToTheirLastTick = (lifetime : ℕ) (entry : Entry) → StaysToItsLastTick lifetime entry
 
@@ -53,6 +54,7 @@ ChainsExpire = (time : ℕ) (lifetime : ℕ → ℕ) (chains : List Chain) (k : 
     × ((slice_get (expired time lifetime chains) k ≡ Some after)
     × IsExpiry time (lifetime k) before after)
 
+-- there are as many chains as before
 abbrev pub NoChainIsLost : Type 0
 NoChainIsLost = (time : ℕ) (lifetime : ℕ → ℕ) (chains : List Chain) →
     length (expired time lifetime chains) ≡ length chains

@@ -77,6 +77,7 @@ both_ways = run_of (firewall 1)
 abbrev pub one_key : List ℕ
 one_key = 167772161 ∷ 167772162 ∷ 1000 ∷ 80 ∷ []
 
+-- a flow from the next port
 abbrev pub other_key : List ℕ
 other_key = 167772161 ∷ 167772162 ∷ 1001 ∷ 80 ∷ []
 
@@ -116,12 +117,14 @@ out_report = record {
   touched = KeyOf 0 0 one_key ∷ EntryNo 0 0 ∷ KeyOf 0 0 one_key ∷ [];
 }
 
+-- the packet back touches the same key, and the entry twice: by the look-up and by the touch
 abbrev pub answer_report : Report
 answer_report = record {
   packet = packet_at 1 0 5 (frame 167772162 80 167772161 1000);
   touched = KeyOf 0 0 one_key ∷ EntryNo 0 0 ∷ EntryNo 0 0 ∷ [];
 }
 
+-- the packet of the other flow touches another key, and another entry
 abbrev pub other_report : Report
 other_report = record {
   packet = packet_at 0 1 6 (frame 167772161 1001 167772162 80);
@@ -157,9 +160,11 @@ pub record APacketIsQuiet : Type 0 where
 abbrev pub asking : Branch → PathStep
 asking branch = Asking (Get 0 0 0 there 0) branch
 
+-- its `new`
 abbrev pub making : Branch → PathStep
 making branch = Making (new_at 1 0 there) branch
 
+-- its end
 abbrev pub closing : PathStep
 closing = Closing (Forward (Number 1))
 

@@ -15,6 +15,7 @@ pub record FindsFirst (m : MapDecl) (key : List ℕ) (slots : List (Option Entry
   pub hit : (i : ℕ) → (found m key slots ≡ Some i) ↔ IsFirstWith m key slots i
   pub miss : (found m key slots ≡ None) ↔ ((i : ℕ) → HasKeyAt m key slots i → ⊥)
 
+-- so each search finds
 abbrev pub SearchesFindTheFirst : Type 0
 SearchesFindTheFirst = (m : MapDecl) (key : List ℕ) (slots : List (Option Entry)) →
     FindsFirst m key slots
@@ -28,6 +29,7 @@ pub record GetHits (p : Input) (c : Context) (chain m : ℕ) (key : List Given) 
   pub first : IsFirstWith decl (map (given p c) key) (chain_at c.state.chains chain).slots index
   pub binds : d ≡ bound var chain c index
 
+-- exactly so a `get` hits
 abbrev pub GetsHitKeys : Type 0
 GetsHitKeys = (p : Input) (c d : Context) (place chain m : ℕ) (key : List Given) (var : ℕ) →
     (answer p c (Get place chain m key var) ≡ Some d) ↔ GetHits p c chain m key var d
@@ -44,6 +46,7 @@ pub record FindHits (p : Input) (c : Context) (chain : ℕ) (at : Expression) (g
   pub labels : All (HasLabel p c entry) guards
   pub binds : d ≡ bound var chain c (value p c at)
 
+-- exactly so a `find` hits
 abbrev pub FindsHitEntries : Type 0
 FindsHitEntries =
     (p : Input) (c d : Context) (place chain : ℕ) (at : Expression) (guards : List Guard)
@@ -66,6 +69,7 @@ pub record Binds (var : ℕ) (at : EntryRef) (c d : Context) : Type 0 where
   pub edits : d.edits ≡ c.edits
   pub left : d.left ≡ c.left
 
+-- so a question that hits binds its variable, where those before it have a place
 abbrev pub HitsBindTheirVariable : Type 0
 HitsBindTheirVariable = (var chain i : ℕ) (c : Context) → var ≤ length c.vars →
     Binds var (record { chain = chain; index = i }) c (bound var chain c i)

@@ -25,11 +25,12 @@ NewsMakeEntries = (place chain : ℕ) (labels : List ℕ) (i : ℕ) →
     made_of (AskedNew place chain labels (Made i))
     ≡ Some (record { chain = chain; labels = labels; index = i })
 
--- and nothing else makes one
+-- an event is a `new` that made this entry
 pub record MakesBy (e : Event) (made : NewEntry) : Type 0 where
   pub place : ℕ
   pub event : e ≡ AskedNew place made.chain made.labels (Made made.index)
 
+-- no other event makes an entry
 abbrev pub OnlyNewsMakeEntries : Type 0
 OnlyNewsMakeEntries = (e : Event) (made : NewEntry) → made_of e ≡ Some made → MakesBy e made
 
@@ -38,6 +39,7 @@ abbrev pub EntriesAreCounted : Type 0
 EntriesAreCounted = (ns : Numbers) (es : List Event) (chain : ℕ) →
     (all_numbers ns es).made chain ≡ ns.made chain + length (filter (makes_entry chain) es)
 
+-- and a new entry takes the next number
 abbrev pub NewEntriesTakeTheNext : Type 0
 NewEntriesTakeTheNext = (ns : Numbers) (e : Event) (made : NewEntry) → made_of e ≡ Some made →
     (numbers_after ns e).entry_no made.chain made.index ≡ ns.made made.chain
@@ -69,5 +71,6 @@ pub record AreApart (es : List Event) (chain : ℕ) : Type 0 where
   pub apart : (i j : ℕ) → WasMade es chain i → WasMade es chain j → i ≢ j →
       (all_numbers no_numbers es).entry_no chain i ≢ (all_numbers no_numbers es).entry_no chain j
 
+-- so they are in each chain, whatever is told
 abbrev pub EntriesAreApart : Type 0
 EntriesAreApart = (es : List Event) (chain : ℕ) → AreApart es chain

@@ -68,6 +68,7 @@ pub record WritesAreOfTheText (f : Function) (es : List Event) : Type 0 where
       Contains es (CellWritten place array i changed) →
       is_written f (object.Array array) ≡ true
 
+-- so it is of each packet's record
 abbrev pub PacketsWriteWhatIsWritten : Type 0
 PacketsWriteWhatIsWritten = (f : Function) (s : State) (packet : Packet) (choices : List ℕ) →
     WritesAreOfTheText f (recorded f s packet choices)
@@ -85,6 +86,7 @@ pub data IsOn : Event → ObjectId → Type 0 where
   written : (place array i : ℕ) (changed : Bool) →
       IsOn (CellWritten place array i changed) (object.Array array)
 
+-- exactly these are the objects of events
 abbrev pub EventsAreOnObjects : Type 0
 EventsAreOnObjects = (e : Event) (o : ObjectId) → (touched_object e ≡ Some o) ↔ IsOn e o
 
@@ -110,5 +112,6 @@ pub record HasObjects (es : List Event) (o : ObjectId) : Type 0 where
   pub changed : Contains (objects_changed es) o ↔ ChangeOf es o
   pub part : Contains (objects_changed es) o → Contains (objects_touched es) o
 
+-- so it is of each record
 abbrev pub ObjectsAreThoseOfEvents : Type 0
 ObjectsAreThoseOfEvents = (es : List Event) (o : ObjectId) → HasObjects es o

@@ -11,6 +11,7 @@ pub data ComesBefore (a b : Packet) : Type 0 where
   by_port : a.time ≡ b.time → a.id.port < b.id.port → ComesBefore a b
   by_number : a.time ≡ b.time → a.id.port ≡ b.id.port → a.id.seq < b.id.seq → ComesBefore a b
 
+-- exactly so packets come before one another
 abbrev pub PacketsComeInOrder : Type 0
 PacketsComeInOrder = (a b : Packet) → (comes_before a b ≡ true) ↔ ComesBefore a b
 

@@ -22,6 +22,7 @@ pub data StandsAt : Event → ℕ → Type 0 where
   written : (place array i : ℕ) (changed : Bool) →
       StandsAt (CellWritten place array i changed) place
 
+-- exactly these events have a place
 abbrev pub EventsStandAtPlaces : Type 0
 EventsStandAtPlaces = (e : Event) (place : ℕ) → (text_place e ≡ Some place) ↔ StandsAt e place
 

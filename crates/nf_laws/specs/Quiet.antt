@@ -21,11 +21,12 @@ abbrev pub QuietAnswersSteps : Type 0
 QuietAnswersSteps = (f : Function) (s : State) (packet : Packet) (choices : List ℕ) →
     (quiet f s packet choices ≡ None) ↔ (step f s packet choices ≡ None)
 
--- a quiet step leaves the state and the numbers of entries as they were
+-- a quiet step leaves the state as it was
 abbrev pub QuietIsSame : Type 0
 QuietIsSame = (f : Function) (s : State) (packet : Packet) (choices : List ℕ) (r : StepResult) →
     quiet f s packet choices ≡ Some true → step f s packet choices ≡ Some r → r.state ≡ s
 
+-- no entry is numbered anew
 abbrev pub QuietNumbersNothing : Type 0
 QuietNumbersNothing =
     (f : Function) (s : State) (packet : Packet) (choices : List ℕ) (ns : Numbers) →
@@ -68,6 +69,7 @@ pub data Changing : Event → Type 0 where
   frees : (chain i : ℕ) → Changing (EntryFreed chain i)
   stores : (place array i : ℕ) → Changing (CellWritten place array i true)
 
+-- exactly these are told as a change
 abbrev pub ChangesAreTheseEvents : Type 0
 ChangesAreTheseEvents = (e : Event) → (changes e ≡ true) ↔ Changing e
 
@@ -85,6 +87,7 @@ abbrev pub OperationsChange : Type 0
 OperationsChange = (p : Input) (c : Context) (op : Operation) (e : Event) →
     DoesThen p c op e → changes e ≡ true → FreesLive c op → (after p c op).state ≢ c.state
 
+-- an entry that is made changes the state
 abbrev pub NewsChange : Type 0
 NewsChange = (stops : Stops) (p : Input) (c : Context) (n : Creation) (i : ℕ) →
     new_result stops p c n ≡ Made i → (with_new p c n i).state ≢ c.state

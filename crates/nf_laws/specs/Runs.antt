@@ -43,18 +43,18 @@ abbrev pub RunsGoOn : Type 0
 RunsGoOn = (f : Function) (s : State) (packets : List Packet) → All (HasHandler f) packets →
     (hs : List Handling) × ((r : RunResult) × (packets_of hs ≡ packets) × (run f s hs ≡ Some r))
 
--- from any sound state a run comes to a sound one, and from one of the function's shape to one of
--- that shape
+-- from any sound state a run comes to a sound one
 abbrev pub RunsKeepSoundness : Type 0
 RunsKeepSoundness =
     (stops : Stops) (f : Function) (s : State) (hs : List Handling) (r : RunResult) →
     IsSound f s → run_by stops f s hs ≡ Some r → IsSound f r.state
 
+-- the same of the shape, where each `new` gives as many labels as its chain has
 abbrev pub RunsKeepTheShape : Type 0
 RunsKeepTheShape = (stops : Stops) (f : Function) (s : State) (hs : List Handling) (r : RunResult) →
     AllFit f.chains f.handlers → HasShape f s → run_by stops f s hs ≡ Some r → HasShape f r.state
 
--- reports part where a run does, and so do numbers; behind a packet with no step there are none
+-- reports part where a run does
 abbrev pub ReportsPart : Type 0
 ReportsPart =
     (f : Function) (s : State) (ns : Numbers) (first second : List Handling) (r : RunResult) →
@@ -62,23 +62,25 @@ ReportsPart =
     reports f s ns (first ++ second)
     ≡ reports f s ns first ++ reports f r.state (numbers_of f s ns first) second
 
+-- numbers part likewise
 abbrev pub NumbersPart : Type 0
 NumbersPart =
     (f : Function) (s : State) (ns : Numbers) (first second : List Handling) (r : RunResult) →
     run f s first ≡ Some r →
     numbers_of f s ns (first ++ second) ≡ numbers_of f r.state (numbers_of f s ns first) second
 
+-- behind a packet with no step there is no report
 abbrev pub ReportsEnd : Type 0
 ReportsEnd = (f : Function) (s : State) (ns : Numbers) (first second : List Handling) →
     run f s first ≡ None → reports f s ns (first ++ second) ≡ reports f s ns first
 
--- a run has a report for each packet; where it stops there is one for the packet with no step, and
--- none behind it
+-- a run has a report for each packet
 abbrev pub ReportsAreOneAPacket : Type 0
 ReportsAreOneAPacket =
     (f : Function) (s : State) (ns : Numbers) (hs : List Handling) (r : RunResult) →
     run f s hs ≡ Some r → map (λ (a : Report). a.packet) (reports f s ns hs) ≡ packets_of hs
 
+-- where a run stops there is a report of the packet with no step, and none behind it
 abbrev pub TheLastReportHasNoStep : Type 0
 TheLastReportHasNoStep =
     (f : Function) (s : State) (ns : Numbers) (first second : List Handling) (h : Handling)
@@ -115,6 +117,7 @@ pub record IsReported (f : Function) (s : State) (ns : Numbers) (hs : List Handl
   pub ran : run f s earlier ≡ Some before
   pub is : a ≡ report_of f before.state (numbers_of f s ns earlier) handling
 
+-- exactly these are the reports of a run
 abbrev pub ReportsAreOfPackets : Type 0
 ReportsAreOfPackets = (f : Function) (s : State) (ns : Numbers) (hs : List Handling) (a : Report) →
     Contains (reports f s ns hs) a ↔ IsReported f s ns hs a

@@ -18,11 +18,12 @@ use Rattle.nf_base.specs.Shares.{owns, none_vacant, share_stops, AreOwn, IsShare
 use Rattle.nf_laws.specs.Entries.{IsVacant}
 use Rattle.nf_laws.specs.Creations.{slots_for, IsBound}
 
--- each index has exactly one owner among the queues
+-- each index has an owner among the queues
 abbrev pub EachIndexHasAnOwner : Type 0
 EachIndexHasAnOwner = (of i : ℕ) → 0 < of → of ≤ 16 →
     (share : Share) × ((share.of ≡ of) × (owns share i ≡ true))
 
+-- two queues that own one index are one
 abbrev pub NoIndexHasTwo : Type 0
 NoIndexHasTwo = (a b : Share) (i : ℕ) → a.of ≡ b.of → owns a i ≡ true → owns b i ≡ true →
     a.queue ≡ b.queue
@@ -39,10 +40,12 @@ pub record IsSeen {A : Type 0} (own : ℕ → Bool) (opened : ℕ → A) (xs ys 
   pub others_open : (i : ℕ) → own i ≡ false →
       slice_get ys i ≡ option_map (λ (x : A). opened i) (slice_get xs i)
 
+-- so an owner sees the entries of a chain
 abbrev pub OwnersSeeEntries : Type 0
 OwnersSeeEntries = (own : ℕ → Bool) (opened : ℕ → Option Entry) (xs : List (Option Entry)) →
     IsSeen own opened xs (mix own opened xs)
 
+-- so an owner sees the cells of an array
 abbrev pub OwnersSeeCells : Type 0
 OwnersSeeCells = (own : ℕ → Bool) (opened : ℕ → ℕ) (xs : List ℕ) →
     IsSeen own opened xs (mix own opened xs)
@@ -59,6 +62,7 @@ pub record GoesAlike (stops : Stops) (p : Input) (block : Block) (c : Context) :
   pub course : exec stops p block c ≡ exec never p block c
   pub told : events stops p block c (λ _. []) ≡ events never p block c (λ _. [])
 
+-- so each course goes that doesn't stop
 abbrev pub SharesGoAlike : Type 0
 SharesGoAlike = (stops : Stops) (p : Input) (block : Block) (c : Context) →
     is_stopped (exec stops p block c) ≡ false → GoesAlike stops p block c
@@ -70,6 +74,7 @@ pub record StepsAlike (stops : Stops) (f : Function) (s : State) (packet : Packe
   pub told : recorded_by stops f s packet choices ≡ recorded f s packet choices
   pub path : taken_by stops f s packet choices ≡ path_taken f s packet choices
 
+-- so each step of a share is
 abbrev pub SharesStepAlike : Type 0
 SharesStepAlike =
     (stops : Stops) (f : Function) (s : State) (packet : Packet) (choices : List ℕ)
@@ -93,6 +98,7 @@ pub record StopsAtNew (share : Share) (p : Input) (block : Block) (chain : ℕ)
   pub unbound : IsBound p context creation → ⊥
   pub none_vacant : (i : ℕ) → owns share i ≡ true → IsVacant (slots_for context creation) i → ⊥
 
+-- so each share stops
 abbrev pub SharesStopAtNews : Type 0
 SharesStopAtNews =
     (share : Share) (p : Input) (block : Block) (c : Context) (chain : ℕ) (left : List ℕ) →

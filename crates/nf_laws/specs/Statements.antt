@@ -22,6 +22,7 @@ pub record IsCounted (s : Statement) : Type 0 where
   pub new_ : (is_new s ≡ true) ↔ IsNew s
   pub lookup : (is_lookup s ≡ true) ↔ LooksUp s
 
+-- so each statement counts
 abbrev pub StatementsAreCounted : Type 0
 StatementsAreCounted = (s : Statement) → IsCounted s
 
@@ -30,5 +31,6 @@ pub record HasObject (f : Function) (k : ℕ) : Type 0 where
   pub chain : Contains f.objects (object.Chain k) ↔ (k < length f.chains)
   pub array : Contains f.objects (object.Array k) ↔ (k < length f.arrays)
 
+-- so they are, where the function lists its objects
 abbrev pub ObjectsAreListed : Type 0
 ObjectsAreListed = (f : Function) (k : ℕ) → ListsObjects f → HasObject f k

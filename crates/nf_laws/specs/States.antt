@@ -45,10 +45,11 @@ pub record HasShape (f : Function) (s : State) : Type 0 where
       slice_get f.arrays k ≡ Some decl → slice_get s.arrays k ≡ Some cells →
       length cells ≡ length decl.cells
 
--- the state before the first packet is sound and has its shape
+-- the state before the first packet is sound
 abbrev pub OpeningsAreSound : Type 0
 OpeningsAreSound = (f : Function) → IsSound f (opening f)
 
+-- and it has the function's shape
 abbrev pub OpeningsHaveTheirShape : Type 0
 OpeningsHaveTheirShape = (f : Function) → HasShape f (opening f)
 

@@ -98,20 +98,23 @@ pub data Tells (stops : Stops) (p : Input) (c : Context) : Statement → Event �
       Tells stops p c (Makes n)
       (AskedNew n.place n.chain (map (given p c) n.labels) (new_result stops p c n))
 
--- each of it stands in the record, whatever follows
+-- what an operation does stands in the record, whatever follows
 abbrev pub OperationsAreTold : Type 0
 OperationsAreTold = (p : Input) (c : Context) (op : Operation) (rest : List Event) (e : Event) →
     DoesThen p c op e → Contains (did p c op rest) e
 
+-- what a question does is told
 abbrev pub QuestionsAreTold : Type 0
 QuestionsAreTold = (p : Input) (c : Context) (q : Question) (rest : List Event) (e : Event) →
     AsksThen p c q e → Contains (asked p c q rest) e
 
+-- what a `new` does is told
 abbrev pub NewsAreTold : Type 0
 NewsAreTold =
     (stops : Stops) (p : Input) (c : Context) (n : Creation) (rest : List Event) (e : Event) →
     Tells stops p c (Makes n) e → Contains (asked_new stops p c n rest) e
 
+-- what the end of a block reads is told
 abbrev pub EndsAreTold : Type 0
 EndsAreTold =
     (stops : Stops) (p : Input) (c : Context) (port : Expression) (k : Context → List Event)

@@ -152,6 +152,7 @@ pub record AShareStops (share : Share) : Type 0 where
   pub undivided : sent_by (step (tickets 4) two_out (packet_at 0 3 3 (Some (asking 9 9))) (0 ∷ []))
       ≡ Some (To 2)
 
+-- so queue 1 of 2 does
 abbrev pub QueueOneStops : Type 0
 QueueOneStops = (share : Share) → share.queue ≡ 1 → share.of ≡ 2 → AShareStops share
 
@@ -160,9 +161,11 @@ QueueOneStops = (share : Share) → share.queue ≡ 1 → share.of ≡ 2 → ASh
 abbrev pub both_queues : List Handling
 both_queues = give 1 2 2 (0 ∷ []) ∷ give 2 3 3 (1 ∷ []) ∷ give 3 2 4 [] ∷ give 4 5 5 (3 ∷ []) ∷ []
 
+-- those of queue 0
 abbrev pub queue_zero : List Handling
 queue_zero = give 1 2 2 (0 ∷ []) ∷ give 3 2 4 [] ∷ []
 
+-- those of queue 1
 abbrev pub queue_one : List Handling
 queue_one = give 2 3 3 (1 ∷ []) ∷ give 4 5 5 (3 ∷ []) ∷ []
 

@@ -45,6 +45,7 @@ pub record IsNarrowed (w : Width) (v : ℕ) : Type 0 where
   pub fits : v < 2 ^ bits w → narrowed w v ≡ v
   pub round : narrowed w (v + 2 ^ bits w) ≡ narrowed w v
 
+-- so each value is taken to each width
 abbrev pub ValuesAreNarrowed : Type 0
 ValuesAreNarrowed = (w : Width) (v : ℕ) → IsNarrowed w v
 
@@ -74,6 +75,7 @@ pub record ComesTo (a b : ℕ) : Type 0 where
   pub divides : Divides a b
   pub common : HasCommonBits a b
 
+-- so any two values come to one
 abbrev pub OperatorsCompute : Type 0
 OperatorsCompute = (a b : ℕ) → ComesTo a b
 
@@ -91,6 +93,7 @@ pub record Compares (a b : ℕ) : Type 0 where
   pub greater : (compares Greater a b ≡ true) ↔ (b < a)
   pub at_least : (compares GreaterOrEqual a b ≡ true) ↔ (b ≤ a)
 
+-- so any two values compare
 abbrev pub ComparisonsCompare : Type 0
 ComparisonsCompare = (a b : ℕ) → Compares a b
 
@@ -103,6 +106,7 @@ pub record ReadsEntry (p : Input) (c : Context) (var : ℕ) (at : EntryRef)
   pub column : (column v : ℕ) → slice_get entry.columns column ≡ Some v →
       value p c (Column var column) ≡ v
 
+-- so each variable of a live entry reads
 abbrev pub VariablesRead : Type 0
 VariablesRead = (p : Input) (c : Context) (var : ℕ) (at : EntryRef) (entry : Entry) →
     Names c var at → StandsAt c.state at entry → ReadsEntry p c var at entry
@@ -113,6 +117,7 @@ pub record ReadsNothing (p : Input) (c : Context) (var : ℕ) : Type 0 where
   pub label : (label : ℕ) → value p c (Label var label) ≡ 0
   pub column : (column : ℕ) → value p c (Column var column) ≡ 0
 
+-- so each variable of a freed entry reads
 abbrev pub FreedVariablesReadNothing : Type 0
 FreedVariablesReadNothing = (p : Input) (c : Context) (var : ℕ) →
     var_at c.vars var ≡ None → ReadsNothing p c var
@@ -123,6 +128,7 @@ pub record ReadsCell (p : Input) (c : Context) (place array : ℕ) (at : Express
   pub past : slice_get (array_at c.state.arrays array) (narrowed W16 (value p c at)) ≡ None →
       value p c (Cell place array at) ≡ 0
 
+-- so each cell reads
 abbrev pub CellsRead : Type 0
 CellsRead = (p : Input) (c : Context) (place array : ℕ) (at : Expression) →
     ReadsCell p c place array at
@@ -137,5 +143,6 @@ pub record ReadsRest (p : Input) (c : Context) : Type 0 where
       value p c (Both operator a b) ≡ result_of operator (value p c a) (value p c b)
   pub given_ : (g : Given) → given p c g ≡ narrowed g.width (value p c g.value)
 
+-- so all other expressions read
 abbrev pub ExpressionsRead : Type 0
 ExpressionsRead = (p : Input) (c : Context) → ReadsRest p c
