@@ -1,5 +1,5 @@
 -- A share's course is the undivided one, up to where it stops.
-use Rattle.std.proofs.Common.{◌≡◌, ℕ, Bool, true, false, List, [], ◌∷◌, map, Option, Some, None, if◌then◌else◌, refl, ap, sym, ◌∙◌, ◌⊎◌, inl, inr}
+use Rattle.std.proofs.Common.{◌≡◌, ℕ, Bool, true, false, List, map, Option, Some, None, if◌then◌else◌, refl, ap, ◌∙◌, ◌⊎◌, inl, inr}
 use Rattle.nf_base.specs.Text.{Block, End, Do, Ask, Make}
 use Rattle.nf_base.specs.Chains.{chain_at, is_taken, is_full, maps_of}
 use Rattle.nf_base.specs.Context.{Context, Input, given}

@@ -1,5 +1,5 @@
 -- Where a share doesn't stop, its record and its path are the undivided ones.
-use Rattle.std.proofs.Common.{◌≡◌, ℕ, Bool, true, false, nat_lt, List, [], ◌∷◌, map, Option, Some, None, slice_get, if◌then◌else◌, refl, ap, ap₂, sym, ◌∙◌, subst, ◌⊎◌, inl, inr, ◌≤◌, ◌&&◌, ◌<◌, arith}
+use Rattle.std.proofs.Common.{◌≡◌, ℕ, Bool, true, false, nat_lt, List, [], ◌∷◌, map, Option, Some, None, slice_get, refl, ap, ap₂, sym, ◌∙◌, subst, ◌⊎◌, inl, inr, ◌≤◌, ◌&&◌, ◌<◌, arith}
 use Rattle.std.proofs.lemmas.Bool.{ltb-true}
 use Rattle.nf_base.specs.declared.packet.Packet.{Packet}
 use Rattle.nf_base.specs.declared.packet.Fields.{Fields}
@@ -10,12 +10,12 @@ use Rattle.nf_base.specs.Text.{FallsOff, Flood, Discard, Forward, Creation, Bloc
 use Rattle.nf_base.specs.Chains.{chain_at, is_taken, is_full, maps_of}
 use Rattle.nf_base.specs.Context.{Context, Input, given}
 use Rattle.nf_base.specs.Operations.{Stops, never, NewResult, Made, Taken, Full, Illegal, Stopped, new_result, chosen, with_new, answer, after}
-use Rattle.nf_base.specs.Events.{Event, AskedNew, reads_all, did, asked, asked_new}
+use Rattle.nf_base.specs.Events.{Event, AskedNew, reads_all, did, asked}
 use Rattle.nf_base.specs.Paths.{PathStep, Doing, Asking, Making}
 use Rattle.nf_base.specs.Course.{Completion, Normal, Ended, NoStep, StoppedAt, and_then, if_hit, if_new, answer_branch, new_branch, exec, events, route}
-use Rattle.nf_base.specs.Step.{StepResult, step_result, input, start_context, completes, records, routes, step_of, record_of, route_of}
+use Rattle.nf_base.specs.Step.{StepResult, step_result, input, start_context, completes, step_of, record_of, route_of}
 use Rattle.nf_base.specs.Shares.{owns, none_vacant, share_stops}
-use Rattle.nf_laws.specs.Shares.{is_stopped, GoesAlike, SharesGoAlike, StepsAlike, SharesStepAlike, WholeSharesNeverStop}
+use Rattle.nf_laws.specs.Shares.{is_stopped, SharesGoAlike, SharesStepAlike, WholeSharesNeverStop}
 use Rattle.nf_laws.proofs.Consumed.{then_then}
 use Rattle.nf_laws.proofs.Legal.{then_normal}
 use Rattle.nf_laws.proofs.Alike.{course_alike, tests_alike}

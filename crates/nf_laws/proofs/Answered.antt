@@ -1,12 +1,12 @@
 -- What a `new` comes to.
-use Rattle.std.proofs.Common.{◌≡◌, ◌↔◌, ℕ, zero, suc, Bool, true, false, ◌||◌, List, [], ◌∷◌, map, Option, Some, None, slice_get, if◌then◌else◌, refl, ap, sym, ◌∙◌, subst, ◌⊎◌, inl, inr}
+use Rattle.std.proofs.Common.{◌≡◌, ℕ, zero, suc, Bool, true, false, ◌||◌, List, [], ◌∷◌, map, Option, Some, None, slice_get, if◌then◌else◌, refl, ap, sym, ◌∙◌, subst, ◌⊎◌, inl, inr}
 use Rattle.std.proofs.lemmas.Option.{same_Some}
 use Rattle.nf_base.specs.declared.state.Entry.{Entry}
 use Rattle.nf_base.specs.declared.decl.MapDecl.{MapDecl}
 use Rattle.nf_base.specs.Text.{Creation}
 use Rattle.nf_base.specs.Chains.{chain_at, maps_of, key_in, found, is_found, is_taken, is_full, is_vacant}
 use Rattle.nf_base.specs.Context.{Context, Input, given}
-use Rattle.nf_base.specs.Operations.{Stops, NewResult, Made, Taken, Full, Illegal, Stopped, chosen, new_result}
+use Rattle.nf_base.specs.Operations.{Stops, Made, Taken, Full, Illegal, Stopped, chosen, new_result}
 use Rattle.nf_laws.specs.Entries.{IsVacant, HasKeyAt}
 use Rattle.nf_laws.specs.Creations.{slots_for, IsBound, MayMake, HasVacant, IsNextChoice, AnswersNew, NewsAreAnswered}
 use Rattle.nf_laws.proofs.Found.{is_first, none_has}

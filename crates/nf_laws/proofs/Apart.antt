@@ -1,10 +1,10 @@
 -- The entries at the indices of a chain have different numbers.
-use Rattle.std.proofs.Common.{◌≡◌, ◌≢◌, ◌<◌, ℕ, suc, Bool, true, false, ◌==◌, ◌&&◌, List, [], ◌∷◌, Contains, Option, Some, None, if◌then◌else◌, refl, ap, sym, ◌∙◌, subst, arith, ◌⊎◌, inl, inr, eqb-true}
+use Rattle.std.proofs.Common.{◌≡◌, ◌≢◌, ◌<◌, ℕ, suc, Bool, true, false, ◌==◌, ◌&&◌, List, [], ◌∷◌, Option, Some, None, if◌then◌else◌, refl, ap, sym, ◌∙◌, arith, ◌⊎◌, inl, inr, eqb-true}
 use Rattle.std.proofs.lemmas.Bool.{cases_Bool}
 use Rattle.nf_base.specs.Events.{Event}
 use Rattle.nf_base.specs.Record.{NewEntry, made_of}
 use Rattle.nf_base.specs.Locations.{Numbers, no_numbers, one_more, after_made, numbers_after, all_numbers}
-use Rattle.nf_laws.specs.Numbering.{is_at, WasMade, AreApart, EntriesAreApart}
+use Rattle.nf_laws.specs.Numbering.{is_at, WasMade, EntriesAreApart}
 use Rattle.nf_laws.proofs.Listed.{has, has_none}
 
 -- at indices that something holds of

@@ -1,17 +1,15 @@
 -- What a question hits, and what its variable is bound to.
-use Rattle.std.proofs.Common.{◌≡◌, ◌<◌, ◌≤◌, ◌↔◌, ℕ, zero, suc, Bool, true, false, ◌==◌, ◌&&◌, List, [], ◌∷◌, ◌++◌, length, take, map, All, Option, Some, None, slice_get, slice_index_or, if◌then◌else◌, refl, ap, sym, ◌∙◌, subst, arith, eqb-true, eq-eqb}
+use Rattle.std.proofs.Common.{◌≡◌, ◌<◌, ◌≤◌, ℕ, zero, suc, Bool, true, false, ◌&&◌, List, [], ◌∷◌, ◌++◌, length, take, map, All, Option, Some, None, slice_get, slice_index_or, if◌then◌else◌, refl, ap, sym, ◌∙◌, arith, eqb-true, eq-eqb}
 use Rattle.std.specs.Option.{option_map, option_and_then}
 use Rattle.std.proofs.lemmas.Option.{same_Some}
 use Rattle.std.proofs.lemmas.Bool.{and_parts}
 use Rattle.nf_base.specs.declared.decl.MapDecl.{MapDecl}
 use Rattle.nf_base.specs.declared.state.Entry.{Entry}
-use Rattle.nf_base.specs.declared.expr.Comparison.{Comparison}
 use Rattle.nf_base.specs.Values.{compares}
-use Rattle.nf_base.specs.Text.{Expression, Given, Guard, Get, Find, Test}
+use Rattle.nf_base.specs.Text.{Expression, Given, Guard, Get, Find}
 use Rattle.nf_base.specs.Chains.{chain_at, maps_of, found, joined, entry_at}
-use Rattle.nf_base.specs.Context.{Context, Input, EntryRef, Var, value, given, var_at, is_given, has_labels}
+use Rattle.nf_base.specs.Context.{Context, Input, value, given, is_given, has_labels}
 use Rattle.nf_base.specs.Operations.{bound, key_found, index_if, index_found, answer}
-use Rattle.nf_laws.specs.Entries.{IsLive, IsFirstWith}
 use Rattle.nf_laws.specs.Lookups.{GetHits, GetsHitKeys, HasLabel, FindHits, FindsHitEntries, TestsCompare, HitsBindTheirVariable}
 use Rattle.nf_laws.proofs.Found.{is_first, first_is}
 

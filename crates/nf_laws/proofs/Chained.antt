@@ -1,11 +1,11 @@
 -- A fact of each chain, and what keeps it.
-use Rattle.std.proofs.Common.{◌≡◌, ◌≢◌, ℕ, zero, suc, List, [], ◌∷◌, get_or, Option, Some, None, slice_get, slice_set, refl, ap, sym, ◌∙◌, subst, ◌⊎◌, inl, inr}
+use Rattle.std.proofs.Common.{◌≡◌, ℕ, zero, suc, List, [], ◌∷◌, Some, None, slice_get, slice_set, refl, ap, sym, subst, inl, inr}
 use Rattle.std.proofs.lemmas.Option.{same_Some}
 use Rattle.nf_base.specs.declared.state.Chain.{Chain}
 use Rattle.nf_base.specs.Text.{Operation, Touch, Free, Set, Write, Store, Creation}
 use Rattle.nf_base.specs.Statements.{Statement, Makes}
 use Rattle.nf_base.specs.Chains.{no_chain, chain_at, unexpired, expired, stamped, touched, freed, written}
-use Rattle.nf_base.specs.Context.{Context, Input, Var, EntryRef, var_at, given}
+use Rattle.nf_base.specs.Context.{Context, Input, Var, var_at, given}
 use Rattle.nf_base.specs.Operations.{Stops, Made, new_result, new_entry, with_new, on_var, after}
 use Rattle.nf_base.proofs.Mixes.{got_set}
 use Rattle.nf_laws.proofs.Indexed.{was_there}

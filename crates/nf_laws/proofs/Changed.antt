@@ -1,20 +1,20 @@
 -- What is told as a change changed the state.
-use Rattle.std.proofs.Common.{◌≡◌, ◌≢◌, ℕ, zero, suc, Bool, true, false, not, ◌==◌, ◌&&◌, List, [], ◌∷◌, get_or, Option, Some, None, slice_get, slice_set, if◌then◌else◌, refl, ap, sym, ◌∙◌, subst, eq-eqb}
+use Rattle.std.proofs.Common.{◌≡◌, ◌≢◌, ℕ, zero, suc, true, false, not, ◌==◌, ◌&&◌, List, [], ◌∷◌, Option, Some, None, slice_get, slice_set, refl, ap, sym, ◌∙◌, eq-eqb}
 use Rattle.std.proofs.lemmas.Option.{same_Some}
 use Rattle.nf_base.specs.declared.width.Width.TheVariants.{W16}
 use Rattle.nf_base.specs.declared.state.Entry.{Entry}
 use Rattle.nf_base.specs.declared.state.Chain.{Chain}
 use Rattle.nf_base.specs.declared.state.State.{State}
-use Rattle.nf_base.specs.Text.{Expression, Operation, Touch, Free, Set, Write, Store, Creation}
+use Rattle.nf_base.specs.Text.{Expression, Set, Write, Store}
 use Rattle.nf_base.specs.Values.{narrowed}
-use Rattle.nf_base.specs.Chains.{no_chain, chain_at, array_at, joined, entry_at, next_stamp, on_live, stamped, touched, freed, with_column, written}
+use Rattle.nf_base.specs.Chains.{no_chain, chain_at, array_at, entry_at, next_stamp, stamped, touched, freed, written}
 use Rattle.nf_base.specs.Context.{Context, Input, EntryRef, Var, var_at, entry_in, value, given}
-use Rattle.nf_base.specs.Operations.{Stops, Made, new_result, new_entry, with_new, on_var, after}
-use Rattle.nf_base.specs.Events.{Event, restamps, restamps_at, differs, rewrites}
+use Rattle.nf_base.specs.Operations.{new_entry, on_var, after}
+use Rattle.nf_base.specs.Events.{Event, restamps, differs, rewrites}
 use Rattle.nf_base.specs.Record.{changes}
 use Rattle.nf_laws.specs.Entries.{IsLive, IsVacant}
-use Rattle.nf_laws.specs.Telling.{Reads, by_index, by_label, by_column, by_cell, in_index, in_left, in_right, DoesThen, touches, frees_it, set_reads, write_reads, writes_it, store_index, store_reads, stores_it}
-use Rattle.nf_laws.specs.Quiet.{FreesLive, OperationsChange, NewsChange}
+use Rattle.nf_laws.specs.Telling.{Reads, by_index, by_label, by_column, by_cell, in_index, in_left, in_right, touches, frees_it, set_reads, write_reads, writes_it, store_index, store_reads, stores_it}
+use Rattle.nf_laws.specs.Quiet.{OperationsChange, NewsChange}
 use Rattle.nf_laws.proofs.Indexed.{set_here, get_set}
 use Rattle.nf_laws.proofs.Answered.{news_answer}
 use Rattle.nf_laws.proofs.Sound.{slot_of}

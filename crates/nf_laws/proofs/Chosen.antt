@@ -1,19 +1,18 @@
 -- At every state some choices are legal: a free index at each `new` that is to make an entry.
-use Rattle.std.proofs.Common.{◌≡◌, ℕ, zero, suc, Bool, true, false, ◌&&◌, List, [], ◌∷◌, drop, map, Option, Some, None, slice_get, slice_set, if◌then◌else◌, refl, ap, ap₂, sym, ◌∙◌, subst}
-use Rattle.std.specs.Option.{option_map, option_and_then}
+use Rattle.std.proofs.Common.{◌≡◌, ℕ, suc, Bool, true, false, ◌&&◌, List, [], ◌∷◌, map, Option, Some, None, slice_get, slice_set, if◌then◌else◌, refl, ap, ap₂, sym, ◌∙◌}
+use Rattle.std.specs.Option.{option_map}
 use Rattle.nf_base.specs.declared.state.Entry.{Entry}
-use Rattle.nf_base.specs.declared.state.Chain.{Chain}
 use Rattle.nf_base.specs.declared.state.State.{State}
 use Rattle.nf_base.specs.declared.packet.Packet.{Packet}
 use Rattle.nf_base.specs.declared.packet.Fields.{Fields}
 use Rattle.nf_base.specs.declared.width.Width.TheVariants.{W16}
-use Rattle.nf_base.specs.Text.{Expression, Number, Read, Index, Label, Column, Cell, Both, Given, Guard, Ending, FallsOff, Forward, Flood, Discard, Operation, Touch, Free, Set, Write, Store, Question, Get, Find, Test, Creation, Block, End, Do, Ask, Make, Function}
+use Rattle.nf_base.specs.Text.{Expression, Number, Read, Index, Label, Column, Cell, Both, Given, Guard, FallsOff, Forward, Flood, Discard, Operation, Touch, Free, Set, Write, Store, Question, Get, Find, Test, Creation, Block, End, Do, Ask, Make, Function}
 use Rattle.nf_base.specs.Values.{narrowed, compares, result_of}
 use Rattle.nf_base.specs.Chains.{chain_at, array_at, maps_of, is_taken, is_full, is_vacant, entry_at, written, zeros_of, fresh, stamped}
 use Rattle.nf_base.specs.Context.{Context, Input, var_at, or_zero, value, given, is_given, has_labels}
-use Rattle.nf_base.specs.Operations.{Stops, never, NewResult, Made, Taken, Full, Illegal, Stopped, new_result, chosen, with_new, bound, answer, after, key_found, index_found, index_if, edited, with_chains, on_var}
-use Rattle.nf_base.specs.Course.{Completion, Normal, Ended, NoStep, StoppedAt, and_then, if_hit, if_new, exec}
-use Rattle.nf_base.specs.Step.{StepResult, step_result, step_of, input, start_context, completes}
+use Rattle.nf_base.specs.Operations.{never, NewResult, Taken, Full, new_result, chosen, with_new, bound, answer, after, key_found, index_found, index_if, edited, with_chains, on_var}
+use Rattle.nf_base.specs.Course.{Completion, Normal, NoStep, StoppedAt, and_then, if_hit, if_new, exec}
+use Rattle.nf_base.specs.Step.{StepResult, step_of, input, start_context, completes}
 use Rattle.nf_laws.specs.Steps.{HasHandler, skips, handles, SomeChoicesAreLegal}
 use Rattle.nf_laws.proofs.Consumed.{left_of, then_then}
 use Rattle.nf_laws.proofs.Legal.{block_at, settles_back, then_normal}

@@ -1,18 +1,16 @@
 -- The choices that a course takes are those of its record.
-use Rattle.std.proofs.Common.{◌≡◌, ℕ, suc, zero, Bool, true, false, ◌==◌, List, [], ◌∷◌, drop, map, Option, Some, None, slice_get, if◌then◌else◌, refl, ap, sym, ◌∙◌, subst, arith, eq-eqb}
+use Rattle.std.proofs.Common.{◌≡◌, ℕ, Bool, true, false, ◌==◌, List, [], ◌∷◌, drop, map, Option, Some, None, slice_get, if◌then◌else◌, refl, ap, sym, ◌∙◌, subst, eq-eqb}
 use Rattle.std.specs.Option.{option_map, option_and_then}
 use Rattle.std.proofs.lemmas.Option.{same_Some}
 use Rattle.nf_base.specs.declared.state.Entry.{Entry}
-use Rattle.nf_base.specs.declared.state.Chain.{Chain}
-use Rattle.nf_base.specs.declared.width.Width.TheVariants.{W16}
-use Rattle.nf_base.specs.Text.{Expression, Number, Read, Index, Label, Column, Cell, Both, Given, Guard, Ending, FallsOff, Forward, Flood, Discard, Operation, Touch, Free, Set, Write, Store, Question, Get, Find, Test, Creation, Block, End, Do, Ask, Make}
-use Rattle.nf_base.specs.Values.{narrowed, compares}
-use Rattle.nf_base.specs.Chains.{is_vacant, chain_at, array_at, is_taken, is_full, maps_of}
-use Rattle.nf_base.specs.Context.{Context, Var, Input, value, given, var_at, entry_in}
+use Rattle.nf_base.specs.Text.{FallsOff, Forward, Flood, Discard, Operation, Touch, Free, Set, Write, Store, Question, Get, Find, Test, Creation, Block, End, Do, Ask, Make}
+use Rattle.nf_base.specs.Values.{compares}
+use Rattle.nf_base.specs.Chains.{is_vacant, chain_at, is_taken, is_full, maps_of}
+use Rattle.nf_base.specs.Context.{Context, Input, value, given}
 use Rattle.nf_base.specs.Operations.{Stops, NewResult, Made, Taken, Full, Illegal, Stopped, new_result, chosen, with_new, answer, after, bound, key_found, index_found}
-use Rattle.nf_base.specs.Events.{Event, Tested, LookedUp, Found, AskedNew, EntryUsed, EntryFreed, CellRead, CellWritten, used, frees, loads, stores, reads, reads_all, reads_guards, restamps_at, rewrites, did, asked, asked_new, ended_by}
+use Rattle.nf_base.specs.Events.{Event, AskedNew}
 use Rattle.nf_laws.proofs.Plain.{IsPlain, plain_reads, plain_all, plain_did, plain_asked, question_event}
-use Rattle.nf_base.specs.Course.{Completion, Normal, Ended, NoStep, StoppedAt, and_then, ended, if_hit, if_new, exec, events}
+use Rattle.nf_base.specs.Course.{Completion, Normal, Ended, NoStep, StoppedAt, and_then, if_hit, if_new, exec, events}
 
 -- the choices that are left over after those of a record; none where it takes another than the next one, or an illegal one
 abbrev pub taken : ℕ → List ℕ → Option (List ℕ)

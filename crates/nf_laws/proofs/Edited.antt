@@ -1,5 +1,5 @@
 -- What a store, an edit and an end do, and what is declared.
-use Rattle.std.proofs.Common.{◌≡◌, ◌≢◌, ◌<◌, ◌≤◌, ℕ, zero, suc, Bool, true, false, nat_lt, List, [], ◌∷◌, length, map, Option, Some, None, slice_get, slice_set, if◌then◌else◌, refl, ap, sym, ◌∙◌, subst, arith}
+use Rattle.std.proofs.Common.{◌≡◌, ◌≢◌, ◌<◌, ◌≤◌, ℕ, zero, suc, Bool, true, false, nat_lt, List, [], ◌∷◌, length, map, Option, Some, None, slice_get, slice_set, if◌then◌else◌, refl, ap, ◌∙◌, arith}
 use Rattle.std.proofs.lemmas.Option.{same_Some}
 use Rattle.std.proofs.lemmas.Bool.{ltb-true, ltb-false}
 use Rattle.nf_base.specs.declared.decl.ChainDecl.{ChainDecl}
@@ -8,15 +8,13 @@ use Rattle.nf_base.specs.declared.packet.Field.TheVariants.{Time, Length, SrcMac
 use Rattle.nf_base.specs.declared.width.Width.TheVariants.{W16}
 use Rattle.nf_base.specs.declared.done.Action.TheVariants.{Drop, To}
 use Rattle.nf_base.specs.declared.done.Edits.{Edits}
-use Rattle.nf_base.specs.declared.state.Chain.{Chain}
 use Rattle.nf_base.specs.Values.{narrowed, is_settable}
-use Rattle.nf_base.specs.Text.{Expression, Given}
 use Rattle.nf_base.specs.Chains.{no_chain, array_at}
-use Rattle.nf_base.specs.Context.{Context, Input, value, given}
-use Rattle.nf_base.specs.Operations.{Stops, stored, edited}
-use Rattle.nf_base.specs.Course.{Completion, Ended, sent}
+use Rattle.nf_base.specs.Context.{Context, value, given}
+use Rattle.nf_base.specs.Operations.{stored, edited}
+use Rattle.nf_base.specs.Course.{Ended, sent}
 use Rattle.nf_base.specs.Step.{if_none_left}
-use Rattle.nf_laws.specs.Effects.{Stores, StoresGiveCells, edit_of, Sets, SetsEdit, DeclarationsAreFound, ChainsAreFound, ArraysAreFound, BlocksEndSo, FallingOffDrops}
+use Rattle.nf_laws.specs.Effects.{Stores, StoresGiveCells, edit_of, SetsEdit, DeclarationsAreFound, ChainsAreFound, ArraysAreFound, BlocksEndSo, FallingOffDrops}
 use Rattle.nf_laws.proofs.Indexed.{set_length, set_here, set_other, set_past, get_set, get_other, get_there, get_past}
 
 -- a stored cell

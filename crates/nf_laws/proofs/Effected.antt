@@ -1,17 +1,15 @@
 -- What operations at an entry and a `new` do, and what they leave.
-use Rattle.std.proofs.Common.{◌≡◌, ◌≢◌, ◌<◌, ◌≤◌, ℕ, zero, suc, max, Bool, true, false, ◌==◌, ◌&&◌, List, [], ◌∷◌, ◌++◌, length, take, drop, map, get_or, Option, Some, None, slice_get, slice_set, if◌then◌else◌, refl, ap, ap₂, sym, ◌∙◌, subst, eqb-true, eq-eqb, inl, inr}
+use Rattle.std.proofs.Common.{◌≡◌, ◌≢◌, ◌≤◌, ℕ, zero, suc, Bool, true, false, ◌==◌, ◌&&◌, List, [], ◌∷◌, length, drop, map, Option, Some, None, slice_get, slice_set, if◌then◌else◌, refl, ap, ap₂, sym, ◌∙◌, subst, eqb-true, eq-eqb}
 use Rattle.std.proofs.lemmas.Option.{same_Some}
-use Rattle.std.proofs.lemmas.Bool.{cases_Bool, and_parts}
+use Rattle.std.proofs.lemmas.Bool.{and_parts}
 use Rattle.nf_base.specs.declared.state.Entry.{Entry}
 use Rattle.nf_base.specs.declared.state.Chain.{Chain}
 use Rattle.nf_base.specs.declared.state.State.{State}
-use Rattle.nf_base.specs.Text.{Given, Touch, Free, Write, Creation}
-use Rattle.nf_base.specs.Chains.{no_chain, chain_at, joined, entry_at, next_stamp, on_live, stamped, touched, freed, with_column, written, zeros_of}
+use Rattle.nf_base.specs.Chains.{no_chain, chain_at, joined, entry_at, next_stamp, on_live, stamped, touched, freed, with_column, written}
 use Rattle.nf_base.specs.Context.{Context, Input, EntryRef, Var, var_at, given}
-use Rattle.nf_base.specs.Operations.{Stops, Made, new_result, new_entry, with_new, with_chains, bound, on_var, unless_at, without, after}
-use Rattle.nf_laws.specs.Entries.{IsLive, IsVacant}
-use Rattle.nf_laws.specs.Telling.{Names}
-use Rattle.nf_laws.specs.Effects.{StandsAt, KeepsOthers, KeepsRest, greatest_at, Restamps, TouchesRestamp, Rewrites, WritesRewrite, Frees, FreesVacate, DoNothing, FreedVariablesDoNothing, Makes, NewsMakeEntries}
+use Rattle.nf_base.specs.Operations.{new_entry, with_chains, on_var, unless_at, without}
+use Rattle.nf_laws.specs.Entries.{IsLive}
+use Rattle.nf_laws.specs.Effects.{StandsAt, KeepsOthers, Restamps, TouchesRestamp, Rewrites, WritesRewrite, Frees, FreesVacate, FreedVariablesDoNothing, NewsPutEntries}
 use Rattle.nf_laws.proofs.Indexed.{set_length, set_here, set_other, get_set, get_other}
 use Rattle.nf_laws.proofs.Changed.{chain_there, slot_there}
 use Rattle.nf_laws.proofs.Asked.{hits_bind}
@@ -158,7 +156,7 @@ freed_do_nothing p c var q = record {
 drop_next : (left : List ℕ) (i : ℕ) (rest : List ℕ) → left ≡ i ∷ rest → left ≡ i ∷ drop 1 left
 drop_next left i rest e = e ∙ ap (λ xs. i ∷ xs) (sym (ap (drop 1) e))
 
-pub news_make_entries : NewsMakeEntries
+pub news_make_entries : NewsPutEntries
 news_make_entries stops p c n i e =
     let at : EntryRef = record { chain = n.chain; index = i } in
     let chain = chain_at c.state.chains n.chain in

@@ -1,14 +1,13 @@
 -- Entries that have a key, and the search for them.
-use Rattle.std.proofs.Common.{◌≡◌, ◌≢◌, ◌<◌, ◌↔◌, ℕ, zero, suc, Bool, true, false, List, [], ◌∷◌, Option, Some, None, slice_get, if◌then◌else◌, refl, ap, sym, ◌∙◌, subst, arith, bytes_eq, inl, inr}
+use Rattle.std.proofs.Common.{◌≡◌, ◌≢◌, ◌<◌, ℕ, zero, suc, Bool, true, false, List, [], ◌∷◌, Option, Some, None, if◌then◌else◌, refl, ap, sym, ◌∙◌, subst, arith}
 use Rattle.std.specs.Option.{option_map}
 use Rattle.std.proofs.lemmas.Option.{same_Some}
-use Rattle.std.proofs.lemmas.Bool.{cases_Bool}
 use Rattle.std.proofs.lemmas.Slice.Eq.{bytes_eq-Decides}
 use Rattle.nf_base.specs.declared.state.Entry.{Entry}
 use Rattle.nf_base.specs.declared.decl.MapDecl.{MapDecl}
-use Rattle.nf_base.specs.Chains.{key_in, same_key, has_key, found}
+use Rattle.nf_base.specs.Chains.{key_in, has_key, found}
 use Rattle.nf_laws.specs.Entries.{IsLive, HasKeyAt, IsFirstWith}
-use Rattle.nf_laws.specs.Lookups.{FindsFirst, SearchesFindTheFirst}
+use Rattle.nf_laws.specs.Lookups.{SearchesFindTheFirst}
 
 later : (m : MapDecl) (key : List ℕ) (s : Option Entry) (slots : List (Option Entry)) (i : ℕ) → HasKeyAt m key slots i → HasKeyAt m key (s ∷ slots) (suc i)
 later m key s slots i h = record { entry = h.entry; live = h.live; same = h.same }

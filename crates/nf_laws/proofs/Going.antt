@@ -1,13 +1,12 @@
 -- How tests of the packet alone go on a path.
-use Rattle.std.proofs.Common.{◌≡◌, ℕ, Bool, true, false, List, [], ◌∷◌, Contains, Option, Some, None, if◌then◌else◌, refl, ap, ap₂, sym, ◌∙◌, subst, inl, inr}
+use Rattle.std.proofs.Common.{◌≡◌, ℕ, true, List, [], ◌∷◌, Contains, Option, Some, None, refl, ap, ap₂, sym, ◌∙◌, subst, inl, inr}
 use Rattle.std.proofs.lemmas.Bool.{and_parts}
-use Rattle.nf_base.specs.declared.expr.Comparison.{Comparison}
-use Rattle.nf_base.specs.Text.{Expression, Number, Read, Index, Label, Column, Cell, Both, FallsOff, Flood, Discard, Forward, Question, Get, Find, Test, Creation, Block, End, Do, Ask, Make}
+use Rattle.nf_base.specs.Text.{Expression, Number, Read, Index, Label, Column, Cell, Both, FallsOff, Flood, Discard, Forward, Question, Get, Find, Test, Block, End, Do, Ask, Make}
 use Rattle.nf_base.specs.Values.{result_of, compares}
 use Rattle.nf_base.specs.Context.{Context, Input, value}
 use Rattle.nf_base.specs.Operations.{Stops, NewResult, Made, Taken, Full, Illegal, Stopped, new_result, with_new, answer, after}
-use Rattle.nf_base.specs.Paths.{PathStep, Branch, Doing, Asking, Making, Closing}
-use Rattle.nf_base.specs.Course.{if_hit, if_new, answer_branch, new_branch, route}
+use Rattle.nf_base.specs.Paths.{PathStep, Doing, Asking, Making, Closing}
+use Rattle.nf_base.specs.Course.{if_hit, if_new, answer_branch, route}
 use Rattle.nf_base.specs.Record.{test_branch}
 use Rattle.nf_laws.specs.Paths.{of_packet, TestsGoByThePacket}
 use Rattle.nf_laws.proofs.Listed.{has, has_none}

@@ -1,5 +1,5 @@
 -- A step is there exactly where its record is legal and takes each choice.
-use Rattle.std.proofs.Common.{◌≡◌, ◌<◌, ◌≤◌, length, zero, suc, ℕ, Bool, true, false, ◌==◌, List, [], ◌∷◌, ◌++◌, Option, Some, None, slice_get, if◌then◌else◌, refl, ap, sym, ◌∙◌, subst, arith, eq-eqb, eqb-true, append-nil, inl, inr}
+use Rattle.std.proofs.Common.{◌≡◌, ◌<◌, ◌≤◌, length, zero, suc, ℕ, true, ◌==◌, List, [], ◌∷◌, ◌++◌, Option, Some, None, slice_get, refl, ap, sym, ◌∙◌, subst, arith, eq-eqb, eqb-true, append-nil, inl, inr}
 use Rattle.std.specs.Option.{option_and_then}
 use Rattle.std.proofs.lemmas.Option.{same_Some}
 use Rattle.std.proofs.lemmas.Bool.{cases_Bool}
@@ -9,13 +9,13 @@ use Rattle.nf_base.specs.declared.state.State.{State}
 use Rattle.nf_base.specs.declared.done.Action.{Action}
 use Rattle.nf_base.specs.Text.{Block, Function}
 use Rattle.nf_base.specs.Context.{Context}
-use Rattle.nf_base.specs.Operations.{NewResult, Made, Taken, Full, Illegal, Stopped, never}
+use Rattle.nf_base.specs.Operations.{Made, Taken, Full, Illegal, Stopped, never}
 use Rattle.nf_base.specs.Events.{Event, AskedNew}
-use Rattle.nf_base.specs.Course.{Completion, Normal, Ended, NoStep, StoppedAt, and_then, exec, events}
+use Rattle.nf_base.specs.Course.{Completion, Normal, Ended, NoStep, StoppedAt, and_then, exec}
 use Rattle.nf_base.specs.Record.{is_legal, indices_made}
-use Rattle.nf_base.specs.Step.{StepResult, if_none_left, step_result, skipped, input, start_context, completes, records, step_of, record_of}
+use Rattle.nf_base.specs.Step.{StepResult, if_none_left, step_result, input, start_context, completes, records, step_of, record_of}
 use Rattle.nf_laws.specs.Steps.{StepsAreLegal, LegalStepsAre, IsLegalRecord, OtherPortsHaveNone, HasHandler, skips, handles}
-use Rattle.nf_laws.proofs.Consumed.{taken, after_came, unused, left_of, consumes}
+use Rattle.nf_laws.proofs.Consumed.{taken, unused, left_of, consumes}
 
 pub taken_head : (i : ℕ) (left rest : List ℕ) → taken i left ≡ Some rest → left ≡ i ∷ rest
 taken_head i [] rest e = cc

@@ -37,3 +37,10 @@ pub mod StoppedTold
 pub mod Effected
 pub mod Edited
 pub mod Flows
+pub mod Valued
+pub mod ReadValues
+pub mod Expiring
+pub mod Replied
+pub mod Counted
+pub mod PlacedApart
+pub mod Unquiet

@@ -1,14 +1,10 @@
 -- The objects of events and of records.
-use Rattle.std.proofs.Common.{◌≡◌, ◌↔◌, ℕ, Bool, true, false, List, [], ◌∷◌, Contains, Option, Some, None, if◌then◌else◌, refl, ap, sym, ◌∙◌, subst, ◌⊎◌, inl, inr}
+use Rattle.std.proofs.Common.{◌≡◌, Bool, true, false, List, [], ◌∷◌, Contains, Option, Some, None, if◌then◌else◌, refl, ap, ◌∙◌, subst, ◌⊎◌, inl, inr}
 use Rattle.std.proofs.lemmas.Option.{same_Some}
-use Rattle.std.proofs.lemmas.Bool.{cases_Bool}
 use Rattle.nf_base.specs.declared.decl.ObjectId.{ObjectId}
-use Rattle.nf_base.specs.declared.decl.ObjectId.TheVariants as object
-use Rattle.nf_base.specs.declared.decl.ChainDecl.{ChainDecl}
 use Rattle.nf_base.specs.Events.{Event, Tested, LookedUp, Found, AskedNew, EntryUsed, EntryFreed, CellRead, CellWritten}
 use Rattle.nf_base.specs.Record.{changes, touched_object, object_in_front, objects_touched, objects_changed}
-use Rattle.nf_base.specs.Locations.{Location, object_of, Numbers}
-use Rattle.nf_laws.specs.Touching.{Touches, by_get, by_new, by_making, by_hit, by_find, by_use, by_free, by_read, by_write}
+use Rattle.nf_laws.specs.Touching.{by_get, by_new, by_making, by_hit, by_find, by_use, by_free, by_read, by_write}
 use Rattle.nf_laws.specs.Objects as on
 use Rattle.nf_laws.specs.Objects.{IsOn, EventsAreOnObjects, LocationsAreOfTheirObject, EventOn, ChangeOf, ObjectsAreThoseOfEvents}
 use Rattle.nf_laws.proofs.Listed.{here, there, has, has_none}

@@ -1,9 +1,8 @@
 -- Own indices, and what one owner sees of a list.
-use Rattle.std.proofs.Common.{◌≡◌, ◌↔◌, ◌<◌, ◌≤◌, ◌%◌, ◌==◌, ℕ, zero, suc, Bool, true, false, List, [], ◌∷◌, length, Option, Some, None, slice_get, if◌then◌else◌, refl, ap, sym, ◌∙◌, subst, arith, eqb-true, eq-eqb}
+use Rattle.std.proofs.Common.{◌≡◌, ◌%◌, ℕ, zero, suc, Bool, true, false, List, [], ◌∷◌, Option, Some, None, if◌then◌else◌, refl, ap, sym, ◌∙◌, eqb-true, eq-eqb}
 use Rattle.std.proofs.Math.Nat.{mod-lt}
-use Rattle.nf_base.specs.declared.share.Share.{Share}
 use Rattle.nf_base.specs.declared.state.Entry.{Entry}
-use Rattle.nf_base.specs.Shares.{owns, none_vacant, mix}
+use Rattle.nf_base.specs.Shares.{none_vacant}
 use Rattle.nf_base.proofs.Mixes.{mix_length, get_own, get_other}
 use Rattle.nf_laws.specs.Entries.{IsVacant}
 use Rattle.nf_laws.specs.Shares.{EachIndexHasAnOwner, NoIndexHasTwo, NoneVacantIsNone, OwnersSeeEntries, OwnersSeeCells}

@@ -1,18 +1,16 @@
 -- A run parts at any packet.
-use Rattle.std.proofs.Common.{◌≡◌, ◌<◌, ℕ, zero, suc, List, [], ◌∷◌, ◌++◌, length, map, All, Option, Some, None, refl, ap, sym, ◌∙◌, subst, arith}
+use Rattle.std.proofs.Common.{◌≡◌, ℕ, suc, List, [], ◌∷◌, ◌++◌, length, Option, Some, None, refl, ap, sym, ◌∙◌, subst, arith}
 use Rattle.std.specs.Option.{option_and_then}
 use Rattle.std.proofs.lemmas.Option.{same_Some}
 use Rattle.nf_base.specs.declared.packet.Packet.{Packet}
 use Rattle.nf_base.specs.declared.state.State.{State}
 use Rattle.nf_base.specs.declared.done.Done.{Done}
 use Rattle.nf_base.specs.Text.{Function}
-use Rattle.nf_base.specs.FitsOnce.{AllFit}
 use Rattle.nf_base.specs.Operations.{Stops, never}
-use Rattle.nf_base.specs.Step.{StepResult, step_by, step}
-use Rattle.nf_base.specs.Runs.{Handling, RunResult, with_answer, run_by, run}
-use Rattle.nf_laws.specs.Steps.{HasHandler}
+use Rattle.nf_base.specs.Step.{StepResult, step_by}
+use Rattle.nf_base.specs.Runs.{Handling, RunResult, with_answer, run_by}
 use Rattle.nf_laws.specs.States.{IsSound, HasShape}
-use Rattle.nf_laws.specs.Runs.{with_answers, RunsPart, RunsAnswerEach, packets_of, RunsGoOn, RunsKeepSoundness, RunsKeepTheShape}
+use Rattle.nf_laws.specs.Runs.{with_answers, RunsPart, RunsAnswerEach, RunsGoOn, RunsKeepSoundness, RunsKeepTheShape}
 use Rattle.nf_laws.proofs.Chosen.{some_choices}
 use Rattle.nf_laws.proofs.Sound.{step_sound}
 use Rattle.nf_laws.proofs.Shaped.{step_shape}

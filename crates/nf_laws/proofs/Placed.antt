@@ -1,15 +1,14 @@
 -- The places of events are those of the text.
-use Rattle.std.proofs.Common.{◌≡◌, ◌↔◌, ℕ, List, [], ◌∷◌, ◌++◌, Contains, Option, Some, None, refl, ap, sym, ◌∙◌, subst}
-use Rattle.std.specs.List.{flat_map}
+use Rattle.std.proofs.Common.{◌≡◌, ℕ, List, [], ◌∷◌, Contains, Some, refl, subst}
 use Rattle.std.proofs.lemmas.Option.{same_Some}
 use Rattle.std.proofs.lemmas.List.Elements.{Contains-append_left, Contains-append_right}
-use Rattle.nf_base.specs.Text.{Expression, Given, Guard, Operation, Touch, Free, Set, Write, Store, Question, Get, Find, Test, Forward, Creation}
+use Rattle.nf_base.specs.Text.{Expression, Given, Guard, Operation, Set, Write, Store, Question, Get, Find, Test, Forward}
 use Rattle.nf_base.specs.Statements.{Statement, Ends, Does, Asks, Makes, statements}
 use Rattle.nf_base.specs.Context.{Context, Input}
 use Rattle.nf_base.specs.Operations.{Stops}
 use Rattle.nf_base.specs.Events.{Event, Tested, LookedUp, Found, AskedNew, EntryUsed, EntryFreed, CellRead, CellWritten}
 use Rattle.nf_base.specs.Record.{text_place}
-use Rattle.nf_base.specs.TextPlaces.{expression_places, given_places, guard_places, operation_place, operation_reads, question_own, question_reads, own_place, statement_reads, places_in}
+use Rattle.nf_base.specs.TextPlaces.{expression_places, guard_places, own_place, statement_reads, places_in}
 use Rattle.nf_laws.specs.Telling.{Reads, by_index, by_label, by_column, by_cell, in_index, in_left, in_right, DoesThen, touches, frees_it, set_reads, write_reads, writes_it, store_index, store_reads, stores_it, AsksThen, key_reads, looks_up, index_reads, guard_reads, finds, left_reads, right_reads, tests, Tells, ends, does, asks, label_reads, makes}
 use Rattle.nf_laws.specs.Places as place
 use Rattle.nf_laws.specs.Places.{StandsAt, EventsStandAtPlaces, PlacesAreOfTheText}

@@ -1,12 +1,12 @@
 -- Functions of a record that no access to an entry or a cell changes: what a statement reads and does is nothing to them.
-use Rattle.std.proofs.Common.{◌≡◌, ℕ, Bool, true, false, not, ◌==◌, List, [], ◌∷◌, map, Option, Some, None, slice_get, refl, ap, sym, ◌∙◌}
+use Rattle.std.proofs.Common.{◌≡◌, ℕ, Bool, true, false, not, ◌==◌, List, [], ◌∷◌, map, Option, Some, None, slice_get, refl, ◌∙◌}
 use Rattle.nf_base.specs.declared.width.Width.TheVariants.{W16}
-use Rattle.nf_base.specs.Text.{Expression, Number, Read, Index, Label, Column, Cell, Both, Given, Guard, Operation, Touch, Free, Set, Write, Store, Question, Get, Find, Test, Creation}
+use Rattle.nf_base.specs.Text.{Expression, Number, Read, Index, Label, Column, Cell, Both, Given, Guard, Operation, Touch, Free, Set, Write, Store, Question, Get, Find, Test}
 use Rattle.nf_base.specs.Values.{narrowed, compares}
 use Rattle.nf_base.specs.Chains.{array_at}
 use Rattle.nf_base.specs.Context.{Context, Var, Input, value, given, var_at, entry_in}
-use Rattle.nf_base.specs.Operations.{Stops, new_result, key_found, index_found}
-use Rattle.nf_base.specs.Events.{Event, Tested, LookedUp, Found, AskedNew, EntryUsed, EntryFreed, CellRead, CellWritten, used, frees, loads, stores, reads, reads_all, reads_guards, restamps_at, rewrites, did, asked, asked_new}
+use Rattle.nf_base.specs.Operations.{key_found, index_found}
+use Rattle.nf_base.specs.Events.{Event, Tested, LookedUp, Found, EntryUsed, EntryFreed, CellRead, CellWritten, used, frees, loads, stores, reads, reads_all, reads_guards, restamps_at, rewrites, did, asked}
 
 -- reads are nothing to it
 pub record SkipsReads {A : Type 0} (f : List Event → A) : Type 0 where

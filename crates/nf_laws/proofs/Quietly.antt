@@ -1,17 +1,16 @@
 -- Where no operation changed the state, the state after a block is the state before.
 use Rattle.std.proofs.Common.{◌≡◌, ℕ, zero, suc, Bool, true, false, not, ◌==◌, ◌&&◌, List, [], ◌∷◌, map, get_or, Option, Some, None, slice_get, slice_set, if◌then◌else◌, refl, ap, ap₂, sym, ◌∙◌, subst, eqb-true}
-use Rattle.std.specs.Option.{option_map}
 use Rattle.std.proofs.lemmas.Option.{same_Some}
 use Rattle.nf_base.specs.declared.state.Entry.{Entry}
 use Rattle.nf_base.specs.declared.state.Chain.{Chain}
 use Rattle.nf_base.specs.declared.state.State.{State}
 use Rattle.nf_base.specs.declared.width.Width.TheVariants.{W16}
-use Rattle.nf_base.specs.Text.{Expression, Given, Ending, FallsOff, Forward, Flood, Discard, Operation, Touch, Free, Set, Write, Store, Question, Get, Find, Test, Creation, Block, End, Do, Ask, Make}
-use Rattle.nf_base.specs.Values.{narrowed, compares}
-use Rattle.nf_base.specs.Chains.{chain_at, array_at, joined, entry_at, next_stamp, on_live, stamped, touched, with_column, written, freed}
+use Rattle.nf_base.specs.Text.{FallsOff, Forward, Flood, Discard, Operation, Touch, Free, Set, Write, Store, Question, Get, Find, Test, Block, End, Do, Ask, Make}
+use Rattle.nf_base.specs.Values.{narrowed}
+use Rattle.nf_base.specs.Chains.{chain_at, array_at, joined, entry_at, next_stamp, touched, written, freed}
 use Rattle.nf_base.specs.Context.{EntryRef, Var, Context, Input, var_at, entry_in, value, given}
-use Rattle.nf_base.specs.Operations.{Stops, NewResult, Made, Taken, Full, Illegal, Stopped, new_result, bound, with_new, on_var, answer, after, key_found, index_found}
-use Rattle.nf_base.specs.Events.{Event, AskedNew, used, frees, stores, reads, restamps, restamps_at, differs, rewrites, did, asked}
+use Rattle.nf_base.specs.Operations.{Stops, NewResult, Made, Taken, Full, Illegal, Stopped, new_result, with_new, on_var, answer, after}
+use Rattle.nf_base.specs.Events.{Event, AskedNew, used, frees, stores, restamps, restamps_at, differs, rewrites, did}
 use Rattle.nf_base.specs.Course.{Completion, Normal, Ended, NoStep, StoppedAt, and_then, if_hit, if_new, exec, events}
 use Rattle.nf_base.specs.Record.{is_quiet}
 use Rattle.nf_laws.proofs.Plain.{SkipsReads, plain_reads, plain_all, plain_asked, question_event}

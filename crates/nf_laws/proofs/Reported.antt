@@ -1,17 +1,17 @@
 -- Reports and numbers along a run.
-use Rattle.std.proofs.Common.{◌≡◌, ◌↔◌, ℕ, zero, suc, List, [], ◌∷◌, ◌++◌, map, Contains, Option, Some, None, refl, ap, sym, ◌∙◌, subst, ◌⊎◌, inl, inr}
+use Rattle.std.proofs.Common.{◌≡◌, List, [], ◌∷◌, ◌++◌, map, Contains, Option, Some, None, refl, ap, sym, ◌∙◌, subst, inl, inr}
 use Rattle.std.specs.Option.{option_and_then}
 use Rattle.std.proofs.lemmas.Option.{same_Some}
-use Rattle.std.proofs.lemmas.List.Elements.{Contains-append_left, Contains-append_right, Contains-append_cases}
+use Rattle.std.proofs.lemmas.List.Elements.{Contains-append_right}
 use Rattle.nf_base.specs.declared.state.State.{State}
 use Rattle.nf_base.specs.Text.{Function}
 use Rattle.nf_base.specs.Operations.{never}
 use Rattle.nf_base.specs.Events.{Event}
 use Rattle.nf_base.specs.Step.{StepResult, step, recorded, opening}
 use Rattle.nf_base.specs.Locations.{Numbers, no_numbers, all_numbers}
-use Rattle.nf_base.specs.Runs.{Handling, RunResult, with_answer, run_by, run, Report, report_of, if_stepped, reports, numbers_if, numbers_of, Meet}
-use Rattle.nf_laws.specs.Runs.{packets_of, ReportsPart, NumbersPart, ReportsEnd, ReportsAreOneAPacket, TheLastReportHasNoStep, if_going, run_record, NumbersAreOfTheRecord, IsReported, ReportsAreOfPackets, PacketsMeetWhereTheyShare}
-use Rattle.nf_laws.proofs.Listed.{here, has, has_none, there}
+use Rattle.nf_base.specs.Runs.{Handling, RunResult, with_answer, run, Report, report_of, if_stepped, reports, numbers_if, numbers_of}
+use Rattle.nf_laws.specs.Runs.{ReportsPart, NumbersPart, ReportsEnd, ReportsAreOneAPacket, TheLastReportHasNoStep, if_going, run_record, NumbersAreOfTheRecord, IsReported, ReportsAreOfPackets, PacketsMeetWhereTheyShare}
+use Rattle.nf_laws.proofs.Listed.{here, has, has_none}
 use Rattle.nf_laws.proofs.Numbered.{numbers_append}
 use Rattle.nf_laws.proofs.Parted.{begins}
 

@@ -1,5 +1,5 @@
 -- Each step keeps the shape of a state.
-use Rattle.std.proofs.Common.{◌≡◌, ◌<◌, ◌≤◌, ℕ, zero, suc, List, [], ◌∷◌, length, map, get_or, replicate, All, Contains, Option, Some, None, slice_get, slice_set, slice_index_or, refl, ap, sym, ◌∙◌, subst, arith, inl, inr}
+use Rattle.std.proofs.Common.{◌≡◌, ℕ, zero, suc, List, [], ◌∷◌, length, map, replicate, All, Contains, Option, Some, None, slice_get, slice_set, refl, ap, sym, ◌∙◌, subst, inl, inr}
 use Rattle.std.proofs.lemmas.Option.{same_Some}
 use Rattle.std.proofs.lemmas.List.{length-map, length-replicate}
 use Rattle.nf_base.specs.declared.decl.ColumnDecl.{ColumnDecl}
@@ -10,20 +10,19 @@ use Rattle.nf_base.specs.declared.width.Width.TheVariants.{W16}
 use Rattle.nf_base.specs.declared.state.Entry.{Entry}
 use Rattle.nf_base.specs.declared.state.Chain.{Chain}
 use Rattle.nf_base.specs.declared.state.State.{State}
-use Rattle.nf_base.specs.Text.{Function, Block, Operation, Touch, Free, Set, Write, Store, Creation}
-use Rattle.nf_base.specs.Statements.{Statement, Makes, statements}
+use Rattle.nf_base.specs.Text.{Function, Block, Operation, Touch, Free, Set, Write, Store}
+use Rattle.nf_base.specs.Statements.{statements}
 use Rattle.nf_base.specs.Limits.{AreFor, Fits}
-use Rattle.nf_base.specs.FitsOnce.{AllFit}
 use Rattle.nf_base.specs.Values.{narrowed}
-use Rattle.nf_base.specs.Chains.{chain_at, array_at, zeros_of, lifetime_of, entry_at, alive, unexpired, expired, next_stamp, on_live, stamped, touched, freed, with_column, written}
-use Rattle.nf_base.specs.Context.{Context, Input, Var, var_at, value, given}
-use Rattle.nf_base.specs.Operations.{Stops, Made, new_result, new_entry, with_new, on_var, after}
-use Rattle.nf_base.specs.Step.{input, expired_state, opening, opening_chain, opening_cells}
+use Rattle.nf_base.specs.Chains.{chain_at, array_at, zeros_of, lifetime_of, entry_at, alive, expired, next_stamp, on_live, stamped, touched, freed, with_column, written}
+use Rattle.nf_base.specs.Context.{Context, Var, var_at, value, given}
+use Rattle.nf_base.specs.Operations.{Stops, new_entry, on_var, after}
+use Rattle.nf_base.specs.Step.{input, expired_state, opening_chain, opening_cells}
 use Rattle.nf_base.proofs.Mixes.{got_set}
 use Rattle.nf_laws.specs.Entries.{IsLive}
 use Rattle.nf_laws.specs.States.{HasChainShape, HasShape, OpeningsHaveTheirShape, StepsKeepTheShape}
 use Rattle.nf_laws.proofs.Indexed.{set_length, was_there}
-use Rattle.nf_laws.proofs.Chained.{OfChains, IsKeptByChains, does_keeps, makes_keeps, expired_keeps}
+use Rattle.nf_laws.proofs.Chained.{IsKeptByChains, does_keeps, makes_keeps, expired_keeps}
 use Rattle.nf_laws.proofs.Kept.{IsKept, step_keeps}
 use Rattle.nf_laws.proofs.Sound.{slot_of, kept_stood}
 
@@ -147,7 +146,7 @@ kept stops f time fields =
       };
     }
 
-expired_length : (time : ℕ) (lifetime : ℕ → ℕ) (chains : List Chain) → length (expired time lifetime chains) ≡ length chains
+pub expired_length : (time : ℕ) (lifetime : ℕ → ℕ) (chains : List Chain) → length (expired time lifetime chains) ≡ length chains
 expired_length time lifetime [] = refl
 expired_length time lifetime (c ∷ chains) = ap suc (expired_length time (λ k. lifetime (suc k)) chains)
 

@@ -6,19 +6,17 @@ use Rattle.nf_base.specs.declared.decl.ChainDecl.{ChainDecl}
 use Rattle.nf_base.specs.declared.packet.Fields.{Fields}
 use Rattle.nf_base.specs.declared.state.Entry.{Entry}
 use Rattle.nf_base.specs.declared.state.Chain.{Chain}
-use Rattle.nf_base.specs.declared.state.State.{State}
 use Rattle.nf_base.specs.Text.{Function, Creation}
 use Rattle.nf_base.specs.Statements.{Statement}
 use Rattle.nf_base.specs.Chains.{chain_at, maps_of, key_in, joined, entry_at, alive, unexpired, next_stamp, on_live, stamped, touched, freed, with_column, written, lifetime_of}
-use Rattle.nf_base.specs.Context.{Context, Input, given}
+use Rattle.nf_base.specs.Context.{Context, Input}
 use Rattle.nf_base.specs.Operations.{Stops, Made, new_result, new_entry}
 use Rattle.nf_base.specs.Step.{input, opening_chain}
 use Rattle.nf_base.proofs.Mixes.{got_set}
 use Rattle.nf_laws.specs.Entries.{IsLive}
-use Rattle.nf_laws.specs.Creations.{IsBound}
 use Rattle.nf_laws.specs.States.{IsSoundChain, IsSound, OpeningsAreSound, StepsKeepSoundness}
 use Rattle.nf_laws.proofs.Answered.{news_answer}
-use Rattle.nf_laws.proofs.Chained.{OfChains, IsKeptByChains, does_keeps, makes_keeps, expired_keeps}
+use Rattle.nf_laws.proofs.Chained.{IsKeptByChains, does_keeps, makes_keeps, expired_keeps}
 use Rattle.nf_laws.proofs.Kept.{IsKept, step_keeps}
 
 pub slot_of : (slots : List (Option Entry)) (i : ℕ) (entry : Entry) → entry_at slots i ≡ Some entry → IsLive slots i entry

@@ -1,19 +1,18 @@
 -- A course stops exactly where its record tells of it.
-use Rattle.std.proofs.Common.{◌≡◌, ◌↔◌, ℕ, suc, Bool, true, false, ◌==◌, List, [], ◌∷◌, ◌++◌, drop, map, Option, Some, None, slice_get, if◌then◌else◌, refl, ap, ap₂, sym, ◌∙◌, subst, eqb-true, eq-eqb, inl, inr}
-use Rattle.std.specs.Option.{option_and_then, option_map}
+use Rattle.std.proofs.Common.{◌≡◌, ◌↔◌, ℕ, true, List, [], ◌∷◌, ◌++◌, drop, map, Option, Some, None, slice_get, refl, ap, ap₂, sym, ◌∙◌, subst}
+use Rattle.std.specs.Option.{option_and_then}
 use Rattle.std.proofs.lemmas.Option.{same_Some}
-use Rattle.nf_base.specs.declared.packet.Packet.{Packet}
 use Rattle.nf_base.specs.declared.packet.Fields.{Fields}
 use Rattle.nf_base.specs.declared.share.Share.{Share}
 use Rattle.nf_base.specs.declared.state.State.{State}
-use Rattle.nf_base.specs.Text.{FallsOff, Flood, Discard, Forward, Operation, Question, Get, Find, Test, Creation, Block, End, Do, Ask, Make, Function}
+use Rattle.nf_base.specs.Text.{FallsOff, Flood, Discard, Forward, Question, Get, Find, Test, Block, End, Do, Ask, Make, Function}
 use Rattle.nf_base.specs.Context.{Context, Input, given}
 use Rattle.nf_base.specs.Operations.{Stops, NewResult, Made, Taken, Full, Illegal, Stopped, new_result, with_new, answer, after}
 use Rattle.nf_base.specs.Events.{Event, Tested, LookedUp, Found, AskedNew, EntryUsed, EntryFreed, CellRead, CellWritten}
 use Rattle.nf_base.specs.Course.{Completion, Normal, Ended, NoStep, StoppedAt, and_then, if_hit, if_new, exec, events}
 use Rattle.nf_base.specs.Record.{is_legal, indices_made}
 use Rattle.nf_base.specs.Step.{input, start_context, completes, records, record_of, recorded_by}
-use Rattle.nf_base.specs.Shares.{share_stops, AreOwn, IsShareStop}
+use Rattle.nf_base.specs.Shares.{share_stops}
 use Rattle.nf_laws.specs.Shares.{ToldStop, StopsAreTold, ShareStopsAreTold}
 use Rattle.nf_laws.proofs.Plain.{IsPlain, plain_reads, plain_all, plain_did, plain_asked, question_event}
 use Rattle.nf_laws.proofs.Consumed.{taken, made_next, then_then, after_left, answer_left}

@@ -1,21 +1,14 @@
 -- Where a course stops, and what its record tells of it.
-use Rattle.std.proofs.Common.{◌≡◌, ◌↔◌, ◌<◌, ℕ, suc, Bool, true, false, ◌==◌, ◌&&◌, nat_lt, List, [], ◌∷◌, ◌++◌, drop, map, Contains, Option, Some, None, slice_get, if◌then◌else◌, refl, ap, ap₂, sym, ◌∙◌, subst, eqb-true, eq-eqb}
-use Rattle.std.specs.Option.{option_and_then}
-use Rattle.std.proofs.lemmas.Option.{same_Some}
+use Rattle.std.proofs.Common.{◌≡◌, ℕ, nat_lt, List, Contains, Option, Some, None, refl, subst}
 use Rattle.std.proofs.lemmas.Bool.{and_parts, ltb-true}
-use Rattle.nf_base.specs.declared.packet.Packet.{Packet}
-use Rattle.nf_base.specs.declared.packet.Fields.{Fields}
-use Rattle.nf_base.specs.declared.share.Share.{Share}
-use Rattle.nf_base.specs.declared.state.State.{State}
-use Rattle.nf_base.specs.Text.{FallsOff, Flood, Discard, Forward, Creation, Block, End, Do, Ask, Make, Function}
+use Rattle.nf_base.specs.Text.{FallsOff, Flood, Discard, Forward, Creation, Block, End, Do, Ask, Make}
 use Rattle.nf_base.specs.Statements.{Statement, Makes, statements}
 use Rattle.nf_base.specs.Chains.{chain_at}
 use Rattle.nf_base.specs.Context.{Context, Input}
 use Rattle.nf_base.specs.Operations.{Stops, NewResult, Made, Taken, Full, Illegal, Stopped, new_result, with_new, answer, after}
 use Rattle.nf_base.specs.Course.{Completion, Normal, Ended, NoStep, StoppedAt, and_then, if_hit, if_new, exec}
 use Rattle.nf_base.specs.Shares.{owns, none_vacant, share_stops}
-use Rattle.nf_laws.specs.Creations.{IsBound}
-use Rattle.nf_laws.specs.Shares.{StopsAtNew, SharesStopAtNews}
+use Rattle.nf_laws.specs.Shares.{SharesStopAtNews}
 use Rattle.nf_laws.proofs.Listed.{here}
 use Rattle.nf_laws.proofs.Answered.{news_answer}
 use Rattle.nf_laws.proofs.Owned.{none_vacant_is}

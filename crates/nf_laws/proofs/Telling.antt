@@ -1,14 +1,12 @@
 -- What a statement reads, does and asks stands in its record.
-use Rattle.std.proofs.Common.{◌≡◌, ℕ, Bool, true, false, not, ◌==◌, List, [], ◌∷◌, map, Contains, Option, Some, None, slice_get, refl, ap, sym, ◌∙◌, subst, ◌⊎◌, inl, inr}
+use Rattle.std.proofs.Common.{◌≡◌, ℕ, Bool, false, not, ◌==◌, List, [], ◌∷◌, Contains, Option, Some, None, slice_get, sym, subst, inl, inr}
 use Rattle.nf_base.specs.declared.width.Width.TheVariants.{W16}
-use Rattle.nf_base.specs.Text.{Expression, Number, Read, Index, Label, Column, Cell, Both, Given, Guard, Operation, Touch, Free, Set, Write, Store, Question, Get, Find, Test, Creation}
-use Rattle.nf_base.specs.Values.{narrowed, compares}
+use Rattle.nf_base.specs.Text.{Expression, Number, Read, Index, Label, Column, Cell, Both, Given, Guard}
+use Rattle.nf_base.specs.Values.{narrowed}
 use Rattle.nf_base.specs.Chains.{array_at}
 use Rattle.nf_base.specs.Context.{Context, Input, EntryRef, Var, var_at, entry_in, value, given}
-use Rattle.nf_base.specs.Operations.{Stops, new_result, key_found, index_found}
-use Rattle.nf_base.specs.Events.{Event, Tested, LookedUp, Found, AskedNew, EntryUsed, EntryFreed, CellRead, CellWritten, used, frees, loads, stores, reads, reads_all, reads_guards, restamps_at, rewrites, did, asked, asked_new}
-use Rattle.nf_base.specs.Statements.{Statement, Ends, Does, Asks, Makes}
-use Rattle.nf_laws.specs.Telling.{Reads, by_index, by_label, by_column, by_cell, in_index, in_left, in_right, DoesThen, touches, frees_it, set_reads, write_reads, writes_it, store_index, store_reads, stores_it, AsksThen, key_reads, looks_up, index_reads, guard_reads, finds, left_reads, right_reads, tests, Tells, ends, does, asks, label_reads, makes, OperationsAreTold, QuestionsAreTold, NewsAreTold, EndsAreTold}
+use Rattle.nf_base.specs.Events.{Event, EntryUsed, EntryFreed, CellRead, CellWritten, used, loads, reads, reads_all, reads_guards, restamps_at, rewrites}
+use Rattle.nf_laws.specs.Telling.{Reads, by_index, by_label, by_column, by_cell, in_index, in_left, in_right, touches, frees_it, set_reads, write_reads, writes_it, store_index, store_reads, stores_it, key_reads, looks_up, index_reads, guard_reads, finds, left_reads, right_reads, tests, ends, label_reads, makes, OperationsAreTold, QuestionsAreTold, NewsAreTold, EndsAreTold}
 use Rattle.nf_laws.proofs.Listed.{here, there, has, has_none}
 
 -- what is told behind stays told

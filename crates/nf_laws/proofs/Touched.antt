@@ -1,6 +1,5 @@
 -- The locations of a record are what its events touch.
-use Rattle.std.proofs.Common.{◌≡◌, ◌<◌, ◌+◌, ℕ, zero, suc, Bool, true, false, ◌==◌, ◌&&◌, ◌||◌, List, [], ◌∷◌, ◌++◌, length, map, Contains, filter, cond, Option, Some, None, slice_get, if◌then◌else◌, refl, ap, ap₂, sym, ◌∙◌, subst, arith, ◌⊎◌, inl, inr, eq-eqb}
-use Rattle.std.specs.List.{list_any}
+use Rattle.std.proofs.Common.{◌≡◌, ℕ, zero, suc, List, [], ◌∷◌, ◌++◌, Contains, Option, Some, None, slice_get, refl, ap, subst, inl, inr}
 use Rattle.std.proofs.lemmas.Option.{same_Some}
 use Rattle.std.proofs.lemmas.List.Elements.{Contains-append_left, Contains-append_right, Contains-append_cases}
 use Rattle.nf_base.specs.declared.decl.ChainDecl.{ChainDecl}
@@ -8,8 +7,8 @@ use Rattle.nf_base.specs.declared.decl.MapDecl.{MapDecl}
 use Rattle.nf_base.specs.Chains.{maps_of, key_in}
 use Rattle.nf_base.specs.Operations.{NewResult, Made, Taken, Full, Illegal, Stopped}
 use Rattle.nf_base.specs.Events.{Event, Tested, LookedUp, Found, AskedNew, EntryUsed, EntryFreed, CellRead, CellWritten}
-use Rattle.nf_base.specs.Locations.{Location, EntryNo, KeyOf, CellAt, Numbers, numbers_after, all_numbers, keys_from, keys_of, entry_if, entry_made, locations_of, locations}
-use Rattle.nf_laws.specs.Touching.{Touches, by_get, by_new, by_making, by_hit, by_find, by_use, by_free, by_read, by_write, TouchedIsALocation, Toucher, NoOtherLocationIs}
+use Rattle.nf_base.specs.Locations.{Location, EntryNo, KeyOf, CellAt, Numbers, numbers_after, keys_from, keys_of, entry_if, entry_made, locations_of, locations}
+use Rattle.nf_laws.specs.Touching.{Touches, by_get, by_new, by_making, by_hit, by_find, by_use, by_free, by_read, by_write, TouchedIsALocation, NoOtherLocationIs}
 use Rattle.nf_laws.proofs.Listed.{here, there, has, has_none}
 
 named : (key : ℕ → List ℕ → Location) (m : ℕ) (maps : List MapDecl) (labels : List ℕ) (decl : MapDecl) → slice_get maps m ≡ Some decl → Contains (keys_from key maps labels) (key m (key_in decl labels))

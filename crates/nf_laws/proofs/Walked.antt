@@ -9,12 +9,12 @@ use Rattle.nf_base.specs.Text.{FallsOff, Flood, Discard, Forward, Operation, Que
 use Rattle.nf_base.specs.Values.{compares}
 use Rattle.nf_base.specs.Context.{Context, Input, value, given}
 use Rattle.nf_base.specs.Operations.{Stops, never, NewResult, Made, Taken, Full, Illegal, Stopped, new_result, with_new, answer, after, bound, key_found, index_found}
-use Rattle.nf_base.specs.Events.{Event, AskedNew, reads}
-use Rattle.nf_base.specs.Paths.{PathStep, Branch, Doing, Asking, Making, Closing, Hits, Misses, Makes, IsTaken, IsFull, each_after, paths, Outcome, question_place, outcome_of, outcomes_along}
+use Rattle.nf_base.specs.Events.{Event, AskedNew}
+use Rattle.nf_base.specs.Paths.{PathStep, Branch, Doing, Asking, Making, Closing, Hits, Misses, Makes, IsTaken, IsFull, each_after, paths, Outcome, outcome_of, outcomes_along}
 use Rattle.nf_base.specs.Course.{if_hit, if_new, answer_branch, new_branch, events, route}
 use Rattle.nf_base.specs.Record.{is_legal, hit_branch, test_branch, outcomes}
 use Rattle.nf_base.specs.Step.{input, start_context, records, routes, record_of, route_of}
-use Rattle.nf_laws.specs.Paths.{IsPathOf, CoursesTakePaths, PacketsTakePaths, OutcomesAreAlongPaths}
+use Rattle.nf_laws.specs.Paths.{CoursesTakePaths, PacketsTakePaths, OutcomesAreAlongPaths}
 use Rattle.nf_laws.proofs.Listed.{here, there, has, has_none}
 use Rattle.nf_laws.proofs.Plain.{IsPlain, plain_reads, plain_all, plain_did, plain_asked, question_event}
 

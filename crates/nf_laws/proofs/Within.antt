@@ -1,7 +1,7 @@
 -- The statements of the blocks in a block are statements of it.
-use Rattle.std.proofs.Common.{◌≡◌, List, [], ◌∷◌, ◌++◌, Contains, refl, sym, subst, ◌⊎◌, inl, inr}
+use Rattle.std.proofs.Common.{[], ◌++◌, Contains, sym, subst, inl, inr}
 use Rattle.std.proofs.lemmas.List.Elements.{Contains-append_left, Contains-append_right, Contains-append_cases}
-use Rattle.nf_base.specs.Text.{Ending, Operation, Question, Creation, Block, End, Do, Ask, Make}
+use Rattle.nf_base.specs.Text.{Operation, Question, Creation, Block, End, Do, Ask, Make}
 use Rattle.nf_base.specs.Statements.{Statement, Ends, Does, Asks, Makes, statements}
 use Rattle.nf_laws.specs.Objects.{Stands, in_end, in_do, in_ask, in_make, behind_do, where_hit, where_missed, behind_ask, where_made, where_taken, where_full, behind_make, StatementsAreThoseThatStand}
 use Rattle.nf_laws.proofs.Listed.{here, there, has, has_none}

@@ -1,5 +1,5 @@
 -- What a text writes, and what a packet writes of it.
-use Rattle.std.proofs.Common.{◌≡◌, ◌↔◌, ℕ, zero, suc, Bool, true, false, ◌==◌, ◌||◌, List, [], ◌∷◌, Contains, Option, Some, None, slice_get, refl, ap, sym, ◌∙◌, subst, ◌⊎◌, inl, inr, eq-eqb, eqb-true}
+use Rattle.std.proofs.Common.{◌≡◌, ℕ, Bool, true, false, ◌||◌, List, [], ◌∷◌, Contains, Option, Some, None, slice_get, refl, ap, ◌∙◌, subst, ◌⊎◌, inl, inr, eq-eqb, eqb-true}
 use Rattle.std.specs.List.{list_any}
 use Rattle.std.proofs.lemmas.Option.{same_Some}
 use Rattle.nf_base.specs.declared.decl.ObjectId.{ObjectId}
@@ -7,16 +7,15 @@ use Rattle.nf_base.specs.declared.decl.ObjectId.TheVariants as object
 use Rattle.nf_base.specs.declared.packet.Packet.{Packet}
 use Rattle.nf_base.specs.declared.packet.Fields.{Fields}
 use Rattle.nf_base.specs.declared.state.State.{State}
-use Rattle.nf_base.specs.Text.{Expression, Given, Forward, Question, Operation, Touch, Free, Set, Write, Store, Creation, Block, Function}
+use Rattle.nf_base.specs.Text.{Expression, Forward, Question, Operation, Touch, Free, Set, Write, Store, Block, Function}
 use Rattle.nf_base.specs.Statements.{Statement, Ends, Does, Asks, Makes, statements}
 use Rattle.nf_base.specs.Objects.{is_store_in, writes, is_written}
 use Rattle.nf_base.specs.Context.{Context, Input}
-use Rattle.nf_base.specs.Operations.{Stops, never, NewResult, Made}
+use Rattle.nf_base.specs.Operations.{Stops, never}
 use Rattle.nf_base.specs.Events.{Event, Tested, LookedUp, Found, AskedNew, EntryUsed, EntryFreed, CellRead, CellWritten}
-use Rattle.nf_base.specs.Record.{NewEntry, made_of}
 use Rattle.nf_base.specs.Step.{input, records, record_of}
 use Rattle.nf_laws.specs.Telling.{Reads, by_index, by_label, by_column, by_cell, in_index, in_left, in_right, DoesThen, touches, frees_it, set_reads, write_reads, writes_it, store_index, store_reads, stores_it, AsksThen, key_reads, looks_up, index_reads, guard_reads, finds, left_reads, right_reads, tests, Tells, ends, does, asks, label_reads, makes, ToldBy}
-use Rattle.nf_laws.specs.Objects.{Stands, Writes, by_new, by_store, Writer, WrittenIsByTheText, WritesAreOfTheText, PacketsWriteWhatIsWritten}
+use Rattle.nf_laws.specs.Objects.{Writes, by_new, by_store, Writer, WrittenIsByTheText, PacketsWriteWhatIsWritten}
 use Rattle.nf_laws.proofs.Listed.{here, there, has, has_none, at_index}
 use Rattle.nf_laws.proofs.Within.{stands_in, in_stands}
 use Rattle.nf_laws.proofs.Numbered.{only_news}
@@ -34,14 +33,14 @@ or_cases : (a b : Bool) → (a || b) ≡ true → (a ≡ true) ⊎ (b ≡ true)
 or_cases true b e = inl refl
 or_cases false b e = inr e
 
-any_of : {A : Type 0} (test : A → Bool) (xs : List A) (x : A) → Contains xs x → test x ≡ true → list_any test xs ≡ true
+pub any_of : {A : Type 0} (test : A → Bool) (xs : List A) (x : A) → Contains xs x → test x ≡ true → list_any test xs ≡ true
 any_of test [] x h t = absurd (has_none x h)
 any_of test (y ∷ xs) x h t = elim (has y xs x h) [
   | inl e ↦ or_left (test y) (list_any test xs) (ap test e ∙ t)
   | inr i ↦ or_right (test y) (list_any test xs) (any_of test xs x i t)
 ]
 
-some_of : {A : Type 0} (test : A → Bool) (xs : List A) → list_any test xs ≡ true → (x : A) × Contains xs x × (test x ≡ true)
+pub some_of : {A : Type 0} (test : A → Bool) (xs : List A) → list_any test xs ≡ true → (x : A) × Contains xs x × (test x ≡ true)
 some_of test [] e = cc
 some_of test (y ∷ xs) e = elim (or_cases (test y) (list_any test xs) e) [
   | inl t ↦ (y, here y xs, t)

@@ -16,7 +16,7 @@
 --     flood;
 --   }
 -- }
-use Rattle.std.specs.Prelude.{◌≡◌, ℕ, ◌+◌, List, [], ◌∷◌, Option, Some, None}
+use Rattle.std.specs.Prelude.{◌≡◌, ℕ, ◌+◌, [], ◌∷◌, Option, Some}
 use Rattle.nf_base.specs.declared.width.Width.TheVariants.{W8, W48}
 use Rattle.nf_base.specs.declared.decl.ObjectId.TheVariants as object
 use Rattle.nf_base.specs.declared.packet.Field.TheVariants.{SrcMac, DstMac}
@@ -27,13 +27,22 @@ use Rattle.nf_base.specs.Text as text
 use Rattle.nf_base.specs.Runs.{RunResult}
 use Rattle.nf_laws.specs.Samples.{column, map_of, valued, read, new_at, nothing, arrives, run_of, actions_of}
 
--- what a port does, from a place of the text on: it learns the sender's port, and sends to the receiver's
+-- the entry of the sender is at a port
+abbrev pub learned : ℕ → Block
+learned port = Do (Write 0 0 (valued W8 (Number port))) nothing
+
+-- to the port of the receiver, if it is known
+abbrev pub to_receiver : ℕ → Block
+to_receiver place =
+    Ask (Get place 0 0 (read W48 DstMac ∷ []) 0)
+    (End (Forward (Column 0 0))) nothing (End text.Flood)
+
+-- what a port does, from a place of the text on
 abbrev pub bridged : ℕ → ℕ → Block
 bridged place port =
-    Ask (Get place 0 0 (read W48 SrcMac ∷ []) 0)
-    (Do (Touch 0) (Do (Write 0 0 (valued W8 (Number port))) nothing))
-    (Make (new_at (place + 1) 0 (read W48 SrcMac ∷ [])) (Do (Write 0 0 (valued W8 (Number port))) nothing) nothing nothing nothing)
-    (Ask (Get (place + 2) 0 0 (read W48 DstMac ∷ []) 0) (End (Forward (Column 0 0))) nothing (End text.Flood))
+    Ask (Get place 0 0 (read W48 SrcMac ∷ []) 0) (Do (Touch 0) (learned port))
+    (Make (new_at (place + 1) 0 (read W48 SrcMac ∷ [])) (learned port) nothing nothing nothing)
+    (to_receiver (place + 2))
 
 -- MAC addresses at 4 indices, for 10 nanoseconds
 abbrev pub bridge : Function
@@ -67,7 +76,8 @@ between a b = Some (record {
   dst_port = 0;
 })
 
--- To an unknown address, back, there again, to an unknown one from another port, back after the address moved
+-- To an unknown address, back, there again, to an unknown one from another port, back after the
+-- address moved
 -- to that port, and after its lifetime.
 abbrev pub learns : Option RunResult
 learns = run_of bridge
@@ -79,5 +89,6 @@ learns = run_of bridge
     ∷ arrives 0 2 15 (between 6 4) (1 ∷ [])
     ∷ [])
 
+-- flooded until the address is known, then to its port, wherever it moves, until its lifetime ends
 abbrev pub ABridgeLearns : Type 0
 ABridgeLearns = actions_of learns ≡ Flood ∷ To 0 ∷ To 1 ∷ Flood ∷ To 1 ∷ Flood ∷ []

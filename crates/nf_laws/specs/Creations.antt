@@ -1,5 +1,5 @@
 -- What a `new` comes to.
-use Rattle.std.specs.Prelude.{◌≡◌, ◌↔◌, ℕ, true, false, List, ◌∷◌, map, Option, Some, None, slice_get}
+use Rattle.std.specs.Prelude.{◌≡◌, ◌↔◌, ℕ, true, false, List, ◌∷◌, map, Option, Some, slice_get}
 use Rattle.nf_base.specs.declared.state.Entry.{Entry}
 use Rattle.nf_base.specs.declared.decl.MapDecl.{MapDecl}
 use Rattle.nf_base.specs.Text.{Creation}
@@ -35,16 +35,19 @@ pub record IsNextChoice (c : Context) (n : Creation) (i : ℕ) : Type 0 where
   pub next : c.left ≡ i ∷ rest
   pub vacant : IsVacant (slots_for c n) i
 
--- Exactly one answer: taken where a key is bound; else a stop; else full where no index is vacant; else
+-- Exactly one answer: taken where a key is bound; else a stop; else full where no index is vacant;
+-- else
 -- an entry at the next choice, where that is vacant; else the choice is illegal.
 pub record AnswersNew (stops : Stops) (p : Input) (c : Context) (n : Creation) : Type 0 where
   pub taken : (new_result stops p c n ≡ Taken) ↔ IsBound p c n
   pub stopped : (new_result stops p c n ≡ Stopped)
       ↔ ((IsBound p c n → ⊥) × (stops n.chain (chain_at c.state.chains n.chain) ≡ true))
   pub full : (new_result stops p c n ≡ Full) ↔ (MayMake stops p c n × (HasVacant c n → ⊥))
-  pub made : (i : ℕ) → (new_result stops p c n ≡ Made i) ↔ (MayMake stops p c n × IsNextChoice c n i)
+  pub made : (i : ℕ) →
+      (new_result stops p c n ≡ Made i) ↔ (MayMake stops p c n × IsNextChoice c n i)
   pub illegal : (new_result stops p c n ≡ Illegal)
       ↔ (MayMake stops p c n × HasVacant c n × ((i : ℕ) → IsNextChoice c n i → ⊥))
 
+-- so each `new` answers, a share's too
 abbrev pub NewsAreAnswered : Type 0
 NewsAreAnswered = (stops : Stops) (p : Input) (c : Context) (n : Creation) → AnswersNew stops p c n

@@ -14,12 +14,12 @@ use Rattle.nf_base.specs.Values.{narrowed, is_settable}
 use Rattle.nf_base.specs.Text.{Expression, Given, FallsOff, Forward, Discard, Touch, Free, Set, Write, Store, Creation, End}
 use Rattle.nf_base.specs.Text as text
 use Rattle.nf_base.specs.Chains.{chain_at, array_at, maps_of, zeros_of, lifetime_of}
-use Rattle.nf_base.specs.Context.{Context, Input, EntryRef, var_at, entry_in, value, given}
-use Rattle.nf_base.specs.Operations.{Stops, Made, new_result, with_new, edited, after}
+use Rattle.nf_base.specs.Context.{Context, Input, EntryRef, var_at, value, given}
+use Rattle.nf_base.specs.Operations.{Stops, Made, new_result, with_new, after}
 use Rattle.nf_base.specs.Course.{Normal, Ended, exec}
-use Rattle.nf_base.specs.Step.{StepResult, step_result}
+use Rattle.nf_base.specs.Step.{step_result}
 use Rattle.nf_laws.specs.Entries.{IsLive, IsVacant}
-use Rattle.nf_laws.specs.Telling.{Names, HasCell}
+use Rattle.nf_laws.specs.Telling.{Names}
 
 -- the entry at an index of a chain of a state
 abbrev pub StandsAt : State → EntryRef → Entry → Type 0
@@ -30,9 +30,11 @@ pub record KeepsOthers (at : EntryRef) (before after : State) : Type 0 where
   pub arrays : after.arrays ≡ before.arrays
   pub count : length after.chains ≡ length before.chains
   pub chains : (k : ℕ) → k ≢ at.chain → chain_at after.chains k ≡ chain_at before.chains k
-  pub size : length (chain_at after.chains at.chain).slots ≡ length (chain_at before.chains at.chain).slots
+  pub size : length (chain_at after.chains at.chain).slots
+      ≡ length (chain_at before.chains at.chain).slots
   pub slots : (i : ℕ) → i ≢ at.index →
-      slice_get (chain_at after.chains at.chain).slots i ≡ slice_get (chain_at before.chains at.chain).slots i
+      slice_get (chain_at after.chains at.chain).slots i
+      ≡ slice_get (chain_at before.chains at.chain).slots i
 
 -- the variables, the edits and the choices as before
 pub record KeepsRest (c d : Context) : Type 0 where
@@ -51,6 +53,7 @@ pub record Restamps (p : Input) (at : EntryRef) (entry : Entry) (c d : Context) 
   pub others : KeepsOthers at c.state d.state
   pub rest : KeepsRest c d
 
+-- a touch restamps its entry
 abbrev pub TouchesRestamp : Type 0
 TouchesRestamp = (p : Input) (c : Context) (var : ℕ) (at : EntryRef) (entry : Entry) →
     Names c var at → StandsAt c.state at entry → Restamps p at entry c (after p c (Touch var))
@@ -61,15 +64,20 @@ pub record Rewrites (column v : ℕ) (at : EntryRef) (entry : Entry) (c d : Cont
   pub entry_now : StandsAt d.state at now
   pub stamp : now.stamp ≡ entry.stamp
   pub labels : now.labels ≡ entry.labels
-  pub value_now : (before : ℕ) → slice_get entry.columns column ≡ Some before → slice_get now.columns column ≡ Some v
-  pub columns : (other : ℕ) → other ≢ column → slice_get now.columns other ≡ slice_get entry.columns other
+  pub value_now : (before : ℕ) → slice_get entry.columns column ≡ Some before →
+      slice_get now.columns column ≡ Some v
+  pub columns : (other : ℕ) → other ≢ column →
+      slice_get now.columns other ≡ slice_get entry.columns other
   pub greatest : greatest_at d.state at ≡ greatest_at c.state at
   pub others : KeepsOthers at c.state d.state
   pub rest : KeepsRest c d
 
+-- a write rewrites its entry
 abbrev pub WritesRewrite : Type 0
-WritesRewrite = (p : Input) (c : Context) (var column : ℕ) (g : Given) (at : EntryRef) (entry : Entry) →
-    Names c var at → StandsAt c.state at entry → Rewrites column (given p c g) at entry c (after p c (Write var column g))
+WritesRewrite =
+    (p : Input) (c : Context) (var column : ℕ) (g : Given) (at : EntryRef) (entry : Entry) →
+    Names c var at → StandsAt c.state at entry →
+    Rewrites column (given p c g) at entry c (after p c (Write var column g))
 
 -- where a freed entry stood the index is vacant, and no variable stands for it any more
 pub record Frees (at : EntryRef) (c d : Context) : Type 0 where
@@ -81,6 +89,7 @@ pub record Frees (at : EntryRef) (c d : Context) : Type 0 where
   pub edits : d.edits ≡ c.edits
   pub left : d.left ≡ c.left
 
+-- a free vacates the index of its entry
 abbrev pub FreesVacate : Type 0
 FreesVacate = (p : Input) (c : Context) (var : ℕ) (at : EntryRef) (entry : Entry) →
     Names c var at → StandsAt c.state at entry → Frees at c (after p c (Free var))
@@ -91,21 +100,25 @@ pub record DoNothing (p : Input) (c : Context) (var : ℕ) : Type 0 where
   pub free : after p c (Free var) ≡ c
   pub write : (column : ℕ) (g : Given) → after p c (Write var column g) ≡ c
 
+-- so it is of each such variable
 abbrev pub FreedVariablesDoNothing : Type 0
-FreedVariablesDoNothing = (p : Input) (c : Context) (var : ℕ) → var_at c.vars var ≡ None → DoNothing p c var
+FreedVariablesDoNothing = (p : Input) (c : Context) (var : ℕ) → var_at c.vars var ≡ None →
+    DoNothing p c var
 
 -- a stored cell has its value, and all other cells, arrays and chains are as before
 pub record Stores (array i v : ℕ) (c d : Context) : Type 0 where
   pub value_now : (before : ℕ) → slice_get (array_at c.state.arrays array) i ≡ Some before →
       slice_get (array_at d.state.arrays array) i ≡ Some v
   pub cells : (other : ℕ) → other ≢ i →
-      slice_get (array_at d.state.arrays array) other ≡ slice_get (array_at c.state.arrays array) other
+      slice_get (array_at d.state.arrays array) other
+      ≡ slice_get (array_at c.state.arrays array) other
   pub size : length (array_at d.state.arrays array) ≡ length (array_at c.state.arrays array)
   pub arrays : (k : ℕ) → k ≢ array → array_at d.state.arrays k ≡ array_at c.state.arrays k
   pub count : length d.state.arrays ≡ length c.state.arrays
   pub chains : d.state.chains ≡ c.state.chains
   pub rest : KeepsRest c d
 
+-- a store gives a cell its value, by the index in 16 bits
 abbrev pub StoresGiveCells : Type 0
 StoresGiveCells = (p : Input) (c : Context) (place array : ℕ) (at : Expression) (g : Given) →
     Stores array (narrowed W16 (value p c at)) (given p c g) c (after p c (Store place array at g))
@@ -123,7 +136,8 @@ edit_of Time edits = None
 edit_of Length edits = None
 edit_of Proto edits = None
 
--- a field that may be set has the value, and all other fields, the state, the variables and the choices are as before
+-- a field that may be set has the value, and all other fields, the state, the variables and the
+-- choices are as before
 pub record Sets (field : Field) (v : ℕ) (c d : Context) : Type 0 where
   pub value_now : is_settable field ≡ true → edit_of field d.edits ≡ Some v
   pub none : is_settable field ≡ false → d.edits ≡ c.edits
@@ -132,10 +146,13 @@ pub record Sets (field : Field) (v : ℕ) (c d : Context) : Type 0 where
   pub vars : d.vars ≡ c.vars
   pub left : d.left ≡ c.left
 
+-- a `set` edits its field
 abbrev pub SetsEdit : Type 0
-SetsEdit = (p : Input) (c : Context) (field : Field) (g : Given) → Sets field (given p c g) c (after p c (Set field g))
+SetsEdit = (p : Input) (c : Context) (field : Field) (g : Given) →
+    Sets field (given p c g) c (after p c (Set field g))
 
--- a new entry at the next choice, with the labels given and a 0 in each column, bound to its variable
+-- a new entry at the next choice, with the labels given and a 0 in each column, bound to its
+-- variable
 pub record Makes (p : Input) (n : Creation) (at : EntryRef) (c d : Context) : Type 0 where
   pub entry_now : StandsAt d.state at (record {
     stamp = max p.time (greatest_at c.state at);
@@ -149,8 +166,10 @@ pub record Makes (p : Input) (n : Creation) (at : EntryRef) (c d : Context) : Ty
   pub edits : d.edits ≡ c.edits
   pub left : c.left ≡ at.index ∷ d.left
 
-abbrev pub NewsMakeEntries : Type 0
-NewsMakeEntries = (stops : Stops) (p : Input) (c : Context) (n : Creation) (i : ℕ) → new_result stops p c n ≡ Made i →
+-- a `new` that makes an entry puts it so
+abbrev pub NewsPutEntries : Type 0
+NewsPutEntries = (stops : Stops) (p : Input) (c : Context) (n : Creation) (i : ℕ) →
+    new_result stops p c n ≡ Made i →
     Makes p n (record { chain = n.chain; index = i }) c (with_new p c n i)
 
 -- what is declared of a chain is found by its number
@@ -159,14 +178,17 @@ pub record IsFound (decls : List ChainDecl) (k : ℕ) (decl : ChainDecl) : Type 
   pub zeros : zeros_of decls k ≡ map (λ (column : ColumnDecl). 0) decl.columns
   pub lifetime : lifetime_of decls k ≡ decl.lifetime
 
+-- so it is of each chain that is declared
 abbrev pub DeclarationsAreFound : Type 0
 DeclarationsAreFound = (decls : List ChainDecl) (k : ℕ) (decl : ChainDecl) →
     slice_get decls k ≡ Some decl → IsFound decls k decl
 
+-- the state of a chain is found by its number
 abbrev pub ChainsAreFound : Type 0
 ChainsAreFound = (chains : List Chain) (k : ℕ) (chain : Chain) →
     slice_get chains k ≡ Some chain → chain_at chains k ≡ chain
 
+-- the cells of an array are found by its number
 abbrev pub ArraysAreFound : Type 0
 ArraysAreFound = (arrays : List (List ℕ)) (k : ℕ) (cells : List ℕ) →
     slice_get arrays k ≡ Some cells → array_at arrays k ≡ cells
@@ -176,9 +198,11 @@ pub record EndsSo (stops : Stops) (p : Input) (c : Context) (port : Expression) 
   pub falls_off : exec stops p (End FallsOff) c ≡ Normal c
   pub flood : exec stops p (End text.Flood) c ≡ Ended Flood c
   pub discard : exec stops p (End Discard) c ≡ Ended Drop c
-  pub forward : value p c port < p.ports → exec stops p (End (Forward port)) c ≡ Ended (To (value p c port)) c
+  pub forward : value p c port < p.ports →
+      exec stops p (End (Forward port)) c ≡ Ended (To (value p c port)) c
   pub no_port : p.ports ≤ value p c port → exec stops p (End (Forward port)) c ≡ Ended Drop c
 
+-- so each block ends, a share's too
 abbrev pub BlocksEndSo : Type 0
 BlocksEndSo = (stops : Stops) (p : Input) (c : Context) (port : Expression) → EndsSo stops p c port
 
@@ -186,4 +210,7 @@ BlocksEndSo = (stops : Stops) (p : Input) (c : Context) (port : Expression) → 
 abbrev pub FallingOffDrops : Type 0
 FallingOffDrops = (choices : List ℕ) (c : Context) → c.left ≡ [] →
     step_result choices (Normal c)
-    ≡ Some (record { state = c.state; done = record { action = Drop; edits = c.edits; picks = choices } })
+    ≡ Some (record {
+      state = c.state;
+      done = record { action = Drop; edits = c.edits; picks = choices };
+    })

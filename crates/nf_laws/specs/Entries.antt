@@ -13,12 +13,14 @@ abbrev pub IsVacant : List (Option Entry) → ℕ → Type 0
 IsVacant slots i = slice_get slots i ≡ Some None
 
 -- an entry with a key in a map is live at an index
-pub record HasKeyAt (m : MapDecl) (key : List ℕ) (slots : List (Option Entry)) (i : ℕ) : Type 0 where
+pub record HasKeyAt (m : MapDecl) (key : List ℕ) (slots : List (Option Entry))
+    (i : ℕ) : Type 0 where
   pub entry : Entry
   pub live : IsLive slots i entry
   pub same : key_in m entry.labels ≡ key
 
 -- and no entry before it has that key
-pub record IsFirstWith (m : MapDecl) (key : List ℕ) (slots : List (Option Entry)) (i : ℕ) : Type 0 where
+pub record IsFirstWith (m : MapDecl) (key : List ℕ) (slots : List (Option Entry))
+    (i : ℕ) : Type 0 where
   pub here : HasKeyAt m key slots i
   pub first : (j : ℕ) (entry : Entry) → j < i → IsLive slots j entry → key_in m entry.labels ≢ key

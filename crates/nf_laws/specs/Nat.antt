@@ -10,7 +10,8 @@
 --     get e = conns.by_in(src_ip, src_port, dst_ip, dst_port) {
 --       touch e; set src_ip = 203.0.113.1; set src_port = e.index + 1024; forward 1;
 --     } else {
---       new f = conns(sip = src_ip, sp = src_port, dip = dst_ip, dp = dst_port, rip = dst_ip, rp = dst_port) {
+--       new f = conns(sip = src_ip, sp = src_port, dip = dst_ip, dp = dst_port,
+--                     rip = dst_ip, rp = dst_port) {
 --         set src_ip = 203.0.113.1; set src_port = f.index + 1024; forward 1;
 --       }
 --     }
@@ -24,7 +25,7 @@
 --     drop;
 --   }
 -- }
-use Rattle.std.specs.Prelude.{◌≡◌, ℕ, List, [], ◌∷◌, Option, Some, None}
+use Rattle.std.specs.Prelude.{◌≡◌, List, [], ◌∷◌, Option, Some}
 use Rattle.nf_base.specs.declared.width.Width.TheVariants.{W16, W32}
 use Rattle.nf_base.specs.declared.expr.Operator.TheVariants.{Plus, Minus}
 use Rattle.nf_base.specs.declared.expr.Comparison.TheVariants.{Less}
@@ -42,6 +43,11 @@ translated =
     Do (Set SrcIp (valued W32 (Number 3405803777)))
     (Do (Set SrcPort (valued W16 (Both Plus (Index 0) (Number 1024))))
     (forwards 1))
+
+-- to port 0, with the address and the port inside
+abbrev pub translated_back : Block
+translated_back =
+    Do (Set DstIp (valued W32 (Label 0 0))) (Do (Set DstPort (valued W16 (Label 0 1))) (forwards 0))
 
 -- the addresses and ports of a packet from inside
 abbrev pub inside : List Given
@@ -62,14 +68,15 @@ outward =
 
 -- the far end that the entry was made for
 abbrev pub far_end : List Guard
-far_end = record { label = 4; given = read W32 SrcIp } ∷ record { label = 5; given = read W16 SrcPort } ∷ []
+far_end = record { label = 4; given = read W32 SrcIp }
+    ∷ record { label = 5; given = read W16 SrcPort } ∷ []
 
 -- port 1
 abbrev pub inward : Block
 inward =
     Ask (Test 2 Less (Read DstPort) (Number 1024)) drops nothing
     (Ask (Find 3 0 (Both Minus (Read DstPort) (Number 1024)) far_end 0)
-    (Do (Touch 0) (Do (Set DstIp (valued W32 (Label 0 0))) (Do (Set DstPort (valued W16 (Label 0 1))) (forwards 0))))
+    (Do (Touch 0) translated_back)
     nothing
     drops)
 
@@ -103,14 +110,26 @@ four = run_of nat
 -- the first goes out translated, and only the answer is let in, translated back
 pub record OnlyTheAnswerIsLetBack : Type 0 where
   pub dones : dones_of four
-      ≡ record { action = To 1; edits = record no_edits { src_ip = Some 3405803777; src_port = Some 1024 }; picks = 0 ∷ [] }
-      ∷ record { action = To 0; edits = record no_edits { dst_ip = Some 167772161; dst_port = Some 1000 }; picks = [] }
+      ≡ record {
+        action = To 1;
+        edits = record no_edits { src_ip = Some 3405803777; src_port = Some 1024 };
+        picks = 0 ∷ [];
+      }
+      ∷ record {
+        action = To 0;
+        edits = record no_edits { dst_ip = Some 167772161; dst_port = Some 1000 };
+        picks = [];
+      }
       ∷ record { action = Drop; edits = no_edits; picks = [] }
       ∷ record { action = Drop; edits = no_edits; picks = [] }
       ∷ []
   pub state : state_of four ≡ Some (record {
     chains = record {
-      slots = Some (record { stamp = 2; labels = 167772161 ∷ 1000 ∷ 134744072 ∷ 53 ∷ 134744072 ∷ 53 ∷ []; columns = [] }) ∷ [];
+      slots = Some (record {
+        stamp = 2;
+        labels = 167772161 ∷ 1000 ∷ 134744072 ∷ 53 ∷ 134744072 ∷ 53 ∷ [];
+        columns = [];
+      }) ∷ [];
       greatest = 2;
     } ∷ [];
     arrays = [];

@@ -22,13 +22,15 @@ is_at chain i (Some made) = chain == made.chain && i == made.index
 -- what a `new` makes is the entry with its labels, at its index
 abbrev pub NewsMakeEntries : Type 0
 NewsMakeEntries = (place chain : ℕ) (labels : List ℕ) (i : ℕ) →
-    made_of (AskedNew place chain labels (Made i)) ≡ Some (record { chain = chain; labels = labels; index = i })
+    made_of (AskedNew place chain labels (Made i))
+    ≡ Some (record { chain = chain; labels = labels; index = i })
 
--- and nothing else makes one
+-- an event is a `new` that made this entry
 pub record MakesBy (e : Event) (made : NewEntry) : Type 0 where
   pub place : ℕ
   pub event : e ≡ AskedNew place made.chain made.labels (Made made.index)
 
+-- no other event makes an entry
 abbrev pub OnlyNewsMakeEntries : Type 0
 OnlyNewsMakeEntries = (e : Event) (made : NewEntry) → made_of e ≡ Some made → MakesBy e made
 
@@ -37,19 +39,23 @@ abbrev pub EntriesAreCounted : Type 0
 EntriesAreCounted = (ns : Numbers) (es : List Event) (chain : ℕ) →
     (all_numbers ns es).made chain ≡ ns.made chain + length (filter (makes_entry chain) es)
 
+-- and a new entry takes the next number
 abbrev pub NewEntriesTakeTheNext : Type 0
 NewEntriesTakeTheNext = (ns : Numbers) (e : Event) (made : NewEntry) → made_of e ≡ Some made →
     (numbers_after ns e).entry_no made.chain made.index ≡ ns.made made.chain
 
 -- an index has another number only where an entry is made at that index of that chain
 abbrev pub OtherEntriesKeepTheirs : Type 0
-OtherEntriesKeepTheirs = (ns : Numbers) (e : Event) (chain i : ℕ) → is_at chain i (made_of e) ≡ false →
+OtherEntriesKeepTheirs = (ns : Numbers) (e : Event) (chain i : ℕ) →
+    is_at chain i (made_of e) ≡ false →
     (numbers_after ns e).entry_no chain i ≡ ns.entry_no chain i
 
 -- an entry made later in a chain has a greater number
 abbrev pub LaterEntriesAreGreater : Type 0
-LaterEntriesAreGreater = (ns : Numbers) (es fs : List Event) (place chain : ℕ) (labels : List ℕ) (i : ℕ) →
-    (all_numbers ns es).made chain < (all_numbers ns (es ++ AskedNew place chain labels (Made i) ∷ fs)).made chain
+LaterEntriesAreGreater =
+    (ns : Numbers) (es fs : List Event) (place chain : ℕ) (labels : List ℕ) (i : ℕ) →
+    (all_numbers ns es).made chain
+    < (all_numbers ns (es ++ AskedNew place chain labels (Made i) ∷ fs)).made chain
 
 -- some event of a record made an entry at an index of a chain
 pub record WasMade (es : List Event) (chain i : ℕ) : Type 0 where
@@ -57,12 +63,14 @@ pub record WasMade (es : List Event) (chain i : ℕ) : Type 0 where
   pub told : Contains es event
   pub at : is_at chain i (made_of event) ≡ true
 
--- From the start on, the entries at the indices of a chain have different numbers, each below the number made.
+-- From the start on, the entries at the indices of a chain have different numbers, each below the
+-- number made.
 pub record AreApart (es : List Event) (chain : ℕ) : Type 0 where
   pub below : (i : ℕ) → WasMade es chain i →
       (all_numbers no_numbers es).entry_no chain i < (all_numbers no_numbers es).made chain
   pub apart : (i j : ℕ) → WasMade es chain i → WasMade es chain j → i ≢ j →
       (all_numbers no_numbers es).entry_no chain i ≢ (all_numbers no_numbers es).entry_no chain j
 
+-- so they are in each chain, whatever is told
 abbrev pub EntriesAreApart : Type 0
 EntriesAreApart = (es : List Event) (chain : ℕ) → AreApart es chain

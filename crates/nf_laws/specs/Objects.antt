@@ -26,7 +26,8 @@ pub data Stands (s : Statement) : Block → Type 0 where
   where_hit : (q : Question) (hit miss next : Block) → Stands s hit → Stands s (Ask q hit miss next)
   where_missed : (q : Question) (hit miss next : Block) → Stands s miss →
       Stands s (Ask q hit miss next)
-  behind_ask : (q : Question) (hit miss next : Block) → Stands s next → Stands s (Ask q hit miss next)
+  behind_ask : (q : Question) (hit miss next : Block) → Stands s next →
+      Stands s (Ask q hit miss next)
   where_made : (n : Creation) (made taken full next : Block) → Stands s made →
       Stands s (Make n made taken full next)
   where_taken : (n : Creation) (made taken full next : Block) → Stands s taken →
@@ -38,7 +39,8 @@ pub data Stands (s : Statement) : Block → Type 0 where
 
 -- exactly these are a block's statements
 abbrev pub StatementsAreThoseThatStand : Type 0
-StatementsAreThoseThatStand = (s : Statement) (block : Block) → Contains (statements block) s ↔ Stands s block
+StatementsAreThoseThatStand = (s : Statement) (block : Block) →
+    Contains (statements block) s ↔ Stands s block
 
 -- a `new` writes its chain, and a store its array
 pub data Writes : ObjectId → Statement → Type 0 where
@@ -62,9 +64,11 @@ WrittenIsByTheText = (f : Function) (o : ObjectId) → (is_written f o ≡ true)
 pub record WritesAreOfTheText (f : Function) (es : List Event) : Type 0 where
   pub chains : (e : Event) (made : NewEntry) → Contains es e → made_of e ≡ Some made →
       is_written f (object.Chain made.chain) ≡ true
-  pub arrays : (place array i : ℕ) (changed : Bool) → Contains es (CellWritten place array i changed) →
+  pub arrays : (place array i : ℕ) (changed : Bool) →
+      Contains es (CellWritten place array i changed) →
       is_written f (object.Array array) ≡ true
 
+-- so it is of each packet's record
 abbrev pub PacketsWriteWhatIsWritten : Type 0
 PacketsWriteWhatIsWritten = (f : Function) (s : State) (packet : Packet) (choices : List ℕ) →
     WritesAreOfTheText f (recorded f s packet choices)
@@ -82,6 +86,7 @@ pub data IsOn : Event → ObjectId → Type 0 where
   written : (place array i : ℕ) (changed : Bool) →
       IsOn (CellWritten place array i changed) (object.Array array)
 
+-- exactly these are the objects of events
 abbrev pub EventsAreOnObjects : Type 0
 EventsAreOnObjects = (e : Event) (o : ObjectId) → (touched_object e ≡ Some o) ↔ IsOn e o
 
@@ -107,5 +112,6 @@ pub record HasObjects (es : List Event) (o : ObjectId) : Type 0 where
   pub changed : Contains (objects_changed es) o ↔ ChangeOf es o
   pub part : Contains (objects_changed es) o → Contains (objects_touched es) o
 
+-- so it is of each record
 abbrev pub ObjectsAreThoseOfEvents : Type 0
 ObjectsAreThoseOfEvents = (es : List Event) (o : ObjectId) → HasObjects es o

@@ -34,7 +34,8 @@ policed =
     Ask (Get 0 0 0 (read W32 DstIp ∷ []) 0)
     (Do (Write 0 0 (valued W64 (Both Plus (Column 0 0) (Read Length))))
     (Ask (Test 1 Greater (Column 0 0) (Number 1000)) drops nothing (forwards 0)))
-    (Make (new_at 2 0 (read W32 DstIp ∷ [])) (Do (Write 0 0 (read W64 Length)) (forwards 0)) nothing nothing nothing)
+    (Make (new_at 2 0 (read W32 DstIp ∷ []))
+    (Do (Write 0 0 (read W64 Length)) (forwards 0)) nothing nothing nothing)
     drops
 
 -- hosts at 5 indices, for 10 nanoseconds after their first packet, 1000 bytes each
@@ -81,19 +82,23 @@ abbrev pub two_hosts : ℕ → ℕ → Option State
 two_hosts time i =
     state_of (polices (to_host 0 0 2147483649 (0 ∷ []) ∷ to_host 1 time 167772161 (i ∷ []) ∷ []))
 
--- At its lifetime's end an entry still stands; a nanosecond later it is gone, and its index is vacant.
+-- At its lifetime's end an entry still stands; a nanosecond later it is gone, and its index is
+-- vacant.
 pub record AnEntryOutlivesItsLastTick : Type 0 where
-  pub stands : two_hosts 10 2 ≡ hosts (seen 0 2147483649 ∷ None ∷ seen 10 167772161 ∷ None ∷ None ∷ []) 10
+  pub stands : two_hosts 10 2
+      ≡ hosts (seen 0 2147483649 ∷ None ∷ seen 10 167772161 ∷ None ∷ None ∷ []) 10
   pub gone : two_hosts 11 2 ≡ hosts (None ∷ None ∷ seen 11 167772161 ∷ None ∷ None ∷ []) 11
   pub again : two_hosts 11 0 ≡ hosts (seen 11 167772161 ∷ None ∷ None ∷ None ∷ None ∷ []) 11
 
--- There is no step where a choice is live or past the end, where one is missing, and where one is left over.
+-- There is no step where a choice is live or past the end, where one is missing, and where one is
+-- left over.
 pub record OnlyVacantIndicesAreChoices : Type 0 where
   pub live : two_hosts 10 0 ≡ None
   pub past_end : two_hosts 10 5 ≡ None
   pub missing : polices (to_host 0 0 2147483649 [] ∷ []) ≡ None
   pub left_over : polices (to_host 0 0 2147483649 (0 ∷ 1 ∷ []) ∷ []) ≡ None
-  pub for_a_hit : polices (to_host 0 0 2147483649 (0 ∷ []) ∷ to_host 1 1 2147483649 (1 ∷ []) ∷ []) ≡ None
+  pub for_a_hit : polices (to_host 0 0 2147483649 (0 ∷ []) ∷ to_host 1 1 2147483649 (1 ∷ []) ∷ [])
+      ≡ None
 
 -- a packet to each of six hosts
 abbrev pub five_and_one : Option RunResult
@@ -109,7 +114,8 @@ five_and_one = polices
 -- five hosts have an entry, at the indices that were chosen, and the sixth one's packet is dropped
 pub record TheSixthHostIsDropped : Type 0 where
   pub actions : actions_of five_and_one ≡ To 0 ∷ To 0 ∷ To 0 ∷ To 0 ∷ To 0 ∷ Drop ∷ []
-  pub state : state_of five_and_one ≡ hosts (seen 1 2 ∷ seen 2 3 ∷ seen 4 5 ∷ seen 0 1 ∷ seen 3 4 ∷ []) 4
+  pub state : state_of five_and_one
+      ≡ hosts (seen 1 2 ∷ seen 2 3 ∷ seen 4 5 ∷ seen 0 1 ∷ seen 3 4 ∷ []) 4
 
 -- a packet that comes with an earlier time gets the greatest stamp so far
 abbrev pub StampsDontFall : Type 0

@@ -1,5 +1,5 @@
 -- Packets that change nothing.
-use Rattle.std.specs.Prelude.{◌≡◌, ◌≢◌, ◌<◌, ◌+◌, ◌↔◌, ℕ, Bool, true, false, List, Option, Some, None, Contains, slice_get}
+use Rattle.std.specs.Prelude.{◌≡◌, ◌≢◌, ◌<◌, ◌+◌, ◌↔◌, ℕ, Bool, true, false, List, Some, None, Contains, slice_get}
 use Rattle.nf_base.specs.declared.packet.Packet.{Packet}
 use Rattle.nf_base.specs.declared.packet.Fields.{Fields}
 use Rattle.nf_base.specs.declared.state.Entry.{Entry}
@@ -21,13 +21,15 @@ abbrev pub QuietAnswersSteps : Type 0
 QuietAnswersSteps = (f : Function) (s : State) (packet : Packet) (choices : List ℕ) →
     (quiet f s packet choices ≡ None) ↔ (step f s packet choices ≡ None)
 
--- a quiet step leaves the state and the numbers of entries as they were
+-- a quiet step leaves the state as it was
 abbrev pub QuietIsSame : Type 0
 QuietIsSame = (f : Function) (s : State) (packet : Packet) (choices : List ℕ) (r : StepResult) →
     quiet f s packet choices ≡ Some true → step f s packet choices ≡ Some r → r.state ≡ s
 
+-- no entry is numbered anew
 abbrev pub QuietNumbersNothing : Type 0
-QuietNumbersNothing = (f : Function) (s : State) (packet : Packet) (choices : List ℕ) (ns : Numbers) →
+QuietNumbersNothing =
+    (f : Function) (s : State) (packet : Packet) (choices : List ℕ) (ns : Numbers) →
     quiet f s packet choices ≡ Some true → all_numbers ns (recorded f s packet choices) ≡ ns
 
 -- an entry that is past its lifetime where a packet is handled
@@ -55,23 +57,27 @@ pub data Changes (f : Function) (s : State) (packet : Packet) (choices : List �
 
 -- a step isn't quiet exactly where it changes something
 abbrev pub QuietChangesNothing : Type 0
-QuietChangesNothing = (f : Function) (s : State) (packet : Packet) (choices : List ℕ) (is_quiet : Bool) →
+QuietChangesNothing =
+    (f : Function) (s : State) (packet : Packet) (choices : List ℕ) (is_quiet : Bool) →
     quiet f s packet choices ≡ Some is_quiet → (is_quiet ≡ false) ↔ Changes f s packet choices
 
 -- the events that change something: an entry made or freed, a use or a write with another value
 pub data Changing : Event → Type 0 where
-  makes : (place chain : ℕ) (labels : List ℕ) (i : ℕ) → Changing (AskedNew place chain labels (Made i))
+  makes : (place chain : ℕ) (labels : List ℕ) (i : ℕ) →
+      Changing (AskedNew place chain labels (Made i))
   uses : (chain i : ℕ) → Changing (EntryUsed chain i true)
   frees : (chain i : ℕ) → Changing (EntryFreed chain i)
   stores : (place array i : ℕ) → Changing (CellWritten place array i true)
 
+-- exactly these are told as a change
 abbrev pub ChangesAreTheseEvents : Type 0
 ChangesAreTheseEvents = (e : Event) → (changes e ≡ true) ↔ Changing e
 
 -- an operation that frees an entry frees a live one
 abbrev pub FreesLive : Context → Operation → Type 0
 FreesLive c (Touch var) = Unit {0}
-FreesLive c (Free var) = (entry : Entry) × (entry_in c.state.chains (var_at c.vars var) ≡ Some entry)
+FreesLive c (Free var) = (entry : Entry)
+    × (entry_in c.state.chains (var_at c.vars var) ≡ Some entry)
 FreesLive c (Set field g) = Unit {0}
 FreesLive c (Write var column g) = Unit {0}
 FreesLive c (Store place array at g) = Unit {0}
@@ -81,6 +87,7 @@ abbrev pub OperationsChange : Type 0
 OperationsChange = (p : Input) (c : Context) (op : Operation) (e : Event) →
     DoesThen p c op e → changes e ≡ true → FreesLive c op → (after p c op).state ≢ c.state
 
+-- an entry that is made changes the state
 abbrev pub NewsChange : Type 0
 NewsChange = (stops : Stops) (p : Input) (c : Context) (n : Creation) (i : ℕ) →
     new_result stops p c n ≡ Made i → (with_new p c n i).state ≢ c.state

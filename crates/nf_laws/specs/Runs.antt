@@ -1,5 +1,5 @@
 -- Runs, their reports and their numbers.
-use Rattle.std.specs.Prelude.{◌≡◌, ◌↔◌, ℕ, true, IsTrue, List, [], ◌∷◌, ◌++◌, length, map, All, Contains, Option, Some, None}
+use Rattle.std.specs.Prelude.{◌≡◌, ◌↔◌, true, List, [], ◌∷◌, ◌++◌, length, map, All, Contains, Option, Some, None}
 use Rattle.std.specs.Option.{option_and_then}
 use Rattle.nf_base.specs.declared.packet.Packet.{Packet}
 use Rattle.nf_base.specs.declared.state.State.{State}
@@ -24,7 +24,9 @@ with_answers dones (Some r) = Some (record { state = r.state; answers = dones ++
 abbrev pub RunsPart : Type 0
 RunsPart = (stops : Stops) (f : Function) (s : State) (first second : List Handling) →
     run_by stops f s (first ++ second)
-    ≡ option_and_then (λ (r : RunResult). with_answers r.answers (run_by stops f r.state second)) (run_by stops f s first)
+    ≡ option_and_then
+    (λ (r : RunResult). with_answers r.answers (run_by stops f r.state second))
+    (run_by stops f s first)
 
 -- a run answers each packet
 abbrev pub RunsAnswerEach : Type 0
@@ -35,44 +37,57 @@ RunsAnswerEach = (stops : Stops) (f : Function) (s : State) (hs : List Handling)
 abbrev pub packets_of : List Handling → List Packet
 packets_of hs = map (λ (h : Handling). h.packet) hs
 
--- from any state some choices give packets a run, where each is skipped or comes in at a port of the function
+-- from any state some choices give packets a run, where each is skipped or comes in at a port of
+-- the function
 abbrev pub RunsGoOn : Type 0
 RunsGoOn = (f : Function) (s : State) (packets : List Packet) → All (HasHandler f) packets →
     (hs : List Handling) × ((r : RunResult) × (packets_of hs ≡ packets) × (run f s hs ≡ Some r))
 
--- from any sound state a run comes to a sound one, and from one of the function's shape to one of that shape
+-- from any sound state a run comes to a sound one
 abbrev pub RunsKeepSoundness : Type 0
-RunsKeepSoundness = (stops : Stops) (f : Function) (s : State) (hs : List Handling) (r : RunResult) →
+RunsKeepSoundness =
+    (stops : Stops) (f : Function) (s : State) (hs : List Handling) (r : RunResult) →
     IsSound f s → run_by stops f s hs ≡ Some r → IsSound f r.state
 
+-- the same of the shape, where each `new` gives as many labels as its chain has
 abbrev pub RunsKeepTheShape : Type 0
 RunsKeepTheShape = (stops : Stops) (f : Function) (s : State) (hs : List Handling) (r : RunResult) →
     AllFit f.chains f.handlers → HasShape f s → run_by stops f s hs ≡ Some r → HasShape f r.state
 
--- reports part where a run does, and so do numbers; behind a packet with no step there are none
+-- reports part where a run does
 abbrev pub ReportsPart : Type 0
-ReportsPart = (f : Function) (s : State) (ns : Numbers) (first second : List Handling) (r : RunResult) →
+ReportsPart =
+    (f : Function) (s : State) (ns : Numbers) (first second : List Handling) (r : RunResult) →
     run f s first ≡ Some r →
-    reports f s ns (first ++ second) ≡ reports f s ns first ++ reports f r.state (numbers_of f s ns first) second
+    reports f s ns (first ++ second)
+    ≡ reports f s ns first ++ reports f r.state (numbers_of f s ns first) second
 
+-- numbers part likewise
 abbrev pub NumbersPart : Type 0
-NumbersPart = (f : Function) (s : State) (ns : Numbers) (first second : List Handling) (r : RunResult) →
+NumbersPart =
+    (f : Function) (s : State) (ns : Numbers) (first second : List Handling) (r : RunResult) →
     run f s first ≡ Some r →
     numbers_of f s ns (first ++ second) ≡ numbers_of f r.state (numbers_of f s ns first) second
 
+-- behind a packet with no step there is no report
 abbrev pub ReportsEnd : Type 0
 ReportsEnd = (f : Function) (s : State) (ns : Numbers) (first second : List Handling) →
     run f s first ≡ None → reports f s ns (first ++ second) ≡ reports f s ns first
 
--- a run has a report for each packet; where it stops there is one for the packet with no step, and none behind it
+-- a run has a report for each packet
 abbrev pub ReportsAreOneAPacket : Type 0
-ReportsAreOneAPacket = (f : Function) (s : State) (ns : Numbers) (hs : List Handling) (r : RunResult) →
+ReportsAreOneAPacket =
+    (f : Function) (s : State) (ns : Numbers) (hs : List Handling) (r : RunResult) →
     run f s hs ≡ Some r → map (λ (a : Report). a.packet) (reports f s ns hs) ≡ packets_of hs
 
+-- where a run stops there is a report of the packet with no step, and none behind it
 abbrev pub TheLastReportHasNoStep : Type 0
-TheLastReportHasNoStep = (f : Function) (s : State) (ns : Numbers) (first second : List Handling) (h : Handling) (r : RunResult) →
+TheLastReportHasNoStep =
+    (f : Function) (s : State) (ns : Numbers) (first second : List Handling) (h : Handling)
+    (r : RunResult) →
     run f s first ≡ Some r → step f r.state h.packet h.choices ≡ None →
-    reports f s ns (first ++ h ∷ second) ≡ reports f s ns first ++ report_of f r.state (numbers_of f s ns first) h ∷ []
+    reports f s ns (first ++ h ∷ second)
+    ≡ reports f s ns first ++ report_of f r.state (numbers_of f s ns first) h ∷ []
 
 -- what a packet did, and what follows where it has a step
 abbrev pub if_going : Option StepResult → (State → List Event) → List Event
@@ -92,7 +107,8 @@ NumbersAreOfTheRecord = (f : Function) (s : State) (ns : Numbers) (hs : List Han
     numbers_of f s ns hs ≡ all_numbers ns (run_record f s hs)
 
 -- the report of one of a run's packets, at the state and the numbers that the run came to before it
-pub record IsReported (f : Function) (s : State) (ns : Numbers) (hs : List Handling) (a : Report) : Type 0 where
+pub record IsReported (f : Function) (s : State) (ns : Numbers) (hs : List Handling)
+    (a : Report) : Type 0 where
   pub earlier : List Handling
   pub handling : Handling
   pub later : List Handling
@@ -101,6 +117,7 @@ pub record IsReported (f : Function) (s : State) (ns : Numbers) (hs : List Handl
   pub ran : run f s earlier ≡ Some before
   pub is : a ≡ report_of f before.state (numbers_of f s ns earlier) handling
 
+-- exactly these are the reports of a run
 abbrev pub ReportsAreOfPackets : Type 0
 ReportsAreOfPackets = (f : Function) (s : State) (ns : Numbers) (hs : List Handling) (a : Report) →
     Contains (reports f s ns hs) a ↔ IsReported f s ns hs a
@@ -116,4 +133,5 @@ pub record Share (f : Function) (hs : List Handling) (a b : Report) : Type 0 whe
 
 -- exactly these meet
 abbrev pub PacketsMeetWhereTheyShare : Type 0
-PacketsMeetWhereTheyShare = (f : Function) (hs : List Handling) (a b : Report) → Meet f hs a b ↔ Share f hs a b
+PacketsMeetWhereTheyShare = (f : Function) (hs : List Handling) (a b : Report) →
+    Meet f hs a b ↔ Share f hs a b

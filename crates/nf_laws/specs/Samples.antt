@@ -1,5 +1,5 @@
 -- Words for worked rows: declarations without names, texts, packets, and what is asked of a run.
-use Rattle.std.specs.Prelude.{ℕ, List, [], ◌∷◌, Option, Some, None, map}
+use Rattle.std.specs.Prelude.{ℕ, List, [], Option, Some, None, map}
 use Rattle.nf_base.specs.declared.width.Width.{Width}
 use Rattle.nf_base.specs.declared.decl.ColumnDecl.{ColumnDecl}
 use Rattle.nf_base.specs.declared.decl.MapDecl.{MapDecl}
@@ -62,11 +62,13 @@ frame a p b q = Some (record {
 
 -- a packet at a port, with its number there and its time
 abbrev pub packet_at : ℕ → ℕ → ℕ → Option Fields → Packet
-packet_at port seq time fields = record { id = record { port = port; seq = seq }; time = time; fields = fields }
+packet_at port seq time fields =
+    record { id = record { port = port; seq = seq }; time = time; fields = fields }
 
 -- with its choices
 abbrev pub arrives : ℕ → ℕ → ℕ → Option Fields → List ℕ → Handling
-arrives port seq time fields choices = record { packet = packet_at port seq time fields; choices = choices }
+arrives port seq time fields choices =
+    record { packet = packet_at port seq time fields; choices = choices }
 
 -- the run of a function from its first packet on
 abbrev pub run_of : Function → List Handling → Option RunResult

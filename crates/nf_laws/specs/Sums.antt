@@ -12,12 +12,13 @@
 --   on 1 { forward length % ttl; }
 --   on 2 { forward length - 40 - ttl; }
 -- }
-use Rattle.std.specs.Prelude.{◌≡◌, ℕ, true, List, [], ◌∷◌, Option, Some, None}
+use Rattle.std.specs.Prelude.{◌≡◌, ℕ, true, List, [], ◌∷◌, Some, Option}
 use Rattle.nf_base.specs.declared.width.Width.TheVariants.{W8}
-use Rattle.nf_base.specs.declared.expr.Operator.{Operator}
 use Rattle.nf_base.specs.declared.expr.Operator.TheVariants.{Plus, Minus, Over, Modulo}
 use Rattle.nf_base.specs.declared.decl.ObjectId.TheVariants as object
 use Rattle.nf_base.specs.declared.packet.Field.TheVariants.{Length, Ttl, SrcPort, DstPort}
+use Rattle.nf_base.specs.declared.packet.Fields.{Fields}
+use Rattle.nf_base.specs.declared.state.State.{State}
 use Rattle.nf_base.specs.declared.done.Action.{Action}
 use Rattle.nf_base.specs.declared.done.Action.TheVariants.{To, Drop}
 use Rattle.nf_base.specs.Text.{Expression, Number, Read, Cell, Both, Forward, Store, Block, End, Do, Function}
@@ -50,16 +51,21 @@ three_counts =
     ∷ arrives 0 2 3 (frame 1 2 2 0) []
     ∷ []
 
--- Past the end a read gives 0 and a write does nothing; 255 and 1 are 0 in 8 bits; at port 7 there is none.
+-- the cells then
+abbrev pub counted_up : State
+counted_up = record { chains = []; arrays = (0 ∷ 7 ∷ []) ∷ [] }
+
+-- Past the end a read gives 0 and a write does nothing; 255 and 1 are 0 in 8 bits; at port 7 there
+-- is none.
 pub record AnArrayCounts : Type 0 where
   pub actions : actions_of (run_of counters three_counts) ≡ To 0 ∷ Drop ∷ To 0 ∷ []
-  pub state : state_of (run_of counters three_counts) ≡ Some (record { chains = []; arrays = (0 ∷ 7 ∷ []) ∷ [] })
+  pub state : state_of (run_of counters three_counts) ≡ Some counted_up
   pub touched : touched_in counters three_counts
       ≡ (CellAt 0 0 ∷ CellAt 0 0 ∷ [])
       ∷ (CellAt 0 0 ∷ CellAt 0 0 ∷ CellAt 0 1 ∷ [])
       ∷ (CellAt 0 0 ∷ [])
       ∷ []
-  pub past_end : quiet counters (record { chains = []; arrays = (0 ∷ 7 ∷ []) ∷ [] }) (packet_at 0 2 3 (frame 1 2 2 0)) []
+  pub past_end : quiet counters counted_up (packet_at 0 2 3 (frame 1 2 2 0)) []
       ≡ Some true
 
 -- sends to the port that an expression comes to
@@ -80,10 +86,23 @@ sums = record {
       ∷ [];
 }
 
--- where a packet of 42 bytes with a time to live goes
+-- a frame of 42 bytes with a time to live
+abbrev pub living : ℕ → Option Fields
+living ttl = Some (record {
+  length = 42;
+  src_mac = 0;
+  dst_mac = 0;
+  src_ip = 0;
+  dst_ip = 0;
+  proto = 17;
+  ttl = ttl;
+  src_port = 0;
+  dst_port = 0;
+})
+
+-- where it goes
 abbrev pub goes : ℕ → ℕ → List Action
-goes port ttl = actions_of (run_of sums (arrives port 0 1
-    (Some (record { length = 42; src_mac = 0; dst_mac = 0; src_ip = 0; dst_ip = 0; proto = 17; ttl = ttl; src_port = 0; dst_port = 0 })) [] ∷ []))
+goes port ttl = actions_of (run_of sums (arrives port 0 1 (living ttl) [] ∷ []))
 
 -- a division by 0 gives 0, as a remainder does, and a difference stops at 0
 pub record ADivisionByNothingIsNothing : Type 0 where

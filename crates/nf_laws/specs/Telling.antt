@@ -19,9 +19,11 @@ Names c var at = var_at c.vars var ≡ Some at
 
 -- an array has a cell at the index that an expression gives, with this value
 abbrev pub HasCell : Input → Context → ℕ → Expression → ℕ → Type 0
-HasCell p c array i v = slice_get (array_at c.state.arrays array) (narrowed W16 (value p c i)) ≡ Some v
+HasCell p c array i v = slice_get (array_at c.state.arrays array) (narrowed W16 (value p c i))
+    ≡ Some v
 
--- what an expression reads: the entry of each variable that it names, and each cell within its array
+-- what an expression reads: the entry of each variable that it names, and each cell within its
+-- array
 pub data Reads (p : Input) (c : Context) : Expression → Event → Type 0 where
   by_index : (var : ℕ) (at : EntryRef) → Names c var at →
       Reads p c (Index var) (EntryUsed at.chain at.index false)
@@ -51,7 +53,8 @@ pub data DoesThen (p : Input) (c : Context) : Operation → Event → Type 0 whe
       DoesThen p c (Write var column g) e
   writes_it : (var column : ℕ) (g : Given) (at : EntryRef) → Names c var at →
       DoesThen p c (Write var column g)
-      (EntryUsed at.chain at.index (rewrites column (given p c g) (entry_in c.state.chains (Some at))))
+      (EntryUsed at.chain at.index
+      (rewrites column (given p c g) (entry_in c.state.chains (Some at))))
   store_index : (place array : ℕ) (i : Expression) (g : Given) (e : Event) → Reads p c i e →
       DoesThen p c (Store place array i g) e
   store_reads : (place array : ℕ) (i : Expression) (g : Given) (e : Event) → Reads p c g.value e →
@@ -69,7 +72,8 @@ pub data AsksThen (p : Input) (c : Context) : Question → Event → Type 0 wher
       (LookedUp place chain m (map (given p c) key) (key_found p c chain m (map (given p c) key)))
   index_reads : (place chain : ℕ) (i : Expression) (guards : List Guard) (var : ℕ) (e : Event) →
       Reads p c i e → AsksThen p c (Find place chain i guards var) e
-  guard_reads : (place chain : ℕ) (i : Expression) (guards : List Guard) (var : ℕ) (g : Guard) (e : Event) →
+  guard_reads : (place chain : ℕ) (i : Expression) (guards : List Guard) (var : ℕ) (g : Guard)
+      (e : Event) →
       Contains guards g → Reads p c g.given.value e → AsksThen p c (Find place chain i guards var) e
   finds : (place chain : ℕ) (i : Expression) (guards : List Guard) (var : ℕ) →
       AsksThen p c (Find place chain i guards var)
@@ -84,7 +88,8 @@ pub data AsksThen (p : Input) (c : Context) : Question → Event → Type 0 wher
 
 -- what a statement does in a context
 pub data Tells (stops : Stops) (p : Input) (c : Context) : Statement → Event → Type 0 where
-  ends : (port : Expression) (e : Event) → Reads p c port e → Tells stops p c (Ends (Forward port)) e
+  ends : (port : Expression) (e : Event) → Reads p c port e →
+      Tells stops p c (Ends (Forward port)) e
   does : (op : Operation) (e : Event) → DoesThen p c op e → Tells stops p c (Does op) e
   asks : (q : Question) (e : Event) → AsksThen p c q e → Tells stops p c (Asks q) e
   label_reads : (n : Creation) (g : Given) (e : Event) → Contains n.labels g → Reads p c g.value e →
@@ -93,21 +98,27 @@ pub data Tells (stops : Stops) (p : Input) (c : Context) : Statement → Event �
       Tells stops p c (Makes n)
       (AskedNew n.place n.chain (map (given p c) n.labels) (new_result stops p c n))
 
--- each of it stands in the record, whatever follows
+-- what an operation does stands in the record, whatever follows
 abbrev pub OperationsAreTold : Type 0
 OperationsAreTold = (p : Input) (c : Context) (op : Operation) (rest : List Event) (e : Event) →
     DoesThen p c op e → Contains (did p c op rest) e
 
+-- what a question does is told
 abbrev pub QuestionsAreTold : Type 0
 QuestionsAreTold = (p : Input) (c : Context) (q : Question) (rest : List Event) (e : Event) →
     AsksThen p c q e → Contains (asked p c q rest) e
 
+-- what a `new` does is told
 abbrev pub NewsAreTold : Type 0
-NewsAreTold = (stops : Stops) (p : Input) (c : Context) (n : Creation) (rest : List Event) (e : Event) →
+NewsAreTold =
+    (stops : Stops) (p : Input) (c : Context) (n : Creation) (rest : List Event) (e : Event) →
     Tells stops p c (Makes n) e → Contains (asked_new stops p c n rest) e
 
+-- what the end of a block reads is told
 abbrev pub EndsAreTold : Type 0
-EndsAreTold = (stops : Stops) (p : Input) (c : Context) (port : Expression) (k : Context → List Event) (e : Event) →
+EndsAreTold =
+    (stops : Stops) (p : Input) (c : Context) (port : Expression) (k : Context → List Event)
+    (e : Event) →
     Tells stops p c (Ends (Forward port)) e → Contains (ended_by p c (Forward port) k) e
 
 -- a statement of a block that does this in some context

@@ -7,8 +7,10 @@ use Rattle.nf_base.specs.Operations.{NewResult, Made}
 use Rattle.nf_base.specs.Events.{Event, LookedUp, Found, AskedNew, EntryUsed, EntryFreed, CellRead, CellWritten}
 use Rattle.nf_base.specs.Locations.{Location, EntryNo, KeyOf, CellAt, Numbers, all_numbers, locations}
 
--- A key: by each `get` of it, hit or miss, and by each `new` that gives it, whatever that comes to. An
--- entry: by what makes it, by a look-up that hits it, by each operation on it. A cell: by each read and
+-- A key: by each `get` of it, hit or miss, and by each `new` that gives it, whatever that comes to.
+-- An
+-- entry: by what makes it, by a look-up that hits it, by each operation on it. A cell: by each read
+-- and
 -- write of it within the size.
 pub data Touches (decls : List ChainDecl) (ns : Numbers) : Event → Location → Type 0 where
   by_get : (place chain m : ℕ) (key : List ℕ) (hit : Option ℕ) →
@@ -33,11 +35,14 @@ pub data Touches (decls : List ChainDecl) (ns : Numbers) : Event → Location �
 
 -- what an event of a record touches, by the numbers at it, is among the record's locations
 abbrev pub TouchedIsALocation : Type 0
-TouchedIsALocation = (decls : List ChainDecl) (ns : Numbers) (es : List Event) (e : Event) (fs : List Event) (x : Location) →
+TouchedIsALocation =
+    (decls : List ChainDecl) (ns : Numbers) (es : List Event) (e : Event) (fs : List Event)
+    (x : Location) →
     Touches decls (all_numbers ns es) e x → Contains (locations decls ns (es ++ e ∷ fs)) x
 
 -- an event of a record that touches a location, with those before it
-pub record Toucher (decls : List ChainDecl) (ns : Numbers) (es : List Event) (x : Location) : Type 0 where
+pub record Toucher (decls : List ChainDecl) (ns : Numbers) (es : List Event)
+    (x : Location) : Type 0 where
   pub earlier : List Event
   pub event : Event
   pub later : List Event

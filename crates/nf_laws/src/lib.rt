@@ -4,6 +4,7 @@
 #![tactic(auto)]
 
 pub mod creations;
+pub mod expiry;
 pub mod locations;
 pub mod lookups;
 pub mod objects;
@@ -17,3 +18,4 @@ pub mod runs;
 pub mod shares;
 pub mod states;
 pub mod steps;
+pub mod values;

@@ -1,13 +1,20 @@
 //! The objects that a text writes, and those that a packet touches and changes.
 ghost use Rattle.nf_laws.specs.Objects.{StatementsAreThoseThatStand, WrittenIsByTheText, PacketsWriteWhatIsWritten, EventsAreOnObjects, LocationsAreOfTheirObject, ObjectsAreThoseOfEvents};
+ghost use Rattle.nf_laws.specs.Statements.{StatementsAreCounted, ObjectsAreListed};
 
 /// The statements of a block are those that stand in it, at any depth.
 pub fn statements_stand()
-    ensures { StatementsAreThoseThatStand }
+    ensures stand { StatementsAreThoseThatStand }
+    ensures counted { StatementsAreCounted }
 {}
 
-/// A function writes the chains that a `new` of its text is on and the arrays that it stores to, and no
-/// other object.
+/// A function's objects are its chains and its arrays.
+pub fn objects_are_listed()
+    ensures { ObjectsAreListed }
+{}
+
+/// A function writes the chains that a `new` of its text is on and the arrays that it stores to,
+/// and no other object.
 pub fn written_is_by_the_text()
     ensures text { WrittenIsByTheText }
     ensures packets { PacketsWriteWhatIsWritten }

@@ -1,5 +1,5 @@
 //! What each statement does, and what it leaves.
-ghost use Rattle.nf_laws.specs.Effects.{TouchesRestamp, WritesRewrite, FreesVacate, FreedVariablesDoNothing, StoresGiveCells, SetsEdit, NewsMakeEntries, DeclarationsAreFound, ChainsAreFound, ArraysAreFound, BlocksEndSo, FallingOffDrops};
+ghost use Rattle.nf_laws.specs.Effects.{TouchesRestamp, WritesRewrite, FreesVacate, FreedVariablesDoNothing, StoresGiveCells, SetsEdit, NewsPutEntries, DeclarationsAreFound, ChainsAreFound, ArraysAreFound, BlocksEndSo, FallingOffDrops};
 
 /// A touch gives an entry its chain's next stamp, and leaves all else.
 pub fn touches_restamp()
@@ -29,7 +29,7 @@ pub fn sets_edit()
 
 /// A `new` puts an entry with its labels at the next choice, and leaves all else.
 pub fn news_put_entries()
-    ensures { NewsMakeEntries }
+    ensures { NewsPutEntries }
 {}
 
 /// What is declared of a chain, its state and the cells of an array are found by their number.

@@ -1,6 +1,7 @@
 //! What the record of a packet tells.
 ghost use Rattle.nf_laws.specs.Telling.{OperationsAreTold, QuestionsAreTold, NewsAreTold, EndsAreTold, NothingElseIsTold};
-ghost use Rattle.nf_laws.specs.Places.{EventsStandAtPlaces, PlacesAreOfTheText};
+ghost use Rattle.nf_laws.specs.Answers.{ResultsAreOfNews, LegalRecordsAreAnswered, FullAnswersAreTold};
+ghost use Rattle.nf_laws.specs.Places.{EventsStandAtPlaces, PlacesAreOfTheText, PlacesAreOfOneStatement, PlacesRise};
 
 /// What a statement reads, does and asks stands in its record.
 pub fn statements_are_told()
@@ -19,4 +20,18 @@ pub fn nothing_else_is_told()
 pub fn events_stand_at_places()
     ensures places { EventsStandAtPlaces }
     ensures text { PlacesAreOfTheText }
+{}
+
+/// A place of a text is that of one statement, and those of statements rise along it.
+pub fn places_rise()
+    ensures one { PlacesAreOfOneStatement }
+    ensures rise { PlacesRise }
+{}
+
+/// A record is legal where no choice was illegal and no `new` stopped, and answers full where some
+/// `new` found no index vacant.
+pub fn answers_are_told()
+    ensures news { ResultsAreOfNews }
+    ensures legal { LegalRecordsAreAnswered }
+    ensures full { FullAnswersAreTold }
 {}

@@ -1,8 +1,8 @@
 //! Whole runs.
 ghost use Rattle.nf_laws.specs.Runs.{RunsPart, RunsAnswerEach, RunsGoOn, RunsKeepSoundness, RunsKeepTheShape, ReportsPart, NumbersPart, ReportsEnd, ReportsAreOneAPacket, TheLastReportHasNoStep, NumbersAreOfTheRecord, ReportsAreOfPackets, PacketsMeetWhereTheyShare};
 
-/// A run over two lists is the run over the second one from where the first one ends, with an answer for
-/// each packet.
+/// A run over two lists is the run over the second one from where the first one ends, with an
+/// answer for each packet.
 pub fn runs_part()
     ensures parts { RunsPart }
     ensures answers { RunsAnswerEach }
@@ -38,7 +38,8 @@ pub fn reports_are_of_packets()
     ensures { ReportsAreOfPackets }
 {}
 
-/// Two packets of a run meet exactly where both touch one location of an object that the text writes.
+/// Two packets of a run meet exactly where both touch one location of an object that the text
+/// writes.
 pub fn packets_meet_where_they_share()
     ensures { PacketsMeetWhereTheyShare }
 {}

@@ -18,8 +18,8 @@ pub fn owners_see_their_own()
     ensures cells { OwnersSeeCells }
 {}
 
-/// A share's handler does what the undivided one does, with the same record, unless it stops; so its
-/// step is the undivided step.
+/// A share's handler does what the undivided one does, with the same record, unless it stops; so
+/// its step is the undivided step.
 pub fn shares_go_alike()
     ensures courses { SharesGoAlike }
     ensures steps { SharesStepAlike }
@@ -35,8 +35,8 @@ pub fn shares_stop_at_news()
     ensures { SharesStopAtNews }
 {}
 
-/// A share stops exactly where its record ends with a `new` that stops, and an entry was made at each
-/// choice before.
+/// A share stops exactly where its record ends with a `new` that stops, and an entry was made at
+/// each choice before.
 pub fn stops_are_told()
     ensures courses { StopsAreTold }
     ensures packets { ShareStopsAreTold }

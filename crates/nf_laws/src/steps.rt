@@ -1,16 +1,16 @@
 //! A packet's step.
 ghost use Rattle.nf_laws.specs.Steps.{StepsAreLegal, LegalStepsAre, OtherPortsHaveNone, SomeChoicesAreLegal, StepsPickTheirChoices, OneStepAtMost, SkippedIsNothing};
 
-/// A packet has a step exactly where each `new` of its record got an answer, and its choices are the
-/// indices of the entries made, in order.
+/// A packet has a step exactly where each `new` of its record got an answer, and its choices are
+/// the indices of the entries made, in order.
 pub fn steps_are_legal()
     ensures legal { StepsAreLegal }
     ensures steps { LegalStepsAre }
     ensures other { OtherPortsHaveNone }
 {}
 
-/// A packet that is skipped, or came in at one of the function's ports, has a step with some choices,
-/// at every state.
+/// A packet that is skipped, or came in at one of the function's ports, has a step with some
+/// choices, at every state.
 pub fn some_choices_are_legal()
     ensures { SomeChoicesAreLegal }
 {}

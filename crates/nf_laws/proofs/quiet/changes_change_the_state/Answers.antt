@@ -1,5 +1,5 @@
 use Rattle.nf_laws.proofs.quiet.changes_change_the_state.Goals as goal
-use Rattle.nf_laws.proofs.Quieted.{changes_are}
+use Rattle.nf_laws.proofs.Unquiet.{changes_are}
 use Rattle.nf_laws.proofs.Changed.{operations_change, news_change}
 
 pub returns-clause-events : goal.returns-clause-events
