@@ -67,15 +67,14 @@ fn statements_have_their_places(rt: HostRuntime) {
     assert!(rt; stands(handler.place, 4, 1));
     assert!(rt; stands(handler.port.place, 4, 4));
     let Block::Ask {
-        question:
-            Question::Get {
-                place,
-                variable,
-                chain,
-                map,
-                close,
-                ..
-            },
+        question: Question::Get {
+            place,
+            variable,
+            chain,
+            map,
+            close,
+            ..
+        },
         next,
         ..
     } = &handler.block
@@ -89,12 +88,11 @@ fn statements_have_their_places(rt: HostRuntime) {
     assert!(rt; stands(map.place, 4, 28));
     assert!(rt; stands(*close, 4, 45));
     let Block::Do {
-        operation:
-            Operation::Set {
-                field,
-                place,
-                value: Expr::Number(value),
-            },
+        operation: Operation::Set {
+            field,
+            place,
+            value: Expr::Number(value),
+        },
         next,
     } = &**next
     else {
