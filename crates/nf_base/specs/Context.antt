@@ -20,7 +20,8 @@ pub record EntryRef : Type 0 where
 abbrev pub Var : Type 0
 Var = Option EntryRef
 
--- a handler in its context: the state, the variables in scope, the edits so far, and the choices that are left
+-- a handler in its context: the state, the variables in scope, the edits so far, and the choices that
+-- are left
 pub record Context : Type 0 where
   pub state : State
   pub vars : List Var

@@ -1,4 +1,5 @@
--- What a packet's handler did, operation by operation. In each definition the last list is what follows.
+-- What a packet's handler did, operation by operation. In each definition the last list is what
+-- follows.
 use Rattle.std.specs.Prelude.{ℕ, ◌==◌, ◌&&◌, Bool, false, not, List, [], ◌∷◌, Option, Some, None, map, slice_get}
 use Rattle.nf_base.specs.Text.{Expression, Number, Read, Index, Label, Column, Cell, Both, Given, Guard, Ending, FallsOff, Forward, Flood, Discard, Operation, Touch, Free, Set, Write, Store, Question, Get, Find, Test, Creation}
 use Rattle.nf_base.specs.declared.width.Width.TheVariants.{W16}

@@ -27,5 +27,6 @@ abbrev pub rest_size : Option (Bor block.Block) → ℕ
 rest_size None = 0
 rest_size (Some b) = block.size-Block b.now + 1
 
+-- a block behind a reference
 abbrev pub block_seen : Bor block.Block → Block
 block_seen b = block_of b.now

@@ -22,7 +22,8 @@ object_of (EntryNo chain k) = object.Chain chain
 object_of (KeyOf chain m key) = object.Chain chain
 object_of (CellAt array index) = object.Array array
 
--- beside a run: of each chain, how many entries were made so far, and the number of the one last made at an index
+-- beside a run: of each chain, how many entries were made so far, and the number of the one last made
+-- at an index
 pub record Numbers : Type 0 where
   pub made : (chain : ℕ) → ℕ
   pub entry_no : (chain index : ℕ) → ℕ

@@ -171,9 +171,12 @@ new_outcome place Stopped rest = rest
 
 -- the outcome of an event, where it has one, in front of what follows
 abbrev pub event_outcome : Event → List Outcome → List Outcome
-event_outcome (Tested place holds) rest = record { place = place; branch = test_branch holds } ∷ rest
-event_outcome (LookedUp place chain m key hit) rest = record { place = place; branch = hit_branch hit } ∷ rest
-event_outcome (Found place chain hit) rest = record { place = place; branch = hit_branch hit } ∷ rest
+event_outcome (Tested place holds) rest =
+    record { place = place; branch = test_branch holds } ∷ rest
+event_outcome (LookedUp place chain m key hit) rest =
+    record { place = place; branch = hit_branch hit } ∷ rest
+event_outcome (Found place chain hit) rest =
+    record { place = place; branch = hit_branch hit } ∷ rest
 event_outcome (AskedNew place chain labels result) rest = new_outcome place result rest
 event_outcome (EntryUsed chain i changed) rest = rest
 event_outcome (EntryFreed chain i) rest = rest

@@ -31,10 +31,13 @@ AreOwn share choices = All (λ i. IsTrue (owns share i)) choices
 
 -- The share stop of a packet: with these choices, each of them own and all used, it comes to a `new`
 -- of a chain with no key taken and no own index vacant.
-pub record IsShareStop (share : Share) (f : Function) (s : State) (packet : Packet) (fields : Fields) (choices : List ℕ) (chain : ℕ) : Type 0 where
+pub record IsShareStop (share : Share) (f : Function) (s : State) (packet : Packet) (fields : Fields)
+    (choices : List ℕ) (chain : ℕ) : Type 0 where
   pub handled : packet.fields ≡ Some fields
   pub own : AreOwn share choices
-  pub stops : completes (share_stops share) f s packet.time fields choices (slice_get f.handlers packet.id.port) ≡ StoppedAt chain []
+  pub stops :
+      completes (share_stops share) f s packet.time fields choices (slice_get f.handlers packet.id.port)
+      ≡ StoppedAt chain []
 
 -- a list that is the first one where the index is own, and else the opening value
 abbrev pub mix : {A : Type 0} → (ℕ → Bool) → (ℕ → A) → List A → List A

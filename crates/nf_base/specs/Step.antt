@@ -119,13 +119,15 @@ recorded_by stops f s packet choices = record_of stops f s packet choices packet
 abbrev pub taken_by : Stops → Function → State → Packet → List ℕ → List PathStep
 taken_by stops f s packet choices = route_of stops f s packet choices packet.fields
 
--- the undivided step, what it does, and the path that it takes
+-- the undivided step
 abbrev pub step : Function → State → Packet → List ℕ → Option StepResult
 step f s packet choices = step_by never f s packet choices
 
+-- what it does
 abbrev pub recorded : Function → State → Packet → List ℕ → List Event
 recorded f s packet choices = recorded_by never f s packet choices
 
+-- the path that it takes
 abbrev pub path_taken : Function → State → Packet → List ℕ → List PathStep
 path_taken f s packet choices = taken_by never f s packet choices
 

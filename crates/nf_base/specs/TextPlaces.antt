@@ -80,8 +80,10 @@ places_in s = own_place s ++ statement_reads s
 abbrev pub all_statements : Function → List Statement
 all_statements f = flat_map statements f.handlers
 
--- The places of a function's text: those of statements rise along each handler, and no two places are the same.
--- Handlers stand by port, and may stand in another order in the text, which the places count along.
+-- The places of a function's text: those of statements rise along each handler, and no two places are
+-- the same. Handlers stand by port, and may stand in another order in the text, which the places
+-- count along.
 pub record HasPlaces (f : Function) : Type 0 where
-  pub rising : All (λ (b : Block). IsStrictlyIncreasing (flat_map own_place (statements b))) f.handlers
+  pub rising :
+      All (λ (b : Block). IsStrictlyIncreasing (flat_map own_place (statements b))) f.handlers
   pub different : AllPairs (λ a b. a ≢ b) (flat_map places_in (all_statements f))

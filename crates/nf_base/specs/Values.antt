@@ -11,7 +11,7 @@ use Rattle.nf_base.specs.declared.expr.Operator.TheVariants.{Plus, Minus, Times,
 use Rattle.nf_base.specs.declared.expr.Comparison.{Comparison}
 use Rattle.nf_base.specs.declared.expr.Comparison.TheVariants.{Equal, NotEqual, Less, LessOrEqual, Greater, GreaterOrEqual}
 
--- the value of a field of a handled packet that new_result at a time
+-- the value of a field of a handled packet that came at a time
 abbrev pub field_of : ℕ → Fields → Field → ℕ
 field_of time fields Time = time
 field_of time fields Length = fields.length

@@ -130,8 +130,10 @@ fn behind(block: &Block) -> Option<&Block>
 /// The statements of a block, its end the last.
 #[tactic(auto, using(crate::proofs::Laid::one_more))]
 fn statements(alloc: Global, block: &Block) -> Result<Vec<&Block>, AllocError>
-    ensures whole { IfOk result (λ all. laid (map block_seen all.items) (text.End text.FallsOff) ≡ block_of block.now) }
-    ensures smaller { IfOk result (λ all. All (λ b. size-Block b.now ≤ size-Block block.now) all.items) }
+    ensures whole { IfOk result (λ all.
+        laid (map block_seen all.items) (text.End text.FallsOff) ≡ block_of block.now) }
+    ensures smaller { IfOk result (λ all.
+        All (λ b. size-Block b.now ≤ size-Block block.now) all.items) }
 {
     let mut all = Vec::new(alloc);
     let mut rest = Some(block);

@@ -46,7 +46,8 @@ fn copied_handlers(
     alloc: Global,
     handlers: &Limited<Handler, 4>,
 ) -> Result<Limited<Handler, 4>, AllocError>
-    ensures same { IfOk result (λ copy. map (λ h. block_of h.block) copy ≡ map (λ h. block_of h.block) handlers.now) }
+    ensures same { IfOk result (λ copy.
+        map (λ h. block_of h.block) copy ≡ map (λ h. block_of h.block) handlers.now) }
     ensures all { IfOk result (λ copy. length copy ≡ length handlers.now) }
 {
     let mut all = Limited::new(alloc);

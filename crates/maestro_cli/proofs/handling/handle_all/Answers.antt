@@ -1,8 +1,9 @@
-use Rattle.std.proofs.Common.{◌≡◌, ◌<◌, ◌∙◌, ◌+◌, ◌++◌, length, map, drop, sym, refl, ap, subst}
+use Rattle.std.proofs.Common.{◌≡◌, ◌<◌, ◌∙◌, ◌+◌, [], ◌∷◌, ◌++◌, length, map, drop, sym, refl, ap, subst}
 use Rattle.std.specs.List.{AllByRecursion}
 use Rattle.nf_base.specs.Functions.{function_of}
 use Rattle.nf_engine.specs.View.{Fixed}
 use Rattle.vig_tables.specs.TablesState.{TablesState}
+use Rattle.capture_order.specs.declared.arrival.Arrival.{Arrival}
 use Rattle.run_files.specs.Written.{arrival_in}
 use Rattle.maestro_cli.specs.Runs.{IsUndivided}
 use Rattle.maestro_cli.proofs.Handlings.{undivided_none, handles_more, arrivals_after, all_got, arrivals_more}
@@ -27,8 +28,12 @@ loop-arrival-preserved c =
     let i = c.loop-arrival.arrival-index in
     let inv = c.loop-arrival.invariant in
     let one = c.in_ok-handle_one.ensures.ok in
+    let front = map arrival_in c.loop-arrival.handled.items in
     record {
-      all = ap (λ ys. ys ++ drop (i + 1) xs) (arrivals_after f _ _ _ _ _ one) ∙ arrivals_more (map arrival_in c.loop-arrival.handled.items) xs i _ c.loop-arrival-test.true inv.all;
+      all =
+          ap (λ ys. ys ++ drop (i + 1) xs) (arrivals_after f _ _ _ _ _ one)
+          ∙ ap (λ (a : Arrival). (front ++ a ∷ []) ++ drop (i + 1) xs) c.arrival-item.is
+          ∙ arrivals_more front xs i c.arrival-item.result c.loop-arrival-test.true inv.all;
       undivided = handles_more f _ _ _ _ _ one inv.undivided;
       of_func = ap (λ (x : Fixed). x.decls) c.in_ok-handle_one.ensures.same ∙ inv.of_func;
       whole = ap (λ (x : Fixed). x.share.of) c.in_ok-handle_one.ensures.same ∙ inv.whole;
