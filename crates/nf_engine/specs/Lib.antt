@@ -3,3 +3,4 @@ pub mod Choices
 pub mod Creations
 pub mod Course
 pub mod Handlings
+pub mod Quiet

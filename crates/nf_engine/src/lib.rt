@@ -9,6 +9,7 @@ mod handling;
 mod labels;
 mod operation;
 mod question;
+mod quiet_block;
 mod values;
 mod vars;
 
