@@ -10,3 +10,4 @@ pub mod QuietReads
 pub mod Unchanged
 pub mod QuietOperations
 pub mod Refusing
+pub mod Looking

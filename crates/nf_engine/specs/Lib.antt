@@ -4,3 +4,4 @@ pub mod Creations
 pub mod Course
 pub mod Handlings
 pub mod Quiet
+pub mod Looks

@@ -10,7 +10,10 @@ mod labels;
 mod operation;
 mod question;
 mod quiet_block;
+mod quiet_step;
 mod values;
 mod vars;
 
+pub use context::Look;
 pub use handling::{Handled, handle, replay};
+pub use quiet_step::look;
