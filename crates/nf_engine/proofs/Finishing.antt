@@ -58,7 +58,7 @@ none_taken : (p : Input) (start : Context) (all : List ℕ) → start.picks ≡ 
 none_taken p start all none = rw none refl
 
 -- the answer of a handler that ended
-ended : (all left : List ℕ) (flow : Flow) (u : TablesState) (c : Context) → step_result all (completion_of flow (context_of u left c)) ≡ finished all left u.state (record { action = action_of flow; edits = c.edits; picks = c.picks })
+pub ended : (all left : List ℕ) (flow : Flow) (u : TablesState) (c : Context) → step_result all (completion_of flow (context_of u left c)) ≡ finished all left u.state (record { action = action_of flow; edits = c.edits; picks = c.picks })
 ended all [] Falls u c = refl
 ended all [] (Ends a) u c = refl
 ended all (i ∷ left) Falls u c = refl

@@ -6,3 +6,8 @@ pub mod Answering
 pub mod Rooms
 pub mod Undivided
 pub mod Finishing
+pub mod QuietReads
+pub mod Unchanged
+pub mod QuietOperations
+pub mod Refusing
+pub mod Looking

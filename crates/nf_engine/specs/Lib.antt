@@ -3,3 +3,5 @@ pub mod Choices
 pub mod Creations
 pub mod Course
 pub mod Handlings
+pub mod Quiet
+pub mod Looks

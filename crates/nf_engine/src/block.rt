@@ -1,8 +1,12 @@
 // How a block goes.
 ghost use Rattle.std.specs.Prelude.{◌≡◌, List, ℕ, IfOk};
+ghost use Rattle.nf_base.specs.Context as meant;
 ghost use Rattle.nf_base.specs.Course.{sent, ended};
+ghost use Rattle.nf_base.specs.Events.{Event, ended_by};
+ghost use Rattle.nf_base.specs.Record.{is_quiet};
 ghost use Rattle.nf_base.specs.View.{block_of, ending_of};
 ghost use Rattle.nf_engine.specs.Course.{BlockFits, HasRoom, UsesRoom, Goes};
+ghost use Rattle.nf_engine.specs.Quiet.{record_after};
 ghost use Rattle.nf_engine.specs.View.{context_of, input_of, completion_of, fixed_of, fixed_in};
 
 use crate::context::{Context, Flow, Halt, Input};
@@ -25,9 +29,14 @@ fn sent(ports: u32, port: u64) -> Action
     }
 }
 
+#[tactic(auto, using(crate::proofs::QuietReads::reads_quiet))]
 pub fn end(tables: &Tables, context: &Context, p: &Input, ending: &Ending) -> Flow
-    ensures { (left : List ℕ) → ended (input_of p.now) (context_of tables.now left context.now) (ending_of ending.now)
+    ensures goes { (left : List ℕ)
+        → ended (input_of p.now) (context_of tables.now left context.now) (ending_of ending.now)
         ≡ completion_of result (context_of tables.now left context.now) }
+    ensures quiet { (c : meant.Context) (k : meant.Context → List Event)
+        → is_quiet (ended_by (input_of p.now) c (ending_of ending.now) k)
+        ≡ is_quiet (record_after result (k c)) }
 {
     match ending {
         Ending::FallsOff => Flow::Falls,

@@ -4,7 +4,7 @@ ghost use Rattle.nf_base.specs.Step.{no_edits};
 
 use crate::vars::Vars;
 use nf_base::decl::ChainDecl;
-use nf_base::done::{Action, Edits};
+use nf_base::done::{Action, Done, Edits};
 use nf_base::packet::Fields;
 use nf_base::picks::Picks;
 use nf_base::share::Share;
@@ -63,4 +63,14 @@ pub enum Halt {
     ShareFull(u32),
     /// A `new` is to make an entry, and the next choice is not vacant, not own, or missing.
     BadChoice,
+}
+
+/// What a look at a packet came to.
+#[derive(Debug, Drop)]
+pub enum Look {
+    /// It is done, and nothing had to be written.
+    Done(Done),
+    /// Something past its lifetime is to be given up, or an operation of the handler would change
+    /// something.
+    NeedsWrite,
 }

@@ -9,7 +9,11 @@ mod handling;
 mod labels;
 mod operation;
 mod question;
+mod quiet_block;
+mod quiet_step;
 mod values;
 mod vars;
 
+pub use context::Look;
 pub use handling::{Handled, handle, replay};
+pub use quiet_step::look;

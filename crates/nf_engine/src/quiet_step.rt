@@ -1,0 +1,74 @@
+// Packets that are handled without a write.
+ghost use Rattle.std.specs.Prelude.{◌≡◌, ◌<◌, length, Some, true, IfSome, IfNone};
+ghost use Rattle.nf_base.specs.Chains.{all_none_due, lifetime_of};
+ghost use Rattle.nf_base.specs.Functions.{function_of};
+ghost use Rattle.nf_engine.specs.Looks.{IfDone, IfNeedsWrite, IsQuietStep, AlwaysWrites};
+
+use crate::context::{Context, Input, Look};
+use crate::handling::{action_of, skipped};
+use crate::quiet_block::exec_quietly;
+use nf_base::done::Done;
+use nf_base::func::Func;
+use nf_base::packet::{Fields, Packet};
+use nf_base::picks::Picks;
+use vig_tables::Tables;
+
+/// Handles a packet without a write, in tables with the whole share: `NeedsWrite` exactly where
+/// something is past its lifetime, or where with any legal choices an operation of the packet's handler
+/// changes something.
+///
+/// It takes no memory.
+pub fn look(tables: &Tables, func: &Func, packet: &Packet) -> Look
+    requires of_func { tables.now.decls ≡ func.now.chains }
+    requires whole { tables.now.share.of ≡ 1 }
+    requires port { packet.now.id.port < length func.now.handlers }
+    // The step makes no entry, and leaves this very state.
+    ensures done { IfDone result (λ done.
+        IsQuietStep (function_of func.now) tables.now.state packet.now done) }
+    ensures needs { IfNeedsWrite result
+        (AlwaysWrites (function_of func.now) tables.now.state packet.now) }
+{
+    let Some(fields) = packet.fields else {
+        return Look::Done(skipped());
+    };
+    if tables.any_due(packet.time) {
+        return Look::NeedsWrite;
+    }
+    match run(tables, func, packet, fields) {
+        Some(done) => Look::Done(done),
+        None => Look::NeedsWrite,
+    }
+}
+
+/// Runs the handler of a packet's port until it would write: None where it would.
+fn run(tables: &Tables, func: &Func, packet: &Packet, fields: Fields) -> Option<Done>
+    requires of_func { tables.now.decls ≡ func.now.chains }
+    requires whole { tables.now.share.of ≡ 1 }
+    requires port { packet.now.id.port < length func.now.handlers }
+    requires handled { packet.now.fields ≡ Some fields }
+    requires none_due { let lifetimes = lifetime_of tables.now.decls in
+        all_none_due packet.now.time lifetimes tables.now.state.chains ≡ true }
+    ensures done { IfSome result (λ done.
+        IsQuietStep (function_of func.now) tables.now.state packet.now done) }
+    ensures needs { IfNone result
+        (AlwaysWrites (function_of func.now) tables.now.state packet.now) }
+{
+    let handler = func.handlers.item(packet.id.port);
+    let p = Input {
+        decls: func.chains.as_slice(),
+        ports: func.handlers.len(),
+        time: packet.time,
+        fields,
+        share: tables.share(),
+        choices: None,
+    };
+    let mut context = Context::new();
+    let Some(flow) = exec_quietly(tables, &mut context, &p, &handler.block) else {
+        return None;
+    };
+    Some(Done {
+        action: action_of(flow),
+        edits: context.edits,
+        picks: Picks::new(),
+    })
+}
