@@ -1,5 +1,6 @@
 //! What the record of a packet tells.
-ghost use Rattle.nf_laws.specs.Telling.{OperationsAreTold, QuestionsAreTold, NewsAreTold, EndsAreTold, NothingElseIsTold};
+ghost use Rattle.nf_laws.specs.Courses.{CoursesAreOfTheText};
+ghost use Rattle.nf_laws.specs.Telling.{OperationsAreTold, QuestionsAreTold, NewsAreTold, EndsAreTold, EachStatementIsTold, NothingElseIsTold};
 ghost use Rattle.nf_laws.specs.Answers.{ResultsAreOfNews, LegalRecordsAreAnswered, FullAnswersAreTold};
 ghost use Rattle.nf_laws.specs.Places.{EventsStandAtPlaces, PlacesAreOfTheText, PlacesAreOfOneStatement, PlacesRise};
 
@@ -11,9 +12,11 @@ pub fn statements_are_told()
     ensures ends { EndsAreTold }
 {}
 
-/// Nothing stands in a record but what statements of its text do.
-pub fn nothing_else_is_told()
-    ensures { NothingElseIsTold }
+/// Exactly what the statements do that a course comes to stands in its record.
+pub fn courses_are_told()
+    ensures text { CoursesAreOfTheText }
+    ensures each { EachStatementIsTold }
+    ensures only { NothingElseIsTold }
 {}
 
 /// Each question, each `new` and each access to a cell has a place, which is one of the text's.
