@@ -46,3 +46,5 @@ pub mod PlacedApart
 pub mod Unquiet
 pub mod Coming
 pub mod Reached
+pub mod Ended
+pub mod Keyed

@@ -1,10 +1,11 @@
 -- The statements that a course comes to, each in its context.
 use Rattle.std.specs.Prelude.{◌≡◌, ℕ, Some, None, Contains}
-use Rattle.nf_base.specs.Text.{Ending, Operation, Question, Creation, Block, End, Do, Ask, Make}
+use Rattle.nf_base.specs.declared.done.Action.{Action}
+use Rattle.nf_base.specs.Text.{Ending, FallsOff, Operation, Question, Creation, Block, End, Do, Ask, Make}
 use Rattle.nf_base.specs.Statements.{Statement, Ends, Does, Asks, Makes, statements}
 use Rattle.nf_base.specs.Context.{Context, Input}
 use Rattle.nf_base.specs.Operations.{Stops, Made, Taken, Full, new_result, with_new, answer, after}
-use Rattle.nf_base.specs.Course.{Normal, exec}
+use Rattle.nf_base.specs.Course.{Normal, Ended, exec}
 
 -- From a context a course comes to the first statement of its block. Behind an operation it goes on
 -- after that; behind a question and a `new` in the block that they branch to, and where that falls
@@ -60,3 +61,21 @@ abbrev pub CoursesAreOfTheText : Type 0
 CoursesAreOfTheText =
     (stops : Stops) (p : Input) (block : Block) (c : Context) (s : Statement) (d : Context) →
     Comes stops p block c s d → Contains (statements block) s
+
+-- an end that a course comes to, and that ends it so
+pub record EndsAt (stops : Stops) (p : Input) (block : Block) (c : Context) (a : Action)
+    (d : Context) : Type 0 where
+  pub ending : Ending
+  pub comes : Comes stops p block c (Ends ending) d
+  pub ends : exec stops p (End ending) d ≡ Ended a d
+
+-- a course ends with the action of an end that it comes to, in the context there
+abbrev pub CoursesEndWhereTheyCome : Type 0
+CoursesEndWhereTheyCome =
+    (stops : Stops) (p : Input) (block : Block) (c : Context) (a : Action) (d : Context) →
+    exec stops p block c ≡ Ended a d → EndsAt stops p block c a d
+
+-- and where it falls off, it comes to such an end, in the context there
+abbrev pub CoursesFallOffAtAnEnd : Type 0
+CoursesFallOffAtAnEnd = (stops : Stops) (p : Input) (block : Block) (c d : Context) →
+    exec stops p block c ≡ Normal d → Comes stops p block c (Ends FallsOff) d

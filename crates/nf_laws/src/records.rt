@@ -1,6 +1,5 @@
 //! What the record of a packet tells.
-ghost use Rattle.nf_laws.specs.Courses.{CoursesAreOfTheText};
-ghost use Rattle.nf_laws.specs.Telling.{OperationsAreTold, QuestionsAreTold, NewsAreTold, EndsAreTold, EachStatementIsTold, NothingElseIsTold};
+ghost use Rattle.nf_laws.specs.Telling.{OperationsAreTold, QuestionsAreTold, NewsAreTold, EndsAreTold};
 ghost use Rattle.nf_laws.specs.Answers.{ResultsAreOfNews, LegalRecordsAreAnswered, FullAnswersAreTold};
 ghost use Rattle.nf_laws.specs.Places.{EventsStandAtPlaces, PlacesAreOfTheText, PlacesAreOfOneStatement, PlacesRise};
 
@@ -10,13 +9,6 @@ pub fn statements_are_told()
     ensures questions { QuestionsAreTold }
     ensures news { NewsAreTold }
     ensures ends { EndsAreTold }
-{}
-
-/// Exactly what the statements do that a course comes to stands in its record.
-pub fn courses_are_told()
-    ensures text { CoursesAreOfTheText }
-    ensures each { EachStatementIsTold }
-    ensures only { NothingElseIsTold }
 {}
 
 /// Each question, each `new` and each access to a cell has a place, which is one of the text's.

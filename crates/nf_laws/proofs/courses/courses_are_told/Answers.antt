@@ -1,4 +1,4 @@
-use Rattle.nf_laws.proofs.records.courses_are_told.Goals as goal
+use Rattle.nf_laws.proofs.courses.courses_are_told.Goals as goal
 use Rattle.nf_laws.proofs.Coming.{courses_of_text, nothing_else}
 use Rattle.nf_laws.proofs.Reached.{each_told}
 
