@@ -44,3 +44,7 @@ pub mod Replied
 pub mod Counted
 pub mod PlacedApart
 pub mod Unquiet
+pub mod Coming
+pub mod Reached
+pub mod Ended
+pub mod Keyed

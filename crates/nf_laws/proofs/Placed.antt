@@ -13,7 +13,7 @@ use Rattle.nf_laws.specs.Telling.{Reads, by_index, by_label, by_column, by_cell,
 use Rattle.nf_laws.specs.Places as place
 use Rattle.nf_laws.specs.Places.{StandsAt, EventsStandAtPlaces, PlacesAreOfTheText}
 use Rattle.nf_laws.proofs.Listed.{here, there, in_flat}
-use Rattle.nf_laws.proofs.Told.{nothing_else}
+use Rattle.nf_laws.proofs.Coming.{nothing_else, courses_of_text}
 
 place_at : (e : Event) (k : ℕ) → text_place e ≡ Some k → StandsAt e k
 place_at (Tested at holds) k q = subst (StandsAt (Tested at holds)) (same_Some _ _ q) (place.tested at holds)
@@ -85,4 +85,4 @@ tells_place stops p c s e k (makes n) g = own (Makes n) k (only_one k n.place []
 
 pub places_of_text : PlacesAreOfTheText
 places_of_text stops p block c e k h g =
-    let t = nothing_else stops p block c e h in in_flat places_in (statements block) t.statement k t.of_text (tells_place stops p t.context t.statement e k t.tells g)
+    let t = nothing_else stops p block c e h in in_flat places_in (statements block) t.statement k (courses_of_text stops p block c t.statement t.context t.comes) (tells_place stops p t.context t.statement e k t.tells g)

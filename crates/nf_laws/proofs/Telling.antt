@@ -1,11 +1,12 @@
 -- What a statement reads, does and asks stands in its record.
 use Rattle.std.proofs.Common.{◌≡◌, ℕ, Bool, false, not, ◌==◌, List, [], ◌∷◌, Contains, Option, Some, None, slice_get, sym, subst, inl, inr}
 use Rattle.nf_base.specs.declared.width.Width.TheVariants.{W16}
-use Rattle.nf_base.specs.Text.{Expression, Number, Read, Index, Label, Column, Cell, Both, Given, Guard}
+use Rattle.nf_base.specs.Text.{Expression, Number, Read, Index, Label, Column, Cell, Both, Given, Guard, Operation, Touch, Free, Set, Write, Store, Question, Get, Find, Test, Creation}
 use Rattle.nf_base.specs.Values.{narrowed}
 use Rattle.nf_base.specs.Chains.{array_at}
 use Rattle.nf_base.specs.Context.{Context, Input, EntryRef, Var, var_at, entry_in, value, given}
-use Rattle.nf_base.specs.Events.{Event, EntryUsed, EntryFreed, CellRead, CellWritten, used, loads, reads, reads_all, reads_guards, restamps_at, rewrites}
+use Rattle.nf_base.specs.Operations.{Stops}
+use Rattle.nf_base.specs.Events.{Event, EntryUsed, EntryFreed, CellRead, CellWritten, used, frees, loads, stores, reads, reads_all, reads_guards, restamps_at, rewrites, did, asked, asked_new}
 use Rattle.nf_laws.specs.Telling.{Reads, by_index, by_label, by_column, by_cell, in_index, in_left, in_right, touches, frees_it, set_reads, write_reads, writes_it, store_index, store_reads, stores_it, key_reads, looks_up, index_reads, guard_reads, finds, left_reads, right_reads, tests, ends, label_reads, makes, OperationsAreTold, QuestionsAreTold, NewsAreTold, EndsAreTold}
 use Rattle.nf_laws.proofs.Listed.{here, there, has, has_none}
 
@@ -34,6 +35,31 @@ behind_all p c (g ∷ gs) rest e h = behind p c g.value _ e (behind_all p c gs r
 behind_guards : (p : Input) (c : Context) (gs : List Guard) (rest : List Event) (e : Event) → Contains rest e → Contains (reads_guards p c gs rest) e
 behind_guards p c [] rest e h = h
 behind_guards p c (g ∷ gs) rest e h = behind p c g.given.value _ e (behind_guards p c gs rest e h)
+
+behind_free : (v : Var) (rest : List Event) (e : Event) → Contains rest e → Contains (frees v rest) e
+behind_free None rest e h = h
+behind_free (Some at) rest e h = there (EntryFreed at.chain at.index) rest e h
+
+behind_store : (place array i v : ℕ) (cell : Option ℕ) (rest : List Event) (e : Event) → Contains rest e → Contains (stores place array i v cell rest) e
+behind_store place array i v None rest e h = h
+behind_store place array i v (Some before) rest e h = there (CellWritten place array i (not (before == v))) rest e h
+
+pub behind_did : (p : Input) (c : Context) (op : Operation) (rest : List Event) (e : Event) → Contains rest e → Contains (did p c op rest) e
+behind_did p c (Touch var) rest e h = behind_use (restamps_at p.time c.state.chains (var_at c.vars var)) (var_at c.vars var) rest e h
+behind_did p c (Free var) rest e h = behind_free (var_at c.vars var) rest e h
+behind_did p c (Set field g) rest e h = behind p c g.value rest e h
+behind_did p c (Write var column g) rest e h = behind p c g.value _ e (behind_use (rewrites column (given p c g) (entry_in c.state.chains (var_at c.vars var))) (var_at c.vars var) rest e h)
+behind_did p c (Store place array at g) rest e h =
+    let i = narrowed W16 (value p c at) in
+    behind p c at _ e (behind p c g.value _ e (behind_store place array i (given p c g) (slice_get (array_at c.state.arrays array) i) rest e h))
+
+pub behind_asked : (p : Input) (c : Context) (q : Question) (rest : List Event) (e : Event) → Contains rest e → Contains (asked p c q rest) e
+behind_asked p c (Get place chain m key var) rest e h = behind_all p c key _ e (there _ rest e h)
+behind_asked p c (Find place chain at guards var) rest e h = behind p c at _ e (behind_guards p c guards _ e (there _ rest e h))
+behind_asked p c (Test place comparison a b) rest e h = behind p c a _ e (behind p c b _ e (there _ rest e h))
+
+pub behind_new : (stops : Stops) (p : Input) (c : Context) (n : Creation) (rest : List Event) (e : Event) → Contains rest e → Contains (asked_new stops p c n rest) e
+behind_new stops p c n rest e h = behind_all p c n.labels _ e (there _ rest e h)
 
 used_now : (f : Var → Bool) (v : Var) (at : EntryRef) (rest : List Event) → v ≡ Some at → Contains (used (f v) v rest) (EntryUsed at.chain at.index (f (Some at)))
 used_now f v at rest e = rw e (here (EntryUsed at.chain at.index (f (Some at))) rest)

@@ -13,13 +13,13 @@ use Rattle.nf_base.specs.Objects.{is_store_in, writes, is_written}
 use Rattle.nf_base.specs.Context.{Context, Input}
 use Rattle.nf_base.specs.Operations.{Stops, never}
 use Rattle.nf_base.specs.Events.{Event, Tested, LookedUp, Found, AskedNew, EntryUsed, EntryFreed, CellRead, CellWritten}
-use Rattle.nf_base.specs.Step.{input, records, record_of}
+use Rattle.nf_base.specs.Step.{input, start_context, records, record_of}
 use Rattle.nf_laws.specs.Telling.{Reads, by_index, by_label, by_column, by_cell, in_index, in_left, in_right, DoesThen, touches, frees_it, set_reads, write_reads, writes_it, store_index, store_reads, stores_it, AsksThen, key_reads, looks_up, index_reads, guard_reads, finds, left_reads, right_reads, tests, Tells, ends, does, asks, label_reads, makes, ToldBy}
 use Rattle.nf_laws.specs.Objects.{Writes, by_new, by_store, Writer, WrittenIsByTheText, PacketsWriteWhatIsWritten}
 use Rattle.nf_laws.proofs.Listed.{here, there, has, has_none, at_index}
 use Rattle.nf_laws.proofs.Within.{stands_in, in_stands}
 use Rattle.nf_laws.proofs.Numbered.{only_news}
-use Rattle.nf_laws.proofs.Told.{nothing_else}
+use Rattle.nf_laws.proofs.Coming.{nothing_else, courses_of_text}
 
 or_left : (a b : Bool) → a ≡ true → (a || b) ≡ true
 or_left true b e = refl
@@ -134,13 +134,13 @@ tells_gives stops p c s e o (label_reads n v d h r) g = not_read p c v.value d o
 tells_gives stops p c s e o (makes n) g = subst (λ (x : ObjectId). Writes x (Makes n)) (same_Some _ _ g) (by_new n)
 
 -- what a packet gives something is written by the text
-in_block : (f : Function) (p : Input) (block : Block) (e : Event) (o : ObjectId) → Contains f.handlers block → ToldBy never p block e → given_object e ≡ Some o → is_written f o ≡ true
-in_block f p block e o h t g = written_by f block t.statement o h t.of_text (tells_gives never p t.context t.statement e o t.tells g)
+in_block : (f : Function) (p : Input) (block : Block) (c : Context) (e : Event) (o : ObjectId) → Contains f.handlers block → ToldBy never p block c e → given_object e ≡ Some o → is_written f o ≡ true
+in_block f p block c e o h t g = written_by f block t.statement o h (courses_of_text never p block c t.statement t.context t.comes) (tells_gives never p t.context t.statement e o t.tells g)
 
 at_handler : (f : Function) (s : State) (time : ℕ) (fields : Fields) (choices : List ℕ) (port : ℕ) (handler : Option Block) (e : Event) (o : ObjectId) → slice_get f.handlers port ≡ handler →
     Contains (records never f s time fields choices handler) e → given_object e ≡ Some o → is_written f o ≡ true
 at_handler f s time fields choices port None e o at h g = absurd (has_none e h)
-at_handler f s time fields choices port (Some block) e o at h g = in_block f (input f time fields) block e o (at_index f.handlers port block at) (nothing_else never (input f time fields) block _ e h) g
+at_handler f s time fields choices port (Some block) e o at h g = in_block f (input f time fields) block (start_context f s time choices) e o (at_index f.handlers port block at) (nothing_else never (input f time fields) block _ e h) g
 
 of_fields : (f : Function) (s : State) (packet : Packet) (choices : List ℕ) (fields : Option Fields) (e : Event) (o : ObjectId) → Contains (record_of never f s packet choices fields) e → given_object e ≡ Some o → is_written f o ≡ true
 of_fields f s packet choices None e o h g = absurd (has_none e h)

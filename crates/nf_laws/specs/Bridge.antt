@@ -77,8 +77,7 @@ between a b = Some (record {
 })
 
 -- To an unknown address, back, there again, to an unknown one from another port, back after the
--- address moved
--- to that port, and after its lifetime.
+-- address moved to that port, and after its lifetime.
 abbrev pub learns : Option RunResult
 learns = run_of bridge
     (arrives 0 0 0 (between 2 4) (0 ∷ [])

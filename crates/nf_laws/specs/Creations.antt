@@ -36,8 +36,7 @@ pub record IsNextChoice (c : Context) (n : Creation) (i : ℕ) : Type 0 where
   pub vacant : IsVacant (slots_for c n) i
 
 -- Exactly one answer: taken where a key is bound; else a stop; else full where no index is vacant;
--- else
--- an entry at the next choice, where that is vacant; else the choice is illegal.
+-- else an entry at the next choice, where that is vacant; else the choice is illegal.
 pub record AnswersNew (stops : Stops) (p : Input) (c : Context) (n : Creation) : Type 0 where
   pub taken : (new_result stops p c n ≡ Taken) ↔ IsBound p c n
   pub stopped : (new_result stops p c n ≡ Stopped)

@@ -1,5 +1,5 @@
 -- Entries of a chain, and their keys.
-use Rattle.std.specs.Prelude.{◌≡◌, ◌≢◌, ◌<◌, ℕ, List, Option, Some, None, slice_get}
+use Rattle.std.specs.Prelude.{◌≡◌, ◌≢◌, ◌<◌, ◌≤◌, ◌+◌, ℕ, List, Option, Some, None, slice_get}
 use Rattle.nf_base.specs.declared.decl.MapDecl.{MapDecl}
 use Rattle.nf_base.specs.declared.state.Entry.{Entry}
 use Rattle.nf_base.specs.Chains.{key_in}
@@ -24,3 +24,12 @@ pub record IsFirstWith (m : MapDecl) (key : List ℕ) (slots : List (Option Entr
     (i : ℕ) : Type 0 where
   pub here : HasKeyAt m key slots i
   pub first : (j : ℕ) (entry : Entry) → j < i → IsLive slots j entry → key_in m entry.labels ≢ key
+
+-- a key has as many parts as its map says, from the first one on, where there are so many labels
+pub record HasParts (m : MapDecl) (labels : List ℕ) : Type 0 where
+  pub part : (i : ℕ) → i < m.parts → slice_get (key_in m labels) i ≡ slice_get labels (m.first + i)
+  pub no_more : (i : ℕ) → m.parts ≤ i → slice_get (key_in m labels) i ≡ None
+
+-- so each key has
+abbrev pub KeysHaveTheirParts : Type 0
+KeysHaveTheirParts = (m : MapDecl) (labels : List ℕ) → HasParts m labels

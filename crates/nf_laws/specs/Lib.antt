@@ -2,6 +2,7 @@ pub mod Entries
 pub mod Creations
 pub mod Lookups
 pub mod Values
+pub mod Courses
 pub mod Telling
 pub mod Effects
 pub mod Expiry

@@ -1,5 +1,5 @@
 -- A queue's share: its own indices, its course beside the undivided one, and where it stops.
-use Rattle.std.specs.Prelude.{◌≡◌, ◌↔◌, ◌<◌, ◌≤◌, ℕ, Bool, true, false, List, [], ◌∷◌, ◌++◌, length, Contains, Option, Some, slice_get}
+use Rattle.std.specs.Prelude.{◌≡◌, ◌↔◌, ◌<◌, ◌≤◌, ℕ, Bool, true, false, List, [], ◌∷◌, ◌++◌, length, Option, Some, slice_get}
 use Rattle.std.specs.Option.{option_map}
 use Rattle.nf_base.specs.declared.packet.Packet.{Packet}
 use Rattle.nf_base.specs.declared.packet.Fields.{Fields}
@@ -7,7 +7,7 @@ use Rattle.nf_base.specs.declared.share.Share.{Share}
 use Rattle.nf_base.specs.declared.state.Entry.{Entry}
 use Rattle.nf_base.specs.declared.state.State.{State}
 use Rattle.nf_base.specs.Text.{Block, Creation, Function}
-use Rattle.nf_base.specs.Statements.{Makes, statements}
+use Rattle.nf_base.specs.Statements.{Makes}
 use Rattle.nf_base.specs.Context.{Context, Input}
 use Rattle.nf_base.specs.Operations.{Stops, Stopped, never}
 use Rattle.nf_base.specs.Events.{Event, AskedNew}
@@ -15,6 +15,7 @@ use Rattle.nf_base.specs.Course.{Completion, Normal, Ended, NoStep, StoppedAt, e
 use Rattle.nf_base.specs.Record.{is_legal, indices_made}
 use Rattle.nf_base.specs.Step.{StepResult, step, step_by, recorded, recorded_by, path_taken, taken_by}
 use Rattle.nf_base.specs.Shares.{owns, none_vacant, share_stops, AreOwn, IsShareStop, mix}
+use Rattle.nf_laws.specs.Courses.{Comes}
 use Rattle.nf_laws.specs.Entries.{IsVacant}
 use Rattle.nf_laws.specs.Creations.{slots_for, IsBound}
 
@@ -86,12 +87,13 @@ abbrev pub WholeSharesNeverStop : Type 0
 WholeSharesNeverStop = (share : Share) (p : Input) (block : Block) (c : Context) →
     share.of ≤ 1 → exec (share_stops share) p block c ≡ exec never p block c
 
--- where a share stops: at a `new` of the text, with no key taken and no own index vacant
-pub record StopsAtNew (share : Share) (p : Input) (block : Block) (chain : ℕ)
+-- where a share stops: at a `new` that its course comes to, with no key taken and no own index
+-- vacant
+pub record StopsAtNew (share : Share) (p : Input) (block : Block) (c : Context) (chain : ℕ)
     (left : List ℕ) : Type 0 where
   pub creation : Creation
   pub context : Context
-  pub of_text : Contains (statements block) (Makes creation)
+  pub comes : Comes (share_stops share) p block c (Makes creation) context
   pub on : creation.chain ≡ chain
   pub left_over : context.left ≡ left
   pub several : 1 < share.of
@@ -102,7 +104,8 @@ pub record StopsAtNew (share : Share) (p : Input) (block : Block) (chain : ℕ)
 abbrev pub SharesStopAtNews : Type 0
 SharesStopAtNews =
     (share : Share) (p : Input) (block : Block) (c : Context) (chain : ℕ) (left : List ℕ) →
-    exec (share_stops share) p block c ≡ StoppedAt chain left → StopsAtNew share p block chain left
+    exec (share_stops share) p block c ≡ StoppedAt chain left →
+    StopsAtNew share p block c chain left
 
 -- a record that ends with a `new` that stops, with entries made at the choices before those that
 -- are left

@@ -6,12 +6,13 @@ use Rattle.nf_base.specs.declared.packet.Field.{Field}
 use Rattle.nf_base.specs.declared.width.Width.TheVariants.{W16}
 use Rattle.nf_base.specs.Values.{narrowed, compares}
 use Rattle.nf_base.specs.Text.{Expression, Index, Label, Column, Cell, Both, Given, Guard, Forward, Operation, Touch, Free, Set, Write, Store, Question, Get, Find, Test, Creation, Block}
-use Rattle.nf_base.specs.Statements.{Statement, Ends, Does, Asks, Makes, statements}
+use Rattle.nf_base.specs.Statements.{Statement, Ends, Does, Asks, Makes}
 use Rattle.nf_base.specs.Chains.{array_at}
 use Rattle.nf_base.specs.Context.{Context, Input, EntryRef, var_at, entry_in, value, given}
 use Rattle.nf_base.specs.Operations.{Stops, new_result, key_found, index_found}
 use Rattle.nf_base.specs.Events.{Event, Tested, LookedUp, Found, AskedNew, EntryUsed, EntryFreed, CellRead, CellWritten, restamps_at, rewrites, did, asked, asked_new, ended_by}
 use Rattle.nf_base.specs.Course.{events}
+use Rattle.nf_laws.specs.Courses.{Comes}
 
 -- the entry of a variable is live
 abbrev pub Names : Context → ℕ → EntryRef → Type 0
@@ -121,14 +122,22 @@ EndsAreTold =
     (e : Event) →
     Tells stops p c (Ends (Forward port)) e → Contains (ended_by p c (Forward port) k) e
 
--- a statement of a block that does this in some context
-pub record ToldBy (stops : Stops) (p : Input) (block : Block) (e : Event) : Type 0 where
+-- each statement that a course comes to is told
+abbrev pub EachStatementIsTold : Type 0
+EachStatementIsTold =
+    (stops : Stops) (p : Input) (block : Block) (c : Context) (s : Statement) (d : Context)
+    (e : Event) →
+    Comes stops p block c s d → Tells stops p d s e → Contains (events stops p block c (λ _. [])) e
+
+-- a statement that a course comes to, which does this
+pub record ToldBy (stops : Stops) (p : Input) (block : Block) (c : Context)
+    (e : Event) : Type 0 where
   pub statement : Statement
   pub context : Context
-  pub of_text : Contains (statements block) statement
+  pub comes : Comes stops p block c statement context
   pub tells : Tells stops p context statement e
 
--- and nothing stands in a record but what statements of its text do
+-- and nothing else is
 abbrev pub NothingElseIsTold : Type 0
 NothingElseIsTold = (stops : Stops) (p : Input) (block : Block) (c : Context) (e : Event) →
-    Contains (events stops p block c (λ _. [])) e → ToldBy stops p block e
+    Contains (events stops p block c (λ _. [])) e → ToldBy stops p block c e

@@ -8,10 +8,8 @@ use Rattle.nf_base.specs.Events.{Event, LookedUp, Found, AskedNew, EntryUsed, En
 use Rattle.nf_base.specs.Locations.{Location, EntryNo, KeyOf, CellAt, Numbers, all_numbers, locations}
 
 -- A key: by each `get` of it, hit or miss, and by each `new` that gives it, whatever that comes to.
--- An
--- entry: by what makes it, by a look-up that hits it, by each operation on it. A cell: by each read
--- and
--- write of it within the size.
+-- An entry: by what makes it, by a look-up that hits it, by each operation on it. A cell: by each
+-- read and write of it within the size.
 pub data Touches (decls : List ChainDecl) (ns : Numbers) : Event → Location → Type 0 where
   by_get : (place chain m : ℕ) (key : List ℕ) (hit : Option ℕ) →
       Touches decls ns (LookedUp place chain m key hit) (KeyOf chain m key)

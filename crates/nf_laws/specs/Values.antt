@@ -134,8 +134,7 @@ CellsRead = (p : Input) (c : Context) (place array : ℕ) (at : Expression) →
     ReadsCell p c place array at
 
 -- numbers are themselves, fields are read, operators take the values of both sides, and what is
--- given
--- is taken to its width
+-- given is taken to its width
 pub record ReadsRest (p : Input) (c : Context) : Type 0 where
   pub number : (n : ℕ) → value p c (Number n) ≡ n
   pub field : (field : Field) → value p c (Read field) ≡ field_of p.time p.fields field

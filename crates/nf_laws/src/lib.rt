@@ -3,6 +3,7 @@
 //! Each function's contract is a law, or what a few packets come to; its body does nothing.
 #![tactic(auto)]
 
+pub mod courses;
 pub mod creations;
 pub mod expiry;
 pub mod locations;

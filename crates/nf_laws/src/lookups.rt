@@ -1,5 +1,11 @@
 //! What `get`, `find` and a test hit.
+ghost use Rattle.nf_laws.specs.Entries.{KeysHaveTheirParts};
 ghost use Rattle.nf_laws.specs.Lookups.{SearchesFindTheFirst, GetsHitKeys, FindsHitEntries, TestsCompare, HitsBindTheirVariable};
+
+/// A key is the labels of an entry from its map's first one on, as many as the map has parts.
+pub fn keys_have_their_parts()
+    ensures { KeysHaveTheirParts }
+{}
 
 /// A search finds the first index whose entry has the key, exactly where some entry has it.
 pub fn searches_find_the_first()

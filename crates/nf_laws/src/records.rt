@@ -1,5 +1,5 @@
 //! What the record of a packet tells.
-ghost use Rattle.nf_laws.specs.Telling.{OperationsAreTold, QuestionsAreTold, NewsAreTold, EndsAreTold, NothingElseIsTold};
+ghost use Rattle.nf_laws.specs.Telling.{OperationsAreTold, QuestionsAreTold, NewsAreTold, EndsAreTold};
 ghost use Rattle.nf_laws.specs.Answers.{ResultsAreOfNews, LegalRecordsAreAnswered, FullAnswersAreTold};
 ghost use Rattle.nf_laws.specs.Places.{EventsStandAtPlaces, PlacesAreOfTheText, PlacesAreOfOneStatement, PlacesRise};
 
@@ -9,11 +9,6 @@ pub fn statements_are_told()
     ensures questions { QuestionsAreTold }
     ensures news { NewsAreTold }
     ensures ends { EndsAreTold }
-{}
-
-/// Nothing stands in a record but what statements of its text do.
-pub fn nothing_else_is_told()
-    ensures { NothingElseIsTold }
 {}
 
 /// Each question, each `new` and each access to a cell has a place, which is one of the text's.
