@@ -1,9 +1,9 @@
-//! Calls on files, readers and writers of captures, as the tests make them. They promise what further calls ask for
-//! and no more: what the answers are is compared, and not proved.
-ghost use Rattle.std.specs.Prelude.{◌<◌, ◌≤◌, ◌⊎◌, ℕ, IfOk, length};
+//! Calls on files and readers of captures, as the tests make them. They promise what further calls ask for and no
+//! more: what the answers are is compared, and not proved.
+ghost use Rattle.std.specs.Prelude.{◌<◌, ◌⊎◌, ℕ, IfOk};
 
-use nf_files::{Files, FilesFault};
-use pcap_file::{CapFault, Next, Reader, Writer};
+use nf_files::{Files, FilesFault, write_whole};
+use pcap_file::{CapFault, Next, Reader};
 use std::alloc::Global;
 
 pub fn open<F: Files>(files: &mut F, name: &str) -> Result<u32, FilesFault>
@@ -42,6 +42,7 @@ pub fn write<F: Files>(files: &mut F, file: u32, piece: &[u8]) -> Result<usize, 
 pub fn header<F: Files>(alloc: Global, files: &mut F, file: u32) -> Result<Reader, CapFault>
     requires opened { F.is_read files.old file }
     ensures readable { IfOk result (λ reader. F.is_read files.new reader.file) }
+    ensures reads { (g : ℕ) → F.is_read files.old g → F.is_read files.new g }
 {
     Reader::header(alloc, files, file)
 }
@@ -58,29 +59,11 @@ pub fn next<F: Files>(
     reader.next(files, frame)
 }
 
-/// Writes a capture of two records: a frame of 2 bytes at 5, and another at 2,000,000,009.
-pub fn write_two<F: Files>(
-    alloc: Global,
-    files: &mut F,
-    file: u32,
-    frame: &[u8],
-) -> Result<(), CapFault>
+/// Writes a whole piece.
+pub fn write_all<F: Files>(files: &mut F, file: u32, piece: &[u8]) -> Result<(), FilesFault>
     requires created { (file < 2) ⊎ F.is_written files.old file }
-    requires frame { length frame.now ≤ 262144 }
+    ensures reads { (g : ℕ) → F.is_read files.old g → F.is_read files.new g }
+    ensures writes { (g : ℕ) → F.is_written files.old g → F.is_written files.new g }
 {
-    let mut writer = Writer::header(alloc, files, file)?;
-    writer.put(files, 5, 60_000, &[1, 2])?;
-    writer.put(files, 2_000_000_009, 60_000, frame)
-}
-
-/// Writes a header, and gives what the writing of a record after it answers.
-pub fn write_one<F: Files>(
-    alloc: Global,
-    files: &mut F,
-    file: u32,
-) -> Result<Result<(), CapFault>, CapFault>
-    requires created { (file < 2) ⊎ F.is_written files.old file }
-{
-    let mut writer = Writer::header(alloc, files, file)?;
-    Ok(writer.put(files, 0, 3, &[1]))
+    write_whole(files, file, piece)
 }

@@ -7,6 +7,8 @@ mod calls;
 #[cfg(test)]
 mod capture_tests;
 #[cfg(test)]
+mod failing_system;
+#[cfg(test)]
 mod fault_count_tests;
 #[cfg(test)]
 mod frame_tests;

@@ -1,4 +1,5 @@
 //! Files of the system.
+use crate::failing_system::FailingSystem;
 use nf_files::{Files, FilesFault, RealFiles, read_whole, write_whole};
 use std::test::Fail;
 use std::{env, fs, process};
@@ -32,9 +33,68 @@ fn faults_of_the_system_are_told(rt: HostRuntime) -> Result<(), Fail> {
         Err(FilesFault::Failed)
     );
     assert_eq!(rt; files.open_in("/"), Err(FilesFault::Failed), "a directory");
-    // Where the system has it, no byte can be written to this file.
+    // Where the system has them, no byte can be read of the first file, and none written to the other.
+    if let Ok(memory) = files.open_in("/proc/self/mem") {
+        let mut out = [0u8; 8];
+        assert_eq!(rt; files.read(memory, &mut out), Err(FilesFault::Failed));
+        assert_eq!(rt;
+            files.read(memory, &mut out),
+            Err(FilesFault::Failed),
+            "still"
+        );
+    }
     if let Ok(full) = files.create_out("/dev/full") {
         assert_eq!(rt; files.write(full, b"x"), Err(FilesFault::Failed));
     }
+    Ok(())
+}
+
+#[test]
+fn a_fault_is_told_once_behind_the_bytes_before_it(rt: HostRuntime) -> Result<(), Fail> {
+    let system = FailingSystem { system: &rt };
+    let mut files = RealFiles::new(rt.alloc(), &system, rt.stdout(), rt.stderr());
+    let name = format!(in rt.alloc(); "nf_files-failing-{}", process::id(rt.process()))?;
+    let path = env::temp_dir(&rt)?.join(rt.alloc(), name.as_str())?;
+    fs::write(&rt, &path, b"".as_slice())?;
+    let file = files.open_in(path.as_str())?;
+    fs::remove_file(&rt, &path)?;
+    let mut out = [0u8; 8];
+    assert_eq!(rt; files.read(file, &mut out[..2]), Ok(2));
+    assert_eq!(rt;
+        files.read(file, &mut out),
+        Ok(1),
+        "what was read before the fault"
+    );
+    assert_eq!(rt; files.read(file, &mut out[..0]), Ok(0), "no byte is needed");
+    assert_eq!(rt; files.read(file, &mut out), Err(FilesFault::Failed));
+    assert_eq!(rt; files.read(file, &mut out), Ok(2), "what comes behind it");
+    assert_eq!(rt; &out[..2], b"de".as_slice());
+    assert_eq!(rt; files.read(file, &mut out), Ok(0));
+    Ok(())
+}
+
+#[test]
+fn reads_of_any_size_go_on_where_the_last_one_ended(rt: HostRuntime) -> Result<(), Fail> {
+    let alloc = rt.alloc();
+    let name = format!(in rt.alloc(); "nf_files-ahead-{}", process::id(rt.process()))?;
+    let path = env::temp_dir(&rt)?.join(rt.alloc(), name.as_str())?;
+    let mut bytes = Vec::new(alloc);
+    for number in 0..100_000u32 {
+        bytes.extend_from_slice(&number.to_le_bytes())?;
+    }
+    fs::write(&rt, &path, bytes.as_slice())?;
+    let mut files = RealFiles::new(alloc, &rt, rt.stdout(), rt.stderr());
+    let file = files.open_in(path.as_str())?;
+    let mut all = Vec::new(alloc);
+    let mut out = vec![in alloc; 0u8; 100_000]?;
+    'sizes: for size in [1, 16, 65_519, 65_536, 100_000, 3, 65_535, 5, 70_000] {
+        let count = files.read(file, &mut out[..size])?;
+        all.extend_from_slice(&out[..count])?;
+    }
+    assert!(rt; all.len() > 131_072, "{} bytes", all.len());
+    let rest = read_whole(alloc, &mut files, file)?;
+    all.extend_from_slice(rest.as_slice())?;
+    assert!(rt; all.as_slice() == bytes.as_slice());
+    fs::remove_file(&rt, &path)?;
     Ok(())
 }

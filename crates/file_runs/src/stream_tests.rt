@@ -1,7 +1,7 @@
 //! Captures in files, record by record.
-use crate::calls::{create, header, next, open, write_one, write_two};
+use crate::calls::{create, header, next, open, read, write_all};
 use nf_files::MemoryFiles;
-use pcap_file::{CapFault, Head, Next};
+use pcap_file::{CapFault, Head, Next, push_header, push_record};
 use std::alloc::Global;
 use std::test::Fail;
 
@@ -86,9 +86,12 @@ fn a_written_capture_is_read_again(rt: HostRuntime) -> Result<(), Fail> {
     let alloc = rt.alloc();
     let mut files = MemoryFiles::new(alloc, Vec::new(alloc));
     let out = create(&mut files, "a")?;
-    // A long frame, so that its record lies across the pieces that are read.
     let long = [7; 200_000];
-    write_two(alloc, &mut files, out, &long)?;
+    let mut bytes = Vec::new(alloc);
+    push_header(&mut bytes)?;
+    push_record(&mut bytes, 5, 60_000, &[1, 2])?;
+    push_record(&mut bytes, 2_000_000_009, 60_000, &long)?;
+    write_all(&mut files, out, &bytes)?;
     let file = open(&mut files, "a")?;
     let mut reader = header(alloc, &mut files, file)?;
     let mut frame = Vec::new(alloc);
@@ -102,28 +105,59 @@ fn a_written_capture_is_read_again(rt: HostRuntime) -> Result<(), Fail> {
     Ok(())
 }
 
+/// The calls that fail are counted from 0, in the order of the calls: the opening, and then the reads, of which each
+/// wanted piece takes one.
 #[test]
 fn faults_are_told(rt: HostRuntime) -> Result<(), Fail> {
     let alloc = rt.alloc();
     let mut files = files_with(alloc, &BIG, &[1])?;
     let file = open(&mut files, "a")?;
     assert!(rt; header(alloc, &mut files, file).is_err_and(|e| e == CapFault::File));
-    let mut files = files_with(alloc, &BIG, &[2])?;
+    for fails in [2, 3, 4] {
+        let mut files = files_with(alloc, &BIG, &[fails])?;
+        let file = open(&mut files, "a")?;
+        let mut reader = header(alloc, &mut files, file)?;
+        let mut frame = Vec::new(alloc);
+        if fails == 4 {
+            let first = next(&mut reader, &mut files, &mut frame);
+            assert_eq!(rt;
+                first,
+                Ok(Next::Frame(HEAD)),
+                "the fault comes behind the record"
+            );
+        }
+        let told = next(&mut reader, &mut files, &mut frame);
+        assert_eq!(rt; told, Err(CapFault::File), "call {fails}");
+    }
+    Ok(())
+}
+
+/// What is left of a file shows what a reader took.
+#[test]
+fn no_byte_behind_a_record_is_taken(rt: HostRuntime) -> Result<(), Fail> {
+    let alloc = rt.alloc();
+    let mut bytes = Vec::from_slice(alloc, &BIG)?;
+    bytes.extend_from_slice(b"rest")?;
+    let mut files = files_with(alloc, &bytes, &[])?;
+    let mut out = [0u8; 64];
     let file = open(&mut files, "a")?;
     let mut reader = header(alloc, &mut files, file)?;
     let mut frame = Vec::new(alloc);
     assert_eq!(rt;
         next(&mut reader, &mut files, &mut frame),
-        Ok(Next::Frame(HEAD)),
-        "read ahead"
+        Ok(Next::Frame(HEAD))
     );
     assert_eq!(rt;
-        next(&mut reader, &mut files, &mut frame),
-        Err(CapFault::File)
+        read(&mut files, file, &mut out),
+        Ok(4),
+        "behind the record"
     );
-    let mut files = files_with(alloc, &BIG, &[2])?;
-    let out = create(&mut files, "b")?;
-    assert_eq!(rt; write_one(alloc, &mut files, out)?, Err(CapFault::File));
-    assert_eq!(rt; files.given(out).len(), 24);
+    let other = open(&mut files, "a")?;
+    assert!(rt; header(alloc, &mut files, other).is_ok());
+    assert_eq!(rt;
+        read(&mut files, other, &mut out),
+        Ok(23),
+        "behind the header"
+    );
     Ok(())
 }

@@ -1,5 +1,6 @@
 -- When a call may answer that the outside failed.
 use Rattle.std.specs.Prelude.{◌≡◌, ℕ, ◌+◌, ◌-◌, ◌^◌, ◌≤◌, min, Option, Some, None, Result, Ok, Err}
+use Rattle.nf_files.specs.declared.count.FaultCount.{FaultCount}
 use Rattle.nf_files.specs.declared.fault.FilesFault.{FilesFault}
 use Rattle.nf_files.specs.declared.fault.FilesFault.TheVariants.{Failed, Memory}
 
@@ -7,6 +8,10 @@ use Rattle.nf_files.specs.declared.fault.FilesFault.TheVariants.{Failed, Memory}
 pub record Counted : Type 0 where
   pub faults : ℕ
   pub first : Option ℕ
+
+-- what a count of faults tells
+abbrev pub counted_of : FaultCount → Counted
+counted_of c = record { faults = c.faults; first = c.first }
 
 -- no file is the first to fail exactly where no fault was counted
 abbrev pub IsCount : Counted → Type 0

@@ -1,7 +1,10 @@
 -- Files of which nothing is told but the number that the next opening gives.
-use Rattle.std.specs.Prelude.{◌≡◌, ℕ, ◌+◌, ◌-◌, ◌≤◌, List, Some, None, option_map, slice_get}
+use Rattle.std.specs.Prelude.{◌≡◌, ℕ, ◌+◌, ◌-◌, ◌≤◌, List, Option, Some, None, option_map, slice_get}
+use Rattle.std.specs.Io.KnownBytes.{prepend_known}
 use Rattle.nf_files.specs.declared.kind.Kind.{Kind}
+use Rattle.nf_files.specs.declared.kind.Kind.TheVariants as good
 use Rattle.nf_files.specs.declared.real.SystemFile.{SystemFile}
+use Rattle.nf_files.specs.declared.real.SystemFile.TheVariants.{Input, Output}
 use Rattle.nf_files.specs.Told.{Told}
 
 -- so many files were opened
@@ -15,6 +18,31 @@ untold opened = record {
   next = opened + 2;
 }
 
+-- what an opened file is good for
+abbrev pub good_for : {F : Type 0} → SystemFile F → Kind
+good_for (Input ahead) = good.Input
+good_for (Output file) = good.Output
+
 -- the number of an opened file that is good for this
 abbrev pub IsOf : {F : Type 0} → Kind → List (SystemFile F) → ℕ → Type 0
-IsOf kind files g = (2 ≤ g) × (option_map (λ f. f.kind) (slice_get files (g - 2)) ≡ Some kind)
+IsOf kind files g = (2 ≤ g) × (option_map good_for (slice_get files (g - 2)) ≡ Some kind)
+
+-- the bytes of an opened file that are still to be read, where those of the system's are known
+abbrev pub left_of : {F : Type 0} → (F → Option (List ℕ)) → Option (SystemFile F) → Option (List ℕ)
+left_of remaining (Some (Input ahead)) = prepend_known ahead.buffer (remaining ahead.file)
+left_of remaining (Some (Output file)) = None
+left_of remaining None = None
+
+-- the same of a number
+abbrev pub left_at : {F : Type 0} → (F → Option (List ℕ)) → List (SystemFile F) → ℕ → Option (List ℕ)
+left_at remaining files g = left_of remaining (slice_get files (g - 2))
+
+-- the bytes that an opened file holds, where those of the system's are known
+abbrev pub held_of : {F : Type 0} → (F → Option (List ℕ)) → Option (SystemFile F) → Option (List ℕ)
+held_of contents (Some (Input ahead)) = None
+held_of contents (Some (Output file)) = contents file
+held_of contents None = None
+
+-- the same of a number
+abbrev pub held_at : {F : Type 0} → (F → Option (List ℕ)) → List (SystemFile F) → ℕ → Option (List ℕ)
+held_at contents files g = held_of contents (slice_get files (g - 2))

@@ -2,6 +2,7 @@
 ghost use Rattle.std.specs.Prelude.{◌≡◌, None};
 
 use crate::FilesFault;
+use std::io;
 
 /// How many calls failed, and the file of the first.
 #[derive(Debug, Drop)]
@@ -13,7 +14,8 @@ pub struct FaultCount {
 }
 
 impl FaultCount {
-    ghost use Rattle.nf_files.specs.Causes.{Counted, Faulted};
+    ghost use Rattle.nf_files.specs.Causes.{counted_of, Faulted, HasCause};
+    ghost use Rattle.nf_files.specs.Expected.{IsAnswer};
 
     /// No fault.
     pub fn new() -> Self
@@ -29,13 +31,28 @@ impl FaultCount {
     /// Counts one more fault, up to 2^64 - 1, on a file, and gives what its call answers.
     pub fn fail(&mut self, file: u32) -> FilesFault
         ensures value { result ≡ FilesFault.Failed }
-        ensures counted { Faulted (record { faults = self.old.faults; first = self.old.first }) (record { faults = self.new.faults; first = self.new.first }) file }
+        ensures counted { Faulted (counted_of self.old) (counted_of self.new) file }
     {
         self.faults = self.faults.saturating_add(1);
         if self.first.is_none() {
             self.first = Some(file);
         }
         FilesFault::Failed
+    }
+
+    /// What the system answered to a call on a file; an error counts as one more fault.
+    pub(crate) fn answer<T: Drop>(
+        &mut self,
+        file: u32,
+        answer: io::Result<T>,
+    ) -> Result<T, FilesFault>
+        ensures same { IsAnswer answer result }
+        ensures cause { HasCause (counted_of self.old) (counted_of self.new) file result }
+    {
+        match answer {
+            Ok(value) => Ok(value),
+            Err(_) => Err(self.fail(file)),
+        }
     }
 
     /// The number of faults; from 2^64 - 1 on it stays.

@@ -2,6 +2,8 @@
 //! files of the system, files in memory, and the reading and writing of whole files.
 #![tactic(auto)]
 
+mod ahead;
+mod buffer;
 mod count;
 mod fault;
 mod files;
@@ -9,6 +11,7 @@ mod kind;
 mod memory;
 mod number;
 mod real;
+mod standard;
 mod whole;
 
 pub use count::FaultCount;

@@ -1,21 +1,30 @@
 // The files of the system.
-ghost use Rattle.std.specs.Prelude.{◌≡◌, ◌<◌, ◌≤◌, ◌+◌, ◌⊎◌, ℕ, IfOk, length, None};
-ghost use Rattle.nf_files.specs.Untold.{untold, IsOf};
+ghost use Rattle.std.specs.Prelude.{◌≡◌, ◌<◌, ◌≤◌, ◌+◌, ◌-◌, ◌⊎◌, ℕ, List, Option, Ok, IfOk, length, None};
+ghost use Rattle.std.specs.Io.{ReadsAtMost, WritesAtMost};
+ghost use Rattle.std.specs.Io.KnownBytes.{ReadConsumes, WriteAppends};
+ghost use Rattle.nf_files.specs.Causes.{counted_of, HasCause};
+ghost use Rattle.nf_files.specs.Expected.{IsNotMemory};
+ghost use Rattle.nf_files.specs.Untold.{untold, left_at, held_at, IsOf};
+ghost use Rattle.nf_files.specs.declared.kind.Kind.{Kind};
 ghost use Rattle.nf_files.specs.declared.kind.Kind.TheVariants.{Input, Output};
 
-use crate::kind::Kind;
+use crate::ahead::Ahead;
+use crate::buffer::Buffer;
 use crate::number::next_number;
+use crate::standard::Standard;
 use crate::{FaultCount, Files, FilesFault};
 use std::alloc::Global;
 use std::fs::OpenFile;
 use std::io::{Read, Stderr, Stdout, Write};
 use std::{fs, io, rt};
 
-/// An opened file of the system, with what it is good for.
+/// An opened file of the system.
 #[derive(Drop)]
-pub struct SystemFile<F> {
-    kind: Kind,
-    file: F,
+pub(crate) enum SystemFile<F> {
+    /// It is read, ahead.
+    Input(Ahead<F>),
+    /// It is written.
+    Output(F),
 }
 
 // Opens a name to be read. A directory is refused.
@@ -27,15 +36,30 @@ fn open_file<R: rt::Files>(system: &R, name: &str) -> io::Result<R::File> {
     Ok(file)
 }
 
+// Where none is taken of a piece that isn't empty, that is an error.
+fn some_taken(piece: &[u8], answer: io::Result<usize>) -> io::Result<usize>
+    ensures same { IfOk result (λ count. answer ≡ Ok count) }
+    ensures some { IfOk result (λ count. 0 < length piece.now → 0 < count) }
+    // What was written by the answer was written by the result.
+    ensures wrote { (old : Option (List ℕ)) → (new : Option (List ℕ)) →
+        WriteAppends old new answer piece.now → WriteAppends old new result piece.now }
+{
+    match answer {
+        Ok(0) if !piece.is_empty() => Err(io::Error::from(io::ErrorKind::WriteZero)),
+        answer => answer,
+    }
+}
+
 /// The files of the system, of which no content is told.
 ///
-/// Nothing is buffered, so a write that returned has reached the system. Opening a directory to be
-/// read fails. Memory never runs out once the system was asked.
+/// An input is read ahead, 65,536 bytes a call of the system; a fault is told by the read that needs
+/// the bytes. No output is buffered, so a write that returned has reached the system. Opening a
+/// directory to be read fails. Memory never runs out once the system was asked.
 #[derive(Drop)]
 pub struct RealFiles<'a, R: rt::Files> {
+    alloc: Global,
     system: &'a R,
-    output: Stdout,
-    errors: Stderr,
+    standard: Standard,
     opened: Vec<SystemFile<R::File>>,
     count: FaultCount,
 }
@@ -47,33 +71,79 @@ impl<'a, R: rt::Files> RealFiles<'a, R> {
         ensures no_fault { (result.count.faults ≡ 0) × (result.count.first ≡ None) }
     {
         RealFiles {
+            alloc,
             system,
-            output,
-            errors,
+            standard: Standard::new(output, errors),
             opened: Vec::new(alloc),
             count: FaultCount::new(),
         }
     }
 
+    // Reads the input of this number. An error of the system is never its end.
+    fn read_input(&mut self, file: u32, out: &mut [u8]) -> Result<usize, FilesFault>
+        requires opened { IsOf Input self.old.opened.items file }
+        ensures within { ReadsAtMost result out.new }
+        ensures bytes { let left = left_at R.File.remaining in
+            ReadConsumes (left self.old.opened.items file) (left self.new.opened.items file)
+            result out.new }
+        ensures as_many { length self.new.opened.items ≡ length self.old.opened.items }
+        ensures cause { let old = counted_of self.old.count in
+            HasCause old (counted_of self.new.count) file result }
+        ensures no_memory { IsNotMemory result }
+        ensures kinds { (k : Kind) (g : ℕ) →
+            IsOf k self.old.opened.items g → IsOf k self.new.opened.items g }
+    {
+        let answer = match &mut self.opened[file as usize - 2] {
+            SystemFile::Input(ahead) => ahead.read(out),
+            SystemFile::Output(_) => unreachable!(),
+        };
+        self.count.answer(file, answer)
+    }
+
     // Writes once, to the file of this number.
     fn write_once(&mut self, file: u32, piece: &[u8]) -> io::Result<usize>
         requires opened { (file < 2) ⊎ IsOf Output self.old.opened.items file }
-        ensures within { IfOk result (λ count. count ≤ length piece.now) }
-        ensures same { (length self.new.opened.items ≡ length self.old.opened.items) × (self.new.count ≡ self.old.count) }
-        ensures kinds { (k : Kind) (g : ℕ) → IsOf k self.old.opened.items g → IsOf k self.new.opened.items g }
+        ensures within { WritesAtMost result piece.now }
+        ensures bytes { let held = held_at R.File.contents in 2 ≤ file →
+            WriteAppends (held self.old.opened.items file) (held self.new.opened.items file)
+            result piece.now }
+        ensures as_many { length self.new.opened.items ≡ length self.old.opened.items }
+        ensures same { self.new.count ≡ self.old.count }
+        ensures kinds { (k : Kind) (g : ℕ) →
+            IsOf k self.old.opened.items g → IsOf k self.new.opened.items g }
     {
-        match file {
-            0 => self.output.write(piece),
-            1 => self.errors.write(piece),
-            _ => self.opened[file as usize - 2].file.write(piece),
+        if let Some(stream) = self.standard.stream(file) {
+            return stream.write(piece);
         }
+        match &mut self.opened[file as usize - 2] {
+            SystemFile::Output(output) => output.write(piece),
+            SystemFile::Input(_) => unreachable!(),
+        }
+    }
+
+    // Writes to the file of this number. What an error left unwritten is never told as written.
+    fn write_output(&mut self, file: u32, piece: &[u8]) -> Result<usize, FilesFault>
+        requires opened { (file < 2) ⊎ IsOf Output self.old.opened.items file }
+        ensures within { WritesAtMost result piece.now }
+        ensures some { IfOk result (λ count. 0 < length piece.now → 0 < count) }
+        ensures bytes { let held = held_at R.File.contents in 2 ≤ file →
+            WriteAppends (held self.old.opened.items file) (held self.new.opened.items file)
+            result piece.now }
+        ensures as_many { length self.new.opened.items ≡ length self.old.opened.items }
+        ensures cause { let old = counted_of self.old.count in
+            HasCause old (counted_of self.new.count) file result }
+        ensures kinds { (k : Kind) (g : ℕ) →
+            IsOf k self.old.opened.items g → IsOf k self.new.opened.items g }
+    {
+        let answer = some_taken(piece, self.write_once(file, piece));
+        self.count.answer(file, answer)
     }
 }
 
 impl<'a, R: rt::Files> Files for RealFiles<'a, R> {
     ghost told = { λ r. untold (length r.opened.items) };
 
-    ghost counted = { λ r. record { faults = r.count.faults; first = r.count.first } };
+    ghost counted = { λ r. counted_of r.count };
 
     ghost is_read = { λ r. IsOf Input r.opened.items };
 
@@ -90,45 +160,27 @@ impl<'a, R: rt::Files> Files for RealFiles<'a, R> {
     fn open_in(&mut self, name: &str) -> Result<u32, FilesFault> {
         let number = next_number(self.opened.len())?;
         self.opened.reserve(1)?;
-        match open_file(self.system, name) {
-            Ok(file) => {
-                self.opened.push_reserved(SystemFile {
-                    kind: Kind::Input,
-                    file,
-                });
-                Ok(number)
-            }
-            Err(_) => Err(self.count.fail(number)),
-        }
+        let buffer = Buffer::new(self.alloc)?;
+        let file = self.count.answer(number, open_file(self.system, name))?;
+        self.opened
+            .push_reserved(SystemFile::Input(Ahead::new(file, buffer)));
+        Ok(number)
     }
 
     fn create_out(&mut self, name: &str) -> Result<u32, FilesFault> {
         let number = next_number(self.opened.len())?;
         self.opened.reserve(1)?;
-        match fs::create(self.system, name) {
-            Ok(file) => {
-                self.opened.push_reserved(SystemFile {
-                    kind: Kind::Output,
-                    file,
-                });
-                Ok(number)
-            }
-            Err(_) => Err(self.count.fail(number)),
-        }
+        let file = self.count.answer(number, fs::create(self.system, name))?;
+        self.opened.push_reserved(SystemFile::Output(file));
+        Ok(number)
     }
 
     fn read(&mut self, file: u32, out: &mut [u8]) -> Result<usize, FilesFault> {
-        match self.opened[file as usize - 2].file.read(out) {
-            Ok(count) => Ok(count),
-            Err(_) => Err(self.count.fail(file)),
-        }
+        self.read_input(file, out)
     }
 
     fn write(&mut self, file: u32, piece: &[u8]) -> Result<usize, FilesFault> {
-        match self.write_once(file, piece) {
-            Ok(count) if count > 0 || piece.is_empty() => Ok(count),
-            _ => Err(self.count.fail(file)),
-        }
+        self.write_output(file, piece)
     }
 
     ghost counts = { λ r. r.count.agrees };

@@ -1,16 +1,15 @@
--- What the bytes that were read ahead tell of a header.
-use Rattle.std.proofs.Common.{◌≡◌, ℕ, ◌+◌, ◌<◌, ◌≤◌, ◌%◌, Bool, true, false, ◌&&◌, cond, leb, eqb, List, [], ◌∷◌, ◌++◌, length, drop, Option, Some, None, Err, inl, inr, refl, sym, ap, subst, ◌∙◌, arith}
+-- What the bytes that were taken tell of a header.
+use Rattle.std.proofs.Common.{◌≡◌, ℕ, ◌<◌, ◌≤◌, ◌%◌, Bool, true, false, ◌&&◌, cond, leb, eqb, List, [], ◌++◌, length, drop, Option, Some, None, Err, inl, inr, refl, sym, ap, ◌∙◌, arith}
 use Rattle.std.specs.Option.{option_map}
 use Rattle.std.proofs.lemmas.Bool.{cases_lt, le-leb, lt-leb}
 use Rattle.std.proofs.lemmas.List.{append-nil, length-append, drop-append-le}
 use Rattle.nf_files.specs.Told.{Told}
-use Rattle.pcap_file.specs.declared.form.Endian.{Endian}
 use Rattle.pcap_file.specs.declared.form.Endian.TheVariants.{Big, Little}
 use Rattle.pcap_file.specs.declared.form.TimeUnit.TheVariants.{Microseconds, Nanoseconds}
 use Rattle.pcap_file.specs.declared.form.Form.{Form}
 use Rattle.pcap_file.specs.declared.fault.CapFault.TheVariants.{NotCapture}
 use Rattle.pcap_file.specs.Form.{magic_number, is_header, form_of}
-use Rattle.pcap_file.specs.Capture.{Capture, capture_from, capture_of}
+use Rattle.pcap_file.specs.Capture.{capture_from}
 use Rattle.pcap_file.specs.Held.{to_come, Filled}
 use Rattle.pcap_file.specs.Reading.{Begins, Heads}
 use Rattle.pcap_file.proofs.Reaching.{number_front, number_behind}

@@ -6,4 +6,3 @@ pub mod Reaching
 pub mod Growing
 pub mod Heading
 pub mod Stepping
-pub mod Fronts

@@ -1,5 +1,5 @@
 -- The places of records, as a loop over them finds them.
-use Rattle.std.proofs.Common.{◌≡◌, ℕ, zero, suc, ◌+◌, ◌≤◌, min, Bool, true, false, eqb, cond, List, [], ◌∷◌, ◌++◌, length, take, drop, Option, Some, None, Result, Ok, Err, refl, sym, ap, subst, ◌∙◌, append_assoc, arith}
+use Rattle.std.proofs.Common.{◌≡◌, ℕ, zero, suc, ◌+◌, ◌≤◌, Bool, true, false, eqb, cond, List, [], ◌∷◌, ◌++◌, length, drop, Some, None, Result, Ok, Err, refl, sym, ap, subst, ◌∙◌, append_assoc, arith}
 use Rattle.std.specs.Prelude.{IfOk}
 use Rattle.std.specs.List.{AllByRecursion}
 use Rattle.std.proofs.lemmas.Bool.{eqb-true}
@@ -8,7 +8,7 @@ use Rattle.pcap_file.specs.declared.form.Endian.{Endian}
 use Rattle.pcap_file.specs.declared.form.Form.{Form}
 use Rattle.pcap_file.specs.declared.places.Place.{Place}
 use Rattle.pcap_file.specs.declared.fault.CapFault.{CapFault}
-use Rattle.pcap_file.specs.Record.{Record, time_of, greatest_time}
+use Rattle.pcap_file.specs.Record.{Record}
 use Rattle.pcap_file.specs.Capture.{Capture, captured_in, is_whole, record_in, no_record, behind, capture_within, capture_from}
 use Rattle.pcap_file.specs.Placed.{Placed, Gives, Lies, placed, place_of, places_from}
 use Rattle.pcap_file.proofs.Steps.{either_way, whole, steps, stops, ends}

@@ -1,21 +1,20 @@
--- What the bytes that were read ahead tell of those that are still to come.
-use Rattle.std.proofs.Common.{◌≡◌, ◌≢◌, ℕ, suc, ◌+◌, ◌<◌, ◌≤◌, ◌^◌, Bool, true, false, ◌&&◌, cond, leb, ltb, eqb, List, [], ◌∷◌, ◌++◌, length, take, drop, Option, Some, None, Result, Ok, Err, refl, sym, ap, subst, ◌∙◌, arith}
+-- What the bytes that were taken tell of those that are still to come.
+use Rattle.std.proofs.Common.{◌≡◌, ◌≢◌, ℕ, suc, ◌+◌, ◌≤◌, ◌^◌, Bool, true, false, ◌&&◌, cond, leb, ltb, List, [], ◌∷◌, ◌++◌, length, take, drop, Option, Some, None, Ok, refl, sym, ap, ◌∙◌, arith}
 use Rattle.std.specs.Option.{option_map}
-use Rattle.std.proofs.lemmas.Bool.{le-leb, lt-leb}
-use Rattle.std.proofs.lemmas.List.{append-nil, length-append, length-drop, length-take, drop-append-le, take-append-le, nil_from_length}
+use Rattle.std.proofs.lemmas.Bool.{le-leb}
+use Rattle.std.proofs.lemmas.List.{append-nil, length-append, length-drop, drop-append-le, take-append-le}
 use Rattle.byteorder.specs.Numbers.{big_from-append, little_from-append}
 use Rattle.nf_files.specs.Told.{IsEmptyIfTold}
 use Rattle.pcap_file.specs.declared.form.Endian.{Endian}
 use Rattle.pcap_file.specs.declared.form.Endian.TheVariants.{Big, Little}
-use Rattle.pcap_file.specs.declared.form.TimeUnit.{TimeUnit}
 use Rattle.pcap_file.specs.declared.form.Form.{Form}
 use Rattle.pcap_file.specs.declared.reader.Next.TheVariants.{Frame, End, Torn}
-use Rattle.pcap_file.specs.Form.{number_in, is_header, form_of}
+use Rattle.pcap_file.specs.Form.{number_in}
 use Rattle.pcap_file.specs.Record.{Record, head_of}
-use Rattle.pcap_file.specs.Capture.{Capture, captured_in, is_sized, is_whole, record_in, behind, capture_from, capture_of}
+use Rattle.pcap_file.specs.Capture.{Capture, captured_in, is_sized, is_whole, record_in, behind, capture_from}
 use Rattle.pcap_file.specs.Held.{to_come, Filled}
-use Rattle.pcap_file.specs.Reading.{IsReached, IsNext, Steps}
-use Rattle.pcap_file.proofs.Steps.{both_true, whole, steps, stops, ends}
+use Rattle.pcap_file.specs.Reading.{IsReached, Steps}
+use Rattle.pcap_file.proofs.Steps.{whole, steps, stops, ends}
 use Rattle.pcap_file.proofs.Placing.{form_kept, frame_long, some_there, none_there}
 
 pub number_front : (order : Endian) (xs ys : List ℕ) → 4 ≤ length xs → number_in order (xs ++ ys) ≡ number_in order xs
@@ -43,18 +42,6 @@ some_nil (x ∷ xs) n le e = cc
 
 pub reached_short : (order : Endian) (offset wanted : ℕ) (ahead : List ℕ) (o : Option (List ℕ)) → Filled wanted ahead o false → IsReached order offset ahead o
 reached_short order offset wanted ahead o f = reached_at_end order offset ahead o f.1
-
-no_size : (b : Bool) (n : ℕ) → None ≡ cond b (Some n) None → b ≡ false
-no_size true n e = absurd cc
-no_size false n e = refl
-
-pub reached_unsized : (order : Endian) (offset : ℕ) (ahead : List ℕ) (o : Option (List ℕ)) → 16 ≤ length ahead → None ≡ cond (is_sized order offset ahead) (Some (16 + captured_in order ahead)) None → IsReached order offset ahead o
-reached_unsized order offset ahead None le e = tt
-reached_unsized order offset ahead (Some rest) le e =
-    let here : is_sized order offset ahead ≡ false = no_size (is_sized order offset ahead) (16 + captured_in order ahead) e in
-    let there : is_sized order offset (ahead ++ rest) ≡ false = sized_front order offset ahead rest le ∙ here in
-    let long : 16 ≤ length (ahead ++ rest) = omega (arith, length-append ahead rest) in
-    (tests order offset (ahead ++ rest) true false (leb (16 + captured_in order (ahead ++ rest)) (length (ahead ++ rest))) (le-leb _ _ long) there refl ∙ sym (tests order offset ahead true false (leb (16 + captured_in order ahead) (length ahead)) (le-leb _ _ le) here refl), λ h. absurd (some_nil ahead 15 le h))
 
 a_size : (b : Bool) (n k : ℕ) → Some k ≡ cond b (Some n) None → (b ≡ true) × (n ≡ k)
 a_size true n k e = (refl, cc)

@@ -1,5 +1,5 @@
 -- The two laws: what is read is spelled so, and what is spelled so is read, whatever follows it.
-use Rattle.std.proofs.Common.{◌≡◌, ◌≢◌, ℕ, zero, suc, ◌+◌, ◌*◌, ◌-◌, ◌^◌, ◌<◌, ◌≤◌, Bool, true, false, ◌&&◌, leb, ltb, List, [], ◌∷◌, ◌++◌, length, take, drop, Option, Some, None, refl, sym, ap, subst, ◌∙◌, append_assoc, arith}
+use Rattle.std.proofs.Common.{◌≡◌, ℕ, zero, suc, ◌+◌, ◌-◌, ◌^◌, ◌<◌, ◌≤◌, Bool, true, false, ◌&&◌, leb, ltb, List, [], ◌∷◌, ◌++◌, length, take, drop, Option, Some, None, refl, sym, ap, subst, ◌∙◌, append_assoc, arith}
 use Rattle.std.specs.List.{flat_map, AllByRecursion}
 use Rattle.std.specs.Option.{option_map}
 use Rattle.std.proofs.lemmas.Bool.{le-leb, lt-ltb}
@@ -8,15 +8,12 @@ use Rattle.pcap_file.specs.declared.form.Endian.{Endian}
 use Rattle.pcap_file.specs.declared.form.Form.{Form}
 use Rattle.pcap_file.specs.Form.{number_in, bytes_in, form_of}
 use Rattle.pcap_file.specs.Record.{Record, Fits, record_bytes}
-use Rattle.pcap_file.specs.Capture.{Capture, captured_in, is_sized, is_whole, record_in, no_record, behind, capture_within, capture_from, capture_of}
+use Rattle.pcap_file.specs.Capture.{Capture, captured_in, is_whole, record_in, no_record, behind, capture_within, capture_from, capture_of}
 use Rattle.pcap_file.specs.Spelled.{IsSpelled, Ends, written_form, written_bytes, header_bytes, capture_bytes}
 use Rattle.pcap_file.proofs.Steps.{either_way, whole, steps, stops, ends}
 use Rattle.pcap_file.proofs.Numbers.{IsBytes, IsBytes-drop, read_again, drop_number, number_long, number_below, spelled_again}
 
 -- ---- what is written is read again
-
-size_of : Record → ℕ
-size_of r = 16 + length r.frame
 
 bytes_long : (order : Endian) (r : Record) → length (record_bytes order r) ≡ 16 + length r.frame
 bytes_long order r = simp (length-append, number_long) (omega arith)

@@ -4,5 +4,6 @@ pub mod Capture
 pub mod Spelled
 pub mod Placed
 pub mod Held
+pub mod Causes
+pub mod Taken
 pub mod Reading
-pub mod Writing

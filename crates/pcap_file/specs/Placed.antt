@@ -6,7 +6,7 @@ use Rattle.pcap_file.specs.declared.places.Place.{Place}
 use Rattle.pcap_file.specs.declared.fault.CapFault.{CapFault}
 use Rattle.pcap_file.specs.declared.fault.CapFault.TheVariants.{NotCapture, File, Memory}
 use Rattle.pcap_file.specs.Record.{Record, greatest_time, head_of}
-use Rattle.pcap_file.specs.Capture.{Capture, capture_of}
+use Rattle.pcap_file.specs.Capture.{Capture}
 
 -- the form of a capture, where its records lie, and where it is torn
 pub record Placed : Type 0 where

@@ -1,5 +1,5 @@
 -- A capture that is read from a file, one record after the other.
-use Rattle.std.specs.Prelude.{◌≡◌, ℕ, ◌+◌, ◌≤◌, List, [], ◌∷◌, ◌++◌, length, Option, Some, None, option_map, Result, Ok, Err}
+use Rattle.std.specs.Prelude.{◌≡◌, ℕ, ◌+◌, ◌≤◌, true, List, [], ◌∷◌, ◌++◌, length, Option, Some, None, option_map, Result, Ok, Err}
 use Rattle.nf_files.specs.Told.{Told}
 use Rattle.pcap_file.specs.declared.form.Endian.{Endian}
 use Rattle.pcap_file.specs.declared.form.Form.{Form}
@@ -11,16 +11,13 @@ use Rattle.pcap_file.specs.declared.reader.Next.TheVariants.{Frame, End, Torn}
 use Rattle.pcap_file.specs.declared.fault.CapFault.{CapFault}
 use Rattle.pcap_file.specs.declared.fault.CapFault.TheVariants.{NotCapture, File, Memory}
 use Rattle.pcap_file.specs.Record.{Record, greatest_time, head_of}
-use Rattle.pcap_file.specs.Capture.{Capture, is_whole, capture_from, capture_of, behind}
-use Rattle.pcap_file.specs.Held.{to_come}
+use Rattle.pcap_file.specs.Capture.{Capture, captured_in, is_whole, capture_from, capture_of, behind}
 
--- a capture on its way: its form, the offset of the next record, the file with the bytes that were read
--- ahead, and whether its end was found
+-- a capture on its way: its form, the offset of the next record, the file, and whether its end was found
 pub record Reading : Type 0 where
   pub form : Form
   pub offset : ℕ
   pub file : ℕ
-  pub ahead : List ℕ
   pub state : State
 
 -- what a capture comes to from the next record on, where the rest of its file is told
@@ -31,7 +28,7 @@ left_in Cut form offset bytes = Some (record { form = form; records = []; torn =
 
 -- the same of a reader
 abbrev pub left : Reading → Told → Option Capture
-left r told = left_in r.state r.form r.offset (to_come r.ahead (told.rest r.file))
+left r told = left_in r.state r.form r.offset (told.rest r.file)
 
 -- the answer that stays, once the end was found
 abbrev pub end_of : State → ℕ → Option Next
@@ -84,7 +81,11 @@ pub record IsOpened (file : ℕ) (r : Reading) : Type 0 where
   pub offset_is : r.offset ≡ 24
   pub going : r.state ≡ Going
 
--- What was read ahead tells whether a whole record comes next, and whether nothing comes.
+-- What was taken tells whether a whole record comes next, and whether nothing comes.
 abbrev pub IsReached : Endian → ℕ → List ℕ → Option (List ℕ) → Type 0
-IsReached order offset ahead None = Unit {0}
-IsReached order offset ahead (Some rest) = (is_whole order offset (ahead ++ rest) ≡ is_whole order offset ahead) × (ahead ≡ [] → rest ≡ [])
+IsReached order offset held None = Unit {0}
+IsReached order offset held (Some rest) = (is_whole order offset (held ++ rest) ≡ is_whole order offset held) × (held ≡ [] → rest ≡ [])
+
+-- Of a whole record no byte more was taken.
+abbrev pub IsOnly : Endian → ℕ → List ℕ → Type 0
+IsOnly order offset held = is_whole order offset held ≡ true → length held ≡ 16 + captured_in order held

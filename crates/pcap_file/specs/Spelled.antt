@@ -1,5 +1,5 @@
 -- A capture, spelled: a header and records behind it; and the one form that is written.
-use Rattle.std.specs.Prelude.{◌≡◌, ◌≢◌, ℕ, ◌+◌, ◌<◌, ◌^◌, false, List, [], ◌∷◌, ◌++◌, length, drop, Option, Some, None}
+use Rattle.std.specs.Prelude.{◌≡◌, ◌≢◌, ℕ, ◌+◌, false, List, [], ◌∷◌, ◌++◌, length, drop, Option, Some, None}
 use Rattle.std.specs.List.{flat_map, AllByRecursion}
 use Rattle.pcap_file.specs.declared.form.Endian.TheVariants.{Little}
 use Rattle.pcap_file.specs.declared.form.TimeUnit.TheVariants.{Nanoseconds}

@@ -1,6 +1,6 @@
 //! Why a capture can't be read or written.
 ghost use Rattle.std.specs.Prelude.{◌≡◌};
-ghost use Rattle.pcap_file.specs.Held.{cap_fault};
+ghost use Rattle.pcap_file.specs.Causes.{cap_fault};
 
 use nf_files::FilesFault;
 use thiserror::Error;

@@ -1,16 +1,15 @@
 //! Captures: the libpcap file format 2.4, from bytes and to bytes.
 #![tactic(auto)]
 
-mod ahead;
 mod fault;
 mod form;
+mod front;
 mod head;
 mod number;
 mod places;
 mod reader;
 mod record;
 mod whole;
-mod writer;
 mod writing;
 
 pub use fault::CapFault;
@@ -19,5 +18,4 @@ pub use head::Head;
 pub use places::{Place, Places};
 pub use reader::{Next, Reader, State};
 pub use whole::records;
-pub use writer::Writer;
 pub use writing::{push_header, push_record};

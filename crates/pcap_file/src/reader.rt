@@ -1,15 +1,17 @@
 //! A capture from a file, one record after the other.
-ghost use Rattle.std.specs.Prelude.{◌≡◌, ◌≢◌, ◌≤◌, ℕ, List, [], length, drop, Some, Ok, IfOk, OnErr, OnOk};
+ghost use Rattle.std.specs.Prelude.{◌≡◌, ◌≤◌, ◌+◌, ℕ, List, [], length, drop, Some, Ok, IfOk, OnErr, OnOk};
 ghost use Rattle.pcap_file.specs.declared.reader.Next.TheVariants.{End, Torn};
 ghost use Rattle.pcap_file.specs.declared.reader.State.TheVariants.{Going, Ended, Cut};
 ghost use Rattle.nf_files.specs.Causes.{HasCause};
 ghost use Rattle.nf_files.specs.Reads.{Keeps};
-ghost use Rattle.pcap_file.specs.Held.{Grows, IsCause, IsNoHeaderFault};
-ghost use Rattle.pcap_file.specs.Reading.{left, end_of, Steps, Moves, Heads, IsOpened, IsReached};
+ghost use Rattle.pcap_file.specs.Held.{Held, Grows};
+ghost use Rattle.pcap_file.specs.Causes.{IsCause, IsNoHeaderFault};
+ghost use Rattle.pcap_file.specs.Taken.{TakesHeader, TakesRecord};
+ghost use Rattle.pcap_file.specs.Reading.{left, end_of, Steps, Moves, Heads, IsOpened, IsReached, IsOnly};
 
-use crate::ahead::Ahead;
 use crate::fault::CapFault;
 use crate::form::{Endian, Form, HEADER, form_of};
+use crate::front::Front;
 use crate::head::Head;
 use crate::record::{RECORD_HEADER, first, size};
 use nf_files::{Files, FilesFault};
@@ -23,8 +25,8 @@ pub enum Next {
     Frame(Head),
     /// Nothing.
     End,
-    /// A torn record, at this offset in bytes: the file ends inside it, it says that more than 262,144
-    /// bytes were captured, or it would end past byte 2^64 - 1.
+    /// A torn record, at this offset in bytes: the file ends inside it, it says that more than
+    /// 262,144 bytes were captured, or it would end past byte 2^64 - 1.
     Torn(u64),
 }
 
@@ -39,12 +41,13 @@ pub enum State {
 
 /// A capture that is read from a file.
 ///
-/// The file is read 65,536 bytes a call, ahead of the records that are given.
+/// No byte of the file is taken before it is wanted: of the capture the header, the records that
+/// were given, and at most one record more. The memory of one record is held.
 #[derive(Drop)]
 pub struct Reader {
     form: Form,
     offset: u64,
-    ahead: Ahead,
+    front: Front,
     state: State,
 }
 
@@ -53,31 +56,35 @@ impl Model for Reader {
 
     ghost Value = { Reading };
 
-    ghost view = { λ r. record { form = r.form; offset = r.offset; file = r.ahead.file; ahead = r.ahead.ahead; state = r.state } };
+    ghost view = { λ r.
+        record { form = r.form; offset = r.offset; file = r.front.file; state = r.state } };
 }
 
-// Reads ahead as far as the record that comes next goes, or to the end of the file.
+// Takes the record that comes next, or what there is of it, and no byte behind it.
 fn reach<F: Files>(
     files: &mut F,
-    ahead: &mut Ahead,
+    front: &mut Front,
     order: Endian,
     offset: u64,
 ) -> Result<(), FilesFault>
-    requires opened { F.is_read files.old ahead.old.file }
-    ensures grows { OnOk result (Grows ahead.old ahead.new (F.told files.old) (F.told files.new)) }
-    ensures reached { OnOk result (IsReached order offset ahead.new.ahead ((F.told files.new).rest ahead.old.file)) }
-    ensures err { OnErr result (ahead.new.file ≡ ahead.old.file) }
-    ensures kept { Keeps (F.told files.old) (F.told files.new) ahead.old.file }
-    ensures cause { HasCause (F.counted files.old) (F.counted files.new) ahead.old.file result }
+    requires opened { F.is_read files.old front.old.file }
+    ensures grows { let none : Held = record { file = front.old.file; bytes = [] } in
+        Grows none front.new (F.told files.old) (F.told files.new) }
+    ensures reached { let left = (F.told files.new).rest front.old.file in
+        OnOk result (IsReached order offset front.new.bytes left) }
+    ensures only { OnOk result (IsOnly order offset front.new.bytes) }
+    ensures most { length front.new.bytes ≤ 16 + 262144 }
+    ensures cause { HasCause (F.counted files.old) (F.counted files.new) front.old.file result }
     ensures reads { (g : ℕ) → F.is_read files.old g → F.is_read files.new g }
     ensures writes { (g : ℕ) → F.is_written files.old g → F.is_written files.new g }
 {
-    if !ahead.fill(files, RECORD_HEADER)? {
+    front.clear();
+    if !front.fill(files, RECORD_HEADER)? {
         return Ok(());
     }
-    match size(order, offset, ahead.front()) {
+    match size(order, offset, front.as_slice()) {
         Some(wanted) => {
-            ahead.fill(files, wanted)?;
+            front.fill(files, wanted)?;
             Ok(())
         }
         None => Ok(()),
@@ -85,58 +92,36 @@ fn reach<F: Files>(
 }
 
 impl Reader {
-    /// Reads the header of a capture.
+    /// Reads the header of a capture, 24 bytes.
     ///
     /// The file is one that was opened to be read, and nothing of it was read yet.
     pub fn header<F: Files>(alloc: Global, files: &mut F, file: u32) -> Result<Reader, CapFault>
         requires opened { F.is_read files.old file }
-        // What is left is the capture that the bytes of the file are, or these have a short or wrong header.
+        // What is left is the capture that the bytes of the file are, or their header is short or
+        // wrong.
         ensures heads { Heads ((F.told files.old).rest file) (F.told files.new) result }
+        // No byte behind the header is taken.
+        ensures takes { let left = (F.told files.old).rest file in
+            TakesHeader left ((F.told files.new).rest file) result }
         ensures ok { IfOk result (IsOpened file) }
         ensures kept { Keeps (F.told files.old) (F.told files.new) file }
         ensures cause { IsCause (F.counted files.old) (F.counted files.new) file result }
         ensures reads { (g : ℕ) → F.is_read files.old g → F.is_read files.new g }
         ensures writes { (g : ℕ) → F.is_written files.old g → F.is_written files.new g }
     {
-        let mut ahead = match Ahead::new(alloc, file) {
-            Ok(ahead) => ahead,
+        let mut front = match Front::new(alloc, file) {
+            Ok(front) => front,
             Err(_) => return Err(CapFault::Memory),
         };
-        ahead.fill(files, HEADER)?;
-        match form_of(ahead.front()) {
+        front.fill(files, HEADER)?;
+        match form_of(front.as_slice()) {
             None => Err(CapFault::NotCapture),
-            Some(form) => Ok(Reader::begin(form, ahead)),
-        }
-    }
-
-    // Steps over the header that stands ahead.
-    fn begin(form: Form, ahead: Ahead) -> Reader
-        requires { 24 ≤ length ahead.ahead }
-        ensures { result ≡ record { form = form; offset = 24; file = ahead.file; ahead = drop 24 ahead.ahead; state = Going } }
-    {
-        let mut ahead = ahead;
-        ahead.skip(HEADER);
-        Reader {
-            form,
-            offset: HEADER as u64,
-            ahead,
-            state: State::Going,
-        }
-    }
-
-    // What stands ahead is no whole record: nothing, or a torn one.
-    fn stop(&mut self) -> Next
-        ensures end { self.old.ahead ≡ [] → (result ≡ End) × (self.new ≡ record self.old { state = Ended }) }
-        ensures cut { self.old.ahead ≢ [] → (result ≡ Torn self.old.offset) × (self.new ≡ record self.old { state = Cut }) }
-        ensures moves { (frame : List ℕ) → Moves self.old self.new frame frame (Ok result) }
-        ensures same { (self.new.file ≡ self.old.file) × (self.new.form ≡ self.old.form) }
-    {
-        if self.ahead.is_empty() {
-            self.state = State::Ended;
-            Next::End
-        } else {
-            self.state = State::Cut;
-            Next::Torn(self.offset)
+            Some(form) => Ok(Reader {
+                form,
+                offset: HEADER as u64,
+                front,
+                state: State::Going,
+            }),
         }
     }
 
@@ -144,8 +129,13 @@ impl Reader {
     fn advance<F: Files>(&mut self, files: &mut F, frame: &mut Vec<u8>) -> Result<Next, CapFault>
         requires opened { F.is_read files.old self.old.file }
         requires going { self.old.state ≡ Going }
-        ensures steps { Steps (left self.old (F.told files.old)) (left self.new (F.told files.new)) frame.new.items result }
+        ensures steps { let before = left self.old (F.told files.old) in
+            Steps before (left self.new (F.told files.new)) frame.new.items result }
         ensures moves { Moves self.old self.new frame.old.items frame.new.items result }
+        // No byte behind the record is taken.
+        ensures takes { let file = self.old.file in
+            TakesRecord ((F.told files.old).rest file) ((F.told files.new).rest file)
+            frame.new.items result }
         ensures same_file { self.new.file ≡ self.old.file }
         ensures same_form { self.new.form ≡ self.old.form }
         ensures kept { Keeps (F.told files.old) (F.told files.new) self.old.file }
@@ -154,9 +144,17 @@ impl Reader {
         ensures reads { (g : ℕ) → F.is_read files.old g → F.is_read files.new g }
         ensures writes { (g : ℕ) → F.is_written files.old g → F.is_written files.new g }
     {
-        reach(files, &mut self.ahead, self.form.order, self.offset)?;
-        match first(self.form.order, self.offset, self.ahead.front()) {
-            None => Ok(self.stop()),
+        reach(files, &mut self.front, self.form.order, self.offset)?;
+        match first(self.form.order, self.offset, self.front.as_slice()) {
+            None => {
+                if self.front.is_empty() {
+                    self.state = State::Ended;
+                    Ok(Next::End)
+                } else {
+                    self.state = State::Cut;
+                    Ok(Next::Torn(self.offset))
+                }
+            }
             Some(record) => {
                 let head = record.head(self.form.unit);
                 let size = record.size();
@@ -164,7 +162,6 @@ impl Reader {
                 match frame.extend_from_slice(record.frame) {
                     Err(_) => Err(CapFault::Memory),
                     Ok(()) => {
-                        self.ahead.skip(size);
                         self.offset += size as u64;
                         Ok(Next::Frame(head))
                     }
@@ -175,16 +172,22 @@ impl Reader {
 
     /// The next record of the capture: its head, and its frame in `frame`.
     ///
-    /// After `End` or `Torn` the answer stays the same. After an `Err` this reader may have moved, and no
-    /// call is to be made on it.
+    /// After `End` or `Torn` the answer stays the same. After an `Err` this reader may have moved,
+    /// and no call is to be made on it.
     pub fn next<F: Files>(&mut self, files: &mut F, frame: &mut Vec<u8>) -> Result<Next, CapFault>
         requires opened { F.is_read files.old self.old.file }
-        // Where the rest of the file is told: the next record of what is left is taken off it, or there
-        // is none, and the capture ends or is torn as the answer says.
-        ensures steps { Steps (left self.old (F.told files.old)) (left self.new (F.told files.new)) frame.new.items result }
+        // Where the rest of the file is told: the next record of what is left is taken off it, or
+        // there is none, and the capture ends or is torn as the answer says.
+        ensures steps { let before = left self.old (F.told files.old) in
+            Steps before (left self.new (F.told files.new)) frame.new.items result }
         // And in any case: how far the reader moved, and whether it found the end.
         ensures moves { Moves self.old self.new frame.old.items frame.new.items result }
-        ensures again { (x : Next) → end_of self.old.state self.old.offset ≡ Some x → (result ≡ Ok x) × (self.new ≡ self.old) × (F.told files.new ≡ F.told files.old) }
+        // No byte behind the record is taken.
+        ensures takes { let file = self.old.file in
+            TakesRecord ((F.told files.old).rest file) ((F.told files.new).rest file)
+            frame.new.items result }
+        ensures again { (x : Next) → end_of self.old.state self.old.offset ≡ Some x →
+            (result ≡ Ok x) × (self.new ≡ self.old) × (F.told files.new ≡ F.told files.old) }
         ensures same_file { self.new.file ≡ self.old.file }
         ensures same_form { self.new.form ≡ self.old.form }
         ensures kept { Keeps (F.told files.old) (F.told files.new) self.old.file }

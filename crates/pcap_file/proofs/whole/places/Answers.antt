@@ -1,5 +1,4 @@
 use Rattle.std.proofs.Common.{arith, sym, ap, Some, ◌∙◌, length, length-drop}
-use Rattle.pcap_file.specs.Capture.{capture_from}
 use Rattle.pcap_file.proofs.Placing.{goes_on, is_torn, is_done, fits_there}
 use Rattle.pcap_file.proofs.whole.places.Goals as goal
 

@@ -1,4 +1,4 @@
-use Rattle.std.proofs.Common.{◌<◌, ◌^◌, length, ap, ◌∙◌, arith, length-append}
+use Rattle.std.proofs.Common.{length, ap, ◌∙◌, arith, length-append}
 use Rattle.pcap_file.specs.Capture.{capture_of}
 use Rattle.pcap_file.specs.Spelled.{capture_bytes}
 use Rattle.pcap_file.proofs.Placing.{given_lie}
