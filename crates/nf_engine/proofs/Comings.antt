@@ -1,18 +1,18 @@
 -- What a `new` comes to, by what it finds.
-use Rattle.std.proofs.Common.{◌≡◌, ◌≢◌, ◌∙◌, ℕ, suc, ◌≤◌, ◌<◌, Bool, true, false, ◌&&◌, nat_lt, IsTrue, All, List, [], ◌∷◌, ◌++◌, length, take, drop, refl, ap, sym, subst, arith, Bor, Option, Some, None, slice_get, get_or, zero}
+use Rattle.std.proofs.Common.{◌≡◌, ◌∙◌, ℕ, suc, ◌≤◌, ◌<◌, Bool, true, false, ◌&&◌, nat_lt, List, [], ◌∷◌, ◌++◌, length, drop, refl, sym, subst, arith, Bor, Option, Some, None, slice_get, zero}
 use Rattle.std.proofs.lemmas.Bool.{and_parts}
 use Rattle.nf_base.specs.declared.share.Share.{Share}
 use Rattle.nf_base.specs.declared.state.Entry.{Entry}
 use Rattle.nf_base.specs.declared.state.Chain.{Chain}
-use Rattle.nf_base.specs.Chains.{chain_at, maps_of, is_taken, is_full, is_vacant}
+use Rattle.nf_base.specs.Chains.{chain_at, maps_of}
 use Rattle.nf_base.specs.Operations as step
-use Rattle.nf_base.specs.Shares.{owns, none_vacant, share_stops}
+use Rattle.nf_base.specs.Shares.{owns, none_vacant}
 use Rattle.vig_tables.specs.Table.{is_open, FindsFull, FindsOpen}
 use Rattle.nf_engine.specs.declared.context.Input.{Input}
 use Rattle.nf_engine.specs.declared.creation.NewResult.{NewResult}
 use Rattle.nf_engine.specs.declared.creation.NewResult.TheVariants.{Made, Taken, Full, Illegal, Stopped}
 use Rattle.nf_engine.specs.Choices.{MayBe, AreGiven, are_own}
-use Rattle.nf_engine.specs.Creations.{IfMade, IfIllegal, Finds, FindsSome, IsClosed, result_with, ComesToMade, ComesTo}
+use Rattle.nf_engine.specs.Creations.{IfMade, IfIllegal, Finds, FindsSome, IsClosed, result_with, ComesTo}
 use Rattle.nf_engine.proofs.Vacant.{some_vacant, not_full, some_not_full, all_full, owns_all}
 use Rattle.nf_engine.proofs.Fronts.{next_front, next_at, next_given, none_next, one_more_own}
 
@@ -92,9 +92,10 @@ comes_at (Made i) p taken k labels chains choices next given is h at closed =
     (subst (λ cs. MayBe cs taken all) (sym given) same, rw same (next_given choices.now taken i (sym is ∙ at))))
 comes_at Taken p taken k labels chains choices next given is h at closed = λ left. rw h refl
 comes_at Full p taken k labels chains choices next given is h at closed = λ left. full_is p k labels chains left h.0 h.1
-comes_at Illegal p taken k labels chains choices next given is h at closed =
-    (subst AreGiven (sym given) tt,
-    λ all may own.
+comes_at Illegal p taken k labels chains choices next given is h at closed = (
+  subst AreGiven (sym given) tt,
+  λ all may own.
       let same : all ≡ choices.now = subst (λ cs. MayBe cs taken all) given may in
-      closed_is p k labels chains all (length taken) next (rw same (sym is)) own h closed)
+      closed_is p k labels chains all (length taken) next (rw same (sym is)) own h closed,
+)
 comes_at Stopped p taken k labels chains choices next given is h at closed = (h.0, λ left. stopped_is p k labels chains left h.0 h.1)

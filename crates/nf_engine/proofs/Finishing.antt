@@ -1,5 +1,5 @@
 -- What a handler's run comes to, as a step.
-use Rattle.std.proofs.Common.{◌≡◌, ◌∙◌, ℕ, zero, suc, ◌≤◌, ◌<◌, ◌+◌, IsTrue, List, [], ◌∷◌, length, take, drop, refl, ap, sym, subst, arith, Bor, Option, Some, None, Ok, Err, slice_get, get_or}
+use Rattle.std.proofs.Common.{◌≡◌, ◌∙◌, ℕ, zero, suc, ◌≤◌, ◌<◌, IsTrue, List, [], ◌∷◌, length, take, drop, refl, ap, sym, subst, arith, Bor, Some, None, Ok, Err, slice_get, get_or}
 use Rattle.std.proofs.Math.Seq.{take-length, drop-length}
 use Rattle.std.proofs.lemmas.List.Sums.{AllPass-from_list_all, list_all-from_AllPass}
 use Rattle.std.proofs.lemmas.List.{length-map}
@@ -13,9 +13,9 @@ use Rattle.nf_base.specs.declared.packet.Fields.{Fields}
 use Rattle.nf_base.specs.declared.share.Share.{Share}
 use Rattle.nf_base.specs.declared.state.State.{State}
 use Rattle.nf_base.specs.Context as meant
-use Rattle.nf_base.specs.Course.{Completion, NoStep, StoppedAt, exec}
+use Rattle.nf_base.specs.Course.{Completion, StoppedAt, exec}
 use Rattle.nf_base.specs.Shares.{AreOwn, owns, share_stops}
-use Rattle.nf_base.specs.Step.{StepResult, step_result, input, start_context, expired_state, no_edits}
+use Rattle.nf_base.specs.Step.{step_result, input, start_context, expired_state, no_edits}
 use Rattle.nf_base.specs.Text.{Block, Function}
 use Rattle.vig_tables.specs.TablesState.{TablesState}
 use Rattle.nf_engine.specs.declared.context.Context.{Context}
@@ -24,9 +24,9 @@ use Rattle.nf_engine.specs.declared.context.Flow.{Flow}
 use Rattle.nf_engine.specs.declared.context.Flow.TheVariants.{Falls, Ends}
 use Rattle.nf_engine.specs.declared.context.Halt.{Halt}
 use Rattle.nf_engine.specs.declared.context.Halt.TheVariants.{ShareFull, BadChoice}
-use Rattle.nf_engine.specs.Choices.{Choices, MayBe, AreGiven, Consumes, are_own, context_by}
+use Rattle.nf_engine.specs.Choices.{are_own, context_by}
 use Rattle.nf_engine.specs.Course.{Goes}
-use Rattle.nf_engine.specs.Handlings.{Finishes, Stops, Runs, StopsAt, completes_for, finished}
+use Rattle.nf_engine.specs.Handlings.{Finishes, Runs, StopsAt, completes_for, finished}
 use Rattle.nf_engine.specs.View.{context_of, input_of, completion_of, action_of}
 use Rattle.nf_engine.proofs.Rooms.{handler_at}
 use Rattle.nf_engine.proofs.Vacant.{owns_all}
@@ -73,19 +73,21 @@ runs_ok p f s packet fields b t u start new flow h goes = λ all may.
     }
 
 pub runs_err : (p : Input) (f : Function) (s : State) (packet : Packet) (fields : Fields) (b : Block) (t u : TablesState) (start new : Context) (halt : Halt) → Begins p f s packet fields b t start → Goes (Err halt) p b t start u new → Runs (Err halt) p.share p.choices (completes_for p.share f s packet fields) u.state
-runs_err p f s packet fields b t u start new (ShareFull chain) h goes =
-    (goes.0,
-    new.picks,
-    λ all may.
+runs_err p f s packet fields b t u start new (ShareFull chain) h goes = (
+  goes.0,
+  new.picks,
+  λ all may.
       let g = goes.1 all may in
       record {
         own = g.0.own (none_taken p start all h.picks);
         stops = begun p f s packet fields b t start all h ∙ g.1;
-      })
-runs_err p f s packet fields b t u start new BadChoice h goes =
-    (goes.0,
-    new.picks,
-    λ all may own. begun p f s packet fields b t start all h ∙ goes.1 all may own)
+      },
+)
+runs_err p f s packet fields b t u start new BadChoice h goes = (
+  goes.0,
+  new.picks,
+  λ all may own. begun p f s packet fields b t start all h ∙ goes.1 all may own,
+)
 
 -- all that were taken
 all_own : (share : Share) (xs : List ℕ) → IsTrue (are_own share (take (length xs) xs)) → AreOwn share xs

@@ -1,11 +1,11 @@
 -- Choices that are taken one after another.
-use Rattle.std.proofs.Common.{◌≡◌, ◌∙◌, ℕ, zero, suc, ◌+◌, add-one, List, [], ◌∷◌, ◌++◌, length, take, drop, refl, ap, sym, arith, Option, Some, None, slice_get}
+use Rattle.std.proofs.Common.{◌≡◌, ◌∙◌, ℕ, zero, suc, ◌+◌, add-one, List, [], ◌∷◌, ◌++◌, length, take, drop, refl, ap, arith, Some, None, slice_get}
 use Rattle.std.proofs.Math.Seq.{take-add}
 use Rattle.std.proofs.lemmas.List.Folds.{list_all-append}
 use Rattle.nf_base.specs.Shares.{owns}
 use Rattle.nf_base.specs.declared.share.Share.{Share}
 use Rattle.std.specs.Prelude.{IsTrue}
-use Rattle.nf_engine.specs.Choices.{Choices, MayBe, AreGiven, are_own}
+use Rattle.nf_engine.specs.Choices.{are_own}
 
 -- where one more is taken
 pub more_taken : (taken : List ℕ) (i : ℕ) → length (taken ++ i ∷ []) ≡ length taken + 1

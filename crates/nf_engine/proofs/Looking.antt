@@ -1,5 +1,5 @@
 -- What is run without a write is a packet's step.
-use Rattle.std.proofs.Common.{◌≡◌, ◌∙◌, ap, ap₂, sym, refl, ℕ, suc, Bool, true, false, not, ◌&&◌, List, [], ◌∷◌, map, Option, Some, None, slice_get, if◌then◌else◌}
+use Rattle.std.proofs.Common.{◌≡◌, ◌∙◌, ap, ap₂, sym, refl, ℕ, suc, Bool, true, false, not, List, [], ◌∷◌, map, Option, Some, None, slice_get, if◌then◌else◌}
 use Rattle.std.proofs.lemmas.Bool.{and_parts}
 use Rattle.nf_base.specs.declared.done.Done.{Done}
 use Rattle.nf_base.specs.declared.done.Action.TheVariants.{Skip}
@@ -8,13 +8,12 @@ use Rattle.nf_base.specs.declared.packet.Fields.{Fields}
 use Rattle.nf_base.specs.declared.state.Entry.{Entry}
 use Rattle.nf_base.specs.declared.state.Chain.{Chain}
 use Rattle.nf_base.specs.declared.state.State.{State}
-use Rattle.nf_base.specs.Chains.{alive, is_due, none_due, all_none_due, unexpired, expired, lifetime_of}
+use Rattle.nf_base.specs.Chains.{alive, is_due, none_due, all_none_due, expired, lifetime_of}
 use Rattle.nf_base.specs.Context as meant
-use Rattle.nf_base.specs.Course.{NoStep, exec, events}
-use Rattle.nf_base.specs.Events.{Event}
+use Rattle.nf_base.specs.Course.{exec, events}
 use Rattle.nf_base.specs.Operations.{never}
 use Rattle.nf_base.specs.Record.{is_quiet}
-use Rattle.nf_base.specs.Step.{StepResult, step_result, step, quiet, recorded, completes, expired_state, skipped, input, start_context, no_edits}
+use Rattle.nf_base.specs.Step.{StepResult, step_result, step, quiet, recorded, completes, expired_state, skipped, start_context, no_edits}
 use Rattle.nf_base.specs.Text.{Block, Function}
 use Rattle.vig_tables.specs.TablesState.{TablesState}
 use Rattle.nf_engine.specs.declared.context.Context.{Context}
@@ -24,7 +23,7 @@ use Rattle.nf_engine.specs.declared.context.Flow.TheVariants.{Falls, Ends}
 use Rattle.nf_engine.specs.Handlings.{finished}
 use Rattle.nf_engine.specs.Looks.{IsQuietStep, AlwaysWrites}
 use Rattle.nf_engine.specs.Quiet.{record_after, GoesQuietly, IsToldQuiet, WritesSome}
-use Rattle.nf_engine.specs.View.{context_of, input_of, completion_of, action_of}
+use Rattle.nf_engine.specs.View.{context_of, input_of, action_of}
 use Rattle.nf_engine.proofs.Finishing.{Begins, ended}
 
 -- where nothing is due expiry leaves the chains

@@ -1,11 +1,11 @@
 -- What an operation changes, if it changes something.
-use Rattle.std.proofs.Common.{◌≡◌, ◌∙◌, ap, sym, refl, ℕ, Bool, true, false, List, [], ◌∷◌, Option, Some, None, slice_get}
+use Rattle.std.proofs.Common.{◌≡◌, ◌∙◌, ap, sym, refl, ℕ, Bool, true, false, List, [], Option, Some, None, slice_get}
 use Rattle.std.specs.Bool.{OnTrue, OnFalse}
 use Rattle.std.specs.Prelude.{not, if◌then◌else◌}
 use Rattle.nf_base.specs.declared.width.Width.TheVariants.{W16}
 use Rattle.nf_base.specs.Chains.{array_at}
 use Rattle.nf_base.specs.Context.{Var, var_at, entry_in, value, given}
-use Rattle.nf_base.specs.Events.{Event, CellWritten, used, stores, reads, did, restamps_at, rewrites, differs}
+use Rattle.nf_base.specs.Events.{Event, used, stores, did, restamps_at, rewrites, differs}
 use Rattle.nf_base.specs.Record.{is_quiet}
 use Rattle.nf_base.specs.Text.{Operation, Touch, Write, Store, Given, Expression}
 use Rattle.nf_base.specs.Values.{narrowed}
@@ -60,6 +60,7 @@ write_decided b p var column v g t c same is = by b is refl
         ∙ used_changed (var_at c.vars var) (rewrites column (given (input_of p) (context_of t left c) g) (entry_in t.state.chains (var_at c.vars var))) es (rewrites_some column (given (input_of p) (context_of t left c) g) t (var_at c.vars var))
         ∙ ap (λ n. if rewrites column n (entry_in t.state.chains (var_at c.vars var)) then false else is_quiet es) (sym same)
         ∙ ap (λ b. if b then false else is_quiet es) is
+
     by : (a : Bool) → rewrites column v (entry_in t.state.chains (var_at c.vars var)) ≡ a → b ≡ a → Decided a p (Write var column g) t c
     by true q e = λ left es. told left es ∙ ap (λ b. if b then false else is_quiet es) e
     by false q e = record {
@@ -82,6 +83,7 @@ store_decided b p place array i v at g t c index same is = by b is refl
         ∙ ap (λ n. if differs (given (input_of p) (context_of t left c) g) (slice_get (array_at t.state.arrays array) n) then false else is_quiet es) (sym index)
         ∙ ap (λ n. if differs n (slice_get (array_at t.state.arrays array) i) then false else is_quiet es) (sym same)
         ∙ ap (λ b. if b then false else is_quiet es) is
+
     by : (a : Bool) → differs v (slice_get (array_at t.state.arrays array) i) ≡ a → b ≡ a → Decided a p (Store place array at g) t c
     by true q e = λ left es. told left es ∙ ap (λ b. if b then false else is_quiet es) e
     by false q e = record {

@@ -1,5 +1,5 @@
 -- What a statement reads and asks changes nothing.
-use Rattle.std.proofs.Common.{◌≡◌, ◌∙◌, ℕ, Bool, true, false, List, [], ◌∷◌, map, Option, Some, None, slice_get, refl, ap, if◌then◌else◌}
+use Rattle.std.proofs.Common.{◌≡◌, ◌∙◌, ℕ, false, List, [], ◌∷◌, Option, Some, None, refl, if◌then◌else◌}
 use Rattle.nf_base.specs.Text.{Expression, Number, Read, Index, Label, Column, Cell, Both, Given, Guard, Question, Get, Find, Test, Creation}
 use Rattle.nf_base.specs.Context.{Context, Var, Input, var_at}
 use Rattle.nf_base.specs.Operations.{never, new_result}

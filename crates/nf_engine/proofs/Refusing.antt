@@ -1,10 +1,9 @@
 -- Where a `new` makes no entry for the whole share.
-use Rattle.std.proofs.Common.{◌≡◌, ◌∙◌, ap, sym, refl, ℕ, Bool, true, false, List, [], ◌∷◌, map, Option, slice_get, if◌then◌else◌}
+use Rattle.std.proofs.Common.{◌≡◌, ◌∙◌, ap, sym, refl, ℕ, Bool, true, false, List, [], ◌∷◌, Option, slice_get, if◌then◌else◌}
 use Rattle.nf_base.specs.declared.state.Entry.{Entry}
-use Rattle.nf_base.specs.declared.state.Chain.{Chain}
-use Rattle.nf_base.specs.Chains.{chain_at, maps_of, is_taken, is_full, is_vacant}
+use Rattle.nf_base.specs.Chains.{maps_of, is_taken, is_vacant}
 use Rattle.nf_base.specs.Context.{given}
-use Rattle.nf_base.specs.Events.{Event, asked_new}
+use Rattle.nf_base.specs.Events.{Event}
 use Rattle.nf_base.specs.Operations as step
 use Rattle.nf_base.specs.Operations.{never, new_result, chosen}
 use Rattle.nf_base.specs.Record.{is_quiet, is_made}

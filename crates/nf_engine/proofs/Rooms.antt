@@ -1,5 +1,5 @@
 -- What a handler keeps, block by block.
-use Rattle.std.proofs.Common.{◌≡◌, ◌∙◌, ℕ, suc, ◌+◌, ◌<◌, All, List, [], ◌∷◌, ◌++◌, length, get_or, map, refl, ap, ap₂, sym, subst, arith, Bool, cond, Some, slice_get}
+use Rattle.std.proofs.Common.{◌≡◌, ◌∙◌, ℕ, ◌+◌, ◌<◌, All, List, [], ◌∷◌, ◌++◌, length, get_or, map, refl, ap, sym, subst, arith, Bool, cond, Some, slice_get}
 use Rattle.std.specs.List.{count_by, AllByRecursion}
 use Rattle.std.proofs.lemmas.List.Sums.{sum_by-cons, sum_by-append}
 use Rattle.std.proofs.lemmas.List.Elements.{recursion_from_All}
@@ -10,7 +10,7 @@ use Rattle.nf_base.specs.declared.decl.ChainDecl.{ChainDecl}
 use Rattle.nf_base.specs.declared.func.Handler.{Handler}
 use Rattle.nf_base.specs.FitsOnce.{AllFit}
 use Rattle.nf_base.specs.Limits.{Fits}
-use Rattle.nf_base.specs.Statements.{Statement, Ends, Does, Asks, Makes, statements, is_new, is_lookup, is_entry_question}
+use Rattle.nf_base.specs.Statements.{Statement, Does, Asks, Makes, statements, is_new, is_lookup, is_entry_question}
 use Rattle.nf_base.specs.Text.{Block, End, Do, Ask, Make, Question, Get, Find, Test}
 use Rattle.nf_base.specs.View.{block_of}
 use Rattle.nf_engine.specs.Course.{news, lookups, bound_by, BlockFits, HasRoom}

@@ -1,5 +1,5 @@
 -- Operations that leave a context as it was.
-use Rattle.std.proofs.Common.{◌≡◌, ◌∙◌, ap, sym, refl, subst, arith, ℕ, zero, suc, Bool, true, List, [], ◌∷◌, false, Option, Some, None, get_or}
+use Rattle.std.proofs.Common.{◌≡◌, ◌∙◌, ap, sym, refl, subst, arith, ℕ, zero, suc, List, [], ◌∷◌, false, Option, Some, None, get_or}
 use Rattle.std.specs.Prelude.{slice_get, slice_set, not, ◌&&◌, ◌==◌}
 use Rattle.std.proofs.lemmas.Bool.Decides.{nat_tests}
 use Rattle.nf_base.specs.declared.width.Width.TheVariants.{W16}
@@ -8,8 +8,8 @@ use Rattle.nf_base.specs.declared.state.Chain.{Chain}
 use Rattle.nf_base.specs.Chains.{touched, written, entry_at, next_stamp, chain_at, array_at, no_chain}
 use Rattle.nf_base.specs.Context.{Context, EntryRef, Var, Input, var_at, entry_in, value, given}
 use Rattle.nf_base.specs.Events.{restamps, restamps_at, rewrites, differs}
-use Rattle.nf_base.specs.Operations.{on_var, with_chains, stored, after}
-use Rattle.nf_base.specs.Text.{Operation, Touch, Free, Set, Write, Store, Given, Expression}
+use Rattle.nf_base.specs.Operations.{on_var, with_chains, after}
+use Rattle.nf_base.specs.Text.{Touch, Free, Write, Store, Given, Expression}
 use Rattle.nf_base.specs.Values.{narrowed}
 
 -- a write of what stands there

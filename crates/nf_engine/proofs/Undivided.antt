@@ -1,5 +1,5 @@
 -- A share's course is the undivided one, up to where it stops.
-use Rattle.std.proofs.Common.{◌≡◌, ℕ, Bool, true, false, List, [], ◌∷◌, map, Option, Some, None, if◌then◌else◌, refl, ap, sym, ◌∙◌, ◌⊎◌, inl, inr, ◌&&◌, nat_lt, slice_get}
+use Rattle.std.proofs.Common.{◌≡◌, ℕ, Bool, true, false, List, map, Option, Some, None, if◌then◌else◌, refl, ap, sym, ◌∙◌, ◌⊎◌, inl, inr, ◌&&◌, nat_lt, slice_get}
 use Rattle.std.proofs.lemmas.Bool.{true≢false}
 use Rattle.nf_base.specs.Text.{Block, End, Do, Ask, Make}
 use Rattle.nf_base.specs.Chains.{chain_at, is_taken, is_full, maps_of}
@@ -91,6 +91,7 @@ undivided_step stops f s packet choices r = of_fields packet.fields
     of_handler : (fields : Fields) (handler : Option Block) → step_result choices (completes stops f s packet.time fields choices handler) ≡ Some r → step_result choices (completes never f s packet.time fields choices handler) ≡ Some r
     of_handler fields None e = e
     of_handler fields (Some block) e = same_result choices (exec stops (input f packet.time fields) block (start_context f s packet.time choices)) (exec never (input f packet.time fields) block (start_context f s packet.time choices)) r (share_alike stops (input f packet.time fields) block (start_context f s packet.time choices)) e
+
     of_fields : (o : Option Fields) → step_of stops f s packet choices o ≡ Some r → step_of never f s packet choices o ≡ Some r
     of_fields None e = e
     of_fields (Some fields) e = of_handler fields (slice_get f.handlers packet.id.port) e

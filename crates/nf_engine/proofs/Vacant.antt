@@ -1,5 +1,5 @@
 -- Own and vacant indices of a chain.
-use Rattle.std.proofs.Common.{◌≡◌, ℕ, zero, suc, ◌<◌, ◌≤◌, ◌%◌, ◌&&◌, Bool, true, false, IsTrue, nat_lt, List, [], ◌∷◌, Option, Some, None, slice_get, refl, sym, ◌∙◌, arith, ◌==◌, if◌then◌else◌}
+use Rattle.std.proofs.Common.{◌≡◌, ℕ, zero, suc, ◌<◌, ◌%◌, Bool, true, false, List, [], ◌∷◌, Option, Some, None, slice_get, refl, arith, if◌then◌else◌}
 use Rattle.std.proofs.lemmas.Bool.{false≢true}
 use Rattle.std.proofs.Math.Nat.{mod-lt}
 use Rattle.nf_base.specs.declared.share.Share.{Share}

@@ -14,8 +14,8 @@ use Rattle.nf_engine.specs.View.{context_of}
 abbrev pub Choices : Type 0
 Choices = Option (Bor (List ℕ))
 
--- What may be all the choices of a packet, where some were taken: those given, or else any that begin
--- with the ones taken.
+-- What may be all the choices of a packet, where some were taken: those given, or else any that
+-- begin with the ones taken.
 abbrev pub MayBe : Choices → List ℕ → List ℕ → Type 0
 MayBe None taken all = take (length taken) all ≡ taken
 MayBe (Some choices) taken all = all ≡ choices.now

@@ -1,9 +1,8 @@
 -- What the interpreter's calls come to, by all the choices that a packet may have.
-use Rattle.std.specs.Prelude.{◌≡◌, ℕ, ◌+◌, ◌≤◌, Bool, IsTrue, true, false, List, [], length, drop, Option, Some, None, Result, Ok, Err}
+use Rattle.std.specs.Prelude.{◌≡◌, ℕ, ◌+◌, ◌≤◌, Bool, IsTrue, true, false, List, length, drop, Option, Some, None, Result, Ok, Err}
 use Rattle.nf_base.specs.declared.decl.ChainDecl.{ChainDecl}
 use Rattle.nf_base.specs.Context as context
 use Rattle.nf_base.specs.Course.{NoStep, StoppedAt, exec}
-use Rattle.nf_base.specs.Events.{Event}
 use Rattle.nf_base.specs.Limits.{QuestionFits, CreationFits}
 use Rattle.nf_base.specs.Shares.{share_stops}
 use Rattle.nf_base.specs.Text.{Block, End, Do, Ask, Make, Question, Get, Find, Test}
@@ -11,7 +10,6 @@ use Rattle.vig_tables.specs.TablesState.{TablesState}
 use Rattle.nf_engine.specs.declared.context.Context.{Context}
 use Rattle.nf_engine.specs.declared.context.Input.{Input}
 use Rattle.nf_engine.specs.declared.context.Flow.{Flow}
-use Rattle.nf_engine.specs.declared.context.Flow.TheVariants.{Falls, Ends}
 use Rattle.nf_engine.specs.declared.context.Halt.{Halt}
 use Rattle.nf_engine.specs.declared.context.Halt.TheVariants.{ShareFull, BadChoice}
 use Rattle.nf_engine.specs.View.{context_of, input_of, completion_of}
@@ -62,14 +60,16 @@ BlockFits decls (Make n made taken full next) =
     × BlockFits decls next
 
 -- whether a question hits, and the context then, whatever choices are left; a miss changes nothing
-abbrev pub Answers : Bool → TablesState → Context → Context → (context.Context → Option context.Context) → Type 0
+abbrev pub Answers :
+    Bool → TablesState → Context → Context → (context.Context → Option context.Context) → Type 0
 Answers true t old new meant =
     (left : List ℕ) → meant (context_of t left old) ≡ Some (context_of t left new)
 Answers false t old new meant =
     (new ≡ old) × ((left : List ℕ) → meant (context_of t left old) ≡ None)
 
 -- How a block goes for a share: for all choices that follow those consumed.
-abbrev pub Goes : Result Flow Halt → Input → Block → TablesState → Context → TablesState → Context → Type 0
+abbrev pub Goes :
+    Result Flow Halt → Input → Block → TablesState → Context → TablesState → Context → Type 0
 Goes (Ok flow) p b t old u new =
     (all : List ℕ)
     → MayBe p.choices new.picks all

@@ -1,5 +1,5 @@
 -- What a `new` finds and makes.
-use Rattle.std.specs.Prelude.{◌≡◌, ℕ, ◌==◌, ◌≤◌, Bool, IsTrue, true, false, List, [], ◌∷◌, ◌++◌, length, drop, Option, Some, None, if◌then◌else◌}
+use Rattle.std.specs.Prelude.{◌≡◌, ℕ, ◌==◌, ◌≤◌, IsTrue, true, false, List, [], ◌∷◌, ◌++◌, length, drop, Option, Some, None, if◌then◌else◌}
 use Rattle.nf_base.specs.declared.share.Share.{Share}
 use Rattle.nf_base.specs.declared.state.Entry.{Entry}
 use Rattle.nf_base.specs.declared.state.Chain.{Chain}
@@ -38,8 +38,9 @@ abbrev pub without_vacant : Share → NewResult
 without_vacant share = if share.of == 1 then Full else Stopped
 
 -- no key is taken, and an own index is vacant
-pub record FindsSome (p : Input) (chain : ℕ) (labels : List ℕ) (slots : List (Option Entry)) : Type 0 where
-  pub untaken : is_taken (maps_of p.decls.now chain) labels slots ≡ false
+pub record FindsSome (p : Input) (k : ℕ) (labels : List ℕ) (slots : List (Option Entry))
+    : Type 0 where
+  pub untaken : is_taken (maps_of p.decls.now k) labels slots ≡ false
   pub some : none_vacant (owns p.share) slots ≡ false
 
 -- what a `new` with these labels finds at the indices of its chain
@@ -76,7 +77,8 @@ result_with p k labels chains left =
     else step.chosen chain.slots left
 
 -- an entry is made at an index, which is the next choice
-pub record ComesToMade (p : Input) (taken : List ℕ) (i : ℕ) (meant : List ℕ → step.NewResult) (all : List ℕ) : Type 0 where
+pub record ComesToMade (p : Input) (taken : List ℕ) (i : ℕ)
+    (meant : List ℕ → step.NewResult) (all : List ℕ) : Type 0 where
   pub consumes : Consumes p taken (taken ++ i ∷ []) all
   pub next : drop (length taken) all ≡ i ∷ drop (length (taken ++ i ∷ [])) all
   pub made : meant (drop (length taken) all) ≡ step.Made i
@@ -101,7 +103,8 @@ abbrev pub meant_result : Input → Creation → context.Context → step.NewRes
 meant_result p n c = step.new_result (share_stops p.share) (input_of p) c n
 
 -- what a `new` makes, by all the choices; where it makes no entry nothing changes
-abbrev pub Makes : NewResult → Input → Creation → TablesState → Context → TablesState → Context → Type 0
+abbrev pub Makes :
+    NewResult → Input → Creation → TablesState → Context → TablesState → Context → Type 0
 Makes (Made i) p n t old u new =
     (new.picks ≡ old.picks ++ i ∷ [])
     × ((all : List ℕ)

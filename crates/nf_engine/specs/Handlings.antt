@@ -1,5 +1,5 @@
 -- What is answered of a whole packet.
-use Rattle.std.specs.Prelude.{◌≡◌, ℕ, ◌≤◌, IsTrue, List, [], length, take, drop, Option, Some, None, Result, Ok, Err, slice_get}
+use Rattle.std.specs.Prelude.{◌≡◌, ℕ, ◌≤◌, IsTrue, List, [], length, take, drop, Option, Result, Ok, Err, slice_get}
 use Rattle.nf_base.specs.declared.packet.Packet.{Packet}
 use Rattle.nf_base.specs.declared.packet.Fields.{Fields}
 use Rattle.nf_base.specs.declared.share.Share.{Share}
@@ -26,7 +26,8 @@ IfShareFull (Done done) P = Unit {0}
 IfShareFull (ShareFull chain) P = P chain
 
 -- with some own choices a packet comes to a share stop at this chain
-pub record StopsAt (share : Share) (f : Function) (s : State) (packet : Packet) (chain : ℕ) : Type 0 where
+pub record StopsAt (share : Share) (f : Function) (s : State) (packet : Packet) (chain : ℕ)
+    : Type 0 where
   pub fields : Fields
   pub choices : List ℕ
   pub stop : IsShareStop share f s packet fields choices chain
@@ -40,20 +41,25 @@ completes_for share f s packet fields choices =
 -- the step of a handler that came to this answer and this state, where these choices are left
 abbrev pub finished : List ℕ → List ℕ → State → answered.Done → Option StepResult
 finished all left s done =
-    if_none_left all left (record { state = s; vars = []; edits = done.edits; left = left }) done.action
+    if_none_left all left
+    (record { state = s; vars = []; edits = done.edits; left = left })
+    done.action
 
 -- a handler that ends with all that follows some own choices
-pub record Finishes (share : Share) (all : List ℕ) (done : answered.Done) (s : State) (meant : Completion) : Type 0 where
+pub record Finishes (share : Share) (all : List ℕ) (done : answered.Done) (s : State)
+    (meant : Completion) : Type 0 where
   pub own : IsTrue (are_own share (take (length done.picks) all))
   pub step : step_result all meant ≡ finished all (drop (length done.picks) all) s done
 
 -- a handler that stops for its share behind some own choices
-pub record Stops (share : Share) (all taken : List ℕ) (chain : ℕ) (meant : Completion) : Type 0 where
+pub record Stops (share : Share) (all taken : List ℕ) (chain : ℕ) (meant : Completion)
+    : Type 0 where
   pub own : IsTrue (are_own share (take (length taken) all))
   pub stops : meant ≡ StoppedAt chain (drop (length taken) all)
 
 -- what the run of a packet's handler comes to, by all the choices that it may have
-abbrev pub Runs : Result answered.Done Halt → Share → Choices → (List ℕ → Completion) → State → Type 0
+abbrev pub Runs :
+    Result answered.Done Halt → Share → Choices → (List ℕ → Completion) → State → Type 0
 Runs (Ok done) share choices meant s =
     (all : List ℕ) → MayBe choices done.picks all → Finishes share all done s (meant all)
 Runs (Err (halt.ShareFull chain)) share choices meant s =

@@ -19,7 +19,8 @@ IfNeedsWrite (Done done) P = Unit {0}
 IfNeedsWrite NeedsWrite P = P
 
 -- The step of a packet is quiet whatever the choices: it takes none, and leaves the state.
-pub record IsQuietStep (f : Function) (s : State) (packet : Packet) (done : answered.Done) : Type 0 where
+pub record IsQuietStep (f : Function) (s : State) (packet : Packet) (done : answered.Done)
+    : Type 0 where
   pub step_is : step f s packet [] ≡ Some (record { state = s; done = done })
   pub quiet_is : quiet f s packet [] ≡ Some true
   pub only : (choices : List ℕ) (r : StepResult) → step f s packet choices ≡ Some r → choices ≡ []

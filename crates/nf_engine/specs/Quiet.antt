@@ -1,5 +1,5 @@
 -- How a handler goes as long as nothing is written, whatever choices it is given.
-use Rattle.std.specs.Prelude.{◌≡◌, ℕ, Bool, true, false, List, [], Option, Some, None}
+use Rattle.std.specs.Prelude.{◌≡◌, ℕ, true, false, List, []}
 use Rattle.nf_base.specs.Context as context
 use Rattle.nf_base.specs.Course.{NoStep, exec, events}
 use Rattle.nf_base.specs.Events.{Event, did, asked, asked_new}
@@ -22,7 +22,8 @@ record_after Falls rest = rest
 record_after (Ends a) rest = []
 
 -- an operation that changes no table
-pub record DoesQuietly (p : Input) (op : Operation) (t : TablesState) (old new : Context) : Type 0 where
+pub record DoesQuietly (p : Input) (op : Operation) (t : TablesState) (old new : Context)
+    : Type 0 where
   pub done :
       (left : List ℕ) → context_of t left new ≡ after (input_of p) (context_of t left old) op
   pub told :
@@ -32,7 +33,8 @@ pub record DoesQuietly (p : Input) (op : Operation) (t : TablesState) (old new :
 -- an operation that changes some table
 abbrev pub Writes : Input → Operation → TablesState → Context → Type 0
 Writes p op t c =
-    (left : List ℕ) (es : List Event) → is_quiet (did (input_of p) (context_of t left c) op es) ≡ false
+    (left : List ℕ) (es : List Event)
+    → is_quiet (did (input_of p) (context_of t left c) op es) ≡ false
 
 -- the record of a question
 abbrev pub IsToldAsked : Input → Question → TablesState → Context → Type 0

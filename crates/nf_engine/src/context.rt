@@ -42,8 +42,8 @@ pub struct Input<'a> {
     pub fields: Fields,
     /// Whose indices new entries get.
     pub share: Share,
-    /// The indices of the entries to be made, in order. Where none are given, an entry gets any vacant
-    /// index of the share.
+    /// The indices of the entries to be made, in order. Where none are given, an entry gets any
+    /// vacant index of the share.
     pub choices: Option<&'a Picks>,
 }
 
@@ -59,7 +59,8 @@ pub enum Flow {
 /// Why a handler comes to no end.
 #[derive(Clone, Copy)]
 pub enum Halt {
-    /// A `new` of the chain of this number is to make an entry, and no index of the share is vacant.
+    /// A `new` of the chain of this number is to make an entry, and no index of the share is
+    /// vacant.
     ShareFull(u32),
     /// A `new` is to make an entry, and the next choice is not vacant, not own, or missing.
     BadChoice,

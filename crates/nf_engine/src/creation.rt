@@ -107,12 +107,7 @@ fn enter(tables: &mut Tables, p: &Input, picks: &Picks, chain: u32, labels: &[u6
 }
 
 /// Makes an entry and binds its variable, if an entry can be made.
-pub fn make(
-    tables: &mut Tables,
-    context: &mut Context,
-    p: &Input,
-    creation: &Creation,
-) -> NewResult
+pub fn make(tables: &mut Tables, context: &mut Context, p: &Input, creation: &Creation) -> NewResult
     requires over { fixed_of tables.old ≡ fixed_in p.now }
     requires fits { CreationFits p.now.decls.now (creation_of creation.now) }
     requires vars { length context.old.vars < 32 }

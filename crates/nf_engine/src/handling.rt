@@ -20,16 +20,16 @@ use vig_tables::Tables;
 pub enum Handled {
     /// It is done, and the tables hold what it left.
     Done(Done),
-    /// It came to a `new` of the chain of this number, no key is taken, and no index of the share is
-    /// vacant: the tables are given up.
+    /// It came to a `new` of the chain of this number, no key is taken, and no index of the share
+    /// is vacant: the tables are given up.
     ShareFull(u32),
 }
 
-/// Handles a packet in place: what is past its lifetime is given up, and the handler of the packet's
-/// port runs.
+/// Handles a packet in place: what is past its lifetime is given up, and the handler of the
+/// packet's port runs.
 ///
-/// Each entry that it makes gets an index of the tables' share. It takes no memory. A share that is the
-/// whole never stops: where no index is vacant the handler goes on in its `full` block.
+/// Each entry that it makes gets an index of the tables' share. It takes no memory. A share that is
+/// the whole never stops: where no index is vacant the handler goes on in its `full` block.
 pub fn handle(tables: &mut Tables, func: &Func, packet: &Packet) -> Handled
     requires of_func { tables.old.decls ≡ func.now.chains }
     requires port { packet.now.id.port < length func.now.handlers }
@@ -57,8 +57,8 @@ pub fn handle(tables: &mut Tables, func: &Func, packet: &Packet) -> Handled
     }
 }
 
-/// Handles a packet with given choices: None exactly where the share has no step with them, or one of
-/// them is not the share's own, and the tables are given up then. It takes no memory.
+/// Handles a packet with given choices: None exactly where the share has no step with them, or one
+/// of them is not the share's own, and the tables are given up then. It takes no memory.
 ///
 /// Tables with the whole share give None exactly where the choices are not legal.
 pub fn replay(tables: &mut Tables, func: &Func, packet: &Packet, picks: &Picks) -> Option<Done>
@@ -135,7 +135,8 @@ fn run(
 
 /// The answer of a handler that came to its end.
 fn ended(flow: Flow, context: Context) -> Done
-    ensures { result ≡ record { action = action_of flow; edits = context.edits; picks = context.picks } }
+    ensures { let action = action_of flow in
+        result ≡ record { action = action; edits = context.edits; picks = context.picks } }
 {
     let Context {
         vars: _,

@@ -1,4 +1,5 @@
-//! The interpreter of a handler on the tables of a function, in place and without memory of its own.
+//! The interpreter of a handler on the tables of a function, in place and without memory of its
+//! own.
 #![tactic(auto)]
 
 mod block;

@@ -77,8 +77,10 @@ pub fn set(edits: &mut Edits, field: Field, v: u64)
 }
 
 pub fn operate(tables: &mut Tables, context: &mut Context, p: &Input, operation: &Operation)
-    ensures done { (left : List ℕ) → context_of tables.new left context.new
-        ≡ after (input_of p.now) (context_of tables.old left context.old) (operation_of operation.now) }
+    ensures done { (left : List ℕ)
+        → context_of tables.new left context.new
+        ≡ after (input_of p.now) (context_of tables.old left context.old)
+        (operation_of operation.now) }
     ensures picks { context.new.picks ≡ context.old.picks }
     ensures room { length context.new.vars ≡ length context.old.vars }
     ensures stays { fixed_of tables.new ≡ fixed_of tables.old }

@@ -67,12 +67,7 @@ fn differs(v: u64, cell: Option<u64>) -> bool
 
 /// Does an operation that changes no table: false where it would change one.
 #[tactic(auto, using(crate::proofs::QuietReads::reads_quiet))]
-fn operate_quietly(
-    tables: &Tables,
-    context: &mut Context,
-    p: &Input,
-    operation: &Operation,
-) -> bool
+fn operate_quietly(tables: &Tables, context: &mut Context, p: &Input, operation: &Operation) -> bool
     ensures done { OnTrue result (DoesQuietly p.now (operation_of operation.now)
         tables.now context.old context.new) }
     ensures writes { OnFalse result (Writes p.now (operation_of operation.now)
@@ -128,7 +123,12 @@ fn ask_quietly(tables: &Tables, context: &mut Context, p: &Input, question: &Que
 }
 
 /// Why a `new` makes no entry: None where it would make one.
-fn make_quietly(tables: &Tables, context: &Context, p: &Input, creation: &Creation) -> Option<Refusal>
+fn make_quietly(
+    tables: &Tables,
+    context: &Context,
+    p: &Input,
+    creation: &Creation,
+) -> Option<Refusal>
     requires over { fixed_of tables.now ≡ fixed_in p.now }
     requires whole { tables.now.share.of ≡ 1 }
     requires fits { CreationFits p.now.decls.now (creation_of creation.now) }
@@ -152,7 +152,12 @@ fn make_quietly(tables: &Tables, context: &Context, p: &Input, creation: &Creati
 /// Runs a block in its context until it would write: None where it would.
 ///
 /// It goes along the statements in a loop, and calls itself for nested blocks alone.
-pub fn exec_quietly(tables: &Tables, context: &mut Context, p: &Input, block: &Block) -> Option<Flow>
+pub fn exec_quietly(
+    tables: &Tables,
+    context: &mut Context,
+    p: &Input,
+    block: &Block,
+) -> Option<Flow>
     requires over { fixed_of tables.now ≡ fixed_in p.now }
     requires whole { tables.now.share.of ≡ 1 }
     requires fits { BlockFits p.now.decls.now (block_of block.now) }

@@ -14,8 +14,8 @@ use nf_base::picks::Picks;
 use vig_tables::Tables;
 
 /// Handles a packet without a write, in tables with the whole share: `NeedsWrite` exactly where
-/// something is past its lifetime, or where with any legal choices an operation of the packet's handler
-/// changes something.
+/// something is past its lifetime, or where with any legal choices an operation of the packet's
+/// handler changes something.
 ///
 /// It takes no memory.
 pub fn look(tables: &Tables, func: &Func, packet: &Packet) -> Look

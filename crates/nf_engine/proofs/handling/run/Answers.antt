@@ -1,5 +1,4 @@
-use Rattle.std.proofs.Common.{◌∙◌, ap, refl, sym}
-use Rattle.nf_base.specs.Chains.{expired, lifetime_of}
+use Rattle.std.proofs.Common.{ap, refl}
 use Rattle.nf_base.specs.Functions.{function_of}
 use Rattle.nf_base.specs.View.{block_of}
 use Rattle.vig_tables.specs.TablesState.{TablesState}

@@ -1,4 +1,4 @@
-use Rattle.std.proofs.Common.{◌∙◌, ap, sym, map, refl}
+use Rattle.std.proofs.Common.{◌∙◌, ap, sym, map}
 use Rattle.nf_base.specs.View.{creation_of, given_of}
 use Rattle.nf_engine.specs.declared.quiet_block.Refusal.TheVariants.{Taken, Full}
 use Rattle.nf_engine.specs.View.{all_given}

@@ -1,10 +1,12 @@
-use Rattle.std.proofs.Common.{◌∙◌, ap, sym, ℕ, Option}
+use Rattle.nf_base.specs.Chains.{array_at}
+use Rattle.std.proofs.Common.{◌≡◌, [], slice_get, ◌∙◌, ap, sym}
 use Rattle.nf_base.specs.declared.width.Width.TheVariants.{W16}
-use Rattle.nf_base.specs.Context.{Var, entry_in}
+use Rattle.nf_base.specs.Context.{Var, entry_in, value}
 use Rattle.nf_base.specs.Events.{restamps_at, rewrites, differs}
 use Rattle.nf_base.specs.Text.{Touch, Write, Store}
 use Rattle.nf_base.specs.Values.{narrowed}
-use Rattle.nf_base.specs.View.{operation_of, given_of, expression_of}
+use Rattle.nf_base.specs.View.{given_of, expression_of}
+use Rattle.nf_engine.specs.View.{context_of, input_of}
 use Rattle.nf_engine.proofs.QuietOperations.{on_true, on_false, touch_decided, write_decided, store_decided}
 use Rattle.nf_engine.proofs.quiet_block.operate_quietly.Goals as goal
 
@@ -34,8 +36,8 @@ returns-in-Store-clause-done c =
     let d = c.args.context.now in
     let o = c.in-Store in
     let v = c.given-v-in-Store in
-    let index = c.narrowed-i.ensures ∙ ap (narrowed W16) c.value.ensures in
-    let is = ap (λ (cell : Option ℕ). differs v.result cell) (sym c.array_cell.ensures) ∙ sym c.differs.ensures in
+    let index : c.narrowed-i.result ≡ narrowed W16 (value (input_of p) (context_of t [] d) (expression_of o.at)) = rw c.value.ensures at c.narrowed-i.ensures in
+    let is : differs v.result (slice_get (array_at t.state.arrays o.array) c.narrowed-i.result) ≡ c.differs.result = sym (rw c.array_cell.ensures at c.differs.ensures) in
     rw o.is (on_true c.differs.result p (Store o.place o.array (expression_of o.at) (given_of o.g)) t d (store_decided c.differs.result p o.place o.array c.narrowed-i.result v.result (expression_of o.at) (given_of o.g) t d index v.ensures is))
 
 pub returns-in-Store-clause-writes : goal.returns-in-Store-clause-writes
@@ -45,6 +47,6 @@ returns-in-Store-clause-writes c =
     let d = c.args.context.now in
     let o = c.in-Store in
     let v = c.given-v-in-Store in
-    let index = c.narrowed-i.ensures ∙ ap (narrowed W16) c.value.ensures in
-    let is = ap (λ (cell : Option ℕ). differs v.result cell) (sym c.array_cell.ensures) ∙ sym c.differs.ensures in
+    let index : c.narrowed-i.result ≡ narrowed W16 (value (input_of p) (context_of t [] d) (expression_of o.at)) = rw c.value.ensures at c.narrowed-i.ensures in
+    let is : differs v.result (slice_get (array_at t.state.arrays o.array) c.narrowed-i.result) ≡ c.differs.result = sym (rw c.array_cell.ensures at c.differs.ensures) in
     rw o.is (on_false c.differs.result p (Store o.place o.array (expression_of o.at) (given_of o.g)) t d (store_decided c.differs.result p o.place o.array c.narrowed-i.result v.result (expression_of o.at) (given_of o.g) t d index v.ensures is))

@@ -1,4 +1,4 @@
-use Rattle.std.proofs.Common.{◌∙◌, ◌<◌, ap, arith, length, None}
+use Rattle.std.proofs.Common.{◌∙◌, ◌<◌, ap, arith, length}
 use Rattle.std.specs.Prelude.{slice_set}
 use Rattle.nf_base.specs.Operations.{unless_at}
 use Rattle.nf_engine.proofs.Scoped.{changed_more}
