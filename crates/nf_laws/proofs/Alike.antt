@@ -34,10 +34,10 @@ tests_alike true b c to = inl refl
 tests_alike false true c to = inr refl
 tests_alike false false c to = inl refl
 
-came_alike : (to undivided : NewResult) (chain : ℕ) (left : List ℕ) (f g : ℕ → Completion) (x y z w : Completion) → (to ≡ undivided) ⊎ (to ≡ Stopped) → ((i : ℕ) → Alike (f i) (g i)) → Alike x y → Alike z w →
+result_alike : (to undivided : NewResult) (chain : ℕ) (left : List ℕ) (f g : ℕ → Completion) (x y z w : Completion) → (to ≡ undivided) ⊎ (to ≡ Stopped) → ((i : ℕ) → Alike (f i) (g i)) → Alike x y → Alike z w →
     Alike (if_new to f x z NoStep (StoppedAt chain left)) (if_new undivided g y w NoStep (StoppedAt chain left))
-came_alike to undivided chain left f g x y z w (inr s) m t u = inr (rw s refl)
-came_alike to undivided chain left f g x y z w (inl e) m t u = rw (← e) (same to)
+result_alike to undivided chain left f g x y z w (inr s) m t u = inr (rw s refl)
+result_alike to undivided chain left f g x y z w (inl e) m t u = rw (← e) (same to)
   where
     same : (to : NewResult) → Alike (if_new to f x z NoStep (StoppedAt chain left)) (if_new to g y w NoStep (StoppedAt chain left))
     same (Made i) = m i
@@ -57,7 +57,7 @@ share_alike stops p (Make n made taken full next) c =
     let chain = chain_at c.state.chains n.chain in
     then_alike (if_new (new_result stops p c n) (λ i. exec stops p made (with_new p c n i)) (exec stops p taken c) (exec stops p full c) NoStep (StoppedAt n.chain c.left))
     (if_new (new_result never p c n) (λ i. exec never p made (with_new p c n i)) (exec never p taken c) (exec never p full c) NoStep (StoppedAt n.chain c.left)) (exec stops p next) (exec never p next)
-    (came_alike (new_result stops p c n) (new_result never p c n) n.chain c.left (λ i. exec stops p made (with_new p c n i)) (λ i. exec never p made (with_new p c n i)) (exec stops p taken c) (exec never p taken c) (exec stops p full c) (exec never p full c)
+    (result_alike (new_result stops p c n) (new_result never p c n) n.chain c.left (λ i. exec stops p made (with_new p c n i)) (λ i. exec never p made (with_new p c n i)) (exec stops p taken c) (exec never p taken c) (exec stops p full c) (exec never p full c)
     (tests_alike (is_taken (maps_of p.decls n.chain) (map (given p c) n.labels) chain.slots) (stops n.chain chain) (is_full chain.slots) (chosen chain.slots c.left))
     (λ i. share_alike stops p made (with_new p c n i)) (share_alike stops p taken c) (share_alike stops p full c))
     (λ d. share_alike stops p next d)

@@ -74,10 +74,10 @@ same_after p c left (Store place array at g) =
 abbrev pub Ends : (List ℕ → Completion) → Type 0
 Ends course = (choices : List ℕ) × (left_of (course choices) ≡ Some [])
 
-some_gap : (slots : List (Option Entry)) → is_full slots ≡ false → (i : ℕ) × (is_vacant (slice_get slots i) ≡ true)
-some_gap [] e = cc
-some_gap (None ∷ slots) e = (0, refl)
-some_gap (Some x ∷ slots) e = let w = some_gap slots e in (suc w.0, w.1)
+some_vacant : (slots : List (Option Entry)) → is_full slots ≡ false → (i : ℕ) × (is_vacant (slice_get slots i) ≡ true)
+some_vacant [] e = cc
+some_vacant (None ∷ slots) e = (0, refl)
+some_vacant (Some x ∷ slots) e = let w = some_vacant slots e in (suc w.0, w.1)
 
 hit_case : (o : Option Context) (hit : Context → Completion) (miss : List ℕ → Completion) (g : Context → Completion) → ((d : Context) → Ends (λ left. and_then (hit (leaving left d)) g)) → Ends (λ left. and_then (miss left) g) →
     Ends (λ left. and_then (if_hit (option_map (leaving left) o) hit (miss left)) g)
@@ -95,9 +95,9 @@ same_new : (p : Input) (c : Context) (n : Creation) (i : ℕ) (left : List ℕ) 
 same_new p c n i left =
     ap (λ labels. record (bound n.var n.chain (with_chains (slice_set c.state.chains n.chain (stamped p.time i (fresh labels (zeros_of p.decls n.chain)) (chain_at c.state.chains n.chain))) c) i) { left = left }) (same_all p c (i ∷ left) n.labels)
 
-same_came : (p : Input) (c : Context) (n : Creation) (left : List ℕ) →
+same_result : (p : Input) (c : Context) (n : Creation) (left : List ℕ) →
     new_result never p (leaving left c) n ≡ tests (is_taken (maps_of p.decls n.chain) (map (given p c) n.labels) (chain_at c.state.chains n.chain).slots) (is_full (chain_at c.state.chains n.chain).slots) (chosen (chain_at c.state.chains n.chain).slots left)
-same_came p c n left =
+same_result p c n left =
     ap (λ labels. tests (is_taken (maps_of p.decls n.chain) labels (chain_at c.state.chains n.chain).slots) (is_full (chain_at c.state.chains n.chain).slots) (chosen (chain_at c.state.chains n.chain).slots left)) (same_all p c left n.labels)
 
 new_case : (slots : List (Option Entry)) (chain : ℕ) (a b : Bool) (made : List ℕ → ℕ → Completion) (x y : List ℕ → Completion) (g : Context → Completion) → is_full slots ≡ b →
@@ -106,9 +106,9 @@ new_case : (slots : List (Option Entry)) (chain : ℕ) (a b : Bool) (made : List
 new_case slots chain true b made x y g f m t u = t
 new_case slots chain false true made x y g f m t u = u
 new_case slots chain false false made x y g f m t u =
-    let gap = some_gap slots f in
-    let rest = m gap.0 in
-    (gap.0 ∷ rest.0, rw gap.1 rest.1)
+    let vacant = some_vacant slots f in
+    let rest = m vacant.0 in
+    (vacant.0 ∷ rest.0, rw vacant.1 rest.1)
 
 swap : (f g : List ℕ → Completion) → ((left : List ℕ) → f left ≡ g left) → Ends g → Ends f
 swap f g e h = (h.0, ap left_of (e h.0) ∙ h.1)
@@ -135,7 +135,7 @@ legal p (Make n made taken full next) c g h =
     let goes = λ (left : List ℕ) (to : NewResult). if_new to (λ i. exec never p made (with_new p (leaving left c) n i)) (exec never p taken (leaving left c)) (exec never p full (leaving left c)) NoStep (StoppedAt n.chain left) in
     swap (λ left. and_then (and_then (goes left (new_result never p (leaving left c) n)) (exec never p next)) g)
     (λ left. and_then (goes left (tests (is_taken (maps_of p.decls n.chain) (map (given p c) n.labels) slots) (is_full slots) (chosen slots left))) on)
-    (λ left. then_then (goes left (new_result never p (leaving left c) n)) (exec never p next) g ∙ ap (λ to. and_then (goes left to) on) (same_came p c n left))
+    (λ left. then_then (goes left (new_result never p (leaving left c) n)) (exec never p next) g ∙ ap (λ to. and_then (goes left to) on) (same_result p c n left))
     (new_case slots n.chain (is_taken (maps_of p.decls n.chain) (map (given p c) n.labels) slots) (is_full slots) (λ left i. exec never p made (with_new p (leaving left c) n i)) (λ left. exec never p taken (leaving left c)) (λ left. exec never p full (leaving left c)) on refl
     (λ i. swap (λ left. and_then (exec never p made (with_new p (leaving (i ∷ left) c) n i)) on) (λ left. and_then (exec never p made (leaving left (with_new p c n i))) on) (λ left. ap (λ d. and_then (exec never p made d) on) (same_new p c n i left)) (legal p made (with_new p c n i) on follows))
     (legal p taken c on follows) (legal p full c on follows))

@@ -65,16 +65,16 @@ answer_left p c d (Find place chain at guards var) e = hit_left var chain c d (i
 answer_left p c d (Test place comparison a b) e = test_left (compares comparison (value p c a) (value p c b)) c d e
 
 -- an entry is made by the next choice
-of_gap : (b : Bool) (i j : ℕ) → (if b then Made i else Illegal) ≡ Made j → i ≡ j
-of_gap true i j e = cc
-of_gap false i j e = cc
+of_vacant : (b : Bool) (i j : ℕ) → (if b then Made i else Illegal) ≡ Made j → i ≡ j
+of_vacant true i j e = cc
+of_vacant false i j e = cc
 
 taken_same : (i j : ℕ) (left : List ℕ) → j ≡ i → taken i (j ∷ left) ≡ Some left
 taken_same i j left e = rw (eq-eqb i j (sym e)) refl
 
 of_choice : (slots : List (Option Entry)) (left : List ℕ) (i : ℕ) → chosen slots left ≡ Made i → taken i left ≡ Some (drop 1 left)
 of_choice slots [] i e = cc
-of_choice slots (j ∷ left) i e = taken_same i j left (of_gap (is_vacant (slice_get slots j)) j i e)
+of_choice slots (j ∷ left) i e = taken_same i j left (of_vacant (is_vacant (slice_get slots j)) j i e)
 
 of_tests : (a b c : Bool) (to : NewResult) (i : ℕ) → (if a then Taken else if b then Stopped else if c then Full else to) ≡ Made i → to ≡ Made i
 of_tests true b c to i e = cc
