@@ -55,8 +55,26 @@ pub fn next<F: Files>(
 ) -> Result<Next, CapFault>
     requires opened { F.is_read files.old reader.old.file }
     ensures readable { F.is_read files.new reader.new.file }
+    ensures reads { (g : ℕ) → F.is_read files.old g → F.is_read files.new g }
 {
     reader.next(files, frame)
+}
+
+/// Reads at most so many bytes, and puts them behind others.
+pub fn read_behind<F: Files>(
+    alloc: Global,
+    files: &mut F,
+    file: u32,
+    most: usize,
+    bytes: &mut Vec<u8>,
+) -> Result<(), FilesFault>
+    requires opened { F.is_read files.old file }
+    ensures reads { (g : ℕ) → F.is_read files.old g → F.is_read files.new g }
+{
+    let mut out = vec![in alloc; 0u8; most]?;
+    let count = files.read(file, &mut out)?;
+    bytes.extend_from_slice(&out[..count])?;
+    Ok(())
 }
 
 /// Writes a whole piece.

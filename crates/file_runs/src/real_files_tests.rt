@@ -1,4 +1,5 @@
 //! Files of the system.
+use crate::calls::read_behind;
 use crate::failing_system::FailingSystem;
 use nf_files::{Files, FilesFault, RealFiles, read_whole, write_whole};
 use std::test::Fail;
@@ -86,11 +87,13 @@ fn reads_of_any_size_go_on_where_the_last_one_ended(rt: HostRuntime) -> Result<(
     let mut files = RealFiles::new(alloc, &rt, rt.stdout(), rt.stderr());
     let file = files.open_in(path.as_str())?;
     let mut all = Vec::new(alloc);
-    let mut out = vec![in alloc; 0u8; 100_000]?;
-    'sizes: for size in [1, 16, 65_519, 65_536, 100_000, 3, 65_535, 5, 70_000] {
-        let count = files.read(file, &mut out[..size])?;
-        all.extend_from_slice(&out[..count])?;
-    }
+    read_behind(alloc, &mut files, file, 1, &mut all)?;
+    read_behind(alloc, &mut files, file, 65_519, &mut all)?;
+    read_behind(alloc, &mut files, file, 65_536, &mut all)?;
+    read_behind(alloc, &mut files, file, 100_000, &mut all)?;
+    read_behind(alloc, &mut files, file, 3, &mut all)?;
+    read_behind(alloc, &mut files, file, 65_535, &mut all)?;
+    read_behind(alloc, &mut files, file, 70_000, &mut all)?;
     assert!(rt; all.len() > 131_072, "{} bytes", all.len());
     let rest = read_whole(alloc, &mut files, file)?;
     all.extend_from_slice(rest.as_slice())?;
