@@ -3,6 +3,7 @@ use Rattle.std.proofs.Common.{◌≡◌, ◌≢◌, ◌≤◌, ◌+◌, ℕ, zer
 use Rattle.std.proofs.lemmas.Option.{same_Some}
 use Rattle.nf_base.specs.declared.decl.MapDecl.{MapDecl}
 use Rattle.nf_base.specs.declared.decl.ChainDecl.{ChainDecl}
+use Rattle.nf_base.specs.declared.decl.ArrayDecl.{ArrayDecl}
 use Rattle.nf_base.specs.declared.packet.Fields.{Fields}
 use Rattle.nf_base.specs.declared.state.Entry.{Entry}
 use Rattle.nf_base.specs.declared.state.Chain.{Chain}
@@ -11,10 +12,10 @@ use Rattle.nf_base.specs.Statements.{Statement}
 use Rattle.nf_base.specs.Chains.{chain_at, maps_of, key_in, joined, entry_at, alive, unexpired, next_stamp, on_live, stamped, touched, freed, with_column, written, lifetime_of}
 use Rattle.nf_base.specs.Context.{Context, Input}
 use Rattle.nf_base.specs.Operations.{Stops, Made, new_result, new_entry}
-use Rattle.nf_base.specs.Step.{input, opening_chain}
+use Rattle.nf_base.specs.Step.{input, opening_chain, opening_cells}
 use Rattle.nf_base.proofs.Mixes.{got_set}
 use Rattle.nf_laws.specs.Entries.{IsLive}
-use Rattle.nf_laws.specs.States.{IsSoundChain, IsSound, OpeningsAreSound, StepsKeepSoundness}
+use Rattle.nf_laws.specs.States.{IsSoundChain, IsSound, OpeningsAreSound, OpeningsAreEmpty, StepsKeepSoundness}
 use Rattle.nf_laws.proofs.Answered.{news_answer}
 use Rattle.nf_laws.proofs.Chained.{IsKeptByChains, does_keeps, makes_keeps, expired_keeps}
 use Rattle.nf_laws.proofs.Kept.{IsKept, step_keeps}
@@ -167,3 +168,15 @@ opening_sound f k chain at =
       stamps = λ i entry live. absurd (empty_none w.0.size i entry live);
       keys = λ n i j m a b is here there same. absurd (empty_none w.0.size i a here);
     })
+
+cells_at : (decls : List ArrayDecl) (k : ℕ) (decl : ArrayDecl) → slice_get decls k ≡ Some decl → slice_get (map opening_cells decls) k ≡ Some decl.cells
+cells_at [] k decl e = cc
+cells_at (d ∷ decls) zero decl e = ap (λ (x : ArrayDecl). Some x.cells) (same_Some _ _ e)
+cells_at (d ∷ decls) (suc k) decl e = cells_at decls k decl e
+
+pub opening_empty : OpeningsAreEmpty
+opening_empty f = record {
+  entries = λ k chain i entry at live. let w = opening_at f.chains k chain at in empty_none w.0.size i entry (subst (λ (c : Chain). IsLive c.slots i entry) w.1 live);
+  stamps = λ k chain at. ap (λ (c : Chain). c.greatest) (opening_at f.chains k chain at).1;
+  cells = cells_at f.arrays;
+}

@@ -49,6 +49,18 @@ pub record HasShape (f : Function) (s : State) : Type 0 where
 abbrev pub OpeningsAreSound : Type 0
 OpeningsAreSound = (f : Function) → IsSound f (opening f)
 
+-- nothing is remembered yet: no entry is live, no stamp was given, and cells are as declared
+pub record IsEmpty (f : Function) (s : State) : Type 0 where
+  pub entries : (k : ℕ) (chain : Chain) (i : ℕ) (entry : Entry) →
+      slice_get s.chains k ≡ Some chain → IsLive chain.slots i entry → ⊥
+  pub stamps : (k : ℕ) (chain : Chain) → slice_get s.chains k ≡ Some chain → chain.greatest ≡ 0
+  pub cells : (k : ℕ) (decl : ArrayDecl) →
+      slice_get f.arrays k ≡ Some decl → slice_get s.arrays k ≡ Some decl.cells
+
+-- so it is before the first packet
+abbrev pub OpeningsAreEmpty : Type 0
+OpeningsAreEmpty = (f : Function) → IsEmpty f (opening f)
+
 -- and it has the function's shape
 abbrev pub OpeningsHaveTheirShape : Type 0
 OpeningsHaveTheirShape = (f : Function) → HasShape f (opening f)

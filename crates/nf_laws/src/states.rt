@@ -1,5 +1,5 @@
 //! What holds of every state of a function.
-ghost use Rattle.nf_laws.specs.States.{OpeningsAreSound, OpeningsHaveTheirShape, StepsKeepSoundness, StepsKeepTheShape};
+ghost use Rattle.nf_laws.specs.States.{OpeningsAreSound, OpeningsAreEmpty, OpeningsHaveTheirShape, StepsKeepSoundness, StepsKeepTheShape};
 
 /// From any state whose stamps are at most the greatest one of their chain, and whose entries share
 /// no key of a map, a step comes to such a state; the first one is such a state.
@@ -12,4 +12,9 @@ pub fn states_are_sound()
 pub fn states_have_their_shape()
     ensures opening { OpeningsHaveTheirShape }
     ensures step { StepsKeepTheShape }
+{}
+
+/// Before the first packet no entry is live, no stamp was given, and cells are as declared.
+pub fn openings_are_empty()
+    ensures { OpeningsAreEmpty }
 {}
