@@ -56,14 +56,14 @@ leaves_printed start a b r line (Err status) some s unnamed is said =
 pub ends_left : (start : Start) (now : Told) (r : Report) (out : List ℕ) (f : Function) (captures : List (List ℕ)) (most : ℕ) (res : Result (Unit {0}) Status) → string_bytes r.out.now ≡ out → function_of r.func.now ≡ f → all_bytes r.captures.now ≡ captures → IsLoaded captures most (map arrival_in r.handled.now) → IsUndivided f r.handled.now r.state.now → Leaves start now r res → EndsWell start now out f captures most res
 ends_left start now r out f captures most (Ok x) named is over loaded undivided left = record {
   run = run_in r;
-  is_run = record { function = is; captures_are = over; in_order = rw over loaded; undivided = rw is undivided };
+  is_run = record { function = is; captures_are = over; in_order = rw over loaded; undivided = subst (λ (g : Function). IsUndivided g r.handled.now r.state.now) (sym is) undivided };
   files = subst (λ (o : List ℕ). HoldsAll start.told now (first_created start) (created_file o (run_in r)) (files_created (run_in r))) named left.files;
   stdout = left.stdout;
   stderr = left.stderr;
 }
 ends_left start now r out f captures most (Err status) named is over loaded undivided left = inr (record {
   run = run_in r;
-  is_run = record { function = is; captures_are = over; in_order = rw over loaded; undivided = rw is undivided };
+  is_run = record { function = is; captures_are = over; in_order = rw over loaded; undivided = subst (λ (g : Function). IsUndivided g r.handled.now r.state.now) (sym is) undivided };
   made = left.made;
   within = left.within;
   files = subst (λ (o : List ℕ). HoldsFronts start.told now (first_created start) (created_file o (run_in r)) left.made) named left.files;
