@@ -1,6 +1,9 @@
 //! Chains.
+ghost use Rattle.std.specs.Prelude.{◌≡◌, IfOk, length};
+
 use nf_base::share::Share;
 use nf_base::size::Size;
+use std::alloc::{AllocError, Global};
 use std::test::Fail;
 use vig_chain::Chain;
 
@@ -59,12 +62,28 @@ fn an_empty_share_is_full(rt: HostRuntime) -> Result<(), Fail> {
     Ok(())
 }
 
+/// A chain of three indices whose index 1 was taken at time 10.
+fn taken(alloc: Global) -> Result<Chain, AllocError>
+    ensures { IfOk result (λ chain. length chain.slots ≡ 3) }
+{
+    let mut chain = Chain::new(alloc, Size::new(3), Share { queue: 0, of: 1 })?;
+    chain.take(1, 10);
+    Ok(chain)
+}
+
+/// A copy of a chain of three indices, in place of an empty one of another share.
+fn copied(alloc: Global, chain: &Chain) -> Result<Chain, AllocError>
+    requires { length chain.now.slots ≡ 3 }
+{
+    let mut copy = Chain::new(alloc, Size::new(3), Share { queue: 1, of: 2 })?;
+    copy.copy_from(chain);
+    Ok(copy)
+}
+
 #[test]
 fn a_copy_goes_on_by_itself(rt: HostRuntime) -> Result<(), Fail> {
-    let mut chain = Chain::new(rt.alloc(), Size::new(3), Share { queue: 0, of: 1 })?;
-    assert!(rt; take(&mut chain, 1, 10));
-    let mut copy = Chain::new(rt.alloc(), Size::new(3), Share { queue: 1, of: 2 })?;
-    copy.copy_from(&chain);
+    let mut chain = taken(rt.alloc())?;
+    let mut copy = copied(rt.alloc(), &chain)?;
     assert_eq!(rt;
         (stamp(&copy, 0), stamp(&copy, 1), copy.greatest()),
         (None, Some(10), 10)

@@ -1,6 +1,9 @@
 //! Maps.
+ghost use Rattle.std.specs.Prelude.{◌≡◌, IfOk};
+
 use nf_base::key::Key;
 use nf_base::size::Size;
+use std::alloc::{AllocError, Global};
 use std::test::Fail;
 use vig_map::Map;
 
@@ -63,12 +66,28 @@ fn the_others_are_found_when_half_are_erased(rt: HostRuntime) -> Result<(), Fail
     Ok(())
 }
 
+/// A map of at most two pairs, in which the key 1, 2 has the value 7.
+fn bound(alloc: Global) -> Result<Map, AllocError>
+    ensures { IfOk result (λ map. map.most ≡ 2) }
+{
+    let mut map = Map::new(alloc, Size::new(2))?;
+    map.put(key(1, 2), 7);
+    Ok(map)
+}
+
+/// A copy of a map of at most two pairs.
+fn copied(alloc: Global, map: &Map) -> Result<Map, AllocError>
+    requires { map.now.most ≡ 2 }
+{
+    let mut copy = Map::new(alloc, Size::new(2))?;
+    copy.copy_from(map);
+    Ok(copy)
+}
+
 #[test]
 fn a_copy_goes_on_by_itself(rt: HostRuntime) -> Result<(), Fail> {
-    let mut map = Map::new(rt.alloc(), Size::new(2))?;
-    assert!(rt; put(&mut map, key(1, 2), 7));
-    let mut copy = Map::new(rt.alloc(), Size::new(2))?;
-    copy.copy_from(&map);
+    let mut map = bound(rt.alloc())?;
+    let mut copy = copied(rt.alloc(), &map)?;
     assert_eq!(rt; get(&copy, &key(1, 2)), Some(7));
     assert!(rt; put(&mut copy, key(2, 1), 9));
     assert!(rt; !put(&mut copy, key(3, 3), 1), "two pairs stand");
