@@ -1,190 +1,129 @@
--- At every context some choices are legal.
-use Rattle.std.proofs.Common.{◌≡◌, ℕ, zero, suc, ◌<◌, List, [], ◌∷◌, ◌++◌, length, refl, ap, sym, ◌∙◌, Bool, true, false, Option, Some, None, map, arith, append_assoc}
-use Rattle.std.proofs.lemmas.List.{append-nil}
-use Rattle.std.specs.Prelude.{slice_get, slice_set, if◌then◌else◌}
-use Rattle.nf_base.specs.Text.{Block, End, Forward, Flood, Discard, Get, Find, New, If, Touch, Free, Set, Write, Store}
-use Rattle.nf_base.specs.declared.width.Width.TheVariants.{W16}
-use Rattle.nf_base.specs.declared.decl.ChainDecl.{ChainDecl}
-use Rattle.nf_base.specs.declared.state.Entry.{Entry}
-use Rattle.nf_base.specs.declared.state.Chain.{Chain}
-use Rattle.nf_base.specs.declared.state.State.{State}
-use Rattle.nf_base.specs.Values.{narrowed, compares}
-use Rattle.nf_base.specs.Chains.{put, is_taken, is_full, is_free}
-use Rattle.nf_base.specs.Context.{Context, Input, value, given, guard, var_at, entry_in, cell_at}
-use Rattle.nf_base.specs.Operations.{Making, Made, Taken, Full, bind, found_key, found_at, making, touching, writing, freeing, setting, storing, zeros, with_chains}
-use Rattle.nf_base.specs.Events.{Event, used, frees, stores, reads, reads_all, reads_guards, restamps, rewrites, LookedUp, Found, Tested, EntryMade, KeyTaken, ChainFull}
-use Rattle.nf_base.specs.Text.{Function}
+-- A step is there exactly where its record is legal and takes each choice.
+use Rattle.std.proofs.Common.{◌≡◌, ◌<◌, ◌≤◌, length, zero, suc, ℕ, Bool, true, false, ◌==◌, List, [], ◌∷◌, ◌++◌, Option, Some, None, slice_get, if◌then◌else◌, refl, ap, sym, ◌∙◌, subst, arith, eq-eqb, eqb-true, append-nil, inl, inr}
+use Rattle.std.specs.Option.{option_and_then}
+use Rattle.std.proofs.lemmas.Option.{same_Some}
+use Rattle.std.proofs.lemmas.Bool.{cases_Bool}
 use Rattle.nf_base.specs.declared.packet.Packet.{Packet}
 use Rattle.nf_base.specs.declared.packet.Fields.{Fields}
-use Rattle.nf_base.specs.declared.done.Action.TheVariants.{Skip, Drop}
-use Rattle.nf_base.specs.Step.{Stepped, step, settled, input, begun, no_edits}
-use Rattle.nf_base.specs.Handler.{flow_of, Traced, FallsOff, Ends, NoTrace, after, and_then, if_found, if_made, trace}
+use Rattle.nf_base.specs.declared.state.State.{State}
+use Rattle.nf_base.specs.declared.done.Action.{Action}
+use Rattle.nf_base.specs.Text.{Block, Function}
+use Rattle.nf_base.specs.Context.{Context}
+use Rattle.nf_base.specs.Operations.{NewResult, Made, Taken, Full, Illegal, Stopped, never}
+use Rattle.nf_base.specs.Events.{Event, AskedNew}
+use Rattle.nf_base.specs.Course.{Completion, Normal, Ended, NoStep, StoppedAt, and_then, exec, events}
+use Rattle.nf_base.specs.Record.{is_legal, indices_made}
+use Rattle.nf_base.specs.Step.{StepResult, if_none_left, step_result, skipped, input, start_context, completes, records, step_of, record_of}
+use Rattle.nf_laws.specs.Steps.{StepsAreLegal, LegalStepsAre, IsLegalRecord, OtherPortsHaveNone, HasHandler, skips, handles}
+use Rattle.nf_laws.proofs.Consumed.{taken, after_came, unused, left_of, consumes}
 
-abbrev pub with_left : List ℕ → Context → Context
-with_left left c = record c { left = left }
+pub taken_head : (i : ℕ) (left rest : List ℕ) → taken i left ≡ Some rest → left ≡ i ∷ rest
+taken_head i [] rest e = cc
+taken_head i (j ∷ left) rest e = elim (cases_Bool (i == j)) [
+  | inl same ↦ let f : left ≡ rest = same_Some _ _ (rw same at e) in rw (eqb-true i j same, f) refl
+  | inr other ↦ let f : None ≡ Some rest = rw other at e in cc
+]
 
--- what was told, with other choices left
-abbrev pub leaving : List ℕ → Traced → Traced
-leaving left (FallsOff es c) = FallsOff es (with_left left c)
-leaving left (Ends es a c) = Ends es a (with_left left c)
-leaving left NoTrace = NoTrace
+says_made : (es : List Event) (i : ℕ) (left rest : List ℕ) (o : Option (List ℕ)) → taken i left ≡ o → ((left rest : List ℕ) → unused es left ≡ Some rest → (is_legal es ≡ true) × (left ≡ indices_made es ++ rest)) →
+    option_and_then (unused es) o ≡ Some rest → (is_legal es ≡ true) × (left ≡ i ∷ (indices_made es ++ rest))
+says_made es i left rest None t h e = cc
+says_made es i left rest (Some more) t h e = let s = h more rest e in (s.0, taken_head i left more t ∙ ap (λ xs. i ∷ xs) s.1)
 
-abbrev pub HasMeaning : Traced → Type 0
-HasMeaning (FallsOff es c) = Unit {0}
-HasMeaning (Ends es a c) = Unit {0}
-HasMeaning NoTrace = ⊥
+-- what a record that leaves something over says
+pub says : (es : List Event) (left rest : List ℕ) → unused es left ≡ Some rest → (is_legal es ≡ true) × (left ≡ indices_made es ++ rest)
+says [] left rest e = (refl, same_Some _ _ e)
+says (AskedNew place chain labels (Made i) ∷ es) left rest e = says_made es i left rest (taken i left) refl (says es) e
+says (AskedNew place chain labels Taken ∷ es) left rest e = says es left rest e
+says (AskedNew place chain labels Full ∷ es) left rest e = says es left rest e
+says (AskedNew place chain labels Illegal ∷ es) left rest e = cc
+says (AskedNew place chain labels Stopped ∷ es) left rest e = cc
+says (x ∷ es) left rest e = says es left rest e
 
--- choices that a block takes, and how it goes with them, whatever is left beside
-pub record IsLegal (block : List ℕ → Traced) : Type 0 where
-  pub choices : List ℕ
-  pub told : Traced
-  pub meant : HasMeaning told
-  pub goes : (rest : List ℕ) → block (choices ++ rest) ≡ leaving rest told
+pub taken_first : (i : ℕ) (left : List ℕ) → taken i (i ∷ left) ≡ Some left
+taken_first i left = rw (eq-eqb i i refl) refl
 
-leaving_after : (rest : List ℕ) (es : List Event) (t : Traced) → after es (leaving rest t) ≡ leaving rest (after es t)
-leaving_after rest es (FallsOff fs c) = refl
-leaving_after rest es (Ends fs a c) = refl
-leaving_after rest es NoTrace = refl
+pub takes : (es : List Event) (rest : List ℕ) → is_legal es ≡ true → unused es (indices_made es ++ rest) ≡ Some rest
+takes [] rest e = refl
+takes (AskedNew place chain labels (Made i) ∷ es) rest e = ap (option_and_then (unused es)) (taken_first i (indices_made es ++ rest)) ∙ takes es rest e
+takes (AskedNew place chain labels Taken ∷ es) rest e = takes es rest e
+takes (AskedNew place chain labels Full ∷ es) rest e = takes es rest e
+takes (AskedNew place chain labels Illegal ∷ es) rest e = cc
+takes (AskedNew place chain labels Stopped ∷ es) rest e = cc
+takes (x ∷ es) rest e = takes es rest e
 
-meant_after : (es : List Event) (t : Traced) → HasMeaning t → HasMeaning (after es t)
-meant_after es (FallsOff fs c) m = m
-meant_after es (Ends fs a c) m = m
-meant_after es NoTrace m = m
+pub then_normal : (w : Completion) → and_then w Normal ≡ w
+then_normal (Normal c) = refl
+then_normal (Ended a c) = refl
+then_normal NoStep = refl
+then_normal (StoppedAt chain left) = refl
 
-legal_after : (es : List Event) (block : List ℕ → Traced) → IsLegal block → IsLegal (λ left. after es (block left))
-legal_after es block b = record {
-  choices = b.choices;
-  told = after es b.told;
-  meant = meant_after es b.told b.meant;
-  goes = λ rest. ap (after es) (b.goes rest) ∙ leaving_after rest es b.told;
-}
+none_left : (choices left : List ℕ) (c : Context) (a : Action) (r : StepResult) → if_none_left choices left c a ≡ Some r → Some left ≡ Some []
+none_left choices [] c a r e = refl
+none_left choices (i ∷ left) c a r e = cc
 
-legal_then : (block : List ℕ → Traced) (go : Context → Traced) → IsLegal block → ((d : Context) → IsLegal (λ left. go (with_left left d))) → IsLegal (λ left. and_then (block left) go)
-legal_then block go b next = of_told b.told b.meant b.goes
-  where
-    of_told : (t : Traced) → HasMeaning t → ((rest : List ℕ) → block (b.choices ++ rest) ≡ leaving rest t) → IsLegal (λ left. and_then (block left) go)
-    of_told (FallsOff es d) m g = record {
-      choices = b.choices ++ (next d).choices;
-      told = after es (next d).told;
-      meant = meant_after es (next d).told (next d).meant;
-      goes = λ rest.
-          ap (λ (left : List ℕ). and_then (block left) go) (append_assoc b.choices (next d).choices rest)
-          ∙ ap (λ (t : Traced). and_then t go) (g ((next d).choices ++ rest))
-          ∙ ap (after es) ((next d).goes rest)
-          ∙ leaving_after rest es (next d).told;
-    }
-    of_told (Ends es a d) m g = record { choices = b.choices; told = Ends es a d; meant = tt; goes = λ rest. ap (λ (t : Traced). and_then t go) (g rest) }
-    of_told NoTrace m g = absurd m
+settles : (choices : List ℕ) (w : Completion) (r : StepResult) → step_result choices w ≡ Some r → left_of w ≡ Some []
+settles choices (Normal c) r e = none_left choices c.left c _ r e
+settles choices (Ended a c) r e = none_left choices c.left c a r e
+settles choices NoStep r e = cc
+settles choices (StoppedAt chain left) r e = cc
 
-legal_found : (o : Option ℕ) (hit : ℕ → List ℕ → Traced) (miss : List ℕ → Traced) → ((i : ℕ) → IsLegal (hit i)) → IsLegal miss → IsLegal (λ left. if_found o (λ i. hit i left) (miss left))
-legal_found (Some i) hit miss h m = h i
-legal_found None hit miss h m = m
+answers : (choices left : List ℕ) (c : Context) (a : Action) → left ≡ [] → (r : StepResult) × (if_none_left choices left c a ≡ Some r)
+answers choices [] c a e = (_, refl)
+answers choices (i ∷ left) c a e = cc
 
-legal_test : (b : Bool) (x y : List ℕ → Traced) → IsLegal x → IsLegal y → IsLegal (λ left. if b then x left else y left)
-legal_test true x y h m = h
-legal_test false x y h m = m
+pub settles_back : (choices : List ℕ) (w : Completion) → left_of w ≡ Some [] → (r : StepResult) × (step_result choices w ≡ Some r)
+settles_back choices (Normal c) e = answers choices c.left c _ (same_Some _ _ e)
+settles_back choices (Ended a c) e = answers choices c.left c a (same_Some _ _ e)
+settles_back choices NoStep e = cc
+settles_back choices (StoppedAt chain left) e = cc
 
--- a chain that is not full has a free index
-some_free : (slots : List (Option Entry)) → is_full slots ≡ false → (i : ℕ) × (is_free slots i ≡ true)
-some_free [] full = cc
-some_free (None ∷ slots) full = (0, refl)
-some_free (Some e ∷ slots) full = let i = some_free slots full in (suc i.0, i.1)
+-- the choices left over by a handler are those that its record leaves over
+pub leaves : (f : Function) (s : State) (time : ℕ) (fields : Fields) (choices : List ℕ) (block : Block) → left_of (completes never f s time fields choices (Some block)) ≡ unused (records never f s time fields choices (Some block)) choices
+leaves f s time fields choices block =
+    ap left_of (sym (then_normal (exec never (input f time fields) block (start_context f s time choices))))
+    ∙ consumes never (input f time fields) block (start_context f s time choices) Normal (λ _. []) (λ d. refl)
 
-legal_made : (p : Input) (place k : ℕ) (labels : List ℕ) (c : Context) (made : ℕ → Context → Traced) (taken full : List ℕ → Traced) → ((i : ℕ) (d : Context) → IsLegal (λ left. made i (with_left left d))) → IsLegal taken → IsLegal full → IsLegal (λ left. if_made place k labels (making p k labels (with_left left c)) made (taken left) (full left))
-legal_made p place k labels c made taken full m t f = of_decl (slice_get p.decls k) (slice_get c.state.chains k) refl refl
-  where
-    goal : Type 0
-    goal = IsLegal (λ left. if_made place k labels (making p k labels (with_left left c)) made (taken left) (full left))
+legal : (f : Function) (s : State) (packet : Packet) (choices : List ℕ) (fields : Option Fields) (handler : Option Block) (r : StepResult) → slice_get f.handlers packet.id.port ≡ handler →
+    step_of never f s packet choices fields ≡ Some r → IsLegalRecord (record_of never f s packet choices fields) choices
+legal f s packet [] None handler r at e = record { legal = refl; made = refl }
+legal f s packet (i ∷ choices) None handler r at e = cc
+legal f s packet choices (Some fields) None r at e = let e = rw at at e in cc
+legal f s packet choices (Some fields) (Some block) r at e =
+    let told = says (records never f s packet.time fields choices (Some block)) choices [] (sym (leaves f s packet.time fields choices block) ∙ settles choices (completes never f s packet.time fields choices (Some block)) r (rw at at e)) in
+    rw at (record { legal = told.0; made = sym (append-nil _) ∙ sym told.1 })
 
-    as_taken : ((left : List ℕ) → making p k labels (with_left left c) ≡ Taken) → goal
-    as_taken is =
-        let b = legal_after (KeyTaken place k labels ∷ []) taken t in
-        record { choices = b.choices; told = b.told; meant = b.meant; goes = λ rest. ap (λ (o : Making). if_made place k labels o made (taken (b.choices ++ rest)) (full (b.choices ++ rest))) (is (b.choices ++ rest)) ∙ b.goes rest }
+pub steps_legal : StepsAreLegal
+steps_legal f s packet choices r e = legal f s packet choices packet.fields (slice_get f.handlers packet.id.port) r refl e
 
-    as_full : ((left : List ℕ) → making p k labels (with_left left c) ≡ Full) → goal
-    as_full is =
-        let b = legal_after (ChainFull place k labels ∷ []) full f in
-        record { choices = b.choices; told = b.told; meant = b.meant; goes = λ rest. ap (λ (o : Making). if_made place k labels o made (taken (b.choices ++ rest)) (full (b.choices ++ rest))) (is (b.choices ++ rest)) ∙ b.goes rest }
+-- a port of the function has a block
+pub block_at : (blocks : List Block) (port : ℕ) → port < length blocks → (block : Block) × (slice_get blocks port ≡ Some block)
+block_at [] port lt = absurd (omega (arith, lt))
+block_at (b ∷ blocks) zero lt = (b, refl)
+block_at (b ∷ blocks) (suc port) lt = block_at blocks port (omega (arith, lt))
 
-    as_made : (i : ℕ) (d : Context) → ((left : List ℕ) → making p k labels (with_left (i ∷ left) c) ≡ Made i (with_left left d)) → goal
-    as_made i d is =
-        let b = legal_after (EntryMade place k labels i ∷ []) (λ left. made i (with_left left d)) (m i d) in
-        record { choices = i ∷ b.choices; told = b.told; meant = b.meant; goes = λ rest. ap (λ (o : Making). if_made place k labels o made (taken (i ∷ (b.choices ++ rest))) (full (i ∷ (b.choices ++ rest)))) (is (b.choices ++ rest)) ∙ b.goes rest }
+pub no_block : (blocks : List Block) (port : ℕ) → length blocks ≤ port → slice_get blocks port ≡ None
+no_block [] port le = refl
+no_block (b ∷ blocks) zero le = absurd (omega (arith, le))
+no_block (b ∷ blocks) (suc port) le = no_block blocks port (omega (arith, le))
 
-    of_full : (decl : ChainDecl) (chain : Chain) (b : Bool) → slice_get p.decls k ≡ Some decl → slice_get c.state.chains k ≡ Some chain → is_taken decl.maps labels chain.slots ≡ false → is_full chain.slots ≡ b → goal
-    of_full decl chain true ed ec et ef = as_full (λ left. rw (ed, ec, et, ef) refl)
-    of_full decl chain false ed ec et ef =
-        let i = some_free chain.slots ef in
-        as_made i.0 (with_chains (slice_set c.state.chains k (put p.time i.0 labels (zeros decl.free) chain)) c) (λ left. rw (ed, ec, et, ef, i.1) refl)
+at_port : (f : Function) (s : State) (packet : Packet) (choices : List ℕ) (fields : Fields) (block : Block) → slice_get f.handlers packet.id.port ≡ Some block →
+    IsLegalRecord (record_of never f s packet choices (Some fields)) choices → (r : StepResult) × (step_of never f s packet choices (Some fields) ≡ Some r)
+at_port f s packet choices fields block at h =
+    let es = records never f s packet.time fields choices (Some block) in
+    let l2 : is_legal es ≡ true = rw at at h.legal in
+    let i2 : indices_made es ≡ choices = rw at at h.made in
+    let t : unused es choices ≡ Some [] = subst (λ (left : List ℕ). unused es left ≡ Some []) (append-nil _ ∙ i2) (takes es [] l2) in
+    rw at (settles_back choices (completes never f s packet.time fields choices (Some block)) (leaves f s packet.time fields choices block ∙ t))
 
-    of_taken : (decl : ChainDecl) (chain : Chain) (b : Bool) → slice_get p.decls k ≡ Some decl → slice_get c.state.chains k ≡ Some chain → is_taken decl.maps labels chain.slots ≡ b → goal
-    of_taken decl chain true ed ec et = as_taken (λ left. rw (ed, ec, et) refl)
-    of_taken decl chain false ed ec et = of_full decl chain (is_full chain.slots) ed ec et refl
+back : (f : Function) (s : State) (packet : Packet) (choices : List ℕ) (fields : Option Fields) → HasHandler f packet → packet.fields ≡ fields →
+    IsLegalRecord (record_of never f s packet choices fields) choices → (r : StepResult) × (step_of never f s packet choices fields ≡ Some r)
+back f s packet [] None h q l = (_, refl)
+back f s packet (j ∷ choices) None h q l = let made = l.made in cc
+back f s packet choices (Some fields) (skips none) q l = cc
+back f s packet choices (Some fields) (handles lt) q l = let at = block_at f.handlers packet.id.port lt in at_port f s packet choices fields at.0 at.1 l
 
-    of_decl : (od : Option ChainDecl) (oc : Option Chain) → slice_get p.decls k ≡ od → slice_get c.state.chains k ≡ oc → goal
-    of_decl None oc ed ec = as_full (λ left. rw ed refl)
-    of_decl (Some decl) None ed ec = as_full (λ left. rw (ed, ec) refl)
-    of_decl (Some decl) (Some chain) ed ec = of_taken decl chain (is_taken decl.maps labels chain.slots) ed ec refl
+pub legal_steps : LegalStepsAre
+legal_steps f s packet choices h l = back f s packet choices packet.fields h refl l
 
-pub legal_trace : (p : Input) (code : Block) (c : Context) → IsLegal (λ left. trace p code (with_left left c))
-legal_trace p End c = record { choices = []; told = FallsOff [] c; meant = tt; goes = λ rest. refl }
-legal_trace p (Forward port) c = record { choices = []; told = trace p (Forward port) c; meant = tt; goes = λ rest. refl }
-legal_trace p Flood c = record { choices = []; told = trace p Flood c; meant = tt; goes = λ rest. refl }
-legal_trace p Discard c = record { choices = []; told = trace p Discard c; meant = tt; goes = λ rest. refl }
-legal_trace p (Get place chain m key var hit miss next) c =
-    let o = found_key p c chain m (map (given p c) key) in
-    legal_after (reads_all p c key ++ LookedUp place chain m (map (given p c) key) o ∷ []) (λ left. and_then (if_found o (λ i. trace p hit (with_left left (bind var chain i c))) (trace p miss (with_left left c))) (trace p next))
-    (legal_then (λ left. if_found o (λ i. trace p hit (with_left left (bind var chain i c))) (trace p miss (with_left left c))) (trace p next) (legal_found o (λ i left. trace p hit (with_left left (bind var chain i c))) (λ left. trace p miss (with_left left c)) (λ i. legal_trace p hit (bind var chain i c)) (legal_trace p miss c)) (legal_trace p next))
-legal_trace p (Find place chain at guards var hit miss next) c =
-    let o = found_at c chain (value p c at) (map (guard p c) guards) in
-    legal_after (reads p c at ++ reads_guards p c guards ++ Found place chain o ∷ []) (λ left. and_then (if_found o (λ i. trace p hit (with_left left (bind var chain i c))) (trace p miss (with_left left c))) (trace p next))
-    (legal_then (λ left. if_found o (λ i. trace p hit (with_left left (bind var chain i c))) (trace p miss (with_left left c))) (trace p next) (legal_found o (λ i left. trace p hit (with_left left (bind var chain i c))) (λ left. trace p miss (with_left left c)) (λ i. legal_trace p hit (bind var chain i c)) (legal_trace p miss c)) (legal_trace p next))
-legal_trace p (New place chain labels var made taken full next) c =
-    let labels' = map (given p c) labels in
-    legal_after (reads_all p c labels) (λ left. and_then (if_made place chain labels' (making p chain labels' (with_left left c)) (λ i d. trace p made (bind var chain i d)) (trace p taken (with_left left c)) (trace p full (with_left left c))) (trace p next))
-    (legal_then (λ left. if_made place chain labels' (making p chain labels' (with_left left c)) (λ i d. trace p made (bind var chain i d)) (trace p taken (with_left left c)) (trace p full (with_left left c))) (trace p next) (legal_made p place chain labels' c (λ i d. trace p made (bind var chain i d)) (λ left. trace p taken (with_left left c)) (λ left. trace p full (with_left left c)) (λ i d. legal_trace p made (bind var chain i d)) (legal_trace p taken c) (legal_trace p full c)) (legal_trace p next))
-legal_trace p (If comparison left' right holds fails next) c =
-    let b = compares comparison (value p c left') (value p c right) in
-    legal_after (reads p c left' ++ reads p c right ++ Tested b ∷ []) (λ left. and_then (if b then trace p holds (with_left left c) else trace p fails (with_left left c)) (trace p next))
-    (legal_then (λ left. if b then trace p holds (with_left left c) else trace p fails (with_left left c)) (trace p next) (legal_test b (λ left. trace p holds (with_left left c)) (λ left. trace p fails (with_left left c)) (legal_trace p holds c) (legal_trace p fails c)) (legal_trace p next))
-legal_trace p (Touch var next) c = legal_after (used (restamps p.time c.state.chains (var_at c.vars var)) (var_at c.vars var)) (λ left. trace p next (with_left left (touching p var c))) (legal_trace p next (touching p var c))
-legal_trace p (Free var next) c = legal_after (frees (var_at c.vars var)) (λ left. trace p next (with_left left (freeing var c))) (legal_trace p next (freeing var c))
-legal_trace p (Set field g next) c =
-    let d = setting field (given p c g) c in legal_after (reads p c g.value) (λ left. trace p next (with_left left d)) (legal_trace p next d)
-legal_trace p (Write var column g next) c =
-    let v = given p c g in
-    let d = writing var column v c in
-    legal_after (reads p c g.value ++ used (rewrites column v (entry_in c.state.chains (var_at c.vars var))) (var_at c.vars var)) (λ left. trace p next (with_left left d)) (legal_trace p next d)
-legal_trace p (Store place array at g next) c =
-    let i = narrowed W16 (value p c at) in
-    let v = given p c g in
-    let d = storing array i v c in
-    legal_after (reads p c at ++ reads p c g.value ++ stores place array i v (cell_at c.state.arrays array i)) (λ left. trace p next (with_left left d)) (legal_trace p next d)
-
--- the step with the choices of its handler
-legal_settled : (choices : List ℕ) (t : Traced) → HasMeaning t → (ran : Stepped) × (settled choices (flow_of (leaving [] t)) ≡ Some ran)
-legal_settled choices (FallsOff es c) m = (record { state = c.state; done = record { action = Drop; edits = c.edits; picks = choices } }, refl)
-legal_settled choices (Ends es a c) m = (record { state = c.state; done = record { action = a; edits = c.edits; picks = choices } }, refl)
-legal_settled choices NoTrace m = absurd m
-
-legal_port : (f : Function) (s : State) (packet : Packet) (fields : Fields) (code : Block) → packet.fields ≡ Some fields → slice_get f.handlers packet.id.port ≡ Some code → (choices : List ℕ) × (ran : Stepped) × (step f s packet choices ≡ Some ran)
-legal_port f s packet fields code has at =
-    let b = legal_trace (input f packet.time fields) code (begun f s packet.time []) in
-    let ran = legal_settled b.choices b.told b.meant in
-    (b.choices, ran.0, rw (has, at) (ap (λ (left : List ℕ). settled b.choices (flow_of (trace (input f packet.time fields) code (begun f s packet.time left)))) (sym (append-nil b.choices)) ∙ ap (λ (t : Traced). settled b.choices (flow_of t)) (b.goes []) ∙ ran.1))
-
-within : {A : Type 0} (xs : List A) (i : ℕ) → i < length xs → slice_get xs i ≡ None → ⊥
-within [] i lt at = absurd (omega arith)
-within (x ∷ xs) zero lt at = cc
-within (x ∷ xs) (suc i) lt at = within xs i (omega arith) at
-
-legal_fields : (f : Function) (s : State) (packet : Packet) → packet.id.port < length f.handlers → (o : Option Fields) → packet.fields ≡ o → (choices : List ℕ) × (ran : Stepped) × (step f s packet choices ≡ Some ran)
-legal_fields f s packet lt None has = ([], record { state = s; done = record { action = Skip; edits = no_edits; picks = [] } }, rw has refl)
-legal_fields f s packet lt (Some fields) has = of_code (slice_get f.handlers packet.id.port) refl
-  where
-    of_code : (o : Option Block) → slice_get f.handlers packet.id.port ≡ o → (choices : List ℕ) × (ran : Stepped) × (step f s packet choices ≡ Some ran)
-    of_code None at = absurd (within f.handlers packet.id.port lt at)
-    of_code (Some code) at = legal_port f s packet fields code has at
-
-pub some_choices : (f : Function) (s : State) (packet : Packet) → packet.id.port < length f.handlers → (choices : List ℕ) × (ran : Stepped) × (step f s packet choices ≡ Some ran)
-some_choices f s packet lt = legal_fields f s packet lt packet.fields refl
+pub other_ports : OtherPortsHaveNone
+other_ports f s packet fields choices e le = rw (e, no_block f.handlers packet.id.port le) refl
