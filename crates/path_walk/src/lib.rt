@@ -1,0 +1,6 @@
+//! The feasible paths of a handler: each way that its statements may go, as far as the tests of the
+//! packet alone say.
+#![tactic(auto)]
+
+pub mod test;
+pub mod laws;
