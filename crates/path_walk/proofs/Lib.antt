@@ -1,3 +1,4 @@
 pub mod Texts
 pub mod Agreeing
 pub mod Taken
+pub mod Fitting

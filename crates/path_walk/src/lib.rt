@@ -2,5 +2,6 @@
 //! packet alone say.
 #![tactic(auto)]
 
-pub mod test;
 pub mod laws;
+mod line;
+pub mod test;
