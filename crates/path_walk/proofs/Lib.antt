@@ -2,3 +2,4 @@ pub mod Texts
 pub mod Agreeing
 pub mod Taken
 pub mod Fitting
+pub mod Lines

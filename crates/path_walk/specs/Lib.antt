@@ -1,3 +1,4 @@
 pub mod Tests
 pub mod Feasible
 pub mod Laws
+pub mod Seen
