@@ -11,36 +11,8 @@ use Rattle.nf_laws.specs.Paths.{of_packet}
 use Rattle.nf_laws.proofs.Listed.{here, there, has, has_none}
 use Rattle.path_walk.specs.Tests.{TestText, Told, told, test_of, test_in_front, tests, sign_of, is_exchanged, is_hit, flipped}
 use Rattle.path_walk.specs.Feasible.{contradicts, is_consistent, is_feasible, feasible_paths, branches_along}
+use Rattle.path_walk.specs.Trees.{Tree, Leaf, Free, Tested, Made, text_of, asking, ending_tree, unfolded}
 use Rattle.path_walk.proofs.Agreeing.{Agree, AllAgree, agree_of, agree_back, agree_itself, none_contradicts, any_none, none_of, all_agree, consistent, never_true}
-
--- a block as a tree of its branchings
-pub data Tree (A : Type 0) : Type 0 where
-  Leaf : Tree A
-  Free : (hit miss : Tree A) → Tree A
-  Tested : A → Bool → (hit miss : Tree A) → Tree A
-  Made : (made taken full : Tree A) → Tree A
-
-abbrev pub text_of : Comparison → Expression → Expression → TestText
-text_of c l r = record { sign = sign_of c; left = l; right = r }
-
-abbrev pub asking : Question → Tree TestText → Tree TestText → Tree TestText
-asking (Get place chain n key var) h m = Free h m
-asking (Find place chain at guards var) h m = Free h m
-asking (Test place c l r) h m = if of_packet l && of_packet r then Tested (text_of c l r) (is_exchanged c) h m else Free h m
-
-abbrev pub ending : Ending → Tree TestText → Tree TestText
-ending FallsOff t = t
-ending Flood t = Leaf
-ending Discard t = Leaf
-ending (Forward port) t = Leaf
-
--- a block that goes on with a tree where it falls off
-abbrev pub unfolded : Block → Tree TestText → Tree TestText
-unfolded (End e) t = ending e t
-unfolded (Do op next) t = unfolded next t
-unfolded (Ask q hit miss next) t = asking q (unfolded hit (unfolded next t)) (unfolded miss (unfolded next t))
-unfolded (Make n made taken full next) t =
-    Made (unfolded made (unfolded next t)) (unfolded taken (unfolded next t)) (unfolded full (unfolded next t))
 
 -- whether a test goes so after those before it, the last one first
 abbrev pub goes : List Told → Told → Bool

@@ -3,3 +3,4 @@ pub mod Agreeing
 pub mod Taken
 pub mod Fitting
 pub mod Lines
+pub mod LaidOut

@@ -3,5 +3,7 @@
 #![tactic(auto)]
 
 pub mod laws;
+
+mod laying;
 mod line;
 pub mod test;
