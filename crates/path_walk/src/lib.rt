@@ -7,3 +7,4 @@ pub mod laws;
 mod laying;
 mod line;
 pub mod test;
+mod token;
