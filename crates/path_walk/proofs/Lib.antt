@@ -4,3 +4,4 @@ pub mod Taken
 pub mod Fitting
 pub mod Lines
 pub mod LaidOut
+pub mod Keyed

@@ -5,3 +5,4 @@ pub mod Seen
 pub mod Trees
 pub mod Lines
 pub mod Layout
+pub mod Numbering

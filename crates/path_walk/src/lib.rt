@@ -6,5 +6,6 @@ pub mod laws;
 
 mod laying;
 mod line;
+mod numbering;
 pub mod test;
 mod token;

@@ -1,0 +1,66 @@
+//! One number for each text that tests have.
+ghost use Rattle.std.specs.Prelude.{◌≡◌, ◌<◌, ◌∷◌, ◌++◌, [], IfOk, OnOk, map, vec_len, length, Some, None, slice_get};
+ghost use Rattle.std.specs.BTreeMap.{get_by};
+ghost use Rattle.std.specs.Ordering.{nat_cmp};
+ghost use Rattle.std.specs.Cmp.Lexicographic.{slice_cmp};
+ghost use Rattle.path_walk.specs.Tests.{test_tokens};
+ghost use Rattle.path_walk.specs.Seen.{text_seen};
+ghost use Rattle.path_walk.specs.Numbering.{Finds, IsNumber};
+
+use crate::test::Text;
+use crate::token::tokens_of;
+use std::alloc::{AllocError, Global};
+use std::collections::BTreeMap;
+
+/// Texts by number, and numbers by text.
+#[derive(Drop)]
+pub struct Texts<'a> {
+    pub list: Vec<Text<'a>>,
+    pub numbers: BTreeMap<Vec<u64>, usize>,
+}
+
+impl<'a> Texts<'a> {
+    pub fn new(alloc: Global) -> Self
+        ensures list { result.list.items ≡ [] }
+        ensures finds { Finds (λ key. get_by (λ k. slice_cmp nat_cmp key.items k.items) result.numbers) [] }
+    {
+        Texts {
+            list: Vec::new(alloc),
+            numbers: BTreeMap::new(alloc),
+        }
+    }
+
+    /// The number of the text that has these tokens.
+    fn find(&self, key: &Vec<u64>) -> Option<usize>
+        ensures { result ≡ get_by (λ k. slice_cmp nat_cmp key.now.items k.items) self.now.numbers }
+    {
+        self.numbers.get(key).copied()
+    }
+
+    /// The next number, for a text that has none yet.
+    fn add(&mut self, key: Vec<u64>, text: Text<'a>) -> Result<usize, AllocError>
+        requires finds { Finds (λ key. get_by (λ k. slice_cmp nat_cmp key.items k.items) self.old.numbers) (map text_seen self.old.list.items) }
+        requires tokens { key.items ≡ test_tokens (text_seen text) }
+        requires none { get_by (λ k. slice_cmp nat_cmp key.items k.items) self.old.numbers ≡ None }
+        ensures finds { OnOk result (Finds (λ key. get_by (λ k. slice_cmp nat_cmp key.items k.items) self.new.numbers) (map text_seen self.new.list.items)) }
+        ensures number { IfOk result (λ n. IsNumber (map text_seen self.old.list.items) (map text_seen self.new.list.items) (text_seen text.entry) n) }
+    {
+        let number = self.list.len();
+        self.list.push(text)?;
+        self.numbers.insert(key, number)?;
+        Ok(number)
+    }
+
+    /// The number of a text.
+    pub fn number(&mut self, alloc: Global, text: Text<'a>) -> Result<usize, AllocError>
+        requires { Finds (λ key. get_by (λ k. slice_cmp nat_cmp key.items k.items) self.old.numbers) (map text_seen self.old.list.items) }
+        ensures finds { OnOk result (Finds (λ key. get_by (λ k. slice_cmp nat_cmp key.items k.items) self.new.numbers) (map text_seen self.new.list.items)) }
+        ensures number { IfOk result (λ n. IsNumber (map text_seen self.old.list.items) (map text_seen self.new.list.items) (text_seen text.entry) n) }
+    {
+        let key = tokens_of(alloc, &text)?;
+        match self.find(&key) {
+            Some(number) => Ok(number),
+            None => self.add(key, text),
+        }
+    }
+}
