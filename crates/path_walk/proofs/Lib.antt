@@ -5,3 +5,4 @@ pub mod Fitting
 pub mod Lines
 pub mod LaidOut
 pub mod Keyed
+pub mod Numbers

@@ -44,3 +44,10 @@ pub record IsNumber (old new : List TestText) (text : TestText) (n : ℕ) : Type
   pub behind : new ≡ old ++ more
   pub within : n < length new
   pub at : text_at new n ≡ text
+
+-- a line with the number of its test's text, among texts that stand behind others
+pub record IsLineNumbered (old new : List TestText) (l : Line TestText) (numbered : Line ℕ) : Type 0 where
+  pub more : List TestText
+  pub behind : new ≡ old ++ more
+  pub same : line_map (text_at new) numbered ≡ l
+  pub within : HasNumber (length new) numbered

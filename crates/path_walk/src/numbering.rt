@@ -4,9 +4,10 @@ ghost use Rattle.std.specs.BTreeMap.{get_by};
 ghost use Rattle.std.specs.Ordering.{nat_cmp};
 ghost use Rattle.std.specs.Cmp.Lexicographic.{slice_cmp};
 ghost use Rattle.path_walk.specs.Tests.{test_tokens};
-ghost use Rattle.path_walk.specs.Seen.{text_seen};
-ghost use Rattle.path_walk.specs.Numbering.{Finds, IsNumber};
+ghost use Rattle.path_walk.specs.Seen.{text_seen, line_map, lines_seen};
+ghost use Rattle.path_walk.specs.Numbering.{Finds, IsNumber, IsLineNumbered, AreNumbered, AreApart};
 
+use crate::line::Line;
 use crate::test::Text;
 use crate::token::tokens_of;
 use std::alloc::{AllocError, Global};
@@ -63,4 +64,67 @@ impl<'a> Texts<'a> {
             None => self.add(key, text),
         }
     }
+}
+
+/// A line with a number for its test.
+fn numbered_line<'a>(
+    alloc: Global,
+    line: &Line<Text<'a>>,
+    texts: &mut Texts<'a>,
+) -> Result<Line<usize>, AllocError>
+    requires { Finds (λ key. get_by (λ k. slice_cmp nat_cmp key.items k.items) texts.old.numbers) (map text_seen texts.old.list.items) }
+    ensures finds { OnOk result (Finds (λ key. get_by (λ k. slice_cmp nat_cmp key.items k.items) texts.new.numbers) (map text_seen texts.new.list.items)) }
+    ensures line { IfOk result (λ l. IsLineNumbered (map text_seen texts.old.list.items) (map text_seen texts.new.list.items) (line_map text_seen line.now) l) }
+{
+    match line {
+        Line::Stop => Ok(Line::Stop),
+        Line::Free { hit, miss } => Ok(Line::Free {
+            hit: *hit,
+            miss: *miss,
+        }),
+        Line::Test {
+            test,
+            exchanged,
+            hit,
+            miss,
+        } => {
+            let number = texts.number(alloc, *test)?;
+            Ok(Line::Test {
+                test: number,
+                exchanged: *exchanged,
+                hit: *hit,
+                miss: *miss,
+            })
+        }
+        Line::Make { made, taken, full } => Ok(Line::Make {
+            made: *made,
+            taken: *taken,
+            full: *full,
+        }),
+    }
+}
+
+/// Lines whose tests go by number, and the texts by number.
+#[derive(Drop)]
+pub struct Numbered<'a> {
+    pub lines: Vec<Line<usize>>,
+    pub texts: Vec<Text<'a>>,
+}
+
+/// Lines with one number for each text that their tests have.
+pub fn numbered_lines<'a>(alloc: Global, lines: &[Line<Text<'a>>]) -> Result<Numbered<'a>, AllocError>
+    ensures lines { IfOk result (λ all. AreNumbered (lines_seen lines.now) (map text_seen all.texts.items) all.lines.items) }
+    ensures apart { IfOk result (λ all. AreApart (map text_seen all.texts.items)) }
+{
+    let mut texts = Texts::new(alloc);
+    let mut all = Vec::new(alloc);
+    for line in lines {
+        let one = numbered_line(alloc, line, &mut texts)?;
+        all.push(one)?;
+    }
+    let Texts { list, numbers: _ } = texts;
+    Ok(Numbered {
+        lines: all,
+        texts: list,
+    })
 }
