@@ -6,7 +6,8 @@ use Rattle.nf_base.specs.declared.packet.Field.{Field}
 use Rattle.nf_base.specs.Paths.{PathStep}
 use Rattle.nf_laws.proofs.Listed.{here, there, has, has_none}
 use Rattle.path_walk.specs.Tests.{TestText, Told, tests, field_number, same_text}
-use Rattle.path_walk.specs.Feasible.{FieldIs, equals_of, are_two, differ, contradicts, is_consistent, is_feasible, IsFeasible}
+use Rattle.path_walk.specs.declared.test.FieldIs.{FieldIs}
+use Rattle.path_walk.specs.Feasible.{equals_of, are_two, differ, contradicts, is_consistent, is_feasible, IsFeasible}
 use Rattle.path_walk.proofs.Texts.{text_same, same_from, same_itself, one_field}
 
 abbrev pub is : Field → ℕ → Option FieldIs

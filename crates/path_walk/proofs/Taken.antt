@@ -25,7 +25,8 @@ use Rattle.path_walk.specs.declared.test.Sign.{Sign}
 use Rattle.path_walk.specs.declared.test.Sign.TheVariants.{Equal, Less, AtMost}
 use Rattle.path_walk.specs.Tests.{TestText, Told, told, test_of, test_in_front, tests, sign_of, is_exchanged, is_hit, flipped}
 use Rattle.path_walk.specs.Laws.{PacketsTakeFeasiblePaths, OutcomesAreListed}
-use Rattle.path_walk.specs.Feasible.{handler_paths, port_paths, FieldIs, field_is, equals_of, is_feasible, feasible_paths, branches, branches_along}
+use Rattle.path_walk.specs.declared.test.FieldIs.{FieldIs}
+use Rattle.path_walk.specs.Feasible.{handler_paths, port_paths, field_is, equals_of, is_feasible, feasible_paths, branches, branches_along}
 use Rattle.path_walk.proofs.Agreeing.{is, number_in, Agree, consistent}
 
 -- whether a test holds, so brought

@@ -6,12 +6,8 @@ use Rattle.nf_base.specs.Text.{Expression, Number, Read, Index, Label, Column, C
 use Rattle.nf_base.specs.Paths.{Branch, PathStep, paths, Outcome, outcomes_along}
 use Rattle.path_walk.specs.declared.test.Sign.{Sign}
 use Rattle.path_walk.specs.declared.test.Sign.TheVariants.{Equal, Less, AtMost}
+use Rattle.path_walk.specs.declared.test.FieldIs.{FieldIs}
 use Rattle.path_walk.specs.Tests.{TestText, Told, tests, field_number, same_text}
-
--- a field with the number that a test says it is
-pub record FieldIs : Type 0 where
-  pub field : Field
-  pub number : ℕ
 
 -- what `field == number` says, where a test is one, the field on the left
 abbrev pub field_is : Sign → Expression → Expression → Option FieldIs

@@ -6,3 +6,4 @@ pub mod Trees
 pub mod Lines
 pub mod Layout
 pub mod Numbering
+pub mod Known

@@ -4,6 +4,7 @@
 
 pub mod laws;
 
+mod known;
 mod laying;
 mod line;
 mod numbering;

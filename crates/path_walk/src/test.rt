@@ -3,6 +3,7 @@ ghost use Rattle.nf_laws.specs.Paths.{of_packet};
 ghost use Rattle.nf_base.specs.View.{expression_of};
 
 use nf_base::expr::{Comparison, Expr};
+use nf_base::packet::Field;
 
 /// How a test compares its sides, once brought to one of three signs.
 #[derive(Clone, Copy, Debug, PartialEq, Eq)]
@@ -18,6 +19,13 @@ pub struct Text<'a> {
     pub sign: Sign,
     pub left: &'a Expr,
     pub right: &'a Expr,
+}
+
+/// A field with the number that a test says it is.
+#[derive(Clone, Copy, Debug, PartialEq, Eq)]
+pub struct FieldIs {
+    pub field: Field,
+    pub number: u64,
 }
 
 /// Whether a value is one of fields and numbers alone.
