@@ -7,3 +7,4 @@ pub mod Lines
 pub mod Layout
 pub mod Numbering
 pub mod Known
+pub mod Walks

@@ -2,6 +2,8 @@
 //! packet alone say.
 #![tactic(auto)]
 
+mod branch;
+mod fault;
 pub mod laws;
 
 mod known;
@@ -10,3 +12,4 @@ mod line;
 mod numbering;
 pub mod test;
 mod token;
+mod walk;

@@ -1,6 +1,11 @@
-ghost use Rattle.std.specs.Prelude.{◌≡◌};
+//! Tests of fields and numbers, and how they are compared with one another.
+ghost use Rattle.std.specs.Prelude.{◌≡◌, map};
 ghost use Rattle.nf_laws.specs.Paths.{of_packet};
 ghost use Rattle.nf_base.specs.View.{expression_of};
+ghost use Rattle.path_walk.specs.Tests.{sign_of, is_exchanged};
+ghost use Rattle.path_walk.specs.Feasible.{equals_of};
+ghost use Rattle.path_walk.specs.Seen.{text_seen};
+ghost use Rattle.path_walk.specs.Numbering.{text_at};
 
 use nf_base::expr::{Comparison, Expr};
 use nf_base::packet::Field;
@@ -43,8 +48,6 @@ pub fn is_of_packet(value: &Expr) -> bool
     }
 }
 
-ghost use Rattle.path_walk.specs.Tests.{sign_of, is_exchanged};
-
 /// The sign that a comparison is brought to.
 pub fn sign_of_comparison(comparison: Comparison) -> Sign
     ensures { result ≡ sign_of comparison }
@@ -61,4 +64,27 @@ pub fn exchanges(comparison: Comparison) -> bool
     ensures { result ≡ is_exchanged comparison }
 {
     matches!(comparison, Comparison::NotEqual | Comparison::GreaterOrEqual | Comparison::Greater)
+}
+
+/// What `field == number` says, where the test of this number is one.
+pub fn equals_at(texts: &[Text<'_>], number: usize) -> Option<FieldIs>
+    ensures { result ≡ equals_of (text_at (map text_seen texts.now) number) }
+{
+    if number >= texts.len() {
+        return None;
+    }
+    equals(&texts[number])
+}
+
+/// What `field == number` says, where the test is one.
+fn equals(text: &Text<'_>) -> Option<FieldIs>
+    ensures { result ≡ equals_of (text_seen text.now) }
+{
+    match (text.sign, text.left, text.right) {
+        (Sign::Equal, Expr::Read(field), Expr::Number(number)) => Some(FieldIs {
+            field: *field,
+            number: *number,
+        }),
+        _ => None,
+    }
 }
