@@ -6,3 +6,4 @@ pub mod Lines
 pub mod LaidOut
 pub mod Keyed
 pub mod Numbers
+pub mod Walking

@@ -1,13 +1,16 @@
 -- The paths that a walk along lines has still to list.
-use Rattle.std.specs.Prelude.{ℕ, Bool, true, false, not, List, [], ◌∷◌, ◌++◌, map, Option, Some, None, if◌then◌else◌}
+use Rattle.std.specs.Prelude.{◌≡◌, ◌<◌, ℕ, Bool, true, false, not, List, [], ◌∷◌, ◌++◌, map, Option, Some, None, if◌then◌else◌}
 use Rattle.nf_base.specs.Paths.{Branch, Hits, Misses, Makes, IsTaken, IsFull}
 use Rattle.path_walk.specs.declared.branch.Branch as rust
 use Rattle.path_walk.specs.declared.branch.Branch.TheVariants as branch
+use Rattle.path_walk.specs.declared.line.Line.{Line}
+use Rattle.path_walk.specs.declared.line.Line.TheVariants as lines
 use Rattle.path_walk.specs.declared.walk.Walk.{Walk}
+use Rattle.path_walk.specs.declared.walk.NumberedTest.{NumberedTest}
 use Rattle.path_walk.specs.Tests.{TestText}
 use Rattle.path_walk.specs.Feasible.{equals_of, differ}
 use Rattle.path_walk.specs.Trees.{Tree, Leaf, Free, Tested, Made}
-use Rattle.path_walk.specs.Lines.{child}
+use Rattle.path_walk.specs.Lines.{child, grown, IsBelow}
 use Rattle.path_walk.specs.Numbering.{text_at}
 use Rattle.path_walk.specs.Known.{Marks, known_seen, mark_at, excludes, told_mark}
 
@@ -47,6 +50,10 @@ leaves texts (Tested n exchanged hit miss) m =
 leaves texts (Made made taken full) m =
     ahead Makes (leaves texts made m) ++ (ahead IsTaken (leaves texts taken m) ++ ahead IsFull (leaves texts full m))
 
+-- the paths that go on at a line
+abbrev pub paths_at : List TestText → List (Tree ℕ) → List Branch → Marks → ℕ → List (List Branch)
+paths_at texts trees bs m at = behind bs (leaves texts (child trees at) m)
+
 -- the paths of one walk
 abbrev pub paths_of : List TestText → List (Tree ℕ) → Walk → List (List Branch)
 paths_of texts trees w = behind (map branch_seen w.branches.items) (leaves texts (child trees w.at) (known_seen w.known))
@@ -59,3 +66,42 @@ paths_waiting texts trees (w ∷ ws) = paths_waiting texts trees ws ++ paths_of 
 -- the paths of a walk, and then of those that wait
 abbrev pub paths_left : List TestText → List (Tree ℕ) → Walk → List Walk → List (List Branch)
 paths_left texts trees w ws = paths_of texts trees w ++ paths_waiting texts trees ws
+
+-- a walk branched, and goes on at a line
+pub record Went (old new : Walk) (b : Branch) (at : ℕ) : Type 0 where
+  pub to : new.at ≡ at
+  pub same : known_seen new.known ≡ known_seen old.known
+  pub more : map branch_seen new.branches.items ≡ map branch_seen old.branches.items ++ b ∷ []
+
+-- one walk more waits
+abbrev pub Waits : List Branch → Marks → ℕ → (old new : List Walk) → Type 0
+Waits bs m at old new =
+    (texts : List TestText) (trees : List (Tree ℕ)) →
+    paths_waiting texts trees new ≡ paths_at texts trees bs m at ++ paths_waiting texts trees old
+
+-- the paths from a test with this mark
+abbrev pub test_leaves : List TestText → List (Tree ℕ) → Option Bool → NumberedTest → Marks → List (List Branch)
+test_leaves texts trees mark t m =
+    tested t.exchanged mark (excludes t.equals m) m (told_mark m t.number t.equals)
+    (λ k. ahead Hits (leaves texts (child trees t.hit) k)) (λ k. ahead Misses (leaves texts (child trees t.miss) k))
+
+-- a walk goes on at a test with this mark, and the other way waits
+pub record TestGoesOn (mark : Option Bool) (t : NumberedTest) (old : Walk) (olds : List Walk) (new : Walk) (news : List Walk) : Type 0 where
+  pub left :
+      (texts : List TestText) (trees : List (Tree ℕ)) →
+      paths_left texts trees new news
+      ≡ behind (map branch_seen old.branches.items) (test_leaves texts trees mark t (known_seen old.known)) ++ paths_waiting texts trees olds
+  pub falls : (n : ℕ) → t.hit < n → t.miss < n → new.at < n
+
+-- a walk goes on at a line, and other ways wait
+pub record GoesOn (texts : List TestText) (line : Line ℕ) (old : Walk) (olds : List Walk) (new : Walk) (news : List Walk) : Type 0 where
+  pub left :
+      (trees : List (Tree ℕ)) →
+      paths_left texts trees new news
+      ≡ behind (map branch_seen old.branches.items) (leaves texts (grown line trees) (known_seen old.known)) ++ paths_waiting texts trees olds
+  pub falls : (n : ℕ) → IsBelow n line → new.at < n
+
+-- a step at a line: the walk ends at it, or goes on
+abbrev pub Steps : Bool → List TestText → Line ℕ → (old : Walk) (olds : List Walk) (new : Walk) (news : List Walk) → Type 0
+Steps true texts line old olds new news = GoesOn texts line old olds new news
+Steps false texts line old olds new news = (line ≡ lines.Stop) × (new ≡ old) × (news ≡ olds)

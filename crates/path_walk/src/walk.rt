@@ -1,15 +1,20 @@
 //! A walk along lines: one path after the other, hit before miss.
-ghost use Rattle.std.specs.Prelude.{◌≡◌, ◌<◌, ◌∷◌, ◌++◌, [], IfOk, OnOk, map, None};
+ghost use Rattle.std.specs.Prelude.{◌≡◌, ◌<◌, ◌∷◌, ◌++◌, [], IfOk, OnOk, map, None, Some, List, ℕ, not, false};
 ghost use Rattle.path_walk.specs.Seen.{text_seen};
 ghost use Rattle.path_walk.specs.Feasible.{equals_of};
 ghost use Rattle.path_walk.specs.Numbering.{text_at};
-ghost use Rattle.path_walk.specs.Known.{known_seen, told_mark};
+ghost use Rattle.path_walk.specs.Known.{known_seen, told_mark, mark_at, excludes};
+ghost use Rattle.path_walk.specs.Tests.{TestText};
+ghost use Rattle.path_walk.specs.Trees.{Tree};
+ghost use Rattle.path_walk.specs.Lines.{child};
+ghost use Rattle.path_walk.specs.Walks.{branch_seen, ahead, behind, one_way, leaves, paths_of, paths_left, paths_waiting, Went, Waits, TestGoesOn, GoesOn, Steps};
+ghost use Rattle.path_walk.specs.declared.line.Line.TheVariants as lines;
+ghost use Rattle.nf_base.specs.Paths as text;
 
 use crate::branch::Branch;
 use crate::known::Known;
 use crate::line::Line;
-use crate::test::{FieldIs, Text};
-use nf_base::expr::Expr;
+use crate::test::{equals_at, FieldIs, Text};
 use std::alloc::{AllocError, Global};
 
 /// A path so far: the line that it comes to, what its tests say, and how its statements branched.
@@ -20,12 +25,20 @@ pub struct Walk {
     pub branches: Vec<Branch>,
 }
 
+/// A test of the packet alone with the number of its text, and what it says if it is `field == number`.
+#[derive(Clone, Copy)]
+pub struct NumberedTest {
+    pub number: usize,
+    pub equals: Option<FieldIs>,
+    pub exchanged: bool,
+    pub hit: usize,
+    pub miss: usize,
+}
+
 impl Walk {
     /// Goes on at a line.
     fn go(&mut self, branch: Branch, at: usize) -> Result<(), AllocError>
-        ensures at { OnOk result (self.new.at ≡ at) }
-        ensures known { OnOk result (self.new.known ≡ self.old.known) }
-        ensures branches { OnOk result (self.new.branches.items ≡ self.old.branches.items ++ branch ∷ []) }
+        ensures { OnOk result (Went self.old self.new (branch_seen branch) at) }
     {
         self.branches.push(branch)?;
         self.at = at;
@@ -34,9 +47,7 @@ impl Walk {
 
     /// The same path once more, to go on at another line.
     fn other(&self, alloc: Global, branch: Branch, at: usize) -> Result<Walk, AllocError>
-        ensures at { IfOk result (λ other. other.at ≡ at) }
-        ensures known { IfOk result (λ other. known_seen other.known ≡ known_seen self.now.known) }
-        ensures branches { IfOk result (λ other. other.branches.items ≡ self.now.branches.items ++ branch ∷ []) }
+        ensures { IfOk result (λ other. Went self.now other (branch_seen branch) at) }
     {
         let known = self.known.copy(alloc)?;
         let mut branches = Vec::from_slice(alloc, self.branches.as_slice())?;
@@ -47,4 +58,149 @@ impl Walk {
             branches,
         })
     }
+
+    /// Goes where a test leads that holds so.
+    fn go_one_way(
+        &mut self,
+        exchanged: bool,
+        holds: bool,
+        hit: usize,
+        miss: usize,
+    ) -> Result<(), AllocError>
+        ensures at { OnOk result ((n : ℕ) → hit < n → miss < n → self.new.at < n) }
+        ensures paths { OnOk result ((texts : List TestText) (trees : List (Tree ℕ)) → paths_of texts trees self.new ≡ behind (map branch_seen self.old.branches.items) (one_way exchanged holds (ahead text.Hits (leaves texts (child trees hit) (known_seen self.old.known))) (ahead text.Misses (leaves texts (child trees miss) (known_seen self.old.known))))) }
+    {
+        if exchanged != holds {
+            self.go(Branch::Hits, hit)
+        } else {
+            self.go(Branch::Misses, miss)
+        }
+    }
+}
+
+/// Another way of a path waits.
+fn wait(
+    alloc: Global,
+    walk: &Walk,
+    branch: Branch,
+    at: usize,
+    waiting: &mut Vec<Walk>,
+) -> Result<(), AllocError>
+    ensures { OnOk result (Waits (map branch_seen walk.now.branches.items ++ branch_seen branch ∷ []) (known_seen walk.now.known) at waiting.old.items waiting.new.items) }
+{
+    let other = walk.other(alloc, branch, at)?;
+    waiting.push(other)?;
+    Ok(())
+}
+
+/// Goes on at a look-up.
+fn free(
+    alloc: Global,
+    hit: usize,
+    miss: usize,
+    walk: &mut Walk,
+    waiting: &mut Vec<Walk>,
+) -> Result<(), AllocError>
+    ensures { OnOk result ((texts : List TestText) → GoesOn texts (lines.Free hit miss) walk.old waiting.old.items walk.new waiting.new.items) }
+{
+    wait(alloc, walk, Branch::Misses, miss, waiting)?;
+    walk.go(Branch::Hits, hit)
+}
+
+/// Goes on at a `new`.
+fn make(
+    alloc: Global,
+    made: usize,
+    taken: usize,
+    full: usize,
+    walk: &mut Walk,
+    waiting: &mut Vec<Walk>,
+) -> Result<(), AllocError>
+    ensures { OnOk result ((texts : List TestText) → GoesOn texts (lines.Make made taken full) walk.old waiting.old.items walk.new waiting.new.items) }
+{
+    wait(alloc, walk, Branch::IsFull, full, waiting)?;
+    wait(alloc, walk, Branch::IsTaken, taken, waiting)?;
+    walk.go(Branch::Makes, made)
+}
+
+/// Goes both ways at a test of no mark, the way where it hits first.
+fn both_ways(
+    alloc: Global,
+    test: NumberedTest,
+    walk: &mut Walk,
+    waiting: &mut Vec<Walk>,
+) -> Result<(), AllocError>
+    requires { excludes test.equals (known_seen walk.old.known) ≡ false }
+    ensures { OnOk result (TestGoesOn None test walk.old waiting.old.items walk.new waiting.new.items) }
+{
+    let mut other = walk.other(alloc, Branch::Misses, test.miss)?;
+    other.known.tell(test.number, test.equals, test.exchanged);
+    waiting.push(other)?;
+    walk.known.tell(test.number, test.equals, !test.exchanged);
+    walk.go(Branch::Hits, test.hit)
+}
+
+/// Goes on at a test of no mark: both ways, or as it has to go where its field is another number.
+fn untold(
+    alloc: Global,
+    test: NumberedTest,
+    walk: &mut Walk,
+    waiting: &mut Vec<Walk>,
+) -> Result<(), AllocError>
+    ensures { OnOk result (TestGoesOn None test walk.old waiting.old.items walk.new waiting.new.items) }
+{
+    if walk.known.excludes(test.equals) {
+        walk.known.tell(test.number, test.equals, false);
+        walk.go_one_way(test.exchanged, false, test.hit, test.miss)
+    } else {
+        both_ways(alloc, test, walk, waiting)
+    }
+}
+
+/// Goes on at a test as it went before, and else as it may.
+fn at_test(
+    alloc: Global,
+    test: NumberedTest,
+    walk: &mut Walk,
+    waiting: &mut Vec<Walk>,
+) -> Result<(), AllocError>
+    ensures { OnOk result (TestGoesOn (mark_at (known_seen walk.old.known) test.number) test walk.old waiting.old.items walk.new waiting.new.items) }
+{
+    match walk.known.mark(test.number) {
+        Some(holds) => walk.go_one_way(test.exchanged, holds, test.hit, test.miss),
+        None => untold(alloc, test, walk, waiting),
+    }
+}
+
+/// One step at a line: `false` where the walk ends there.
+fn step(
+    alloc: Global,
+    line: &Line<usize>,
+    texts: &[Text<'_>],
+    walk: &mut Walk,
+    waiting: &mut Vec<Walk>,
+) -> Result<bool, AllocError>
+    ensures { IfOk result (λ goes. Steps goes (map text_seen texts.now) line.now walk.old waiting.old.items walk.new waiting.new.items) }
+{
+    match line {
+        Line::Stop => return Ok(false),
+        Line::Free { hit, miss } => free(alloc, *hit, *miss, walk, waiting)?,
+        Line::Test {
+            test,
+            exchanged,
+            hit,
+            miss,
+        } => {
+            let numbered = NumberedTest {
+                number: *test,
+                equals: equals_at(texts, *test),
+                exchanged: *exchanged,
+                hit: *hit,
+                miss: *miss,
+            };
+            at_test(alloc, numbered, walk, waiting)?
+        }
+        Line::Make { made, taken, full } => make(alloc, *made, *taken, *full, walk, waiting)?,
+    }
+    Ok(true)
 }
