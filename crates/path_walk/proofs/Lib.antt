@@ -7,3 +7,6 @@ pub mod LaidOut
 pub mod Keyed
 pub mod Numbers
 pub mod Walking
+pub mod Marking
+pub mod Bridge
+pub mod Apart

@@ -1,7 +1,11 @@
 -- The paths that are left, as walks wait and go on.
-use Rattle.std.proofs.Common.{◌≡◌, ◌<◌, ◌≤◌, ◌+◌, arith, ℕ, Bool, true, false, not, List, [], ◌∷◌, ◌++◌, length, map, Option, Some, None, if◌then◌else◌, refl, ap, ap₂, sym, ◌∙◌, subst}
+use Rattle.std.proofs.Common.{◌≡◌, ◌<◌, ◌≤◌, ◌+◌, arith, ℕ, Bool, true, false, not, List, [], ◌∷◌, ◌++◌, length, map, get_or, zero, suc, slice_get, Option, Some, None, if◌then◌else◌, refl, ap, ap₂, sym, ◌∙◌, subst}
 use mathlib.Core.Bool.{beq}
-use Rattle.std.proofs.lemmas.List.{append_assoc, map-append}
+use Rattle.std.proofs.Common.{Result, Ok, Err}
+use Rattle.std.specs.Result.{IsErrAnd, IfErr}
+use Rattle.path_walk.specs.declared.fault.WalkFault.{WalkFault}
+use Rattle.path_walk.specs.declared.fault.WalkFault.TheVariants.{TooManyPaths}
+use Rattle.std.proofs.lemmas.List.{append_assoc, map-append, length-map, length-append, get_or_past}
 use Rattle.nf_base.specs.Paths.{Branch, Hits, Misses, Makes, IsTaken, IsFull}
 use Rattle.path_walk.specs.declared.branch.Branch as rust
 use Rattle.path_walk.specs.declared.walk.Walk.{Walk}
@@ -10,9 +14,11 @@ use Rattle.path_walk.specs.declared.line.Line.TheVariants as line
 use Rattle.path_walk.specs.Tests.{TestText}
 use Rattle.path_walk.specs.Feasible.{differ, equals_of}
 use Rattle.path_walk.specs.Trees.{Tree, Leaf, Free, Tested, Made}
-use Rattle.path_walk.specs.Lines.{child, grown, IsBelow}
+use Rattle.path_walk.specs.Lines.{child, grown, trees, tree_at, IsBelow, IsLaid}
+use Rattle.path_walk.proofs.Lines.{length_trees, tree_is}
 use Rattle.path_walk.specs.Known.{Marks, known_seen, mark_at, excludes, told_mark}
-use Rattle.path_walk.specs.Walks.{branch_seen, ahead, behind, one_way, tested, leaves, paths_at, paths_of, paths_waiting, paths_left, Went, Waits, test_leaves, TestGoesOn, GoesOn, Steps}
+use Rattle.path_walk.specs.Branches.{branch_seen}
+use Rattle.path_walk.specs.Walks.{ahead, behind, one_way, tested, leaves, paths_at, paths_of, paths_waiting, paths_left, Went, Waits, test_leaves, TestGoesOn, GoesOn, Steps, WalksOn, WalkEnds, Advances}
 use Rattle.path_walk.specs.declared.walk.NumberedTest.{NumberedTest}
 use Rattle.path_walk.specs.declared.known.Known.{Known}
 use Rattle.path_walk.specs.Numbering.{text_at}
@@ -152,3 +158,122 @@ goes_test texts t old new olds news e h = record {
       ∙ ap (λ x. behind (map branch_seen old.branches.items) (tested t.exchanged (mark_at m t.number) (excludes x m) m (told_mark m t.number x) (λ k. ahead Hits (leaves texts (child trees t.hit) k)) (λ k. ahead Misses (leaves texts (child trees t.miss) k))) ++ paths_waiting texts trees olds) e;
   falls = λ n k. h.falls n k.0 k.1;
 }
+
+nothing_more : (bs : List Branch) → bs ++ [] ≡ bs
+nothing_more [] = refl
+nothing_more (b ∷ bs) = ap (λ xs. b ∷ xs) (nothing_more bs)
+
+-- a walk at a line
+pub ends_past : (texts : List TestText) (ls : List (Line ℕ)) (old : Walk) (ws : List Walk) → length ls ≤ old.at → WalkEnds texts (trees [] ls) old ws old ws
+ends_past texts ls old ws h = record {
+  same = refl;
+  others = refl;
+  ends =
+      let n = length_trees [] ls in
+      let k : length (trees [] ls) ≤ old.at = omega arith in
+      ap (λ t. behind (map branch_seen old.branches.items) (leaves texts t (known_seen old.known))) (get_or_past (trees [] ls) old.at Leaf k)
+      ∙ ap (λ bs. bs ∷ []) (nothing_more (map branch_seen old.branches.items));
+}
+
+pub at_line : (texts : List TestText) (ls : List (Line ℕ)) (l : Line ℕ) (goes : Bool) (old : Walk) (olds : List Walk) (new : Walk) (news : List Walk) → IsLaid ls → slice_get ls old.at ≡ Some l →
+    Steps goes texts l old olds new news → Advances goes texts (trees [] ls) old olds new news
+at_line texts ls l true old olds new news laid e h = record {
+  left = h.left (trees [] ls) ∙ ap (λ t. behind (map branch_seen old.branches.items) (leaves texts t (known_seen old.known)) ++ paths_waiting texts (trees [] ls) olds) (sym (tree_is ls old.at l laid e));
+  falls = h.falls old.at (laid.at old.at l e);
+}
+at_line texts ls l false old olds new news laid e h = record {
+  same = h.1;
+  others = h.2;
+  ends =
+      ap (λ t. behind (map branch_seen old.branches.items) (leaves texts t (known_seen old.known))) (tree_is ls old.at l laid e ∙ ap (λ x. grown x (trees [] ls)) h.0)
+      ∙ ap (λ bs. bs ∷ []) (nothing_more (map branch_seen old.branches.items));
+}
+
+ahead_some : (b : Branch) (ps : List (List Branch)) → 0 < length ps → 0 < length (ahead b ps)
+ahead_some b ps h = let e = length-map ps (λ (path : List Branch). b ∷ path) in omega arith
+
+left_some : (xs ys : List (List Branch)) → 0 < length xs → 0 < length (xs ++ ys)
+left_some xs ys h = let e = length-append xs ys in omega arith
+
+if_some : (b : Bool) (xs ys : List (List Branch)) → 0 < length xs → 0 < length ys → 0 < length (if b then xs else ys)
+if_some true xs ys h k = h
+if_some false xs ys h k = k
+
+tested_some : (e : Bool) (mark : Option Bool) (other : Bool) (m : Marks) (told : Bool → Marks) (hit miss : Marks → List (List Branch)) → ((k : Marks) → 0 < length (hit k)) → ((k : Marks) → 0 < length (miss k)) → 0 < length (tested e mark other m told hit miss)
+tested_some e (Some holds) other m told hit miss h k = if_some (differ e holds) (hit m) (miss m) (h m) (k m)
+tested_some e None true m told hit miss h k = if_some (differ e false) (hit (told false)) (miss (told false)) (h (told false)) (k (told false))
+tested_some e None false m told hit miss h k = left_some (hit (told (not e))) (miss (told e)) (h (told (not e)))
+
+-- each walk has a path
+pub some_leaves : (texts : List TestText) (t : Tree ℕ) (m : Marks) → 0 < length (leaves texts t m)
+some_leaves texts Leaf m = omega arith
+some_leaves texts (Free hit miss) m = left_some (ahead Hits (leaves texts hit m)) (ahead Misses (leaves texts miss m)) (ahead_some Hits (leaves texts hit m) (some_leaves texts hit m))
+some_leaves texts (Tested n e hit miss) m =
+    tested_some e (mark_at m n) (excludes (equals_of (text_at texts n)) m) m (told_mark m n (equals_of (text_at texts n))) (λ k. ahead Hits (leaves texts hit k)) (λ k. ahead Misses (leaves texts miss k))
+    (λ k. ahead_some Hits (leaves texts hit k) (some_leaves texts hit k)) (λ k. ahead_some Misses (leaves texts miss k) (some_leaves texts miss k))
+some_leaves texts (Made made taken full) m =
+    left_some (ahead Makes (leaves texts made m)) (ahead IsTaken (leaves texts taken m) ++ ahead IsFull (leaves texts full m)) (ahead_some Makes (leaves texts made m) (some_leaves texts made m))
+
+pub some_paths : (texts : List TestText) (trees : List (Tree ℕ)) (w : Walk) → 0 < length (paths_of texts trees w)
+some_paths texts trees w =
+    let ps = leaves texts (child trees w.at) (known_seen w.known) in
+    let h = some_leaves texts (child trees w.at) (known_seen w.known) in
+    let e = length-map ps (λ (path : List Branch). map branch_seen w.branches.items ++ path) in omega arith
+
+pub some_waiting : (texts : List TestText) (trees : List (Tree ℕ)) (ws : List Walk) → length ws ≤ length (paths_waiting texts trees ws)
+some_waiting texts trees [] = omega arith
+some_waiting texts trees (w ∷ ws) =
+    let h = some_waiting texts trees ws in
+    let k = some_paths texts trees w in
+    let e = length-append (paths_waiting texts trees ws) (paths_of texts trees w) in omega arith
+
+pub more_left : (texts : List TestText) (trees : List (Tree ℕ)) (w : Walk) (ws : List Walk) → length ws < length (paths_left texts trees w ws)
+more_left texts trees w ws =
+    let h = some_waiting texts trees ws in
+    let k = some_paths texts trees w in
+    let e = length-append (paths_of texts trees w) (paths_waiting texts trees ws) in omega arith
+
+pub got : {A : Type 0} (xs : List A) (i : ℕ) (x : A) → i < length xs → x ≡ get_or xs i x → slice_get xs i ≡ Some x
+got [] i x h e = absurd (omega arith)
+got (y ∷ xs) zero x h e = ap Some (sym e)
+got (y ∷ xs) (suc i) x h e = got xs i x (omega arith) e
+
+pub walks_on : (goes : Bool) (texts : List TestText) (trees : List (Tree ℕ)) (old : Walk) (olds : List Walk) (new : Walk) (news : List Walk) → goes ≡ true → Advances goes texts trees old olds new news → WalksOn texts trees old olds new news
+walks_on true texts trees old olds new news e h = h
+walks_on false texts trees old olds new news e h = cc
+
+-- more paths are left than walks wait
+pub too_many : (texts : List TestText) (trees : List (Tree ℕ)) (w : Walk) (ws : List Walk) (all : List (List Branch)) (room : ℕ) → room ≤ length ws → paths_left texts trees w ws ≡ all → room < length all
+too_many texts trees w ws all room h e = let k = more_left texts trees w ws in let n : length (paths_left texts trees w ws) ≡ length all = ap length e in omega arith
+
+behind_none : (ps : List (List Branch)) → behind [] ps ≡ ps
+behind_none [] = refl
+behind_none (p ∷ ps) = ap (λ xs. p ∷ xs) (behind_none ps)
+
+-- what is listed and what is left, at the start and after a path
+pub begun : (texts : List TestText) (ls : List (Line ℕ)) (at : ℕ) (m : Marks) (w : Walk) (all : List (List Branch)) (ws : List Walk) → all ≡ [] → ws ≡ w ∷ [] → w.at ≡ at → w.branches.items ≡ [] → known_seen w.known ≡ m →
+    all ++ paths_waiting texts (trees [] ls) ws ≡ leaves texts (tree_at ls at) m
+begun texts ls at m w all ws a e i b k =
+    ap₂ (λ x y. x ++ paths_waiting texts (trees [] ls) y) a e
+    ∙ ap (λ bs. behind (map branch_seen bs) (leaves texts (child (trees [] ls) w.at) (known_seen w.known))) b
+    ∙ behind_none (leaves texts (child (trees [] ls) w.at) (known_seen w.known))
+    ∙ ap₂ (λ x y. leaves texts (child (trees [] ls) x) y) i k
+
+pub one_path : (texts : List TestText) (trees : List (Tree ℕ)) (all done : List (List Branch)) (path : List Branch) (w : Walk) (ws rest news : List Walk) (whole : List (List Branch)) →
+    done ≡ all ++ path ∷ [] → ws ≡ rest ++ w ∷ [] → paths_left texts trees w rest ≡ path ∷ paths_waiting texts trees news → all ++ paths_waiting texts trees ws ≡ whole → done ++ paths_waiting texts trees news ≡ whole
+one_path texts trees all done path w ws rest news whole d e h k =
+    ap (λ xs. xs ++ paths_waiting texts trees news) d
+    ∙ append_assoc all (path ∷ []) (paths_waiting texts trees news)
+    ∙ ap (λ xs. all ++ xs) (sym h ∙ sym (waiting_push texts trees rest w) ∙ ap (paths_waiting texts trees) (sym e))
+    ∙ k
+
+pub err_many : {T : Type 0} (r : Result T WalkFault) (x : WalkFault) (B : Type 0) → IsErrAnd r (λ e. e ≡ x) → (x ≡ TooManyPaths → B) → IfErr r (λ e. e ≡ TooManyPaths → B)
+err_many (Ok y) x B h k = tt
+err_many (Err e) x B h k = λ q. k (sym h ∙ q)
+
+-- what is listed and left is more than the most
+pub whole_many : (texts : List TestText) (trees : List (Tree ℕ)) (all : List (List Branch)) (w : Walk) (ws rest : List Walk) (whole : List (List Branch)) (room : ℕ) →
+    ws ≡ rest ++ w ∷ [] → all ++ paths_waiting texts trees ws ≡ whole → room < length (paths_left texts trees w rest) → length all + room < length whole
+whole_many texts trees all w ws rest whole room e k h =
+    let n : length (all ++ paths_left texts trees w rest) ≡ length whole = ap (λ ps. length (all ++ ps)) (sym (waiting_push texts trees rest w) ∙ ap (paths_waiting texts trees) (sym e)) ∙ ap length k in
+    let m = length-append all (paths_left texts trees w rest) in omega arith

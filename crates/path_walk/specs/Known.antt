@@ -1,5 +1,5 @@
 -- What the tests of a path so far say, by the numbers of their texts.
-use Rattle.std.specs.Prelude.{ℕ, Bool, true, false, ◌==◌, not, List, get_or, slice_set, Option, Some, None, if◌then◌else◌}
+use Rattle.std.specs.Prelude.{ℕ, Bool, true, false, ◌==◌, not, List, get_or, slice_set, replicate, Option, Some, None, if◌then◌else◌}
 use Rattle.nf_base.specs.declared.packet.Field.{Field}
 use Rattle.path_walk.specs.declared.known.Known.{Known}
 use Rattle.path_walk.specs.declared.test.FieldIs.{FieldIs}
@@ -12,6 +12,10 @@ pub record Marks : Type 0 where
 
 abbrev pub known_seen : Known → Marks
 known_seen k = record { marks = k.marks.items; numbers = k.numbers.items }
+
+-- nothing is known of so many texts
+abbrev pub nothing_known : ℕ → Marks
+nothing_known texts = record { marks = replicate texts None; numbers = replicate 10 None }
 
 abbrev pub mark_at : Marks → ℕ → Option Bool
 mark_at m n = get_or m.marks n None

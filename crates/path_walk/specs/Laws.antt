@@ -3,12 +3,13 @@ use Rattle.std.specs.Prelude.{◌≡◌, ℕ, true, List, Some, IsSome, Contains
 use Rattle.nf_base.specs.declared.packet.Packet.{Packet}
 use Rattle.nf_base.specs.declared.packet.Fields.{Fields}
 use Rattle.nf_base.specs.declared.state.State.{State}
-use Rattle.nf_base.specs.Text.{Function}
+use Rattle.nf_base.specs.Text.{Block, Function}
 use Rattle.nf_base.specs.Paths.{PathStep, outcomes_along}
 use Rattle.nf_base.specs.Record.{outcomes}
 use Rattle.nf_base.specs.Step.{StepResult, step, recorded, path_taken}
 use Rattle.path_walk.specs.Tests.{TestText, same_text}
-use Rattle.path_walk.specs.Feasible.{is_feasible, IsFeasible, port_paths}
+use Rattle.path_walk.specs.Feasible.{is_feasible, IsFeasible, feasible_paths, port_paths, branches_along}
+use Rattle.path_walk.specs.Once.{EachOnce}
 
 -- tests of one text are those with the same sign and the same sides
 abbrev pub TextsAreTheirTokens : Type 0
@@ -34,3 +35,7 @@ OutcomesAreListed =
     (f : Function) (s : State) (packet : Packet) (fields : Fields) (choices : List ℕ) (r : StepResult) →
     packet.fields ≡ Some fields → step f s packet choices ≡ Some r →
     Contains (map outcomes_along (port_paths f packet.id.port)) (outcomes (recorded f s packet choices))
+
+-- no two feasible paths of a block branch alike
+abbrev pub PathsAreListedOnce : Type 0
+PathsAreListedOnce = (block : Block) → EachOnce (map branches_along (feasible_paths block))

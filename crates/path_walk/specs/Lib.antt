@@ -1,5 +1,6 @@
 pub mod Tests
 pub mod Feasible
+pub mod Once
 pub mod Laws
 pub mod Seen
 pub mod Trees
@@ -7,4 +8,5 @@ pub mod Lines
 pub mod Layout
 pub mod Numbering
 pub mod Known
+pub mod Branches
 pub mod Walks

@@ -1,8 +1,7 @@
 -- The paths that a walk along lines has still to list.
 use Rattle.std.specs.Prelude.{◌≡◌, ◌<◌, ℕ, Bool, true, false, not, List, [], ◌∷◌, ◌++◌, map, Option, Some, None, if◌then◌else◌}
 use Rattle.nf_base.specs.Paths.{Branch, Hits, Misses, Makes, IsTaken, IsFull}
-use Rattle.path_walk.specs.declared.branch.Branch as rust
-use Rattle.path_walk.specs.declared.branch.Branch.TheVariants as branch
+use Rattle.path_walk.specs.Branches.{branch_seen}
 use Rattle.path_walk.specs.declared.line.Line.{Line}
 use Rattle.path_walk.specs.declared.line.Line.TheVariants as lines
 use Rattle.path_walk.specs.declared.walk.Walk.{Walk}
@@ -13,14 +12,6 @@ use Rattle.path_walk.specs.Trees.{Tree, Leaf, Free, Tested, Made}
 use Rattle.path_walk.specs.Lines.{child, grown, IsBelow}
 use Rattle.path_walk.specs.Numbering.{text_at}
 use Rattle.path_walk.specs.Known.{Marks, known_seen, mark_at, excludes, told_mark}
-
--- a branch
-abbrev pub branch_seen : rust.Branch → Branch
-branch_seen branch.Hits = Hits
-branch_seen branch.Misses = Misses
-branch_seen branch.Makes = Makes
-branch_seen branch.IsTaken = IsTaken
-branch_seen branch.IsFull = IsFull
 
 -- a branch in front of paths
 abbrev pub ahead : Branch → List (List Branch) → List (List Branch)
@@ -105,3 +96,17 @@ pub record GoesOn (texts : List TestText) (line : Line ℕ) (old : Walk) (olds :
 abbrev pub Steps : Bool → List TestText → Line ℕ → (old : Walk) (olds : List Walk) (new : Walk) (news : List Walk) → Type 0
 Steps true texts line old olds new news = GoesOn texts line old olds new news
 Steps false texts line old olds new news = (line ≡ lines.Stop) × (new ≡ old) × (news ≡ olds)
+
+-- a step from a walk's line: the walk ends, or goes on at an earlier line, and the same paths are left
+pub record WalksOn (texts : List TestText) (trees : List (Tree ℕ)) (old : Walk) (olds : List Walk) (new : Walk) (news : List Walk) : Type 0 where
+  pub left : paths_left texts trees new news ≡ paths_left texts trees old olds
+  pub falls : new.at < old.at
+
+pub record WalkEnds (texts : List TestText) (trees : List (Tree ℕ)) (old : Walk) (olds : List Walk) (new : Walk) (news : List Walk) : Type 0 where
+  pub same : new ≡ old
+  pub others : news ≡ olds
+  pub ends : paths_of texts trees old ≡ map branch_seen old.branches.items ∷ []
+
+abbrev pub Advances : Bool → List TestText → List (Tree ℕ) → (old : Walk) (olds : List Walk) (new : Walk) (news : List Walk) → Type 0
+Advances true texts trees old olds new news = WalksOn texts trees old olds new news
+Advances false texts trees old olds new news = WalkEnds texts trees old olds new news

@@ -1,9 +1,9 @@
 //! What the tests of a path so far say.
-ghost use Rattle.std.specs.Prelude.{◌≡◌, IfOk, None, Some, replicate, map, slice_set, get_or};
+ghost use Rattle.std.specs.Prelude.{◌≡◌, IfOk, None, Some, map, slice_set, get_or};
 ghost use Rattle.path_walk.specs.Seen.{text_seen};
 ghost use Rattle.path_walk.specs.Feasible.{equals_of};
 ghost use Rattle.path_walk.specs.Numbering.{text_at};
-ghost use Rattle.path_walk.specs.Known.{known_seen, mark_at, with_number, excludes, told_mark};
+ghost use Rattle.path_walk.specs.Known.{nothing_known, known_seen, mark_at, with_number, excludes, told_mark};
 
 use crate::test::{FieldIs, Sign, Text};
 use crate::token::number_of_field;
@@ -46,7 +46,7 @@ fn number_of(numbers: &[Option<u64>], field: usize) -> Option<u64>
 impl Known {
     /// Nothing is known of so many texts.
     pub fn new(alloc: Global, texts: usize) -> Result<Known, AllocError>
-        ensures { IfOk result (λ known. known_seen known ≡ record { marks = replicate texts None; numbers = replicate 10 None }) }
+        ensures { IfOk result (λ known. known_seen known ≡ nothing_known texts) }
     {
         let marks = vec![in alloc; None; texts]?;
         let numbers = vec![in alloc; None; 10]?;

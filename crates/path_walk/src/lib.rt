@@ -10,6 +10,7 @@ mod known;
 mod laying;
 mod line;
 mod numbering;
+mod paths;
 pub mod test;
 mod token;
 mod walk;

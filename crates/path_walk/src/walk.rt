@@ -1,21 +1,57 @@
 //! A walk along lines: one path after the other, hit before miss.
-ghost use Rattle.std.specs.Prelude.{◌≡◌, ◌<◌, ◌∷◌, ◌++◌, [], IfOk, OnOk, map, None, Some, List, ℕ, not, false};
+ghost use Rattle.std.specs.Prelude.{◌≡◌, ◌<◌, ◌≤◌, ◌∷◌, ◌++◌, [], IfOk, OnOk, map, None, Some, List, ℕ, not, false, vec_len, IfErr, length};
 ghost use Rattle.path_walk.specs.Seen.{text_seen};
 ghost use Rattle.path_walk.specs.Feasible.{equals_of};
 ghost use Rattle.path_walk.specs.Numbering.{text_at};
-ghost use Rattle.path_walk.specs.Known.{known_seen, told_mark, mark_at, excludes};
+ghost use Rattle.path_walk.specs.Known.{nothing_known, known_seen, told_mark, mark_at, excludes};
 ghost use Rattle.path_walk.specs.Tests.{TestText};
 ghost use Rattle.path_walk.specs.Trees.{Tree};
-ghost use Rattle.path_walk.specs.Lines.{child};
-ghost use Rattle.path_walk.specs.Walks.{branch_seen, ahead, behind, one_way, leaves, paths_of, paths_left, paths_waiting, Went, Waits, TestGoesOn, GoesOn, Steps};
+ghost use Rattle.path_walk.specs.Lines.{child, trees, tree_at, IsLaid};
+ghost use Rattle.path_walk.specs.Branches.{branch_seen};
+ghost use Rattle.path_walk.specs.Walks.{ahead, behind, one_way, leaves, paths_of, paths_left, paths_waiting, Went, Waits, TestGoesOn, GoesOn, Steps, Advances};
 ghost use Rattle.path_walk.specs.declared.line.Line.TheVariants as lines;
 ghost use Rattle.nf_base.specs.Paths as text;
+ghost use Rattle.path_walk.specs.declared.fault.WalkFault.TheVariants.{TooManyPaths};
 
 use crate::branch::Branch;
 use crate::known::Known;
 use crate::line::Line;
+use crate::numbering::Numbered;
 use crate::test::{equals_at, FieldIs, Text};
+use crate::fault::WalkFault;
 use std::alloc::{AllocError, Global};
+use std::marker::Model;
+
+/// How the statements of a path branch, in order: contracts see it as those branches.
+#[derive(Drop)]
+pub struct Path {
+    branches: Vec<Branch>,
+}
+
+impl Model for Path {
+    ghost use Rattle.std.specs.Prelude.{List, map};
+    ghost use Rattle.nf_base.specs.Paths as text;
+    ghost use Rattle.path_walk.specs.Branches.{branch_seen};
+
+    ghost Value = { List text.Branch };
+
+    ghost view = { λ a. map branch_seen a.branches.items };
+}
+
+impl Path {
+    fn new(branches: Vec<Branch>) -> Path
+        ensures { result ≡ map branch_seen branches.items }
+    {
+        Path { branches }
+    }
+
+    /// The branches in order.
+    pub fn branches(&self) -> &[Branch]
+        ensures { map branch_seen result.now ≡ self.now }
+    {
+        self.branches.as_slice()
+    }
+}
 
 /// A path so far: the line that it comes to, what its tests say, and how its statements branched.
 #[derive(Drop)]
@@ -36,6 +72,20 @@ pub struct NumberedTest {
 }
 
 impl Walk {
+    /// The start of a path, with so many texts.
+    fn new(alloc: Global, at: usize, texts: usize) -> Result<Walk, AllocError>
+        ensures at { IfOk result (λ walk. walk.at ≡ at) }
+        ensures known { IfOk result (λ walk. known_seen walk.known ≡ nothing_known texts) }
+        ensures branches { IfOk result (λ walk. walk.branches.items ≡ []) }
+    {
+        let known = Known::new(alloc, texts)?;
+        Ok(Walk {
+            at,
+            known,
+            branches: Vec::new(alloc),
+        })
+    }
+
     /// Goes on at a line.
     fn go(&mut self, branch: Branch, at: usize) -> Result<(), AllocError>
         ensures { OnOk result (Went self.old self.new (branch_seen branch) at) }
@@ -203,4 +253,79 @@ fn step(
         Line::Make { made, taken, full } => make(alloc, *made, *taken, *full, walk, waiting)?,
     }
     Ok(true)
+}
+
+/// One step of a walk: `false` where it ends.
+fn advance(
+    alloc: Global,
+    numbered: &Numbered<'_>,
+    walk: &mut Walk,
+    waiting: &mut Vec<Walk>,
+) -> Result<bool, AllocError>
+    requires { IsLaid numbered.now.lines.items }
+    ensures { IfOk result (λ goes. Advances goes (map text_seen numbered.now.texts.items) (trees [] numbered.now.lines.items) walk.old waiting.old.items walk.new waiting.new.items) }
+{
+    if walk.at < numbered.lines.len() {
+        step(
+            alloc,
+            &numbered.lines[walk.at],
+            numbered.texts.as_slice(),
+            walk,
+            waiting,
+        )
+    } else {
+        Ok(false)
+    }
+}
+
+/// Follows a walk to its end, while fewer than `room` others wait.
+fn follow(
+    alloc: Global,
+    numbered: &Numbered<'_>,
+    first: Walk,
+    waiting: &mut Vec<Walk>,
+    room: usize,
+) -> Result<Path, WalkFault>
+    requires laid { IsLaid numbered.now.lines.items }
+    requires room { vec_len waiting.old < room }
+    ensures left { IfOk result (λ path. paths_left (map text_seen numbered.now.texts.items) (trees [] numbered.now.lines.items) first waiting.old.items ≡ path ∷ paths_waiting (map text_seen numbered.now.texts.items) (trees [] numbered.now.lines.items) waiting.new.items) }
+    ensures within { OnOk result (vec_len waiting.new < room) }
+    ensures many { IfErr result (λ fault. fault ≡ TooManyPaths → room < length (paths_left (map text_seen numbered.now.texts.items) (trees [] numbered.now.lines.items) first waiting.old.items)) }
+{
+    let mut walk = first;
+    'steps: loop {
+        let goes = advance(alloc, numbered, &mut walk, waiting)?;
+        if !goes {
+            let Walk { branches, .. } = walk;
+            return Ok(Path::new(branches));
+        }
+        if waiting.len() >= room {
+            return Err(WalkFault::TooManyPaths);
+        }
+    }
+}
+
+/// The most paths that are listed.
+const MOST: usize = 4096;
+
+/// The paths that begin at a line.
+pub fn listed(
+    alloc: Global,
+    numbered: &Numbered<'_>,
+    at: usize,
+) -> Result<Vec<Path>, WalkFault>
+    requires { IsLaid numbered.now.lines.items }
+    ensures all { IfOk result (λ all. all.items ≡ leaves (map text_seen numbered.now.texts.items) (tree_at numbered.now.lines.items at) (nothing_known (length numbered.now.texts.items))) }
+    ensures most { IfOk result (λ all. vec_len all ≤ 4096) }
+    ensures many { IfErr result (λ fault. fault ≡ TooManyPaths → 4096 < length (leaves (map text_seen numbered.now.texts.items) (tree_at numbered.now.lines.items at) (nothing_known (length numbered.now.texts.items)))) }
+{
+    let mut all = Vec::new(alloc);
+    let mut waiting = Vec::new(alloc);
+    let first = Walk::new(alloc, at, numbered.texts.len())?;
+    waiting.push(first)?;
+    while let Some(walk) = waiting.pop() {
+        let path = follow(alloc, numbered, walk, &mut waiting, MOST - all.len())?;
+        all.push(path)?;
+    }
+    Ok(all)
 }

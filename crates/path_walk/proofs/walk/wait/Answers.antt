@@ -1,4 +1,4 @@
-use Rattle.path_walk.specs.Walks.{branch_seen}
+use Rattle.path_walk.specs.Branches.{branch_seen}
 use Rattle.path_walk.proofs.Walking.{waits}
 use Rattle.path_walk.proofs.walk.wait.Goals as goal
 

@@ -5,7 +5,8 @@ use Rattle.path_walk.specs.Tests.{TestText}
 use Rattle.path_walk.specs.Trees.{Tree}
 use Rattle.path_walk.specs.Lines.{child}
 use Rattle.path_walk.specs.Known.{known_seen}
-use Rattle.path_walk.specs.Walks.{branch_seen, ahead, behind, one_way, leaves, paths_of, Went}
+use Rattle.path_walk.specs.Branches.{branch_seen}
+use Rattle.path_walk.specs.Walks.{ahead, behind, one_way, leaves, paths_of, Went}
 use Rattle.path_walk.proofs.Walking.{goes_hit, goes_miss, differ_is}
 use Rattle.path_walk.proofs.walk.Walk.go_one_way.Goals as goal
 
