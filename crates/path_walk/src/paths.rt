@@ -32,3 +32,24 @@ fn block_paths(alloc: Global, block: &Block) -> Result<Vec<Path>, WalkFault>
     let numbered = numbered_lines(alloc, lines.as_slice())?;
     listed(alloc, &numbered, at)
 }
+
+/// The feasible paths of a port's handler, each once, in text order: hit before miss, and made before
+/// taken before full. A port that the function doesn't have has none.
+///
+/// The work is bounded by the paths times the length of a path, and by the text's length times its
+/// logarithm.
+pub fn paths(alloc: Global, func: &Func, port: u32) -> Result<Vec<Path>, WalkFault>
+    ensures all { IfOk result (λ all. all.items ≡ map branches_along (port_paths (function_of func.now) port)) }
+    ensures once { IfOk result (λ all. EachOnce all.items) }
+    // More than 4,096 are refused, and no fewer.
+    ensures most { IfOk result (λ all. length (port_paths (function_of func.now) port) ≤ 4096) }
+    ensures many { IfErr result (λ fault. fault ≡ TooManyPaths → 4096 < length (port_paths (function_of func.now) port)) }
+    // A packet of this port that has a step, at any state, branches as one of them.
+    ensures taken { IfOk result (λ all. (s : State) (packet : Packet) (fields : Fields) (choices : List ℕ) (r : StepResult) → packet.fields ≡ Some fields → packet.id.port ≡ port → step (function_of func.now) s packet choices ≡ Some r → Contains all.items (branches (outcomes (recorded (function_of func.now) s packet choices)))) }
+{
+    if port < func.handlers.len() {
+        block_paths(alloc, &func.handlers.item(port).block)
+    } else {
+        Ok(Vec::new(alloc))
+    }
+}
