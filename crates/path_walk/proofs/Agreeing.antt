@@ -104,9 +104,9 @@ none_contradicts a b h = never_true (contradicts a b) (λ e.
     elim (or_true (same_text a.text b.text && differ a.holds b.holds) ((a.holds && b.holds) && are_two (equals_of a.text) (equals_of b.text)) e) [
       | inl w ↦ let u = and_parts (same_text a.text b.text) (differ a.holds b.holds) w in other_way a.holds b.holds u.1 (h.one_way (text_same a.text b.text u.0))
       | inr w ↦
-        let u = and_parts (a.holds && b.holds) (are_two (equals_of a.text) (equals_of b.text)) w in
-        let v = and_parts a.holds b.holds u.0 in
-        two_apart (equals_of a.text) (equals_of b.text) u.1 (λ field m n x y. h.one_number field m n x y v.0 v.1)
+          let u = and_parts (a.holds && b.holds) (are_two (equals_of a.text) (equals_of b.text)) w in
+          let v = and_parts a.holds b.holds u.0 in
+          two_apart (equals_of a.text) (equals_of b.text) u.1 (λ field m n x y. h.one_number field m n x y v.0 v.1)
     ])
 
 -- a list of tests, each of which agrees with each

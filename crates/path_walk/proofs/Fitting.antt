@@ -168,8 +168,8 @@ fitting_is (Ask q hit miss next) t rest h before =
 fitting_is (Make n made taken full next) t rest h before =
     let follows : (b : List Told) → fitting b (unfolded next t) ≡ listed b (paths next rest) = fitting_is next t rest h in
     let after : (b : Branch) (x : Block) → fitting before (unfolded x (unfolded next t)) ≡ listed before (paths x (paths next rest)) →
-        ahead b (fitting before (unfolded x (unfolded next t))) ≡ listed before (each_after (Making n b) (paths x (paths next rest)))
-        = λ b x e. ap (ahead b) e ∙ sym (listed_after (Making n b) (λ path. b ∷ path) before (paths x (paths next rest)) (λ y. refl) (λ y. refl)) in
+    ahead b (fitting before (unfolded x (unfolded next t))) ≡ listed before (each_after (Making n b) (paths x (paths next rest)))
+    = λ b x e. ap (ahead b) e ∙ sym (listed_after (Making n b) (λ path. b ∷ path) before (paths x (paths next rest)) (λ y. refl) (λ y. refl)) in
     let xs = each_after (Making n Makes) (paths made (paths next rest)) in
     let ys = each_after (Making n IsTaken) (paths taken (paths next rest)) in
     let zs = each_after (Making n IsFull) (paths full (paths next rest)) in

@@ -43,54 +43,57 @@ added_finds find after texts key text n f e h is put = record { found = found; k
   where
     longer : length (texts ++ text ∷ []) ≡ length texts + 1
     longer = length_push texts text
+
     found : (q : Vec ℕ Global) (m : ℕ) → after q ≡ Some m → (m < length (texts ++ text ∷ [])) × (test_tokens (text_at (texts ++ text ∷ []) m) ≡ q.items)
     found q m k = elim (cases_Bool (bytes_eq key.items q.items)) [
       | inl t ↦
-        let same : key.items ≡ q.items = (bytes_eq-Decides key.items q.items).0 t in
-        let u : Some n ≡ Some m = sym (ap (λ b. cond b (Some n) (find q)) t) ∙ sym (put q) ∙ k in
-        let v : m ≡ length texts = cc in
-        let l = longer in
-        let w : m < length (texts ++ text ∷ []) = omega arith in
-        (w, ap (λ x. test_tokens (text_at (texts ++ text ∷ []) x)) v ∙ ap test_tokens (text_last texts text) ∙ sym e ∙ same)
+          let same : key.items ≡ q.items = (bytes_eq-Decides key.items q.items).0 t in
+          let u : Some n ≡ Some m = sym (ap (λ b. cond b (Some n) (find q)) t) ∙ sym (put q) ∙ k in
+          let v : m ≡ length texts = cc in
+          let l = longer in
+          let w : m < length (texts ++ text ∷ []) = omega arith in
+          (w, ap (λ x. test_tokens (text_at (texts ++ text ∷ []) x)) v ∙ ap test_tokens (text_last texts text) ∙ sym e ∙ same)
       | inr b ↦
-        let u : find q ≡ Some m = sym (ap (λ b. cond b (Some n) (find q)) b) ∙ sym (put q) ∙ k in
-        let w = f.found q m u in
-        let v = w.0 in
-        let l = longer in
-        let x : m < length (texts ++ text ∷ []) = omega arith in
-        (x, ap test_tokens (text_left texts text m w.0) ∙ w.1)
+          let u : find q ≡ Some m = sym (ap (λ b. cond b (Some n) (find q)) b) ∙ sym (put q) ∙ k in
+          let w = f.found q m u in
+          let v = w.0 in
+          let l = longer in
+          let x : m < length (texts ++ text ∷ []) = omega arith in
+          (x, ap test_tokens (text_left texts text m w.0) ∙ w.1)
     ]
+
     kept : (q : Vec ℕ Global) (m : ℕ) → m < length (texts ++ text ∷ []) → q.items ≡ test_tokens (text_at (texts ++ text ∷ []) m) → after q ≡ Some m
     kept q m w k = elim (cases_lt m (length texts)) [
       | inl v ↦
-        let same : q.items ≡ test_tokens (text_at texts m) = k ∙ ap test_tokens (text_left texts text m v) in
-        elim (cases_Bool (bytes_eq key.items q.items)) [
-          | inl t ↦
-            let u : key.items ≡ q.items = (bytes_eq-Decides key.items q.items).0 t in
-            absurd (is_other find texts key text f e h m v (one_text (text_at texts m) text (sym same ∙ sym u ∙ e)))
-          | inr b ↦ put q ∙ ap (λ b. cond b (Some n) (find q)) b ∙ f.kept q m v same
-        ]
+          let same : q.items ≡ test_tokens (text_at texts m) = k ∙ ap test_tokens (text_left texts text m v) in
+          elim (cases_Bool (bytes_eq key.items q.items)) [
+            | inl t ↦
+                let u : key.items ≡ q.items = (bytes_eq-Decides key.items q.items).0 t in
+                absurd (is_other find texts key text f e h m v (one_text (text_at texts m) text (sym same ∙ sym u ∙ e)))
+            | inr b ↦ put q ∙ ap (λ b. cond b (Some n) (find q)) b ∙ f.kept q m v same
+          ]
       | inr v ↦
-        let l = longer in
-        let x : m ≡ length texts = omega arith in
-        let same : q.items ≡ key.items = k ∙ ap (λ y. test_tokens (text_at (texts ++ text ∷ []) y)) x ∙ ap test_tokens (text_last texts text) ∙ sym e in
-        let t : bytes_eq key.items q.items ≡ true = (bytes_eq-Decides key.items q.items).1 (sym same) in
-        put q ∙ ap (λ b. cond b (Some n) (find q)) t ∙ ap Some (is ∙ sym x)
+          let l = longer in
+          let x : m ≡ length texts = omega arith in
+          let same : q.items ≡ key.items = k ∙ ap (λ y. test_tokens (text_at (texts ++ text ∷ []) y)) x ∙ ap test_tokens (text_last texts text) ∙ sym e in
+          let t : bytes_eq key.items q.items ≡ true = (bytes_eq-Decides key.items q.items).1 (sym same) in
+          put q ∙ ap (λ b. cond b (Some n) (find q)) t ∙ ap Some (is ∙ sym x)
     ]
+
     one : (i j : ℕ) → i < length (texts ++ text ∷ []) → j < length (texts ++ text ∷ []) → text_at (texts ++ text ∷ []) i ≡ text_at (texts ++ text ∷ []) j → i ≡ j
     one i j a b k = elim (cases_lt i (length texts)) [
       | inl v ↦ elim (cases_lt j (length texts)) [
-          | inl w ↦ f.apart.one i j v w (sym (text_left texts text i v) ∙ k ∙ text_left texts text j w)
-          | inr w ↦
+        | inl w ↦ f.apart.one i j v w (sym (text_left texts text i v) ∙ k ∙ text_left texts text j w)
+        | inr w ↦
             let l = longer in
             let x : j ≡ length texts = omega arith in
             absurd (is_other find texts key text f e h i v (sym (text_left texts text i v) ∙ k ∙ ap (text_at (texts ++ text ∷ [])) x ∙ text_last texts text))
-        ]
+      ]
       | inr v ↦
-        let l = longer in
-        let x : i ≡ length texts = omega arith in
-        elim (cases_lt j (length texts)) [
-          | inl w ↦ absurd (is_other find texts key text f e h j w (sym (text_left texts text j w) ∙ sym k ∙ ap (text_at (texts ++ text ∷ [])) x ∙ text_last texts text))
-          | inr w ↦ omega arith
-        ]
+          let l = longer in
+          let x : i ≡ length texts = omega arith in
+          elim (cases_lt j (length texts)) [
+            | inl w ↦ absurd (is_other find texts key text f e h j w (sym (text_left texts text j w) ∙ sym k ∙ ap (text_at (texts ++ text ∷ [])) x ∙ text_last texts text))
+            | inr w ↦ omega arith
+          ]
     ]

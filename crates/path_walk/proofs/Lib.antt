@@ -10,3 +10,4 @@ pub mod Walking
 pub mod Marking
 pub mod Bridge
 pub mod Apart
+pub mod Handled

@@ -165,10 +165,10 @@ new_marked texts m before n b r w k d e =
     let l : n < length m.marks = let q = r.marks in omega arith in
     elim (cases_eq k n) [
       | inl q ↦
-        let u = marks_same m n (equals_of (text_at texts n)) b l in
-        let v : mark_at (told_at texts m n b) n ≡ Some d = sym (ap (mark_at (told_at texts m n b)) q) ∙ e in
-        let same : b ≡ d = cc in
-        subst (λ (t : Told). Contains (tell (text_at texts n) b ∷ before) t) (ap₂ (λ (i : ℕ) (c : Bool). tell (text_at texts i) c) (sym q) same) (here (tell (text_at texts n) b) before)
+          let u = marks_same m n (equals_of (text_at texts n)) b l in
+          let v : mark_at (told_at texts m n b) n ≡ Some d = sym (ap (mark_at (told_at texts m n b)) q) ∙ e in
+          let same : b ≡ d = cc in
+          subst (λ (t : Told). Contains (tell (text_at texts n) b ∷ before) t) (ap₂ (λ (i : ℕ) (c : Bool). tell (text_at texts i) c) (sym q) same) (here (tell (text_at texts n) b) before)
       | inr q ↦ there (tell (text_at texts n) b) before (tell (text_at texts k) d) (r.marked k d (sym (marks_other m n k (equals_of (text_at texts n)) b q) ∙ e))
     ]
 
@@ -178,15 +178,15 @@ new_only_mark texts m before n b r apart w none a k v i e =
     let l : n < length m.marks = let q = r.marks in omega arith in
     elim (has (tell (text_at texts n) b) before a i) [
       | inl q ↦
-        let s : text_at texts n ≡ text_at texts k = ap (λ (t : Told). t.text) q ∙ e in
-        let j : n ≡ k = apart.one n k w v s in
-        sym (ap (mark_at (told_at texts m n b)) j) ∙ marks_same m n (equals_of (text_at texts n)) b l ∙ ap (λ (t : Told). Some t.holds) q
+          let s : text_at texts n ≡ text_at texts k = ap (λ (t : Told). t.text) q ∙ e in
+          let j : n ≡ k = apart.one n k w v s in
+          sym (ap (mark_at (told_at texts m n b)) j) ∙ marks_same m n (equals_of (text_at texts n)) b l ∙ ap (λ (t : Told). Some t.holds) q
       | inr j ↦
-        let old = r.only_mark a k v j e in
-        elim (cases_eq k n) [
-          | inl q ↦ let u : mark_at m k ≡ None = ap (mark_at m) q ∙ none in cc
-          | inr q ↦ marks_other m n k (equals_of (text_at texts n)) b q ∙ old
-        ]
+          let old = r.only_mark a k v j e in
+          elim (cases_eq k n) [
+            | inl q ↦ let u : mark_at m k ≡ None = ap (mark_at m) q ∙ none in cc
+            | inr q ↦ marks_other m n k (equals_of (text_at texts n)) b q ∙ old
+          ]
     ]
 
 says_later : (t : Told) (before : List Told) (field : Field) (k : ℕ) → Says before field k → Says (t ∷ before) field k
@@ -198,17 +198,17 @@ new_numbered texts m before n false o r h field k e = says_later (tell (text_at 
 new_numbered texts m before n true None r h field k e = says_later (tell (text_at texts n) true) before field k (r.numbered field k e)
 new_numbered texts m before n true (Some x) r h field k e = elim (cases_eq (field_number field) (field_number x.field)) [
   | inl q ↦
-    let f : field ≡ x.field = one_field field x.field q in
-    let l : field_number x.field < length m.numbers = let y = r.numbers in let z = below_ten x.field in omega arith in
-    let u : number_at (told_mark m n (Some x) true) x.field ≡ Some x.number = number_same m n (Some x) x.field x.number l refl in
-    let v : number_at (told_mark m n (Some x) true) x.field ≡ Some k = sym (ap (number_at (told_mark m n (Some x) true)) f) ∙ e in
-    let same : x.number ≡ k = cc in
-    record {
-      test = tell (text_at texts n) true;
-      among = here (tell (text_at texts n) true) before;
-      equals = h ∙ ap₂ is (sym f) same;
-      holds = refl;
-    }
+      let f : field ≡ x.field = one_field field x.field q in
+      let l : field_number x.field < length m.numbers = let y = r.numbers in let z = below_ten x.field in omega arith in
+      let u : number_at (told_mark m n (Some x) true) x.field ≡ Some x.number = number_same m n (Some x) x.field x.number l refl in
+      let v : number_at (told_mark m n (Some x) true) x.field ≡ Some k = sym (ap (number_at (told_mark m n (Some x) true)) f) ∙ e in
+      let same : x.number ≡ k = cc in
+      record {
+        test = tell (text_at texts n) true;
+        among = here (tell (text_at texts n) true) before;
+        equals = h ∙ ap₂ is (sym f) same;
+        holds = refl;
+      }
   | inr q ↦ says_later (tell (text_at texts n) true) before field k (r.numbered field k (sym (number_other m n x field q) ∙ e))
 ]
 
@@ -229,11 +229,11 @@ new_only_number texts m before n true o r h free a field k i e t =
     kept None g v = v
     kept (Some x) g v = elim (cases_eq (field_number field) (field_number x.field)) [
       | inl q ↦
-        let f : field ≡ x.field = one_field field x.field q in
-        let at : equals_of (text_at texts n) ≡ is field x.number = g ∙ ap (λ (y : Field). is y x.number) (sym f) in
-        let same : k ≡ x.number = same_unless m (text_at texts n) field k x.number (free refl) at v in
-        let l : field_number field < length m.numbers = let y = r.numbers in let z = below_ten field in omega arith in
-        number_same m n (Some x) field k l (ap₂ is (sym f) (sym same))
+          let f : field ≡ x.field = one_field field x.field q in
+          let at : equals_of (text_at texts n) ≡ is field x.number = g ∙ ap (λ (y : Field). is y x.number) (sym f) in
+          let same : k ≡ x.number = same_unless m (text_at texts n) field k x.number (free refl) at v in
+          let l : field_number field < length m.numbers = let y = r.numbers in let z = below_ten field in omega arith in
+          number_same m n (Some x) field k l (ap₂ is (sym f) (sym same))
       | inr q ↦ number_other m n x field q ∙ v
     ]
 

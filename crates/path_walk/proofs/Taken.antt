@@ -181,7 +181,7 @@ kept f (y ∷ ys) x h e = split (f y) refl (has y ys x h) (λ i. kept f ys x i e
     split false g (inl q) rest = let t : f y ≡ true = ap f q ∙ e in cc
     split false g (inr i) rest = rest i
 
-mapped : {A B : Type 0} (f : A → B) (xs : List A) (x : A) → Contains xs x → Contains (map f xs) (f x)
+pub mapped : {A B : Type 0} (f : A → B) (xs : List A) (x : A) → Contains xs x → Contains (map f xs) (f x)
 mapped f [] x h = absurd (has_none x h)
 mapped f (y ∷ ys) x h = elim (has y ys x h) [
   | inl q ↦ subst (λ z. Contains (f y ∷ map f ys) (f z)) q (here (f y) (map f ys))
@@ -190,7 +190,6 @@ mapped f (y ∷ ys) x h = elim (has y ys x h) [
 
 pub courses_feasible : (stops : Stops) (p : Input) (block : Block) (c : Context) → Contains (feasible_paths block) (route stops p block c (λ _. []))
 courses_feasible stops p block c = kept is_feasible (paths block ([] ∷ [])) (route stops p block c (λ _. [])) (courses_walk stops p block c) (route_feasible stops p block c)
-
 
 -- and of a packet
 at_handler : (f : Function) (s : State) (time : ℕ) (fields : Fields) (choices : List ℕ) (block : Option Block) → IsSome block → Contains (handler_paths block) (routes never f s time fields choices block)

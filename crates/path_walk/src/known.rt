@@ -40,7 +40,11 @@ fn set_number(numbers: &mut Vec<Option<u64>>, equals: Option<FieldIs>)
 fn number_of(numbers: &[Option<u64>], field: usize) -> Option<u64>
     ensures { result ≡ get_or numbers.now field None }
 {
-    if field < numbers.len() { numbers[field] } else { None }
+    if field < numbers.len() {
+        numbers[field]
+    } else {
+        None
+    }
 }
 
 impl Known {
@@ -66,7 +70,11 @@ impl Known {
     pub fn mark(&self, number: usize) -> Option<bool>
         ensures { result ≡ mark_at (known_seen self.now) number }
     {
-        if number < self.marks.len() { self.marks[number] } else { None }
+        if number < self.marks.len() {
+            self.marks[number]
+        } else {
+            None
+        }
     }
 
     /// Whether a field is known to be another number.

@@ -11,7 +11,7 @@ ghost use Rattle.path_walk.specs.Lines.{IsLaid, tree_at};
 ghost use Rattle.path_walk.specs.Trees.{ending_tree, unfolded};
 
 use crate::line::Line;
-use crate::test::{exchanges, is_of_packet, sign_of_comparison, Text};
+use crate::test::{Text, exchanges, is_of_packet, sign_of_comparison};
 use nf_base::block::{Block, Ending, Question};
 use std::alloc::{AllocError, Global};
 
@@ -128,7 +128,10 @@ fn statement_lines<'a>(
             put(lines, asked(question, hits, misses))
         }
         Block::Make {
-            made, taken, full, ..
+            made,
+            taken,
+            full,
+            ..
         } => {
             let made = block_lines(alloc, made, next, lines)?;
             let taken = block_lines(alloc, taken, next, lines)?;

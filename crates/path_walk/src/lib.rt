@@ -4,13 +4,17 @@
 
 mod branch;
 mod fault;
-pub mod laws;
-
 mod known;
+pub mod laws;
 mod laying;
 mod line;
 mod numbering;
-mod paths;
-pub mod test;
+mod ports;
+mod test;
 mod token;
 mod walk;
+
+pub use branch::Branch;
+pub use fault::WalkFault;
+pub use ports::{block_paths, paths};
+pub use walk::Path;

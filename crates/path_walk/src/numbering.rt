@@ -112,7 +112,10 @@ pub struct Numbered<'a> {
 }
 
 /// Lines with one number for each text that their tests have.
-pub fn numbered_lines<'a>(alloc: Global, lines: &[Line<Text<'a>>]) -> Result<Numbered<'a>, AllocError>
+pub fn numbered_lines<'a>(
+    alloc: Global,
+    lines: &[Line<Text<'a>>],
+) -> Result<Numbered<'a>, AllocError>
     ensures lines { IfOk result (λ all. AreNumbered (lines_seen lines.now) (map text_seen all.texts.items) all.lines.items) }
     ensures apart { IfOk result (λ all. AreApart (map text_seen all.texts.items)) }
 {

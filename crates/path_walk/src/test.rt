@@ -63,7 +63,10 @@ pub fn sign_of_comparison(comparison: Comparison) -> Sign
 pub fn exchanges(comparison: Comparison) -> bool
     ensures { result ≡ is_exchanged comparison }
 {
-    matches!(comparison, Comparison::NotEqual | Comparison::GreaterOrEqual | Comparison::Greater)
+    matches!(
+        comparison,
+        Comparison::NotEqual | Comparison::GreaterOrEqual | Comparison::Greater
+    )
 }
 
 /// What `field == number` says, where the test of this number is one.

@@ -14,11 +14,11 @@ ghost use Rattle.nf_base.specs.Paths as text;
 ghost use Rattle.path_walk.specs.declared.fault.WalkFault.TheVariants.{TooManyPaths};
 
 use crate::branch::Branch;
+use crate::fault::WalkFault;
 use crate::known::Known;
 use crate::line::Line;
 use crate::numbering::Numbered;
-use crate::test::{equals_at, FieldIs, Text};
-use crate::fault::WalkFault;
+use crate::test::{FieldIs, Text, equals_at};
 use std::alloc::{AllocError, Global};
 use std::marker::Model;
 
@@ -309,11 +309,7 @@ fn follow(
 const MOST: usize = 4096;
 
 /// The paths that begin at a line.
-pub fn listed(
-    alloc: Global,
-    numbered: &Numbered<'_>,
-    at: usize,
-) -> Result<Vec<Path>, WalkFault>
+pub fn listed(alloc: Global, numbered: &Numbered<'_>, at: usize) -> Result<Vec<Path>, WalkFault>
     requires { IsLaid numbered.now.lines.items }
     ensures all { IfOk result (λ all. all.items ≡ leaves (map text_seen numbered.now.texts.items) (tree_at numbered.now.lines.items at) (nothing_known (length numbered.now.texts.items))) }
     ensures most { IfOk result (λ all. vec_len all ≤ 4096) }

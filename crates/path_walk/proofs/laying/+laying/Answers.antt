@@ -53,5 +53,5 @@ statement_lines-returns-in_ok-full-in-Make t c =
     let n = lines_seen c.block_lines-in-Make-3.new.lines.items in
     rw (c.in-Make.is, ← c.deref-in-Make.ensures, ← c.deref-in-Make-2.ensures, ← c.deref-in-Make-3.ensures) (if_put c.put-in-Make.result a n (lines_seen c.put-in-Make.new.lines.items) _ _
     (make_lines a b m n (block_of c.deref-in-Make.result.now) (block_of c.deref-in-Make-2.result.now) (block_of c.deref-in-Make-3.result.now) c.args.next
-        c.in_ok-made-in-Make.made c.in_ok-taken-in-Make.taken c.in_ok-full-in-Make.full c.requires.next c.in_ok-made-in-Make.ensures c.in_ok-taken-in-Make.ensures c.in_ok-full-in-Make.ensures)
+    c.in_ok-made-in-Make.made c.in_ok-taken-in-Make.taken c.in_ok-full-in-Make.full c.requires.next c.in_ok-made-in-Make.ensures c.in_ok-taken-in-Make.ensures c.in_ok-full-in-Make.ensures)
     c.put-in-Make.ensures)

@@ -13,7 +13,7 @@ use Rattle.path_walk.specs.Known.{nothing_known}
 use Rattle.path_walk.specs.Walks.{leaves}
 use Rattle.path_walk.specs.Feasible.{feasible_paths, branches_along}
 use Rattle.path_walk.proofs.Bridge.{laid_numbers, listed_are, if_many}
-use Rattle.path_walk.proofs.paths.block_paths.Goals as goal
+use Rattle.path_walk.proofs.ports.block_paths.Goals as goal
 
 pub listed-requires : goal.listed-requires
 listed-requires c =

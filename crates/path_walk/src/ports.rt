@@ -15,13 +15,13 @@ use crate::fault::WalkFault;
 use crate::laying::block_lines;
 use crate::line::Line;
 use crate::numbering::numbered_lines;
-use crate::walk::{listed, Path};
+use crate::walk::{Path, listed};
 use nf_base::block::Block;
 use nf_base::func::Func;
 use std::alloc::Global;
 
-/// The feasible paths of a block.
-fn block_paths(alloc: Global, block: &Block) -> Result<Vec<Path>, WalkFault>
+/// The feasible paths of a block that stands alone, in text order.
+pub fn block_paths(alloc: Global, block: &Block) -> Result<Vec<Path>, WalkFault>
     ensures all { IfOk result (λ all. all.items ≡ map branches_along (feasible_paths (block_of block.now))) }
     ensures most { IfOk result (λ all. vec_len all ≤ 4096) }
     ensures many { IfErr result (λ fault. fault ≡ TooManyPaths → 4096 < length (feasible_paths (block_of block.now))) }
