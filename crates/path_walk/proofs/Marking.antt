@@ -7,10 +7,11 @@ use Rattle.nf_base.specs.declared.packet.Field.TheVariants.{Time, Length, SrcMac
 use Rattle.nf_base.specs.Paths.{Branch, Hits, Misses, Makes, IsTaken, IsFull}
 use Rattle.nf_laws.proofs.Listed.{here, there, has, has_none}
 use Rattle.path_walk.specs.declared.test.FieldIs.{FieldIs}
+use Rattle.path_walk.specs.declared.known.Mark.TheVariants.{Unknown}
 use Rattle.path_walk.specs.Tests.{TestText, Told, field_number}
 use Rattle.path_walk.specs.Feasible.{equals_of, differ}
 use Rattle.path_walk.specs.Numbering.{text_at, AreApart}
-use Rattle.path_walk.specs.Known.{Marks, nothing_known, mark_at, number_at, is_other, excludes, with_number, told_mark}
+use Rattle.path_walk.specs.Known.{Marks, mark_seen, nothing_known, mark_at, number_at, is_other, excludes, with_number, told_mark}
 use Rattle.path_walk.proofs.Texts.{one_field}
 use Rattle.path_walk.proofs.Agreeing.{is, number_in, Agree, never_true}
 use Rattle.path_walk.proofs.Fitting.{tell, goes, goes_where, goes_is}
@@ -28,6 +29,13 @@ pub record Represents (texts : List TestText) (m : Marks) (before : List Told) :
   pub only_mark : (a : Told) (n : ℕ) → n < length texts → Contains before a → a.text ≡ text_at texts n → mark_at m n ≡ Some a.holds
   pub numbered : (field : Field) (k : ℕ) → number_at m field ≡ Some k → Says before field k
   pub only_number : (a : Told) (field : Field) (k : ℕ) → Contains before a → equals_of a.text ≡ is field k → a.holds ≡ true → number_at m field ≡ Some k
+
+abbrev pub marks_of : List (Option Bool) → List (Option ℕ) → Marks
+marks_of marks numbers = record { marks = marks; numbers = numbers }
+
+pub none_known : (n : ℕ) → map mark_seen (replicate n Unknown) ≡ replicate n None
+none_known zero = refl
+none_known (suc n) = ap (λ xs. None ∷ xs) (none_known n)
 
 -- nothing is known of no tests
 abbrev no : {A : Type 0} → Option A

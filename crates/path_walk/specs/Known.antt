@@ -1,7 +1,9 @@
 -- What the tests of a path so far say, by the numbers of their texts.
-use Rattle.std.specs.Prelude.{ℕ, Bool, true, false, ◌==◌, not, List, get_or, slice_set, replicate, Option, Some, None, if◌then◌else◌}
+use Rattle.std.specs.Prelude.{ℕ, Bool, true, false, ◌==◌, not, List, map, get_or, slice_set, replicate, Option, Some, None, if◌then◌else◌}
 use Rattle.nf_base.specs.declared.packet.Field.{Field}
 use Rattle.path_walk.specs.declared.known.Known.{Known}
+use Rattle.path_walk.specs.declared.known.Mark.{Mark}
+use Rattle.path_walk.specs.declared.known.Mark.TheVariants.{Unknown, Fails, Holds}
 use Rattle.path_walk.specs.declared.test.FieldIs.{FieldIs}
 use Rattle.path_walk.specs.Tests.{field_number}
 
@@ -10,8 +12,13 @@ pub record Marks : Type 0 where
   pub marks : List (Option Bool)
   pub numbers : List (Option ℕ)
 
+abbrev pub mark_seen : Mark → Option Bool
+mark_seen Unknown = None
+mark_seen Fails = Some false
+mark_seen Holds = Some true
+
 abbrev pub known_seen : Known → Marks
-known_seen k = record { marks = k.marks.items; numbers = k.numbers.items }
+known_seen k = record { marks = map mark_seen k.marks.items; numbers = k.numbers.items }
 
 -- nothing is known of so many texts
 abbrev pub nothing_known : ℕ → Marks

@@ -1,27 +1,70 @@
 //! What the tests of a path so far say.
-ghost use Rattle.std.specs.Prelude.{◌≡◌, IfOk, None, Some, map, slice_set, get_or};
+ghost use Rattle.std.specs.Prelude.{◌≡◌, IfOk, None, Some, map, slice_set, get_or, replicate};
+ghost use Rattle.path_walk.specs.declared.known.Mark.TheVariants.{Unknown};
 ghost use Rattle.path_walk.specs.Seen.{text_seen};
 ghost use Rattle.path_walk.specs.Feasible.{equals_of};
 ghost use Rattle.path_walk.specs.Numbering.{text_at};
-ghost use Rattle.path_walk.specs.Known.{nothing_known, known_seen, mark_at, with_number, excludes, told_mark};
+ghost use Rattle.path_walk.specs.Known.{mark_seen, nothing_known, known_seen, mark_at, with_number, excludes, told_mark};
 
 use crate::test::{FieldIs, Sign, Text};
 use crate::token::number_of_field;
 use nf_base::expr::Expr;
 use std::alloc::{AllocError, Global};
 
+/// How a text went.
+#[derive(Clone, Copy, Debug, PartialEq, Eq)]
+pub enum Mark {
+    Unknown,
+    Fails,
+    Holds,
+}
+
 /// How each text went, by its number, and the number that each field is known to be, by the field's.
 #[derive(Drop)]
 pub struct Known {
-    marks: Vec<Option<bool>>,
+    marks: Vec<Mark>,
     numbers: Vec<Option<u64>>,
 }
 
-fn set_mark(marks: &mut Vec<Option<bool>>, number: usize, holds: bool)
-    ensures { marks.new.items ≡ slice_set marks.old.items number (Some holds) }
+/// No mark for each of so many texts.
+fn unknown(alloc: Global, texts: usize) -> Result<Vec<Mark>, AllocError>
+    ensures { IfOk result (λ marks. marks.items ≡ replicate texts Unknown) }
+{
+    vec![in alloc; Mark::Unknown; texts]
+}
+
+/// No number for each of the ten fields.
+fn no_numbers(alloc: Global) -> Result<Vec<Option<u64>>, AllocError>
+    ensures { IfOk result (λ numbers. numbers.items ≡ replicate 10 None) }
+{
+    vec![in alloc; None; 10]
+}
+
+/// The mark of a text that went so.
+fn mark_for(holds: bool) -> Mark
+    ensures { mark_seen result ≡ Some holds }
+{
+    if holds { Mark::Holds } else { Mark::Fails }
+}
+
+fn set_mark(marks: &mut Vec<Mark>, number: usize, holds: bool)
+    ensures { map mark_seen marks.new.items ≡ slice_set (map mark_seen marks.old.items) number (Some holds) }
 {
     if number < marks.len() {
-        marks[number] = Some(holds);
+        marks[number] = mark_for(holds);
+    }
+}
+
+fn mark_of(marks: &[Mark], number: usize) -> Option<bool>
+    ensures { result ≡ get_or (map mark_seen marks.now) number None }
+{
+    if number >= marks.len() {
+        return None;
+    }
+    match marks[number] {
+        Mark::Unknown => None,
+        Mark::Fails => Some(false),
+        Mark::Holds => Some(true),
     }
 }
 
@@ -52,8 +95,8 @@ impl Known {
     pub fn new(alloc: Global, texts: usize) -> Result<Known, AllocError>
         ensures { IfOk result (λ known. known_seen known ≡ nothing_known texts) }
     {
-        let marks = vec![in alloc; None; texts]?;
-        let numbers = vec![in alloc; None; 10]?;
+        let marks = unknown(alloc, texts)?;
+        let numbers = no_numbers(alloc)?;
         Ok(Known { marks, numbers })
     }
 
@@ -70,11 +113,7 @@ impl Known {
     pub fn mark(&self, number: usize) -> Option<bool>
         ensures { result ≡ mark_at (known_seen self.now) number }
     {
-        if number < self.marks.len() {
-            self.marks[number]
-        } else {
-            None
-        }
+        mark_of(self.marks.as_slice(), number)
     }
 
     /// Whether a field is known to be another number.

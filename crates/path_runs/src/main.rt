@@ -1,0 +1,68 @@
+//! Lists the paths of blocks that are made up, and prints how many each has, or why they are not
+//! listed.
+#![tactic(auto)]
+
+mod blocks;
+
+use blocks::{apart, below, nested, same};
+use nf_base::block::Block;
+use path_walk::{WalkFault, block_paths};
+use std::alloc::{AllocError, Global};
+use std::io;
+
+/// How many paths a block has.
+fn count(alloc: Global, block: Result<Block, AllocError>) -> Result<usize, WalkFault> {
+    let block = block?;
+    let all = block_paths(alloc, &block)?;
+    Ok(all.len())
+}
+
+fn print_count(rt: &HostRuntime, name: &str, count: Result<usize, WalkFault>) -> io::Result<()> {
+    match count {
+        Ok(count) => println!(rt; "{name}: {count}"),
+        Err(fault) => println!(rt; "{name}: {fault}"),
+    }
+}
+
+fn main(rt: HostRuntime) -> io::Result<()> {
+    let alloc = rt.alloc();
+    print_count(
+        &rt,
+        "131072 tests of one text",
+        count(alloc, same(alloc, 131_072, 1)),
+    )?;
+    print_count(&rt, "12 texts", count(alloc, same(alloc, 12, 12)))?;
+    print_count(&rt, "13 texts", count(alloc, same(alloc, 13, 13)))?;
+    print_count(
+        &rt,
+        "40000 tests of 12 texts",
+        count(alloc, same(alloc, 40_000, 12)),
+    )?;
+    print_count(
+        &rt,
+        "131072 tests of 12 texts",
+        count(alloc, same(alloc, 131_072, 12)),
+    )?;
+    print_count(
+        &rt,
+        "131072 tests of 131072 texts",
+        count(alloc, same(alloc, 131_072, 131_072)),
+    )?;
+    print_count(&rt, "two numbers of a field", count(alloc, apart(alloc, 2)))?;
+    print_count(
+        &rt,
+        "4095 numbers of a field",
+        count(alloc, apart(alloc, 4095)),
+    )?;
+    print_count(
+        &rt,
+        "4096 numbers of a field",
+        count(alloc, apart(alloc, 4096)),
+    )?;
+    print_count(
+        &rt,
+        "forty bounds of a field",
+        count(alloc, below(alloc, 40)),
+    )?;
+    print_count(&rt, "64 blocks deep", count(alloc, nested(alloc, 64)))
+}
