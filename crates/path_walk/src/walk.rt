@@ -207,21 +207,6 @@ fn untold(
     }
 }
 
-/// Goes on at a test as it went before, and else as it may.
-fn at_test(
-    alloc: Global,
-    test: NumberedTest,
-    walk: &mut Walk,
-    waiting: &mut Vec<Walk>,
-) -> Result<(), AllocError>
-    ensures { OnOk result (TestGoesOn (mark_at (known_seen walk.old.known) test.number) test walk.old waiting.old.items walk.new waiting.new.items) }
-{
-    match walk.known.mark(test.number) {
-        Some(holds) => walk.go_one_way(test.exchanged, holds, test.hit, test.miss),
-        None => untold(alloc, test, walk, waiting),
-    }
-}
-
 /// One step at a line: `false` where the walk ends there.
 fn step(
     alloc: Global,
@@ -241,6 +226,10 @@ fn step(
             hit,
             miss,
         } => {
+            if let Some(holds) = walk.known.mark(*test) {
+                walk.go_one_way(*exchanged, holds, *hit, *miss)?;
+                return Ok(true);
+            }
             let numbered = NumberedTest {
                 number: *test,
                 equals: equals_at(texts, *test),
@@ -248,7 +237,7 @@ fn step(
                 hit: *hit,
                 miss: *miss,
             };
-            at_test(alloc, numbered, walk, waiting)?
+            untold(alloc, numbered, walk, waiting)?
         }
         Line::Make { made, taken, full } => make(alloc, *made, *taken, *full, walk, waiting)?,
     }
