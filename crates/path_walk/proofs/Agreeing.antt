@@ -1,14 +1,14 @@
 -- Tests that contradict each other, and those that agree.
 use Rattle.std.proofs.Common.{◌≡◌, ◌⊎◌, ℕ, Bool, true, false, not, ◌&&◌, ◌||◌, ◌==◌, eqb-true, eq-eqb, List, [], ◌∷◌, Contains, Option, Some, None, refl, ap, ap₂, sym, ◌∙◌, subst, inl, inr}
 use Rattle.std.specs.List.{list_any}
-use Rattle.std.proofs.lemmas.Bool.{and_parts, cases_Bool, false≢true}
+use Rattle.std.proofs.lemmas.Bool.{and_parts}
 use Rattle.nf_base.specs.declared.packet.Field.{Field}
 use Rattle.nf_base.specs.Paths.{PathStep}
 use Rattle.nf_laws.proofs.Listed.{here, there, has, has_none}
-use Rattle.path_walk.specs.Tests.{TestText, Told, tests, field_number, same_text}
+use Rattle.path_walk.specs.Tests.{Told, tests, field_number, same_text}
 use Rattle.path_walk.specs.declared.test.FieldIs.{FieldIs}
 use Rattle.path_walk.specs.Feasible.{equals_of, are_two, differ, contradicts, is_consistent, is_feasible, IsFeasible}
-use Rattle.path_walk.proofs.Texts.{text_same, same_from, same_itself, one_field}
+use Rattle.path_walk.proofs.Texts.{text_same, same_from, one_field}
 
 abbrev pub is : Field → ℕ → Option FieldIs
 is field n = Some (record { field = field; number = n })

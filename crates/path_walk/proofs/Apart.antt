@@ -1,11 +1,9 @@
 -- Different paths branch differently.
-use Rattle.std.proofs.Common.{◌≡◌, ◌⊎◌, ℕ, Bool, true, false, not, List, [], ◌∷◌, ◌++◌, map, Contains, refl, ap, ap₂, sym, ◌∙◌, subst, inl, inr}
+use Rattle.std.proofs.Common.{◌≡◌, Bool, true, false, not, List, [], ◌∷◌, ◌++◌, Contains, sym, ◌∙◌, subst, inl, inr}
 use Rattle.std.proofs.lemmas.List.Elements.{Contains-append_cases}
-use Rattle.nf_base.specs.Text.{Block}
 use Rattle.nf_base.specs.Paths.{Branch, Hits, Misses, Makes, IsTaken, IsFull}
 use Rattle.nf_laws.proofs.Listed.{here, there, has, has_none}
 use Rattle.path_walk.specs.Tests.{TestText, Told}
-use Rattle.path_walk.specs.Feasible.{feasible_paths, branches_along}
 use Rattle.path_walk.specs.Trees.{Tree, Leaf, Free, Tested, Made, unfolded}
 use Rattle.path_walk.specs.Once.{EachOnce}
 use Rattle.path_walk.specs.Laws.{PathsAreListedOnce}

@@ -1,16 +1,16 @@
 -- The paths that a walk lists are the feasible ones.
-use Rattle.std.proofs.Common.{◌≡◌, ◌<◌, ◌≤◌, ◌+◌, arith, ℕ, zero, suc, Bool, true, false, not, List, [], ◌∷◌, ◌++◌, length, map, slice_get, Contains, Option, Some, None, if◌then◌else◌, refl, ap, ap₂, sym, ◌∙◌, subst, inl, inr}
+use Rattle.std.proofs.Common.{◌≡◌, ◌<◌, ℕ, zero, suc, Bool, true, false, not, List, [], ◌∷◌, ◌++◌, length, map, slice_get, Contains, Option, Some, None, refl, ap, ap₂, sym, ◌∙◌, subst}
 use Rattle.std.proofs.Common.{Result}
 use Rattle.std.specs.Result.{IfErr}
 use Rattle.nf_base.specs.Text.{Block}
 use Rattle.path_walk.specs.declared.fault.WalkFault.{WalkFault}
 use Rattle.path_walk.specs.declared.fault.WalkFault.TheVariants.{TooManyPaths}
 use Rattle.nf_base.specs.Paths.{Branch, Hits, Misses, Makes, IsTaken, IsFull}
-use Rattle.nf_laws.proofs.Listed.{here, there, has, has_none}
+use Rattle.nf_laws.proofs.Listed.{here, there}
 use Rattle.path_walk.specs.declared.line.Line.{Line}
 use Rattle.path_walk.specs.declared.line.Line.TheVariants as line
 use Rattle.path_walk.specs.Tests.{TestText, Told}
-use Rattle.path_walk.specs.Feasible.{equals_of, differ, feasible_paths, branches_along}
+use Rattle.path_walk.specs.Feasible.{equals_of, feasible_paths, branches_along}
 use Rattle.std.proofs.lemmas.List.{length-map}
 use Rattle.path_walk.specs.declared.test.Text.{Text}
 use Rattle.path_walk.specs.Layout.{IsLaidOut}

@@ -1,18 +1,17 @@
 -- The feasible paths of a block, from what the tests so far said.
-use Rattle.std.proofs.Common.{◌≡◌, ◌⊎◌, ℕ, Bool, true, false, not, ◌&&◌, List, [], ◌∷◌, ◌++◌, map, Contains, Option, Some, None, cond, if◌then◌else◌, refl, ap, ap₂, sym, ◌∙◌, subst, inl, inr}
+use Rattle.std.proofs.Common.{◌≡◌, ℕ, Bool, true, false, not, ◌&&◌, List, [], ◌∷◌, ◌++◌, map, Contains, Option, Some, None, cond, if◌then◌else◌, refl, ap, ap₂, sym, ◌∙◌, subst, inl, inr}
 use Rattle.std.specs.List.{filter, list_any}
-use Rattle.std.proofs.lemmas.Bool.{and_parts, cases_Bool}
+use Rattle.std.proofs.lemmas.Bool.{and_parts}
 use Rattle.std.proofs.lemmas.List.{map-append}
 use Rattle.nf_base.specs.declared.expr.Comparison.{Comparison}
-use Rattle.nf_base.specs.Text.{Expression, Ending, FallsOff, Flood, Discard, Forward, Operation, Question, Get, Find, Test, Creation, Block, End, Do, Ask, Make}
-use Rattle.nf_base.specs.Paths as text
-use Rattle.nf_base.specs.Paths.{Branch, Hits, Misses, Makes, IsTaken, IsFull, PathStep, Doing, Asking, Making, Closing, each_after, paths}
+use Rattle.nf_base.specs.Text.{Expression, FallsOff, Flood, Discard, Forward, Question, Get, Find, Test, Block, End, Do, Ask, Make}
+use Rattle.nf_base.specs.Paths.{Branch, Hits, Misses, Makes, IsTaken, IsFull, PathStep, Doing, Asking, Making, each_after, paths}
 use Rattle.nf_laws.specs.Paths.{of_packet}
 use Rattle.nf_laws.proofs.Listed.{here, there, has, has_none}
-use Rattle.path_walk.specs.Tests.{TestText, Told, told, test_of, test_in_front, tests, sign_of, is_exchanged, is_hit, flipped}
-use Rattle.path_walk.specs.Feasible.{contradicts, is_consistent, is_feasible, feasible_paths, branches_along}
-use Rattle.path_walk.specs.Trees.{Tree, Leaf, Free, Tested, Made, text_of, asking, ending_tree, unfolded}
-use Rattle.path_walk.proofs.Agreeing.{Agree, AllAgree, agree_of, agree_back, agree_itself, none_contradicts, any_none, none_of, all_agree, consistent, never_true}
+use Rattle.path_walk.specs.Tests.{TestText, Told, told, test_of, test_in_front, tests, is_exchanged, flipped}
+use Rattle.path_walk.specs.Feasible.{contradicts, is_feasible, feasible_paths, branches_along}
+use Rattle.path_walk.specs.Trees.{Tree, Leaf, Free, Tested, Made, text_of, asking, unfolded}
+use Rattle.path_walk.proofs.Agreeing.{Agree, AllAgree, agree_of, agree_back, agree_itself, none_contradicts, any_none, none_of, all_agree, consistent}
 
 -- whether a test goes so after those before it, the last one first
 abbrev pub goes : List Told → Told → Bool

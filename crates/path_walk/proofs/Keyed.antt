@@ -1,11 +1,11 @@
 -- A map by tokens, and the texts that it numbers.
-use Rattle.std.proofs.Common.{◌≡◌, ◌<◌, ◌≤◌, ◌+◌, arith, ℕ, Bool, true, false, cond, List, [], ◌∷◌, ◌++◌, length, map, get_or, Option, Some, None, Vec, Global, refl, ap, ap₂, sym, ◌∙◌, subst, inl, inr}
+use Rattle.std.proofs.Common.{◌≡◌, ◌<◌, ◌+◌, arith, ℕ, true, cond, List, [], ◌∷◌, ◌++◌, length, Option, Some, None, Vec, Global, refl, ap, sym, ◌∙◌, inl, inr}
 use Rattle.std.specs.Str.{bytes_eq}
 use Rattle.std.proofs.lemmas.Slice.Eq.{bytes_eq-Decides}
 use Rattle.std.proofs.lemmas.Bool.{cases_Bool, cases_lt}
 use Rattle.std.proofs.lemmas.List.{append-nil, length_push, get_or_append_left, get_or_push}
 use Rattle.path_walk.specs.Tests.{TestText, test_tokens}
-use Rattle.path_walk.specs.Numbering.{no_text, text_at, AreApart, Finds, IsNumber}
+use Rattle.path_walk.specs.Numbering.{no_text, text_at, Finds, IsNumber}
 use Rattle.path_walk.proofs.Texts.{one_text}
 
 abbrev pub Find : Type 0

@@ -1,15 +1,15 @@
 -- What is laid out, a statement at a time.
-use Rattle.std.proofs.Common.{◌≡◌, ◌<◌, ◌≤◌, arith, ℕ, Bool, true, false, ◌&&◌, List, [], ◌∷◌, ◌++◌, map, length, if◌then◌else◌, Result, refl, ap, ap₂, sym, ◌∙◌, subst}
+use Rattle.std.proofs.Common.{◌≡◌, ◌<◌, arith, ℕ, Bool, true, false, ◌&&◌, List, [], ◌∷◌, ◌++◌, length, if◌then◌else◌, Result, refl, ap, ap₂, sym, ◌∙◌, subst}
 use Rattle.std.specs.Result.{IfOk}
 use Rattle.std.proofs.lemmas.Result.{IfOk-weaker}
 use Rattle.std.proofs.lemmas.List.{length_push}
-use Rattle.nf_base.specs.Text.{Ending, FallsOff, Flood, Discard, Forward, Question, Get, Find, Test, Creation, Block, End, Do, Ask, Make}
-use Rattle.nf_base.specs.Laid.{before, laid}
+use Rattle.nf_base.specs.Text.{Question, Get, Find, Test, Block, End, Do, Ask, Make}
+use Rattle.nf_base.specs.Laid.{before}
 use Rattle.nf_laws.specs.Paths.{of_packet}
 use Rattle.path_walk.specs.declared.line.Line.{Line}
 use Rattle.path_walk.specs.declared.line.Line.TheVariants as line
 use Rattle.path_walk.specs.Tests.{TestText, is_exchanged}
-use Rattle.path_walk.specs.Trees.{Tree, Leaf, Free, Tested, Made, text_of, asking, ending_tree, unfolded}
+use Rattle.path_walk.specs.Trees.{Tree, Leaf, Free, Tested, Made, text_of, asking, unfolded}
 use Rattle.path_walk.specs.Lines.{child, grown, trees, tree_at, IsBelow, IsLaid, Keeps}
 use Rattle.path_walk.specs.Layout.{question_line, statement_tree, IsPut, IsLaidOut}
 use Rattle.path_walk.proofs.Lines.{keeps_itself, keeps_both, keeps_push, tree_push}

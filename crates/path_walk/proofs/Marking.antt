@@ -1,19 +1,18 @@
 -- The marks of texts say what the tests so far say.
-use Rattle.std.proofs.Common.{◌≡◌, ◌≢◌, ◌<◌, ◌≤◌, ◌+◌, ◌⊎◌, arith, ℕ, zero, suc, Bool, true, false, not, ◌==◌, eqb-true, eq-eqb, List, [], ◌∷◌, ◌++◌, length, map, get_or, slice_set, replicate, Contains, Option, Some, None, if◌then◌else◌, refl, ap, ap₂, sym, ◌∙◌, subst, inl, inr}
-use Rattle.std.proofs.lemmas.Bool.{cases_Bool, cases_eq, cases_lt}
+use Rattle.std.proofs.Common.{◌≡◌, ◌≢◌, ◌<◌, arith, ℕ, zero, suc, Bool, true, false, not, ◌==◌, eqb-true, eq-eqb, List, [], ◌∷◌, length, map, get_or, replicate, Contains, Option, Some, None, if◌then◌else◌, refl, ap, ap₂, sym, ◌∙◌, subst, inl, inr}
+use Rattle.std.proofs.lemmas.Bool.{cases_eq, cases_lt}
 use Rattle.std.proofs.lemmas.List.{length-set, length-replicate, get_or-set_same, get_or-set_other, get_or-replicate, get_or_past}
 use Rattle.nf_base.specs.declared.packet.Field.{Field}
 use Rattle.nf_base.specs.declared.packet.Field.TheVariants.{Time, Length, SrcMac, DstMac, SrcIp, DstIp, Proto, Ttl, SrcPort, DstPort}
-use Rattle.nf_base.specs.Paths.{Branch, Hits, Misses, Makes, IsTaken, IsFull}
 use Rattle.nf_laws.proofs.Listed.{here, there, has, has_none}
 use Rattle.path_walk.specs.declared.test.FieldIs.{FieldIs}
 use Rattle.path_walk.specs.declared.known.Mark.TheVariants.{Unknown}
 use Rattle.path_walk.specs.Tests.{TestText, Told, field_number}
-use Rattle.path_walk.specs.Feasible.{equals_of, differ}
+use Rattle.path_walk.specs.Feasible.{equals_of}
 use Rattle.path_walk.specs.Numbering.{text_at, AreApart}
 use Rattle.path_walk.specs.Known.{Marks, mark_seen, nothing_known, mark_at, number_at, is_other, excludes, with_number, told_mark}
 use Rattle.path_walk.proofs.Texts.{one_field}
-use Rattle.path_walk.proofs.Agreeing.{is, number_in, Agree, never_true}
+use Rattle.path_walk.proofs.Agreeing.{is, never_true}
 use Rattle.path_walk.proofs.Fitting.{tell, goes, goes_where, goes_is}
 
 pub record Says (before : List Told) (field : Field) (k : ℕ) : Type 0 where

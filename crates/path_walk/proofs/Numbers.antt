@@ -1,5 +1,5 @@
 -- Lines with numbers, as texts come behind others.
-use Rattle.std.proofs.Common.{◌≡◌, ◌<◌, ◌≤◌, ◌+◌, arith, ℕ, Bool, List, [], ◌∷◌, ◌++◌, length, map, Contains, refl, ap, ap₂, sym, ◌∙◌, subst, inl, inr}
+use Rattle.std.proofs.Common.{◌≡◌, ◌<◌, ◌≤◌, arith, ℕ, Bool, List, [], ◌∷◌, ◌++◌, length, map, Contains, refl, ap, ap₂, sym, ◌∙◌, subst, inl, inr}
 use Rattle.std.proofs.lemmas.List.{append-nil, length-append, get_or_append_left, map-append}
 use Rattle.std.proofs.lemmas.List.Elements.{Contains-append_cases}
 use Rattle.nf_laws.proofs.Listed.{here, there, has, has_none}

@@ -1,5 +1,5 @@
 -- The path that a packet takes is feasible, since each test on it goes as the packet's fields say.
-use Rattle.std.proofs.Common.{◌≡◌, ◌<◌, ◌≤◌, arith, ℕ, Bool, true, false, ◌==◌, ◌&&◌, nat_lt, nat_le, not, cond, eqb-true, ◌⊎◌, List, [], ◌∷◌, Contains, Option, Some, None, IsSome, slice_get, if◌then◌else◌, map, refl, ap, ap₂, sym, ◌∙◌, subst, inl, inr}
+use Rattle.std.proofs.Common.{◌≡◌, ◌<◌, ◌≤◌, arith, ℕ, Bool, true, false, ◌==◌, ◌&&◌, nat_lt, nat_le, not, cond, eqb-true, ◌⊎◌, List, [], ◌∷◌, Contains, Option, Some, None, IsSome, slice_get, if◌then◌else◌, map, refl, ap, sym, ◌∙◌, subst, inl, inr}
 use Rattle.std.specs.List.{filter}
 use Rattle.std.proofs.lemmas.Bool.{and_parts, cases_Bool, ltb-true, ltb-false, le-leb, leb-true}
 use Rattle.nf_base.specs.declared.packet.Field.{Field}
@@ -8,14 +8,14 @@ use Rattle.nf_base.specs.declared.packet.Fields.{Fields}
 use Rattle.nf_base.specs.declared.state.State.{State}
 use Rattle.nf_base.specs.declared.expr.Comparison.{Comparison}
 use Rattle.nf_base.specs.declared.expr.Comparison.TheVariants as comparison
-use Rattle.nf_base.specs.Text.{Expression, Number, Read, Index, Label, Column, Cell, Both, Get, Find, Test, Block, Function}
+use Rattle.nf_base.specs.Text.{Expression, Number, Read, Get, Find, Test, Block, Function}
 use Rattle.nf_base.specs.Values.{compares}
 use Rattle.nf_base.specs.Context.{Context, Input, value}
 use Rattle.nf_base.specs.Operations.{Stops, never}
 use Rattle.nf_base.specs.Paths.{PathStep, Branch, Doing, Asking, Making, Closing, Outcome, outcomes_along, paths}
 use Rattle.nf_base.specs.Course.{route}
-use Rattle.nf_base.specs.Record.{test_branch, outcomes}
-use Rattle.nf_base.specs.Step.{StepResult, step, recorded, path_taken, input, start_context, routes, route_of, step_of, step_result, completes}
+use Rattle.nf_base.specs.Record.{test_branch}
+use Rattle.nf_base.specs.Step.{StepResult, path_taken, input, start_context, routes, route_of, step_of, step_result, completes}
 use Rattle.nf_laws.proofs.Legal.{steps_legal}
 use Rattle.nf_laws.specs.Paths.{of_packet}
 use Rattle.nf_laws.proofs.Listed.{here, there, has, has_none}
@@ -26,7 +26,7 @@ use Rattle.path_walk.specs.declared.test.Sign.TheVariants.{Equal, Less, AtMost}
 use Rattle.path_walk.specs.Tests.{TestText, Told, told, test_of, test_in_front, tests, sign_of, is_exchanged, is_hit, flipped}
 use Rattle.path_walk.specs.Laws.{PacketsTakeFeasiblePaths, OutcomesAreListed}
 use Rattle.path_walk.specs.declared.test.FieldIs.{FieldIs}
-use Rattle.path_walk.specs.Feasible.{handler_paths, port_paths, field_is, equals_of, is_feasible, feasible_paths, branches, branches_along}
+use Rattle.path_walk.specs.Feasible.{handler_paths, port_paths, field_is, is_feasible, feasible_paths}
 use Rattle.path_walk.proofs.Agreeing.{is, number_in, Agree, consistent}
 
 -- whether a test holds, so brought

@@ -14,11 +14,11 @@ use Rattle.path_walk.specs.declared.line.Line.TheVariants as line
 use Rattle.path_walk.specs.Tests.{TestText}
 use Rattle.path_walk.specs.Feasible.{differ, equals_of}
 use Rattle.path_walk.specs.Trees.{Tree, Leaf, Free, Tested, Made}
-use Rattle.path_walk.specs.Lines.{child, grown, trees, tree_at, IsBelow, IsLaid}
+use Rattle.path_walk.specs.Lines.{child, grown, trees, tree_at, IsLaid}
 use Rattle.path_walk.proofs.Lines.{length_trees, tree_is}
 use Rattle.path_walk.specs.Known.{Marks, known_seen, mark_at, excludes, told_mark}
 use Rattle.path_walk.specs.Branches.{branch_seen}
-use Rattle.path_walk.specs.Walks.{ahead, behind, one_way, tested, leaves, paths_at, paths_of, paths_waiting, paths_left, Went, Waits, test_leaves, TestGoesOn, GoesOn, Steps, WalksOn, WalkEnds, Advances}
+use Rattle.path_walk.specs.Walks.{ahead, behind, one_way, tested, leaves, paths_at, paths_of, paths_waiting, paths_left, Went, Waits, TestGoesOn, GoesOn, Steps, WalksOn, WalkEnds, Advances}
 use Rattle.path_walk.specs.declared.walk.NumberedTest.{NumberedTest}
 use Rattle.path_walk.specs.declared.known.Known.{Known}
 use Rattle.path_walk.specs.Numbering.{text_at}

@@ -2,7 +2,7 @@
 use Rattle.std.specs.Prelude.{◌≡◌, ℕ, Bool, true, false, ◌&&◌, ◌||◌, ◌==◌, not, List, [], ◌∷◌, Option, Some, None, Contains, map, slice_get}
 use Rattle.std.specs.List.{filter, list_any}
 use Rattle.nf_base.specs.declared.packet.Field.{Field}
-use Rattle.nf_base.specs.Text.{Expression, Number, Read, Index, Label, Column, Cell, Both, Block, Function}
+use Rattle.nf_base.specs.Text.{Expression, Number, Read, Block, Function}
 use Rattle.nf_base.specs.Paths.{Branch, PathStep, paths, Outcome, outcomes_along}
 use Rattle.path_walk.specs.declared.test.Sign.{Sign}
 use Rattle.path_walk.specs.declared.test.Sign.TheVariants.{Equal, Less, AtMost}

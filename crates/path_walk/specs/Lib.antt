@@ -2,6 +2,7 @@ pub mod Tests
 pub mod Feasible
 pub mod Once
 pub mod Laws
+pub mod Rows
 pub mod Seen
 pub mod Trees
 pub mod Lines

@@ -1,5 +1,5 @@
 -- Lines, each of which goes on at earlier ones, and the trees that they stand for.
-use Rattle.std.specs.Prelude.{◌≡◌, ◌<◌, ◌≤◌, ℕ, Bool, List, [], ◌∷◌, ◌++◌, length, get_or, slice_get, Some}
+use Rattle.std.specs.Prelude.{◌≡◌, ◌<◌, ◌≤◌, ℕ, List, [], ◌∷◌, ◌++◌, length, get_or, slice_get, Some}
 use Rattle.path_walk.specs.declared.line.Line.{Line}
 use Rattle.path_walk.specs.declared.line.Line.TheVariants as line
 use Rattle.path_walk.specs.Trees.{Tree, Leaf, Free, Tested, Made}

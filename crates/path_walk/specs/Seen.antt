@@ -1,5 +1,5 @@
 -- What texts and lines stand for.
-use Rattle.std.specs.Prelude.{ℕ, List, map}
+use Rattle.std.specs.Prelude.{List, map}
 use Rattle.nf_base.specs.View.{expression_of}
 use Rattle.path_walk.specs.declared.test.Text.{Text}
 use Rattle.path_walk.specs.declared.line.Line.{Line}

@@ -1,5 +1,5 @@
 -- A block as a tree of its branchings, and lines as trees.
-use Rattle.std.specs.Prelude.{◌≡◌, ◌<◌, ◌≤◌, ℕ, Bool, ◌&&◌, List, [], ◌∷◌, ◌++◌, length, get_or, slice_get, Some, if◌then◌else◌}
+use Rattle.std.specs.Prelude.{Bool, ◌&&◌, if◌then◌else◌}
 use Rattle.nf_base.specs.declared.expr.Comparison.{Comparison}
 use Rattle.nf_base.specs.Text.{Expression, Ending, FallsOff, Flood, Discard, Forward, Question, Get, Find, Test, Block, End, Do, Ask, Make}
 use Rattle.nf_laws.specs.Paths.{of_packet}

@@ -1,5 +1,6 @@
 //! Laws of tests and paths. Each function's contract is a law; its body does nothing.
-ghost use Rattle.path_walk.specs.Laws.{TextsAreTheirTokens, FeasibleIs, IsFeasibleWhere, PacketsTakeFeasiblePaths, OutcomesAreListed};
+ghost use Rattle.path_walk.specs.Laws.{TextsAreTheirTokens, FeasibleIs, IsFeasibleWhere, PacketsTakeFeasiblePaths, OutcomesAreListed, PathsAreListedOnce};
+ghost use Rattle.path_walk.specs.Rows.{PathsBranchAs};
 
 /// Tests of one text have the same sign and the same sides.
 pub fn texts_are_their_tokens()
@@ -17,4 +18,14 @@ pub fn feasible_paths_go_one_way()
 pub fn packets_take_feasible_paths()
     ensures paths { PacketsTakeFeasiblePaths }
     ensures outcomes { OutcomesAreListed }
+{}
+
+/// No two feasible paths of a block branch alike, so how a path branches says which one it is.
+pub fn paths_branch_apart()
+    ensures { PathsAreListedOnce }
+{}
+
+/// How the paths of some small blocks branch, worked out by hand.
+pub fn small_blocks_branch_so()
+    ensures { PathsBranchAs }
 {}

@@ -1,4 +1,4 @@
-use Rattle.std.proofs.Common.{◌≡◌, ◌∙◌, ◌≤◌, ◌<◌, ◌-◌, ◌++◌, ◌∷◌, [], Bor, List, length, sym, ap, subst, map, vec_len}
+use Rattle.std.proofs.Common.{◌∙◌, ◌≤◌, ◌-◌, ◌++◌, ◌∷◌, [], Bor, List, length, sym, ap, subst, map, vec_len}
 use Rattle.std.specs.List.{All}
 use Rattle.std.proofs.lemmas.List.Elements.{All-take}
 use Rattle.nf_base.specs.declared.block.Block.{Block, size-Block}
@@ -10,7 +10,7 @@ use Rattle.path_walk.specs.Tests.{TestText}
 use Rattle.path_walk.specs.Seen.{lines_seen, line_map, text_seen}
 use Rattle.path_walk.specs.Trees.{unfolded, asking}
 use Rattle.path_walk.specs.Lines.{tree_at}
-use Rattle.path_walk.specs.Layout.{IsLaidOut, question_line}
+use Rattle.path_walk.specs.Layout.{IsLaidOut}
 use Rattle.path_walk.proofs.LaidOut.{one_statement, if_put, ask_lines, make_lines}
 use Rattle.path_walk.proofs.laying.+laying.Goals as goal
 

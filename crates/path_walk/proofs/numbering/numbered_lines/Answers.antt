@@ -1,8 +1,7 @@
-use Rattle.std.proofs.Common.{◌≡◌, ◌+◌, ◌++◌, ◌∷◌, [], List, length, map, take, ap, sym, subst, ◌∙◌}
+use Rattle.std.proofs.Common.{◌≡◌, ◌+◌, ◌++◌, ◌∷◌, [], map, take, ap, sym, subst, ◌∙◌}
 use Rattle.std.proofs.lemmas.List.{map-append, take_more}
 use Rattle.path_walk.specs.declared.line.Line.{Line}
 use Rattle.path_walk.specs.declared.test.Text.{Text}
-use Rattle.path_walk.specs.Tests.{TestText}
 use Rattle.path_walk.specs.Seen.{text_seen, line_map, lines_seen}
 use Rattle.path_walk.specs.Numbering.{AreNumbered}
 use Rattle.path_walk.proofs.Numbers.{one_line}

@@ -1,11 +1,10 @@
-use Rattle.std.proofs.Common.{◌≡◌, ◌∙◌, ◌<◌, ◌++◌, ◌∷◌, [], List, map, length, ap, sym, subst}
+use Rattle.std.proofs.Common.{◌≡◌, ◌∙◌, ◌++◌, ◌∷◌, [], List, map, length, ap, subst}
 use Rattle.std.proofs.lemmas.List.{length-map}
 use Rattle.std.proofs.lemmas.Result.{IfOk-weaker}
 use Rattle.nf_base.specs.View.{block_of}
 use Rattle.path_walk.specs.declared.line.Line.{Line}
 use Rattle.path_walk.specs.declared.line.Line.TheVariants as line
 use Rattle.path_walk.specs.declared.test.Text.{Text}
-use Rattle.path_walk.specs.declared.fault.WalkFault.TheVariants.{TooManyPaths}
 use Rattle.path_walk.specs.Seen.{lines_seen, text_seen}
 use Rattle.path_walk.specs.Lines.{tree_at}
 use Rattle.path_walk.specs.Numbering.{AreNumbered}

@@ -1,4 +1,4 @@
-use Rattle.std.proofs.Common.{◌≡◌, ◌∙◌, ◌≤◌, [], List, map, length, arith, ap, sym}
+use Rattle.std.proofs.Common.{◌≡◌, ◌∙◌, map, length, arith, ap, sym}
 use Rattle.std.proofs.lemmas.Result.{IfOk-weaker}
 use Rattle.nf_base.specs.View.{block_of}
 use Rattle.nf_base.specs.Functions.{function_of}

@@ -1,7 +1,6 @@
-use Rattle.std.proofs.Common.{Bool, ℕ, [], List, map, length, vec_len, arith, ap, subst}
+use Rattle.std.proofs.Common.{[], List, map, arith, subst}
 use Rattle.std.proofs.lemmas.Result.{IfOk-weaker}
 use Rattle.path_walk.specs.Seen.{text_seen}
-use Rattle.path_walk.specs.Tests.{TestText}
 use Rattle.path_walk.specs.Lines.{trees}
 use Rattle.path_walk.specs.Walks.{Steps, Advances}
 use Rattle.path_walk.proofs.Walking.{ends_past, at_line, got}

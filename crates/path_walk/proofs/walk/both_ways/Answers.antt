@@ -1,4 +1,4 @@
-use Rattle.std.proofs.Common.{None, List, ap, ◌∙◌}
+use Rattle.std.proofs.Common.{None, ap, ◌∙◌}
 use Rattle.path_walk.specs.Known.{Marks, told_mark}
 use Rattle.std.proofs.lemmas.Result.{IfOk-weaker}
 use Rattle.nf_base.specs.Paths.{Hits}

@@ -1,4 +1,4 @@
-use Rattle.std.proofs.Common.{◌≡◌, ◌∙◌, ◌≤◌, [], map, length, vec_len, arith}
+use Rattle.std.proofs.Common.{◌∙◌, [], map, arith}
 use Rattle.path_walk.specs.Seen.{text_seen}
 use Rattle.path_walk.specs.Lines.{trees}
 use Rattle.path_walk.specs.Walks.{paths_left}

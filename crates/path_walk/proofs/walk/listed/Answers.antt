@@ -1,4 +1,4 @@
-use Rattle.std.proofs.Common.{◌≡◌, ◌∙◌, ◌≤◌, ◌+◌, ◌-◌, ◌<◌, ◌++◌, ◌∷◌, [], map, length, vec_len, arith, ap, refl}
+use Rattle.std.proofs.Common.{◌≡◌, ◌∙◌, ◌+◌, ◌-◌, ◌<◌, ◌++◌, ◌∷◌, [], map, length, vec_len, arith, ap}
 use Rattle.path_walk.specs.Seen.{text_seen}
 use Rattle.path_walk.specs.Lines.{trees, tree_at}
 use Rattle.path_walk.specs.Known.{nothing_known}

@@ -1,5 +1,5 @@
 use Rattle.std.proofs.Common.{◌∙◌, map, ap, ap₂}
-use Rattle.path_walk.specs.Known.{Marks, mark_seen}
+use Rattle.path_walk.specs.Known.{mark_seen}
 use Rattle.path_walk.proofs.Marking.{none_known, marks_of}
 use Rattle.path_walk.proofs.known.Known.new.Goals as goal
 
