@@ -10,6 +10,7 @@ use Rattle.nf_base.specs.Paths.{Branch, PathStep, outcomes_along}
 use Rattle.nf_base.specs.Record.{outcomes}
 use Rattle.nf_base.specs.Step.{StepResult, step, recorded}
 use Rattle.path_walk.specs.Feasible.{handler_paths, port_paths, feasible_paths, branches, branches_along}
+use Rattle.path_walk.specs.Listed.{HasEachTaken}
 use Rattle.path_walk.specs.Once.{EachOnce}
 use Rattle.path_walk.proofs.Taken.{mapped, outcomes_listed}
 use Rattle.path_walk.proofs.Apart.{listed_once}
@@ -27,15 +28,11 @@ no_port [] port w = refl
 no_port (x ∷ hs) zero w = absurd (omega arith)
 no_port (x ∷ hs) (suc port) w = no_port hs port (omega arith)
 
-abbrev pub AllTaken : Function → ℕ → List (List Branch) → Type 0
-AllTaken f port all = (s : State) (packet : Packet) (fields : Fields) (choices : List ℕ) (r : StepResult) → packet.fields ≡ Some fields → packet.id.port ≡ port → step f s packet choices ≡ Some r →
-    Contains all (branches (outcomes (recorded f s packet choices)))
-
 map_twice : (xs : List (List PathStep)) → map branches (map outcomes_along xs) ≡ map branches_along xs
 map_twice [] = refl
 map_twice (x ∷ xs) = ap (λ ys. branches_along x ∷ ys) (map_twice xs)
 
-pub all_taken : (f : Function) (port : ℕ) (all : List (List Branch)) → all ≡ map branches_along (port_paths f port) → AllTaken f port all
+pub all_taken : (f : Function) (port : ℕ) (all : List (List Branch)) → all ≡ map branches_along (port_paths f port) → HasEachTaken f port all
 all_taken f port all e s packet fields choices r h at step =
     subst (λ (xs : List (List Branch)). Contains xs (branches (outcomes (recorded f s packet choices))))
     (map_twice (port_paths f packet.id.port) ∙ ap (λ n. map branches_along (port_paths f n)) at ∙ sym e)

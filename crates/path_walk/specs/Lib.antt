@@ -3,6 +3,7 @@ pub mod Feasible
 pub mod Once
 pub mod Laws
 pub mod Rows
+pub mod Listed
 pub mod Seen
 pub mod Trees
 pub mod Lines

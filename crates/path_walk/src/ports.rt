@@ -1,15 +1,9 @@
 //! The feasible paths of a port.
-ghost use Rattle.std.specs.Prelude.{◌≡◌, ◌≤◌, ◌<◌, IfOk, IfErr, List, ℕ, Some, map, length, vec_len, Contains};
+ghost use Rattle.std.specs.Prelude.{◌≡◌, ◌≤◌, IfOk, OnOk, IfErr, length};
 ghost use Rattle.nf_base.specs.View.{block_of};
 ghost use Rattle.nf_base.specs.Functions.{function_of};
-ghost use Rattle.nf_base.specs.declared.packet.Packet.{Packet};
-ghost use Rattle.nf_base.specs.declared.packet.Fields.{Fields};
-ghost use Rattle.nf_base.specs.declared.state.State.{State};
-ghost use Rattle.nf_base.specs.Record.{outcomes};
-ghost use Rattle.nf_base.specs.Step.{StepResult, step, recorded};
-ghost use Rattle.path_walk.specs.declared.fault.WalkFault.TheVariants.{TooManyPaths};
-ghost use Rattle.path_walk.specs.Feasible.{feasible_paths, port_paths, branches, branches_along};
 ghost use Rattle.path_walk.specs.Once.{EachOnce};
+ghost use Rattle.path_walk.specs.Listed.{block_branches, port_branches, IsCause, HasEachTaken};
 
 use crate::fault::WalkFault;
 use crate::laying::block_lines;
@@ -22,9 +16,9 @@ use std::alloc::Global;
 
 /// The feasible paths of a block that stands alone, in text order.
 pub fn block_paths(alloc: Global, block: &Block) -> Result<Vec<Path>, WalkFault>
-    ensures all { IfOk result (λ all. all.items ≡ map branches_along (feasible_paths (block_of block.now))) }
-    ensures most { IfOk result (λ all. vec_len all ≤ 4096) }
-    ensures many { IfErr result (λ fault. fault ≡ TooManyPaths → 4096 < length (feasible_paths (block_of block.now))) }
+    ensures all { IfOk result (λ all. all.items ≡ block_branches (block_of block.now)) }
+    ensures most { IfOk result (λ all. length all.items ≤ 4096) }
+    ensures many { IfErr result (IsCause (block_branches (block_of block.now))) }
 {
     let mut lines = Vec::new(alloc);
     lines.push(Line::Stop)?;
@@ -39,13 +33,13 @@ pub fn block_paths(alloc: Global, block: &Block) -> Result<Vec<Path>, WalkFault>
 /// The work is bounded by the paths times the length of a path, and by the text's length times its
 /// logarithm.
 pub fn paths(alloc: Global, func: &Func, port: u32) -> Result<Vec<Path>, WalkFault>
-    ensures all { IfOk result (λ all. all.items ≡ map branches_along (port_paths (function_of func.now) port)) }
+    ensures all { IfOk result (λ all. all.items ≡ port_branches (function_of func.now) port) }
     ensures once { IfOk result (λ all. EachOnce all.items) }
     // More than 4,096 are refused, and no fewer.
-    ensures most { IfOk result (λ all. length (port_paths (function_of func.now) port) ≤ 4096) }
-    ensures many { IfErr result (λ fault. fault ≡ TooManyPaths → 4096 < length (port_paths (function_of func.now) port)) }
-    // A packet of this port that has a step, at any state, branches as one of them.
-    ensures taken { IfOk result (λ all. (s : State) (packet : Packet) (fields : Fields) (choices : List ℕ) (r : StepResult) → packet.fields ≡ Some fields → packet.id.port ≡ port → step (function_of func.now) s packet choices ≡ Some r → Contains all.items (branches (outcomes (recorded (function_of func.now) s packet choices)))) }
+    ensures most { OnOk result (length (port_branches (function_of func.now) port) ≤ 4096) }
+    ensures many { IfErr result (IsCause (port_branches (function_of func.now) port)) }
+    // What a packet of this port does, at any state and with any choices, is one of them.
+    ensures taken { IfOk result (λ all. HasEachTaken (function_of func.now) port all.items) }
 {
     if port < func.handlers.len() {
         block_paths(alloc, &func.handlers.item(port).block)

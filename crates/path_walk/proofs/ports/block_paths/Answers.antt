@@ -41,5 +41,5 @@ returns-clause-many c =
     let start : old ≡ line.Stop ∷ [] = c.in_ok-push.ensures.items ∙ ap (λ ls. ls ++ line.Stop ∷ []) c.new-lines.ensures.items in
     let n = subst (λ (ls : List (Line Text)). AreNumbered (lines_seen ls) (map text_seen all.texts.items) all.lines.items) c.as_slice.ensures.value c.in_ok-numbered.ensures.lines in
     let same = listed_are block old new all.texts.items all.lines.items c.in_ok-at.at start c.in_ok-at.ensures n c.in_ok-numbered.ensures.apart in
-    if_many c.listed.result (length (leaves (map text_seen all.texts.items) (tree_at all.lines.items c.in_ok-at.at) (nothing_known (length all.texts.items)))) (length (feasible_paths block))
-    (ap length same ∙ length-map (feasible_paths block) branches_along) c.listed.ensures.many
+    if_many c.listed.result (length (leaves (map text_seen all.texts.items) (tree_at all.lines.items c.in_ok-at.at) (nothing_known (length all.texts.items)))) (length (map branches_along (feasible_paths block)))
+    (ap length same) c.listed.ensures.many
