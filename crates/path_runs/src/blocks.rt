@@ -1,3 +1,5 @@
+//! Blocks that are made up, from their ends on.
+
 use nf_base::block::{Block, Ending, Question};
 use nf_base::expr::{Comparison, Expr};
 use nf_base::packet::Field;
@@ -24,11 +26,11 @@ fn test(
     })
 }
 
-/// So many tests, of so many texts in turn.
-pub fn same(alloc: Global, tests: u64, texts: u64) -> Result<Block, AllocError> {
+/// So many tests, of so many texts in turn: the source port below 0, 1 and so on.
+pub fn tests(alloc: Global, count: u64, texts: u64) -> Result<Block, AllocError> {
     let mut block = Block::End(Ending::Flood);
     if texts > 0 {
-        for k in 0..tests {
+        for k in 0..count {
             block = test(
                 alloc,
                 Comparison::Less,
@@ -41,10 +43,10 @@ pub fn same(alloc: Global, tests: u64, texts: u64) -> Result<Block, AllocError> 
     Ok(block)
 }
 
-/// Tests of one field against so many numbers.
-pub fn apart(alloc: Global, numbers: u64) -> Result<Block, AllocError> {
+/// Tests whether a field is one of so many numbers, one after another.
+pub fn numbers(alloc: Global, count: u64) -> Result<Block, AllocError> {
     let mut block = Block::End(Ending::Flood);
-    for k in 0..numbers {
+    for k in 0..count {
         block = test(
             alloc,
             Comparison::Equal,
@@ -54,11 +56,6 @@ pub fn apart(alloc: Global, numbers: u64) -> Result<Block, AllocError> {
         )?;
     }
     Ok(block)
-}
-
-/// Tests of one field against so many bounds.
-pub fn below(alloc: Global, bounds: u64) -> Result<Block, AllocError> {
-    same(alloc, bounds, bounds)
 }
 
 /// Blocks that are open in one another, so many deep.

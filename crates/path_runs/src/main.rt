@@ -4,7 +4,7 @@
 
 mod blocks;
 
-use blocks::{apart, below, nested, same};
+use blocks::{nested, numbers, tests};
 use nf_base::block::Block;
 use path_walk::{WalkFault, block_paths};
 use std::alloc::{AllocError, Global};
@@ -29,40 +29,39 @@ fn main(rt: HostRuntime) -> io::Result<()> {
     print_count(
         &rt,
         "131072 tests of one text",
-        count(alloc, same(alloc, 131_072, 1)),
+        count(alloc, tests(alloc, 131_072, 1)),
     )?;
-    print_count(&rt, "12 texts", count(alloc, same(alloc, 12, 12)))?;
-    print_count(&rt, "13 texts", count(alloc, same(alloc, 13, 13)))?;
+    print_count(&rt, "12 texts", count(alloc, tests(alloc, 12, 12)))?;
+    print_count(&rt, "13 texts", count(alloc, tests(alloc, 13, 13)))?;
     print_count(
         &rt,
         "40000 tests of 12 texts",
-        count(alloc, same(alloc, 40_000, 12)),
+        count(alloc, tests(alloc, 40_000, 12)),
     )?;
     print_count(
         &rt,
-        "131072 tests of 12 texts",
-        count(alloc, same(alloc, 131_072, 12)),
+        "100000 texts",
+        count(alloc, tests(alloc, 100_000, 100_000)),
     )?;
     print_count(
         &rt,
-        "131072 tests of 131072 texts",
-        count(alloc, same(alloc, 131_072, 131_072)),
+        "two numbers of a field",
+        count(alloc, numbers(alloc, 2)),
     )?;
-    print_count(&rt, "two numbers of a field", count(alloc, apart(alloc, 2)))?;
     print_count(
         &rt,
         "4095 numbers of a field",
-        count(alloc, apart(alloc, 4095)),
+        count(alloc, numbers(alloc, 4095)),
     )?;
     print_count(
         &rt,
         "4096 numbers of a field",
-        count(alloc, apart(alloc, 4096)),
+        count(alloc, numbers(alloc, 4096)),
     )?;
     print_count(
         &rt,
-        "forty bounds of a field",
-        count(alloc, below(alloc, 40)),
+        "40 bounds of a field",
+        count(alloc, tests(alloc, 40, 40)),
     )?;
     print_count(&rt, "64 blocks deep", count(alloc, nested(alloc, 64)))
 }
