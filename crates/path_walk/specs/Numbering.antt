@@ -6,7 +6,11 @@ use Rattle.path_walk.specs.declared.test.Sign.TheVariants.{Equal}
 use Rattle.path_walk.specs.declared.line.Line.{Line}
 use Rattle.path_walk.specs.declared.line.Line.TheVariants as line
 use Rattle.path_walk.specs.Tests.{TestText, test_tokens}
-use Rattle.path_walk.specs.Seen.{line_map}
+use Rattle.path_walk.specs.declared.numbering.Texts.{Texts}
+use Rattle.path_walk.specs.Seen.{line_map, text_seen}
+use Rattle.std.specs.BTreeMap.{get_by}
+use Rattle.std.specs.Ordering.{nat_cmp}
+use Rattle.std.specs.Cmp.Lexicographic.{slice_cmp}
 
 -- what stands past the last text
 abbrev pub no_text : TestText
@@ -51,3 +55,10 @@ pub record IsLineNumbered (old new : List TestText) (l : Line TestText) (numbere
   pub behind : new ≡ old ++ more
   pub same : line_map (text_at new) numbered ≡ l
   pub within : HasNumber (length new) numbered
+
+abbrev pub texts_seen : Texts → List TestText
+texts_seen t = map text_seen t.list.items
+
+-- the map of these texts finds their numbers
+abbrev pub FindsAll : Texts → Type 0
+FindsAll t = Finds (λ key. get_by (λ k. slice_cmp nat_cmp key.items k.items) t.numbers) (texts_seen t)

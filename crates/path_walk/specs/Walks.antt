@@ -1,17 +1,19 @@
 -- The paths that a walk along lines has still to list.
-use Rattle.std.specs.Prelude.{◌≡◌, ◌<◌, ℕ, Bool, true, false, not, List, [], ◌∷◌, ◌++◌, map, Option, Some, None, if◌then◌else◌}
+use Rattle.std.specs.Prelude.{◌≡◌, ◌<◌, ℕ, Bool, true, false, not, List, [], ◌∷◌, ◌++◌, map, length, Option, Some, None, if◌then◌else◌}
 use Rattle.nf_base.specs.Paths.{Branch, Hits, Misses, Makes, IsTaken, IsFull}
 use Rattle.path_walk.specs.Branches.{branch_seen}
 use Rattle.path_walk.specs.declared.line.Line.{Line}
 use Rattle.path_walk.specs.declared.line.Line.TheVariants as lines
 use Rattle.path_walk.specs.declared.walk.Walk.{Walk}
+use Rattle.path_walk.specs.declared.numbering.Numbered.{Numbered}
+use Rattle.path_walk.specs.Seen.{text_seen}
 use Rattle.path_walk.specs.declared.walk.NumberedTest.{NumberedTest}
 use Rattle.path_walk.specs.Tests.{TestText}
 use Rattle.path_walk.specs.Feasible.{equals_of, differ}
 use Rattle.path_walk.specs.Trees.{Tree, Leaf, Free, Tested, Made}
-use Rattle.path_walk.specs.Lines.{child, grown, IsBelow}
+use Rattle.path_walk.specs.Lines.{child, grown, trees, tree_at, IsBelow}
 use Rattle.path_walk.specs.Numbering.{text_at}
-use Rattle.path_walk.specs.Known.{Marks, known_seen, mark_at, excludes, told_mark}
+use Rattle.path_walk.specs.Known.{Marks, nothing_known, known_seen, mark_at, excludes, told_mark}
 
 -- a branch in front of paths
 abbrev pub ahead : Branch → List (List Branch) → List (List Branch)
@@ -110,3 +112,17 @@ pub record WalkEnds (texts : List TestText) (trees : List (Tree ℕ)) (old : Wal
 abbrev pub Advances : Bool → List TestText → List (Tree ℕ) → (old : Walk) (olds : List Walk) (new : Walk) (news : List Walk) → Type 0
 Advances true texts trees old olds new news = WalksOn texts trees old olds new news
 Advances false texts trees old olds new news = WalkEnds texts trees old olds new news
+
+-- the paths of a walk and of those that wait, along numbered lines
+abbrev pub left_along : Numbered → Walk → List Walk → List (List Branch)
+left_along n w ws = paths_left (map text_seen n.texts.items) (trees [] n.lines.items) w ws
+
+abbrev pub waiting_along : Numbered → List Walk → List (List Branch)
+waiting_along n ws = paths_waiting (map text_seen n.texts.items) (trees [] n.lines.items) ws
+
+-- the paths that begin at a line
+abbrev pub paths_from : Numbered → ℕ → List (List Branch)
+paths_from n at = leaves (map text_seen n.texts.items) (tree_at n.lines.items at) (nothing_known (length n.texts.items))
+
+abbrev pub AdvancesAlong : Numbered → (old : Walk) (olds : List Walk) (new : Walk) (news : List Walk) → Bool → Type 0
+AdvancesAlong n old olds new news goes = Advances goes (map text_seen n.texts.items) (trees [] n.lines.items) old olds new news

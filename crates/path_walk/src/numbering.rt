@@ -5,7 +5,7 @@ ghost use Rattle.std.specs.Ordering.{nat_cmp};
 ghost use Rattle.std.specs.Cmp.Lexicographic.{slice_cmp};
 ghost use Rattle.path_walk.specs.Tests.{test_tokens};
 ghost use Rattle.path_walk.specs.Seen.{text_seen, line_map, lines_seen};
-ghost use Rattle.path_walk.specs.Numbering.{Finds, IsNumber, IsLineNumbered, AreNumbered, AreApart};
+ghost use Rattle.path_walk.specs.Numbering.{texts_seen, FindsAll, IsNumber, IsLineNumbered, AreNumbered, AreApart};
 
 use crate::line::Line;
 use crate::test::Text;
@@ -23,7 +23,7 @@ pub struct Texts<'a> {
 impl<'a> Texts<'a> {
     pub fn new(alloc: Global) -> Self
         ensures list { result.list.items ≡ [] }
-        ensures finds { Finds (λ key. get_by (λ k. slice_cmp nat_cmp key.items k.items) result.numbers) [] }
+        ensures finds { FindsAll result }
     {
         Texts {
             list: Vec::new(alloc),
@@ -40,11 +40,11 @@ impl<'a> Texts<'a> {
 
     /// The next number, for a text that has none yet.
     fn add(&mut self, key: Vec<u64>, text: Text<'a>) -> Result<usize, AllocError>
-        requires finds { Finds (λ key. get_by (λ k. slice_cmp nat_cmp key.items k.items) self.old.numbers) (map text_seen self.old.list.items) }
+        requires finds { FindsAll self.old }
         requires tokens { key.items ≡ test_tokens (text_seen text) }
         requires none { get_by (λ k. slice_cmp nat_cmp key.items k.items) self.old.numbers ≡ None }
-        ensures finds { OnOk result (Finds (λ key. get_by (λ k. slice_cmp nat_cmp key.items k.items) self.new.numbers) (map text_seen self.new.list.items)) }
-        ensures number { IfOk result (λ n. IsNumber (map text_seen self.old.list.items) (map text_seen self.new.list.items) (text_seen text.entry) n) }
+        ensures finds { OnOk result (FindsAll self.new) }
+        ensures number { IfOk result (IsNumber (texts_seen self.old) (texts_seen self.new) (text_seen text.entry)) }
     {
         let number = self.list.len();
         self.list.push(text)?;
@@ -54,9 +54,9 @@ impl<'a> Texts<'a> {
 
     /// The number of a text.
     pub fn number(&mut self, alloc: Global, text: Text<'a>) -> Result<usize, AllocError>
-        requires { Finds (λ key. get_by (λ k. slice_cmp nat_cmp key.items k.items) self.old.numbers) (map text_seen self.old.list.items) }
-        ensures finds { OnOk result (Finds (λ key. get_by (λ k. slice_cmp nat_cmp key.items k.items) self.new.numbers) (map text_seen self.new.list.items)) }
-        ensures number { IfOk result (λ n. IsNumber (map text_seen self.old.list.items) (map text_seen self.new.list.items) (text_seen text.entry) n) }
+        requires { FindsAll self.old }
+        ensures finds { OnOk result (FindsAll self.new) }
+        ensures number { IfOk result (IsNumber (texts_seen self.old) (texts_seen self.new) (text_seen text.entry)) }
     {
         let key = tokens_of(alloc, &text)?;
         match self.find(&key) {
@@ -72,9 +72,9 @@ fn numbered_line<'a>(
     line: &Line<Text<'a>>,
     texts: &mut Texts<'a>,
 ) -> Result<Line<usize>, AllocError>
-    requires { Finds (λ key. get_by (λ k. slice_cmp nat_cmp key.items k.items) texts.old.numbers) (map text_seen texts.old.list.items) }
-    ensures finds { OnOk result (Finds (λ key. get_by (λ k. slice_cmp nat_cmp key.items k.items) texts.new.numbers) (map text_seen texts.new.list.items)) }
-    ensures line { IfOk result (λ l. IsLineNumbered (map text_seen texts.old.list.items) (map text_seen texts.new.list.items) (line_map text_seen line.now) l) }
+    requires { FindsAll texts.old }
+    ensures finds { OnOk result (FindsAll texts.new) }
+    ensures line { IfOk result (IsLineNumbered (texts_seen texts.old) (texts_seen texts.new) (line_map text_seen line.now)) }
 {
     match line {
         Line::Stop => Ok(Line::Stop),

@@ -8,7 +8,8 @@ ghost use Rattle.path_walk.specs.Tests.{TestText};
 ghost use Rattle.path_walk.specs.Trees.{Tree};
 ghost use Rattle.path_walk.specs.Lines.{child, trees, tree_at, IsLaid};
 ghost use Rattle.path_walk.specs.Branches.{branch_seen};
-ghost use Rattle.path_walk.specs.Walks.{ahead, behind, one_way, leaves, paths_of, paths_left, paths_waiting, Went, Waits, TestGoesOn, GoesOn, Steps, Advances};
+ghost use Rattle.path_walk.specs.Walks.{ahead, behind, one_way, leaves, paths_of, paths_left, paths_waiting, Went, Waits, TestGoesOn, GoesOn, Steps, left_along, waiting_along, paths_from, AdvancesAlong};
+ghost use Rattle.path_walk.specs.Listed.{IsCause};
 ghost use Rattle.path_walk.specs.declared.line.Line.TheVariants as lines;
 ghost use Rattle.nf_base.specs.Paths as text;
 ghost use Rattle.path_walk.specs.declared.fault.WalkFault.TheVariants.{TooManyPaths};
@@ -61,7 +62,8 @@ pub struct Walk {
     pub branches: Vec<Branch>,
 }
 
-/// A test of the packet alone with the number of its text, and what it says if it is `field == number`.
+/// A test of the packet alone with the number of its text, and what it says where it is
+/// `field == number`.
 #[derive(Clone, Copy)]
 pub struct NumberedTest {
     pub number: usize,
@@ -252,7 +254,7 @@ fn advance(
     waiting: &mut Vec<Walk>,
 ) -> Result<bool, AllocError>
     requires { IsLaid numbered.now.lines.items }
-    ensures { IfOk result (λ goes. Advances goes (map text_seen numbered.now.texts.items) (trees [] numbered.now.lines.items) walk.old waiting.old.items walk.new waiting.new.items) }
+    ensures { IfOk result (AdvancesAlong numbered.now walk.old waiting.old.items walk.new waiting.new.items) }
 {
     if walk.at < numbered.lines.len() {
         step(
@@ -277,9 +279,9 @@ fn follow(
 ) -> Result<Path, WalkFault>
     requires laid { IsLaid numbered.now.lines.items }
     requires room { vec_len waiting.old < room }
-    ensures left { IfOk result (λ path. paths_left (map text_seen numbered.now.texts.items) (trees [] numbered.now.lines.items) first waiting.old.items ≡ path ∷ paths_waiting (map text_seen numbered.now.texts.items) (trees [] numbered.now.lines.items) waiting.new.items) }
+    ensures left { IfOk result (λ path. left_along numbered.now first waiting.old.items ≡ path ∷ waiting_along numbered.now waiting.new.items) }
     ensures within { OnOk result (vec_len waiting.new < room) }
-    ensures many { IfErr result (λ fault. fault ≡ TooManyPaths → room < length (paths_left (map text_seen numbered.now.texts.items) (trees [] numbered.now.lines.items) first waiting.old.items)) }
+    ensures many { IfErr result (λ fault. fault ≡ TooManyPaths → room < length (left_along numbered.now first waiting.old.items)) }
 {
     let mut walk = first;
     'steps: loop {
@@ -300,9 +302,9 @@ const MOST: usize = 4096;
 /// The paths that begin at a line.
 pub fn listed(alloc: Global, numbered: &Numbered<'_>, at: usize) -> Result<Vec<Path>, WalkFault>
     requires { IsLaid numbered.now.lines.items }
-    ensures all { IfOk result (λ all. all.items ≡ leaves (map text_seen numbered.now.texts.items) (tree_at numbered.now.lines.items at) (nothing_known (length numbered.now.texts.items))) }
+    ensures all { IfOk result (λ all. all.items ≡ paths_from numbered.now at) }
     ensures most { IfOk result (λ all. vec_len all ≤ 4096) }
-    ensures many { IfErr result (λ fault. fault ≡ TooManyPaths → 4096 < length (leaves (map text_seen numbered.now.texts.items) (tree_at numbered.now.lines.items at) (nothing_known (length numbered.now.texts.items)))) }
+    ensures many { IfErr result (IsCause (paths_from numbered.now at)) }
 {
     let mut all = Vec::new(alloc);
     let mut waiting = Vec::new(alloc);
