@@ -1,14 +1,11 @@
 -- The paths of a port, as they are listed.
 use Rattle.std.proofs.Common.{◌≡◌, ◌<◌, ◌≤◌, arith, ℕ, zero, suc, List, [], ◌∷◌, length, map, get_or, slice_get, Contains, Option, Some, None, refl, ap, sym, ◌∙◌, subst}
 use Rattle.nf_base.specs.declared.func.Handler.{Handler}
-use Rattle.nf_base.specs.declared.packet.Packet.{Packet}
-use Rattle.nf_base.specs.declared.packet.Fields.{Fields}
-use Rattle.nf_base.specs.declared.state.State.{State}
 use Rattle.nf_base.specs.Text.{Block, Function}
 use Rattle.nf_base.specs.View.{block_of}
 use Rattle.nf_base.specs.Paths.{Branch, PathStep, outcomes_along}
 use Rattle.nf_base.specs.Record.{outcomes}
-use Rattle.nf_base.specs.Step.{StepResult, step, recorded}
+use Rattle.nf_base.specs.Step.{step, recorded}
 use Rattle.path_walk.specs.Feasible.{handler_paths, port_paths, feasible_paths, branches, branches_along}
 use Rattle.path_walk.specs.Listed.{HasEachTaken}
 use Rattle.path_walk.specs.Once.{EachOnce}

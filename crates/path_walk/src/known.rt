@@ -1,9 +1,6 @@
 //! What the tests of a path so far say.
 ghost use Rattle.std.specs.Prelude.{◌≡◌, IfOk, None, Some, map, slice_set, get_or, replicate};
 ghost use Rattle.path_walk.specs.declared.known.Mark.TheVariants.{Unknown};
-ghost use Rattle.path_walk.specs.Seen.{text_seen};
-ghost use Rattle.path_walk.specs.Feasible.{equals_of};
-ghost use Rattle.path_walk.specs.Numbering.{text_at};
 ghost use Rattle.path_walk.specs.Known.{mark_seen, nothing_known, known_seen, mark_at, with_number, excludes, told_mark};
 
 use crate::test::{FieldIs, Sign, Text};

@@ -1,5 +1,5 @@
 //! A handler's block laid out as lines, from its end on, in loops along the statements.
-ghost use Rattle.std.specs.Prelude.{◌≡◌, ◌≤◌, ◌<◌, ◌∷◌, ◌++◌, [], IfOk, OnOk, map, vec_len, length};
+ghost use Rattle.std.specs.Prelude.{◌≡◌, ◌≤◌, ◌<◌, IfOk, map, length};
 ghost use Rattle.std.specs.List.{All};
 ghost use Rattle.nf_base.specs.Text as text;
 ghost use Rattle.nf_base.specs.View.{block_of, question_of, ending_of};

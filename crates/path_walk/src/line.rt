@@ -1,5 +1,5 @@
 //! A handler's block as numbered lines, each of which goes on at earlier ones.
-ghost use Rattle.std.specs.Prelude.{◌≡◌, ◌<◌};
+ghost use Rattle.std.specs.Prelude.{◌<◌};
 
 use crate::test::Text;
 

@@ -1,14 +1,12 @@
 //! A walk along lines: one path after the other, hit before miss.
-ghost use Rattle.std.specs.Prelude.{◌≡◌, ◌<◌, ◌≤◌, ◌∷◌, ◌++◌, [], IfOk, OnOk, map, None, Some, List, ℕ, not, false, vec_len, IfErr, length};
+ghost use Rattle.std.specs.Prelude.{◌≡◌, ◌<◌, ◌≤◌, ◌∷◌, ◌++◌, [], IfOk, OnOk, map, None, Some, List, ℕ, false, vec_len, IfErr, length};
 ghost use Rattle.path_walk.specs.Seen.{text_seen};
-ghost use Rattle.path_walk.specs.Feasible.{equals_of};
-ghost use Rattle.path_walk.specs.Numbering.{text_at};
-ghost use Rattle.path_walk.specs.Known.{nothing_known, known_seen, told_mark, mark_at, excludes};
+ghost use Rattle.path_walk.specs.Known.{nothing_known, known_seen, excludes};
 ghost use Rattle.path_walk.specs.Tests.{TestText};
 ghost use Rattle.path_walk.specs.Trees.{Tree};
-ghost use Rattle.path_walk.specs.Lines.{child, trees, tree_at, IsLaid};
+ghost use Rattle.path_walk.specs.Lines.{child, trees, IsLaid};
 ghost use Rattle.path_walk.specs.Branches.{branch_seen};
-ghost use Rattle.path_walk.specs.Walks.{ahead, behind, one_way, leaves, paths_of, paths_left, paths_waiting, Went, Waits, TestGoesOn, GoesOn, Steps, left_along, waiting_along, paths_from, AdvancesAlong};
+ghost use Rattle.path_walk.specs.Walks.{ahead, behind, one_way, leaves, paths_of, Went, Waits, TestGoesOn, GoesOn, Steps, left_along, waiting_along, paths_from, AdvancesAlong};
 ghost use Rattle.path_walk.specs.Listed.{IsCause};
 ghost use Rattle.path_walk.specs.declared.line.Line.TheVariants as lines;
 ghost use Rattle.nf_base.specs.Paths as text;
