@@ -2,6 +2,8 @@
 
 use nf_base::block::{Block, Ending, Question};
 use nf_base::expr::{Comparison, Expr};
+use nf_base::func::{Func, Handler};
+use nf_base::limited::Limited;
 use nf_base::packet::Field;
 use std::alloc::{AllocError, Global};
 
@@ -71,4 +73,19 @@ pub fn nested(alloc: Global, depth: u64) -> Result<Block, AllocError> {
         )?;
     }
     Ok(block)
+}
+
+/// A function of one port, which floods each packet.
+pub fn hub(alloc: Global) -> Result<Func, AllocError> {
+    let mut handlers = Limited::new(alloc);
+    handlers.push(Handler {
+        block: Block::End(Ending::Flood),
+    })?;
+    Ok(Func {
+        name: Limited::new(alloc),
+        chains: Limited::new(alloc),
+        arrays: Limited::new(alloc),
+        objects: Limited::new(alloc),
+        handlers,
+    })
 }

@@ -4,9 +4,9 @@
 
 mod blocks;
 
-use blocks::{nested, numbers, tests};
+use blocks::{hub, nested, numbers, tests};
 use nf_base::block::Block;
-use path_walk::{WalkFault, block_paths};
+use path_walk::{WalkFault, block_paths, paths};
 use std::alloc::{AllocError, Global};
 use std::io;
 
@@ -14,6 +14,13 @@ use std::io;
 fn count(alloc: Global, block: Result<Block, AllocError>) -> Result<usize, WalkFault> {
     let block = block?;
     let all = block_paths(alloc, &block)?;
+    Ok(all.len())
+}
+
+/// How many paths a port of a function has.
+fn count_port(alloc: Global, port: u32) -> Result<usize, WalkFault> {
+    let func = hub(alloc)?;
+    let all = paths(alloc, &func, port)?;
     Ok(all.len())
 }
 
@@ -63,5 +70,7 @@ fn main(rt: HostRuntime) -> io::Result<()> {
         "40 bounds of a field",
         count(alloc, tests(alloc, 40, 40)),
     )?;
-    print_count(&rt, "64 blocks deep", count(alloc, nested(alloc, 64)))
+    print_count(&rt, "64 blocks deep", count(alloc, nested(alloc, 64)))?;
+    print_count(&rt, "port 0 of a hub", count_port(alloc, 0))?;
+    print_count(&rt, "port 1 of it", count_port(alloc, 1))
 }
