@@ -1,0 +1,76 @@
+//! Lists the paths of blocks that are made up, and prints how many each has, or why they are not
+//! listed.
+#![tactic(auto)]
+
+mod blocks;
+
+use blocks::{hub, nested, numbers, tests};
+use nf_base::block::Block;
+use path_walk::{WalkFault, block_paths, paths};
+use std::alloc::{AllocError, Global};
+use std::io;
+
+/// How many paths a block has.
+fn count(alloc: Global, block: Result<Block, AllocError>) -> Result<usize, WalkFault> {
+    let block = block?;
+    let all = block_paths(alloc, &block)?;
+    Ok(all.len())
+}
+
+/// How many paths a port of a function has.
+fn count_port(alloc: Global, port: u32) -> Result<usize, WalkFault> {
+    let func = hub(alloc)?;
+    let all = paths(alloc, &func, port)?;
+    Ok(all.len())
+}
+
+fn print_count(rt: &HostRuntime, name: &str, count: Result<usize, WalkFault>) -> io::Result<()> {
+    match count {
+        Ok(count) => println!(rt; "{name}: {count}"),
+        Err(fault) => println!(rt; "{name}: {fault}"),
+    }
+}
+
+fn main(rt: HostRuntime) -> io::Result<()> {
+    let alloc = rt.alloc();
+    print_count(
+        &rt,
+        "131072 tests of one text",
+        count(alloc, tests(alloc, 131_072, 1)),
+    )?;
+    print_count(&rt, "12 texts", count(alloc, tests(alloc, 12, 12)))?;
+    print_count(&rt, "13 texts", count(alloc, tests(alloc, 13, 13)))?;
+    print_count(
+        &rt,
+        "40000 tests of 12 texts",
+        count(alloc, tests(alloc, 40_000, 12)),
+    )?;
+    print_count(
+        &rt,
+        "100000 texts",
+        count(alloc, tests(alloc, 100_000, 100_000)),
+    )?;
+    print_count(
+        &rt,
+        "two numbers of a field",
+        count(alloc, numbers(alloc, 2)),
+    )?;
+    print_count(
+        &rt,
+        "4095 numbers of a field",
+        count(alloc, numbers(alloc, 4095)),
+    )?;
+    print_count(
+        &rt,
+        "4096 numbers of a field",
+        count(alloc, numbers(alloc, 4096)),
+    )?;
+    print_count(
+        &rt,
+        "40 bounds of a field",
+        count(alloc, tests(alloc, 40, 40)),
+    )?;
+    print_count(&rt, "64 blocks deep", count(alloc, nested(alloc, 64)))?;
+    print_count(&rt, "port 0 of a hub", count_port(alloc, 0))?;
+    print_count(&rt, "port 1 of it", count_port(alloc, 1))
+}

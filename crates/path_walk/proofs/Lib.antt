@@ -1,0 +1,13 @@
+pub mod Texts
+pub mod Agreeing
+pub mod Taken
+pub mod Fitting
+pub mod Lines
+pub mod LaidOut
+pub mod Keyed
+pub mod Numbers
+pub mod Walking
+pub mod Marking
+pub mod Bridge
+pub mod Apart
+pub mod Handled

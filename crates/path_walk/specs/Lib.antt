@@ -1,0 +1,14 @@
+pub mod Tests
+pub mod Feasible
+pub mod Once
+pub mod Laws
+pub mod Rows
+pub mod Listed
+pub mod Seen
+pub mod Trees
+pub mod Lines
+pub mod Layout
+pub mod Numbering
+pub mod Known
+pub mod Branches
+pub mod Walks

@@ -1,0 +1,49 @@
+//! The feasible paths of a port.
+ghost use Rattle.std.specs.Prelude.{◌≡◌, ◌≤◌, IfOk, OnOk, IfErr, length};
+ghost use Rattle.nf_base.specs.View.{block_of};
+ghost use Rattle.nf_base.specs.Functions.{function_of};
+ghost use Rattle.path_walk.specs.Once.{EachOnce};
+ghost use Rattle.path_walk.specs.Listed.{block_branches, port_branches, IsCause, HasEachTaken};
+
+use crate::fault::WalkFault;
+use crate::laying::block_lines;
+use crate::line::Line;
+use crate::numbering::numbered_lines;
+use crate::walk::{Path, listed};
+use nf_base::block::Block;
+use nf_base::func::Func;
+use std::alloc::Global;
+
+/// The feasible paths of a block that stands alone, in text order.
+pub fn block_paths(alloc: Global, block: &Block) -> Result<Vec<Path>, WalkFault>
+    ensures all { IfOk result (λ all. all.items ≡ block_branches (block_of block.now)) }
+    ensures most { IfOk result (λ all. length all.items ≤ 4096) }
+    ensures many { IfErr result (IsCause (block_branches (block_of block.now))) }
+{
+    let mut lines = Vec::new(alloc);
+    lines.push(Line::Stop)?;
+    let at = block_lines(alloc, block, 0, &mut lines)?;
+    let numbered = numbered_lines(alloc, lines.as_slice())?;
+    listed(alloc, &numbered, at)
+}
+
+/// The feasible paths of a port's handler, each once, in text order: hit before miss, and made before
+/// taken before full. A port that the function doesn't have has none.
+///
+/// The work is bounded by the paths times the length of a path, and by the text's length times its
+/// logarithm.
+pub fn paths(alloc: Global, func: &Func, port: u32) -> Result<Vec<Path>, WalkFault>
+    ensures all { IfOk result (λ all. all.items ≡ port_branches (function_of func.now) port) }
+    ensures once { IfOk result (λ all. EachOnce all.items) }
+    // More than 4,096 are refused, and no fewer.
+    ensures most { OnOk result (length (port_branches (function_of func.now) port) ≤ 4096) }
+    ensures many { IfErr result (IsCause (port_branches (function_of func.now) port)) }
+    // What a packet of this port does, at any state and with any choices, is one of them.
+    ensures taken { IfOk result (λ all. HasEachTaken (function_of func.now) port all.items) }
+{
+    if port < func.handlers.len() {
+        block_paths(alloc, &func.handlers.item(port).block)
+    } else {
+        Ok(Vec::new(alloc))
+    }
+}
