@@ -1,12 +1,13 @@
 -- The places of a text are different, and rise.
 use Rattle.std.proofs.Common.{◌≡◌, ◌≢◌, ◌<◌, suc, List, [], ◌∷◌, ◌++◌, AllPairs, Contains, refl, ap, ◌∙◌, subst, arith, inl, inr}
 use Rattle.std.specs.List.{flat_map}
+use Rattle.std.specs.List.Sorted.{IsStrictlyIncreasing}
 use Rattle.std.proofs.lemmas.List.Concat.{flat_map-cons}
 use Rattle.std.proofs.lemmas.Grind.{flat_map-append}
 use Rattle.std.proofs.lemmas.List.Kept.{AllPairs-from_increasing}
-use Rattle.std.proofs.lemmas.List.Elements.{Contains-append_right}
-use Rattle.nf_base.specs.Text.{Function}
-use Rattle.nf_base.specs.Statements.{Statement}
+use Rattle.std.proofs.lemmas.List.Elements.{All-contains, Contains-append_right}
+use Rattle.nf_base.specs.Text.{Block}
+use Rattle.nf_base.specs.Statements.{Statement, statements}
 use Rattle.nf_base.specs.TextPlaces.{own_place, places_in, all_statements}
 use Rattle.nf_laws.specs.Places.{PlacesAreOfOneStatement, PlacesRise}
 use Rattle.nf_laws.proofs.Listed.{has, in_flat}
@@ -30,18 +31,20 @@ pair R (z ∷ xs) ys x y all h i = elim (has z xs x h) [
 ]
 
 -- what statements give, parted at one of them
-parted : {B : Type 0} (g : Statement → List B) (f : Function) (earlier later : List Statement) (s : Statement) → all_statements f ≡ earlier ++ s ∷ later →
-    flat_map g (all_statements f) ≡ flat_map g earlier ++ (g s ++ flat_map g later)
-parted g f earlier later s e = ap (flat_map g) e ∙ flat_map-append g earlier (s ∷ later) ∙ ap (λ xs. flat_map g earlier ++ xs) (flat_map-cons g s later)
+parted : {B : Type 0} (g : Statement → List B) (all earlier later : List Statement) (s : Statement) → all ≡ earlier ++ s ∷ later →
+    flat_map g all ≡ flat_map g earlier ++ (g s ++ flat_map g later)
+parted g all earlier later s e = ap (flat_map g) e ∙ flat_map-append g earlier (s ∷ later) ∙ ap (λ xs. flat_map g earlier ++ xs) (flat_map-cons g s later)
 
-two : {B : Type 0} (R : B → B → Type 0) (g : Statement → List B) (f : Function) (earlier later : List Statement) (s t : Statement) (a b : B) → AllPairs R (flat_map g (all_statements f)) → all_statements f ≡ earlier ++ s ∷ later →
+two : {B : Type 0} (R : B → B → Type 0) (g : Statement → List B) (all earlier later : List Statement) (s t : Statement) (a b : B) → AllPairs R (flat_map g all) → all ≡ earlier ++ s ∷ later →
     Contains later t → Contains (g s) a → Contains (g t) b → R a b
-two R g f earlier later s t a b all e h i j =
-    let whole = subst (AllPairs R) (parted g f earlier later s e) all in
+two R g all earlier later s t a b pairs e h i j =
+    let whole = subst (AllPairs R) (parted g all earlier later s e) pairs in
     pair R (g s) (flat_map g later) a b (later_pairs R (flat_map g earlier) (g s ++ flat_map g later) whole) i (in_flat g later t b h j)
 
 pub of_one_statement : PlacesAreOfOneStatement
-of_one_statement f earlier later s t place h e i a b = two (λ x y. x ≢ y) places_in f earlier later s t place place h.different e i a b refl
+of_one_statement f earlier later s t place h e i a b = two (λ x y. x ≢ y) places_in (all_statements f) earlier later s t place place h.different e i a b refl
 
 pub places_rise : PlacesRise
-places_rise f earlier later s t a b h e i x y = two (λ m n. m < n) own_place f earlier later s t a b (AllPairs-from_increasing (flat_map own_place (all_statements f)) h.rising) e i x y
+places_rise f block earlier later s t a b h in_text e i x y =
+    let rising = All-contains (λ (b : Block). IsStrictlyIncreasing (flat_map own_place (statements b))) f.handlers block h.rising in_text in
+    two (λ m n. m < n) own_place (statements block) earlier later s t a b (AllPairs-from_increasing (flat_map own_place (statements block)) rising) e i x y

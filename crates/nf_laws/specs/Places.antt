@@ -40,8 +40,9 @@ PlacesAreOfOneStatement =
     HasPlaces f → all_statements f ≡ earlier ++ s ∷ later → Contains later t →
     Contains (places_in s) place → Contains (places_in t) place → ⊥
 
--- and a statement's own place is below those of the statements behind it
+-- and a statement's own place is below those of the statements behind it in its handler
 abbrev pub PlacesRise : Type 0
-PlacesRise = (f : Function) (earlier later : List Statement) (s t : Statement) (a b : ℕ) →
-    HasPlaces f → all_statements f ≡ earlier ++ s ∷ later → Contains later t →
-    Contains (own_place s) a → Contains (own_place t) b → a < b
+PlacesRise =
+    (f : Function) (block : Block) (earlier later : List Statement) (s t : Statement) (a b : ℕ) →
+    HasPlaces f → Contains f.handlers block → statements block ≡ earlier ++ s ∷ later →
+    Contains later t → Contains (own_place s) a → Contains (own_place t) b → a < b

@@ -17,7 +17,7 @@ pub fn events_stand_at_places()
     ensures text { PlacesAreOfTheText }
 {}
 
-/// A place of a text is that of one statement, and those of statements rise along it.
+/// A place of a text is that of one statement, and those of statements rise along each handler.
 pub fn places_rise()
     ensures one { PlacesAreOfOneStatement }
     ensures rise { PlacesRise }
