@@ -20,8 +20,8 @@ abbrev pub Agree : Function → (x y : Site) → (p q : Fields) → Type 0
 Agree f x y p q =
     (l : ℕ) → Contains (kept f x.object) l → AreEqual p q (known f x l) (known f y l)
 
--- A hash of each port's input is admissible where inputs that agree at two sites of a written object
--- have one hash, each by its site's port.
+-- A hash of each port's input is admissible where inputs that agree at two sites of a written
+-- object have one hash, each by its site's port.
 abbrev pub IsAdmissibleBySites : Function → (hash : ℕ → Fields → ℕ) → Type 0
 IsAdmissibleBySites f hash =
     (x y : Site) → Contains (sites_of f) x → Contains (sites_of f) y → x.object ≡ y.object →

@@ -51,8 +51,8 @@ sets_alike chain l r (Asks q) = true
 sets_alike chain l r (Makes n) =
     if n.chain == chain then same_field (field_at n.labels l) (field_at n.labels r) else true
 
--- Whether two labels are together: each `new` of the chain in the whole text sets both from one hashed
--- field. An array has one label, which is together with none.
+-- Whether two labels are together: each `new` of the chain in the whole text sets both from one
+-- hashed field. An array has one label, which is together with none.
 abbrev pub together : Function → ObjectId → ℕ → ℕ → Bool
 together f (object.Chain chain) l r =
     list_all (λ block. list_all (sets_alike chain l r) (statements block)) f.handlers

@@ -1,8 +1,8 @@
 //! Laws of sites. Each function's contract is a law; its body does nothing.
 ghost use Rattle.nf_sites.specs.Laws.{SitesOnPathsAreListed, ListedSitesAreOnPaths, SitesAreOfTheirPort, SitesStandInTextOrder, KeptLabelsAreKnown, LabelsKnownAreKept};
 
-/// The sites of a function are those on feasible paths: all of them, and, where its text has places,
-/// no others.
+/// The sites of a function are those on feasible paths: all of them, and, where its text has
+/// places, no others.
 pub fn sites_are_on_feasible_paths()
     ensures all { SitesOnPathsAreListed }
     ensures only { ListedSitesAreOnPaths }

@@ -1,5 +1,5 @@
-//! Where a function's text touches its state: its sites, the labels that each names, and which of them
-//! are known by a field that the hash reads.
+//! Where a function's text touches its state: its sites, the labels that each names, and which of
+//! them are known by a field that the hash reads.
 #![tactic(auto)]
 
 pub mod laws;
