@@ -4,3 +4,7 @@ pub mod OnPaths
 pub mod Known
 pub mod Admissible
 pub mod Laws
+pub mod Covers
+pub mod Labelled
+pub mod CoverLaws
+pub mod Separation
