@@ -15,3 +15,4 @@ pub mod Going
 pub mod Runs
 pub mod Covering
 pub mod Separate
+pub mod HashedPolicer

@@ -23,8 +23,8 @@ abbrev pub IsOf : Function → Site → Type 0
 IsOf f site = Contains (sites_of f) site
 
 -- Whatever the state, the choices and the numbers of entries, each event of a handled packet
--- touches what it touches at one of some sites: at one of its own statement, or of the `get`, `find`
--- or `new` that bound its variable.
+-- touches what it touches at one of some sites: at one of its own statement, or of the `get`,
+-- `find` or `new` that bound its variable.
 abbrev pub Covers : Function → (Site → Type 0) → Type 0
 Covers f ok =
     (s : State) (ns : Numbers) (packet : Packet) (fields : Fields) (choices : List ℕ)

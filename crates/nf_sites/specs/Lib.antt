@@ -8,3 +8,5 @@ pub mod Covers
 pub mod Labelled
 pub mod CoverLaws
 pub mod Separation
+pub mod Samples
+pub mod Rows

@@ -5,6 +5,7 @@
 
 pub mod cover;
 pub mod laws;
+pub mod rows;
 pub mod separation;
 mod sort;
 
