@@ -1,0 +1,4 @@
+pub mod Places
+pub mod Keyed
+pub mod Spread
+pub mod Given
