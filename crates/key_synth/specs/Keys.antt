@@ -1,0 +1,68 @@
+-- Admissible keys of a function, and those that it is given.
+use Rattle.std.specs.Prelude.{◌≡◌, ◌≢◌, ◌⊎◌, ℕ, ◌<◌, ◌≤◌, true, length, All, Contains, Option, Some, None}
+use Rattle.nf_base.specs.declared.keys.Keys.{Keys}
+use Rattle.nf_base.specs.declared.packet.Fields.{Fields}
+use Rattle.nf_base.specs.Text.{Function}
+use Rattle.nf_base.specs.Objects.{is_written}
+use Rattle.nf_sites.specs.Sites.{Site}
+use Rattle.nf_sites.specs.OnPaths.{sites_of}
+use Rattle.nf_sites.specs.Admissible.{IsAdmissibleBySites}
+use Rattle.toeplitz_hash.specs.declared.key.TheConstants.{DEFAULT_KEY}
+use Rattle.toeplitz_hash.specs.Bits.{bit_of}
+use Rattle.toeplitz_hash.specs.Toeplitz.{toeplitz_of}
+use Rattle.toeplitz_hash.specs.Packets.{input_bytes, key_at}
+use Rattle.key_rows.specs.Spread.{Spreads}
+use Rattle.key_rows.specs.Given.{IsKey, key_bit, AgreeBefore}
+
+-- the hash of an input at a port, under the port's key
+abbrev pub hash_by : Keys → ℕ → Fields → ℕ
+hash_by keys port fields = toeplitz_of (key_at keys port) (input_bytes fields)
+
+-- Keys are admissible where any two inputs that agree in each kept label at two sites of a written
+-- object have equal hashes.
+abbrev pub AreAdmissible : Function → Keys → Type 0
+AreAdmissible f keys = IsAdmissibleBySites f (hash_by keys)
+
+-- A port is keyed where it has a site of a written object.
+pub record IsKeyed (f : Function) (port : ℕ) : Type 0 where
+  pub site : Site
+  pub among : Contains (sites_of f) site
+  pub here : site.port ≡ port
+  pub written : is_written f site.object ≡ true
+
+-- Keys spread where the key of each keyed port gives packets more than one table index.
+pub record AreSpreading (f : Function) (keys : Keys) : Type 0 where
+  pub each : (port : ℕ) → IsKeyed f port → Spreads (key_at keys port)
+
+-- admissible keys that spread, one for each port
+pub record MayBeGiven (f : Function) (keys : Keys) : Type 0 where
+  pub count : length keys.ports ≡ length f.handlers
+  pub keys_ : All IsKey keys.ports
+  pub admissible : AreAdmissible f keys
+  pub spreading : AreSpreading f keys
+
+-- No admissible keys that spread and agree on all earlier bits have the default key's bit.
+pub record IsOutOfReach (f : Function) (keys : Keys) (port i : ℕ) : Type 0 where
+  pub none : (other : Keys) → MayBeGiven f other → AgreeBefore port i keys other
+      → key_bit other port i ≢ bit_of DEFAULT_KEY i
+
+-- The given keys: ports in order and bits 0 to 126 in order, each bit is the default key's unless
+-- that is out of reach. The bits past these are 0 in the key of a keyed port; the key of any other
+-- port is the default key.
+pub record AreGiven (f : Function) (keys : Keys) : Type 0 where
+  pub may : MayBeGiven f keys
+  pub nearest : (port i : ℕ) → port < length f.handlers → i < 127
+      → (key_bit keys port i ≡ bit_of DEFAULT_KEY i) ⊎ IsOutOfReach f keys port i
+  pub past : (port i : ℕ) → port < length f.handlers → IsKeyed f port → 127 ≤ i
+      → key_bit keys port i ≡ 0
+  pub unkeyed : (port : ℕ) → port < length f.handlers → (IsKeyed f port → ⊥)
+      → key_at keys port ≡ DEFAULT_KEY
+
+-- no admissible keys spread
+pub record NoneMayBeGiven (f : Function) : Type 0 where
+  pub none : (keys : Keys) → MayBeGiven f keys → ⊥
+
+-- the given keys, or none exactly where no admissible keys spread
+abbrev pub AreAnswer : Function → Option Keys → Type 0
+AreAnswer f None = NoneMayBeGiven f
+AreAnswer f (Some keys) = AreGiven f keys
