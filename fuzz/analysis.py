@@ -4,7 +4,9 @@ the rule of each object, and the given keys. Read from the definitions, without 
 from dataclasses import dataclass
 
 import tree
+from faults import first_fault
 from keys import DEFAULT, RSS, given_keys, key_of, text_of
+from language import place_of, read
 
 MOST_PATHS = 4096
 HASHED = {"src_ip": 32, "dst_ip": 32, "src_port": 16, "dst_port": 16}
@@ -39,25 +41,36 @@ def is_packet_only(test):
     return all(isinstance(it, (tree.Field, tree.Number)) for side in (test.left, test.right) for it in operands(side))
 
 
+def brought(test):
+    """A test's text, whether its outcome is the text's own, and the field and the number where it is `field == number`.
+    None where it isn't packet-only."""
+    if not is_packet_only(test):
+        return None
+    sign, same = BROUGHT[test.sign]
+    is_number = sign == "==" and isinstance(test.left, tree.Field) and isinstance(test.right, tree.Number)
+    return (sign, repr(test.left), repr(test.right)), same, (test.left.name, test.right) if is_number else None
+
+
 class Marks:
     """What a path's tests have said so far: the outcome of each packet-only text, and the number that a field is."""
 
     def __init__(self, outcomes=None, numbers=None):
         self.outcomes, self.numbers = outcomes or {}, numbers or {}
 
-    def after(self, test, outcome):
+    def after(self, told, outcome):
         """The marks behind a test that went this way, None where it can't."""
-        if not is_packet_only(test):
+        if told is None:
             return self
-        sign, same = BROUGHT[test.sign]
-        text, holds = (sign, repr(test.left), repr(test.right)), outcome == same
+        text, same, number = told
+        holds = outcome == same
         if self.outcomes.get(text, holds) != holds:
             return None
         numbers = self.numbers
-        if holds and sign == "==" and isinstance(test.left, tree.Field) and isinstance(test.right, tree.Number):
-            if numbers.get(test.left.name, test.right) != test.right:
+        if holds and number:
+            field, value = number
+            if numbers.get(field, value) != value:
                 return None
-            numbers = {**numbers, test.left.name: test.right}
+            numbers = {**numbers, field: value}
         return Marks({**self.outcomes, text: holds}, numbers)
 
 
@@ -74,8 +87,9 @@ ACTIONS = (tree.Forward, tree.Flood, tree.Drop)
 
 
 def walked(block, at=0):
-    """How many feasible paths a handler's block has, and the statements that stand on one. `at` is where its `on` is."""
-    count, met = 0, {}
+    """How many feasible paths a handler's block has, and the statements that stand on one. `at` is where its `on`
+    stands."""
+    count, met, tests = 0, {}, {}
     # A place is the statements that follow, as a block, a number in it and the place behind the block.
     waiting = [((block, 0, None), Marks())]
     while waiting:
@@ -91,8 +105,10 @@ def walked(block, at=0):
             blocks = ways(statement)
             if blocks is None:
                 continue
+            if isinstance(statement, tree.If) and id(statement) not in tests:
+                tests[id(statement)] = brought(statement)
             for way, inner in enumerate(blocks):
-                after = marks.after(statement, way == 0) if isinstance(statement, tree.If) else marks
+                after = marks.after(tests.get(id(statement)), way == 0)
                 if after is not None:
                     waiting.append(((inner, 0, place), after))
             break
@@ -106,10 +122,12 @@ def walked(block, at=0):
 # ---- sites
 @dataclass
 class Site:
-    """A site of an object: its port, its place in the text, what it does, and the field that it knows of each label."""
+    """A site of an object: its port, its place in the text, what it does, the labels that it names, and the field that
+    it knows of each label."""
     port: int
     place: tuple
     sort: str
+    named: set
     known: dict
 
 
@@ -181,7 +199,7 @@ class Object:
         return found
 
     def add(self, port, place, sort, named):
-        self.sites.append(Site(port, place, sort, self.known(named)))
+        self.sites.append(Site(port, place, sort, set(named), self.known(named)))
 
     @property
     def kept(self):
@@ -274,3 +292,13 @@ class Analysis:
 
     def explain(self):
         return self.described() + self.verdict()
+
+
+def analysed(text):
+    """The analysis of a text's bytes and None; or None and the text's first fault, as its kind, line and column."""
+    if fault := first_fault(text):
+        return None, fault
+    try:
+        return Analysis(read(text)), None
+    except TooManyPaths as many:
+        return None, ("P1", *place_of(text, many.at))
