@@ -140,9 +140,10 @@ def value(it, fields):
 
 def holds(tests, fields):
     """Whether a packet with these fields comes to these outcomes."""
-    return all(
-        COMPARISONS[test.sign](value(test.left, fields), value(test.right, fields)) == outcome for test, outcome in tests
-    )
+    def said(test):
+        return COMPARISONS[test.sign](value(test.left, fields), value(test.right, fields))
+
+    return all(said(test) == outcome for test, outcome in tests)
 
 
 def tests_text(random, equal_only):
