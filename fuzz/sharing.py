@@ -35,6 +35,8 @@ class Sharer(Writer):
         self.statements["known"] = self.known
 
     def text(self):
+        if self.chance(0.15):
+            return self.translator()
         ports = self.random.choice((1, 1, 2, 2, 2, 3, 4))
         lines = [f"nf s{self.random.randrange(100)} {{ ports {ports};"]
         for number in range(self.random.choice((1, 1, 1, 2, 2, 3))):
@@ -47,6 +49,33 @@ class Sharer(Writer):
                 body = f"{{ {self.many_tests()} {body[1:]}"
             lines.append(f"on {port} {body}")
         return "\n".join([*lines, "}"]) + "\n"
+
+    def translator(self):
+        """A function whose second port finds entries by their index, guarded by what the first port gave."""
+        chain, far = Chain("c0"), self.random.choice(("dst_ip", "dst_ip", "dst_port", "src_ip"))
+        fields = {far, *self.random.sample(list(HASHED), self.random.randrange(1, 4))}
+        parts = [self.label(chain, field) for field in sorted(fields)]
+        guards = [self.label(chain, far)]
+        if self.chance(0.3):
+            guards.append(self.label(chain, self.random.choice(sorted(fields))))
+        chain.maps["m0"] = [label for label, _ in parts]
+        chain.free.append("f0")
+        self.chains.append(chain)
+        self.kinds["c0"] = "any"
+        self.found.add("c0")
+        columns = " ".join(f"fixed {label}: {width};" for label, width in guards)
+        size, lifetime = self.random.choice((3, 5, 8)), self.random.choice((20, 1000, 2**64 - 1))
+        keys = ", ".join(f"{label}: {width}" for label, width in parts)
+        first = f"{{ {self.known([], 1)} {self.block([], 1)[1:]}"
+        self.turned = self.chance(0.95)
+        index = self.random.choice(("src_port % 3", "dst_port - 1", "dst_port % 4", "src_ip & 3"))
+        guard = self.gives(chain, [label for label, _ in guards[: self.random.choice((1, 1, 2))]], [])
+        body = f"touch e; {self.used('e', chain)} forward 0;"
+        second = f"find e = c0[{index}] where ({guard}) {{ {body} }} {self.if_([], 1)} {self.action([])}"
+        return (
+            f"nf t {{ ports 2;\nchain c0 {size} lifetime {lifetime} {{ map m0({keys}); {columns} free f0: 64; }}\n"
+            f"on 0 {first}\non 1 {{ {second} }}\n}}\n"
+        )
 
     def many_tests(self):
         """Tests of different texts, about as many as a handler may have."""
@@ -72,14 +101,16 @@ class Sharer(Writer):
             field = self.random.choice(known) if self.chance(0.7) else self.random.choice(list(HASHED))
             label, width = self.label(chain, field)
             items.append(f"fixed {label}: {width};")
-        if self.chance(0.3):
+        if self.chance(0.5):
             chain.free.append("f0")
             items.append(f"free f0: {self.random.choice(WIDTHS)};")
         self.random.shuffle(items)
-        size, lifetime = self.random.choice((1, 3, 7, 30, 200)), self.random.choice((20, 1000, 2**64 - 1))
-        self.chains.append(chain)
+        sizes = (1, 3, 7, 30, 200)
         if self.chance(0.4):
             self.found.add(chain.name)
+            sizes = (3, 5, 7, 12)
+        size, lifetime = self.random.choice(sizes), self.random.choice((20, 1000, 2**64 - 1))
+        self.chains.append(chain)
         return f"chain {chain.name} {size} lifetime {lifetime} {{ {' '.join(items)} }}"
 
     def label(self, chain, field):
@@ -154,8 +185,14 @@ class Sharer(Writer):
         of, (name, inner) = self.random.choice(list(chain.maps)), self.inner(scope, chain)
         key = ", ".join(self.value(chain, label, scope) for label in chain.maps[of])
         gives = self.gives(chain, list(chain.labels), scope)
-        new = f"new {name} = {chain.name}({gives}) {{ }}"
-        return f"get {name} = {chain.name}.{of}({key}) {{ touch {name}; }} else {{ {new} }}"
+        new = f"new {name} = {chain.name}({gives}) {{ {self.used(name, chain)} }}"
+        return f"get {name} = {chain.name}.{of}({key}) {{ touch {name}; {self.used(name, chain)} }} else {{ {new} }}"
+
+    def used(self, name, chain):
+        """What is done with an entry, so that a packet shows what was in it."""
+        shown = self.random.choice(["index", *chain.free, *chain.free, *chain.labels])
+        counted = "".join(f"{name}.{column} = {name}.{column} + 1; " for column in chain.free)
+        return counted + self.random.choice(("", f"set ttl = {name}.{shown};", f"set dst_port = {name}.{shown};"))
 
     def if_(self, scope, depth):
         if self.chance(0.35) and depth < 3:
@@ -175,11 +212,11 @@ class Sharer(Writer):
             return ""
         name, inner = self.inner(scope, chain)
         count = len(chain.labels)
-        count = count if self.chance(0.6) else self.random.randrange(1, count + 1)
+        count = count if self.chance(0.2) else 1 if self.chance(0.7) else self.random.randrange(1, count + 1)
         labels = [] if self.chance(0.1) else self.random.sample(list(chain.labels), count)
-        index = self.random.choice(("0", "1", "src_port % 3", "dst_port - 1", "ttl"))
+        index = self.random.choice(("0", "1", "src_port % 3", "dst_port - 1", "src_ip & 3", "dst_ip & 7"))
         guard = f" where ({self.gives(chain, labels, scope)})" if labels else ""
-        body = self.block(inner, depth + 1)
+        body = f"{{ {self.used(name, chain)} {self.block(inner, depth + 1)[1:]}"
         return f"find {name} = {chain.name}[{index}]{guard} {body}{self.maybe('else', scope, depth)}"
 
     def store(self, scope, depth):
