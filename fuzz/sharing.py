@@ -29,7 +29,7 @@ class Sharer(Writer):
     def __init__(self, random):
         super().__init__(random)
         # How often a value is something other than its field.
-        self.noise = random.choice((0, 0, 0, 0.02, 0.1))
+        self.noise = random.choice((0, 0, 0, 0.02, 0.1, 0.3))
         self.homes, self.kinds, self.found = {}, {}, set()
         self.turned = self.dead = False
         self.statements["known"] = self.known
@@ -147,8 +147,11 @@ class Sharer(Writer):
         if not self.chance(self.noise):
             home = self.field(self.homes[chain.name, label])
             return f"({home})" if self.chance(0.05) else home
-        kind = self.random.random()
-        return self.random.choice(list(HASHED)) if kind < 0.6 else self.random.choice(FEW) if kind < 0.8 else "7"
+        kind, arrays = self.random.random(), self.usable(self.arrays)
+        if arrays and kind < 0.4:
+            name = self.random.choice(arrays)
+            return f"{name}[{self.index(name, scope)}]"
+        return self.random.choice(list(HASHED)) if kind < 0.7 else self.random.choice(FEW) if kind < 0.9 else "7"
 
     def index(self, name, scope):
         return self.sum(scope, 2) if self.chance(self.noise) else self.field(self.homes[name])

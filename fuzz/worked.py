@@ -208,6 +208,52 @@ CASES = {
         "site 0 name d y=dst_ip\n",
         "locked c J3\n",
     ),
+    # The cells stand as the text has them, not as the labels are declared.
+    "cells given out of order": Worked(
+        "nf w { ports 1; array a 8 : 16; chain c 4 lifetime 1 { map m(l: 16); fixed k: 16; } "
+        "on 0 { new e = c(k = a[src_port], l = a[dst_port + a[1]]) { a[dst_port] = a[src_port] + a[2]; } } }",
+        "ok w: ports 1, chains 1, arrays 1, paths 3\n",
+        "nf w\n"
+        "object a rule J4 keeps -\n"
+        "site 0 load index=src_port\n"
+        "site 0 load -\n"
+        "site 0 load -\n"
+        "site 0 store index=dst_port\n"
+        "site 0 load index=src_port\n"
+        "site 0 load -\n"
+        "object c rule J4 keeps -\n"
+        "site 0 new -\n"
+        "site 0 name m -\n",
+        "locked a J4\n",
+    ),
+    # `k` is known by `l`, which is declared before `m`, though the guard has `m` first.
+    "guards given out of order": Worked(
+        "nf g { ports 1; chain c 4 lifetime 1 { map by(l: 32, m: 32); fixed k: 32; } "
+        "on 0 { find e = c[0] where (m = dst_ip, l = src_ip) { touch e; } "
+        "new f = c(k = dst_ip, m = (dst_ip), l = dst_ip) { } } }",
+        "ok g: ports 1, chains 1, arrays 0, paths 6\n",
+        "nf g\n"
+        "object c rule J5 keeps l m k\n"
+        "site 0 find l=src_ip m=dst_ip k=src_ip\n"
+        "site 0 new l=dst_ip m=dst_ip k=dst_ip\n"
+        "site 0 name by l=dst_ip m=dst_ip k=dst_ip\n",
+        # The `find` alone leaves no part to the ports, the `new` none to the source.
+        sharded(f"{zeros(7)}01{zeros(32)}"),
+    ),
+    "handlers out of order, one object unused and one read only": Worked(
+        "nf h { ports 2; array r 4 : 8; chain u 4 lifetime 1 { map m(l: 32); } chain s 4 lifetime 1 { fixed x: 16; } "
+        "on 1 { if r[0] == src_port { } find e = s[1] where (x = dst_port) { } "
+        "if proto == 6 { if proto == 17 { new f = u(l = src_ip) { } } } } "
+        "on 0 { new e = s(x = src_port) { } taken { drop; } } }",
+        "ok h: ports 2, chains 2, arrays 1, paths 3 8\n",
+        "nf h\n"
+        "object r read only\n"
+        "object u unused\n"
+        "object s rule J5 keeps x\n"
+        "site 0 new x=src_port\n"
+        "site 1 find x=dst_port\n",
+        "locked hash\n",
+    ),
     "twelve tests": Worked(tests(12), "ok p: ports 1, chains 0, arrays 0, paths 4096\n"),
     "thirteen tests": Worked(tests(13), "refused P1 at 1:17\n"),
     "a field that is one of two numbers": Worked(
