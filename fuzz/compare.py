@@ -2,6 +2,7 @@
 import subprocess
 from dataclasses import dataclass
 
+from analysis import analysed
 from faults import first_fault
 from interpreter import IllegalChoice
 from language import read
@@ -13,10 +14,12 @@ LIMIT = 60
 
 @dataclass
 class Case:
-    """A text's bytes, the captures of its ports, and how many packets may be handled."""
+    """A text's bytes, the captures of its ports, how many packets may be handled, and whether paths are counted before
+    a run."""
     text: bytes
     captures: list
     most: int = MOST_PACKETS
+    counts_paths: bool = False
 
 
 def run(program, folder, case):
@@ -37,7 +40,7 @@ def run(program, folder, case):
 
 def wanted(case, got, events):
     """What it has to leave, with the choices of its journal. IllegalChoice is raised where one isn't legal."""
-    fault = first_fault(case.text)
+    fault = analysed(case.text)[1] if case.counts_paths else first_fault(case.text)
     events[fault[0] if fault else "no fault"] += 1
     if fault:
         return refused(fault)

@@ -126,20 +126,20 @@ class Parser:
 
     def function(self):
         self.take("nf")
-        self.name()
+        name = self.name()
         self.take("{")
         self.take("ports")
         ports = self.number()
         self.take(";")
-        declared, handlers = [], []
+        declared, handlers, ons = [], [], []
         while self.token.kind in ("chain", "array"):
             declared.append(self.chain() if self.token.kind == "chain" else self.array())
         while self.token.kind == "on":
-            self.step()
+            ons.append(self.take("on").at)
             handlers.append((self.number(), self.block()))
         end = self.take("}").at
         self.take("end")
-        return tree.Function(ports, declared, handlers, end)
+        return tree.Function(name, ports, declared, handlers, ons, end)
 
     def chain(self):
         at, name, size = self.take("chain").at, self.name(), self.number()

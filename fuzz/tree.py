@@ -78,10 +78,11 @@ class Array:
 
 
 class Function:
-    """A function's declarations and handlers, and where its last `}` stands."""
+    """A function's declarations and handlers, where each handler's `on` stands, and where the last `}` does."""
 
-    def __init__(self, ports, declared, handlers, end):
-        self.ports, self.declared, self.handlers, self.end = ports, declared, handlers, end
+    def __init__(self, name, ports, declared, handlers, ons, end):
+        self.name, self.ports, self.declared, self.handlers, self.end = name, ports, declared, handlers, end
+        self.ons = ons
         self.chains = {it.name: it for it in declared if isinstance(it, Chain)}
         self.arrays = {it.name: it for it in declared if isinstance(it, Array)}
 

@@ -1,0 +1,214 @@
+"""Toeplitz keys by their definition over all inputs, in vectors of GF(2) that are whole numbers.
+
+Bit i of a vector, from the left and from 0, has the weight 2^i in its number. The keys of some ports are one vector of
+unknowns, port behind port. What is asked of them is taken from the definition: for each two places of an object a
+basis of all pairs of inputs that agree in their fields, and for each such pair and each bit of the hash one equation.
+How many keys spread is counted by inclusion and exclusion over the ports whose table index would be constant.
+"""
+from dataclasses import dataclass
+from functools import lru_cache
+from itertools import combinations_with_replacement
+
+
+@dataclass(frozen=True)
+class Hashing:
+    """A Toeplitz hash: its input's fields in order with their widths, its bits, and how many low ones are the index
+    of the table."""
+    fields: tuple
+    bits: int
+    index: int
+
+    @property
+    def inputs(self):
+        """How many bits an input has."""
+        return sum(width for _, width in self.fields)
+
+    @property
+    def positions(self):
+        """How many bits of a key the hash reads."""
+        return self.inputs + self.bits - 1
+
+    @property
+    def spreading(self):
+        """The positions of a key of which the table's index is made."""
+        return range(self.bits - self.index, self.positions)
+
+    def at(self, field):
+        """The input's bits in which a field stands."""
+        start = 0
+        for name, width in self.fields:
+            if name == field:
+                return range(start, start + width)
+            start += width
+        raise KeyError(field)
+
+
+# Microsoft's receive side scaling over addresses and ports, with a table of 128 entries.
+RSS = Hashing((("src_ip", 32), ("dst_ip", 32), ("src_port", 16), ("dst_port", 16)), 32, 7)
+KEY_BITS = 320
+# The key of Microsoft's verification suite.
+DEFAULT = "6d5a56da255b0ec24167253d43a38fb0d0ca2bcbae7b30b477cb2da38030f20c6a42b73bbeac01fa"
+
+
+def vector(value, width):
+    """A number of so many bits as a vector, its highest bit the first."""
+    return int(format(value, f"0{width}b")[::-1], 2)
+
+
+def key_of(text):
+    """A key's vector by its 80 digits."""
+    return vector(int(text, 16), KEY_BITS)
+
+
+def text_of(key):
+    """The 80 digits of a key's vector."""
+    return format(int(format(key, f"0{KEY_BITS}b")[::-1], 2), f"0{KEY_BITS // 4}x")
+
+
+def input_of(hashing, fields):
+    """The input's vector of a packet's fields."""
+    found = 0
+    for name, width in hashing.fields:
+        found |= vector(fields[name], width) << hashing.at(name).start
+    return found
+
+
+def toeplitz(hashing, key, given):
+    """The hash of an input under a key: bit j from the highest is the sum of input_i * key_(i+j)."""
+    found = 0
+    for j in range(hashing.bits):
+        found = found << 1 | (given & key >> j).bit_count() & 1
+    return found
+
+
+# ---- linear algebra
+class Solutions:
+    """The solutions of equations in so many unknowns. An equation is a vector over them, with its constant behind."""
+
+    def __init__(self, unknowns):
+        self.unknowns, self.rows, self.none = unknowns, {}, False
+
+    def copy(self):
+        made = Solutions(self.unknowns)
+        made.rows, made.none = dict(self.rows), self.none
+        return made
+
+    def reduced(self, row):
+        """What an equation says beyond those that are there."""
+        kept = 0
+        while row:
+            lowest = row & -row
+            known = self.rows.get(lowest)
+            if known is None:
+                kept |= lowest
+                row ^= lowest
+            else:
+                row ^= known
+        return kept
+
+    def add(self, row):
+        row = self.reduced(row)
+        lowest = row & -row
+        if lowest == 1 << self.unknowns:
+            self.none = True
+        elif row:
+            self.rows[lowest] = row
+
+    def count(self):
+        """How many there are."""
+        return 0 if self.none else 1 << self.unknowns - len(self.rows)
+
+    def basis(self):
+        """A basis of them, where all constants are 0."""
+        free = [1 << at for at in range(self.unknowns) if 1 << at not in self.rows]
+        found = []
+        for one in free:
+            # Rows by falling pivot: each has its pivot and later unknowns alone.
+            for pivot in sorted(self.rows, reverse=True):
+                if (self.rows[pivot] & one).bit_count() & 1:
+                    one |= pivot
+            found.append(one)
+        return found
+
+
+def nearest(unknowns, rows, default, groups):
+    """The solution nearest a default by reading order that has a 1 in each group of unknowns, None where none has.
+
+    So read, each unknown is the default's unless no solution with a 1 in each group has it behind those before.
+    """
+    base = Solutions(unknowns)
+    for row in rows:
+        base.add(row)
+    # The solutions with 0 in all of some groups, each with the sign of inclusion and exclusion.
+    signed = [(1, base)]
+    for group in groups:
+        for sign, of in list(signed):
+            without = of.copy()
+            for at in group:
+                without.add(1 << at)
+            signed.append((-sign, without))
+    if not sum(sign * of.count() for sign, of in signed):
+        return None
+    found = 0
+    for at in range(unknowns):
+        wanted = default >> at & 1
+        for value in (wanted, 1 - wanted):
+            tried = [(sign, with_equation(of, 1 << at | value << unknowns)) for sign, of in signed if not of.none]
+            if sum(sign * of.count() for sign, of in tried):
+                break
+        signed = tried
+        found |= value << at
+    return found
+
+
+def with_equation(solutions, row):
+    """The solutions that an equation holds of too. Those given are changed only where it leaves none."""
+    row = solutions.reduced(row)
+    if not row:
+        return solutions
+    made = solutions.copy()
+    made.add(row)
+    return made
+
+
+# ---- keys
+@lru_cache(maxsize=None)
+def agreeing(hashing, left, right):
+    """A basis of all pairs of inputs that agree: in each field of the left one and the field that stands with it on the
+    right. A pair is one vector, the left input before the right one."""
+    system = Solutions(2 * hashing.inputs)
+    for one, other in zip(left, right, strict=True):
+        for at, where in zip(hashing.at(one), hashing.at(other), strict=True):
+            system.add(1 << at | 1 << hashing.inputs + where)
+    half = (1 << hashing.inputs) - 1
+    return [(pair & half, pair >> hashing.inputs) for pair in system.basis()]
+
+
+def equations(hashing, objects):
+    """What admissible keys have to satisfy. An object is the list of its sites, each the number of its port and the
+    fields of the kept labels; port p's bit i is unknown p * positions + i."""
+    found = set()
+    for places in objects:
+        for (port, left), (other, right) in combinations_with_replacement(sorted(set(places)), 2):
+            for one, two in agreeing(hashing, left, right):
+                for j in range(hashing.bits):
+                    shift = hashing.positions
+                    found.add((one << j << port * shift) ^ (two << j << other * shift))
+    return found - {0}
+
+
+def given_keys(hashing, ports, objects, default):
+    """The given keys of so many ports as vectors, None where no admissible keys spread."""
+    keyed = sorted({port for places in objects for port, _ in places})
+    numbered = [[(keyed.index(port), fields) for port, fields in places] for places in objects]
+    each = hashing.positions
+    front = default & (1 << each) - 1
+    wanted = sum(front << number * each for number in range(len(keyed)))
+    groups = [[number * each + at for at in hashing.spreading] for number in range(len(keyed))]
+    found = nearest(len(keyed) * each, sorted(equations(hashing, numbered)), wanted, groups)
+    if found is None:
+        return None
+    keys = [default] * ports
+    for number, port in enumerate(keyed):
+        keys[port] = found >> number * each & (1 << each) - 1
+    return keys

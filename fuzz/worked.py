@@ -1,0 +1,263 @@
+"""Functions whose analysis was worked out by hand: the text, and what `check`, `explain` and `keys` say of it.
+
+`check` is what it prints, `objects` what `explain` prints before the verdict, and `verdict` what `keys` prints; each is
+None where it wasn't worked out.
+"""
+from dataclasses import dataclass
+
+from keys import DEFAULT
+
+
+@dataclass
+class Worked:
+    text: str
+    check: str = None
+    objects: str = None
+    verdict: str = None
+
+
+def zeros(count):
+    """So many bytes of a key."""
+    return "00" * count
+
+
+def sharded(*keys):
+    return "".join(["sharded\n", *(f"key {port} {key}\n" for port, key in enumerate(keys))])
+
+
+def by_fields(*parts):
+    """One port, one chain: a look-up and a `new` of these labels, each with its width and its field."""
+    labels = ", ".join(f"{label}: {width}" for label, width, _ in parts)
+    values = ", ".join(field for _, _, field in parts)
+    gives = ", ".join(f"{label} = {field}" for label, _, field in parts)
+    return (
+        f"nf bysrc {{ ports 1; chain s 16 lifetime 1000 {{ map m({labels}); }} "
+        f"on 0 {{ get e = s.m({values}) {{ touch e; }} else {{ new f = s({gives}) {{ }} }} forward 0; }} }}"
+    )
+
+
+FIREWALL = """\
+nf fw {
+  ports 2;
+  chain flows 1 lifetime 60000000000 { map by_flow(a: 32, b: 32, c: 16, d: 16); }
+  on 0 {
+    get e = flows.by_flow(src_ip, dst_ip, src_port, dst_port) { touch e; }
+    else {
+      new f = flows(a = src_ip, b = dst_ip, c = src_port, d = dst_port) { }
+      full { drop; }
+    }
+    forward 1;
+  }
+  on 1 {
+    get e = flows.by_flow(dst_ip, src_ip, dst_port, src_port) { touch e; forward 0; }
+    drop;
+  }
+}
+"""
+POLICER = """\
+nf policer {
+  ports 2;
+  chain hosts 5 lifetime 10 { map by_dst(d: 32); free used: 64; }
+  on 0 { forward 1; }
+  on 1 {
+    get e = hosts.by_dst(dst_ip) {
+      e.used = e.used + length;
+      if e.used > 1000 { drop; }
+      forward 0;
+    } else {
+      new f = hosts(d = dst_ip) { f.used = length; forward 0; }
+    }
+    drop;
+  }
+}
+"""
+TRANSLATOR = """\
+nf nat {
+  ports 2;
+  chain conns 60000 lifetime 60000000000 {
+    map by_in(sip: 32, sp: 16, dip: 32, dp: 16);
+    fixed rip: 32; fixed rp: 16;
+  }
+  on 0 {
+    get e = conns.by_in(src_ip, src_port, dst_ip, dst_port) {
+      touch e; set src_ip = 203.0.113.1; set src_port = e.index + 1024; forward 1;
+    } else {
+      new f = conns(sip = src_ip, sp = src_port, dip = dst_ip, dp = dst_port,
+                    rip = dst_ip, rp = dst_port) {
+        set src_ip = 203.0.113.1; set src_port = f.index + 1024; forward 1;
+      }
+    }
+    drop;
+  }
+  on 1 {
+    if dst_port < 1024 { drop; }
+    find e = conns[dst_port - 1024] where (rip = src_ip, rp = src_port) {
+      touch e; set dst_ip = e.sip; set dst_port = e.sp; forward 0;
+    }
+    drop;
+  }
+}
+"""
+BRIDGE = """\
+nf bridge {
+  ports 2;
+  chain macs 4 lifetime 10 { map by_mac(m: 48); free at: 8; }
+  on 0 {
+    get e = macs.by_mac(src_mac) { touch e; e.at = 0; }
+    else { new f = macs(m = src_mac) { f.at = 0; } }
+    get g = macs.by_mac(dst_mac) { forward g.at; }
+    flood;
+  }
+  on 1 {
+    get e = macs.by_mac(src_mac) { touch e; e.at = 1; }
+    else { new f = macs(m = src_mac) { f.at = 1; } }
+    get g = macs.by_mac(dst_mac) { forward g.at; }
+    flood;
+  }
+}
+"""
+HIDDEN = """\
+nf hidden {
+  ports 1;
+  chain c 4 lifetime 10 { map s(x: 32); map d(y: 32); }
+  on 0 {
+    get e = c.d(dst_ip) { touch e; } else { new f = c(x = src_ip, y = dst_ip) { } }
+    forward 0;
+  }
+}
+"""
+BOTH = """\
+nf both {
+  ports 1;
+  chain s 4 lifetime 10 { map m(x: 32); }
+  chain d 4 lifetime 10 { map m(y: 32); }
+  on 0 {
+    get e = s.m(src_ip) { touch e; } else { new f = s(x = src_ip) { } }
+    get g = d.m(dst_ip) { touch g; } else { new h = d(y = dst_ip) { } }
+    forward 0;
+  }
+}
+"""
+COUNT = """\
+nf count {
+  ports 1;
+  array hits 65536 : 64;
+  on 0 { hits[dst_port] = hits[dst_port] + 1; forward 0; }
+}
+"""
+
+
+def tests(count):
+    """A handler with so many tests of different texts, one behind the other."""
+    return f"nf p {{ ports 1; on 0 {{ {' '.join(f'if src_port < {number} {{ }}' for number in range(count))} }} }}"
+
+
+CASES = {
+    "a firewall": Worked(
+        FIREWALL, "ok fw: ports 2, chains 1, arrays 0, paths 4 2\n", None,
+        sharded(f"6d5a56da56db6d5a6d5a56db6d5a56da{zeros(24)}", f"56db6d5a6d5a56da56db6d5a56db6d5a{zeros(24)}"),
+    ),
+    "a policer": Worked(
+        POLICER, None,
+        "nf policer\n"
+        "object hosts rule J1 keeps d\n"
+        "site 1 get by_dst d=dst_ip\n"
+        "site 1 new d=dst_ip\n"
+        "site 1 name by_dst d=dst_ip\n",
+        sharded(DEFAULT, f"{zeros(7)}01{zeros(32)}"),
+    ),
+    "by source": Worked(by_fields(("x", 32, "src_ip")), None, None, sharded(f"6d5a56da{zeros(36)}")),
+    "an address translator": Worked(
+        TRANSLATOR, "ok nat: ports 2, chains 1, arrays 0, paths 4 3\n",
+        "nf nat\n"
+        "object conns rule J5 keeps dip dp rip rp\n"
+        "site 0 get by_in sip=src_ip sp=src_port dip=dst_ip dp=dst_port rip=dst_ip rp=dst_port\n"
+        "site 0 new sip=src_ip sp=src_port dip=dst_ip dp=dst_port rip=dst_ip rp=dst_port\n"
+        "site 0 name by_in sip=src_ip sp=src_port dip=dst_ip dp=dst_port rip=dst_ip rp=dst_port\n"
+        "site 1 find dip=src_ip dp=src_port rip=src_ip rp=src_port\n",
+        sharded(f"{zeros(7)}01{zeros(32)}", f"{zeros(3)}01{zeros(36)}"),
+    ),
+    "one without a guard": Worked(
+        TRANSLATOR.replace(" where (rip = src_ip, rp = src_port)", ""), None, None, "locked conns J4\n",
+    ),
+    "by both ports": Worked(
+        by_fields(("x", 16, "src_port"), ("y", 16, "dst_port")), None, None,
+        sharded(f"{zeros(11)}0143a38fb0{zeros(24)}"),
+    ),
+    "by destination port": Worked(
+        by_fields(("x", 16, "dst_port")), None, None, sharded(f"{zeros(13)}018fb0{zeros(24)}"),
+    ),
+    "by source port": Worked(by_fields(("x", 16, "src_port")), None, None, "locked hash\n"),
+    "a counter by destination port": Worked(
+        COUNT, "ok count: ports 1, chains 0, arrays 1, paths 1\n",
+        "nf count\n"
+        "object hits rule J1 keeps index\n"
+        "site 0 store index=dst_port\n"
+        "site 0 load index=dst_port\n",
+        sharded(f"{zeros(13)}018fb0{zeros(24)}"),
+    ),
+    "one chain by source and one by destination": Worked(BOTH, None, None, "locked hash\n"),
+    "a bridge": Worked(BRIDGE, None, None, "locked macs J4\n"),
+    "two keys, of which one is looked up": Worked(
+        HIDDEN, None,
+        "nf hidden\n"
+        "object c rule J3 keeps -\n"
+        "site 0 get d y=dst_ip\n"
+        "site 0 new x=src_ip y=dst_ip\n"
+        "site 0 name s x=src_ip\n"
+        "site 0 name d y=dst_ip\n",
+        "locked c J3\n",
+    ),
+    # The cells stand as the text has them, not as the labels are declared.
+    "cells given out of order": Worked(
+        "nf w { ports 1; array a 8 : 16; chain c 4 lifetime 1 { map m(l: 16); fixed k: 16; } "
+        "on 0 { new e = c(k = a[src_port], l = a[dst_port + a[1]]) { a[dst_port] = a[src_port] + a[2]; } } }",
+        "ok w: ports 1, chains 1, arrays 1, paths 3\n",
+        "nf w\n"
+        "object a rule J4 keeps -\n"
+        "site 0 load index=src_port\n"
+        "site 0 load -\n"
+        "site 0 load -\n"
+        "site 0 store index=dst_port\n"
+        "site 0 load index=src_port\n"
+        "site 0 load -\n"
+        "object c rule J4 keeps -\n"
+        "site 0 new -\n"
+        "site 0 name m -\n",
+        "locked a J4\n",
+    ),
+    # `k` is known by `l`, which is declared before `m`, though the guard has `m` first.
+    "guards given out of order": Worked(
+        "nf g { ports 1; chain c 4 lifetime 1 { map by(l: 32, m: 32); fixed k: 32; } "
+        "on 0 { find e = c[0] where (m = dst_ip, l = src_ip) { touch e; } "
+        "new f = c(k = dst_ip, m = (dst_ip), l = dst_ip) { } } }",
+        "ok g: ports 1, chains 1, arrays 0, paths 6\n",
+        "nf g\n"
+        "object c rule J5 keeps l m k\n"
+        "site 0 find l=src_ip m=dst_ip k=src_ip\n"
+        "site 0 new l=dst_ip m=dst_ip k=dst_ip\n"
+        "site 0 name by l=dst_ip m=dst_ip k=dst_ip\n",
+        # The `find` alone leaves no part to the ports, the `new` none to the source.
+        sharded(f"{zeros(7)}01{zeros(32)}"),
+    ),
+    "handlers out of order, one object unused and one read only": Worked(
+        "nf h { ports 2; array r 4 : 8; chain u 4 lifetime 1 { map m(l: 32); } chain s 4 lifetime 1 { fixed x: 16; } "
+        "on 1 { if r[0] == src_port { } find e = s[1] where (x = dst_port) { } "
+        "if proto == 6 { if proto == 17 { new f = u(l = src_ip) { } } } } "
+        "on 0 { new e = s(x = src_port) { } taken { drop; } } }",
+        "ok h: ports 2, chains 2, arrays 1, paths 3 8\n",
+        "nf h\n"
+        "object r read only\n"
+        "object u unused\n"
+        "object s rule J5 keeps x\n"
+        "site 0 new x=src_port\n"
+        "site 1 find x=dst_port\n",
+        "locked hash\n",
+    ),
+    "twelve tests": Worked(tests(12), "ok p: ports 1, chains 0, arrays 0, paths 4096\n"),
+    "thirteen tests": Worked(tests(13), "refused P1 at 1:17\n"),
+    "a field that is one of two numbers": Worked(
+        "nf p { ports 1; on 0 { if src_port == 1 { } if src_port == 2 { } } }",
+        "ok p: ports 1, chains 0, arrays 0, paths 3\n",
+    ),
+}
