@@ -4,10 +4,11 @@ ghost use Rattle.std.specs.List.{range_with_len};
 ghost use Rattle.nf_base.specs.Functions.{function_of};
 ghost use Rattle.nf_base.specs.View.{block_of};
 ghost use Rattle.nf_sites.specs.OnPaths.{port_sites, sites_of};
+ghost use Rattle.nf_sites.specs.CoverLaws.{Covers};
 ghost use Rattle.path_walk.specs.Listed.{port_branches};
 ghost use Rattle.access_keys.specs.Alive.{live_seen};
 ghost use Rattle.access_keys.specs.Together.{new_seen, all_set};
-ghost use Rattle.access_keys.specs.Told.{ArePaths, sites_told};
+ghost use Rattle.access_keys.specs.Told.{ArePaths, IsTold, sites_told};
 
 use crate::access::Here;
 use crate::creation::{NewFields, all_new};
@@ -65,6 +66,9 @@ pub fn sites(alloc: Global, func: &Func, paths: &[Vec<Path>]) -> Result<Vec<Site
     // The feasible paths of each port, in port order.
     requires { ArePaths (function_of func.now) (map (λ v. v.items) paths.now) }
     ensures all { IfOk result (λ all. all.items ≡ sites_told (function_of func.now) (sites_of (function_of func.now))) }
+    // Whatever the state, the choices and the numbers of entries, each location that a handled packet
+    // touches it touches at one of these.
+    ensures cover { IfOk result (λ all. Covers (function_of func.now) (IsTold (function_of func.now) all.items)) }
 {
     let all = all_new(alloc, func)?;
     let mut sites = Vec::new(alloc);

@@ -16,7 +16,10 @@ fn put_back<'a>(one: &'a Block, left: &mut Vec<&'a Block>) -> Result<(), AllocEr
         Block::End(_) => {}
         Block::Do { next, .. } => left.push(next)?,
         Block::Ask {
-            hit, miss, next, ..
+            hit,
+            miss,
+            next,
+            ..
         } => {
             left.push(next)?;
             left.push(miss)?;

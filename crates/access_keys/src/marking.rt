@@ -91,11 +91,7 @@ fn behind(block: &Block) -> Option<&Block>
 }
 
 /// The paths that go on behind the end of a block.
-fn past_ending<'a>(
-    alloc: Global,
-    ending: &Ending,
-    live: Vec<&'a [Branch]>,
-) -> Vec<&'a [Branch]>
+fn past_ending<'a>(alloc: Global, ending: &Ending, live: Vec<&'a [Branch]>) -> Vec<&'a [Branch]>
     ensures { live_seen result.items ≡ past_ending (ending_of ending.now) (live_seen live.entry.items) }
 {
     match ending {
@@ -138,7 +134,10 @@ fn mark_statement<'a>(
             joined(hits, misses)
         }
         Block::Make {
-            made, taken, full, ..
+            made,
+            taken,
+            full,
+            ..
         } => {
             let Ways {
                 first,

@@ -98,7 +98,10 @@ impl Places {
             Operation::Set { given, .. } => self.add_value(&given.value),
             Operation::Write { given, .. } => self.add_value(&given.value),
             Operation::Store {
-                place, at, given, ..
+                place,
+                at,
+                given,
+                ..
             } => {
                 self.add(*place)?;
                 self.add_value(at)?;
@@ -116,14 +119,20 @@ impl Places {
                 self.add_given(key.as_slice())
             }
             Question::Find {
-                place, at, guards, ..
+                place,
+                at,
+                guards,
+                ..
             } => {
                 self.add(*place)?;
                 self.add_value(at)?;
                 self.add_guards(guards.as_slice())
             }
             Question::Test {
-                place, left, right, ..
+                place,
+                left,
+                right,
+                ..
             } => {
                 self.add(*place)?;
                 self.add_value(left)?;
