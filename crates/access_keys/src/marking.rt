@@ -23,16 +23,20 @@ struct Ways<'a> {
 }
 
 impl<'a> Ways<'a> {
-    fn new(alloc: Global) -> Ways<'a>
-        ensures first { live_seen result.first.items ≡ [] }
-        ensures second { live_seen result.second.items ≡ [] }
-        ensures third { live_seen result.third.items ≡ [] }
+    /// Room for so many paths to hit, and for as many to miss.
+    fn new(alloc: Global, most: usize) -> Result<Ways<'a>, AllocError>
+        ensures first { IfOk result (λ ways. live_seen ways.first.items ≡ []) }
+        ensures second { IfOk result (λ ways. live_seen ways.second.items ≡ []) }
+        ensures third { IfOk result (λ ways. live_seen ways.third.items ≡ []) }
     {
-        Ways {
-            first: Vec::new(alloc),
-            second: Vec::new(alloc),
-            third: Vec::new(alloc),
-        }
+        let first = Vec::with_capacity(alloc, most)?;
+        let second = Vec::with_capacity(alloc, most)?;
+        let third = Vec::new(alloc);
+        Ok(Ways {
+            first,
+            second,
+            third,
+        })
     }
 
     /// What follows a branch of one path more.
@@ -81,7 +85,7 @@ fn parted<'a>(alloc: Global, live: &[&'a [Branch]]) -> Result<Ways<'a>, AllocErr
     ensures third { IfOk result (λ ways. live_seen ways.third.items ≡ those into_third
         (live_seen live.now)) }
 {
-    let mut ways = Ways::new(alloc);
+    let mut ways = Ways::new(alloc, live.len())?;
     for path in live {
         ways.put(path)?;
     }
