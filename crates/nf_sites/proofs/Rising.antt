@@ -1,0 +1,115 @@
+-- The sites of statements stand as their places do.
+use Rattle.std.proofs.Common.{◌≡◌, ◌<◌, ◌≤◌, ℕ, suc, List, [], ◌∷◌, ◌++◌, AllPairs, Contains, Option, Some, None, slice_get, refl, sym, subst, arith, inl, inr}
+use Rattle.std.specs.List.{flat_map}
+use Rattle.std.proofs.lemmas.List.Kept.{AllPairs-from_increasing}
+use Rattle.std.proofs.lemmas.List.Elements.{Contains-append_cases}
+use Rattle.nf_base.specs.declared.decl.MapDecl.{MapDecl}
+use Rattle.nf_base.specs.declared.decl.ChainDecl.{ChainDecl}
+use Rattle.nf_base.specs.Text.{Expression, Number, Read, Index, Label, Column, Cell, Both, Given, Guard, FallsOff, Flood, Discard, Forward, Touch, Free, Set, Write, Store, Get, Find, Test, Creation, Block, Function}
+use Rattle.nf_base.specs.Chains.{maps_of}
+use Rattle.nf_base.specs.Statements.{Statement, Ends, Does, Asks, Makes, statements}
+use Rattle.nf_base.specs.TextPlaces.{expression_places, given_places, guard_places, places_in}
+use Rattle.nf_sites.specs.declared.sort.Sort.TheVariants as sort
+use Rattle.nf_sites.specs.Sites.{Site, cell_site, expression_sites, given_sites, guard_sites, get_site, find_site, name_sites, statement_sites}
+use Rattle.nf_sites.specs.OnPaths.{sites_along, text_sites, is_reached, handler_sites}
+use Rattle.nf_sites.specs.Laws.{SitesAreOfTheirPort, SitesStandInTextOrder}
+use Rattle.nf_laws.proofs.Listed.{has_none, was}
+use Rattle.nf_sites.proofs.Pairs.{Pairs, from_all, to_all, left, right, across, joined, filtered}
+use Rattle.nf_sites.proofs.Placed.{IsOf, either_of, of_expression, of_givens, of_guards, of_names, of_statement}
+
+abbrev Below : ℕ → ℕ → Type 0
+Below a b = a < b
+
+abbrev Behind : Site → Site → Type 0
+Behind x y = x.place ≤ y.place
+
+abbrev Rising : List ℕ → Type 0
+Rising ns = Pairs Below ns
+
+abbrev InOrder : List Site → Type 0
+InOrder xs = Pairs Behind xs
+
+both : (port : ℕ) (us vs : List ℕ) (xs ys : List Site) → Rising (us ++ vs) → ((x : Site) → Contains xs x → IsOf port us x) → ((y : Site) → Contains ys y → IsOf port vs y) → (Rising us → InOrder xs) → (Rising vs → InOrder ys) → InOrder (xs ++ ys)
+both port us vs xs ys h of_xs of_ys f g =
+    joined Behind xs ys (f (left Below us vs h)) (g (right Below us vs h))
+    (λ x y i j. let lt = across Below us vs x.place y.place h (of_xs x i).place (of_ys y j).place in omega (arith, lt))
+
+first : (port place : ℕ) (us : List ℕ) (s : Site) (xs : List Site) → s.place ≡ place → Rising (place ∷ us) → ((x : Site) → Contains xs x → IsOf port us x) → (Rising us → InOrder xs) → InOrder (s ∷ xs)
+first port place us s xs e h of_xs f = (λ y i. let lt = h.0 y.place (of_xs y i).place in let q = e in omega (arith, lt, q), f h.1)
+
+of_reads : (port : ℕ) (e : Expression) → Rising (expression_places e) → InOrder (expression_sites port e)
+of_reads port (Number n) h = tt
+of_reads port (Read field) h = tt
+of_reads port (Index var) h = tt
+of_reads port (Label var label) h = tt
+of_reads port (Column var column) h = tt
+of_reads port (Cell place array at) h = first port place (expression_places at) (cell_site port sort.Load place array at) (expression_sites port at) refl h (of_expression port at) (of_reads port at)
+of_reads port (Both operator l r) h = both port (expression_places l) (expression_places r) (expression_sites port l) (expression_sites port r) h (of_expression port l) (of_expression port r) (of_reads port l) (of_reads port r)
+
+of_values : (port : ℕ) (gs : List Given) → Rising (given_places gs) → InOrder (given_sites port gs)
+of_values port [] h = tt
+of_values port (g ∷ gs) h = both port (expression_places g.value) (given_places gs) (expression_sites port g.value) (given_sites port gs) h (of_expression port g.value) (of_givens port gs) (of_reads port g.value) (of_values port gs)
+
+of_asked : (port : ℕ) (gs : List Guard) → Rising (guard_places gs) → InOrder (guard_sites port gs)
+of_asked port [] h = tt
+of_asked port (g ∷ gs) h = both port (expression_places g.given.value) (guard_places gs) (expression_sites port g.given.value) (guard_sites port gs) h (of_expression port g.given.value) (of_guards port gs) (of_reads port g.given.value) (of_asked port gs)
+
+names_in_order : (port : ℕ) (n : Creation) (m : ℕ) (decls : List MapDecl) → InOrder (name_sites port n m decls)
+names_in_order port n m [] = tt
+names_in_order port n m (decl ∷ decls) = (λ y i. let e = (of_names port n (suc m) decls y i).place in omega (arith, e), names_in_order port n (suc m) decls)
+
+of_new : (decls : List ChainDecl) (port : ℕ) (n : Creation) → Rising (n.place ∷ given_places n.labels) → InOrder (statement_sites decls port (Makes n))
+of_new decls port n h =
+    let names = name_sites port n 0 (maps_of decls n.chain) in
+    let reads = given_sites port n.labels in (
+      λ y i. elim (Contains-append_cases names reads y i) [
+        | inl j ↦ let e = (of_names port n 0 (maps_of decls n.chain) y j).place in omega (arith, e)
+        | inr j ↦ let lt = h.0 y.place (of_givens port n.labels y j).place in omega (arith, lt)
+      ],
+      joined Behind names reads (names_in_order port n 0 (maps_of decls n.chain)) (of_values port n.labels h.1)
+          (λ x y i j. let e = (of_names port n 0 (maps_of decls n.chain) x i).place in let lt = h.0 y.place (of_givens port n.labels y j).place in omega (arith, e, lt)),
+    )
+
+in_statement : (decls : List ChainDecl) (port : ℕ) (s : Statement) → Rising (places_in s) → InOrder (statement_sites decls port s)
+in_statement decls port (Ends FallsOff) h = tt
+in_statement decls port (Ends Flood) h = tt
+in_statement decls port (Ends Discard) h = tt
+in_statement decls port (Ends (Forward to)) h = of_reads port to h
+in_statement decls port (Does (Touch var)) h = tt
+in_statement decls port (Does (Free var)) h = tt
+in_statement decls port (Does (Set field g)) h = of_reads port g.value h
+in_statement decls port (Does (Write var column g)) h = of_reads port g.value h
+in_statement decls port (Does (Store place array at g)) h =
+    first port place (expression_places at ++ expression_places g.value) (cell_site port sort.Store place array at) (expression_sites port at ++ expression_sites port g.value) refl h
+    (λ x. either_of port (expression_places at) (expression_places g.value) (expression_sites port at) (expression_sites port g.value) x (of_expression port at x) (of_expression port g.value x))
+    (λ r. both port (expression_places at) (expression_places g.value) (expression_sites port at) (expression_sites port g.value) r (of_expression port at) (of_expression port g.value) (of_reads port at) (of_reads port g.value))
+in_statement decls port (Asks (Get place chain m key var)) h = first port place (given_places key) (get_site decls port place chain m key) (given_sites port key) refl h (of_givens port key) (of_values port key)
+in_statement decls port (Asks (Find place chain at guards var)) h =
+    first port place (expression_places at ++ guard_places guards) (find_site port place chain guards) (expression_sites port at ++ guard_sites port guards) refl h
+    (λ x. either_of port (expression_places at) (guard_places guards) (expression_sites port at) (guard_sites port guards) x (of_expression port at x) (of_guards port guards x))
+    (λ r. both port (expression_places at) (guard_places guards) (expression_sites port at) (guard_sites port guards) r (of_expression port at) (of_guards port guards) (of_reads port at) (of_asked port guards))
+in_statement decls port (Asks (Test place comparison l r)) h =
+    both port (expression_places l) (expression_places r) (expression_sites port l) (expression_sites port r) h.1 (of_expression port l) (of_expression port r) (of_reads port l) (of_reads port r)
+in_statement decls port (Makes n) h = of_new decls port n h
+
+pub along : (decls : List ChainDecl) (port : ℕ) (ss : List Statement) (x : Site) → Contains (sites_along decls port ss) x → IsOf port (flat_map places_in ss) x
+along decls port [] x h = absurd (has_none x h)
+along decls port (s ∷ ss) x h = either_of port (places_in s) (flat_map places_in ss) (statement_sites decls port s) (sites_along decls port ss) x (of_statement decls port s x) (along decls port ss x) h
+
+all_in_order : (decls : List ChainDecl) (port : ℕ) (ss : List Statement) → Rising (flat_map places_in ss) → InOrder (sites_along decls port ss)
+all_in_order decls port [] h = tt
+all_in_order decls port (s ∷ ss) h =
+    both port (places_in s) (flat_map places_in ss) (statement_sites decls port s) (sites_along decls port ss) h (of_statement decls port s) (along decls port ss) (in_statement decls port s) (all_in_order decls port ss)
+
+pub in_text_order : SitesStandInTextOrder
+in_text_order f port block e rises =
+    let h = from_all Below (flat_map places_in (statements block)) (AllPairs-from_increasing (flat_map places_in (statements block)) rises) in
+    subst (λ (o : Option Block). AllPairs Behind (handler_sites f port o)) (sym e)
+    (to_all Behind (handler_sites f port (Some block)) (filtered Behind (λ (x : Site). is_reached f port x.place) (text_sites f.chains port block) (all_in_order f.chains port (statements block) h)))
+
+at_handler : (f : Function) (port : ℕ) (o : Option Block) (x : Site) → Contains (handler_sites f port o) x → x.port ≡ port
+at_handler f port None x h = absurd (has_none x h)
+at_handler f port (Some block) x h = (along f.chains port (statements block) x (was (λ (x : Site). is_reached f port x.place) (text_sites f.chains port block) x h)).port
+
+pub of_their_port : SitesAreOfTheirPort
+of_their_port f port x h = at_handler f port (slice_get f.handlers port) x h

@@ -1,0 +1,29 @@
+-- What a hash for each port promises to the sites of a function.
+use Rattle.std.specs.Prelude.{◌≡◌, ℕ, IsTrue, Option, Some, None, Contains}
+use Rattle.nf_base.specs.declared.packet.Fields.{Fields}
+use Rattle.nf_base.specs.Text.{Function}
+use Rattle.nf_base.specs.Objects.{is_written}
+use Rattle.hash_fields.specs.declared.hashable.Hashable.{Hashable}
+use Rattle.hash_fields.specs.Hashed.{value, IsInput}
+use Rattle.nf_sites.specs.Sites.{Site}
+use Rattle.nf_sites.specs.OnPaths.{sites_of}
+use Rattle.nf_sites.specs.Known.{known, kept}
+
+-- a field of one input is that field of another, where both are said
+abbrev pub AreEqual : Fields → Fields → Option Hashable → Option Hashable → Type 0
+AreEqual p q None b = Unit {0}
+AreEqual p q (Some a) None = Unit {0}
+AreEqual p q (Some a) (Some b) = value p a ≡ value q b
+
+-- two inputs agree at two sites of one object: in each kept label, by the fields known there
+abbrev pub Agree : Function → (x y : Site) → (p q : Fields) → Type 0
+Agree f x y p q =
+    (l : ℕ) → Contains (kept f x.object) l → AreEqual p q (known f x l) (known f y l)
+
+-- A hash of each port's input is admissible where inputs that agree at two sites of a written
+-- object have one hash, each by its site's port.
+abbrev pub IsAdmissibleBySites : Function → (hash : ℕ → Fields → ℕ) → Type 0
+IsAdmissibleBySites f hash =
+    (x y : Site) → Contains (sites_of f) x → Contains (sites_of f) y → x.object ≡ y.object →
+    IsTrue (is_written f x.object) → (p q : Fields) → IsInput p → IsInput q → Agree f x y p q →
+    hash x.port p ≡ hash y.port q
