@@ -5,3 +5,14 @@ pub mod Rising
 pub mod OfText
 pub mod Listing
 pub mod KeptLabels
+pub mod Slots
+pub mod Givens
+pub mod Keeping
+pub mod Courses
+pub mod Fields
+pub mod Along
+pub mod Going
+pub mod Runs
+pub mod Covering
+pub mod Separate
+pub mod HashedPolicer

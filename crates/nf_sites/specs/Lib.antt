@@ -4,3 +4,9 @@ pub mod OnPaths
 pub mod Known
 pub mod Admissible
 pub mod Laws
+pub mod Covers
+pub mod Labelled
+pub mod CoverLaws
+pub mod Separation
+pub mod Samples
+pub mod Rows
