@@ -40,8 +40,8 @@ pub record IsOutOfReach (ports : ℕ) (objects : List Object) (keys : Keys) (por
   pub none : (other : Keys) → MayBeGiven ports objects other → AgreeBefore port i keys other
       → key_bit other port i ≢ bit_of DEFAULT_KEY i
 
--- Each bit in 0 to 126 is the default key's unless that is out of reach. The bits past these are 0 in
--- the key of a keyed port; the key of any other port is the default key.
+-- Each bit in 0 to 126 is the default key's unless that is out of reach. The bits past these are 0
+-- in the key of a keyed port; the key of any other port is the default key.
 pub record AreGiven (ports : ℕ) (objects : List Object) (keys : Keys) : Type 0 where
   pub may : MayBeGiven ports objects keys
   pub nearest : (port i : ℕ) → port < ports → i < 127

@@ -1,4 +1,9 @@
 pub mod Places
 pub mod Keyed
-pub mod Spread
 pub mod Given
+pub mod Classes
+pub mod Rows
+pub mod Systems
+pub mod Solutions
+pub mod Spread
+pub mod Laws

@@ -1,0 +1,91 @@
+-- Keys by their bytes and bits.
+use Rattle.std.proofs.Common.{◌≡◌, ℕ, suc, ◌+◌, ◌-◌, ◌*◌, ◌^◌, ◌/◌, ◌%◌, ◌<◌, ◌≤◌, nat_lt, refl, ap, sym, ◌∙◌, Bool, true, false, List, length, get_or, arith, inl, inr, add-one, if◌then◌else◌}
+use Rattle.std.specs.Int.{bit_at}
+use Rattle.std.proofs.lemmas.Bool.{cases_lt, le-ltb, lt-ltb}
+use Rattle.std.proofs.Math.Nat.{pow-suc}
+use Rattle.std.proofs.lemmas.List.{get_or_past, get_or_default, same_lists}
+use Rattle.std.proofs.lemmas.List.FromFn.{length-map-range_with_len, get_or-map-range_with_len}
+use Rattle.std.proofs.lemmas.Nat.Bits.{bit_at-zero, same_from_bits_below}
+use Rattle.toeplitz_hash.specs.Bits.{bit_of, number_of}
+use Rattle.toeplitz_hash.proofs.Numbers.{number_of-lt, bit_at-number_of}
+use Rattle.gf2_solve.specs.Sums.{bit}
+use Rattle.key_rows.specs.Solutions.{solution_bit, byte_of, key_of}
+use Rattle.key_rows.specs.Given.{IsKey}
+
+-- a bit by its byte
+pub bit_in_byte : (bytes : List ℕ) (i : ℕ) → bit_of bytes i ≡ bit_at (get_or bytes (i / 8) 0) (7 - i % 8)
+unfolding bit_of
+bit_in_byte bytes i = refl
+
+pub solution_bit-lt : (bits : List Bool) (port i : ℕ) → solution_bit bits port i < 2
+solution_bit-lt bits port i = of_tests (nat_lt i 127) (get_or bits (127 * port + i) false)
+  where
+    of_tests : (s t : Bool) → (if s then (if t then 1 else 0) else 0) < 2
+    of_tests true true = omega arith
+    of_tests true false = omega arith
+    of_tests false t = omega arith
+
+pub past_126 : (bits : List Bool) (port i : ℕ) → 127 ≤ i → solution_bit bits port i ≡ 0
+past_126 bits port i past = ap (λ t. if t then (if bit bits (127 * port + i) then 1 else 0) else 0) (le-ltb i 127 past)
+
+pub up_to_126 : (bits : List Bool) (port i : ℕ) → i < 127 → solution_bit bits port i ≡ (if bit bits (127 * port + i) then 1 else 0)
+up_to_126 bits port i below = ap (λ t. if t then (if bit bits (127 * port + i) then 1 else 0) else 0) (lt-ltb i 127 below)
+
+pub long_key : (bits : List Bool) (port : ℕ) → length (key_of bits port) ≡ 40
+long_key bits port = length-map-range_with_len (byte_of bits port) 0 40
+
+-- The key of a solution has its bits.
+pub bit_of_key : (bits : List Bool) (port i : ℕ) → bit_of (key_of bits port) i ≡ solution_bit bits port i
+bit_of_key bits port i =
+    elim (cases_lt i 320) [
+      | inl within ↦
+          let f : ℕ → ℕ = λ j. solution_bit bits port (8 * (i / 8) + j) in
+          let eight : 8 ≡ suc (i % 8) + (7 - i % 8) = omega arith in
+          let whole : 8 * (i / 8) + i % 8 ≡ i = omega arith in
+          bit_in_byte (key_of bits port) i
+          ∙ ap (λ b. bit_at b (7 - i % 8)) (get_or-map-range_with_len (byte_of bits port) 0 40 (i / 8) (i / 8) 0 (omega arith) (omega arith))
+          ∙ ap (λ m. bit_at (number_of m f) (7 - i % 8)) eight
+          ∙ bit_at-number_of (i % 8) (7 - i % 8) f (λ j. solution_bit-lt bits port (8 * (i / 8) + j))
+          ∙ ap (solution_bit bits port) whole
+      | inr past ↦
+          bit_in_byte (key_of bits port) i
+          ∙ ap (λ b. bit_at b (7 - i % 8)) (get_or_past (key_of bits port) (i / 8) 0 (omega (arith, long_key bits port)))
+          ∙ bit_at-zero (7 - i % 8)
+          ∙ sym (past_126 bits port i (omega arith))
+    ]
+
+pub is_key : (bits : List Bool) (port : ℕ) → IsKey (key_of bits port)
+is_key bits port = record {
+  long = long_key bits port;
+  bytes = λ k d below.
+      let is : get_or (key_of bits port) k d ≡ byte_of bits port k = get_or-map-range_with_len (byte_of bits port) 0 40 k k d (omega (arith, long_key bits port)) (omega arith) in
+      rw is (number_of-lt 8 (λ j. solution_bit bits port (8 * k + j)) (λ j. solution_bit-lt bits port (8 * k + j)));
+}
+
+-- Keys are equal where their bits are.
+pub same_keys : (key other : List ℕ) → IsKey key → IsKey other → ((i : ℕ) → bit_of key i ≡ bit_of other i) → key ≡ other
+same_keys key other first second same =
+    same_lists key other (first.long ∙ sym second.long)
+    (λ k d below.
+    let inside : k < length other = omega (arith, first.long, second.long) in
+    same_from_bits_below 8 (get_or key k d) (get_or other k d) (first.bytes k d below) (second.bytes k d inside)
+    (λ b small.
+    let i : ℕ = 8 * k + (7 - b) in
+    let byte : (8 * k + (7 - b)) / 8 ≡ k = omega arith in
+    let place : 7 - (8 * k + (7 - b)) % 8 ≡ b = omega arith in
+    sym (there key k b d below byte place) ∙ same i ∙ there other k b d inside byte place))
+  where
+    there : (bytes : List ℕ) (k b d : ℕ) → k < length bytes → (8 * k + (7 - b)) / 8 ≡ k → 7 - (8 * k + (7 - b)) % 8 ≡ b → bit_of bytes (8 * k + (7 - b)) ≡ bit_at (get_or bytes k d) b
+    there bytes k b d within byte place =
+        bit_in_byte bytes (8 * k + (7 - b))
+        ∙ ap (λ m. bit_at (get_or bytes m 0) (7 - (8 * k + (7 - b)) % 8)) byte
+        ∙ ap (bit_at (get_or bytes k 0)) place
+        ∙ ap (λ (v : ℕ). bit_at v b) (get_or_default bytes k 0 d within)
+
+-- a number with one bit more
+pub one_bit_more : (f : ℕ → ℕ) (j byte bit : ℕ) → byte ≡ number_of j f → bit ≡ f j → byte * 2 + bit ≡ number_of (j + 1) f
+unfolding number_of
+one_bit_more f j byte bit so_far is = rw add-one (omega (arith, so_far, is))
+
+pub fits_more : (j byte bit : ℕ) → byte < 2 ^ j → bit < 2 → byte * 2 + bit < 2 ^ (j + 1)
+fits_more j byte bit fits small = rw (add-one, pow-suc) (omega (arith, fits, small))

@@ -1,0 +1,13 @@
+pub mod Sums
+pub mod Joined
+pub mod Windowed
+pub mod Inputs
+pub mod Theorem
+pub mod Spreading
+pub mod Rowed
+pub mod Added
+pub mod Paired
+pub mod Grouped
+pub mod Bytes
+pub mod Solved
+pub mod Once

@@ -1,0 +1,44 @@
+-- Keys from a solution, which has one bit for each numbered key bit.
+use Rattle.std.specs.Prelude.{◌↔◌, ℕ, ◌+◌, ◌*◌, nat_lt, Bool, List, map, if◌then◌else◌, Option, Some, None}
+use Rattle.std.specs.List.{range_with_len}
+use Rattle.nf_base.specs.declared.keys.Keys.{Keys}
+use Rattle.toeplitz_hash.specs.declared.key.TheConstants.{DEFAULT_KEY}
+use Rattle.toeplitz_hash.specs.Bits.{number_of}
+use Rattle.gf2_solve.specs.Sums.{bit}
+use Rattle.gf2_solve.specs.Solutions.{IsAdmissible, IsNearest}
+use Rattle.key_rows.specs.declared.place.Object.{Object}
+use Rattle.key_rows.specs.Places.{AreAdmissibleForAll}
+use Rattle.key_rows.specs.Keyed.{is_keyed}
+use Rattle.key_rows.specs.Given.{AreSpreading, NoneMayBeGiven}
+use Rattle.key_rows.specs.Rows.{bits_of}
+use Rattle.key_rows.specs.Systems.{default_bits}
+
+-- bit i of the key of a port: bits past 126 are 0
+abbrev pub solution_bit : List Bool → ℕ → ℕ → ℕ
+solution_bit bits port i =
+    (if nat_lt i 127 then (if bit bits (127 * port + i) then 1 else 0) else 0)
+
+-- byte i of it
+abbrev pub byte_of : List Bool → ℕ → ℕ → ℕ
+byte_of bits port i = number_of 8 (λ j. solution_bit bits port (8 * i + j))
+
+-- the key of a port
+abbrev pub key_of : List Bool → ℕ → List ℕ
+key_of bits port = map (byte_of bits port) (range_with_len 0 40)
+
+-- the same of a keyed port, and the default key of any other
+abbrev pub given_key : List Object → List Bool → ℕ → List ℕ
+given_key objects bits port = (if is_keyed objects port then key_of bits port else DEFAULT_KEY)
+
+-- Bits that are nearest the default ones, of those whose keys are admissible and spread.
+pub record IsNearestFor (ports : ℕ) (objects : List Object) (x : List Bool) : Type 0 where
+  pub rows : List (List Bool)
+  pub groups : List (List Bool)
+  pub nearest : IsNearest (127 * ports) rows groups (default_bits ports) x
+  pub exact : (keys : Keys) → IsAdmissible (127 * ports) rows groups (bits_of ports keys)
+      ↔ (AreAdmissibleForAll keys objects × AreSpreading objects keys)
+
+-- the nearest bits, or none exactly where no admissible keys spread
+abbrev pub IsSolved : ℕ → List Object → Option (List Bool) → Type 0
+IsSolved ports objects None = NoneMayBeGiven ports objects
+IsSolved ports objects (Some x) = IsNearestFor ports objects x

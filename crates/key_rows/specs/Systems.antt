@@ -1,0 +1,54 @@
+-- Systems whose solutions are the bits of keys.
+use Rattle.std.specs.Prelude.{◌↔◌, ℕ, ◌+◌, ◌*◌, ◌%◌, ◌<◌, ◌≤◌, ◌==◌, Bool, true, false, List, ◌++◌, map, length, replicate, All, slice_index_or}
+use Rattle.std.specs.List.{range_with_len}
+use Rattle.nf_base.specs.declared.keys.Keys.{Keys}
+use Rattle.toeplitz_hash.specs.declared.key.TheConstants.{DEFAULT_KEY}
+use Rattle.toeplitz_hash.specs.Bits.{bit_of}
+use Rattle.gf2_solve.specs.Kept.{Kept, HasSolution, StandsFor}
+use Rattle.gf2_solve.specs.Solutions.{Meets}
+use Rattle.key_rows.specs.declared.place.Place.{Place}
+use Rattle.key_rows.specs.declared.place.Object.{Object}
+use Rattle.key_rows.specs.Places.{AgreeAt, AreAdmissibleForAll}
+use Rattle.key_rows.specs.Given.{AreSpreading}
+use Rattle.key_rows.specs.Rows.{bits_of}
+
+-- a system over the bits of the keys of so many ports
+pub record IsOver (ports : ℕ) (system : Kept) : Type 0 where
+  pub rows : List (List Bool)
+  pub stands : StandsFor system (127 * ports) rows
+
+-- The bits of keys solve a system.
+abbrev pub Solve : ℕ → Kept → Keys → Type 0
+Solve ports system keys = HasSolution system (bits_of ports keys)
+
+-- The bits of keys solve the new system exactly where they solve the old one and something is so.
+pub record Adds (ports : ℕ) (Fact : Keys → Type 0) (old new : Kept) : Type 0 where
+  pub over : IsOver ports new
+  pub exact : (keys : Keys) → Solve ports new keys ↔ (Solve ports old keys × Fact keys)
+
+-- The bits of keys solve a system exactly where the keys are admissible.
+pub record AreEquationsOf (ports : ℕ) (objects : List Object) (system : Kept) : Type 0 where
+  pub over : IsOver ports system
+  pub exact : (keys : Keys) → Solve ports system keys ↔ AreAdmissibleForAll keys objects
+
+-- the places of two numbers agree
+abbrev pub AgreeOn : Keys → List Place → ℕ → ℕ → Type 0
+AgreeOn keys places i j =
+    (d e : Place) → AgreeAt keys (slice_index_or places i d) (slice_index_or places j e)
+
+-- A place agrees with itself and with each later one.
+abbrev pub AgreeFrom : Keys → List Place → ℕ → Type 0
+AgreeFrom keys places i = (j : ℕ) → j < length places → i ≤ j → AgreeOn keys places i j
+
+-- bits 25 to 126 of the key of a port
+abbrev pub group_of : ℕ → List Bool
+group_of port = replicate (127 * port + 25) false ++ replicate 102 true
+
+-- The bits of keys have a 1 in each group exactly where the keys spread.
+pub record AreGroupsOf (ports : ℕ) (objects : List Object) (groups : List (List Bool))
+    : Type 0 where
+  pub exact : (keys : Keys) → (All (Meets (bits_of ports keys)) groups) ↔ AreSpreading objects keys
+
+-- the bits of the default key, once for each of so many ports
+abbrev pub default_bits : ℕ → List Bool
+default_bits ports = map (λ m. bit_of DEFAULT_KEY (m % 127) == 1) (range_with_len 0 (127 * ports))
