@@ -28,10 +28,10 @@ events_covered f table s ns packet fields choices es fs d x e a l is h = (went f
 
 pub sites_cover : SitesCover
 sites_cover f s ns packet fields choices es fs d x e is h =
-    wider_by (Taken f s packet choices packet.fields) (IsOf f) f no_table packet fields (recorded f s packet choices) d x (in_function f s packet choices packet.fields)
+    wider_by (Taken f s packet choices packet.fields) (IsOf f) f no_table packet fields ns es d x (in_function f s packet choices packet.fields)
     ((went f no_table s ns packet choices packet.fields (λ chain i e h. tt) (all_listed ns (recorded f s packet choices))).each fields e es fs d x is h)
 
 -- sites by what is seen of them
 pub cover_more : (f : Function) (ok more : Site → Type 0) → ((x : Site) → ok x → more x) → Covers f ok → Covers f more
 cover_more f ok more h all s ns packet fields choices es fs d x e is i =
-    wider_by ok more f no_table packet fields (recorded f s packet choices) d x h (all s ns packet fields choices es fs d x e is i)
+    wider_by ok more f no_table packet fields ns es d x h (all s ns packet fields choices es fs d x e is i)

@@ -31,8 +31,7 @@ Covers f ok =
     (es fs : List Event) (e : Event) (x : Location) → packet.fields ≡ Some fields →
     recorded f s packet choices ≡ es ++ e ∷ fs →
     Contains (locations_of f.chains (all_numbers ns es) e) x →
-    TouchedBy ok f no_table (input f packet.time fields) packet.id.port
-    (recorded f s packet choices) e x
+    TouchedBy ok f no_table (input f packet.time fields) packet.id.port ns es e x
 
 -- the sites of a function are such
 abbrev pub SitesCover : Type 0
@@ -57,8 +56,8 @@ EventsAreCovered =
     packet.fields ≡ Some fields → AllLabelled f table ns s.chains →
     Listed table ns (recorded f s packet choices) → recorded f s packet choices ≡ es ++ e ∷ fs →
     Contains (locations_of f.chains (all_numbers ns es) e) x →
-    TouchedBy (IsOnPath f s packet choices) f table (input f packet.time fields) packet.id.port
-    (recorded f s packet choices) e x
+    TouchedBy (IsOnPath f s packet choices) f table (input f packet.time fields) packet.id.port ns
+    es e x
 
 -- each live entry of a run has the labels that its `new` gave, and those that are together are
 -- equal

@@ -1,12 +1,12 @@
 -- What it is for a packet to touch a location at a site.
-use Rattle.std.specs.Prelude.{◌≡◌, ℕ, ◌==◌, Bool, true, false, List, [], ◌∷◌, map, Option, Some, None, slice_get, Contains}
+use Rattle.std.specs.Prelude.{◌≡◌, ℕ, ◌==◌, Bool, true, false, List, [], ◌∷◌, ◌++◌, map, Option, Some, None, slice_get, Contains}
+use Rattle.nf_base.specs.declared.decl.ChainDecl.{ChainDecl}
 use Rattle.nf_base.specs.declared.decl.ObjectId.TheVariants as object
 use Rattle.nf_base.specs.Text.{Given, Function}
 use Rattle.nf_base.specs.Context.{Context, Input, given, or_zero}
-use Rattle.nf_base.specs.Operations.{Made}
-use Rattle.nf_base.specs.Events.{Event, Tested, LookedUp, Found, AskedNew, EntryUsed, EntryFreed, CellRead, CellWritten}
+use Rattle.nf_base.specs.Events.{Event, LookedUp, Found, AskedNew, EntryUsed, EntryFreed, CellRead, CellWritten}
 use Rattle.nf_base.specs.Record.{text_place}
-use Rattle.nf_base.specs.Locations.{Location, EntryNo, KeyOf, CellAt, object_of}
+use Rattle.nf_base.specs.Locations.{Location, EntryNo, KeyOf, CellAt, object_of, Numbers, all_numbers, locations_of}
 use Rattle.nf_sites.specs.declared.sort.Sort.{Sort}
 use Rattle.nf_sites.specs.declared.sort.Sort.TheVariants as sort
 use Rattle.nf_sites.specs.Named.{Named, named_as, numbered}
@@ -103,17 +103,6 @@ is_own (CellRead place array i) sort.Load = true
 is_own (CellWritten place array i changed) sort.Store = true
 is_own e s = false
 
--- an event finds or makes an entry at an index of a chain
-abbrev pub Binds : Event → ℕ → ℕ → Type 0
-Binds (Tested place holds) k i = ⊥
-Binds (LookedUp place chain m key hit) k i = (chain ≡ k) × (hit ≡ Some i)
-Binds (Found place chain hit) k i = (chain ≡ k) × (hit ≡ Some i)
-Binds (AskedNew place chain labels result) k i = (chain ≡ k) × (result ≡ Made i)
-Binds (EntryUsed chain index changed) k i = ⊥
-Binds (EntryFreed chain index) k i = ⊥
-Binds (CellRead place array index) k i = ⊥
-Binds (CellWritten place array index changed) k i = ⊥
-
 -- a site at a place, of the event's own statement
 pub record IsOwnSite (at : ℕ) (e : Event) (site : Site) : Type 0 where
   pub place : site.place ≡ at
@@ -128,22 +117,26 @@ StandsAt (Some place) e site = IsOwnSite place e site
 abbrev pub StandsBy : Event → Site → Type 0
 StandsBy e site = StandsAt (text_place e) e site
 
--- a site of the statement of a record that bound a variable to an index of a chain
-pub record Binder (told : List Event) (chain i : ℕ) (site : Site) : Type 0 where
+-- A site where an earlier event of a record stands that touches the same entry: the look-up, `find`
+-- or `new` that found or made it, since no other event of an entry stands at a site.
+pub record Binder (decls : List ChainDecl) (ns : Numbers) (before : List Event) (x : Location)
+    (site : Site) : Type 0 where
+  pub earlier : List Event
   pub event : Event
-  pub in_record : Contains told event
-  pub binds : Binds event chain i
+  pub later : List Event
+  pub is_before : before ≡ earlier ++ event ∷ later
+  pub touches : Contains (locations_of decls (all_numbers ns earlier) event) x
   pub stands : StandsBy event site
 
 -- what an event touches, it touches at a site of its own statement; an operation on a variable's
 -- entry at a site of the statement that bound the variable
-abbrev pub Stands : List Event → Event → Site → Type 0
-Stands told (EntryUsed chain i changed) site = Binder told chain i site
-Stands told (EntryFreed chain i) site = Binder told chain i site
-Stands told e site = StandsBy e site
+abbrev pub Stands : List ChainDecl → Numbers → List Event → Event → Location → Site → Type 0
+Stands decls ns before (EntryUsed chain i changed) x site = Binder decls ns before x site
+Stands decls ns before (EntryFreed chain i) x site = Binder decls ns before x site
+Stands decls ns before e x site = StandsBy e site
 
--- a location that an event of a record touches at one of some sites
+-- a location that an event touches at one of some sites, behind other events of its record
 pub record TouchedBy (ok : Site → Type 0) (f : Function) (table : Table) (p : Input) (of : ℕ)
-    (told : List Event) (e : Event) (x : Location) : Type 0 where
+    (ns : Numbers) (before : List Event) (e : Event) (x : Location) : Type 0 where
   pub touched : TouchedAt ok f table p of x
-  pub stands : Stands told e touched.site
+  pub stands : Stands f.chains ns before e x touched.site

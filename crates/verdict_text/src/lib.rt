@@ -1,0 +1,9 @@
+//! The texts that say what the analysis of a function came to.
+#![tactic(auto)]
+
+mod explaining;
+pub mod laws;
+mod names;
+mod text;
+
+pub use explaining::objects;
