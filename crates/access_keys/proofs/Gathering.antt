@@ -1,5 +1,5 @@
 -- Places gathered one after another.
-use Rattle.std.proofs.Common.{◌≡◌, ℕ, suc, ◌+◌, ◌<◌, ◌≤◌, ◌==◌, Bool, true, false, ◌||◌, ◌&&◌, List, [], ◌∷◌, ◌++◌, length, get_or, map, take, refl, sym, ap, ◌∙◌, subst, arith, append_assoc}
+use Rattle.std.proofs.Common.{◌≡◌, ℕ, ◌+◌, ◌<◌, ◌≤◌, ◌==◌, Bool, true, false, ◌||◌, ◌&&◌, List, [], ◌∷◌, ◌++◌, length, get_or, map, take, refl, sym, ap, ◌∙◌, subst, arith, append_assoc}
 use Rattle.std.specs.List.{flat_map, list_any}
 use Rattle.std.proofs.lemmas.List.{append-nil, map-append, take_all, take_more, length-take-le, length-map}
 use Rattle.std.proofs.lemmas.List.Concat.{flat_map-append}
@@ -33,7 +33,7 @@ pub more_item :
     HasMore a b (flat_map f (take i xs)) → HasMore b c (f x) → HasMore a c (flat_map f (take (i + 1) xs))
 more_item a b c f xs i x l e p q =
     let same : flat_map f (take i xs) ++ f x ≡ flat_map f (take (i + 1) xs) =
-        sym (ap (flat_map f) (taken_more xs i x l e) ∙ flat_map-append f (take i xs) (x ∷ []) ∙ ap (λ r. flat_map f (take i xs) ++ r) (append-nil (f x))) in
+    sym (ap (flat_map f) (taken_more xs i x l e) ∙ flat_map-append f (take i xs) (x ∷ []) ∙ ap (λ r. flat_map f (take i xs) ++ r) (append-nil (f x))) in
     subst (λ r. HasMore a c r) same (more_both a b c (flat_map f (take i xs)) (f x) p q)
 
 -- the places of all items
@@ -65,13 +65,13 @@ pub marked_more :
 marked_more p q v ms ss i m one n l d a b =
     let mark = get_or ms i m in
     let both : length (take i ms) ≡ length (map v (take i ss)) =
-        length-take-le i ms (omega arith) ∙ sym (length-map (take i ss) v ∙ length-take-le i ss (omega arith)) in
+    length-take-le i ms (omega arith) ∙ sym (length-map (take i ss) v ∙ length-take-le i ss (omega arith)) in
     let same : places_marked (take i ms) (map v (take i ss)) ++ places_if mark (v one) ≡ places_marked (take (i + 1) ms) (map v (take (i + 1) ss)) =
-        sym
-        (ap (λ r. places_marked r (map v (take (i + 1) ss))) (take_more ms i m (omega arith))
-        ∙ ap (λ r. places_marked (take i ms ++ mark ∷ []) (map v r)) (taken_more ss i one l d)
-        ∙ ap (λ r. places_marked (take i ms ++ mark ∷ []) r) (map-append v (take i ss) (one ∷ []))
-        ∙ places_marked-append (take i ms) (map v (take i ss)) mark (v one) both) in
+    sym
+    (ap (λ r. places_marked r (map v (take (i + 1) ss))) (take_more ms i m (omega arith))
+    ∙ ap (λ r. places_marked (take i ms ++ mark ∷ []) (map v r)) (taken_more ss i one l d)
+    ∙ ap (λ r. places_marked (take i ms ++ mark ∷ []) r) (map-append v (take i ss) (one ∷ []))
+    ∙ places_marked-append (take i ms) (map v (take i ss)) mark (v one) both) in
     record {
       same = λ place.
           b.both place ∙ ap (λ r. r || is_among place (places_if mark (v one))) (a.same place)

@@ -6,3 +6,4 @@ pub mod Same
 pub mod Steps
 pub mod Splits
 pub mod OnPath
+pub mod Covered

@@ -1,5 +1,5 @@
 -- What is marked along the paths of a port is what stands on them.
-use Rattle.std.proofs.Common.{◌≡◌, ℕ, ◌==◌, Bool, false, ◌||◌, List, [], ◌∷◌, ◌++◌, map, Some, Result, refl, sym, ap, ◌∙◌, subst}
+use Rattle.std.proofs.Common.{◌≡◌, ℕ, Bool, ◌||◌, List, [], ◌∷◌, ◌++◌, map, Some, Result, refl, sym, ap, ◌∙◌}
 use Rattle.std.specs.List.{All, list_any, filter, slice_get}
 use Rattle.std.specs.Result.{OnOk}
 use Rattle.std.proofs.lemmas.Result.{on_ok_weaker}
@@ -12,14 +12,12 @@ use Rattle.path_walk.specs.Feasible.{is_feasible, feasible_paths, branches_along
 use Rattle.path_walk.specs.Listed.{port_branches}
 use Rattle.nf_sites.specs.Sites as text
 use Rattle.nf_sites.specs.OnPaths.{statement_of, sites_along, text_sites, is_on, is_reached, handler_sites, port_sites}
-use Rattle.nf_sites.specs.Named.{named_as}
-use Rattle.nf_sites.specs.Known.{field_given, known_labels}
 use Rattle.access_keys.specs.declared.site.Site.{Site}
 use Rattle.access_keys.specs.declared.access.Here.{Here}
 use Rattle.access_keys.specs.Alive.{alive, past}
-use Rattle.access_keys.specs.Together.{SetFields, new_seen, all_set}
+use Rattle.access_keys.specs.Together.{new_seen, all_set}
 use Rattle.access_keys.specs.Reached.{has, places_marked, AreMarked}
-use Rattle.access_keys.specs.Shown.{shown, passing, shown_at, Puts}
+use Rattle.access_keys.specs.Shown.{shown, passing, Puts}
 use Rattle.access_keys.specs.Told.{site_told, sites_told}
 use Rattle.access_keys.proofs.Replay.{replay, IsSame, replayed}
 use Rattle.access_keys.proofs.Reach.{Agree, marked, comes, any_none, or_false, reach}
@@ -66,7 +64,7 @@ block_reached block place =
     let ps = feasible_paths block in
     let live = map branches_along ps in
     let whole : All (IsSame (replay block nothing)) (paths block ([] ∷ [])) =
-        replayed block ([] ∷ []) nothing (All-cons (IsSame nothing) [] [] refl (All-nil (IsSame nothing))) in
+    replayed block ([] ∷ []) nothing (All-cons (IsSame nothing) [] [] refl (All-nil (IsSame nothing))) in
     let all : All (IsSame (replay block nothing)) ps = All-filter is_feasible (IsSame (replay block nothing)) (paths block ([] ∷ [])) whole in
     sym (marked_has place (statements block) (alive block live))
     ∙ sym (or_false (marked t (statements block) (alive block live)))
@@ -94,12 +92,12 @@ pub told :
     Puts h old new (sites_along h.decls.now h.port heads) → new ≡ old ++ sites_told f (port_sites f port)
 told f port block h old new heads marks e here decls all hs ms a p =
     let here_sites : sites_along h.decls.now h.port heads ≡ text_sites f.chains port block =
-        ap (λ d. sites_along d h.port heads) decls ∙ ap (λ n. sites_along f.chains n heads) here ∙ ap (sites_along f.chains port) hs in
+    ap (λ d. sites_along d h.port heads) decls ∙ ap (λ n. sites_along f.chains n heads) here ∙ ap (sites_along f.chains port) hs in
     let reached : (place : ℕ) → has h.places.now place ≡ is_reached f port place =
-        λ place.
-        a.same place ∙ ap (λ r. is_among place (places_marked r heads)) ms
-        ∙ ap (λ r. is_among place (places_marked (alive block (port_branches f port)) r)) hs
-        ∙ port_reached f port block e place in
+    λ place.
+    a.same place ∙ ap (λ r. is_among place (places_marked r heads)) ms
+    ∙ ap (λ r. is_among place (places_marked (alive block (port_branches f port)) r)) hs
+    ∙ port_reached f port block e place in
     let sites = text_sites f.chains port block in
     let kept = filter (λ (x : text.Site). is_reached f port x.place) sites in
     let here_kept : port_sites f port ≡ kept = ap (handler_sites f port) e in
@@ -119,5 +117,5 @@ pub told_ok :
     OnOk r (Puts h old new (sites_along h.decls.now h.port heads)) → OnOk r (new ≡ old ++ sites_told f (port_sites f port))
 told_ok r f port block h old new heads marks e here decls all hs ms a p =
     let whole : Puts h old new (sites_along h.decls.now h.port heads) → new ≡ old ++ sites_told f (port_sites f port) =
-        told f port block h old new heads marks e here decls all hs ms a in
+    told f port block h old new heads marks e here decls all hs ms a in
     on_ok_weaker r whole p

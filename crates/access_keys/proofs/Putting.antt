@@ -1,5 +1,5 @@
 -- Sites put behind others, one after another.
-use Rattle.std.proofs.Common.{◌≡◌, ℕ, ◌+◌, ◌<◌, ◌≤◌, Bool, true, false, cond, List, [], ◌∷◌, ◌++◌, length, get_or, map, take, drop, zero, suc, Option, Result, refl, sym, ap, ◌∙◌, subst, arith, append_assoc, add-one}
+use Rattle.std.proofs.Common.{◌≡◌, ℕ, ◌+◌, ◌<◌, ◌≤◌, true, false, cond, List, [], ◌∷◌, ◌++◌, length, get_or, map, take, drop, zero, suc, Option, Result, refl, sym, ap, ◌∙◌, subst, arith, append_assoc}
 use Rattle.std.specs.List.{flat_map, filter}
 use Rattle.std.specs.Result.{OnOk}
 use Rattle.std.proofs.lemmas.Result.{on_ok_weaker}
@@ -10,20 +10,18 @@ use Rattle.std.proofs.lemmas.List.Elements.{filter-append}
 use Rattle.nf_base.specs.Text.{Given, Creation}
 use Rattle.nf_base.specs.declared.expr.Given as given
 use Rattle.nf_base.specs.View.{given_of}
-use Rattle.nf_base.specs.declared.decl.ObjectId.TheVariants as object
 use Rattle.nf_base.specs.declared.decl.MapDecl.{MapDecl}
 use Rattle.nf_sites.specs.declared.sort.Sort.{Sort}
 use Rattle.nf_sites.specs.Named.{Named, named_as, numbered}
-use Rattle.nf_sites.specs.Known.{field_given, label_count}
+use Rattle.nf_sites.specs.Known.{field_given}
 use Rattle.nf_sites.specs.Sites as text
 use Rattle.nf_sites.specs.Sites.{name_site, name_sites}
 use Rattle.hash_fields.specs.declared.hashable.Hashable.{Hashable}
 use Rattle.access_keys.specs.declared.site.Site.{Site}
 use Rattle.access_keys.specs.declared.access.Here.{Here}
-use Rattle.access_keys.specs.Together.{SetFields, new_seen}
-use Rattle.access_keys.specs.Speaking.{known_by, fields_known}
+use Rattle.access_keys.specs.Together.{new_seen}
 use Rattle.access_keys.specs.Reached.{has}
-use Rattle.access_keys.specs.Shown.{chain_site, shown, passing, shown_at, Puts}
+use Rattle.access_keys.specs.Shown.{chain_site, shown, shown_at, Puts}
 
 shown-append : (h : Here) (xs ys : List text.Site) → shown_at h (xs ++ ys) ≡ shown_at h xs ++ shown_at h ys
 shown-append h xs ys =
@@ -54,7 +52,7 @@ pub puts_more :
     x ≡ get_or xs i x → Puts h a b (flat_map f (take i xs)) → Puts h b c (f x) → Puts h a c (flat_map f (take (i + 1) xs))
 puts_more h a b c f xs i x l e p q =
     let same : flat_map f (take i xs) ++ f x ≡ flat_map f (take (i + 1) xs) =
-        sym (ap (flat_map f) (taken_more xs i x l e) ∙ flat_map-append f (take i xs) (x ∷ []) ∙ ap (λ r. flat_map f (take i xs) ++ r) (append-nil (f x))) in
+    sym (ap (flat_map f) (taken_more xs i x l e) ∙ flat_map-append f (take i xs) (x ∷ []) ∙ ap (λ r. flat_map f (take i xs) ++ r) (append-nil (f x))) in
     subst (λ r. Puts h a c r) same (puts_both h a b c (flat_map f (take i xs)) (f x) p q)
 
 -- the sites of all items
@@ -118,9 +116,9 @@ pub names_more :
     Puts h a b (name_sites port n 0 (take i ms)) → Puts h b c (name_site port n i d ∷ []) → Puts h a c (name_sites port n 0 (take (i + 1) ms))
 names_more h a b c port n ms i d l e p q =
     let same : name_sites port n 0 (take i ms) ++ name_site port n i d ∷ [] ≡ name_sites port n 0 (take (i + 1) ms) =
-        sym
-        (ap (name_sites port n 0) (taken_more ms i d l e) ∙ name_sites-append port n 0 (take i ms) d
-        ∙ ap (λ j. name_sites port n 0 (take i ms) ++ name_site port n j d ∷ []) (ap (λ j. 0 + j) (length-take-le i ms (omega arith)) ∙ omega arith)) in
+    sym
+    (ap (name_sites port n 0) (taken_more ms i d l e) ∙ name_sites-append port n 0 (take i ms) d
+    ∙ ap (λ j. name_sites port n 0 (take i ms) ++ name_site port n j d ∷ []) (ap (λ j. 0 + j) (length-take-le i ms (omega arith)) ∙ omega arith)) in
     subst (λ r. Puts h a c r) same (puts_both h a b c (name_sites port n 0 (take i ms)) (name_site port n i d ∷ []) p q)
 
 -- some were put, and a call that may fail puts more
@@ -139,7 +137,7 @@ pub put_as :
     OnOk r (Puts h a b (chain_site port way place chain xs ∷ []))
 put_as r h a b port way place chain named xs e q =
     let at : ((given : List (Named Given)) → map (named_as field_given) given ≡ named → Puts h a b (chain_site port way place chain given ∷ [])) → Puts h a b (chain_site port way place chain xs ∷ []) =
-        λ f. f xs e in
+    λ f. f xs e in
     on_ok_weaker r at q
 
 -- labels by number, with the fields that values are

@@ -1,5 +1,5 @@
 -- What paths come to is what the statements that they come to have.
-use Rattle.std.proofs.Common.{◌≡◌, ℕ, suc, ◌+◌, arith, Bool, true, false, ◌&&◌, ◌||◌, List, [], ◌∷◌, ◌++◌, length, refl, sym, ap, ◌∙◌, subst}
+use Rattle.std.proofs.Common.{◌≡◌, suc, ◌+◌, arith, Bool, true, false, ◌&&◌, ◌||◌, List, [], ◌∷◌, ◌++◌, length, refl, sym, ap, ◌∙◌}
 use Rattle.std.specs.List.{list_any}
 use Rattle.std.proofs.lemmas.List.{length-append}
 use Rattle.nf_base.specs.Text.{Ending, FallsOff, Flood, Discard, Forward, Operation, Question, Creation, Block, End, Do, Ask, Make}
@@ -243,8 +243,8 @@ reach t s g (Make n made taken full next) k live =
     let kn = replay next k in
     let on = past made f ++ (past taken m ++ past full l) in
     let split =
-        any-append (comes s kn) (past made f) (past taken m ++ past full l)
-        ∙ ap (λ r. list_any (comes s kn) (past made f) || r) (any-append (comes s kn) (past taken m) (past full l)) in
+    any-append (comes s kn) (past made f) (past taken m ++ past full l)
+    ∙ ap (λ r. list_any (comes s kn) (past made f) || r) (any-append (comes s kn) (past taken m) (past full l)) in
     made_any s (t (Makes n)) n (g.makes n) (replay made kn) (replay taken kn) (replay full kn) live
     ∙ ap (λ r. (is_any live && t (Makes n)) || (r || (list_any (comes s (replay taken kn)) m || list_any (comes s (replay full kn)) l))) (reach t s g made kn f)
     ∙ ap (λ r. (is_any live && t (Makes n)) || ((marked t (statements made) (alive made f) || list_any (comes s kn) (past made f)) || (r || list_any (comes s (replay full kn)) l))) (reach t s g taken kn m)

@@ -1,5 +1,5 @@
 -- A path again, from how it branches.
-use Rattle.std.proofs.Common.{◌≡◌, List, [], ◌∷◌, ◌++◌, refl, ap, ◌∙◌, map}
+use Rattle.std.proofs.Common.{◌≡◌, List, [], ◌∷◌, refl, ap}
 use Rattle.std.specs.List.{All}
 use Rattle.std.proofs.lemmas.List.Elements.{All-nil, All-cons, All-append, All-map, All-weaker}
 use Rattle.nf_base.specs.Text.{Ending, FallsOff, Flood, Discard, Forward, Question, Creation, Block, End, Do, Ask, Make}

@@ -1,21 +1,19 @@
 -- What the crate knows of labels is what is known of them.
-use Rattle.std.proofs.Common.{◌≡◌, ℕ, suc, zero, ◌+◌, ◌<◌, ◌≤◌, ◌==◌, nat_lt, Bool, true, false, ◌&&◌, cond, List, [], ◌∷◌, ◌++◌, length, get_or, map, Option, Some, None, refl, sym, ap, ◌∙◌}
-use Rattle.std.specs.List.{flat_map, list_all, range_with_len, slice_get}
+use Rattle.std.proofs.Common.{◌≡◌, ℕ, suc, zero, ◌==◌, nat_lt, Bool, true, false, ◌&&◌, cond, List, [], ◌∷◌, get_or, map, Option, Some, None, refl, ap, ◌∙◌}
+use Rattle.std.specs.List.{flat_map, list_all, range_with_len}
 use Rattle.std.specs.Option.{option_map}
 use Rattle.std.proofs.lemmas.List.Folds.{list_all-append}
 use Rattle.nf_base.specs.declared.decl.ObjectId.{ObjectId}
 use Rattle.nf_base.specs.declared.decl.ObjectId.TheVariants as object
 use Rattle.nf_base.specs.declared.expr.Guard as guard
-use Rattle.nf_base.specs.Text.{Given, Block, Function}
+use Rattle.nf_base.specs.Text.{Given, Function}
 use Rattle.nf_base.specs.View.{guard_of}
 use Rattle.nf_base.specs.Statements.{Statement, Ends, Does, Asks, Makes, statements}
-use Rattle.hash_fields.specs.declared.hashable.Hashable.{Hashable}
 use Rattle.nf_sites.specs.Named.{Named, named_as, lesser, least, or_else, speaker}
-use Rattle.nf_sites.specs.Sites as text
 use Rattle.nf_sites.specs.Sites.{guarded}
-use Rattle.nf_sites.specs.Known.{field_given, same_field, field_at, sets_alike, together, field_of_named, label_count, labels_of, known}
-use Rattle.access_keys.specs.Together.{SetFields, set_in, set_along, all_set, alike, are_together}
-use Rattle.access_keys.specs.Speaking.{named_seen, field_asked, field_of, field_known, fields_known, known_by}
+use Rattle.nf_sites.specs.Known.{field_given, same_field, field_at, sets_alike, together, field_of_named, label_count, labels_of}
+use Rattle.access_keys.specs.Together.{set_in, set_along, all_set, alike, are_together}
+use Rattle.access_keys.specs.Speaking.{named_seen, field_asked, field_of, field_known, known_by}
 
 -- the field of a label among those of all
 label_field : (gs : List Given) (l : ℕ) → get_or (map field_given gs) l None ≡ field_at gs l

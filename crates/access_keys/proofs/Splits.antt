@@ -1,6 +1,6 @@
 -- The first statement of a block, and what follows it.
 use Rattle.std.specs.Result.{OnOk}
-use Rattle.std.proofs.Common.{◌≡◌, ℕ, suc, ◌+◌, ◌<◌, ◌==◌, not, true, Result, Ok, Err, Bor, Bool, List, [], ◌∷◌, ◌++◌, length, map, Option, Some, None, refl, sym, ap, ◌∙◌, subst, arith, append_assoc}
+use Rattle.std.proofs.Common.{◌≡◌, ℕ, suc, ◌<◌, ◌==◌, not, true, Result, Ok, Err, Bor, Bool, List, [], ◌∷◌, ◌++◌, length, map, Option, refl, sym, ap, ◌∙◌, arith, append_assoc}
 use Rattle.std.proofs.lemmas.List.{append-nil, map-append}
 use Rattle.std.proofs.lemmas.Bool.Decides.{nat_tests}
 use Rattle.nf_base.specs.declared.block.Block as block
@@ -102,7 +102,7 @@ pub listed_less :
     length (waiting (map block_seen new)) < length (waiting (map block_seen left))
 listed_less left popped new one q s =
     let same : suc (length (waiting (map block_seen new))) ≡ length (waiting (map block_seen left)) =
-        ap length (s ∙ sym (one_waits popped left one q)) in
+    ap length (s ∙ sym (one_waits popped left one q)) in
     omega arith
 
 not_none : (n : ℕ) → 0 < n → not (n == 0) ≡ true
@@ -121,15 +121,15 @@ pub make_marks :
     OnOk r (d ≡ m ++ (is_any live ∷ (alive made (those into_first live) ++ (alive taken (those into_second live) ++ alive full (those into_third live)))))
 make_marks r m a b c d any made taken full live f s t e p q u w x y z =
     let whole : d ≡ m ++ (any ∷ (alive made f ++ (alive taken s ++ alive full t))) =
-        w ∙ ap (λ i. i ++ alive full t) (u ∙ ap (λ i. i ++ alive taken s) (q ∙ ap (λ i. i ++ alive made f) p))
-        ∙ ap (λ i. (i ++ alive taken s) ++ alive full t) (append_assoc m (any ∷ []) (alive made f))
-        ∙ ap (λ i. i ++ alive full t) (append_assoc m (any ∷ alive made f) (alive taken s))
-        ∙ append_assoc m (any ∷ (alive made f ++ alive taken s)) (alive full t)
-        ∙ ap (λ i. m ++ (any ∷ i)) (append_assoc (alive made f) (alive taken s) (alive full t)) in
+    w ∙ ap (λ i. i ++ alive full t) (u ∙ ap (λ i. i ++ alive taken s) (q ∙ ap (λ i. i ++ alive made f) p))
+    ∙ ap (λ i. (i ++ alive taken s) ++ alive full t) (append_assoc m (any ∷ []) (alive made f))
+    ∙ ap (λ i. i ++ alive full t) (append_assoc m (any ∷ alive made f) (alive taken s))
+    ∙ append_assoc m (any ∷ (alive made f ++ alive taken s)) (alive full t)
+    ∙ ap (λ i. m ++ (any ∷ i)) (append_assoc (alive made f) (alive taken s) (alive full t)) in
     let told : d ≡ m ++ (is_any live ∷ (alive made (those into_first live) ++ (alive taken (those into_second live) ++ alive full (those into_third live)))) =
-        whole ∙ ap (λ i. m ++ (i ∷ (alive made f ++ (alive taken s ++ alive full t)))) e
-        ∙ ap (λ i. m ++ (is_any live ∷ (alive made i ++ (alive taken s ++ alive full t)))) x
-        ∙ ap (λ i. m ++ (is_any live ∷ (alive made (those into_first live) ++ (alive taken i ++ alive full t)))) y
-        ∙ ap (λ i. m ++ (is_any live ∷ (alive made (those into_first live) ++ (alive taken (those into_second live) ++ alive full i)))) z in
+    whole ∙ ap (λ i. m ++ (i ∷ (alive made f ++ (alive taken s ++ alive full t)))) e
+    ∙ ap (λ i. m ++ (is_any live ∷ (alive made i ++ (alive taken s ++ alive full t)))) x
+    ∙ ap (λ i. m ++ (is_any live ∷ (alive made (those into_first live) ++ (alive taken i ++ alive full t)))) y
+    ∙ ap (λ i. m ++ (is_any live ∷ (alive made (those into_first live) ++ (alive taken (those into_second live) ++ alive full i)))) z in
     elim r as (λ q. OnOk q (d ≡ m ++ (is_any live ∷ (alive made (those into_first live) ++ (alive taken (those into_second live) ++ alive full (those into_third live))))))
     [ Ok x ↦ told | Err x ↦ tt ]

@@ -1,5 +1,5 @@
 -- Loops along lists, one item further.
-use Rattle.std.proofs.Common.{◌≡◌, ℕ, suc, zero, ◌+◌, ◌-◌, ◌<◌, ◌≤◌, Bool, true, false, ◌&&◌, cond, List, [], ◌∷◌, ◌++◌, length, get_or, map, take, drop, Option, Some, None, option_to_list, refl, sym, ap, ◌∙◌, subst, arith, append_assoc, add-one}
+use Rattle.std.proofs.Common.{◌≡◌, ℕ, suc, zero, ◌+◌, ◌<◌, ◌≤◌, Bool, true, false, ◌&&◌, cond, List, [], ◌∷◌, ◌++◌, length, get_or, map, take, drop, Option, Some, None, option_to_list, refl, sym, ap, ◌∙◌, arith, append_assoc, add-one}
 use Rattle.std.specs.List.{flat_map, list_all, filter_map, cons_option, range_with_len}
 use Rattle.std.proofs.lemmas.List.{append-nil, map-append, length-map, take_all, take_more, drop_more, get_or_default, length-take-le}
 use Rattle.std.proofs.lemmas.List.Concat.{flat_map-append}
@@ -44,8 +44,8 @@ pub flat_more :
     b ≡ a ++ flat_map f (map v (take i xs)) → c ≡ b ++ f (v x) → c ≡ a ++ flat_map f (map v (take (i + 1) xs))
 flat_more a b c f v xs i x l e p q =
     let more : flat_map f (map v (take (i + 1) xs)) ≡ flat_map f (map v (take i xs)) ++ f (v x) =
-        ap (λ r. flat_map f (map v r)) (taken_more xs i x l e) ∙ ap (flat_map f) (map-append v (take i xs) (x ∷ []))
-        ∙ flat_map-append f (map v (take i xs)) (v x ∷ []) ∙ ap (λ r. flat_map f (map v (take i xs)) ++ r) (append-nil (f (v x))) in
+    ap (λ r. flat_map f (map v r)) (taken_more xs i x l e) ∙ ap (flat_map f) (map-append v (take i xs) (x ∷ []))
+    ∙ flat_map-append f (map v (take i xs)) (v x ∷ []) ∙ ap (λ r. flat_map f (map v (take i xs)) ++ r) (append-nil (f (v x))) in
     q ∙ ap (λ r. r ++ f (v x)) p ∙ append_assoc a (flat_map f (map v (take i xs))) (f (v x)) ∙ ap (λ r. a ++ r) (sym more)
 
 pub flat_all :
@@ -122,7 +122,7 @@ ports_more f v n bs cs p q =
     (ap (λ r. flat_map f (range_with_len 0 n) ++ r) (sym (append-nil (f n))) ∙ ap (λ m. flat_map f (range_with_len 0 n) ++ (f m ++ [])) (omega arith)
     ∙ sym (ap (flat_map f) (range-more 0 n) ∙ flat_map-append f (range_with_len 0 n) ((0 + n) ∷ [])))
 
-get_or-map : {A B : Type 0} (v : A → B) (xs : List A) (i : ℕ) (d : A) → get_or (map v xs) i (v d) ≡ v (get_or xs i d)
+pub get_or-map : {A B : Type 0} (v : A → B) (xs : List A) (i : ℕ) (d : A) → get_or (map v xs) i (v d) ≡ v (get_or xs i d)
 get_or-map v [] i d = refl
 get_or-map v (x ∷ xs) zero d = refl
 get_or-map v (x ∷ xs) (suc i) d = get_or-map v xs i d

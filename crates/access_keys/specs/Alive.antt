@@ -42,12 +42,14 @@ into_third IsTaken rest = None
 into_third IsFull rest = Some rest
 
 -- what follows the first branch of a path, where it goes so
-abbrev pub behind_first : (Branch → List Branch → Option (List Branch)) → List Branch → Option (List Branch)
+abbrev pub behind_first : (Branch → List Branch → Option (List Branch)) → List Branch →
+    Option (List Branch)
 behind_first into [] = None
 behind_first into (b ∷ bs) = into b bs
 
 -- of some paths, what is left of those that go so
-abbrev pub those : (Branch → List Branch → Option (List Branch)) → List (List Branch) → List (List Branch)
+abbrev pub those : (Branch → List Branch → Option (List Branch)) → List (List Branch) →
+    List (List Branch)
 those into live = filter_map (behind_first into) live
 
 -- whether there is one

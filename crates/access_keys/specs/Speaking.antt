@@ -39,10 +39,13 @@ abbrev pub field_known : List SetFields → ℕ → List (Named (Option Hashable
 field_known all chain named l = field_of (speaker (are_together all chain l) l named)
 
 -- the fields by which the first labels of a chain are known
-abbrev pub fields_known : List SetFields → ℕ → List (Named (Option Hashable)) → ℕ → List (Option Hashable)
+abbrev pub fields_known : List SetFields → ℕ → List (Named (Option Hashable)) → ℕ →
+    List (Option Hashable)
 fields_known all chain named count = map (field_known all chain named) (range_with_len 0 count)
 
 -- the fields by which the labels of an object are known
-abbrev pub known_by : List SetFields → List ChainDecl → ObjectId → List (Named (Option Hashable)) → List (Option Hashable)
-known_by all decls (object.Chain chain) named = fields_known all chain named (label_count decls chain)
+abbrev pub known_by : List SetFields → List ChainDecl → ObjectId → List (Named (Option Hashable)) →
+    List (Option Hashable)
+known_by all decls (object.Chain chain) named = fields_known all chain named
+    (label_count decls chain)
 known_by all decls (object.Array array) named = field_of (speaker (λ r. false) 0 named) ∷ []

@@ -56,7 +56,8 @@ pub fn put_cell(
     at: &Expr,
     sites: &mut Vec<Site>,
 ) -> Result<(), AllocError>
-    ensures { OnOk result (Puts here.now sites.old.items sites.new.items (cell_site here.now.port sort place array (expression_of at.now) ∷ [])) }
+    ensures { OnOk result (Puts here.now sites.old.items sites.new.items
+        (cell_site here.now.port sort place array (expression_of at.now) ∷ [])) }
 {
     if here.places.has(place) {
         let known = index_known(alloc, at)?;
@@ -78,7 +79,8 @@ pub fn put_value(
     value: &Expr,
     sites: &mut Vec<Site>,
 ) -> Result<(), AllocError>
-    ensures { OnOk result (Puts here.now sites.old.items sites.new.items (expression_sites here.now.port (expression_of value.now))) }
+    ensures { OnOk result (Puts here.now sites.old.items sites.new.items
+        (expression_sites here.now.port (expression_of value.now))) }
 {
     match value {
         Expr::Number(_) => Ok(()),
@@ -104,7 +106,8 @@ pub fn put_given(
     given: &[Given],
     sites: &mut Vec<Site>,
 ) -> Result<(), AllocError>
-    ensures { OnOk result (Puts here.now sites.old.items sites.new.items (given_sites here.now.port (map given_of given.now))) }
+    ensures { OnOk result (Puts here.now sites.old.items sites.new.items
+        (given_sites here.now.port (map given_of given.now))) }
 {
     for one in given {
         put_value(alloc, here, &one.value, sites)?;
@@ -119,7 +122,8 @@ pub fn put_guards(
     guards: &[Guard],
     sites: &mut Vec<Site>,
 ) -> Result<(), AllocError>
-    ensures { OnOk result (Puts here.now sites.old.items sites.new.items (guard_sites here.now.port (map guard_of guards.now))) }
+    ensures { OnOk result (Puts here.now sites.old.items sites.new.items
+        (guard_sites here.now.port (map guard_of guards.now))) }
 {
     for one in guards {
         put_value(alloc, here, &one.given.value, sites)?;

@@ -33,7 +33,8 @@ fn new_fields(alloc: Global, creation: &Creation) -> Result<NewFields, AllocErro
 
 /// The fields of a statement, where it is a `new`, behind others.
 fn put_new(alloc: Global, block: &Block, all: &mut Vec<NewFields>) -> Result<(), AllocError>
-    ensures { OnOk result (map new_seen all.new.items ≡ map new_seen all.old.items ++ set_in (head_of (block_of block.now))) }
+    ensures { OnOk result (map new_seen all.new.items ≡ map new_seen all.old.items ++ set_in
+        (head_of (block_of block.now))) }
 {
     match block {
         Block::End(_) => Ok(()),
@@ -53,7 +54,8 @@ fn put_news(
     statements: &[&Block],
     all: &mut Vec<NewFields>,
 ) -> Result<(), AllocError>
-    ensures { OnOk result (map new_seen all.new.items ≡ map new_seen all.old.items ++ flat_map set_in (map head_seen statements.now)) }
+    ensures { OnOk result (map new_seen all.new.items ≡ map new_seen all.old.items
+        ++ flat_map set_in (map head_seen statements.now)) }
 {
     for one in statements {
         put_new(alloc, one, all)?;

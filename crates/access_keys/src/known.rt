@@ -37,7 +37,8 @@ pub fn fields_known(
     count: u32,
 ) -> Result<Known, AllocError>
     requires { count ≤ 136 }
-    ensures { IfOk result (λ known. known ≡ fields_known (map new_seen all.now) chain (map named_seen named.now) count) }
+    ensures { IfOk result (λ known. known ≡ fields_known (map new_seen all.now) chain
+        (map named_seen named.now) count) }
 {
     let mut known = Limited::new(alloc);
     for label in 0..count {
@@ -48,7 +49,8 @@ pub fn fields_known(
 
 /// The field by which the index of a cell is known.
 pub fn index_known(alloc: Global, at: &Expr) -> Result<Known, AllocError>
-    ensures { IfOk result (λ known. known ≡ of_width (bits W16) (plain_field (expression_of at.now)) ∷ []) }
+    ensures { IfOk result (λ known. known ≡ of_width (bits W16)
+        (plain_field (expression_of at.now)) ∷ []) }
 {
     let mut known = Limited::new(alloc);
     known.push(field_of_width(Width::W16, at))?;

@@ -1,5 +1,5 @@
-//! The sites of a function: the text places on its feasible paths that touch state, each with the labels
-//! that it knows and by which field of the packet.
+//! The sites of a function: the text places on its feasible paths that touch state, each with the
+//! labels that it knows and by which field of the packet.
 #![tactic(auto)]
 
 mod access;
@@ -15,5 +15,5 @@ mod places;
 mod site;
 mod statement;
 
-pub use function::sites;
+pub use function::{all_paths, sites};
 pub use site::{Known, Site};

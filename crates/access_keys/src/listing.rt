@@ -8,15 +8,20 @@ ghost use Rattle.access_keys.specs.Order.{head_of, head_seen, waiting};
 use nf_base::block::Block;
 use std::alloc::{AllocError, Global};
 
-/// Puts the blocks of a statement and what follows it in front of what waits. The last waits first.
+/// Puts the blocks of a statement and what follows it in front of what waits. The last waits
+/// first.
 fn put_back<'a>(one: &'a Block, left: &mut Vec<&'a Block>) -> Result<(), AllocError>
-    ensures { OnOk result (head_of (block_of one.now) ∷ waiting (map block_seen left.new.items) ≡ statements (block_of one.now) ++ waiting (map block_seen left.old.items)) }
+    ensures { OnOk result (head_of (block_of one.now) ∷ waiting (map block_seen left.new.items)
+        ≡ statements (block_of one.now) ++ waiting (map block_seen left.old.items)) }
 {
     match one {
         Block::End(_) => {}
         Block::Do { next, .. } => left.push(next)?,
         Block::Ask {
-            hit, miss, next, ..
+            hit,
+            miss,
+            next,
+            ..
         } => {
             left.push(next)?;
             left.push(miss)?;

@@ -52,7 +52,9 @@ fn put_chain(
     named: &[NamedField],
     sites: &mut Vec<Site>,
 ) -> Result<(), AllocError>
-    ensures { OnOk result ((given : List (Named text.Given)) → map (named_as field_given) given ≡ map named_seen named.now → Puts here.now sites.old.items sites.new.items (chain_site here.now.port sort place chain given ∷ [])) }
+    ensures { OnOk result ((given : List (Named text.Given)) → map (named_as field_given) given
+        ≡ map named_seen named.now → Puts here.now sites.old.items sites.new.items
+        (chain_site here.now.port sort place chain given ∷ [])) }
 {
     if here.places.has(place) {
         let count = label_count(here.decls, chain);
@@ -78,7 +80,8 @@ pub fn put_get(
     key: &[Given],
     sites: &mut Vec<Site>,
 ) -> Result<(), AllocError>
-    ensures { OnOk result (Puts here.now sites.old.items sites.new.items (get_site here.now.decls.now here.now.port place chain m (map given_of key.now) ∷ [])) }
+    ensures { OnOk result (Puts here.now sites.old.items sites.new.items
+        (get_site here.now.decls.now here.now.port place chain m (map given_of key.now) ∷ [])) }
 {
     let fields = fields_given(alloc, key)?;
     let first = first_label(here.decls, chain, m);
@@ -103,7 +106,8 @@ pub fn put_find(
     guards: &[Guard],
     sites: &mut Vec<Site>,
 ) -> Result<(), AllocError>
-    ensures { OnOk result (Puts here.now sites.old.items sites.new.items (find_site here.now.port place chain (map guard_of guards.now) ∷ [])) }
+    ensures { OnOk result (Puts here.now sites.old.items sites.new.items
+        (find_site here.now.port place chain (map guard_of guards.now) ∷ [])) }
 {
     let named = guarded(alloc, guards)?;
     put_chain(
@@ -128,7 +132,8 @@ fn put_name(
     sites: &mut Vec<Site>,
 ) -> Result<(), AllocError>
     requires { fields.now ≡ map field_given (creation_of creation.now).labels }
-    ensures { OnOk result (Puts here.now sites.old.items sites.new.items (name_site here.now.port (creation_of creation.now) m decl.now ∷ [])) }
+    ensures { OnOk result (Puts here.now sites.old.items sites.new.items
+        (name_site here.now.port (creation_of creation.now) m decl.now ∷ [])) }
 {
     let key = part(fields, decl.first, decl.parts);
     let named = numbered(alloc, decl.first, key)?;
@@ -152,7 +157,9 @@ fn put_names(
     sites: &mut Vec<Site>,
 ) -> Result<(), AllocError>
     requires { fields.now ≡ map field_given (creation_of creation.now).labels }
-    ensures { OnOk result (Puts here.now sites.old.items sites.new.items (name_sites here.now.port (creation_of creation.now) 0 (maps_of here.now.decls.now creation.now.chain))) }
+    ensures { OnOk result (Puts here.now sites.old.items sites.new.items
+        (name_sites here.now.port (creation_of creation.now) 0
+        (maps_of here.now.decls.now creation.now.chain))) }
 {
     let maps = maps_of(here.decls, creation.chain);
     for (m, decl) in maps.iter().enumerate() {
@@ -168,7 +175,9 @@ pub fn put_new(
     creation: &Creation,
     sites: &mut Vec<Site>,
 ) -> Result<(), AllocError>
-    ensures { OnOk result (Puts here.now sites.old.items sites.new.items (new_site here.now.port (creation_of creation.now) ∷ name_sites here.now.port (creation_of creation.now) 0 (maps_of here.now.decls.now creation.now.chain))) }
+    ensures { OnOk result (Puts here.now sites.old.items sites.new.items
+        (new_site here.now.port (creation_of creation.now) ∷ name_sites here.now.port
+        (creation_of creation.now) 0 (maps_of here.now.decls.now creation.now.chain))) }
 {
     let fields = fields_given(alloc, creation.labels.as_slice())?;
     let named = numbered(alloc, 0, fields.as_slice())?;

@@ -1,5 +1,5 @@
-//! Which statements of a block stand on one of some paths: the paths are followed side by side through
-//! the text, so that each is gone along once.
+//! Which statements of a block stand on one of some paths: the paths are followed side by side
+//! through the text, so that each is gone along once.
 ghost use Rattle.std.specs.Prelude.{◌≡◌, ◌≤◌, ◌++◌, [], IfOk, OnOk, option_to_list};
 ghost use Rattle.nf_base.specs.View.{block_of, ending_of};
 ghost use Rattle.nf_base.specs.Laid.{rest_size};
@@ -23,23 +23,31 @@ struct Ways<'a> {
 }
 
 impl<'a> Ways<'a> {
-    fn new(alloc: Global) -> Ways<'a>
-        ensures first { live_seen result.first.items ≡ [] }
-        ensures second { live_seen result.second.items ≡ [] }
-        ensures third { live_seen result.third.items ≡ [] }
+    /// Room for so many paths to hit, and for as many to miss.
+    fn new(alloc: Global, most: usize) -> Result<Ways<'a>, AllocError>
+        ensures first { IfOk result (λ ways. live_seen ways.first.items ≡ []) }
+        ensures second { IfOk result (λ ways. live_seen ways.second.items ≡ []) }
+        ensures third { IfOk result (λ ways. live_seen ways.third.items ≡ []) }
     {
-        Ways {
-            first: Vec::new(alloc),
-            second: Vec::new(alloc),
-            third: Vec::new(alloc),
-        }
+        let first = Vec::with_capacity(alloc, most)?;
+        let second = Vec::with_capacity(alloc, most)?;
+        let third = Vec::new(alloc);
+        Ok(Ways {
+            first,
+            second,
+            third,
+        })
     }
 
     /// What follows a branch of one path more.
     fn put_rest(&mut self, branch: Branch, rest: &'a [Branch]) -> Result<(), AllocError>
-        ensures first { OnOk result (live_seen self.new.first.items ≡ live_seen self.old.first.items ++ option_to_list (into_first (branch_seen branch) (branches_seen rest.now))) }
-        ensures second { OnOk result (live_seen self.new.second.items ≡ live_seen self.old.second.items ++ option_to_list (into_second (branch_seen branch) (branches_seen rest.now))) }
-        ensures third { OnOk result (live_seen self.new.third.items ≡ live_seen self.old.third.items ++ option_to_list (into_third (branch_seen branch) (branches_seen rest.now))) }
+        ensures first { OnOk result (live_seen self.new.first.items ≡ live_seen self.old.first.items
+            ++ option_to_list (into_first (branch_seen branch) (branches_seen rest.now))) }
+        ensures second { OnOk result (live_seen self.new.second.items
+            ≡ live_seen self.old.second.items ++ option_to_list (into_second (branch_seen branch)
+            (branches_seen rest.now))) }
+        ensures third { OnOk result (live_seen self.new.third.items ≡ live_seen self.old.third.items
+            ++ option_to_list (into_third (branch_seen branch) (branches_seen rest.now))) }
     {
         match branch {
             Branch::Hits => self.first.push(rest)?,
@@ -53,9 +61,13 @@ impl<'a> Ways<'a> {
 
     /// What is left of one path more.
     fn put(&mut self, path: &'a [Branch]) -> Result<(), AllocError>
-        ensures first { OnOk result (live_seen self.new.first.items ≡ live_seen self.old.first.items ++ option_to_list (behind_first into_first (branches_seen path.now))) }
-        ensures second { OnOk result (live_seen self.new.second.items ≡ live_seen self.old.second.items ++ option_to_list (behind_first into_second (branches_seen path.now))) }
-        ensures third { OnOk result (live_seen self.new.third.items ≡ live_seen self.old.third.items ++ option_to_list (behind_first into_third (branches_seen path.now))) }
+        ensures first { OnOk result (live_seen self.new.first.items ≡ live_seen self.old.first.items
+            ++ option_to_list (behind_first into_first (branches_seen path.now))) }
+        ensures second { OnOk result (live_seen self.new.second.items
+            ≡ live_seen self.old.second.items ++ option_to_list
+            (behind_first into_second (branches_seen path.now))) }
+        ensures third { OnOk result (live_seen self.new.third.items ≡ live_seen self.old.third.items
+            ++ option_to_list (behind_first into_third (branches_seen path.now))) }
     {
         match path.split_first() {
             None => Ok(()),
@@ -66,11 +78,14 @@ impl<'a> Ways<'a> {
 
 /// What is left of some paths, by the block that they go into.
 fn parted<'a>(alloc: Global, live: &[&'a [Branch]]) -> Result<Ways<'a>, AllocError>
-    ensures first { IfOk result (λ ways. live_seen ways.first.items ≡ those into_first (live_seen live.now)) }
-    ensures second { IfOk result (λ ways. live_seen ways.second.items ≡ those into_second (live_seen live.now)) }
-    ensures third { IfOk result (λ ways. live_seen ways.third.items ≡ those into_third (live_seen live.now)) }
+    ensures first { IfOk result (λ ways. live_seen ways.first.items ≡ those into_first
+        (live_seen live.now)) }
+    ensures second { IfOk result (λ ways. live_seen ways.second.items ≡ those into_second
+        (live_seen live.now)) }
+    ensures third { IfOk result (λ ways. live_seen ways.third.items ≡ those into_third
+        (live_seen live.now)) }
 {
-    let mut ways = Ways::new(alloc);
+    let mut ways = Ways::new(alloc, live.len())?;
     for path in live {
         ways.put(path)?;
     }
@@ -91,12 +106,9 @@ fn behind(block: &Block) -> Option<&Block>
 }
 
 /// The paths that go on behind the end of a block.
-fn past_ending<'a>(
-    alloc: Global,
-    ending: &Ending,
-    live: Vec<&'a [Branch]>,
-) -> Vec<&'a [Branch]>
-    ensures { live_seen result.items ≡ past_ending (ending_of ending.now) (live_seen live.entry.items) }
+fn past_ending<'a>(alloc: Global, ending: &Ending, live: Vec<&'a [Branch]>) -> Vec<&'a [Branch]>
+    ensures { live_seen result.items ≡ past_ending (ending_of ending.now)
+        (live_seen live.entry.items) }
 {
     match ending {
         Ending::FallsOff => live,
@@ -109,14 +121,15 @@ fn joined<'a>(
     mut some: Vec<&'a [Branch]>,
     others: Vec<&'a [Branch]>,
 ) -> Result<Vec<&'a [Branch]>, AllocError>
-    ensures { IfOk result (λ all. live_seen all.items ≡ live_seen some.entry.items ++ live_seen others.entry.items) }
+    ensures { IfOk result (λ all. live_seen all.items ≡ live_seen some.entry.items
+        ++ live_seen others.entry.items) }
 {
     some.extend_from_slice(others.as_slice())?;
     Ok(some)
 }
 
-/// Marks a statement and those in its blocks, in text order, each by whether one of the paths comes to
-/// it. The paths that go on behind it, each with what is left of it.
+/// Marks a statement and those in its blocks, in text order, each by whether one of the paths
+/// comes to it. The paths that go on behind it, each with what is left of it.
 #[cycle(marking)]
 fn mark_statement<'a>(
     alloc: Global,
@@ -124,8 +137,10 @@ fn mark_statement<'a>(
     live: Vec<&'a [Branch]>,
     marks: &mut Vec<bool>,
 ) -> Result<Vec<&'a [Branch]>, AllocError>
-    ensures marks { OnOk result (marks.new.items ≡ marks.old.items ++ alive_one (block_of block.now) (live_seen live.entry.items)) }
-    ensures past { IfOk result (λ on. live_seen on.items ≡ past_one (block_of block.now) (live_seen live.entry.items)) }
+    ensures marks { OnOk result (marks.new.items ≡ marks.old.items ++ alive_one (block_of block.now)
+        (live_seen live.entry.items)) }
+    ensures past { IfOk result (λ on. live_seen on.items ≡ past_one (block_of block.now)
+        (live_seen live.entry.items)) }
 {
     marks.push(!live.is_empty())?;
     match block {
@@ -138,7 +153,10 @@ fn mark_statement<'a>(
             joined(hits, misses)
         }
         Block::Make {
-            made, taken, full, ..
+            made,
+            taken,
+            full,
+            ..
         } => {
             let Ways {
                 first,
@@ -153,8 +171,8 @@ fn mark_statement<'a>(
     }
 }
 
-/// Marks the statements of a block, in text order, each by whether one of the paths comes to it. The
-/// paths that fall off its end, each with what is left of it.
+/// Marks the statements of a block, in text order, each by whether one of the paths comes to it.
+/// The paths that fall off its end, each with what is left of it.
 #[cycle(marking)]
 pub fn mark_block<'a>(
     alloc: Global,
@@ -162,8 +180,10 @@ pub fn mark_block<'a>(
     live: Vec<&'a [Branch]>,
     marks: &mut Vec<bool>,
 ) -> Result<Vec<&'a [Branch]>, AllocError>
-    ensures marks { OnOk result (marks.new.items ≡ marks.old.items ++ alive (block_of block.now) (live_seen live.entry.items)) }
-    ensures past { IfOk result (λ on. live_seen on.items ≡ past (block_of block.now) (live_seen live.entry.items)) }
+    ensures marks { OnOk result (marks.new.items ≡ marks.old.items ++ alive (block_of block.now)
+        (live_seen live.entry.items)) }
+    ensures past { IfOk result (λ on. live_seen on.items ≡ past (block_of block.now)
+        (live_seen live.entry.items)) }
 {
     let mut on = live;
     let mut rest = Some(block);

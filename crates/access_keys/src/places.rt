@@ -41,7 +41,8 @@ impl Places {
 
     /// The cells that an expression reads.
     fn add_value(&mut self, value: &Expr) -> Result<(), AllocError>
-        ensures { OnOk result (HasMore self.old self.new (expression_places (expression_of value.now))) }
+        ensures { OnOk result
+            (HasMore self.old self.new (expression_places (expression_of value.now))) }
     {
         match value {
             Expr::Number(_) => Ok(()),
@@ -90,7 +91,9 @@ impl Places {
     }
 
     fn add_operation(&mut self, operation: &Operation) -> Result<(), AllocError>
-        ensures { OnOk result (HasMore self.old self.new (operation_place (operation_of operation.now) ++ operation_reads (operation_of operation.now))) }
+        ensures { OnOk result
+            (HasMore self.old self.new (operation_place (operation_of operation.now)
+            ++ operation_reads (operation_of operation.now))) }
     {
         match operation {
             Operation::Touch { .. } => Ok(()),
@@ -98,7 +101,10 @@ impl Places {
             Operation::Set { given, .. } => self.add_value(&given.value),
             Operation::Write { given, .. } => self.add_value(&given.value),
             Operation::Store {
-                place, at, given, ..
+                place,
+                at,
+                given,
+                ..
             } => {
                 self.add(*place)?;
                 self.add_value(at)?;
@@ -108,7 +114,8 @@ impl Places {
     }
 
     fn add_question(&mut self, question: &Question) -> Result<(), AllocError>
-        ensures { OnOk result (HasMore self.old self.new (question_own (question_of question.now) ++ question_reads (question_of question.now))) }
+        ensures { OnOk result (HasMore self.old self.new (question_own (question_of question.now)
+            ++ question_reads (question_of question.now))) }
     {
         match question {
             Question::Get { place, key, .. } => {
@@ -116,14 +123,20 @@ impl Places {
                 self.add_given(key.as_slice())
             }
             Question::Find {
-                place, at, guards, ..
+                place,
+                at,
+                guards,
+                ..
             } => {
                 self.add(*place)?;
                 self.add_value(at)?;
                 self.add_guards(guards.as_slice())
             }
             Question::Test {
-                place, left, right, ..
+                place,
+                left,
+                right,
+                ..
             } => {
                 self.add(*place)?;
                 self.add_value(left)?;
@@ -134,7 +147,8 @@ impl Places {
 
     /// The places of a block's first statement.
     fn add_statement(&mut self, block: &Block) -> Result<(), AllocError>
-        ensures { OnOk result (HasMore self.old self.new (places_in (head_of (block_of block.now)))) }
+        ensures { OnOk result
+            (HasMore self.old self.new (places_in (head_of (block_of block.now)))) }
     {
         match block {
             Block::End(ending) => self.add_ending(ending),
@@ -149,7 +163,8 @@ impl Places {
 
     /// The same, where it is marked.
     fn add_if(&mut self, mark: bool, block: &Block) -> Result<(), AllocError>
-        ensures { OnOk result (HasMore self.old self.new (places_if mark (head_of (block_of block.now)))) }
+        ensures { OnOk result
+            (HasMore self.old self.new (places_if mark (head_of (block_of block.now)))) }
     {
         if mark {
             self.add_statement(block)

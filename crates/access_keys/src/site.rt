@@ -3,8 +3,8 @@ use nf_base::decl::ObjectId;
 use nf_base::limited::Limited;
 use nf_sites::Sort;
 
-/// The field by which each label of an object is known, if it is, in text order: of a chain its labels,
-/// at most 136; of an array the one label, the index.
+/// The field by which each label of an object is known, if it is, in text order: of a chain its
+/// labels, at most 136; of an array the one label, the index.
 pub type Known = Limited<Option<Hashable>, 136>;
 
 /// An object that is touched at a place of a port's text, and what is known of its labels there.

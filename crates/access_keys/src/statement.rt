@@ -20,7 +20,8 @@ fn put_operation(
     operation: &Operation,
     sites: &mut Vec<Site>,
 ) -> Result<(), AllocError>
-    ensures { OnOk result (Puts here.now sites.old.items sites.new.items (operation_sites here.now.port (operation_of operation.now))) }
+    ensures { OnOk result (Puts here.now sites.old.items sites.new.items
+        (operation_sites here.now.port (operation_of operation.now))) }
 {
     match operation {
         Operation::Touch { .. } => Ok(()),
@@ -47,7 +48,8 @@ fn put_question(
     question: &Question,
     sites: &mut Vec<Site>,
 ) -> Result<(), AllocError>
-    ensures { OnOk result (Puts here.now sites.old.items sites.new.items (question_sites here.now.decls.now here.now.port (question_of question.now))) }
+    ensures { OnOk result (Puts here.now sites.old.items sites.new.items
+        (question_sites here.now.decls.now here.now.port (question_of question.now))) }
 {
     match question {
         Question::Get {
@@ -85,7 +87,8 @@ fn put_creation(
     creation: &Creation,
     sites: &mut Vec<Site>,
 ) -> Result<(), AllocError>
-    ensures { OnOk result (Puts here.now sites.old.items sites.new.items (creation_sites here.now.decls.now here.now.port (creation_of creation.now))) }
+    ensures { OnOk result (Puts here.now sites.old.items sites.new.items
+        (creation_sites here.now.decls.now here.now.port (creation_of creation.now))) }
 {
     put_new(alloc, here, creation, sites)?;
     put_given(alloc, here, creation.labels.as_slice(), sites)
@@ -98,7 +101,8 @@ fn put_ending(
     ending: &Ending,
     sites: &mut Vec<Site>,
 ) -> Result<(), AllocError>
-    ensures { OnOk result (Puts here.now sites.old.items sites.new.items (ending_sites here.now.port (ending_of ending.now))) }
+    ensures { OnOk result (Puts here.now sites.old.items sites.new.items
+        (ending_sites here.now.port (ending_of ending.now))) }
 {
     match ending {
         Ending::FallsOff => Ok(()),
@@ -115,7 +119,8 @@ fn put_statement(
     block: &Block,
     sites: &mut Vec<Site>,
 ) -> Result<(), AllocError>
-    ensures { OnOk result (Puts here.now sites.old.items sites.new.items (statement_sites here.now.decls.now here.now.port (head_of (block_of block.now)))) }
+    ensures { OnOk result (Puts here.now sites.old.items sites.new.items
+        (statement_sites here.now.decls.now here.now.port (head_of (block_of block.now)))) }
 {
     match block {
         Block::End(ending) => put_ending(alloc, here, ending, sites),
@@ -132,7 +137,8 @@ pub fn put_statements(
     statements: &[&Block],
     sites: &mut Vec<Site>,
 ) -> Result<(), AllocError>
-    ensures { OnOk result (Puts here.now sites.old.items sites.new.items (sites_along here.now.decls.now here.now.port (map head_seen statements.now))) }
+    ensures { OnOk result (Puts here.now sites.old.items sites.new.items
+        (sites_along here.now.decls.now here.now.port (map head_seen statements.now))) }
 {
     for one in statements {
         put_statement(alloc, here, one, sites)?;

@@ -1,8 +1,7 @@
-use Rattle.std.proofs.Common.{◌≡◌, ◌∙◌, ◌∷◌, [], List, Option, map, ap, sym, refl}
+use Rattle.std.proofs.Common.{◌≡◌, ◌∙◌, ◌∷◌, [], map, ap, sym, refl}
 use Rattle.nf_base.specs.declared.expr.Given as given
 use Rattle.nf_base.specs.Chains.{maps_of}
 use Rattle.nf_base.specs.View.{given_of, creation_of}
-use Rattle.hash_fields.specs.declared.hashable.Hashable.{Hashable}
 use Rattle.nf_sites.specs.Known.{field_given}
 use Rattle.nf_sites.specs.Named.{numbered}
 use Rattle.nf_sites.specs.Sites.{new_site, name_sites}

@@ -1,4 +1,4 @@
-use Rattle.std.proofs.Common.{◌∙◌, ◌≡◌, ◌==◌, not, Bor, List, map, length, vec_len, ap, arith}
+use Rattle.std.proofs.Common.{◌∙◌, ◌≡◌, not, Bor, List, length, vec_len, ap, arith}
 use Rattle.path_walk.specs.declared.branch.Branch as rust
 use Rattle.nf_base.specs.View.{block_of}
 use Rattle.access_keys.specs.Alive.{branches_seen, live_seen, into_first, into_second, into_third, those}
