@@ -1,5 +1,5 @@
 -- Worked rows: the texts of some functions, with their sites and what these come to.
-use Rattle.std.specs.Prelude.{◌≡◌, ℕ, List, [], ◌∷◌, ◌++◌, Option, Some, None, codes}
+use Rattle.std.specs.Prelude.{◌≡◌, ℕ, List, [], ◌∷◌, ◌++◌, Option, Some, None, replicate, codes}
 use Rattle.nf_base.specs.declared.decl.ObjectId.{ObjectId}
 use Rattle.nf_base.specs.declared.decl.ObjectId.TheVariants as object
 use Rattle.nf_base.specs.declared.decl.ChainDecl.{ChainDecl}
@@ -16,7 +16,12 @@ use Rattle.shard_rules.specs.declared.plan.Standing.{Standing}
 use Rattle.shard_rules.specs.declared.plan.Standing.TheVariants.{ReadOnly, Unused, Ruled}
 use Rattle.shard_rules.specs.declared.plan.Plan.{Plan}
 use Rattle.shard_rules.specs.Rows.{at_chain, policer, translator, hidden, counter}
+use Rattle.toeplitz_hash.specs.declared.key.TheConstants.{DEFAULT_KEY}
+use Rattle.key_synth.specs.declared.verdict.Cause.TheVariants as cause
+use Rattle.key_synth.specs.declared.verdict.Verdict.{Verdict}
+use Rattle.key_synth.specs.declared.verdict.Verdict.TheVariants.{Sharded, Locked}
 use Rattle.verdict_text.specs.Objects.{explained}
+use Rattle.verdict_text.specs.Verdict.{verdict_text}
 
 -- a label of a name, whatever its width
 abbrev pub named : List ℕ → ColumnDecl
@@ -90,6 +95,22 @@ many_text = explained
     (plan_with
     (ReadOnly ∷ Ruled Unhashable [] ∷ Ruled SameKey (0 ∷ []) ∷ Unused ∷ []))
 
+-- the verdicts on some functions: keys by destination at port 1, two objects, and a hash
+abbrev pub policer_keys : Verdict
+policer_keys = Sharded (record {
+  ports = DEFAULT_KEY ∷ (replicate 7 0 ++ 1 ∷ replicate 32 0) ∷ [];
+})
+
+-- a bridge keeps no label
+abbrev pub bridge_cause : Verdict
+bridge_cause = Locked (cause.Object (object.Chain 0) Unhashable)
+
+-- the function that it is on
+abbrev pub bridge : Function
+bridge = function_named (codes "bridge")
+    (chain_named (codes "macs") (named (codes "m") ∷ []) (map_named (codes "by_mac") 0 1 ∷ []) ∷ [])
+    [] (object.Chain 0 ∷ [])
+
 -- what a translator's other sites know
 abbrev pub conn_known : List ℕ
 conn_known = codes " sip=src_ip sp=src_port dip=dst_ip dp=dst_port rip=dst_ip rp=dst_port\n"
@@ -110,3 +131,10 @@ pub record TextsAreSo : Type 0 where
       ++ codes "object hits rule J1 keeps index\n"
       ++ codes "site 0 store index=dst_port\nsite 0 load index=dst_port\n"
       ++ codes "object never unused\n"
+  pub policer_has_keys : verdict_text bridge policer_keys
+      ≡ codes "sharded\nkey 0 6d5a56da255b0ec24167253d43a38fb0"
+      ++ codes "d0ca2bcbae7b30b477cb2da38030f20c6a42b73bbeac01fa\n"
+      ++ codes "key 1 00000000000000010000000000000000"
+      ++ codes "000000000000000000000000000000000000000000000000\n"
+  pub bridge_has_none : verdict_text bridge bridge_cause ≡ codes "locked macs J4\n"
+  pub the_hash_is_named : verdict_text bridge (Locked cause.Hash) ≡ codes "locked hash\n"

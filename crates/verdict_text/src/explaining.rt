@@ -202,7 +202,24 @@ fn push_objects(
     Ok(())
 }
 
-/// The text of a function's objects: what its sites came to, and the sites, object by object.
+/// Puts the text of a function's objects behind what stands there.
+pub fn push_explained(
+    out: &mut Vec<u8>,
+    func: &Func,
+    sites: &[Site],
+    plan: &Plan,
+) -> Result<(), AllocError>
+    ensures ok { OnOk result (out.new.items
+        ≡ out.old.items ++ explained (function_of func.now) sites.now plan.now) }
+{
+    push_bytes(out, b"nf ")?;
+    push_bytes(out, func.name.as_slice())?;
+    push_bytes(out, b"\n")?;
+    let objects = func.objects.as_slice();
+    push_objects(out, func, sites, objects, plan.standings.as_slice())
+}
+
+/// The text of a function's objects: what its sites come to, and the sites, object by object.
 pub fn objects(
     alloc: Global,
     func: &Func,
@@ -213,10 +230,6 @@ pub fn objects(
         v.items ≡ explained (function_of func.now) sites.now plan.now) }
 {
     let mut out = Vec::new(alloc);
-    push_bytes(&mut out, b"nf ")?;
-    push_bytes(&mut out, func.name.as_slice())?;
-    push_bytes(&mut out, b"\n")?;
-    let objects = func.objects.as_slice();
-    push_objects(&mut out, func, sites, objects, plan.standings.as_slice())?;
+    push_explained(&mut out, func, sites, plan)?;
     Ok(out)
 }

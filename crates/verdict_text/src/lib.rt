@@ -4,6 +4,8 @@
 mod explaining;
 pub mod laws;
 mod names;
+mod telling;
 mod text;
 
 pub use explaining::objects;
+pub use telling::{explain, verdict_part};
