@@ -1,0 +1,85 @@
+//! The objects of one line, and their keys.
+use hash_fields::Hashable;
+use key_rows::{Object, Place, nearest_keys};
+use nf_base::keys::Keys;
+use nf_base::seq::Seq;
+use std::alloc::{AllocError, Global};
+
+/// What is printed of a line.
+pub fn answer(alloc: Global, line: &str) -> Result<String, AllocError> {
+    let Some((ports, behind)) = line.split_once('|') else {
+        return String::from_str(alloc, "no objects");
+    };
+    let objects = objects(alloc, behind)?;
+    let ports = number(ports);
+    if ports > 4 {
+        return String::from_str(alloc, "too many ports");
+    }
+    match nearest_keys(alloc, ports, objects.as_slice())? {
+        Some(keys) => text(alloc, &keys),
+        None => String::from_str(alloc, "none"),
+    }
+}
+
+/// The objects of a line.
+pub fn objects(alloc: Global, text: &str) -> Result<Vec<Object>, AllocError> {
+    let mut objects = Vec::new(alloc);
+    for words in text.split('|') {
+        objects.push(object(alloc, words)?)?;
+    }
+    Ok(objects)
+}
+
+fn object(alloc: Global, words: &str) -> Result<Object, AllocError> {
+    let mut places = Seq::new(alloc);
+    for word in words.split_whitespace() {
+        places.push(place(alloc, word)?)?;
+    }
+    Ok(Object { places })
+}
+
+fn place(alloc: Global, word: &str) -> Result<Place, AllocError> {
+    let (port, fields) = match word.split_once(':') {
+        Some(parts) => parts,
+        None => (word, ""),
+    };
+    let mut known = Seq::new(alloc);
+    for name in fields.split(',') {
+        if let Some(field) = field(name) {
+            known.push(field)?;
+        }
+    }
+    Ok(Place {
+        port: number(port),
+        known,
+    })
+}
+
+fn field(name: &str) -> Option<Hashable> {
+    match name {
+        "src_ip" => Some(Hashable::SrcIp),
+        "dst_ip" => Some(Hashable::DstIp),
+        "src_port" => Some(Hashable::SrcPort),
+        "dst_port" => Some(Hashable::DstPort),
+        _ => None,
+    }
+}
+
+/// A number of ports, or of a port: the largest one where the word is none.
+fn number(word: &str) -> u32 {
+    word.trim().parse().unwrap_or(u32::MAX)
+}
+
+/// Keys in hexadecimal, port by port.
+pub fn text(alloc: Global, keys: &Keys) -> Result<String, AllocError> {
+    let mut text = String::new(alloc);
+    for key in keys.ports.as_slice() {
+        if !text.is_empty() {
+            text.push(' ')?;
+        }
+        for byte in key {
+            text.push_str(&format!(in alloc; "{byte:02x}")?)?;
+        }
+    }
+    Ok(text)
+}

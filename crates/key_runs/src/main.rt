@@ -1,0 +1,29 @@
+//! Finds the keys for objects, a line each: how many ports, and the places of each object, as in
+//! `2 | 0:src_ip,src_port 1:dst_ip,dst_port | 1:dst_ip`. A place is a port and the fields that the
+//! object's labels are there. Prints a key for each port, or `none`.
+//!
+//! Given the word `time`, it prints how long it takes to find the keys of four ports for eight
+//! objects with eight labels. Its tests are those of the keys.
+#![tactic(auto)]
+
+mod line;
+#[cfg(test)]
+mod tests;
+mod times;
+
+use std::{env, io};
+
+fn main(rt: HostRuntime) -> io::Result<()> {
+    let mut timed = false;
+    for _word in env::args(&rt)?.skip(1) {
+        timed = true;
+        times::print(&rt)?;
+    }
+    if !timed {
+        for line in rt.lines(rt.alloc()) {
+            let answer = line::answer(rt.alloc(), line?.as_str())?;
+            println!(rt; "{}", answer.as_str())?;
+        }
+    }
+    Ok(())
+}

@@ -1,0 +1,161 @@
+//! What the keys are, by other ways than equations.
+use crate::line::{answer, objects};
+use key_rows::{Object, nearest_keys};
+use nf_base::keys::Keys;
+use nf_base::mac::Mac;
+use nf_base::packet::{Fields, Packet, PacketId};
+use std::alloc::{AllocError, Global};
+use std::test::Fail;
+use toeplitz_hash::{DEFAULT_KEY, hash_packet};
+
+// The tests find keys through this, which promises nothing: what the answers are is compared, and
+// not proved.
+fn keys(alloc: Global, objects: &[Object]) -> Result<Option<Keys>, AllocError> {
+    nearest_keys(alloc, 2, objects)
+}
+
+/// Names and first bits of the windows of the four fields, and the bits behind them.
+const WINDOWS: [(&str, usize, usize); 4] = [
+    ("src_ip", 0, 63),
+    ("dst_ip", 32, 95),
+    ("src_port", 64, 111),
+    ("dst_port", 80, 127),
+];
+
+fn default_bit(i: usize) -> bool {
+    match DEFAULT_KEY.get(i / 8) {
+        Some(byte) => (*byte >> (7 - i % 8)) % 2 == 1,
+        None => false,
+    }
+}
+
+/// Whether no field that a place doesn't know meets a bit of its port's key.
+fn is_free(i: usize, known: u32) -> bool {
+    let mut number = 0u32;
+    for (_name, from, to) in WINDOWS {
+        if from <= i && i < to && known.wrapping_shr(number) % 2 == 0 {
+            return false;
+        }
+        number = number.wrapping_add(1);
+    }
+    i < 127
+}
+
+/// The default key's bits where they are free; if none in 25 to 126 is a 1 then, the last free one
+/// is, and there is no key where none is free.
+fn expected(alloc: Global, known: u32) -> Result<String, AllocError> {
+    let mut last = None;
+    let mut spreads = false;
+    for i in 25..127 {
+        if is_free(i, known) {
+            last = Some(i);
+            spreads = spreads || default_bit(i);
+        }
+    }
+    let Some(last) = last else {
+        return String::from_str(alloc, "none");
+    };
+    let mut text = String::new(alloc);
+    for byte in 0..40usize {
+        let mut value = 0u8;
+        for j in 0..8 {
+            let i = byte * 8 + j;
+            let one = is_free(i, known) && (default_bit(i) || (!spreads && i == last));
+            value = value.wrapping_mul(2).wrapping_add(u8::from(one));
+        }
+        text.push_str(&format!(in alloc; "{value:02x}")?)?;
+    }
+    Ok(text)
+}
+
+/// One port and one place that knows a set of fields, one bit each.
+fn one_place(alloc: Global, known: u32) -> Result<String, AllocError> {
+    let mut line = String::from_str(alloc, "1 | 0:")?;
+    let mut number = 0u32;
+    for (name, _from, _to) in WINDOWS {
+        if known.wrapping_shr(number) % 2 == 1 {
+            line.push_str(name)?;
+            line.push(',')?;
+        }
+        number = number.wrapping_add(1);
+    }
+    Ok(line)
+}
+
+#[test]
+fn a_place_keeps_the_bits_that_only_its_fields_meet(rt: HostRuntime) -> Result<(), Fail> {
+    let alloc = rt.alloc();
+    for known in 0..16u32 {
+        let line = one_place(alloc, known)?;
+        let found = answer(alloc, line.as_str())?;
+        let expected = expected(alloc, known)?;
+        assert_eq!(rt; found.as_str(), expected.as_str(), "{}", line.as_str());
+    }
+    Ok(())
+}
+
+/// A key that repeats its first 16 bits serves both directions of a connection (Woo and Park,
+/// "Scalable TCP Session Monitoring with Symmetric Receive-side Scaling", 2012).
+#[test]
+fn both_directions_at_one_port_get_a_key_of_period_16(rt: HostRuntime) -> Result<(), Fail> {
+    let found = answer(
+        rt.alloc(),
+        "1 | 0:src_ip,dst_ip,src_port,dst_port 0:dst_ip,src_ip,dst_port,src_port",
+    )?;
+    let expected =
+        "6d5a6d5a6d5a6d5a6d5a6d5a6d5a6d5a000000000000000000000000000000000000000000000000";
+    assert_eq!(rt; found.as_str(), expected);
+    Ok(())
+}
+
+/// A packet of a connection.
+fn packet(port: u32, source: (u32, u16), destination: (u32, u16)) -> Packet {
+    let (src_ip, src_port) = source;
+    let (dst_ip, dst_port) = destination;
+    let fields = Fields {
+        length: 42,
+        src_mac: Mac::new(2),
+        dst_mac: Mac::new(4),
+        src_ip,
+        dst_ip,
+        proto: 17,
+        ttl: 64,
+        src_port,
+        dst_port,
+    };
+    Packet {
+        id: PacketId { port, seq: 0 },
+        time: 0,
+        fields: Some(fields),
+    }
+}
+
+/// The hash of a packet at one of two ports, and 0 where there are fewer keys.
+fn hash(keys: &Keys, packet: &Packet) -> u32 {
+    if packet.id.port < keys.ports.len() {
+        hash_packet(keys, packet).unwrap_or(0)
+    } else {
+        0
+    }
+}
+
+/// A reply at port 1 has the hash of what it answers at port 0, and another port has another hash.
+#[test]
+fn a_reply_has_the_hash_of_what_it_answers(rt: HostRuntime) -> Result<(), Fail> {
+    let alloc = rt.alloc();
+    let firewall = "0:src_ip,dst_ip,src_port,dst_port 1:dst_ip,src_ip,dst_port,src_port";
+    let objects = objects(alloc, firewall)?;
+    let Some(keys) = keys(alloc, objects.as_slice())? else {
+        return Err(Fail::from("no keys"));
+    };
+    let inside = (0x0a00_0001, 1000);
+    let outside = (0x0a00_0002, 80);
+    let there = hash(&keys, &packet(0, inside, outside));
+    assert_eq!(rt; hash(&keys, &packet(1, outside, inside)), there);
+    assert_ne!(rt;
+        hash(&keys, &packet(1, outside, (0x0a00_0001, 1001))),
+        there
+    );
+    assert_ne!(rt; hash(&keys, &packet(1, inside, outside)), there);
+    Ok(())
+}

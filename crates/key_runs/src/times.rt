@@ -1,0 +1,31 @@
+//! How long it takes to find keys.
+use crate::line::{objects, text};
+use key_rows::nearest_keys;
+use std::io;
+use std::time::Instant;
+
+/// Two connections by both ends, with two labels for each field, in each order that a port may see
+/// them, at four ports.
+const CONNECTIONS: &str = "0:src_ip,dst_ip,src_port,dst_port,src_ip,dst_ip,src_port,dst_port \
+     1:dst_ip,src_ip,dst_port,src_port,dst_ip,src_ip,dst_port,src_port \
+     2:src_ip,dst_ip,src_port,dst_port,src_ip,dst_ip,src_port,dst_port \
+     3:dst_ip,src_ip,dst_port,src_port,dst_ip,src_ip,dst_port,src_port";
+
+/// Prints how long it takes for eight objects with eight labels at four ports.
+pub fn print(rt: &HostRuntime) -> io::Result<()> {
+    let alloc = rt.alloc();
+    let mut objects = objects(alloc, CONNECTIONS)?;
+    for _ in 0..7 {
+        objects.append(&mut crate::line::objects(alloc, CONNECTIONS)?)?;
+    }
+    let start = Instant::now(rt)?;
+    let keys = nearest_keys(alloc, 4, objects.as_slice())?;
+    let spent = start.elapsed(rt)?.as_micros();
+    match keys {
+        Some(keys) => {
+            let text = text(alloc, &keys)?;
+            println!(rt; "{} objects: {spent} us, {}", objects.len(), text.as_str())
+        }
+        None => println!(rt; "{} objects: {spent} us, none", objects.len()),
+    }
+}

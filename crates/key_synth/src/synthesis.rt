@@ -1,0 +1,26 @@
+//! The verdict on a function.
+ghost use Rattle.std.specs.Prelude.{◌≡◌, IfOk};
+ghost use Rattle.nf_base.specs.Functions.{function_of};
+ghost use Rattle.shard_rules.specs.Served.{own_plan};
+ghost use Rattle.key_synth.specs.Verdicts.{IsVerdict, Separates};
+
+use crate::cause::cause;
+use crate::verdict::Verdict;
+use key_rows::nearest_keys;
+use nf_base::func::Func;
+use shard_rules::Plan;
+use std::alloc::{AllocError, Global};
+
+/// The keys of a function's ports, 40 bytes each, under which packets that meet have equal hashes,
+/// from the plan of its sites: of those that give each keyed port more than one table index the
+/// ones nearest the default key. `Locked`, with the cause, exactly where there are none.
+pub fn synthesise(alloc: Global, func: &Func, plan: &Plan) -> Result<Verdict, AllocError>
+    requires { plan.now ≡ own_plan (function_of func.now) }
+    ensures verdict { IfOk result (IsVerdict (function_of func.now)) }
+    ensures separation { IfOk result (Separates (function_of func.now)) }
+{
+    match nearest_keys(alloc, func.handlers.len(), plan.objects.as_slice())? {
+        Some(keys) => Ok(Verdict::Sharded(keys)),
+        None => Ok(Verdict::Locked(cause(func.objects.as_slice(), plan.standings.as_slice()))),
+    }
+}

@@ -1,0 +1,11 @@
+pub mod Once
+pub mod SamePlace
+pub mod OneMore
+pub mod Alike
+pub mod Writing
+pub mod Table
+pub mod Keeping
+pub mod EachOnce
+pub mod Own
+pub mod Ties
+pub mod Admitted

@@ -1,0 +1,7 @@
+-- what is left decides
+use Rattle.std.proofs.Common.{◌≡◌, drop}
+use Rattle.shard_rules.specs.Places.{same_fields}
+use Rattle.shard_rules.proofs.place.same_fields.Given as goal
+
+abbrev pub invariant-loop-i : goal.invariant-loop-i
+invariant-loop-i l = same_fields (drop l.i l.a) (drop l.i l.b) ≡ same_fields l.a l.b

@@ -1,0 +1,63 @@
+-- The names of objects, maps, labels and fields, as they are printed.
+use Rattle.std.specs.Prelude.{ℕ, List, [], Option, Some, None, codes, slice_get}
+use Rattle.nf_base.specs.declared.decl.ObjectId.{ObjectId}
+use Rattle.nf_base.specs.declared.decl.ObjectId.TheVariants as object
+use Rattle.nf_base.specs.declared.decl.ChainDecl.{ChainDecl}
+use Rattle.nf_base.specs.declared.decl.ArrayDecl.{ArrayDecl}
+use Rattle.nf_base.specs.declared.decl.ColumnDecl.{ColumnDecl}
+use Rattle.nf_base.specs.declared.decl.MapDecl.{MapDecl}
+use Rattle.nf_base.specs.Text.{Function}
+use Rattle.hash_fields.specs.declared.hashable.Hashable.{Hashable}
+use Rattle.hash_fields.specs.declared.hashable.Hashable.TheVariants.{SrcIp, DstIp, SrcPort, DstPort}
+
+-- the name of a declared chain
+abbrev pub chain_name : Option ChainDecl → List ℕ
+chain_name None = []
+chain_name (Some decl) = decl.name
+
+-- that of a declared array
+abbrev pub array_name : Option ArrayDecl → List ℕ
+array_name None = []
+array_name (Some decl) = decl.name
+
+-- the name of a chain or an array
+abbrev pub object_name : Function → ObjectId → List ℕ
+object_name f (object.Chain chain) = chain_name (slice_get f.chains chain)
+object_name f (object.Array array) = array_name (slice_get f.arrays array)
+
+-- that of a declared map
+abbrev pub declared_map : Option MapDecl → List ℕ
+declared_map None = []
+declared_map (Some decl) = decl.name
+
+-- that of a map among the maps of a chain
+abbrev pub map_in : Option ChainDecl → ℕ → List ℕ
+map_in None m = []
+map_in (Some decl) m = declared_map (slice_get decl.maps m)
+
+-- the name of a map of an object
+abbrev pub map_name : Function → ObjectId → ℕ → List ℕ
+map_name f (object.Chain chain) m = map_in (slice_get f.chains chain) m
+map_name f (object.Array array) m = []
+
+-- that of a declared label
+abbrev pub declared_label : Option ColumnDecl → List ℕ
+declared_label None = []
+declared_label (Some decl) = decl.name
+
+-- that of a label among the labels of a chain
+abbrev pub label_in : Option ChainDecl → ℕ → List ℕ
+label_in None l = []
+label_in (Some decl) l = declared_label (slice_get decl.labels l)
+
+-- the name of a label of an object: an array's one label is its `index`
+abbrev pub label_name : Function → ObjectId → ℕ → List ℕ
+label_name f (object.Chain chain) l = label_in (slice_get f.chains chain) l
+label_name f (object.Array array) l = codes "index"
+
+-- a field's word in the language
+abbrev pub field_word : Hashable → List ℕ
+field_word SrcIp = codes "src_ip"
+field_word DstIp = codes "dst_ip"
+field_word SrcPort = codes "src_port"
+field_word DstPort = codes "dst_port"

@@ -1,0 +1,68 @@
+//! The names of objects, maps, labels and fields, as they are printed.
+ghost use Rattle.std.specs.Prelude.{◌≡◌};
+ghost use Rattle.nf_base.specs.Functions.{function_of};
+ghost use Rattle.verdict_text.specs.Names.{object_name, map_name, label_name, field_word};
+
+use hash_fields::Hashable;
+use nf_base::decl::ObjectId;
+use nf_base::func::Func;
+
+/// The name of a chain or an array.
+pub fn object_name(func: &Func, object: ObjectId) -> &[u8]
+    ensures { result.now ≡ object_name (function_of func.now) object }
+{
+    match object {
+        ObjectId::Chain(chain) => match func.chains.as_slice().get(chain as usize) {
+            None => &[],
+            Some(decl) => decl.name.as_slice(),
+        },
+        ObjectId::Array(array) => match func.arrays.as_slice().get(array as usize) {
+            None => &[],
+            Some(decl) => decl.name.as_slice(),
+        },
+    }
+}
+
+/// The name of a map of a chain.
+pub fn map_name(func: &Func, object: ObjectId, map: u32) -> &[u8]
+    ensures { result.now ≡ map_name (function_of func.now) object map }
+{
+    match object {
+        ObjectId::Chain(chain) => match func.chains.as_slice().get(chain as usize) {
+            None => &[],
+            Some(decl) => match decl.maps.as_slice().get(map as usize) {
+                None => &[],
+                Some(map) => map.name.as_slice(),
+            },
+        },
+        ObjectId::Array(_) => &[],
+    }
+}
+
+/// The name of a label: an array's one label is its `index`.
+pub fn label_name(func: &Func, object: ObjectId, label: u32) -> &[u8]
+    ensures { result.now ≡ label_name (function_of func.now) object label }
+{
+    match object {
+        ObjectId::Chain(chain) => match func.chains.as_slice().get(chain as usize) {
+            None => &[],
+            Some(decl) => match decl.labels.as_slice().get(label as usize) {
+                None => &[],
+                Some(label) => label.name.as_slice(),
+            },
+        },
+        ObjectId::Array(_) => b"index",
+    }
+}
+
+/// The word of a field in a text.
+pub fn field_word(field: Hashable) -> &'static str
+    ensures { result.now ≡ field_word field }
+{
+    match field {
+        Hashable::SrcIp => "src_ip",
+        Hashable::DstIp => "dst_ip",
+        Hashable::SrcPort => "src_port",
+        Hashable::DstPort => "dst_port",
+    }
+}
