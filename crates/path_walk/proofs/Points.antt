@@ -1,5 +1,5 @@
 -- How many paths are left, as points wait and go on.
-use Rattle.std.proofs.Common.{◌≡◌, ◌<◌, ◌≤◌, ◌+◌, arith, ℕ, Bool, true, false, not, List, [], ◌∷◌, ◌++◌, length, slice_get, Option, Some, None, if◌then◌else◌, refl, ap, ap₂, sym, ◌∙◌, subst}
+use Rattle.std.proofs.Common.{◌≡◌, ◌<◌, ◌≤◌, ◌+◌, arith, ℕ, Bool, true, false, not, List, [], ◌∷◌, ◌++◌, length, slice_get, Option, Some, None, is_some, if◌then◌else◌, refl, ap, ap₂, sym, ◌∙◌, subst}
 use Rattle.std.proofs.lemmas.List.{length-map, length-append, get_or_past}
 use Rattle.nf_base.specs.Paths.{Branch, Hits, Misses, Makes, IsTaken, IsFull}
 use Rattle.path_walk.specs.declared.counting.Point.{Point}
@@ -128,6 +128,19 @@ counts_marked texts old new ps n exchanged holds hit miss e a k =
     counts_test texts t old new ps ps refl
     (counts_one t old new (mark_at (known_seen old.known) n) holds (known_seen old.known) ps a k
     (λ h m. ap (λ mark. tested exchanged mark (excludes (equals_of (text_at texts n)) (known_seen old.known)) (known_seen old.known) (told_mark (known_seen old.known) n (equals_of (text_at texts n))) h m) e))
+
+same_way : (b : Bool) (hit miss : ℕ) → hit ≡ miss → hit ≡ (if b then hit else miss)
+same_way true hit miss e = refl
+same_way false hit miss e = e
+
+-- a line that is a test of some mark whose two ways are one
+pub counts_idle : (texts : List TestText) (old new : Point) (ps : List Point) (n : ℕ) (exchanged : Bool) (hit miss : ℕ) → is_some (mark_at (known_seen old.known) n) ≡ true → hit ≡ miss →
+    new.at ≡ hit → known_seen new.known ≡ known_seen old.known → LineCounts texts (line.Test n exchanged hit miss) old ps new ps
+counts_idle texts old new ps n exchanged hit miss some one a k = by_mark (mark_at (known_seen old.known) n) refl some
+  where
+    by_mark : (mark : Option Bool) → mark_at (known_seen old.known) n ≡ mark → is_some mark ≡ true → LineCounts texts (line.Test n exchanged hit miss) old ps new ps
+    by_mark None e s = cc
+    by_mark (Some holds) e s = counts_marked texts old new ps n exchanged holds hit miss e (a ∙ same_way (differ exchanged holds) hit miss one) k
 
 -- a point past all lines
 pub count_past : (texts : List TestText) (ls : List (Line ℕ)) (old : Point) (ps : List Point) → length ls ≤ old.at → CountEnds texts (trees [] ls) old ps ps

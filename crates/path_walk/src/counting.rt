@@ -131,6 +131,11 @@ fn step(
             hit,
             miss,
         } => {
+            // What a test says whose two ways are one is not waited for.
+            if *hit == *miss && point.known.is_marked(*test) {
+                point.at = *hit;
+                return Ok(true);
+            }
             if let Some(holds) = point.known.mark(*test) {
                 point.at = way(*exchanged, holds, *hit, *miss);
                 return Ok(true);
