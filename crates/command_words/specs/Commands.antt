@@ -3,6 +3,8 @@ use Rattle.std.specs.Prelude.{ℕ, nat_le, ◌&&◌, Option, Some, None, List, [
 use Rattle.std.specs.Option.{option_map}
 use Rattle.std.specs.Str.{bytes_eq}
 use Rattle.clap.specs.Words.{Kinds, Row, Text, all_of, fault_of, first_of, subcommand_of}
+use Rattle.command_words.specs.declared.command.Description.{Description}
+use Rattle.command_words.specs.declared.command.Description.TheVariants.{Check}
 use Rattle.command_words.specs.Grammar.{app}
 use Rattle.command_words.specs.Texts.{and_then, Endpoint, number_up_to, workers_in, endpoint_in, key_in}
 
@@ -20,9 +22,15 @@ pub record Hash : Type 0 where
   pub key : Option (List ℕ)
   pub workers : ℕ
 
+-- a text on a function: which one, and the name of the function's file
+pub record Describe : Type 0 where
+  pub what : Description
+  pub function : Text
+
 pub data Command : Type 0 where
   RunCommand : Run → Command
   HashCommand : Hash → Command
+  DescribeCommand : Describe → Command
 
 -- an option's value: its default where the option is left out, and else what its text says
 abbrev pub or_default : {A : Type 0} → A → (Text → Option A) → Option Text → Option A
@@ -61,11 +69,15 @@ hash_in rows =
     and_then (given_key (first_of (codes "key") rows)) (λ key.
     option_map (λ w. record { source = s; destination = d; key = key; workers = w }) (or_default 1 workers_in (first_of (codes "workers") rows)))))
 
+abbrev pub describe_in : Description → List Row → Option Describe
+describe_in what rows = option_map (λ f. record { what = what; function = f }) (first_of (codes "function") rows)
+
 -- the command of a name, with what stands beside it
 abbrev pub named : Text → List Row → Option Command
 named name rows =
     if bytes_eq name (codes "run") then option_map RunCommand (run_in rows) else
     if bytes_eq name (codes "hash") then option_map HashCommand (hash_in rows) else
+    if bytes_eq name (codes "check") then option_map DescribeCommand (describe_in Check rows) else
     None
 
 abbrev pub in_match : Option (Text × List Row) → Option Command

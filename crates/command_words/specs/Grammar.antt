@@ -30,6 +30,12 @@ hash_app =
     (word (codes "source"))) (word (codes "destination")))
     (option (codes "key"))) (option (codes "workers"))
 
+-- check NF, or another word in its place that asks for a text on a function
+abbrev pub description_app : Text → App
+description_app name = with_rule (new_app name) (word (codes "function"))
+
 -- every command
 abbrev pub app : App
-app = with_subcommand (with_subcommand (new_app (codes "maestro")) run_app.top) hash_app.top
+app =
+    with_subcommand (with_subcommand (with_subcommand (new_app (codes "maestro"))
+    run_app.top) hash_app.top) (description_app (codes "check")).top

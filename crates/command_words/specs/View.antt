@@ -3,10 +3,11 @@ use Rattle.std.specs.Prelude.{◌≤◌, map, length, string_bytes}
 use Rattle.command_words.specs.declared.endpoint.Endpoint as declared_endpoint
 use Rattle.command_words.specs.declared.command.RunCommand as declared_run
 use Rattle.command_words.specs.declared.command.HashCommand as declared_hash
+use Rattle.command_words.specs.declared.command.DescribeCommand as declared_describe
 use Rattle.command_words.specs.declared.command.Command as declared_command
 use Rattle.command_words.specs.declared.command.Command.TheVariants as commands
 use Rattle.command_words.specs.Texts.{Endpoint}
-use Rattle.command_words.specs.Commands.{Run, Hash, Command, RunCommand, HashCommand}
+use Rattle.command_words.specs.Commands.{Run, Hash, Describe, Command, RunCommand, HashCommand, DescribeCommand}
 
 abbrev pub endpoint : declared_endpoint.Endpoint → Endpoint
 endpoint e = record { address = e.address; port = e.port }
@@ -17,12 +18,17 @@ run c = record { function = string_bytes c.function; out = string_bytes c.out; c
 abbrev pub hash : declared_hash.HashCommand → Hash
 hash c = record { source = endpoint c.source; destination = endpoint c.destination; key = c.key; workers = c.workers }
 
+abbrev pub describe : declared_describe.DescribeCommand → Describe
+describe c = record { what = c.what; function = string_bytes c.function }
+
 -- what is asked for
 abbrev pub asked : declared_command.Command → Command
 asked (commands.Run c) = RunCommand (run c)
 asked (commands.Hash c) = HashCommand (hash c)
+asked (commands.Describe c) = DescribeCommand (describe c)
 
 -- a run has one to four captures
 abbrev pub HasFew : declared_command.Command → Type 0
 HasFew (commands.Run c) = (1 ≤ length c.captures.items) × (length c.captures.items ≤ 4)
 HasFew (commands.Hash c) = Unit {0}
+HasFew (commands.Describe c) = Unit {0}

@@ -27,9 +27,25 @@ pub struct HashCommand {
     pub workers: Workers,
 }
 
+/// What is printed of a function.
+#[derive(Clone, Copy, Debug, PartialEq, Eq)]
+pub enum Description {
+    /// What it declares, and how many feasible paths each handler has.
+    Check,
+}
+
+/// A text on a function.
+#[derive(Drop)]
+pub struct DescribeCommand {
+    pub what: Description,
+    /// The name of the function's text.
+    pub function: String,
+}
+
 /// A command.
 #[derive(Drop)]
 pub enum Command {
     Run(RunCommand),
     Hash(HashCommand),
+    Describe(DescribeCommand),
 }

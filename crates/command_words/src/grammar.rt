@@ -65,6 +65,14 @@ fn hash_words<'a>(alloc: Global) -> Result<Command<'a>, AllocError>
         .arg(option(alloc, "workers"))
 }
 
+/// `check NF`, or another word in its place that asks for a text on a function.
+fn description_words<'a>(alloc: Global, name: &'a str) -> Result<Command<'a>, AllocError>
+    ensures app { IfOk result (λ c. app_of c ≡ grammar.description_app name.entry.now) }
+    ensures local { IfOk result (λ c. (out-Command c).has_globals ≡ false) }
+{
+    Command::new(alloc, name).arg(word(alloc, "function"))
+}
+
 /// Every command.
 pub fn all_words<'a>(alloc: Global) -> Result<Command<'a>, AllocError>
     ensures app { IfOk result (λ c. app_of c ≡ grammar.app) }
@@ -72,5 +80,6 @@ pub fn all_words<'a>(alloc: Global) -> Result<Command<'a>, AllocError>
 {
     Command::new(alloc, "maestro")
         .subcommand(run_words(alloc)?)?
-        .subcommand(hash_words(alloc)?)
+        .subcommand(hash_words(alloc)?)?
+        .subcommand(description_words(alloc, "check")?)
 }

@@ -6,7 +6,7 @@ ghost use Rattle.command_words.specs.Texts.{and_then, endpoint_in, workers_in};
 ghost use Rattle.command_words.specs.Commands as meant;
 ghost use Rattle.command_words.specs.View as view;
 
-use crate::command::{Command, HashCommand, RunCommand};
+use crate::command::{Command, DescribeCommand, Description, HashCommand, RunCommand};
 use crate::endpoint::{Endpoint, endpoint_in, number_up_to};
 use crate::grammar::all_words;
 use crate::key::key_in;
@@ -148,6 +148,22 @@ fn hash_command(matches: &ArgMatches) -> Option<HashCommand>
     })
 }
 
+fn describe_command(
+    alloc: Global,
+    what: Description,
+    matches: &ArgMatches,
+) -> Result<Option<DescribeCommand>, AllocError>
+    ensures { IfOk result (λ r. option_map view.describe r ≡ meant.describe_in what (rows_of (found_of matches.now))) }
+{
+    match value(matches, "function") {
+        Some(function) => Ok(Some(DescribeCommand {
+            what,
+            function: String::from_str(alloc, function)?,
+        })),
+        None => Ok(None),
+    }
+}
+
 /// The command of a name, with what stands beside it.
 fn named(alloc: Global, name: &str, matches: &ArgMatches) -> Result<Option<Command>, AllocError>
     ensures few { IfOk result (λ r. IfSome r view.HasFew) }
@@ -157,6 +173,8 @@ fn named(alloc: Global, name: &str, matches: &ArgMatches) -> Result<Option<Comma
         Ok(run_command(alloc, matches)?.map(Command::Run))
     } else if name == "hash" {
         Ok(hash_command(matches).map(Command::Hash))
+    } else if name == "check" {
+        Ok(describe_command(alloc, Description::Check, matches)?.map(Command::Describe))
     } else {
         Ok(None)
     }

@@ -1,6 +1,6 @@
 -- The cause of a status after more was printed.
-use Rattle.std.proofs.Common.{◌≡◌, ℕ, ◌+◌, ◌-◌, ◌^◌, ◌≤◌, min, Option, Some, None, refl, ap, sym, subst, ◌∙◌, arith}
-use Rattle.nf_files.specs.Causes.{Counted, Faulted, FirstAfter, Rose}
+use Rattle.std.proofs.Common.{ℕ, Option, Some, None, sym, subst, ◌∙◌, arith}
+use Rattle.nf_files.specs.Causes.{Counted, Faulted, FirstAfter}
 use Rattle.maestro_cli.specs.declared.status.RunFile.{RunFile}
 use Rattle.maestro_cli.specs.declared.status.Status.{Status}
 use Rattle.maestro_cli.specs.declared.status.Status.TheVariants.{Done, Usage, Refused, FileFault, NotCapture, Torn, TooMany, Memory}

@@ -1,16 +1,16 @@
 -- How a run ends.
-use Rattle.std.proofs.Common.{◌≡◌, ◌≢◌, ◌⊎◌, inl, inr, ℕ, ◌+◌, ◌<◌, ◌≤◌, List, [], ◌∷◌, ◌++◌, length, map, Option, Some, None, Result, Ok, Err, IfErr, string_bytes, refl, ap, sym, subst, ◌∙◌, arith}
+use Rattle.std.proofs.Common.{◌≡◌, ◌⊎◌, inl, inr, ℕ, ◌+◌, ◌<◌, ◌≤◌, List, [], length, map, None, Result, Ok, Err, string_bytes, refl, ap, sym, subst, ◌∙◌, arith}
 use Rattle.nf_base.specs.Text.{Function}
 use Rattle.nf_base.specs.Functions.{function_of}
 use Rattle.nf_files.specs.Told.{Told}
-use Rattle.nf_files.specs.Writes.{Writes, WritesFront}
+use Rattle.nf_files.specs.Writes.{Writes}
 use Rattle.capture_order.specs.Arrivals.{all_bytes}
 use Rattle.capture_order.specs.Loaded.{IsLoaded}
 use Rattle.run_files.specs.Written.{arrival_in}
 use Rattle.maestro_cli.specs.declared.report.Report.{Report}
 use Rattle.maestro_cli.specs.declared.status.Status.{Status}
 use Rattle.maestro_cli.specs.declared.status.Status.TheVariants.{Done, Usage, Refused, FileFault, NotCapture, Torn, TooMany, Memory}
-use Rattle.command_words.specs.Commands.{Run as RunAsked, Hash, Command, RunCommand, HashCommand}
+use Rattle.command_words.specs.Commands.{Run as RunAsked, Hash}
 use Rattle.maestro_cli.specs.Endings.{ending_of, IsEnd, ended_as}
 use Rattle.maestro_cli.specs.Hashing.{hash_line}
 use Rattle.maestro_cli.specs.Source.{IsFunctionUnder}
@@ -22,11 +22,11 @@ use Rattle.maestro_cli.specs.Stages.{HoldsAll, HoldsFronts}
 use Rattle.maestro_cli.specs.Printed.{Printed, PrintedFront, PrintedLast, Says, IsStop, ComplainsFront}
 use Rattle.maestro_cli.specs.Report.{run_in, file_in, all_files, IsStage}
 use Rattle.maestro_cli.specs.Texts.{error_line, ran_line}
-use Rattle.maestro_cli.specs.Answer.{IsFinished, IsUnbegun, SaysOnly, IsCutShort, SaysFront, IsStopped, IsUnread, IsHashed, IsUnhashed, Runs, Hashes, Declines, Answers, said_of}
-use Rattle.maestro_cli.specs.Running.{Leaves, LeftAll, LeftSome, IsRunWith, EndsWhole, EndsShort, EndsWell, EndsAs, Ends, IsWhole, StopsSilently, RunsTo, Tells}
+use Rattle.maestro_cli.specs.Answer.{IsFinished, IsUnbegun, SaysOnly, IsCutShort, SaysFront, IsStopped, IsUnread, IsUnhashed, Runs, Hashes, Declines, said_of}
+use Rattle.maestro_cli.specs.Running.{Leaves, IsRunWith, EndsWhole, EndsShort, EndsWell, EndsAs, Ends, IsWhole, StopsSilently, RunsTo, Tells}
 use Rattle.std.proofs.lemmas.List.{append-nil}
 use Rattle.maestro_cli.proofs.Endings.{ends_somehow}
-use Rattle.maestro_cli.proofs.Printing.{printed_none, printed_piece, printed_front, printed_front_none, front_all, contents_printed, fronts_printed, all_printed, all_of_stage, fronts_of_all}
+use Rattle.maestro_cli.proofs.Printing.{printed_none, printed_piece, printed_front, front_all, contents_printed, fronts_printed, all_printed, all_of_stage, fronts_of_all}
 
 -- neither standard output stands under a name
 Unnamed : Told → Type 0
@@ -157,19 +157,19 @@ runs_ended c start now f captures (Err (Refused kind line column)) is many told 
 runs_ended c start now f captures (Err (NotCapture port)) is many told same h = absurd h
 
 -- a line on standard error creates nothing
-unbegun_written : (before mid after : Told) (piece : List ℕ) → mid.name 1 ≡ None → IsUntouched before mid → Writes mid after 1 piece → IsUnbegun before after
+pub unbegun_written : (before mid after : Told) (piece : List ℕ) → mid.name 1 ≡ None → IsUntouched before mid → Writes mid after 1 piece → IsUnbegun before after
 unbegun_written before mid after piece unnamed u h = record {
   contents = λ n. contents_printed mid after 1 piece n unnamed h ∙ u.contents n;
   stdout = printed_none before after 0 (h.givens 0 (λ e. omega (arith, e)) ∙ u.standard 0 (omega arith));
 }
 
-says_only : (before mid after : Told) (status : Status) → mid.name 1 ≡ None → IsUntouched before mid → Writes mid after 1 (error_line status) → SaysOnly before after status
+pub says_only : (before mid after : Told) (status : Status) → mid.name 1 ≡ None → IsUntouched before mid → Writes mid after 1 (error_line status) → SaysOnly before after status
 says_only before mid after status unnamed u h = record {
   unbegun = unbegun_written before mid after (error_line status) unnamed u h;
   stderr = printed_piece before mid after 1 (error_line status) (u.standard 1 (omega arith)) h;
 }
 
-says_front : (before mid after : Told) → mid.given 1 ≡ before.given 1 → ComplainsFront mid after → SaysFront before after
+pub says_front : (before mid after : Told) → mid.given 1 ≡ before.given 1 → ComplainsFront mid after → SaysFront before after
 says_front before mid after same h = record { of = h.of; stderr = printed_front before mid after 1 (error_line h.of) same h.wrote }
 
 stopped : (c : RunAsked) (before after : Told) (status : Status) → IsStop status → IsStopped c before after → Runs c before after status
@@ -183,7 +183,7 @@ stopped c before after (Torn port offset) stop h = absurd stop
 stopped c before after (TooMany most) stop h = absurd stop
 
 -- a status that stands before anything was created
-stopped_early : (c : RunAsked) (before mid after : Told) (result : Status) → mid.name 1 ≡ None → IsUntouched before mid → IsStop result → ComplainsFront mid after → Runs c before after result
+pub stopped_early : (c : RunAsked) (before mid after : Told) (result : Status) → mid.name 1 ≡ None → IsUntouched before mid → IsStop result → ComplainsFront mid after → Runs c before after result
 stopped_early c before mid after result unnamed u stop h = stopped c before after result stop (record {
   files = inl (unbegun_written before mid after _ unnamed u h.wrote.wrote);
   stderr = says_front before mid after (u.standard 1 (omega arith)) h;
@@ -284,10 +284,10 @@ told_runs c before mid after Memory result some unnamed h tells = elim tells [
 ]
 told_runs c before mid after Done result some unnamed h tells = absurd h
 
-untouched_here : (t : Told) → IsUntouched t t
+pub untouched_here : (t : Told) → IsUntouched t t
 untouched_here t = record { contents = λ n. refl; standard = λ g lt. refl }
 
-unread : (before after : Told) (result : Status) → IsStop result → IsUnread before after → Declines before after result
+pub unread : (before after : Told) (result : Status) → IsStop result → IsUnread before after → Declines before after result
 unread before after (FileFault file) stop h = h
 unread before after Memory stop h = h
 unread before after Done stop h = absurd stop
@@ -315,7 +315,7 @@ hashed c before after unnamed h = record {
   stderr = printed_none before after 1 (h.givens 1 (λ e. omega (arith, e)));
 }
 
-unhashed : (c : Hash) (before after : Told) (result : Status) → IsStop result → IsUnhashed c before after → Hashes c before after result
+pub unhashed : (c : Hash) (before after : Told) (result : Status) → IsStop result → IsUnhashed c before after → Hashes c before after result
 unhashed c before after (FileFault file) stop h = h
 unhashed c before after Memory stop h = h
 unhashed c before after Done stop h = absurd stop
@@ -326,7 +326,7 @@ unhashed c before after (Torn port offset) stop h = absurd stop
 unhashed c before after (TooMany most) stop h = absurd stop
 
 -- a stop of printing, once it is told
-told_stop : (mid after : Told) (status result : Status) → IsStop status → Tells mid after status result → IsStop result × ComplainsFront mid after
+pub told_stop : (mid after : Told) (status result : Status) → IsStop status → Tells mid after status result → IsStop result × ComplainsFront mid after
 told_stop mid after status result stop tells = elim tells [
   | inl whole ↦ (subst IsStop (sym whole.0) stop, whole_line mid after status whole.1)
   | inr front ↦ front
@@ -341,23 +341,4 @@ hash_stopped c before mid after status result unnamed named said tells =
       contents = λ n. contents_printed mid after 1 _ n named stop.1.wrote.wrote ∙ contents_printed before mid 0 _ n unnamed said.1.wrote;
       stdout = record { front = front.front; is_front = front.is_front; printed = rw (stop.1.wrote.wrote.givens 0 (λ e. omega (arith, e))) front.printed };
       stderr = says_front before mid after (said.1.wrote.givens 1 (λ e. omega (arith, e))) stop.1;
-    })
-
--- whatever was asked for, memory ran out before anything was done
-pub out_of_memory : (asked : Option Command) (before after : Told) (result : Status) → before.name 1 ≡ None → Tells before after Memory result → Answers asked before after result
-out_of_memory None before after result unnamed tells =
-    let stop = told_stop before after Memory result tt tells in
-    unread before after result stop.0 (record {
-      files = unbegun_written before before after _ unnamed (untouched_here before) stop.1.wrote.wrote;
-      stderr = says_front before before after refl stop.1;
-    })
-out_of_memory (Some (RunCommand c)) before after result unnamed tells =
-    let stop = told_stop before after Memory result tt tells in
-    stopped_early c before before after result unnamed (untouched_here before) stop.0 stop.1
-out_of_memory (Some (HashCommand c)) before after result unnamed tells =
-    let stop = told_stop before after Memory result tt tells in
-    unhashed c before after result stop.0 (record {
-      contents = λ n. contents_printed before after 1 _ n unnamed stop.1.wrote.wrote;
-      stdout = printed_front_none before after 0 (hash_line c) (stop.1.wrote.wrote.givens 0 (λ e. omega (arith, e)));
-      stderr = says_front before before after refl stop.1;
     })

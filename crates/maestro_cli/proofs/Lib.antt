@@ -8,3 +8,7 @@ pub mod Printing
 pub mod Causes
 pub mod Endings
 pub mod Ending
+pub mod Handlers
+pub mod Descriptions
+pub mod OutOfMemory
+pub mod Walked

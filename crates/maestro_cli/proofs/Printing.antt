@@ -1,17 +1,14 @@
 -- What is printed after a run.
-use Rattle.std.proofs.Common.{◌≡◌, ◌≢◌, ℕ, ◌+◌, ◌<◌, ◌≤◌, List, [], ◌∷◌, ◌++◌, length, take, drop, Option, Some, None, Result, Ok, Err, refl, ap, sym, subst, ◌∙◌, arith}
+use Rattle.std.proofs.Common.{◌≡◌, ℕ, ◌+◌, ◌<◌, ◌≤◌, List, [], length, take, drop, Option, Some, None, Err, refl, sym, subst, ◌∙◌, arith}
 use Rattle.std.proofs.lemmas.List.{append-nil, take-append-drop}
 use Rattle.std.proofs.Math.Seq.{take-length}
 use Rattle.nf_files.specs.Told.{Told, IsToldAs}
 use Rattle.nf_files.specs.Pieces.{Gains}
 use Rattle.nf_files.specs.Writes.{Writes, WritesFront}
-use Rattle.maestro_cli.specs.declared.status.Status.{Status}
-use Rattle.maestro_cli.specs.declared.status.Status.TheVariants.{Done, Usage, Refused, FileFault, NotCapture, Torn, TooMany, Memory}
+use Rattle.maestro_cli.specs.declared.status.Status.TheVariants.{Memory}
 use Rattle.maestro_cli.specs.Created.{Created}
-use Rattle.maestro_cli.specs.Stages.{Stage, Cut, HoldsFronts, HoldsAll, IsFrontOf, IsFrontIfTold}
-use Rattle.maestro_cli.specs.Printed.{Printed, PrintedFront, Says, Complains, ComplainsFront, IsStop}
-use Rattle.maestro_cli.specs.Texts.{error_line}
-use Rattle.maestro_cli.proofs.Openings.{below}
+use Rattle.maestro_cli.specs.Stages.{Stage, Cut, HoldsFronts, HoldsAll, IsFrontIfTold}
+use Rattle.maestro_cli.specs.Printed.{Printed, PrintedFront, Says}
 
 -- all of a piece is a front of it
 pub front_all : (a b : Told) (file : ℕ) (piece : List ℕ) → Writes a b file piece → WritesFront a b file piece

@@ -1,5 +1,5 @@
 -- What a step of a run comes to.
-use Rattle.std.proofs.Common.{◌≡◌, ℕ, ◌+◌, ◌<◌, ◌≤◌, List, length, Result, Ok, Err, IfOk, OnErr, refl, ap, sym, subst, ◌∙◌, arith, nat_lt, nat_eq, if◌then◌else◌, true, false, zero, suc}
+use Rattle.std.proofs.Common.{◌≡◌, ℕ, ◌+◌, ◌<◌, ◌≤◌, List, length, Result, Ok, Err, IfOk, OnErr, refl, ap, sym, subst, ◌∙◌, arith, nat_eq, if◌then◌else◌, true}
 use Rattle.std.proofs.lemmas.Bool.{lt-ltb, le-ltb, ne_eqb, eq-eqb}
 use Rattle.nf_files.specs.Told.{Told, Same}
 use Rattle.nf_files.specs.Openings.{Creates}

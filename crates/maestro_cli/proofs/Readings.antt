@@ -1,14 +1,18 @@
 -- Files that are read one after another.
-use Rattle.std.proofs.Common.{◌≡◌, ◌≢◌, ℕ, zero, suc, ◌+◌, ◌<◌, ◌≤◌, List, [], ◌∷◌, ◌++◌, length, map, drop, get_or, Option, Some, None, slice_get, refl, ap, sym, subst, ◌∙◌, arith, drop-cons, add-one, Vec, Global, Result, Ok, Err, IfOk}
+use Rattle.std.proofs.Common.{◌≡◌, ℕ, zero, suc, ◌+◌, ◌<◌, ◌≤◌, List, [], ◌∷◌, ◌++◌, length, drop, get_or, Option, Some, slice_get, refl, ap, sym, subst, arith, drop-cons, add-one, Vec, Global, Result, Ok, Err, IfOk}
 use Rattle.std.proofs.lemmas.List.{drop_all}
 use Rattle.nf_files.specs.Told.{Told, IsToldAs}
 use Rattle.nf_files.specs.Reads.{Keeps}
 use Rattle.capture_order.specs.Arrivals.{all_bytes}
 use Rattle.maestro_cli.specs.Opened.{IsUntouched}
-use Rattle.nf_base.specs.declared.func.Func.{Func}
+use Rattle.maestro_cli.specs.declared.function.Source.{Source}
 use Rattle.maestro_cli.specs.declared.status.Status.{Status}
 use Rattle.maestro_cli.specs.declared.status.Status.TheVariants.{Done, Usage, Refused, FileFault, NotCapture, Torn, TooMany, Memory}
+use Rattle.nf_tree.specs.Tree.{Tree}
+use Rattle.nf_syntax.specs.Language as syntax
+use Rattle.maestro_cli.specs.declared.status.Fault.TheVariants as kinds
 use Rattle.maestro_cli.specs.Source.{Reads}
+use Rattle.maestro_cli.specs.Walking.{Checks}
 use Rattle.maestro_cli.specs.Loading.{FindsFunction}
 use Rattle.maestro_cli.specs.Runs.{AreTold}
 
@@ -50,8 +54,11 @@ told_length told (x ∷ xs) [] h = absurd h
 told_length told (x ∷ xs) (b ∷ bs) h = ap suc (told_length told xs bs h.1)
 
 -- a text that was read is that of a name
-pub finds_function : (told : Told) (name text : List ℕ) (r : Result Func Status) → IsToldAs text (told.content name) → Reads text r → FindsFunction told name r
-finds_function told name text (Ok func) here reads = record { text = text; text_told = here; is_function = reads }
+pub finds_function : (told : Told) (name text : List ℕ) (r : Result Source Status) → IsToldAs text (told.content name) → Reads text r → FindsFunction told name r
+finds_function told name text (Ok source) here reads = record {
+  is_function = record { text = text; text_told = here; is_function = reads.is_function };
+  counts = reads.counts;
+}
 finds_function told name text (Err (Refused kind line column)) here reads = record { text = text; text_told = here; fault = reads }
 finds_function told name text (Err (FileFault file)) here reads = tt
 finds_function told name text (Err Memory) here reads = tt
@@ -60,3 +67,20 @@ finds_function told name text (Err Usage) here reads = reads
 finds_function told name text (Err (NotCapture port)) here reads = reads
 finds_function told name text (Err (Torn port offset)) here reads = reads
 finds_function told name text (Err (TooMany most)) here reads = reads
+
+-- a text whose tree comes to this comes to it too
+pub reads_tree : (text : List ℕ) (tree : Tree) (r : Result Source Status) → syntax.IsTextOf text tree → Checks tree r → Reads text r
+reads_tree text tree (Ok source) spelled checks = record {
+  is_function = record { tree = tree; spelled = spelled; of_tree = checks.of_tree };
+  counts = checks.counts;
+}
+reads_tree text tree (Err (Refused (kinds.Syntax kind) line column)) spelled checks = absurd checks
+reads_tree text tree (Err (Refused (kinds.Typing kind) line column)) spelled checks = record { tree = tree; spelled = spelled; fault = checks }
+reads_tree text tree (Err (Refused kinds.TooManyPaths line column)) spelled checks = record { tree = tree; spelled = spelled; fault = checks }
+reads_tree text tree (Err Memory) spelled checks = tt
+reads_tree text tree (Err Done) spelled checks = checks
+reads_tree text tree (Err Usage) spelled checks = checks
+reads_tree text tree (Err (FileFault file)) spelled checks = checks
+reads_tree text tree (Err (NotCapture port)) spelled checks = checks
+reads_tree text tree (Err (Torn port offset)) spelled checks = checks
+reads_tree text tree (Err (TooMany most)) spelled checks = checks

@@ -1,12 +1,12 @@
 -- The files of a run, created and written one after another.
-use Rattle.std.proofs.Common.{◌≡◌, ◌≢◌, ◌⊎◌, inl, inr, ℕ, zero, suc, ◌+◌, ◌<◌, ◌≤◌, List, [], ◌∷◌, ◌++◌, length, take, drop, Option, Some, None, refl, ap, sym, subst, ◌∙◌, arith}
+use Rattle.std.proofs.Common.{◌≡◌, ◌≢◌, ◌⊎◌, inl, inr, ℕ, zero, suc, ◌+◌, ◌<◌, ◌≤◌, List, [], ◌++◌, take, drop, Option, Some, None, refl, ap, sym, subst, ◌∙◌, arith}
 use Rattle.std.proofs.lemmas.List.{append-nil, take-append-drop}
 use Rattle.nf_files.specs.Told.{Told, Same, IsToldAs, IsEmptyIfTold}
 use Rattle.nf_files.specs.Pieces.{Gains}
 use Rattle.nf_files.specs.Openings.{Creates}
 use Rattle.nf_files.specs.Writes.{Writes, WritesFront}
 use Rattle.maestro_cli.specs.Created.{Created}
-use Rattle.maestro_cli.specs.Stages.{Stage, Cut, IsFrontOf, IsFrontIfTold}
+use Rattle.maestro_cli.specs.Stages.{Stage, Cut, IsFrontIfTold}
 use Rattle.maestro_cli.proofs.Openings.{below}
 
 -- below a number that grew by one: as before, or the last

@@ -1,27 +1,26 @@
 -- What the program answers: a relation of its words, of what is told of the files outside before and after, and of the status.
-use Rattle.std.specs.Prelude.{◌≡◌, ◌⊎◌, ℕ, ◌≤◌, List, [], length, Option, Some, None, Result, Ok, Err}
+use Rattle.std.specs.Prelude.{◌≡◌, ◌⊎◌, ℕ, ◌≤◌, List, [], length, Option, Some, None}
 use Rattle.nf_files.specs.Told.{Told}
-use Rattle.nf_files.specs.Causes.{Counted}
-use Rattle.nf_files.specs.Writes.{Writes}
 use Rattle.maestro_cli.specs.declared.status.Status.{Status}
 use Rattle.maestro_cli.specs.declared.status.Status.TheVariants.{Done, Usage, Refused, FileFault, NotCapture, Torn, TooMany, Memory}
-use Rattle.command_words.specs.Commands.{Run as RunAsked, Hash, Command, RunCommand, HashCommand}
+use Rattle.command_words.specs.Commands.{Run as RunAsked, Hash, Describe, Command, RunCommand, HashCommand, DescribeCommand}
 use Rattle.maestro_cli.specs.Source.{IsNoFunctionUnder}
 use Rattle.maestro_cli.specs.Runs.{Run, IsRunOf, HasOtherPorts, HasNoCapture}
 use Rattle.maestro_cli.specs.Numbers.{Start, first_created}
-use Rattle.maestro_cli.specs.Opened.{IsUntouched}
 use Rattle.maestro_cli.specs.Created.{created_file, files_created}
 use Rattle.maestro_cli.specs.Stages.{HoldsAll, HoldsFronts}
-use Rattle.maestro_cli.specs.Printed.{Printed, PrintedFront, PrintedLast, IsStop, ComplainsFront}
+use Rattle.maestro_cli.specs.Printed.{Printed, PrintedFront, PrintedLast}
 use Rattle.maestro_cli.specs.Texts.{error_line, ran_line}
 use Rattle.maestro_cli.specs.Endings.{ending_of}
 use Rattle.maestro_cli.specs.Hashing.{hash_line}
+use Rattle.maestro_cli.specs.Described.{IsDescribed, PrintsFront}
 
 -- how many captures a command has
 abbrev pub captures_of : Option Command → ℕ
 captures_of None = 0
 captures_of (Some (RunCommand c)) = length c.captures
 captures_of (Some (HashCommand c)) = 0
+captures_of (Some (DescribeCommand c)) = 0
 
 -- what is told as a command begins
 abbrev pub start_of : Told → Option Command → Start
@@ -113,6 +112,23 @@ Hashes c before after (NotCapture port) = ⊥
 Hashes c before after (Torn port offset) = ⊥
 Hashes c before after (TooMany most) = ⊥
 
+-- The outside or want of memory stopped the printing of a text on a function.
+pub record IsUndescribed (c : Describe) (before after : Told) : Type 0 where
+  pub contents : (n : List ℕ) → after.content n ≡ before.content n
+  pub stdout : PrintsFront c before after
+  pub stderr : SaysFront before after
+
+-- what each status says of a text on a function that is asked for
+abbrev pub Describes : Describe → Told → Told → Status → Type 0
+Describes c before after Done = IsDescribed c before after
+Describes c before after (Refused kind line column) = IsNoFunctionUnder before c.function kind line column × SaysOnly before after (Refused kind line column)
+Describes c before after (FileFault file) = IsUndescribed c before after
+Describes c before after Memory = IsUndescribed c before after
+Describes c before after Usage = ⊥
+Describes c before after (NotCapture port) = ⊥
+Describes c before after (Torn port offset) = ⊥
+Describes c before after (TooMany most) = ⊥
+
 -- what each status says of words that are no command
 abbrev pub Declines : Told → Told → Status → Type 0
 Declines before after Usage = SaysOnly before after Usage
@@ -129,3 +145,4 @@ abbrev pub Answers : Option Command → Told → Told → Status → Type 0
 Answers None before after status = Declines before after status
 Answers (Some (RunCommand c)) before after status = Runs c before after status
 Answers (Some (HashCommand c)) before after status = Hashes c before after status
+Answers (Some (DescribeCommand c)) before after status = Describes c before after status

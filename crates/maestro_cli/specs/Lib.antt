@@ -2,6 +2,7 @@ pub mod Statuses
 pub mod Endings
 pub mod Asked
 pub mod Source
+pub mod Walking
 pub mod Runs
 pub mod Handling
 pub mod Numbers
@@ -11,6 +12,8 @@ pub mod Created
 pub mod Stages
 pub mod Texts
 pub mod Hashing
+pub mod Describing
+pub mod Described
 pub mod Answer
 pub mod Report
 pub mod Printed

@@ -1,7 +1,6 @@
 -- What reading a run's files comes to.
-use Rattle.std.specs.Prelude.{◌≡◌, ℕ, List, Option, Result, Ok, Err, Vec, Some}
+use Rattle.std.specs.Prelude.{◌≡◌, ℕ, List, Result, Ok, Err}
 use Rattle.std.specs.List.{AllByRecursion}
-use Rattle.nf_base.specs.declared.func.Func.{Func}
 use Rattle.nf_base.specs.Functions.{function_of}
 use Rattle.nf_files.specs.Told.{Told}
 use Rattle.capture_order.specs.Arrivals.{IsWithin, all_bytes}
@@ -9,13 +8,19 @@ use Rattle.capture_order.specs.Loaded.{IsLoaded}
 use Rattle.maestro_cli.specs.declared.loading.Packets.{Packets}
 use Rattle.maestro_cli.specs.declared.status.Status.{Status}
 use Rattle.maestro_cli.specs.declared.status.Status.TheVariants.{Done, Usage, Refused, FileFault, NotCapture, Torn, TooMany, Memory}
-use Rattle.maestro_cli.specs.Source.{IsFunctionUnder, IsNoFunctionUnder}
+use Rattle.maestro_cli.specs.declared.function.Source.{Source}
+use Rattle.maestro_cli.specs.Source.{path_counts, IsFunctionUnder, IsNoFunctionUnder}
 use Rattle.maestro_cli.specs.Runs.{AreTold, IsNoCaptureUnder}
 use Rattle.maestro_cli.specs.Endings.{ending_of}
 
+-- the function under a name as the code holds it, with its numbers of paths
+pub record HoldsUnder (told : Told) (name : List ℕ) (source : Source) : Type 0 where
+  pub is_function : IsFunctionUnder told name (function_of source.func)
+  pub counts : source.paths.items ≡ path_counts (function_of source.func)
+
 -- what reading the function under a name comes to; faults of files and want of memory are said by the cause
-abbrev pub FindsFunction : Told → List ℕ → Result Func Status → Type 0
-FindsFunction told name (Ok func) = IsFunctionUnder told name (function_of func)
+abbrev pub FindsFunction : Told → List ℕ → Result Source Status → Type 0
+FindsFunction told name (Ok source) = HoldsUnder told name source
 FindsFunction told name (Err (Refused kind line column)) = IsNoFunctionUnder told name kind line column
 FindsFunction told name (Err (FileFault file)) = Unit {0}
 FindsFunction told name (Err Memory) = Unit {0}

@@ -1,5 +1,5 @@
 -- What a run comes to before its end is told on standard error.
-use Rattle.std.specs.Prelude.{◌≡◌, ◌⊎◌, ℕ, ◌≤◌, List, length, map, Result, Ok, Err, string_bytes}
+use Rattle.std.specs.Prelude.{◌≡◌, ◌⊎◌, ℕ, ◌≤◌, List, length, map, Result, Ok, Err}
 use Rattle.nf_base.specs.Text.{Function}
 use Rattle.nf_files.specs.Told.{Told}
 use Rattle.nf_files.specs.Causes.{Counted}
@@ -18,7 +18,7 @@ use Rattle.maestro_cli.specs.Opened.{IsUntouched}
 use Rattle.maestro_cli.specs.Created.{created_file, files_created}
 use Rattle.maestro_cli.specs.Stages.{HoldsAll, HoldsFronts}
 use Rattle.maestro_cli.specs.Printed.{Printed, PrintedLast, IsStop, ComplainsFront}
-use Rattle.maestro_cli.specs.Report.{run_in, file_in, all_files}
+use Rattle.maestro_cli.specs.Report.{file_in, all_files}
 use Rattle.maestro_cli.specs.Texts.{error_line, ran_line}
 use Rattle.maestro_cli.specs.Answer.{IsFinished, IsCutShort, base_of}
 

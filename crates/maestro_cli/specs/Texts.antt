@@ -38,6 +38,7 @@ kind_text (kinds.Typing typing.ReadOnly) = codes "T05"
 kind_text (kinds.Typing typing.NotInScope) = codes "T06"
 kind_text (kinds.Typing typing.Limit) = codes "T07"
 kind_text (kinds.Typing typing.NoHandler) = codes "T08"
+kind_text kinds.TooManyPaths = codes "P1"
 
 -- what a status says
 abbrev pub status_words : Status → List ℕ

@@ -3,6 +3,7 @@
 
 mod captures;
 mod command;
+mod describing;
 mod fault;
 mod function;
 mod handling;

@@ -12,11 +12,10 @@ ghost use Rattle.maestro_cli.specs.declared.status.Status.TheVariants.{TooMany};
 
 use crate::captures::{open_captures, read_captures};
 use crate::fault::status_of;
-use crate::function::function_in;
+use crate::function::{Source, function_in};
 use crate::status::{RunFile, Status};
 use capture_order::arrival::Arrival;
 use capture_order::{LoadFault, Tear, load};
-use nf_base::func::Func;
 use nf_files::{Files, read_whole};
 use std::alloc::Global;
 
@@ -68,7 +67,11 @@ fn read_text<F: Files>(alloc: Global, files: &mut F, name: &String) -> Result<Ve
 }
 
 /// The function under a name.
-pub fn read_function<F: Files>(alloc: Global, files: &mut F, name: &String) -> Result<Func, Status>
+pub fn read_function<F: Files>(
+    alloc: Global,
+    files: &mut F,
+    name: &String,
+) -> Result<Source, Status>
     ghost start: { Start }
     requires begins { F.told files.old ≡ start.told }
     ensures finds { FindsFunction start.told (string_bytes name.now) result }

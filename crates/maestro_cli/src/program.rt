@@ -6,15 +6,16 @@ ghost use Rattle.maestro_cli.specs.Asked.{asked};
 ghost use Rattle.maestro_cli.specs.Hashing.{hash_line};
 ghost use Rattle.maestro_cli.specs.Printed.{Says, IsEarly};
 ghost use Rattle.maestro_cli.specs.Numbers.{Start, HasStatusCause, HasStepCause};
-ghost use Rattle.maestro_cli.specs.Answer.{Answers, Runs, Hashes, start_of};
+ghost use Rattle.maestro_cli.specs.Answer.{Answers, Runs, Hashes, Describes, start_of};
 ghost use Rattle.maestro_cli.specs.Running.{Begun, Tells};
 
 use crate::command::Command;
+use crate::describing::print_description;
 use crate::hashing::hash_line;
 use crate::running::run;
 use crate::say::{complain, print};
 use crate::status::Status;
-use command_words::{Command as Asked, HashCommand, RunCommand, command_of};
+use command_words::{Command as Asked, DescribeCommand, HashCommand, RunCommand, command_of};
 use nf_files::Files;
 use std::alloc::Global;
 
@@ -114,6 +115,20 @@ fn run_and_tell<F: Files>(alloc: Global, files: &mut F, asked: &RunCommand) -> S
     carry_out(alloc, files, &command)
 }
 
+// Prints a text on a function, and says where that failed.
+fn describe_and_tell<F: Files>(alloc: Global, files: &mut F, command: &DescribeCommand) -> Status
+    ghost begun: { Begun }
+    requires begins { F.told files.old ≡ begun.start.told }
+    requires counts { F.counted files.old ≡ begun.counted }
+    ensures describes { Describes (view.describe command.now) begun.start.told (F.told files.new) result }
+    ensures cause { HasStatusCause begun.start begun.counted (F.counted files.new) result }
+{
+    match print_description(alloc, files, command) {
+        Ok(()) => Status::Done,
+        Err(status) => tell(alloc, files, status),
+    }
+}
+
 // Does what a command asks for.
 fn obey<F: Files>(alloc: Global, files: &mut F, command: &Asked) -> Status
     ghost begun: { Begun }
@@ -127,6 +142,7 @@ fn obey<F: Files>(alloc: Global, files: &mut F, command: &Asked) -> Status
     match command {
         Asked::Run(asked) => run_and_tell(alloc, files, asked),
         Asked::Hash(asked) => hash_and_tell(alloc, files, asked),
+        Asked::Describe(asked) => describe_and_tell(alloc, files, asked),
     }
 }
 
@@ -136,7 +152,8 @@ fn obey<F: Files>(alloc: Global, files: &mut F, command: &Asked) -> Status
 /// - `run`, a network function's file, the front of the outputs' names, and one to four captures; with the
 ///   options `--workers 1` and `--max-packets N`, 10,000,000 where it is left out;
 /// - `hash`, a source and a destination as `ADDRESS:PORT`; with the options `--key`, 80 hexadecimal digits, and
-///   `--workers`, 1 to 16.
+///   `--workers`, 1 to 16;
+/// - `check`, a network function's file.
 pub fn maestro<F: Files>(alloc: Global, words: &[String], files: &mut F) -> Status
     ensures answer { Answers (command_of (map string_bytes words.now)) (F.told files.old) (F.told files.new) result }
     ensures cause { HasStatusCause (start_of (F.told files.old) (command_of (map string_bytes words.now))) (F.counted files.old) (F.counted files.new) result }

@@ -123,16 +123,16 @@ pub fn run<F: Files>(alloc: Global, files: &mut F, command: &Command) -> Result<
     ensures runs { RunsTo (asked command.now) start.told (F.told files.new) result }
     ensures cause { HasStepCause start (F.counted files.old) (F.counted files.new) result }
 {
-    let func = match read_function(alloc, files, command.function) {
-        Ok(func) => func,
+    let source = match read_function(alloc, files, command.function) {
+        Ok(source) => source,
         Err(status) => return Err(status),
     };
-    if command.captures.len() != func.handlers.len() as usize {
+    if command.captures.len() != source.func.handlers.len() as usize {
         return Err(Status::Usage);
     }
     let packets = match read_packets(alloc, files, command.captures, command.most) {
         Ok(packets) => packets,
         Err(status) => return Err(status),
     };
-    finish(alloc, files, command.out, &func, &packets)
+    finish(alloc, files, command.out, &source.func, &packets)
 }

@@ -30,6 +30,8 @@ pub enum Fault {
     Syntax(SyntaxKind),
     /// It breaks a type rule.
     Typing(TypingKind),
+    /// A handler has more than 4,096 feasible paths.
+    TooManyPaths,
 }
 
 /// How a call of the program ended.

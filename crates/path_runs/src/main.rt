@@ -1,4 +1,4 @@
-//! Lists the paths of blocks that are made up, and prints how many each has, or why they are not
+//! Lists or counts the paths of blocks that are made up, and prints how many each has, or why they are not
 //! listed.
 #![tactic(auto)]
 
@@ -6,7 +6,7 @@ mod blocks;
 
 use blocks::{hub, nested, numbers, tests};
 use nf_base::block::Block;
-use path_walk::{WalkFault, block_paths, paths};
+use path_walk::{WalkFault, block_path_count, block_paths, count_paths, paths};
 use std::alloc::{AllocError, Global};
 use std::io;
 
@@ -22,6 +22,18 @@ fn count_port(alloc: Global, port: u32) -> Result<usize, WalkFault> {
     let func = hub(alloc)?;
     let all = paths(alloc, &func, port)?;
     Ok(all.len())
+}
+
+/// The number of a block's paths, which are not listed.
+fn number(alloc: Global, block: Result<Block, AllocError>) -> Result<usize, WalkFault> {
+    let block = block?;
+    Ok(block_path_count(alloc, &block)? as usize)
+}
+
+/// And of a port's.
+fn port_number(alloc: Global, port: u32) -> Result<usize, WalkFault> {
+    let func = hub(alloc)?;
+    Ok(count_paths(alloc, &func, port)? as usize)
 }
 
 fn print_count(rt: &HostRuntime, name: &str, count: Result<usize, WalkFault>) -> io::Result<()> {
@@ -72,5 +84,32 @@ fn main(rt: HostRuntime) -> io::Result<()> {
     )?;
     print_count(&rt, "64 blocks deep", count(alloc, nested(alloc, 64)))?;
     print_count(&rt, "port 0 of a hub", count_port(alloc, 0))?;
-    print_count(&rt, "port 1 of it", count_port(alloc, 1))
+    print_count(&rt, "port 1 of it", count_port(alloc, 1))?;
+    print_count(
+        &rt,
+        "40000 tests of 12 texts, counted",
+        number(alloc, tests(alloc, 40_000, 12)),
+    )?;
+    print_count(
+        &rt,
+        "13 texts, counted",
+        number(alloc, tests(alloc, 13, 13)),
+    )?;
+    print_count(
+        &rt,
+        "100000 texts, counted",
+        number(alloc, tests(alloc, 100_000, 100_000)),
+    )?;
+    print_count(
+        &rt,
+        "4095 numbers of a field, counted",
+        number(alloc, numbers(alloc, 4095)),
+    )?;
+    print_count(
+        &rt,
+        "4096 numbers of a field, counted",
+        number(alloc, numbers(alloc, 4096)),
+    )?;
+    print_count(&rt, "port 0 of a hub, counted", port_number(alloc, 0))?;
+    print_count(&rt, "port 1 of it, counted", port_number(alloc, 1))
 }

@@ -7,6 +7,7 @@ pub mod LaidOut
 pub mod Keyed
 pub mod Numbers
 pub mod Walking
+pub mod Points
 pub mod Marking
 pub mod Bridge
 pub mod Apart

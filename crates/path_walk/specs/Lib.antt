@@ -12,3 +12,4 @@ pub mod Numbering
 pub mod Known
 pub mod Branches
 pub mod Walks
+pub mod Counts

@@ -3,6 +3,7 @@
 #![tactic(auto)]
 
 mod branch;
+mod counting;
 mod fault;
 mod known;
 pub mod laws;
@@ -16,5 +17,5 @@ mod walk;
 
 pub use branch::Branch;
 pub use fault::WalkFault;
-pub use ports::{block_paths, paths};
+pub use ports::{block_path_count, block_paths, count_paths, paths};
 pub use walk::Path;

@@ -4,15 +4,30 @@ ghost use Rattle.nf_base.specs.View.{block_of};
 ghost use Rattle.nf_base.specs.Functions.{function_of};
 ghost use Rattle.path_walk.specs.Once.{EachOnce};
 ghost use Rattle.path_walk.specs.Listed.{block_branches, port_branches, IsCause, HasEachTaken};
+ghost use Rattle.path_walk.specs.Lines.{IsLaid};
+ghost use Rattle.path_walk.specs.Walks.{paths_from};
 
+use crate::counting::counted;
 use crate::fault::WalkFault;
 use crate::laying::block_lines;
 use crate::line::Line;
-use crate::numbering::numbered_lines;
+use crate::numbering::{Numbered, numbered_lines};
 use crate::walk::{Path, listed};
 use nf_base::block::Block;
 use nf_base::func::Func;
-use std::alloc::Global;
+use std::alloc::{AllocError, Global};
+
+/// A block as numbered lines, and the number of the line that it begins at.
+fn laid_out<'a>(alloc: Global, block: &'a Block) -> Result<(Numbered<'a>, usize), AllocError>
+    ensures laid { IfOk result (λ x. IsLaid x.0.lines.items) }
+    ensures paths { IfOk result (λ x. paths_from x.0 x.1 ≡ block_branches (block_of block.now)) }
+{
+    let mut lines = Vec::new(alloc);
+    lines.push(Line::Stop)?;
+    let at = block_lines(alloc, block, 0, &mut lines)?;
+    let numbered = numbered_lines(alloc, lines.as_slice())?;
+    Ok((numbered, at))
+}
 
 /// The feasible paths of a block that stands alone, in text order.
 pub fn block_paths(alloc: Global, block: &Block) -> Result<Vec<Path>, WalkFault>
@@ -20,11 +35,18 @@ pub fn block_paths(alloc: Global, block: &Block) -> Result<Vec<Path>, WalkFault>
     ensures most { IfOk result (λ all. length all.items ≤ 4096) }
     ensures many { IfErr result (IsCause (block_branches (block_of block.now))) }
 {
-    let mut lines = Vec::new(alloc);
-    lines.push(Line::Stop)?;
-    let at = block_lines(alloc, block, 0, &mut lines)?;
-    let numbered = numbered_lines(alloc, lines.as_slice())?;
+    let (numbered, at) = laid_out(alloc, block)?;
     listed(alloc, &numbered, at)
+}
+
+/// How many feasible paths a block has that stands alone.
+pub fn block_path_count(alloc: Global, block: &Block) -> Result<u32, WalkFault>
+    ensures count { IfOk result (λ n. n ≡ length (block_branches (block_of block.now))) }
+    ensures most { IfOk result (λ n. n ≤ 4096) }
+    ensures many { IfErr result (IsCause (block_branches (block_of block.now))) }
+{
+    let (numbered, at) = laid_out(alloc, block)?;
+    counted(alloc, &numbered, at)
 }
 
 /// The feasible paths of a port's handler, each once, in text order: hit before miss, and made before
@@ -45,5 +67,22 @@ pub fn paths(alloc: Global, func: &Func, port: u32) -> Result<Vec<Path>, WalkFau
         block_paths(alloc, &func.handlers.item(port).block)
     } else {
         Ok(Vec::new(alloc))
+    }
+}
+
+/// How many feasible paths a port's handler has. A port that the function doesn't have has none.
+///
+/// The work is that of listing them; the memory is that of the text and of the tests of the paths that
+/// branch off one path.
+pub fn count_paths(alloc: Global, func: &Func, port: u32) -> Result<u32, WalkFault>
+    ensures count { IfOk result (λ n. n ≡ length (port_branches (function_of func.now) port)) }
+    // More than 4,096 are refused, and no fewer.
+    ensures most { IfOk result (λ n. n ≤ 4096) }
+    ensures many { IfErr result (IsCause (port_branches (function_of func.now) port)) }
+{
+    if port < func.handlers.len() {
+        block_path_count(alloc, &func.handlers.item(port).block)
+    } else {
+        Ok(0)
     }
 }

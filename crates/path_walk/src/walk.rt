@@ -295,7 +295,7 @@ fn follow(
 }
 
 /// The most paths that are listed.
-const MOST: usize = 4096;
+pub const MOST: usize = 4096;
 
 /// The paths that begin at a line.
 pub fn listed(alloc: Global, numbered: &Numbered<'_>, at: usize) -> Result<Vec<Path>, WalkFault>

@@ -1,6 +1,6 @@
 // The command that each line's words ask for, and lines that are none.
 use super::calls::words_of;
-use command_words::{Command, Endpoint, command_of};
+use command_words::{Command, Description, Endpoint, command_of};
 use std::alloc::{AllocError, Global};
 use std::test::Fail;
 
@@ -25,7 +25,7 @@ fn run_line(alloc: Global, line: &str) -> Result<String, Fail> {
     Ok(said)
 }
 
-const NO_COMMANDS: [&str; 56] = [
+const NO_COMMANDS: [&str; 63] = [
     "",
     "maestro",
     "maestro run",
@@ -67,7 +67,14 @@ const NO_COMMANDS: [&str; 56] = [
     "maestro -V",
     "maestro help",
     "maestro help run",
-    "maestro check x.nf",
+    "maestro help check",
+    "maestro check",
+    "maestro check x.nf y.nf",
+    "maestro check x.nf --workers 1",
+    "maestro check --help",
+    "maestro check -x.nf",
+    "maestro Check x.nf",
+    "maestro checks x.nf",
     "maestro hash",
     "maestro hash 1.2.3.4:1",
     "maestro hash 1.2.3.4 5.6.7.8:2",
@@ -156,7 +163,7 @@ fn hash_of(
             hash.key.map(|key| (key[0], key[39])),
             hash.workers.get(),
         ))),
-        Command::Run(_) => Ok(None),
+        _ => Ok(None),
     }
 }
 
@@ -214,5 +221,34 @@ fn lines_that_are_hashes(rt: HostRuntime) -> Result<(), Fail> {
                 1,
             ))
     );
+    Ok(())
+}
+
+/// The name of the function that is to be checked.
+fn checked(alloc: Global, line: &str) -> Result<String, AllocError> {
+    if let Some(Command::Describe(describe)) = asked(alloc, line)? {
+        if describe.what == Description::Check {
+            return describe.function.clone();
+        }
+    }
+    Ok(String::new(alloc))
+}
+
+const CHECKS: [(&str, &str); 3] = [
+    ("maestro check x.nf", "x.nf"),
+    ("another check x.nf", "x.nf"),
+    ("maestro check -- --help", "--help"),
+];
+
+fn checks() -> &'static [(&'static str, &'static str)] {
+    &CHECKS
+}
+
+#[test]
+fn lines_that_are_checks(rt: HostRuntime) -> Result<(), Fail> {
+    let alloc = rt.alloc();
+    for (line, expected) in checks() {
+        assert_eq!(rt; checked(alloc, line)?.as_str(), *expected, "{line}");
+    }
     Ok(())
 }

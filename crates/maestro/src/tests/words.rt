@@ -7,7 +7,7 @@ use nf_types::TypingKind;
 use std::alloc::{AllocError, Global};
 use std::test::Fail;
 
-const BAD_LINES: [&str; 38] = [
+const BAD_LINES: [&str; 39] = [
     "",
     "maestro",
     "maestro run",
@@ -39,7 +39,8 @@ const BAD_LINES: [&str; 38] = [
     "run x.nf out a.pcap b.pcap --workers 1",
     "maestro --help",
     "maestro --version",
-    "maestro check x.nf",
+    "maestro check",
+    "maestro check x.nf a.pcap",
     "maestro run x.nf out a.pcap b.pcap --max-packets -1",
     "maestro run x.nf out a.pcap b.pcap --max-packets 4294967296",
     "maestro hash 1.2.3.4:5",
@@ -156,7 +157,7 @@ fn a_missing_file_is_named(rt: HostRuntime) -> Result<(), Fail> {
     Ok(())
 }
 
-const NUMBERS: [(Status, u8); 11] = [
+const NUMBERS: [(Status, u8); 12] = [
     (Status::Done, 0),
     (Status::Usage, 1),
     (
@@ -170,6 +171,14 @@ const NUMBERS: [(Status, u8); 11] = [
     (
         Status::Refused {
             kind: Fault::Typing(TypingKind::Unknown),
+            line: 1,
+            column: 1,
+        },
+        2,
+    ),
+    (
+        Status::Refused {
+            kind: Fault::TooManyPaths,
             line: 1,
             column: 1,
         },

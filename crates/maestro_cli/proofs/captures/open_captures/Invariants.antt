@@ -1,4 +1,4 @@
-use Rattle.std.proofs.Common.{◌≡◌, ◌≤◌, ℕ, map, length, Some, string_bytes, slice_get}
+use Rattle.std.proofs.Common.{◌≡◌, ℕ, map, length, Some, string_bytes, slice_get}
 use Rattle.maestro_cli.specs.Opened.{AreOpened}
 use Rattle.maestro_cli.proofs.captures.open_captures.Given as goal
 

@@ -1,4 +1,4 @@
-use Rattle.std.proofs.Common.{◌≡◌, ◌≢◌, ◌≤◌, ◌+◌, ℕ, List, map, length, length-append, get_or, Some, slice_get, ◌<◌, [], ◌∷◌, ◌++◌, ◌∙◌, ap, subst, sym, arith}
+use Rattle.std.proofs.Common.{◌≡◌, ◌≢◌, ℕ, List, length, length-append, get_or, Some, slice_get, [], ◌∷◌, ◌++◌, ◌∙◌, ap, subst, sym, arith}
 use Rattle.std.proofs.lemmas.List.{append-nil}
 use Rattle.std.proofs.lemmas.Option.{slice_get-get_or}
 use Rattle.capture_order.specs.Arrivals.{all_bytes}

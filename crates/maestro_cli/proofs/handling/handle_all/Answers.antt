@@ -1,12 +1,11 @@
-use Rattle.std.proofs.Common.{◌≡◌, ◌<◌, ◌∙◌, ◌+◌, [], ◌∷◌, ◌++◌, length, map, drop, sym, refl, ap, subst}
-use Rattle.std.specs.List.{AllByRecursion}
+use Rattle.std.proofs.Common.{◌∙◌, ◌+◌, [], ◌∷◌, ◌++◌, map, drop, sym, ap, subst}
 use Rattle.nf_base.specs.Functions.{function_of}
 use Rattle.nf_engine.specs.View.{Fixed}
 use Rattle.vig_tables.specs.TablesState.{TablesState}
 use Rattle.capture_order.specs.declared.arrival.Arrival.{Arrival}
 use Rattle.run_files.specs.Written.{arrival_in}
 use Rattle.maestro_cli.specs.Runs.{IsUndivided}
-use Rattle.maestro_cli.proofs.Handlings.{undivided_none, handles_more, arrivals_after, all_got, arrivals_more}
+use Rattle.maestro_cli.proofs.Handlings.{undivided_none, handles_more, arrivals_after, arrivals_more}
 use Rattle.maestro_cli.proofs.handling.handle_all.Goals as goal
 
 pub loop-arrival-init : goal.loop-arrival-init

@@ -1,5 +1,5 @@
-use Rattle.std.proofs.Common.{rules, ◌≡◌, ◌∙◌, IfOk, string_bytes, ap, ap₂, sym, subst, ℕ, List}
-use Rattle.command_words.specs.View.{endpoint, hash}
+use Rattle.std.proofs.Common.{◌≡◌, ◌∙◌, IfOk, string_bytes, ap, ap₂, subst, ℕ}
+use Rattle.command_words.specs.View.{hash}
 use Rattle.toeplitz_hash.specs.Toeplitz.{toeplitz_of}
 use Rattle.toeplitz_hash.specs.Packets.{input_bytes}
 use Rattle.maestro_cli.specs.Hashing as meant

@@ -1,4 +1,4 @@
-use Rattle.std.proofs.Common.{◌≡◌, ◌∙◌, ℕ, List, map, length, string_bytes, slice_get, Some, IfOk, ap, subst, sym}
+use Rattle.std.proofs.Common.{◌∙◌, ℕ, List, map, string_bytes, IfOk, subst, sym}
 use Rattle.std.proofs.lemmas.List.{length-map}
 use Rattle.capture_order.specs.Arrivals.{all_bytes}
 use Rattle.maestro_cli.specs.Runs.{AreTold}

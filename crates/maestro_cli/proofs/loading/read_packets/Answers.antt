@@ -1,4 +1,4 @@
-use Rattle.std.proofs.Common.{◌≡◌, ◌∙◌, map, length, string_bytes, ap, arith}
+use Rattle.std.proofs.Common.{map, length, string_bytes, ap, arith}
 use Rattle.std.proofs.lemmas.List.{length-map}
 use Rattle.maestro_cli.proofs.Readings.{told_length}
 use Rattle.maestro_cli.proofs.loading.read_packets.Goals as goal

@@ -1,4 +1,4 @@
-use Rattle.std.proofs.Common.{◌≡◌, ◌≤◌, length, map, string_bytes, arith}
+use Rattle.std.proofs.Common.{string_bytes, arith}
 use Rattle.std.proofs.lemmas.List.{length-map}
 use Rattle.maestro_cli.specs.Asked.{asked}
 use Rattle.maestro_cli.proofs.Ending.{told_runs}

@@ -1,4 +1,4 @@
-use Rattle.std.proofs.Common.{◌≡◌, refl, subst, arith}
+use Rattle.std.proofs.Common.{arith}
 use Rattle.command_words.specs.View.{hash}
 use Rattle.maestro_cli.proofs.Ending.{hashed, hash_stopped}
 use Rattle.maestro_cli.proofs.program.hash_and_tell.Goals as goal

@@ -1,11 +1,12 @@
-use Rattle.std.proofs.Common.{◌≡◌, ◌∙◌, refl, subst, ap, sym, map, string_bytes, Option, Some, None, IfSome, option_map, arith}
+use Rattle.std.proofs.Common.{◌∙◌, refl, subst, ap, sym, map, string_bytes, Option, IfSome, option_map, arith}
 use Rattle.command_words.specs.declared.command.Command as code
 use Rattle.command_words.specs.View as view
 use Rattle.command_words.specs.Commands.{Command, command_of}
-use Rattle.maestro_cli.specs.Numbers.{Start, HasStatusCause}
+use Rattle.maestro_cli.specs.Numbers.{HasStatusCause}
 use Rattle.maestro_cli.specs.Answer.{Answers, start_of}
 use Rattle.maestro_cli.proofs.Causes.{early_cause}
-use Rattle.maestro_cli.proofs.Ending.{declined, out_of_memory}
+use Rattle.maestro_cli.proofs.Ending.{declined}
+use Rattle.maestro_cli.proofs.OutOfMemory.{out_of_memory}
 use Rattle.maestro_cli.proofs.program.maestro.Goals as goal
 
 pub returns-in-Err-clause-answer : goal.returns-in-Err-clause-answer

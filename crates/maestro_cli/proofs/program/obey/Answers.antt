@@ -1,4 +1,4 @@
-use Rattle.std.proofs.Common.{◌≡◌, ◌∙◌, ap, subst, Some, ℕ, String, Global, length, string_bytes, arith}
+use Rattle.std.proofs.Common.{◌∙◌, ap, subst, Some, string_bytes}
 use Rattle.std.proofs.lemmas.List.{length-map}
 use Rattle.command_words.specs.declared.command.Command.{Command}
 use Rattle.command_words.specs.View as view

@@ -1,4 +1,3 @@
-use Rattle.std.proofs.Common.{◌≡◌, ◌∙◌, rules, refl, subst, arith}
 use Rattle.command_words.specs.View.{hash}
 use Rattle.maestro_cli.specs.Hashing.{hash_line}
 use Rattle.maestro_cli.proofs.Printing.{nothing_said}

@@ -1,4 +1,4 @@
-use Rattle.std.proofs.Common.{◌≡◌, ◌∙◌, ◌≤◌, ap, sym, subst, List, ℕ, String, Global, map, length, string_bytes, arith}
+use Rattle.std.proofs.Common.{◌∙◌, ap, sym, subst, List, String, Global, map, length, string_bytes, arith}
 use Rattle.command_words.specs.View as view
 use Rattle.maestro_cli.specs.Answer.{Runs}
 use Rattle.maestro_cli.proofs.program.run_and_tell.Goals as goal

@@ -1,4 +1,4 @@
-use Rattle.std.proofs.Common.{subst, sym}
+use Rattle.std.proofs.Common.{subst}
 use Rattle.maestro_cli.specs.Numbers.{HasStatusCause}
 use Rattle.maestro_cli.proofs.Causes.{fault_stays}
 use Rattle.maestro_cli.proofs.program.tell.Goals as goal

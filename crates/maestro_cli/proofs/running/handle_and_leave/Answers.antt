@@ -1,4 +1,4 @@
-use Rattle.std.proofs.Common.{◌≡◌, ◌∙◌, ◌≤◌, List, length, map, ap, subst, sym, refl, arith}
+use Rattle.std.proofs.Common.{◌∙◌, length, map, ap, subst, sym, refl, arith}
 use Rattle.std.specs.List.{AllByRecursion}
 use Rattle.capture_order.specs.Arrivals.{IsWithin, all_bytes}
 use Rattle.capture_order.specs.Loaded.{IsLoaded}
@@ -6,7 +6,6 @@ use Rattle.run_files.specs.Written.{arrival_in}
 use Rattle.nf_base.specs.Functions.{function_of}
 use Rattle.maestro_cli.specs.Runs.{IsUndivided}
 use Rattle.maestro_cli.specs.Numbers.{first_created}
-use Rattle.maestro_cli.specs.declared.report.Report.{Report}
 use Rattle.maestro_cli.proofs.Stages.{stage_none}
 use Rattle.maestro_cli.proofs.Ending.{ends_left}
 use Rattle.maestro_cli.proofs.running.handle_and_leave.Goals as goal

@@ -1,4 +1,4 @@
-use Rattle.std.proofs.Common.{◌≡◌, ◌∙◌, ◌≤◌, subst, sym, arith}
+use Rattle.std.proofs.Common.{◌∙◌, arith}
 use Rattle.maestro_cli.proofs.Ending.{leaves_printed}
 use Rattle.maestro_cli.proofs.running.leave_and_print.Goals as goal
 

@@ -1,4 +1,4 @@
-use Rattle.std.proofs.Common.{◌≡◌, ◌∙◌, ◌≤◌, ℕ, List, length, map, string_bytes, ap, sym, subst, arith}
+use Rattle.std.proofs.Common.{◌≡◌, ◌∙◌, ℕ, length, map, string_bytes, ap, sym, subst, arith}
 use Rattle.std.proofs.lemmas.List.{length-map}
 use Rattle.nf_base.specs.Functions.{function_of}
 use Rattle.nf_base.specs.View.{block_of}
@@ -50,9 +50,9 @@ pub returns-clause-runs : goal.returns-clause-runs
 returns-clause-runs g c =
     let pre = c.requires.1 in
     let names = c.args.command.now.captures.now in
-    let func = c.in-Ok.func in
+    let func = c.in-Ok.source.func in
     runs_ended (asked c.args.command.now) g.start (g.F.Files.told c.finish.new.files) (function_of func) (all_bytes c.in-Ok-read_packets.packets.captures.items) c.finish.result
-    c.in-Ok.ensures.finds
+    c.in-Ok.ensures.finds.is_function
     (omega (arith, length-map names string_bytes, length-map func.handlers (λ h. block_of h.block), c.if-command-len.false, c.len.ensures.value))
     c.in-Ok-read_packets.ensures.finds.captures_told
     (omega (arith, length-map names string_bytes, pre.1.0))

@@ -1,4 +1,3 @@
-use Rattle.std.proofs.Common.{List, ℕ, length}
 use Rattle.maestro_cli.specs.declared.status.Status.TheVariants.{Memory}
 use Rattle.maestro_cli.specs.Texts.{error_line}
 use Rattle.maestro_cli.proofs.Printing.{front_all}

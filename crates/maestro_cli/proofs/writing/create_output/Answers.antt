@@ -1,7 +1,5 @@
-use Rattle.std.proofs.Common.{◌≡◌, ◌<◌, ◌≤◌, ◌+◌, ℕ, length, string_bytes, ap, sym, refl, subst, ◌∙◌, arith}
+use Rattle.std.proofs.Common.{string_bytes, ap, sym, ◌∙◌, arith}
 use Rattle.maestro_cli.specs.declared.status.Status.TheVariants.{Memory}
-use Rattle.maestro_cli.specs.declared.status.RunFile.TheVariants as run_file
-use Rattle.maestro_cli.specs.Stages.{Reaches}
 use Rattle.maestro_cli.specs.Report.{run_in, file_in, all_files}
 use Rattle.maestro_cli.proofs.Reaching.{created_output, ports_same, reaches_created, reaches_stopped}
 use Rattle.maestro_cli.proofs.writing.create_output.Goals as goal

@@ -1,4 +1,4 @@
-use Rattle.std.proofs.Common.{◌≡◌, ◌+◌, ◌≤◌, ◌⊎◌, inl, inr, ℕ, [], ◌∷◌, ◌++◌, length, length-append, Some, slice_get, ap, sym, subst, ◌∙◌, arith}
+use Rattle.std.proofs.Common.{◌+◌, inl, inr, ℕ, [], ◌∷◌, length, length-append, slice_get, ap, sym, subst, ◌∙◌, arith}
 use Rattle.maestro_cli.specs.declared.status.Status.TheVariants.{Memory}
 use Rattle.maestro_cli.specs.Numbers.{first_created}
 use Rattle.maestro_cli.specs.Report.{file_in, all_files}

@@ -1,5 +1,4 @@
-use Rattle.std.proofs.Common.{◌≡◌, ◌<◌, ◌≤◌, ◌+◌, ℕ, length, string_bytes, ap, sym, refl, subst, ◌∙◌, arith}
-use Rattle.maestro_cli.specs.declared.status.Status.TheVariants.{Memory}
+use Rattle.std.proofs.Common.{◌+◌, length, string_bytes, ap, sym, subst, ◌∙◌, arith}
 use Rattle.maestro_cli.specs.declared.status.RunFile.TheVariants as run_file
 use Rattle.maestro_cli.specs.Stages.{Reaches}
 use Rattle.maestro_cli.specs.Report.{run_in, file_in, all_files}

@@ -1,0 +1,103 @@
+//! A text on a function: what is printed of it, and nothing else is done.
+ghost use Rattle.std.specs.Prelude.{◌≡◌, ◌++◌, OnOk, IfOk, codes, decimal, length};
+ghost use Rattle.nf_base.specs.Functions.{function_of};
+ghost use Rattle.command_words.specs.View.{describe};
+ghost use Rattle.maestro_cli.specs.Source.{path_counts};
+ghost use Rattle.maestro_cli.specs.Numbers.{Start, HasStepCause};
+ghost use Rattle.maestro_cli.specs.Describing as meant;
+ghost use Rattle.maestro_cli.specs.Described.{DescribesTo};
+
+use crate::function::Source;
+use crate::loading::read_function;
+use crate::say::print;
+use crate::status::Status;
+use command_words::{DescribeCommand, Description};
+use itoa::Buffer;
+use nf_base::func::Func;
+use nf_files::Files;
+use std::alloc::{AllocError, Global};
+
+fn push_bytes(text: &mut Vec<u8>, bytes: &[u8]) -> Result<(), AllocError>
+    ensures { OnOk result (text.new.items ≡ text.old.items ++ bytes.now) }
+{
+    text.extend_from_slice(bytes)
+}
+
+fn push_number(text: &mut Vec<u8>, number: u32) -> Result<(), AllocError>
+    ensures { OnOk result (text.new.items ≡ text.old.items ++ decimal number) }
+{
+    let mut buffer = Buffer::new();
+    text.extend_from_slice(buffer.format(number).as_bytes())
+}
+
+// A number, with what it counts in front.
+fn push_count(text: &mut Vec<u8>, what: &[u8], number: u32) -> Result<(), AllocError>
+    ensures { OnOk result (text.new.items ≡ text.old.items ++ (what.now ++ decimal number)) }
+{
+    push_bytes(text, what)?;
+    push_number(text, number)
+}
+
+// Each number behind a space.
+fn push_counts(text: &mut Vec<u8>, counts: &[u32]) -> Result<(), AllocError>
+    ensures { OnOk result (text.new.items ≡ text.old.items ++ meant.counts_text counts.now) }
+{
+    for count in counts {
+        push_count(text, b" ", *count)?;
+    }
+    Ok(())
+}
+
+// The name of a function, and how many ports, chains and arrays it has.
+fn push_objects(text: &mut Vec<u8>, func: &Func) -> Result<(), AllocError>
+    ensures { OnOk result (text.new.items ≡ text.old.items ++ meant.objects_text (function_of func.now)) }
+{
+    push_bytes(text, func.name.as_slice())?;
+    push_count(text, b": ports ", func.handlers.len())?;
+    push_count(text, b", chains ", func.chains.len())?;
+    push_count(text, b", arrays ", func.arrays.len())
+}
+
+// The line of a function that is one.
+fn check_line(alloc: Global, source: &Source) -> Result<Vec<u8>, AllocError>
+    requires counts { source.now.paths.items ≡ path_counts (function_of source.now.func) }
+    ensures { IfOk result (λ line. line.items ≡ meant.check_line (function_of source.now.func)) }
+{
+    let mut line = Vec::from_slice(alloc, b"ok ")?;
+    push_objects(&mut line, &source.func)?;
+    push_bytes(&mut line, b", paths")?;
+    push_counts(&mut line, source.paths.as_slice())?;
+    push_bytes(&mut line, b"\n")?;
+    Ok(line)
+}
+
+// What is printed of a function.
+fn description(alloc: Global, what: Description, source: &Source) -> Result<Vec<u8>, AllocError>
+    requires counts { source.now.paths.items ≡ path_counts (function_of source.now.func) }
+    ensures { IfOk result (λ text. text.items ≡ meant.description what (function_of source.now.func)) }
+{
+    match what {
+        Description::Check => check_line(alloc, source),
+    }
+}
+
+/// Prints a text on the function under a name.
+pub fn print_description<F: Files>(
+    alloc: Global,
+    files: &mut F,
+    command: &DescribeCommand,
+) -> Result<(), Status>
+    ghost start: { Start }
+    requires begins { F.told files.old ≡ start.told }
+    ensures describes { DescribesTo (describe command.now) start.told (F.told files.new) result }
+    ensures cause { HasStepCause start (F.counted files.old) (F.counted files.new) result }
+{
+    let source = match read_function(alloc, files, &command.function) {
+        Ok(source) => source,
+        Err(status) => return Err(status),
+    };
+    match description(alloc, command.what, &source) {
+        Ok(text) => print(files, text.as_slice()),
+        Err(_) => Err(Status::Memory),
+    }
+}
