@@ -15,7 +15,7 @@ use Rattle.key_synth.proofs.Placed.{keyed_to, keyed_from}
 may_to : (f : Function) (keys : Keys) → given.MayBeGiven (length f.handlers) (own_plan f).objects keys → MayBeGiven f keys
 may_to f keys may = record {
   count = may.count;
-  keys_ = may.keys_;
+  whole = may.whole;
   admissible = (say_the_same f keys).0 may.admissible;
   spreading = record { each = λ port is. may.spreading.each port (keyed_from f port is) };
 }
@@ -23,7 +23,7 @@ may_to f keys may = record {
 may_from : (f : Function) (keys : Keys) → MayBeGiven f keys → given.MayBeGiven (length f.handlers) (own_plan f).objects keys
 may_from f keys may = record {
   count = may.count;
-  keys_ = may.keys_;
+  whole = may.whole;
   admissible = (say_the_same f keys).1 may.admissible;
   spreading = record { each = λ port is. may.spreading.each port (keyed_to f port is) };
 }
