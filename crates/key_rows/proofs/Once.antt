@@ -86,7 +86,7 @@ module _ (ports : ℕ) (objects : List Object) (keys other : Keys) (first : AreG
     where
       by_kind : (is_keyed objects port ≡ true) ⊎ (is_keyed objects port ≡ false) → port < length keys.ports → port < length other.ports → key_at keys port ≡ key_at other port
       by_kind (inl keyed) left right =
-          same_keys (key_at keys port) (key_at other port) (first.may.keys_ port [] left) (second.may.keys_ port [] right)
+          same_keys (key_at keys port) (key_at other port) (first.may.whole port [] left) (second.may.whole port [] right)
           (λ i.
           elim (cases_lt i 127) [
             | inl low ↦ same_low port i within low

@@ -96,10 +96,10 @@ module _ (first second : Place) (windows : Windows) (long : length first.known �
   pub classes_own : AreOwn (λ n. get_or windows.classes n 0)
   classes_own = record {
     own = λ n below.
-        let here : get_or windows.classes n 0 ≡ class_of first.known second.known n = are.classes_ n below in
+        let here : get_or windows.classes n 0 ≡ class_of first.known second.known n = are.classes n below in
         let low : class_of first.known second.known n < 8 = class_below first.known second.known n below in
         ap (λ m. get_or windows.classes m 0) here
-        ∙ are.classes_ (class_of first.known second.known n) low
+        ∙ are.classes (class_of first.known second.known n) low
         ∙ class_keeps first.known second.known (class_of first.known second.known) (class_ties first.known second.known long) n
         ∙ sym here;
   }
@@ -110,7 +110,7 @@ module _ (first second : Place) (windows : Windows) (long : length first.known �
       ∙ ap (λ p. class_sum (λ n. get_or windows.classes n 0) (key_at keys first.port) (key_at keys p) k u) are.second_port
       ∙ sum_below-same 8 (λ n. if get_or windows.classes n 0 == k then window_bit (key_at keys first.port) (key_at keys second.port) n u else 0)
       (λ n. if class_of first.known second.known n == k then window_bit (key_at keys first.port) (key_at keys second.port) n u else 0)
-      (λ n below. ap (λ c. if c == k then window_bit (key_at keys first.port) (key_at keys second.port) n u else 0) (are.classes_ n below))
+      (λ n below. ap (λ c. if c == k then window_bit (key_at keys first.port) (key_at keys second.port) n u else 0) (are.classes n below))
 
   -- Their rows say that the places agree.
   pub even_is_agree : (keys : Keys) → AreEven keys windows ↔ AgreeAt keys first second
@@ -118,9 +118,9 @@ module _ (first second : Place) (windows : Windows) (long : length first.known �
       let theorem = rows_say_all_inputs first.known second.known (key_at keys first.port) (key_at keys second.port) long in (
         λ even. theorem.1 (record {
           even = λ k below u small within.
-              ap (λ m. m % 2) (sym (same_sum keys k u)) ∙ even k below u small (λ n inside same. within n inside (sym (are.classes_ n inside) ∙ same));
+              ap (λ m. m % 2) (sym (same_sum keys k u)) ∙ even k below u small (λ n inside same. within n inside (sym (are.classes n inside) ∙ same));
         }),
         λ agree k below u small within.
             let rows : Rows first.known second.known (key_at keys first.port) (key_at keys second.port) = theorem.0 agree in
-            ap (λ m. m % 2) (same_sum keys k u) ∙ rows.even k below u small (λ n inside same. within n inside (are.classes_ n inside ∙ same)),
+            ap (λ m. m % 2) (same_sum keys k u) ∙ rows.even k below u small (λ n inside same. within n inside (are.classes n inside ∙ same)),
       )

@@ -257,7 +257,7 @@ module _ (ports : ℕ) (objects : List Object) (x : List Bool) (near : IsNearest
   given_keys = record {
     may = record {
       count = length-map-range_with_len (given_key objects x) 0 ports;
-      keys_ = All-map IsKey (given_key objects x) (range_with_len 0 ports) (λ k d below. each_key (get_or (range_with_len 0 ports) k d));
+      whole = All-map IsKey (given_key objects x) (range_with_len 0 ports) (λ k d below. each_key (get_or (range_with_len 0 ports) k d));
       admissible = admissible_;
       spreading = spreading_;
     };

@@ -21,7 +21,7 @@ pub record AreSpreading (objects : List Object) (keys : Keys) : Type 0 where
 -- admissible keys that spread, one for each of so many ports
 pub record MayBeGiven (ports : ℕ) (objects : List Object) (keys : Keys) : Type 0 where
   pub count : length keys.ports ≡ ports
-  pub keys_ : All IsKey keys.ports
+  pub whole : All IsKey keys.ports
   pub admissible : AreAdmissibleForAll keys objects
   pub spreading : AreSpreading objects keys
 

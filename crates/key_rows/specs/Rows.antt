@@ -38,7 +38,7 @@ pub record Rows (first second : List Hashable) (key other : List ℕ) : Type 0 w
 pub record AreWindowsOf (first second : Place) (windows : Windows) : Type 0 where
   pub first_port : windows.first ≡ first.port
   pub second_port : windows.second ≡ second.port
-  pub classes_ : (n : ℕ) → n < 8
+  pub classes : (n : ℕ) → n < 8
       → slice_index windows.classes n ≡ class_of first.known second.known n
 
 -- bit u of the window of a field

@@ -1,5 +1,6 @@
 -- What is answered over the places of a function's plan is so over the function.
-use Rattle.std.proofs.Common.{◌≡◌, ℕ, Bool, true, false, refl, ap, ◌∙◌, subst, List, length, inl, inr, Option, Some, None}
+use Rattle.std.proofs.Common.{◌≡◌, ℕ, Bool, true, false, refl, ap, sym, ◌∙◌, subst, List, length, inl, inr, Option, Some, None}
+use Rattle.std.proofs.lemmas.Bool.{false≢true}
 use Rattle.nf_base.specs.declared.keys.Keys.{Keys}
 use Rattle.nf_base.specs.Text.{Function}
 use Rattle.key_rows.specs.declared.place.Object.{Object}
@@ -14,7 +15,7 @@ use Rattle.key_synth.proofs.Placed.{keyed_to, keyed_from}
 may_to : (f : Function) (keys : Keys) → given.MayBeGiven (length f.handlers) (own_plan f).objects keys → MayBeGiven f keys
 may_to f keys may = record {
   count = may.count;
-  keys_ = may.keys_;
+  whole = may.whole;
   admissible = (say_the_same f keys).0 may.admissible;
   spreading = record { each = λ port is. may.spreading.each port (keyed_from f port is) };
 }
@@ -22,7 +23,7 @@ may_to f keys may = record {
 may_from : (f : Function) (keys : Keys) → MayBeGiven f keys → given.MayBeGiven (length f.handlers) (own_plan f).objects keys
 may_from f keys may = record {
   count = may.count;
-  keys_ = may.keys_;
+  whole = may.whole;
   admissible = (say_the_same f keys).1 may.admissible;
   spreading = record { each = λ port is. may.spreading.each port (keyed_to f port is) };
 }
@@ -41,6 +42,19 @@ given_to f keys are = record {
       ];
   past = λ port i within is high. are.past port i within (keyed_from f port is) high;
   unkeyed = λ port within none. are.unkeyed port within (not_keyed f port none (keyed.is_keyed (own_plan f).objects port) refl);
+}
+
+-- and back: given keys of a function are given over the places
+pub given_from : (f : Function) (keys : Keys) → AreGiven f keys → given.AreGiven (length f.handlers) (own_plan f).objects keys
+given_from f keys are = record {
+  may = may_from f keys are.may;
+  nearest = λ port i within low.
+      elim (are.nearest port i within low) [
+        | inl default ↦ inl default
+        | inr out ↦ inr (record { none = λ other may before. out.none other (may_to f other may) before })
+      ];
+  past = λ port i within is high. are.past port i within (keyed_to f port is) high;
+  unkeyed = λ port within none. are.unkeyed port within (λ is. false≢true (sym none ∙ keyed_from f port is));
 }
 
 answer_to : (f : Function) (answer : Option Keys) → given.AreAnswer (length f.handlers) (own_plan f).objects answer → AreAnswer f answer

@@ -37,7 +37,7 @@ pub record AreSpreading (f : Function) (keys : Keys) : Type 0 where
 -- admissible keys that spread, one for each port
 pub record MayBeGiven (f : Function) (keys : Keys) : Type 0 where
   pub count : length keys.ports ≡ length f.handlers
-  pub keys_ : All IsKey keys.ports
+  pub whole : All IsKey keys.ports
   pub admissible : AreAdmissible f keys
   pub spreading : AreSpreading f keys
 
