@@ -12,3 +12,4 @@ pub mod Handlers
 pub mod Descriptions
 pub mod OutOfMemory
 pub mod Walked
+pub mod OneAnswer

@@ -8,6 +8,7 @@ mod fault;
 mod function;
 mod handling;
 mod hashing;
+pub mod laws;
 mod loading;
 mod names;
 mod program;
