@@ -4,9 +4,11 @@ use Rattle.std.specs.Option.{is_some}
 use Rattle.nf_base.specs.declared.decl.ObjectId.{ObjectId}
 use Rattle.nf_base.specs.declared.decl.ObjectId.TheVariants as object
 use Rattle.nf_sites.specs.OnPaths.{sites_of}
-use Rattle.nf_sites.specs.Known.{known, same_object, is_known_at}
-use Rattle.nf_sites.specs.Laws.{KeptLabelsAreKnown, LabelsKnownAreKept}
-use Rattle.nf_sites.proofs.Lists.{all_has, all_true}
+use Rattle.nf_sites.specs.Known.{known, labels_of, same_object, is_known_at, is_kept}
+use Rattle.nf_sites.specs.Laws.{KeptLabelsAreKnown, LabelsKnownAreKept, ListsSayWhatIsAdmissible}
+use Rattle.nf_laws.proofs.Listed.{was}
+use Rattle.nf_laws.proofs.Listed as listed
+use Rattle.nf_sites.proofs.Lists.{passes, all_has, all_true}
 use Rattle.nf_sites.proofs.Listing.{on_paths_listed, listed_on_paths}
 
 pub itself : (o : ObjectId) → same_object o o ≡ true
@@ -34,3 +36,14 @@ kept_known f o l e x s same =
 pub known_kept : LabelsKnownAreKept
 known_kept f o l h k =
     all_true (is_known_at f o l) (sites_of f) (λ x i. if_so (same_object x.object o) (is_some (known f x l)) (λ e. k x (listed_on_paths f x h i) (one_object x.object o e)))
+
+-- admissible by lists, and as it stands
+pub lists_say : ListsSayWhatIsAdmissible
+lists_say f hash h = (
+  λ good x y i j same written p q in_p in_q agree.
+      good x y (on_paths_listed f x i) (on_paths_listed f y j) same written p q in_p in_q
+      (λ l k. agree l (was (is_kept f x.object) (labels_of f x.object) l k) (kept_known f x.object l (passes (is_kept f x.object) (labels_of f x.object) l k))),
+  λ good x y i j same written p q in_p in_q agree.
+      good x y (listed_on_paths f x h i) (listed_on_paths f y h j) same written p q in_p in_q
+      (λ l within k. agree l (listed.kept (is_kept f x.object) (labels_of f x.object) l within (known_kept f x.object l h k))),
+)

@@ -15,4 +15,6 @@ pub mod Going
 pub mod Runs
 pub mod Covering
 pub mod Separate
-pub mod HashedPolicer
+pub mod HashedRows
+pub mod Speaking
+pub mod TouchedRows

@@ -6,8 +6,8 @@ use Rattle.nf_base.specs.Objects.{is_written}
 use Rattle.hash_fields.specs.declared.hashable.Hashable.{Hashable}
 use Rattle.hash_fields.specs.Hashed.{value, IsInput}
 use Rattle.nf_sites.specs.Sites.{Site}
-use Rattle.nf_sites.specs.OnPaths.{sites_of}
-use Rattle.nf_sites.specs.Known.{known, kept}
+use Rattle.nf_sites.specs.OnPaths.{sites_of, IsSite}
+use Rattle.nf_sites.specs.Known.{known, labels_of, kept, IsKept}
 
 -- a field of one input is that field of another, where both are said
 abbrev pub AreEqual : Fields → Fields → Option Hashable → Option Hashable → Type 0
@@ -26,4 +26,14 @@ abbrev pub IsAdmissibleBySites : Function → (hash : ℕ → Fields → ℕ) �
 IsAdmissibleBySites f hash =
     (x y : Site) → Contains (sites_of f) x → Contains (sites_of f) y → x.object ≡ y.object →
     IsTrue (is_written f x.object) → (p q : Fields) → IsInput p → IsInput q → Agree f x y p q →
+    hash x.port p ≡ hash y.port q
+
+-- The same, as it stands: at the sites on feasible paths, and by the labels that are known at each
+-- of them.
+abbrev pub IsAdmissible : Function → (hash : ℕ → Fields → ℕ) → Type 0
+IsAdmissible f hash =
+    (x y : Site) → IsSite f x → IsSite f y → x.object ≡ y.object →
+    IsTrue (is_written f x.object) → (p q : Fields) → IsInput p → IsInput q →
+    ((l : ℕ) → Contains (labels_of f x.object) l → IsKept f x.object l →
+    AreEqual p q (known f x l) (known f y l)) →
     hash x.port p ≡ hash y.port q

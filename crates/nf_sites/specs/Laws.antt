@@ -1,14 +1,16 @@
 -- Laws of sites.
-use Rattle.std.specs.Prelude.{◌≡◌, ◌≤◌, ℕ, true, Some, slice_get, Contains, AllPairs}
+use Rattle.std.specs.Prelude.{◌≡◌, ◌↔◌, ◌≤◌, ℕ, true, Some, slice_get, Contains, AllPairs}
 use Rattle.std.specs.List.{flat_map}
 use Rattle.std.specs.List.Sorted.{IsStrictlyIncreasing}
 use Rattle.nf_base.specs.declared.decl.ObjectId.{ObjectId}
+use Rattle.nf_base.specs.declared.packet.Fields.{Fields}
 use Rattle.nf_base.specs.Text.{Block, Function}
 use Rattle.nf_base.specs.Statements.{statements}
 use Rattle.nf_base.specs.TextPlaces.{places_in, HasPlaces}
 use Rattle.nf_sites.specs.Sites.{Site}
 use Rattle.nf_sites.specs.OnPaths.{port_sites, sites_of, IsSite}
 use Rattle.nf_sites.specs.Known.{is_kept, IsKept}
+use Rattle.nf_sites.specs.Admissible.{IsAdmissibleBySites, IsAdmissible}
 
 -- each site on a feasible path is listed
 abbrev pub SitesOnPathsAreListed : Type 0
@@ -40,3 +42,9 @@ KeptLabelsAreKnown =
 abbrev pub LabelsKnownAreKept : Type 0
 LabelsKnownAreKept =
     (f : Function) (o : ObjectId) (l : ℕ) → HasPlaces f → IsKept f o l → is_kept f o l ≡ true
+
+-- by sites that are listed, a hash is admissible exactly where it is so by those on feasible paths
+abbrev pub ListsSayWhatIsAdmissible : Type 0
+ListsSayWhatIsAdmissible =
+    (f : Function) (hash : ℕ → Fields → ℕ) → HasPlaces f →
+    IsAdmissibleBySites f hash ↔ IsAdmissible f hash

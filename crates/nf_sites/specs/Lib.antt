@@ -4,9 +4,11 @@ pub mod OnPaths
 pub mod Known
 pub mod Admissible
 pub mod Laws
+pub mod KnownLaws
 pub mod Covers
 pub mod Labelled
 pub mod CoverLaws
 pub mod Separation
 pub mod Samples
 pub mod Rows
+pub mod CoverRows

@@ -1,5 +1,5 @@
 -- Worked rows: the sites of some functions, which labels are known at them, and which are kept.
-use Rattle.std.specs.Prelude.{◌≡◌, ℕ, Bool, true, false, List, [], ◌∷◌, map, Option, Some, None}
+use Rattle.std.specs.Prelude.{◌≡◌, ℕ, zero, suc, Bool, true, false, List, [], ◌∷◌, map, Option, Some, None}
 use Rattle.nf_base.specs.declared.decl.ObjectId.{ObjectId}
 use Rattle.nf_base.specs.declared.decl.ObjectId.TheVariants as object
 use Rattle.nf_base.specs.declared.packet.Field.TheVariants.{SrcIp, DstIp, SrcPort, DstPort}
@@ -21,7 +21,7 @@ use Rattle.nf_sites.specs.Sites.{Site}
 use Rattle.nf_sites.specs.OnPaths.{text_sites, sites_of}
 use Rattle.nf_sites.specs.Known.{together, known_labels, kept}
 use Rattle.nf_sites.specs.Admissible.{IsAdmissibleBySites}
-use Rattle.nf_sites.specs.Samples.{over, two_maps, hidden, makes, looks, guard_on, unreached, every_kind, every_chain}
+use Rattle.nf_sites.specs.Samples.{over, two_maps, hidden, makes, looks, guard_on, unreached, every_kind, every_chain, read_only, two_chains}
 
 -- a site of a function, and by which field each label of its object is known there
 pub record Row : Type 0 where
@@ -219,7 +219,16 @@ pub record TextsHaveSites : Type 0 where
       ∷ access 17 sort.Load 1 (Read SrcPort)
       ∷ []
 
--- A hash of the destination at a policer's port is admissible, one of the source is not.
-pub record PolicersHashTheDestination : Type 0 where
+-- a hash of the source at port 0, and another one of the destination at other ports
+abbrev pub two_hashes : ℕ → Fields → ℕ
+two_hashes zero p = p.src_ip
+two_hashes (suc port) p = suc p.dst_ip
+
+pub record HashesAreAdmissible : Type 0 where
+  -- a policer's port may hash the destination, and not the source
   pub by_destination : IsAdmissibleBySites policer (λ port (p : Fields). p.dst_ip)
   pub not_by_source : IsAdmissibleBySites policer (λ port (p : Fields). p.src_ip) → ⊥
+  -- what is never written asks for nothing
+  pub read_only_is_free : IsAdmissibleBySites read_only (λ port (p : Fields). p.dst_ip)
+  -- and the sites of one chain for nothing at those of another
+  pub each_object_alone : IsAdmissibleBySites two_chains two_hashes

@@ -103,3 +103,26 @@ every_kind =
 abbrev pub every_chain : ChainDecl
 every_chain =
     chain_of (column W32 ∷ column W32 ∷ column W16 ∷ column W32 ∷ []) (map_of 0 1 ∷ map_of 1 2 ∷ [])
+
+-- a chain that no `new` makes entries of, looked up by the source
+abbrev pub read_only : Function
+read_only =
+    over (column W32 ∷ []) (map_of 0 1 ∷ [])
+    (Ask (Get 0 0 0 (read W32 SrcIp ∷ []) 0) nothing nothing nothing ∷ [])
+
+-- a `new` of a chain of one label, at a place
+abbrev pub makes_in : ℕ → ℕ → Given → Block
+makes_in place chain label =
+    Make (new_at place chain (label ∷ [])) nothing nothing nothing nothing
+
+-- two chains: one by the source at port 0, one by the destination at port 1
+abbrev pub two_chains : Function
+two_chains = record {
+  name = [];
+  chains = chain_of (column W32 ∷ []) (map_of 0 1 ∷ [])
+      ∷ chain_of (column W32 ∷ []) (map_of 0 1 ∷ [])
+      ∷ [];
+  arrays = [];
+  objects = object.Chain 0 ∷ object.Chain 1 ∷ [];
+  handlers = makes_in 0 0 (read W32 SrcIp) ∷ makes_in 1 1 (read W32 DstIp) ∷ [];
+}

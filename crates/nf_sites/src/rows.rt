@@ -1,5 +1,6 @@
 //! Worked rows, as the definitions compute them.
-ghost use Rattle.nf_sites.specs.Rows.{SitesKnow, LabelsAreTogether, TextsHaveSites, PolicersHashTheDestination};
+ghost use Rattle.nf_sites.specs.CoverRows.{SortsAreTold, EntriesAreFoundFirst, ValuesAreGiven};
+ghost use Rattle.nf_sites.specs.Rows.{SitesKnow, LabelsAreTogether, TextsHaveSites, HashesAreAdmissible};
 
 /// The sites of a policer, a NAT, a bridge, a function with a look-up that only its `new` makes,
 /// and one with an array: which labels are known at them, and which are kept.
@@ -18,7 +19,23 @@ pub fn texts_have_sites()
 {}
 
 /// At a policer's port a hash of the destination address is admissible, and one of the source is
-/// not.
-pub fn policers_hash_the_destination()
-    ensures { PolicersHashTheDestination }
+/// not; a chain that is never written asks for nothing, nor do the sites of two chains together.
+pub fn hashes_are_admissible()
+    ensures { HashesAreAdmissible }
+{}
+
+/// Which sorts of sites look keys up, bind variables and access cells, and which each event has.
+pub fn sorts_are_told()
+    ensures { SortsAreTold }
+{}
+
+/// An operation on a variable's entry is at the place of an earlier event that touches the entry.
+pub fn entries_are_found_first()
+    ensures { EntriesAreFoundFirst }
+{}
+
+/// A policer touches keys and entries by the destination address, at its second port alone; an
+/// array's cells are touched by the indices that are given.
+pub fn values_are_given()
+    ensures { ValuesAreGiven }
 {}

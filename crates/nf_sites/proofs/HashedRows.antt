@@ -1,5 +1,5 @@
--- The hashes that are admissible at a policer.
-use Rattle.std.proofs.Common.{◌≡◌, ◌<◌, ◌^◌, ℕ, List, [], ◌∷◌, Contains, Option, Some, None, refl, ap, sym, ◌∙◌, subst, arith, inl, inr}
+-- Hashes that are admissible, and one that is not.
+use Rattle.std.proofs.Common.{◌≡◌, ◌<◌, ◌^◌, ◌+◌, ℕ, zero, suc, true, ap₂, List, [], ◌∷◌, Contains, Option, Some, None, refl, ap, sym, ◌∙◌, subst, arith, inl, inr}
 use Rattle.std.proofs.lemmas.Option.{same_Some}
 use Rattle.std.proofs.Math.Dec.{lit<}
 use Rattle.nf_base.specs.declared.packet.Fields.{Fields}
@@ -16,7 +16,10 @@ use Rattle.nf_sites.specs.Sites.{Site, get_site}
 use Rattle.nf_sites.specs.OnPaths.{sites_of}
 use Rattle.nf_sites.specs.Known.{known, kept}
 use Rattle.nf_sites.specs.Admissible.{AreEqual, IsAdmissibleBySites}
-use Rattle.nf_sites.specs.Rows.{PolicersHashTheDestination}
+use Rattle.nf_sites.specs.Rows.{two_hashes, HashesAreAdmissible}
+use Rattle.nf_sites.specs.Samples.{read_only, two_chains}
+use Rattle.nf_base.specs.Objects.{is_written}
+use Rattle.nf_base.specs.declared.decl.ObjectId.{ObjectId}
 
 abbrev Every : {A : Type 0} → (A → Type 0) → List A → Type 0
 Every P [] = Unit {0}
@@ -78,5 +81,57 @@ not_by_source good =
     get_rest [] = []
     get_rest (x ∷ xs) = xs
 
-pub hash_policer : PolicersHashTheDestination
-hash_policer = record { by_destination = by_destination; not_by_source = not_by_source }
+-- a chain that is read only
+abbrev IsFirstChain : Site → Type 0
+IsFirstChain x = x.object ≡ object.Chain 0
+
+unwritten : Every IsFirstChain (sites_of read_only)
+unwritten = (refl, tt)
+
+read_only_is_free : IsAdmissibleBySites read_only (λ port (p : Fields). p.dst_ip)
+read_only_is_free x y i j same written p q in_p in_q agree =
+    let at = every_at IsFirstChain (sites_of read_only) x unwritten i in
+    let no : is_written read_only (object.Chain 0) ≡ true = subst (λ o. is_written read_only o ≡ true) at written in
+    cc
+
+-- two chains
+abbrev port_field : ℕ → Hashable
+port_field zero = SrcIp
+port_field (suc port) = DstIp
+
+record KnowsItsField (x : Site) : Type 0 where
+  pub knows : known two_chains x 0 ≡ Some (port_field x.port)
+  pub kept_there : Contains (kept two_chains x.object) 0
+  pub of_port : x.object ≡ object.Chain x.port
+  pub hash : (p : Fields) → two_hashes x.port p ≡ x.port + value p (port_field x.port)
+
+all_know_theirs : Every KnowsItsField (sites_of two_chains)
+all_know_theirs = (
+  record { knows = refl; kept_there = here 0 []; of_port = refl; hash = λ p. omega arith },
+  (
+    record { knows = refl; kept_there = here 0 []; of_port = refl; hash = λ p. omega arith },
+    (
+      record { knows = refl; kept_there = here 0 []; of_port = refl; hash = λ p. omega arith },
+      (record { knows = refl; kept_there = here 0 []; of_port = refl; hash = λ p. omega arith }, tt),
+    ),
+  ),
+)
+
+one_chain : (a b : ℕ) → ◌≡◌ {A = ObjectId} (object.Chain a) (object.Chain b) → a ≡ b
+one_chain a b e = cc
+
+agree_on : (p q : Fields) (a b : Option Hashable) (g h : Hashable) → a ≡ Some g → b ≡ Some h → AreEqual p q a b → value p g ≡ value q h
+agree_on p q (Some k) (Some l) g h d e r = ap (value p) (sym (same_Some k g d)) ∙ r ∙ ap (value q) (same_Some l h e)
+agree_on p q (Some k) None g h d e r = cc
+agree_on p q None b g h d e r = cc
+
+each_object_alone : IsAdmissibleBySites two_chains two_hashes
+each_object_alone x y i j same written p q in_p in_q agree =
+    let a = every_at KnowsItsField (sites_of two_chains) x all_know_theirs i in
+    let b = every_at KnowsItsField (sites_of two_chains) y all_know_theirs j in
+    let port : x.port ≡ y.port = one_chain x.port y.port (sym a.of_port ∙ same ∙ b.of_port) in
+    let equal = agree_on p q (known two_chains x 0) (known two_chains y 0) (port_field x.port) (port_field y.port) a.knows b.knows (agree 0 a.kept_there) in
+    a.hash p ∙ ap₂ (λ m n. m + n) port equal ∙ sym (b.hash q)
+
+pub hashes_admissible : HashesAreAdmissible
+hashes_admissible = record { by_destination = by_destination; not_by_source = not_by_source; read_only_is_free = read_only_is_free; each_object_alone = each_object_alone }
