@@ -1,0 +1,9 @@
+pub mod Replay
+pub mod Reach
+pub mod Putting
+pub mod Gathering
+pub mod Same
+pub mod Steps
+pub mod Splits
+pub mod OnPath
+pub mod Covered
