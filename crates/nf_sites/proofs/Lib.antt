@@ -1,5 +1,6 @@
 pub mod Lists
 pub mod Pairs
+pub mod Sorting
 pub mod Placed
 pub mod Rising
 pub mod OfText

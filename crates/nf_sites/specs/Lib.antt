@@ -1,4 +1,6 @@
 pub mod Named
+pub mod ReadOrder
+pub mod TextOrder
 pub mod Sites
 pub mod OnPaths
 pub mod Known
