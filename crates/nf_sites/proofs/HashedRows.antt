@@ -16,7 +16,8 @@ use Rattle.nf_sites.specs.Sites.{Site, get_site}
 use Rattle.nf_sites.specs.OnPaths.{sites_of}
 use Rattle.nf_sites.specs.Known.{known, kept}
 use Rattle.nf_sites.specs.Admissible.{AreEqual, IsAdmissibleBySites}
-use Rattle.nf_sites.specs.Rows.{two_hashes, HashesAreAdmissible}
+use Rattle.nf_sites.specs.Rows.{two_hashes, far_hash, HashesAreAdmissible}
+use Rattle.nf_laws.specs.Nat.{nat}
 use Rattle.nf_sites.specs.Samples.{read_only, two_chains}
 use Rattle.nf_base.specs.Objects.{is_written}
 use Rattle.nf_base.specs.declared.decl.ObjectId.{ObjectId}
@@ -133,5 +134,36 @@ each_object_alone x y i j same written p q in_p in_q agree =
     let equal = agree_on p q (known two_chains x 0) (known two_chains y 0) (port_field x.port) (port_field y.port) a.knows b.knows (agree 0 a.kept_there) in
     a.hash p ∙ ap₂ (λ m n. m + n) port equal ∙ sym (b.hash q)
 
+-- a NAT
+abbrev far_field : ℕ → Hashable
+far_field zero = DstIp
+far_field (suc port) = SrcIp
+
+record KnowsTheFarEnd (x : Site) : Type 0 where
+  pub knows : known nat x 2 ≡ Some (far_field x.port)
+  pub kept_there : Contains (kept nat x.object) 2
+  pub hash : (p : Fields) → far_hash x.port p ≡ value p (far_field x.port)
+
+abbrev later_kept : List ℕ
+later_kept = 3 ∷ 4 ∷ 5 ∷ []
+
+all_know_the_far_end : Every KnowsTheFarEnd (sites_of nat)
+all_know_the_far_end = (
+  record { knows = refl; kept_there = here 2 later_kept; hash = λ p. refl },
+  (
+    record { knows = refl; kept_there = here 2 later_kept; hash = λ p. refl },
+    (
+      record { knows = refl; kept_there = here 2 later_kept; hash = λ p. refl },
+      (record { knows = refl; kept_there = here 2 later_kept; hash = λ p. refl }, tt),
+    ),
+  ),
+)
+
+by_far_end : IsAdmissibleBySites nat far_hash
+by_far_end x y i j same written p q in_p in_q agree =
+    let a = every_at KnowsTheFarEnd (sites_of nat) x all_know_the_far_end i in
+    let b = every_at KnowsTheFarEnd (sites_of nat) y all_know_the_far_end j in
+    a.hash p ∙ agree_on p q (known nat x 2) (known nat y 2) (far_field x.port) (far_field y.port) a.knows b.knows (agree 2 a.kept_there) ∙ sym (b.hash q)
+
 pub hashes_admissible : HashesAreAdmissible
-hashes_admissible = record { by_destination = by_destination; not_by_source = not_by_source; read_only_is_free = read_only_is_free; each_object_alone = each_object_alone }
+hashes_admissible = record { by_destination = by_destination; not_by_source = not_by_source; by_far_end = by_far_end; read_only_is_free = read_only_is_free; each_object_alone = each_object_alone }

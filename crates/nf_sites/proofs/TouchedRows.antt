@@ -1,9 +1,9 @@
 -- What sites of some functions are given.
-use Rattle.std.proofs.Common.{◌≡◌, ◌^◌, ◌%◌, ◌⊎◌, ℕ, suc, List, [], ◌∷◌, ◌++◌, Contains, Some, None, refl, ap, sym, ◌∙◌, subst, inl, inr}
+use Rattle.std.proofs.Common.{true, ◌≡◌, ◌^◌, ◌%◌, ◌⊎◌, ℕ, suc, List, [], ◌∷◌, ◌++◌, Contains, Some, None, refl, ap, sym, ◌∙◌, subst, inl, inr}
 use Rattle.nf_base.specs.declared.decl.ChainDecl.{ChainDecl}
 use Rattle.nf_base.specs.declared.packet.Fields.{Fields}
 use Rattle.nf_base.specs.Context.{Context}
-use Rattle.nf_base.specs.Events.{Event, LookedUp, CellRead}
+use Rattle.nf_base.specs.Events.{Event, LookedUp, EntryUsed, CellRead}
 use Rattle.nf_base.specs.Locations.{Location, EntryNo, KeyOf, CellAt, Numbers, all_numbers, locations_of}
 use Rattle.nf_base.specs.declared.decl.ObjectId.TheVariants as object
 use Rattle.nf_base.specs.Step.{input}
@@ -88,6 +88,9 @@ not_by_a_miss decls ns key k site b =
     let w = one_before (LookedUp 7 0 0 key None) b.event b.earlier b.later b.is_before in
     no_entry_missed key k (subst (λ (e : Event). Contains (locations_of decls (all_numbers ns b.earlier) e) (EntryNo 0 k)) (sym w.0) b.touches)
 
+not_by_a_use : (decls : List ChainDecl) (ns : Numbers) (k : ℕ) (site : Site) → UsedBehind decls ns (EntryUsed 0 2 true ∷ []) k site → ⊥
+not_by_a_use decls ns k site b = subst (λ (e : Event). StandsBy e site) (sym (one_before (EntryUsed 0 2 true) b.event b.earlier b.later b.is_before).0) b.stands
+
 not_by_none : (decls : List ChainDecl) (ns : Numbers) (k : ℕ) (site : Site) → UsedBehind decls ns [] k site → ⊥
 not_by_none decls ns k site b = none_before b.event b.earlier b.later b.is_before
 
@@ -95,4 +98,4 @@ at_its_place : (decls : List ChainDecl) (ns : Numbers) (x : Location) (site : Si
 at_its_place decls ns x site s = s.place
 
 pub found_first : EntriesAreFoundFirst
-found_first = record { where_found = where_found; not_by_a_miss = not_by_a_miss; not_by_none = not_by_none; at_its_place = at_its_place }
+found_first = record { where_found = where_found; not_by_a_miss = not_by_a_miss; not_by_a_use = not_by_a_use; not_by_none = not_by_none; at_its_place = at_its_place }

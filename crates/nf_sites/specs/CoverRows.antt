@@ -29,6 +29,7 @@ own_sorts e = map (is_own e) all_sorts
 abbrev pub no_sort : List Bool
 no_sort = false ∷ false ∷ false ∷ false ∷ false ∷ false ∷ false ∷ false ∷ []
 
+-- which sorts look keys up, bind variables and access cells, and which are those of each event
 pub record SortsAreTold : Type 0 where
   -- a key of a map is looked up by a `get` of the map, and by a `new`
   pub look_ups : map (looks_in 1) all_sorts
@@ -57,6 +58,7 @@ abbrev pub UsedBehind : List ChainDecl → Numbers → List Event → ℕ → Si
 UsedBehind decls ns before k site =
     Stands decls ns before (EntryUsed 0 2 false) (EntryNo 0 k) site
 
+-- where an operation on an entry is touched
 pub record EntriesAreFoundFirst : Type 0 where
   -- the site is at the place of the event that found the entry
   pub where_found : (decls : List ChainDecl) (ns : Numbers) (key : List ℕ) (k : ℕ) (site : Site) →
@@ -64,6 +66,9 @@ pub record EntriesAreFoundFirst : Type 0 where
   -- which touches that entry
   pub not_by_a_miss : (decls : List ChainDecl) (ns : Numbers) (key : List ℕ) (k : ℕ) (site : Site) →
       UsedBehind decls ns (LookedUp 7 0 0 key None ∷ []) k site → ⊥
+  -- by its statement's own site, which a use has none of
+  pub not_by_a_use : (decls : List ChainDecl) (ns : Numbers) (k : ℕ) (site : Site) →
+      UsedBehind decls ns (EntryUsed 0 2 true ∷ []) k site → ⊥
   -- and comes before
   pub not_by_none : (decls : List ChainDecl) (ns : Numbers) (k : ℕ) (site : Site) →
       UsedBehind decls ns [] k site → ⊥
@@ -76,6 +81,7 @@ abbrev pub PolicerTouches : Table → Fields → (port : ℕ) → Location → T
 PolicerTouches table fields port x =
     TouchedAt (IsOf policer) policer table (input policer 0 fields) port x
 
+-- what the sites of a policer and of an array are given
 pub record ValuesAreGiven : Type 0 where
   -- a policer touches a key with the packet's destination
   pub key : (table : Table) (fields : Fields) (key : List ℕ) →

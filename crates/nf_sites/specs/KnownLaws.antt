@@ -55,12 +55,13 @@ pub record NoneSpeaks {A : Type 0} (is_together : ℕ → Bool) (l : ℕ) (xs : 
   pub not_named : (y : Named A) → Contains xs y → y.label ≢ l
   pub none_together : (y : Named A) → Contains xs y → is_together y.label ≡ false
 
--- the speaker speaks, and where there is none, none does
+-- the speaker speaks
 abbrev pub SpeakersSpeak : Type 0
 SpeakersSpeak =
     (is_together : ℕ → Bool) (l : ℕ) (xs : List (Named Given)) (x : Named Given) →
     speaker is_together l xs ≡ Some x → Speaks is_together l xs x
 
+-- and where there is none, none does
 abbrev pub NoneSpeaksWhere : Type 0
 NoneSpeaksWhere =
     (is_together : ℕ → Bool) (l : ℕ) (xs : List (Named Given)) →

@@ -31,6 +31,7 @@ pub record Row : Type 0 where
   pub sort : Sort
   pub known : List (Option Hashable)
 
+-- the row of a site
 abbrev pub row_of : Function → Site → Row
 row_of f x = record {
   object = x.object;
@@ -77,6 +78,7 @@ inward =
     None ∷ None ∷ Some hashed.SrcIp ∷ Some hashed.SrcPort
     ∷ Some hashed.SrcIp ∷ Some hashed.SrcPort ∷ []
 
+-- the labels that are known at the sites of some functions, and those that are kept
 pub record SitesKnow : Type 0 where
   -- the sites of a policer are all by the destination
   pub policer_by_destination :
@@ -124,10 +126,11 @@ pairs block = over (column W32 ∷ column W32 ∷ []) two_maps (block ∷ [])
 abbrev pub pair_together : Block → Bool
 pair_together block = together (pairs block) (object.Chain 0) 0 1
 
--- the addresses
+-- the source address
 abbrev pub src : Given
 src = read W32 SrcIp
 
+-- the destination address
 abbrev pub dst : Given
 dst = read W32 DstIp
 
@@ -143,6 +146,7 @@ last_known [] = []
 last_known (r ∷ []) = r.known
 last_known (r ∷ s ∷ rs) = last_known (s ∷ rs)
 
+-- which labels are together, and what they are known by
 pub record LabelsAreTogether : Type 0 where
   -- one `new` may set both from the source, another both from the destination
   pub each_new_by_itself :
@@ -156,6 +160,8 @@ pub record LabelsAreTogether : Type 0 where
   -- that is hashed, and plain
   pub of_a_field : pair_together
       (makes 0 (valued W32 (Number 7) ∷ valued W32 (Number 7) ∷ []) nothing) ≡ false
+  -- an array's index is together with nothing
+  pub array_alone : together counters (object.Array 0) 0 0 ≡ false
   -- a label that is not named is known by one that is together with it
   pub last_by_first : last_known (rows_of (triple dst dst))
       ≡ Some hashed.DstIp ∷ Some hashed.DstIp ∷ Some hashed.DstIp ∷ []
@@ -186,6 +192,7 @@ port_0 o place way named =
 abbrev pub access : ℕ → Sort → ℕ → Expression → Site
 access place way array at = port_0 (object.Array array) place way (gives 0 (valued W16 at) ∷ [])
 
+-- which sites a text has, and where
 pub record TextsHaveSites : Type 0 where
   -- a site is a place on some feasible path: the first `get` stands on none
   pub feasible_only :
@@ -224,10 +231,18 @@ abbrev pub two_hashes : ℕ → Fields → ℕ
 two_hashes zero p = p.src_ip
 two_hashes (suc port) p = suc p.dst_ip
 
+-- a hash of the destination at port 0, and of the source at other ports: of the far end
+abbrev pub far_hash : ℕ → Fields → ℕ
+far_hash zero p = p.dst_ip
+far_hash (suc port) p = p.src_ip
+
+-- which hashes are admissible
 pub record HashesAreAdmissible : Type 0 where
   -- a policer's port may hash the destination, and not the source
   pub by_destination : IsAdmissibleBySites policer (λ port (p : Fields). p.dst_ip)
   pub not_by_source : IsAdmissibleBySites policer (λ port (p : Fields). p.src_ip) → ⊥
+  -- a NAT's two ports may hash the far end's address
+  pub by_far_end : IsAdmissibleBySites nat far_hash
   -- what is never written asks for nothing
   pub read_only_is_free : IsAdmissibleBySites read_only (λ port (p : Fields). p.dst_ip)
   -- and the sites of one chain for nothing at those of another

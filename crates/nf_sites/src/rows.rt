@@ -19,7 +19,8 @@ pub fn texts_have_sites()
 {}
 
 /// At a policer's port a hash of the destination address is admissible, and one of the source is
-/// not; a chain that is never written asks for nothing, nor do the sites of two chains together.
+/// not; at a NAT's two ports one of the far end's address is. A chain that is never written asks
+/// for nothing, nor do the sites of two chains together.
 pub fn hashes_are_admissible()
     ensures { HashesAreAdmissible }
 {}

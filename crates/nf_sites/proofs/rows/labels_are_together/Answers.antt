@@ -7,6 +7,7 @@ returns c = record {
   every_new = refl;
   of_the_width = refl;
   of_a_field = refl;
+  array_alone = refl;
   last_by_first = refl;
   first_decides = refl;
   named_alone = refl;
