@@ -1,8 +1,6 @@
 //! The sites of a function.
-ghost use Rattle.std.specs.Prelude.{◌≡◌, ◌++◌, ◌<◌, List, IfOk, IfErr, OnOk, length, map, slice_get, Some};
-ghost use Rattle.std.specs.List.{range_with_len};
+ghost use Rattle.std.specs.Prelude.{◌≡◌, ◌++◌, ◌<◌, IfOk, IfErr, OnOk, length, map};
 ghost use Rattle.nf_base.specs.Functions.{function_of};
-ghost use Rattle.nf_base.specs.View.{block_of};
 ghost use Rattle.nf_sites.specs.OnPaths.{port_sites, sites_of};
 ghost use Rattle.nf_sites.specs.CoverLaws.{Covers};
 ghost use Rattle.path_walk.specs.Listed.{port_branches};
@@ -14,10 +12,9 @@ use crate::access::Here;
 use crate::creation::{NewFields, all_new};
 use crate::listing::listed;
 use crate::marking::mark_block;
-use crate::places::{Places, places_marked};
+use crate::places::places_marked;
 use crate::site::Site;
 use crate::statement::put_statements;
-use nf_base::block::Block;
 use nf_base::func::Func;
 use path_walk::{Branch, Path, WalkFault, paths};
 use std::alloc::{AllocError, Global};
