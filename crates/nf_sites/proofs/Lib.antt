@@ -19,3 +19,4 @@ pub mod Separate
 pub mod HashedRows
 pub mod Speaking
 pub mod TouchedRows
+pub mod OrderedRows

@@ -14,3 +14,4 @@ pub mod Separation
 pub mod Samples
 pub mod Rows
 pub mod CoverRows
+pub mod OrderRows
