@@ -1,5 +1,6 @@
 pub mod Lists
 pub mod Pairs
+pub mod Sorting
 pub mod Placed
 pub mod Rising
 pub mod OfText
@@ -18,3 +19,4 @@ pub mod Separate
 pub mod HashedRows
 pub mod Speaking
 pub mod TouchedRows
+pub mod OrderedRows
