@@ -15,7 +15,7 @@ use Rattle.shard_rules.specs.declared.rule.Rule.TheVariants.{SameKey, Subset, Di
 use Rattle.shard_rules.specs.declared.plan.Standing.{Standing}
 use Rattle.shard_rules.specs.declared.plan.Standing.TheVariants.{ReadOnly, Unused, Ruled}
 use Rattle.shard_rules.specs.declared.plan.Plan.{Plan}
-use Rattle.shard_rules.specs.Rows.{at_chain, policer, translator, hidden, counter}
+use Rattle.shard_rules.specs.Rows.{at_chain, policer, translator, hidden, narrowed, counter}
 use Rattle.toeplitz_hash.specs.declared.key.TheConstants.{DEFAULT_KEY}
 use Rattle.key_synth.specs.declared.verdict.Cause.TheVariants as cause
 use Rattle.key_synth.specs.declared.verdict.Verdict.{Verdict}
@@ -80,6 +80,24 @@ translator_text = explained
     [] (object.Chain 0 ∷ []))
     translator (plan_with (Ruled Interchangeable (2 ∷ 3 ∷ 4 ∷ 5 ∷ []) ∷ []))
 
+-- a chain with two maps, of which one is looked up
+abbrev pub hidden_text : List ℕ
+hidden_text = explained
+    (function_named (codes "hidden")
+    (chain_named (codes "c") (named (codes "x") ∷ named (codes "y") ∷ [])
+    (map_named (codes "s") 0 1 ∷ map_named (codes "d") 1 1 ∷ []) ∷ [])
+    [] (object.Chain 0 ∷ []))
+    hidden (plan_with (Ruled DisjointKeys [] ∷ []))
+
+-- a look-up that knows one label of two
+abbrev pub narrowed_text : List ℕ
+narrowed_text = explained
+    (function_named (codes "narrowed")
+    (chain_named (codes "c") (named (codes "x") ∷ named (codes "y") ∷ [])
+    (map_named (codes "m") 0 1 ∷ []) ∷ [])
+    [] (object.Chain 0 ∷ []))
+    narrowed (plan_with (Ruled Subset (0 ∷ []) ∷ []))
+
 -- an array that is never written, a chain with two maps, a counter, and an array of a port that no
 -- packet comes to
 abbrev pub many_text : List ℕ
@@ -126,6 +144,12 @@ pub record TextsAreSo : Type 0 where
       ++ codes "site 0 new" ++ conn_known
       ++ codes "site 0 name by_in" ++ conn_known
       ++ codes "site 1 find dip=src_ip dp=src_port rip=src_ip rp=src_port\n"
+  pub hidden_keys_are_disjoint : hidden_text
+      ≡ codes "nf hidden\nobject c rule J3 keeps -\nsite 0 get d y=dst_ip\n"
+      ++ codes "site 0 new x=src_ip y=dst_ip\nsite 0 name s x=src_ip\nsite 0 name d y=dst_ip\n"
+  pub narrowed_is_a_subset : narrowed_text
+      ≡ codes "nf narrowed\nobject c rule J2 keeps x\nsite 0 get m x=src_ip\n"
+      ++ codes "site 0 new x=src_ip y=src_port\nsite 0 name m x=src_ip\n"
   pub each_kind_is_told : many_text
       ≡ codes "nf many\nobject given read only\nobject c rule J4 keeps -\nsite 0 get s -\n"
       ++ codes "object hits rule J1 keeps index\n"

@@ -8,6 +8,8 @@ unfolding digits encode_with
 returns c = record {
   policer_is_by_destination = refl;
   translator_checks = refl;
+  hidden_keys_are_disjoint = refl;
+  narrowed_is_a_subset = refl;
   each_kind_is_told = refl;
   policer_has_keys = refl;
   bridge_has_none = refl;
