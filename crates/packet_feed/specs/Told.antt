@@ -11,6 +11,10 @@ Carries (Some x) (Some y) = y ≡ x
 Carries (Some x) None = ⊥
 Carries None y = Unit {0}
 
+-- so it is of the file of each port
+abbrev pub EachFile : (ℕ → Type 0) → List ℕ → Type 0
+EachFile P files = (port file : ℕ) → slice_get files port ≡ Some file → P file
+
 -- no file stands twice in a list
 abbrev pub IsApart : List ℕ → Type 0
 IsApart files = (i j : ℕ) (f g : ℕ) → slice_get files i ≡ Some f → slice_get files j ≡ Some g → i ≢ j → f ≢ g

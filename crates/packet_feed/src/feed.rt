@@ -1,12 +1,11 @@
 //! The packets of captures in capture order.
 ghost use Rattle.std.specs.Prelude.{◌≡◌, ◌^◌, ◌<◌, ◌≤◌, ◌+◌, ℕ, List, [], length, OnErr};
-ghost use Rattle.std.specs.List.{All};
 ghost use Rattle.nf_files.specs.Told.{Told};
 ghost use Rattle.pcap_file.specs.Record.{greatest_time};
 ghost use Rattle.packet_feed.specs.Arrivals.{Arrival};
 ghost use Rattle.packet_feed.specs.Order.{in_order, IsOrdered};
 ghost use Rattle.packet_feed.specs.Faults.{IsCause, IsNoHeaderFault};
-ghost use Rattle.packet_feed.specs.Told.{IsApart, KeepsOthers};
+ghost use Rattle.packet_feed.specs.Told.{EachFile, IsApart, KeepsOthers};
 ghost use Rattle.packet_feed.specs.Streams.{last_read};
 ghost use Rattle.packet_feed.specs.Sources.{files_in};
 ghost use Rattle.packet_feed.specs.Feeding.{StandsFor, Starts, Feeds, Counts, frame_of, original_of, first_tear, tears_in};
@@ -62,7 +61,7 @@ impl Feed {
         captures: &[u32],
         most: u32,
     ) -> Result<Feed, FeedFault>
-        requires opened { All (F.is_read files.old) captures.now }
+        requires opened { EachFile (F.is_read files.old) captures.now }
         // No file stands there twice.
         requires apart { IsApart captures.now }
         requires ports { length captures.now ≤ 2 ^ 32 }
@@ -91,7 +90,7 @@ impl Feed {
     /// one is and as many packets were given as were asked for. After an `Err` this feed may have
     /// moved, and no call is to be made on it.
     pub fn next<F: Files>(&mut self, files: &mut F) -> Result<Fed, FeedFault>
-        requires opened { All (F.is_read files.old) (files_in self.old.sources) }
+        requires opened { EachFile (F.is_read files.old) (files_in self.old.sources) }
         // Whatever bytes and packets the feed stood for, it stands for the same bytes, and for this
         // packet behind them; or they are all, in capture order, and captures are torn as it tells;
         // or there are more.

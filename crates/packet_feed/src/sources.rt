@@ -4,7 +4,7 @@ ghost use Rattle.std.specs.List.{All};
 ghost use Rattle.nf_files.specs.Told.{Told};
 ghost use Rattle.packet_feed.specs.Arrivals.{Arrival};
 ghost use Rattle.packet_feed.specs.Faults.{IsCause, IsNoHeaderFault};
-ghost use Rattle.packet_feed.specs.Told.{IsApart, KeepsOthers};
+ghost use Rattle.packet_feed.specs.Told.{EachFile, IsApart, KeepsOthers};
 ghost use Rattle.packet_feed.specs.Sources.{files_in, counts_in, SourcesStand, AreSettled, AreOpened, IsFirst, IsGiven};
 ghost use Rattle.packet_feed.specs.Feeding.{first_tear, tears_in};
 
@@ -22,7 +22,7 @@ pub(crate) fn open_all<F: Files>(
     files: &mut F,
     captures: &[u32],
 ) -> Result<Seq<Source>, FeedFault>
-    requires opened { All (F.is_read files.old) captures.now }
+    requires opened { EachFile (F.is_read files.old) captures.now }
     requires apart { IsApart captures.now }
     requires ports { length captures.now ≤ 2 ^ 32 }
     ensures opens { AreOpened captures.now (F.told files.old) (F.told files.new) result }
@@ -46,7 +46,7 @@ pub(crate) fn open_all<F: Files>(
 
 /// Reads the next record of each capture of which it isn't known yet what comes next.
 pub(crate) fn fill_all<F: Files>(sources: &mut Seq<Source>, files: &mut F) -> Result<(), FeedFault>
-    requires opened { All (F.is_read files.old) (files_in sources.old) }
+    requires opened { EachFile (F.is_read files.old) (files_in sources.old) }
     requires apart { IsApart (files_in sources.old) }
     requires ports { length sources.old ≤ 2 ^ 32 }
     ensures stand { (start : Told) → (given : List Arrival) →

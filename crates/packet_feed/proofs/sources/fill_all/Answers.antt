@@ -16,7 +16,7 @@ fill-requires g c =
     let lt : port < length now = omega (arith, c.len-port-end.ensures, c.loop-port-test.true, same_length now c.args.sources.now c.loop-port.invariant.same_files) in
     let at = slice_get_read now (length now) port s refl lt c.item_mut.ensures.value in
     let file = sym (ap (λ (fs : List ℕ). slice_get fs port) c.loop-port.invariant.same_files) ∙ file_at now port s at in
-    record { opened = c.loop-port.invariant.reads s.reading.file (at_file (g.F.Files.is_read c.args.files.now) (files_in c.args.sources.now) port s.reading.file file c.requires.opened) }
+    record { opened = c.loop-port.invariant.reads s.reading.file (c.requires.opened port s.reading.file file) }
 
 pub returns-in-Err-clause-same_files : goal.returns-in-Err-clause-same_files
 returns-in-Err-clause-same_files g c =

@@ -6,6 +6,12 @@ use Rattle.packet_feed.proofs.Standing.{faulted_at}
 use Rattle.packet_feed.proofs.Starting.{AreOpenedSoFar, opened_more, opened_all, opens_bad}
 use Rattle.packet_feed.proofs.sources.open_all.Goals as goal
 
+pub open-requires : goal.open-requires
+open-requires g c =
+    let all = c.args.captures.now in
+    let port = c.loop-port.port in
+    record { opened = c.loop-port.invariant.reads (get_or all port 0) (c.requires.opened port (get_or all port 0) (slice_get-get_or all port 0 (omega arith))) }
+
 pub returns-in-Err-clause-opens : goal.returns-in-Err-clause-opens
 returns-in-Err-clause-opens g c =
     let told = g.F.Files.told in
