@@ -1,2 +1,4 @@
 pub mod Going
 pub mod Bytes
+pub mod Edited
+pub mod Held

@@ -2,3 +2,11 @@
 #![tactic(auto)]
 
 pub mod laws;
+mod piece;
+mod sink;
+mod sinks;
+mod stop;
+
+pub use sink::Sink;
+pub use sinks::{flush_all, put_all};
+pub use stop::Stop;
