@@ -83,7 +83,7 @@ partly_more before after sinks k s new_s old new apart e same kept step h j x q 
       )
 ]
 
-stays_in : (sinks : List Holding) (k file : ℕ) → slice_get (files_of sinks) k ≡ Some file → (s : Holding) × (slice_get sinks k ≡ Some s) × (s.file ≡ file)
+pub stays_in : (sinks : List Holding) (k file : ℕ) → slice_get (files_of sinks) k ≡ Some file → (s : Holding) × (slice_get sinks k ≡ Some s) × (s.file ≡ file)
 stays_in [] k file e = absurd cc
 stays_in (s ∷ sinks) zero file e = (s, refl, cc)
 stays_in (s ∷ sinks) (suc k) file e = stays_in sinks k file e

@@ -2,3 +2,4 @@ pub mod Going
 pub mod Bytes
 pub mod Edited
 pub mod Held
+pub mod Reached

@@ -3,3 +3,4 @@ pub mod Texts
 pub mod Laws
 pub mod Stops
 pub mod Writing
+pub mod Streaming
