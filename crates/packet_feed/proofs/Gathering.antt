@@ -163,3 +163,6 @@ pub map_kept : {X Y : Type 0} (f : X → Y) (xs : List X) (k : ℕ) (x y : X) �
 map_kept f [] k x y e h = refl
 map_kept {Y = Y} f (z ∷ xs) zero x y e h = ap (λ (t : Y). t ∷ map f xs) (h ∙ ap f (one_is z x e))
 map_kept {Y = Y} f (z ∷ xs) (suc k) x y e h = ap (λ (t : List Y). f z ∷ t) (map_kept f xs k x y e h)
+
+pub gathered_all : {X A : Type 0} (P : A → Type 0) (f : ℕ → X → Option (List A)) (xs : List X) → ((j : ℕ) (x : X) → slice_get xs j ≡ Some x → AllIn P (f j x)) → AllIn P (gathered f 0 xs)
+gathered_all {X = X} P f xs h = all_from P f 0 xs (λ (j : ℕ) (x : X) p. let same : j ≡ 0 + j = omega arith in subst (λ (n : ℕ). AllIn P (f n x)) same (h j x p))

@@ -1,6 +1,6 @@
 -- What stands of captures that are read side by side, through each step.
-use Rattle.std.proofs.Common.{◌≡◌, ◌≢◌, ℕ, ◌+◌, ◌≤◌, ◌<◌, List, [], ◌∷◌, ◌++◌, length, set, Option, Some, None, Err, inl, inr, refl, sym, ap, ◌∙◌, subst, append_assoc, arith}
-use Rattle.std.specs.List.{All, slice_get}
+use Rattle.std.proofs.Common.{◌≡◌, ◌≢◌, ℕ, ◌+◌, ◌≤◌, ◌<◌, List, [], ◌∷◌, ◌++◌, length, set, Option, Some, None, Err, inl, inr, refl, sym, ap, ◌∙◌, subst, append_assoc, arith, max}
+use Rattle.std.specs.List.{All, AllByRecursion, slice_get}
 use Rattle.std.specs.Option.{option_map, option_and_then}
 use Rattle.std.proofs.lemmas.List.{length-set, length-map}
 use Rattle.std.proofs.lemmas.List.Elements.{All-get_or}
@@ -15,14 +15,17 @@ use Rattle.packet_feed.specs.declared.fault.FeedFault.{FeedFault}
 use Rattle.packet_feed.specs.Faults.{fault_at, FaultedAt, IsCause}
 use Rattle.nf_base.proofs.Mixes.{got_set}
 use Rattle.packet_feed.specs.declared.ahead.Ahead.TheVariants.{Held}
-use Rattle.packet_feed.specs.Arrivals.{Arrival}
+use Rattle.pcap_file.specs.declared.form.TimeUnit.{TimeUnit}
+use Rattle.pcap_file.specs.Record.{Record, time_of}
+use Rattle.pcap_file.specs.Capture.{Capture, capture_of}
+use Rattle.packet_feed.specs.Arrivals.{Arrival, arrivals_from}
 use Rattle.packet_feed.specs.Order.{in_order}
-use Rattle.packet_feed.specs.Told.{Carries, packets_of, IsTear, IsApart, KeepsOthers}
+use Rattle.packet_feed.specs.Told.{Carries, packets_of, IsTear, IsApart, KeepsOthers, packets_in}
 use Rattle.packet_feed.specs.Streams.{Stream, last_read, packets_left, tear_left, time_in, IsSettled}
 use Rattle.packet_feed.specs.Sources.{files_in, all_left, Follows, SourceStands, SourcesStand, IsFilled, AreSettled, IsFirst, time_at, given_away}
 use Rattle.packet_feed.specs.Taken.{IsTaken}
 use Rattle.packet_feed.proofs.Ordering.{IsBehind, comes_first}
-use Rattle.packet_feed.proofs.Gathering.{gathered_carries, gathered_none, gathered_picks, Picks, carries_is, map_kept, AllIn}
+use Rattle.packet_feed.proofs.Gathering.{gathered_carries, gathered_none, gathered_picks, Picks, carries_is, map_kept, AllIn, gathered_all}
 use Rattle.packet_feed.proofs.Taking.{taken_more, taken_given, taken_other}
 use Rattle.packet_feed.proofs.Streaming.{other_behind, head_given, tear_given, held_since, none_given, came_in, came_at, came_with}
 
@@ -223,3 +226,24 @@ stands_kept start given sources old new same h = record {
         (carries_is (packets_left j x (old.rest x.reading.file)) (packets_left j x (new.rest x.reading.file)) (ap (packets_left j x) (same x.reading.file)))));
   each = λ port s e. source_stays start given old new port s (same s.reading.file) (h.each port s e);
 }
+
+-- ---- each packet came in at the port of its capture
+
+at_port : (port n : ℕ) (unit : TimeUnit) (seq latest : ℕ) (rs : List Record) → port < n → AllByRecursion (λ (a : Arrival). a.packet.id.port < n) (arrivals_from port unit seq latest rs)
+at_port port n unit seq latest [] lt = tt
+at_port port n unit seq latest (r ∷ rs) lt =
+    let time = max latest (time_of unit r) in
+    (omega (arith, came_in port seq time r.original r.frame), at_port port n unit (seq + 1) time rs lt)
+
+at_ports : (port n : ℕ) (c : Option Capture) → port < n → AllIn (λ (a : Arrival). a.packet.id.port < n) (option_map (λ (c : Capture). arrivals_from port c.form.unit 0 0 c.records) c)
+at_ports port n None lt = tt
+at_ports port n (Some c) lt = at_port port n c.form.unit 0 0 c.records lt
+
+in_port : (port n : ℕ) (bytes : Option (List ℕ)) → port < n → AllIn (λ (a : Arrival). a.packet.id.port < n) (packets_in port bytes)
+in_port port n None lt = tt
+in_port port n (Some bytes) lt = at_ports port n (capture_of bytes) lt
+
+pub all_ports : (files : List ℕ) (told : Told) → AllIn (λ (a : Arrival). a.packet.id.port < length files) (packets_of files told)
+all_ports files told =
+    gathered_all (λ (a : Arrival). a.packet.id.port < length files) (λ port file. packets_in port (told.rest file)) files
+    (λ (j f : ℕ) e. in_port j (length files) (told.rest f) (slice_get_within files j f e))

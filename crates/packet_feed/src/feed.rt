@@ -123,6 +123,13 @@ impl Feed {
         }
     }
 
+    /// How many packets were given.
+    pub fn given(&self) -> u32
+        ensures { result ≡ self.now.given }
+    {
+        self.given
+    }
+
     /// The captured bytes of the packet that was given last.
     pub fn frame(&self) -> &[u8]
         ensures { result.now ≡ frame_of self.now }

@@ -3,3 +3,4 @@ pub mod Bytes
 pub mod Edited
 pub mod Held
 pub mod Reached
+pub mod Complete

@@ -117,8 +117,11 @@ reached_more f ports begun start feed next old read new sinks now state after pa
 pub ends_all : (f : Function) (ports : ℕ) (begun : Feeding) (start : Told) (feed next : Feeding) (old new : Told) (sinks : List Holding) (state : State)
     → Reaches f ports begun start feed old sinks state
     → ((before : Told) (given : List Arrival) → StandsFor before given feed old → StandsFor before given next new × AreAll (packets_of (files_in next.sources) before) given × AreTorn before next.sources)
-    → next.given ≡ feed.given → ((g : ℕ) → new.given g ≡ old.given g) → Ends f ports begun start next new sinks state All
-ends_all f ports begun start feed next old new sinks state r feeds given givens = record {
+    → next.given ≡ feed.given → ((g : ℕ) → new.given g ≡ old.given g) → files_in next.sources ≡ files_in begun.sources → next.most ≡ begun.most → feed.given ≤ begun.most → Ends f ports begun start next new sinks state All
+ends_all f ports begun start feed next old new sinks state r feeds given givens same most within = record {
+  same_files = same;
+  same_most = most;
+  within = omega arith;
   reached = record {
     hs = r.hs;
     undivided = r.undivided;
@@ -133,8 +136,11 @@ ends_all f ports begun start feed next old new sinks state r feeds given givens 
 pub ends_early : (f : Function) (ports : ℕ) (begun : Feeding) (start : Told) (feed next : Feeding) (old new : Told) (sinks : List Holding) (state : State)
     → Reaches f ports begun start feed old sinks state
     → ((before : Told) (given : List Arrival) → StandsFor before given feed old → StandsFor before given next new × HasMore (packets_of (files_in next.sources) before) (length given))
-    → next.given ≡ feed.given → feed.given ≡ feed.most → next.most ≡ feed.most → ((g : ℕ) → new.given g ≡ old.given g) → Ends f ports begun start next new sinks state TooMany
-ends_early f ports begun start feed next old new sinks state r feeds given all most givens = record {
+    → next.given ≡ feed.given → feed.given ≡ feed.most → next.most ≡ feed.most → ((g : ℕ) → new.given g ≡ old.given g) → files_in next.sources ≡ files_in begun.sources → next.most ≡ begun.most → Ends f ports begun start next new sinks state TooMany
+ends_early f ports begun start feed next old new sinks state r feeds given all most givens same same_most = record {
+  same_files = same;
+  same_most = same_most;
+  within = omega arith;
   reached = record {
     hs = r.hs;
     undivided = r.undivided;
@@ -155,7 +161,7 @@ are_first None given left h = tt
 are_first (Some all) given None h = absurd h
 are_first (Some all) given (Some left) h = (in_order left, h)
 
-first_given : (before : Told) (given : List Arrival) (feed begun : Feeding) (now : Told) → files_in feed.sources ≡ files_in begun.sources → StandsFor before given feed now → AreFirst (packets_of (files_in begun.sources) before) given
+pub first_given : (before : Told) (given : List Arrival) (feed begun : Feeding) (now : Told) → files_in feed.sources ≡ files_in begun.sources → StandsFor before given feed now → AreFirst (packets_of (files_in begun.sources) before) given
 first_given before given feed begun now same h =
     subst (λ (fs : List ℕ). AreFirst (packets_of fs before) given) same (are_first (packets_of (files_in feed.sources) before) given (all_left feed.sources now) h.sources.order)
 

@@ -4,3 +4,4 @@ pub mod Laws
 pub mod Stops
 pub mod Writing
 pub mod Streaming
+pub mod Lawful

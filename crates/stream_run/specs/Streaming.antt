@@ -81,6 +81,9 @@ IsEnding TooMany feed before hs = (length hs ≡ feed.most) × HasMore (packets_
 pub record Ends (f : Function) (ports : ℕ) (begun : Feeding) (start : Told) (feed : Feeding) (now : Told) (sinks : List Holding) (state : State) (ending : Ending) : Type 0 where
   pub reached : Reaches f ports begun start feed now sinks state
   pub ending_is : (before : Told) → StandsFor before [] begun start → IsEnding ending feed before reached.hs
+  pub same_files : files_in feed.sources ≡ files_in begun.sources
+  pub same_most : feed.most ≡ begun.most
+  pub within : feed.given ≤ feed.most
 
 -- what a run comes to
 abbrev pub Comes : Function → ℕ → Feeding → Told → Feeding → Told → List Holding → State → Result Ending Stop → Type 0

@@ -25,7 +25,7 @@ returns-in-Ok-End-clause-comes g c =
     let told = g.F.Files.told in
     let ok = c.in-Ok-End.ensures in
     ends_all (function_of c.args.func.now) (length c.args.func.now.handlers) c.args.feed.now (told c.args.files.now) c.packets.feed c.next.new.self (told c.packets.files) (told c.next.new.files) c.packets.sinks c.packets.tables.state c.packets.invariant.reached
-    (rw c.in-Ok-End.field-0-is at ok.feeds) (rw c.in-Ok-End.field-0-is at ok.counts) c.next.ensures.kept.givens
+    (rw c.in-Ok-End.field-0-is at ok.feeds) (rw c.in-Ok-End.field-0-is at ok.counts) c.next.ensures.kept.givens (c.next.ensures.same_files ∙ c.packets.invariant.captures ∙ sym c.requires.captures) (c.next.ensures.same_most ∙ c.packets.invariant.most) (omega (arith, c.packets.invariant.within, c.packets.invariant.most))
 
 pub returns-in-Ok-TooMany-clause-comes : goal.returns-in-Ok-TooMany-clause-comes
 returns-in-Ok-TooMany-clause-comes g c =
@@ -33,7 +33,7 @@ returns-in-Ok-TooMany-clause-comes g c =
     let ok = c.in-Ok-TooMany.ensures in
     let counts = rw c.in-Ok-TooMany.field-0-is at ok.counts in
     ends_early (function_of c.args.func.now) (length c.args.func.now.handlers) c.args.feed.now (told c.args.files.now) c.packets.feed c.next.new.self (told c.packets.files) (told c.next.new.files) c.packets.sinks c.packets.tables.state c.packets.invariant.reached
-    (rw c.in-Ok-TooMany.field-0-is at ok.feeds) counts.0 counts.1 c.next.ensures.same_most c.next.ensures.kept.givens
+    (rw c.in-Ok-TooMany.field-0-is at ok.feeds) counts.0 counts.1 c.next.ensures.same_most c.next.ensures.kept.givens (c.next.ensures.same_files ∙ c.packets.invariant.captures ∙ sym c.requires.captures) (c.next.ensures.same_most ∙ c.packets.invariant.most)
 
 pub handle_one-requires-clause-few : goal.handle_one-requires-clause-few
 handle_one-requires-clause-few g c = omega (arith, same_length c.packets.sinks c.args.sinks.now c.packets.invariant.same_files, c.requires.few)
