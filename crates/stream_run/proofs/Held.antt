@@ -3,18 +3,18 @@ use Rattle.std.proofs.Common.{◌≡◌, ◌≢◌, ℕ, zero, suc, ◌+◌, ◌
 use Rattle.std.specs.List.{All, slice_get}
 use Rattle.std.specs.Option.{option_map}
 use Rattle.std.proofs.lemmas.List.{take-append-drop, length-map}
-use Rattle.std.proofs.lemmas.List.Elements.{All-get_or}
+use Rattle.std.proofs.lemmas.List.Elements.{All-get_or, All-weaker}
 use Rattle.std.proofs.lemmas.Option.{slice_get-map, slice_get_within, get_or_from_slice_get}
 use Rattle.std.proofs.lemmas.Bool.{cases_eq, cases_lt}
 use Rattle.nf_base.proofs.Mixes.{got_set}
 use Rattle.nf_files.specs.Told.{Told}
 use Rattle.nf_files.specs.Pieces.{Gains}
 use Rattle.nf_files.specs.Writes.{Writes}
-use Rattle.packet_feed.specs.Told.{IsApart}
+use Rattle.packet_feed.specs.Told.{IsApart, KeepsOthers}
 use Rattle.run_history.specs.declared.line.Mode.{Mode}
 use Rattle.stream_run.specs.Runs.{Handled}
 use Rattle.stream_run.specs.Texts.{bytes_of, piece, IsFrontOf}
-use Rattle.stream_run.specs.Writing.{Holding, Holds, IsFrontIfTold, KeepsOther, KeepsAllBut, files_of}
+use Rattle.stream_run.specs.Writing.{Holding, Holds, IsFrontIfTold, KeepsOther, KeepsAllBut, KeepsBut, files_of}
 use Rattle.stream_run.proofs.Bytes.{bytes_more}
 
 -- ---- one file
@@ -148,3 +148,34 @@ empty_more sinks k new_s none h j s lt e = elim (got_set sinks k j new_s s e) [
   | inl here ↦ subst (λ (t : Holding). length t.held ≡ 0) here.1 none
   | inr there ↦ h j s (omega (arith, there.0)) there.1
 ]
+
+-- ---- nothing else changes
+
+pub but_none : (files : List ℕ) (told : Told) → KeepsBut files told told
+but_none files told = record { givens = λ g others. refl; names = λ g. refl; contents = λ n others. refl; latest_same = λ n. refl; next_same = refl }
+
+named_still : (files : List ℕ) (old now : Told) (n : List ℕ) → ((g : ℕ) → now.name g ≡ old.name g) → All (λ (f : ℕ). old.name f ≢ Some n) files → All (λ (f : ℕ). now.name f ≢ Some n) files
+named_still files old now n same h = All-weaker (λ (f : ℕ). old.name f ≢ Some n) (λ (f : ℕ). now.name f ≢ Some n) (λ f ne is. ne (sym (same f) ∙ is)) files h
+
+pub but_both : (files : List ℕ) (old now new : Told) → KeepsBut files old now → KeepsBut files now new → KeepsBut files old new
+but_both files old now new h k = record {
+  givens = λ g others. k.givens g others ∙ h.givens g others;
+  names = λ g. k.names g ∙ h.names g;
+  contents = λ n others. k.contents n (named_still files old now n h.names others) ∙ h.contents n others;
+  latest_same = λ n. k.latest_same n ∙ h.latest_same n;
+  next_same = k.next_same ∙ h.next_same;
+}
+
+pub but_read : (files captures : List ℕ) (old new : Told) → KeepsOthers captures old new → KeepsBut files old new
+but_read files captures old new k = record { givens = λ g others. k.givens g; names = k.names; contents = λ n others. k.contents n; latest_same = k.latest_same; next_same = k.next_same }
+
+pub but_written : (files all : List ℕ) (old new : Told) → all ≡ files → KeepsAllBut all old new → KeepsBut files old new
+but_written files all old new same k = subst (λ (fs : List ℕ). KeepsBut fs old new) same (record { givens = k.givens; names = k.names; contents = k.contents; latest_same = k.latest_same; next_same = k.next_same })
+
+-- captures were read on
+pub read_on : (files captures : List ℕ) (start old new : Told) → KeepsBut files start old → KeepsOthers captures old new → KeepsBut files start new
+read_on files captures start old new h k = but_both files start old new h (but_read files captures old new k)
+
+-- captures were read on, and files written
+pub written_on : (files all captures : List ℕ) (start old read new : Told) → all ≡ files → KeepsBut files start old → KeepsOthers captures old read → KeepsAllBut all read new → KeepsBut files start new
+written_on files all captures start old read new same h k w = but_both files start read new (read_on files captures start old read h k) (but_written files all read new same w)

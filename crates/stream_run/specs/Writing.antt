@@ -85,3 +85,12 @@ AllGoOn mode workers ports hs told sinks (Err e) = AreFronts mode workers ports 
 -- nothing is held
 abbrev pub AreEmpty : List Holding → Type 0
 AreEmpty sinks = (k : ℕ) (s : Holding) → slice_get sinks k ≡ Some s → length s.held ≡ 0
+
+-- Nothing changed but what is left of files that are read, what was given to some files, and what
+-- stands under their names.
+pub record KeepsBut (files : List ℕ) (old new : Told) : Type 0 where
+  pub givens : (g : ℕ) → All (λ f. f ≢ g) files → new.given g ≡ old.given g
+  pub names : (g : ℕ) → new.name g ≡ old.name g
+  pub contents : (n : List ℕ) → All (λ f. old.name f ≢ Some n) files → new.content n ≡ old.content n
+  pub latest_same : (n : List ℕ) → new.latest n ≡ old.latest n
+  pub next_same : new.next ≡ old.next

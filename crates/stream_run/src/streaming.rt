@@ -7,7 +7,7 @@ ghost use Rattle.packet_feed.specs.Told.{EachFile, IsApart};
 ghost use Rattle.packet_feed.specs.Sources.{files_in};
 ghost use Rattle.run_history.specs.declared.line.Mode.TheVariants.{One};
 ghost use Rattle.stream_run.specs.Texts.{head};
-ghost use Rattle.stream_run.specs.Writing.{Holding, AreHeld, files_of, IsStopCause};
+ghost use Rattle.stream_run.specs.Writing.{Holding, AreHeld, files_of, KeepsBut, IsStopCause};
 ghost use Rattle.stream_run.specs.Lawful.{Runs, Flows, Streams};
 
 use crate::ending::Ending;
@@ -83,6 +83,7 @@ fn flow<F: Files>(
     ensures flows { Flows (function_of func.now) (length func.now.handlers)
         feed.old (F.told files.old) feed.new (F.told files.new)
         (files_of sinks.old) tables.new.state result }
+    ensures kept { KeepsBut (files_of sinks.old) (F.told files.old) (F.told files.new) }
     ensures cause { IsStopCause (F.counted files.old) (F.counted files.new) result }
 {
     let ending = match handle_all(files, func, tables, feed, captures, sinks) {
@@ -115,6 +116,7 @@ fn stream<F: Files>(
         AreHeld One 1 ports [] (F.told files.old) sinks.old }
     ensures streams { Streams (function_of func.now) (length func.now.handlers)
         feed.old (F.told files.old) feed.new (F.told files.new) (files_of sinks.old) result }
+    ensures kept { KeepsBut (files_of sinks.old) (F.told files.old) (F.told files.new) }
     ensures cause { IsStopCause (F.counted files.old) (F.counted files.new) result }
 {
     let mut tables = match Tables::new(alloc, func, Share { queue: 0, of: 1 }) {
@@ -162,6 +164,7 @@ pub fn run<F: Files>(
     // or each file holds a front of what such a run leaves there.
     ensures runs { Runs (function_of func.now) feed.old (F.told files.old)
         feed.new (F.told files.new) targets.now result }
+    ensures kept { KeepsBut targets.now (F.told files.old) (F.told files.new) }
     ensures cause { IsStopCause (F.counted files.old) (F.counted files.new) result }
 {
     let mut sinks = match sinks(alloc, func.handlers.len(), targets) {

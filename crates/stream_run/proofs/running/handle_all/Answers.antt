@@ -1,7 +1,9 @@
 use Rattle.std.proofs.Common.{◌∙◌, length, refl, sym, arith}
 use Rattle.nf_base.specs.Functions.{function_of}
 use Rattle.nf_engine.specs.View.{fixed_of}
-use Rattle.stream_run.proofs.Held.{same_length}
+use Rattle.packet_feed.specs.Sources.{files_in}
+use Rattle.stream_run.specs.Writing.{files_of}
+use Rattle.stream_run.proofs.Held.{same_length, but_none, read_on, written_on}
 use Rattle.stream_run.proofs.Reached.{reached_none, reached_more, ends_all, ends_early, halts_reading, halts_writing}
 use Rattle.stream_run.proofs.running.handle_all.Goals as goal
 
@@ -15,6 +17,7 @@ packets-init g c =
       within = omega (arith, c.requires.new);
       same = refl;
       same_files = refl;
+      kept = but_none (files_of c.args.sinks.now) (told c.args.files.now);
       reads = λ n r. r;
       writes = λ n r. r;
       count = refl;
@@ -53,6 +56,7 @@ packets-preserved g c =
       within = omega (arith, counts.0, counts.1, c.next.ensures.same_most);
       same = c.handle_one.ensures.same ∙ inv.same;
       same_files = c.handle_one.ensures.same_files ∙ inv.same_files;
+      kept = written_on (files_of c.args.sinks.now) (files_of c.packets.sinks) (files_in c.packets.feed.sources) (told c.args.files.now) (told c.packets.files) (told c.next.new.files) (told c.handle_one.new.files) inv.same_files inv.kept c.next.ensures.kept c.handle_one.ensures.kept;
       reads = λ n r. c.handle_one.ensures.reads n (c.next.ensures.reads n (inv.reads n r));
       writes = λ n r. c.handle_one.ensures.writes n (c.next.ensures.writes n (inv.writes n r));
       count = c.in-Ok.ensures.cause ∙ ok.cause ∙ inv.count;
@@ -74,3 +78,23 @@ returns-in-Err-clause-comes g c =
     let inv = c.packets.invariant in
     halts_reading (function_of c.args.func.now) (length c.args.func.now.handlers) c.args.feed.now (told c.args.files.now) c.packets.feed (told c.packets.files) (told c.next.new.files) c.packets.sinks c.packets.tables.state inv.reached
     (inv.captures ∙ sym c.requires.captures) (omega (arith, inv.within, inv.most)) c.next.ensures.kept.givens
+
+pub returns-in-Ok-End-clause-kept : goal.returns-in-Ok-End-clause-kept
+returns-in-Ok-End-clause-kept g c =
+    let told = g.F.Files.told in
+    read_on (files_of c.args.sinks.now) (files_in c.packets.feed.sources) (told c.args.files.now) (told c.packets.files) (told c.next.new.files) c.packets.invariant.kept c.next.ensures.kept
+
+pub returns-in-Ok-TooMany-clause-kept : goal.returns-in-Ok-TooMany-clause-kept
+returns-in-Ok-TooMany-clause-kept g c =
+    let told = g.F.Files.told in
+    read_on (files_of c.args.sinks.now) (files_in c.packets.feed.sources) (told c.args.files.now) (told c.packets.files) (told c.next.new.files) c.packets.invariant.kept c.next.ensures.kept
+
+pub returns-in-Err-clause-kept : goal.returns-in-Err-clause-kept
+returns-in-Err-clause-kept g c =
+    let told = g.F.Files.told in
+    read_on (files_of c.args.sinks.now) (files_in c.packets.feed.sources) (told c.args.files.now) (told c.packets.files) (told c.next.new.files) c.packets.invariant.kept c.next.ensures.kept
+
+pub returns-in-Err-handle_one-clause-kept : goal.returns-in-Err-handle_one-clause-kept
+returns-in-Err-handle_one-clause-kept g c =
+    let told = g.F.Files.told in
+    written_on (files_of c.args.sinks.now) (files_of c.packets.sinks) (files_in c.packets.feed.sources) (told c.args.files.now) (told c.packets.files) (told c.next.new.files) (told c.handle_one.new.files) c.packets.invariant.same_files c.packets.invariant.kept c.next.ensures.kept c.handle_one.ensures.kept

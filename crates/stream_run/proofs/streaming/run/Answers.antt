@@ -7,7 +7,8 @@ use Rattle.nf_base.specs.View.{block_of}
 use Rattle.nf_base.specs.Functions.{function_of}
 use Rattle.run_history.specs.declared.line.Mode.TheVariants.{One}
 use Rattle.stream_run.specs.Texts.{head}
-use Rattle.stream_run.specs.Writing.{Holding}
+use Rattle.stream_run.specs.Writing.{Holding, KeepsBut}
+use Rattle.stream_run.proofs.Held.{but_none}
 use Rattle.stream_run.specs.Lawful.{Streams}
 use Rattle.stream_run.proofs.Complete.{is_run_at, cut_short_at, halts_none, heads_held}
 use Rattle.stream_run.proofs.streaming.run.Goals as goal
@@ -38,3 +39,11 @@ returns-clause-runs g c =
     let ports = ap (λ (t : List ℕ). length t) c.requires.captures ∙ c.requires.ports in
     is_run_at f (length c.args.func.now.handlers) c.args.feed.now (told c.args.files.now) c.stream.new.feed (told c.stream.new.files) c.args.targets.now c.stream.result (counted c.args.func.now) ports
     (subst (λ (fs : List ℕ). Streams f (length c.args.func.now.handlers) c.args.feed.now (told c.args.files.now) c.stream.new.feed (told c.stream.new.files) fs c.stream.result) c.in-Ok.ensures.files c.stream.ensures.streams)
+
+pub returns-in-Err-clause-kept : goal.returns-in-Err-clause-kept
+returns-in-Err-clause-kept g c = but_none c.args.targets.now (g.F.Files.told c.args.files.now)
+
+pub returns-clause-kept : goal.returns-clause-kept
+returns-clause-kept g c =
+    let told = g.F.Files.told in
+    subst (λ (fs : List ℕ). KeepsBut fs (told c.args.files.now) (told c.stream.new.files)) c.in-Ok.ensures.files c.stream.ensures.kept
