@@ -1,14 +1,12 @@
 -- Whole runs: what was handled is one lawful run, or the front of one.
 use Rattle.std.proofs.Common.{◌≡◌, ℕ, zero, suc, ◌+◌, ◌-◌, ◌≤◌, ◌<◌, List, [], ◌∷◌, ◌++◌, length, map, take, Option, Some, None, Result, Ok, Err, ◌⊎◌, inl, inr, refl, sym, ap, ◌∙◌, subst, append-nil, zero-add, arith}
-use Rattle.std.specs.List.{All, AllByRecursion, slice_get}
-use Rattle.std.specs.List.Sorted.{IsPermutation}
+use Rattle.std.specs.List.{AllByRecursion, slice_get}
 use Rattle.std.proofs.lemmas.List.{map-append, length-map, take_all, take_at, nil_from_length}
 use Rattle.std.proofs.lemmas.List.Elements.{All-from_recursion, recursion_from_All}
 use Rattle.std.proofs.lemmas.List.Sorted.{All-permutation}
 use Rattle.nf_base.specs.Text.{Function}
 use Rattle.nf_base.specs.Step.{opening}
-use Rattle.nf_base.specs.Runs.{Handling, RunResult, run}
-use Rattle.nf_base.specs.declared.done.Done.{Done}
+use Rattle.nf_base.specs.Runs.{Handling, run}
 use Rattle.nf_base.specs.declared.state.State.{State}
 use Rattle.nf_laws.specs.Steps.{HasHandler, handles}
 use Rattle.nf_files.specs.Told.{Told, IsToldAs, IsEmptyIfTold}
@@ -16,7 +14,7 @@ use Rattle.packet_feed.specs.Arrivals.{Arrival}
 use Rattle.packet_feed.specs.Order.{in_order}
 use Rattle.packet_feed.specs.Told.{packets_of}
 use Rattle.packet_feed.specs.Sources.{files_in}
-use Rattle.packet_feed.specs.Feeding.{Feeding, StandsFor, AreAll, HasMore}
+use Rattle.packet_feed.specs.Feeding.{Feeding, AreAll, HasMore}
 use Rattle.packet_feed.proofs.Ordering.{is_ordered}
 use Rattle.packet_feed.proofs.Gathering.{AllIn}
 use Rattle.packet_feed.proofs.Standing.{all_ports}
@@ -25,11 +23,11 @@ use Rattle.stream_run.specs.declared.ending.Ending.{Ending}
 use Rattle.stream_run.specs.declared.ending.Ending.TheVariants as ending
 use Rattle.stream_run.specs.declared.ran.Ran.{Ran}
 use Rattle.stream_run.specs.declared.stop.Stop.{Stop}
-use Rattle.stream_run.specs.Runs.{Run, Turn, Handled, IsLegal, course_of, arrival_in, handling_of, turn_of, run_of, handled_in, paired, longer}
-use Rattle.stream_run.specs.Texts.{file_bytes, bytes_of, head, IsFrontOf}
+use Rattle.stream_run.specs.Runs.{Turn, Handled, course_of, arrival_in, handling_of, turn_of, run_of, handled_in, paired, longer}
+use Rattle.stream_run.specs.Texts.{file_bytes, bytes_of, head}
 use Rattle.stream_run.specs.Writing.{Holding, Holds, IsFrontIfTold, files_of, AreHeld, AreFronts, AreEmpty}
-use Rattle.stream_run.specs.Streaming.{IsUndivided, handling_in, result_in, arrival_of, AreFirst, IsEnding, Halts, Ends, Reaches}
-use Rattle.stream_run.specs.Lawful.{AreTheFirst, IsOneRun, EndsSo, IsFinished, HoldsFronts, IsCutShort, Runs, Finishes, Flows, Streams}
+use Rattle.stream_run.specs.Streaming.{IsUndivided, handling_in, result_in, arrival_of, AreFirst, IsEnding, Halts, Ends}
+use Rattle.stream_run.specs.Lawful.{AreTheFirst, IsOneRun, EndsSo, IsFinished, HoldsFronts, IsCutShort, Runs, Finishes, Streams}
 use Rattle.stream_run.proofs.Going.{go_on, handled_is}
 use Rattle.stream_run.proofs.Bytes.{bytes_none, only_grow}
 use Rattle.stream_run.proofs.Held.{front_all, front_longer, stays_in, file_at}

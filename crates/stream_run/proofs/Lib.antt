@@ -4,3 +4,4 @@ pub mod Edited
 pub mod Held
 pub mod Reached
 pub mod Complete
+pub mod Journals

@@ -1,6 +1,6 @@
 -- A run that goes on packet by packet: what was reached, and where it stops.
 use Rattle.std.proofs.Common.{◌≡◌, ℕ, ◌+◌, ◌≤◌, ◌<◌, List, [], ◌∷◌, ◌++◌, length, map, Option, Some, None, Ok, Err, option_and_then, refl, sym, ap, ◌∙◌, subst, arith}
-use Rattle.std.specs.List.{AllByRecursion, slice_get}
+use Rattle.std.specs.List.{AllByRecursion}
 use Rattle.std.proofs.lemmas.List.{map-append, length-map, length-append}
 use Rattle.std.proofs.lemmas.Option.{same_Some}
 use Rattle.nf_base.specs.Text.{Function}
@@ -21,8 +21,8 @@ use Rattle.stream_run.specs.declared.stop.Stop.{Stop}
 use Rattle.stream_run.specs.declared.ending.Ending.TheVariants.{All, TooMany}
 use Rattle.stream_run.specs.Runs.{Handled}
 use Rattle.stream_run.specs.Texts.{bytes_of}
-use Rattle.stream_run.specs.Writing.{Holding, Holds, IsFrontIfTold, came_to, files_of, AreHeld, AreFronts}
-use Rattle.stream_run.specs.Streaming.{arrival_of, handling_in, result_in, IsUndivided, HandlesOne, Reaches, Halts, Ends, AreFirst, IsEnding}
+use Rattle.stream_run.specs.Writing.{Holding, Holds, IsFrontIfTold, came_to, files_of, AreHeld}
+use Rattle.stream_run.specs.Streaming.{arrival_of, handling_in, result_in, IsUndivided, HandlesOne, Reaches, Halts, Ends, AreFirst}
 use Rattle.stream_run.proofs.Held.{front_all, stays_in}
 
 -- ---- one packet more

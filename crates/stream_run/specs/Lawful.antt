@@ -3,7 +3,6 @@ use Rattle.std.specs.Prelude.{◌≡◌, ◌≤◌, ℕ, List, [], length, map, 
 use Rattle.std.specs.List.{AllByRecursion}
 use Rattle.nf_base.specs.Text.{Function}
 use Rattle.nf_base.specs.declared.done.Done.{Done}
-use Rattle.nf_base.specs.Runs.{RunResult}
 use Rattle.nf_base.specs.declared.state.State.{State}
 use Rattle.nf_files.specs.Told.{Told, IsToldAs}
 use Rattle.packet_feed.specs.Arrivals.{Arrival}

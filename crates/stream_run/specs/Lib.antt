@@ -5,3 +5,4 @@ pub mod Stops
 pub mod Writing
 pub mod Streaming
 pub mod Lawful
+pub mod Journals

@@ -1,6 +1,7 @@
 //! Laws of runs.
 //!
 //! Each function's contract is a law; its body does nothing.
+ghost use Rattle.stream_run.specs.Journals.{JournalsAreOne};
 ghost use Rattle.stream_run.specs.Laws.{LegalRunsGoOn, FilesOnlyGrow, OutputsAreCaptures, JournalsAreLines, HandledAreTurns};
 
 /// From any legal run, further packets of the function's ports can be handled.
@@ -23,4 +24,10 @@ pub fn files_are_of_packets()
 /// A legal run handles each packet, with the choices that were made for it.
 pub fn handled_are_turns()
     ensures { HandledAreTurns }
+{}
+
+/// A journal's bytes determine the mode, the number of workers, and each packet's number, worker, action
+/// and choices.
+pub fn journals_are_one()
+    ensures { JournalsAreOne }
 {}

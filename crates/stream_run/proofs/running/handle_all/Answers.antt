@@ -1,6 +1,5 @@
 use Rattle.std.proofs.Common.{◌∙◌, length, refl, sym, arith}
 use Rattle.nf_base.specs.Functions.{function_of}
-use Rattle.nf_engine.specs.View.{fixed_of}
 use Rattle.packet_feed.specs.Sources.{files_in}
 use Rattle.stream_run.specs.Writing.{files_of}
 use Rattle.stream_run.proofs.Held.{same_length, but_none, read_on, written_on}

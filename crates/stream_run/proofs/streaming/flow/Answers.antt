@@ -1,4 +1,4 @@
-use Rattle.std.proofs.Common.{◌∙◌, ℕ, List, length, sym, ap}
+use Rattle.std.proofs.Common.{◌∙◌, ℕ, List, length, ap}
 use Rattle.std.specs.List.{slice_get}
 use Rattle.nf_base.specs.Functions.{function_of}
 use Rattle.run_history.specs.declared.line.Mode.TheVariants.{One}
