@@ -1,0 +1,126 @@
+//! What captures in memory give, from the first packet to the end.
+ghost use Rattle.std.specs.Prelude.{◌≤◌, length};
+ghost use Rattle.packet_feed.specs.Told.{EachFile};
+ghost use Rattle.packet_feed.specs.Sources.{files_in};
+
+use crate::calls::{last, next, open_all, start, torn};
+use nf_base::packet::Packet;
+use nf_files::{Files, MemoryFiles};
+use packet_feed::{Fed, Feed, FeedFault};
+use std::alloc::{AllocError, Global};
+
+/// What is shown of a packet.
+#[derive(Clone, Copy, Debug, PartialEq, Eq)]
+pub struct Line {
+    pub time: u64,
+    pub port: u32,
+    pub seq: u32,
+    /// The first captured byte of its frame, and how many were captured.
+    pub byte: u8,
+    pub captured: usize,
+    pub original: u32,
+    pub handled: bool,
+}
+
+/// How it ended.
+#[derive(Clone, Copy, Debug, PartialEq, Eq)]
+pub enum End {
+    End,
+    TooMany,
+    /// A capture could not be opened.
+    Unopened,
+    Unstarted(FeedFault),
+    Fault(FeedFault),
+    /// It didn't end.
+    Never,
+}
+
+#[derive(Drop)]
+pub struct Story {
+    pub lines: Vec<Line>,
+    pub end: End,
+    pub torn: Option<(u32, u64)>,
+}
+
+/// The names of the captures, by port.
+const NAMES: [&str; 4] = ["0", "1", "2", "3"];
+
+/// The packets of captures, of which there are at most four; the calls on files that are listed fail.
+pub fn read_all(
+    alloc: Global,
+    captures: &[Vec<u8>],
+    fails: &[u64],
+    most: u32,
+) -> Result<Story, AllocError> {
+    let mut files = MemoryFiles::new(alloc, Vec::from_slice(alloc, fails)?);
+    let count = captures.len().min(4);
+    for (name, bytes) in NAMES.iter().zip(captures) {
+        files.put(name, bytes.as_slice())?;
+    }
+    let mut told = Story {
+        lines: Vec::new(alloc),
+        end: End::Never,
+        torn: None,
+    };
+    read_from(alloc, &mut files, &NAMES[..count], most, &mut told)?;
+    Ok(told)
+}
+
+/// The same of any files.
+fn read_from<F: Files>(
+    alloc: Global,
+    files: &mut F,
+    names: &[&str],
+    most: u32,
+    told: &mut Story,
+) -> Result<(), AllocError>
+    requires { length names.now ≤ 4 }
+{
+    match open_all(alloc, files, names) {
+        Err(_) => told.end = End::Unopened,
+        Ok(opened) => match start(alloc, files, opened.as_slice(), most) {
+            Err(fault) => told.end = End::Unstarted(fault),
+            Ok(mut feed) => tell(&mut feed, files, told)?,
+        },
+    }
+    Ok(())
+}
+
+/// A line of a packet that was given.
+fn shown(feed: &Feed, packet: &Packet) -> Line {
+    let (frame, original) = last(feed);
+    Line {
+        time: packet.time,
+        port: packet.id.port,
+        seq: packet.id.seq,
+        byte: frame.first().copied().unwrap_or(0),
+        captured: frame.len(),
+        original,
+        handled: packet.fields.is_some(),
+    }
+}
+
+/// Tells packets until the end.
+fn tell<F: Files>(feed: &mut Feed, files: &mut F, told: &mut Story) -> Result<(), AllocError>
+    requires { EachFile (F.is_read files.old) (files_in feed.old.sources) }
+{
+    for _ in 0..1000 {
+        match next(feed, files) {
+            Ok(Fed::Packet(packet)) => told.lines.push(shown(feed, &packet))?,
+            Ok(Fed::End) => {
+                told.end = End::End;
+                told.torn = torn(feed);
+                return Ok(());
+            }
+            Ok(Fed::TooMany) => {
+                told.end = End::TooMany;
+                return Ok(());
+            }
+            Err(fault) => {
+                told.end = End::Fault(fault);
+                return Ok(());
+            }
+        }
+    }
+    Ok(())
+}

@@ -1,0 +1,150 @@
+-- The next packet of captures, the end, and more packets than were asked for.
+use Rattle.std.proofs.Common.{◌≡◌, ℕ, zero, suc, ◌+◌, ◌≤◌, ◌<◌, List, [], ◌∷◌, ◌++◌, length, set, Option, Some, None, refl, sym, ap, ◌∙◌, subst, append-nil, arith}
+use Rattle.std.specs.List.{All, slice_get}
+use Rattle.std.specs.Option.{option_map}
+use Rattle.std.proofs.lemmas.List.{length-set, length-append, get_or-set_same, map-set}
+use Rattle.std.proofs.lemmas.List.Elements.{All-weaker, All-set}
+use Rattle.std.proofs.lemmas.List.Sorted.{length_permutation}
+use Rattle.std.proofs.lemmas.Option.{slice_get-get_or, slice_get-map, slice_get_within}
+use Rattle.nf_base.specs.declared.packet.Packet.{Packet}
+use Rattle.nf_files.specs.Told.{Told}
+use Rattle.pcap_file.specs.Capture.{Capture}
+use Rattle.frame_ip.specs.Frame.{fields_in}
+use Rattle.packet_feed.specs.declared.ahead.Ahead.{Ahead}
+use Rattle.packet_feed.specs.declared.ahead.Ahead.TheVariants.{Unread, Held, Ended, Torn}
+use Rattle.packet_feed.specs.declared.first.First.{First}
+use Rattle.packet_feed.specs.Arrivals.{Arrival, arrival_of}
+use Rattle.packet_feed.specs.Order.{in_order}
+use Rattle.packet_feed.specs.Told.{packets_of, IsTear, IsApart}
+use Rattle.packet_feed.specs.Streams.{Stream, last_read, tear_in, time_in, IsSettled, unread}
+use Rattle.packet_feed.specs.Sources.{files_in, counts_in, all_left, Follows, SourcesStand, AreSettled, IsFirst, IsGiven, given_away}
+use Rattle.packet_feed.specs.Feeding.{IsFeeding, StandsFor, HasMore, AreAll, AreTorn, IsShown, shown, frame_in, original_in}
+use Rattle.packet_feed.proofs.Ordering.{IsBehind, is_ordered}
+use Rattle.packet_feed.proofs.Gathering.{Picks, map_kept}
+use Rattle.packet_feed.proofs.Streaming.{came_in}
+use Rattle.packet_feed.proofs.Standing.{given_stands, first_picked, all_given, at_file, same_length, none_left_at}
+
+-- ---- a packet
+
+came_from : (port seq time original : ℕ) (frame : List ℕ) → (arrival_of port seq time original frame).packet.fields ≡ fields_in frame original
+unfolding arrival_of
+came_from port seq time original frame = refl
+
+arrival_is : (packet : Packet) (port seq time original : ℕ) (frame : List ℕ) → packet ≡ (arrival_of port seq time original frame).packet → record { packet = packet; original = original; frame = frame } ≡ arrival_of port seq time original frame
+unfolding arrival_of
+arrival_is packet port seq time original frame e = ap (λ (p : Packet). let a : Arrival = record { packet = p; original = original; frame = frame } in a) e
+
+got_same : (sources : List Stream) (k : ℕ) (s : Stream) → k < length sources → slice_get (set sources k s) k ≡ Some s
+got_same sources k s lt = slice_get-get_or (set sources k s) k s (omega (arith, length-set sources k s)) ∙ ap (λ (x : Stream). Some x) (get_or-set_same sources k s s lt)
+
+-- what is shown of the packet that was given
+record IsSeen (k : ℕ) (packet : Packet) (s : Stream) (new : List Stream) : Type 0 where
+  pub at : slice_get new k ≡ Some (given_away s)
+  pub frame : frame_in (slice_get new k) ≡ s.frame
+  pub original : original_in (slice_get new k) ≡ s.original
+
+seen : (k : ℕ) (packet : Packet) (sources new : List Stream) (h : IsGiven k packet sources new) → IsSeen k packet h.source new
+seen k packet sources new h =
+    let at : slice_get new k ≡ Some (given_away h.source) = ap (λ (xs : List Stream). slice_get xs k) h.new_is ∙ got_same sources k (given_away h.source) (slice_get_within sources k h.source h.at) in
+    record { at = at; frame = ap frame_in at; original = ap original_in at }
+
+shown_is : (k count most : ℕ) (packet : Packet) (sources new : List Stream) (h : IsGiven k packet sources new) → shown packet (record { sources = new; shown = k; given = count; most = most }) ≡ last_read k h.source
+shown_is k count most packet sources new h =
+    let s = h.source in
+    let see = seen k packet sources new h in
+    let here : (original : ℕ) (frame : List ℕ) → original ≡ s.original → frame ≡ s.frame → record { packet = packet; original = original; frame = frame } ≡ last_read k s =
+    λ original frame e f. rw (e, f) (arrival_is packet k s.seq s.latest s.original s.frame h.packet_is) in
+    here (original_in (slice_get new k)) (frame_in (slice_get new k)) see.original see.frame
+
+pub next_stands : (start : Told) (given : List Arrival) (now : Told) (k time count most : ℕ) (packet : Packet) (sources new : List Stream) → IsGiven k packet sources new → AreSettled sources
+    → IsFirst sources (length sources) (Some (record { port = k; time = time })) → length given ≡ count → SourcesStand start given sources now
+    → StandsFor start (given ++ shown packet (record { sources = new; shown = k; given = count + 1; most = most }) ∷ []) (record { sources = new; shown = k; given = count + 1; most = most }) now
+next_stands start given now k time count most packet sources new h settled first long stands =
+    let s = h.source in
+    let a = shown packet (record { sources = new; shown = k; given = count + 1; most = most }) in
+    record {
+      count = omega (arith, length-append given (a ∷ []), long);
+      sources =
+          subst (λ (x : Arrival). SourcesStand start (given ++ x ∷ []) new now) (sym (shown_is k (count + 1) most packet sources new h))
+          (subst (λ (xs : List Stream). SourcesStand start (given ++ last_read k s ∷ []) xs now) (sym h.new_is) (given_stands start given now sources k time s h.at settled first stands));
+    }
+
+pub next_shown : (k count most : ℕ) (packet : Packet) (sources new : List Stream) → IsGiven k packet sources new → IsShown packet (record { sources = new; shown = k; given = count; most = most })
+next_shown k count most packet sources new h =
+    let s = h.source in
+    let see = seen k packet sources new h in
+    record {
+      port = ap (λ (p : Packet). p.id.port) h.packet_is ∙ came_in k s.seq s.latest s.original s.frame;
+      inside = slice_get_within new k (given_away s) see.at;
+      fields = ap (λ (p : Packet). p.fields) h.packet_is ∙ came_from k s.seq s.latest s.original s.frame ∙ rw (see.frame, see.original) refl;
+      time = h.time;
+      captured = omega (arith, ap (λ (xs : List ℕ). length xs) see.frame, h.captured);
+    }
+
+pub next_files : (k : ℕ) (packet : Packet) (sources new : List Stream) → IsGiven k packet sources new → files_in new ≡ files_in sources
+next_files k packet sources new h = ap files_in h.new_is ∙ map_kept (λ (x : Stream). x.reading.file) sources k h.source (given_away h.source) h.at refl
+
+pub next_feeding : (k : ℕ) (packet : Packet) (old sources new : List Stream) (given most : ℕ) → IsGiven k packet sources new → given < most → files_in sources ≡ files_in old → counts_in sources ≡ counts_in old → IsFeeding old given most → IsFeeding new (given + 1) most
+next_feeding k packet old sources new given most h lt files counts f =
+    let s = h.source in
+    let before : All (λ (count : ℕ). count ≤ given) (counts_in sources) = subst (All (λ (count : ℕ). count ≤ given)) (sym counts) f.counts in
+    let one : s.seq ≤ given = at_file (λ (count : ℕ). count ≤ given) (counts_in sources) k s.seq (slice_get-map (λ (x : Stream). x.seq) sources k ∙ ap (option_map (λ (x : Stream). x.seq)) h.at) before in
+    let more : All (λ (count : ℕ). count ≤ given + 1) (counts_in sources) = All-weaker (λ (count : ℕ). count ≤ given) (λ (count : ℕ). count ≤ given + 1) (λ count le. omega arith) (counts_in sources) before in
+    let is : counts_in new ≡ set (counts_in sources) k (s.seq + 1) = ap counts_in h.new_is ∙ map-set (λ (x : Stream). x.seq) sources k (given_away s) in
+    let all_files : files_in new ≡ files_in old = next_files k packet sources new h ∙ files in
+    record {
+      counts = subst (All (λ (count : ℕ). count ≤ given + 1)) (sym is) (All-set (λ (count : ℕ). count ≤ given + 1) (counts_in sources) k (s.seq + 1) (omega arith) more);
+      within = omega arith;
+      ports = omega (arith, same_length new old all_files, f.ports);
+      apart = subst (λ (fs : List ℕ). IsApart fs) (sym all_files) f.apart;
+    }
+
+-- ---- more packets than were asked for
+
+more_left : (all : Option (List Arrival)) (given : List Arrival) (a : Arrival) (x y : Option (List Arrival)) → Follows all given x → Picks (IsBehind a) a x y → HasMore all (length given)
+more_left None given a x y h k = tt
+more_left (Some all) given a None y h k = absurd h
+more_left (Some all) given a (Some x) None h k = absurd k
+more_left (Some all) given a (Some x) (Some y) h k =
+    let ordered = length_permutation all (in_order all) (is_ordered all).each_once in
+    let left = length_permutation x (in_order x) (is_ordered x).each_once in
+    let parts : length x ≡ length k.pre + length (a ∷ k.post) = ap (λ (t : List Arrival). length t) k.is ∙ length-append k.pre (a ∷ k.post) in
+    omega (arith, ap (λ (t : List Arrival). length t) h, length-append given (in_order x))
+
+pub has_more : (start : Told) (given : List Arrival) (now : Told) (sources : List Stream) (first : First) → AreSettled sources → IsFirst sources (length sources) (Some first) → (s : Stream) → slice_get sources first.port ≡ Some s
+    → SourcesStand start given sources now → HasMore (packets_of (files_in sources) start) (length given)
+has_more start given now sources first settled is s e h =
+    more_left (packets_of (files_in sources) start) given (last_read first.port s) (all_left sources now) (all_left (set sources first.port (given_away s)) now) h.order (first_picked now sources first.port first.time s e settled is)
+
+stream_at : (xs : List Stream) (p : ℕ) → p < length xs → (x : Stream) × (slice_get xs p ≡ Some x)
+stream_at [] p lt = absurd (omega arith)
+stream_at (x ∷ xs) zero lt = (x, refl)
+stream_at (x ∷ xs) (suc p) lt = stream_at xs p (omega arith)
+
+-- ---- the end
+
+all_are : (all : Option (List Arrival)) (given : List Arrival) (x : Option (List Arrival)) → x ≡ Some [] → Follows all given x → AreAll all given
+all_are None given x e h = tt
+all_are (Some all) given None e h = absurd h
+all_are (Some all) given (Some x) e h =
+    let none : x ≡ [] = cc in
+    h ∙ ap (λ (t : List Arrival). given ++ in_order t) none ∙ append-nil given
+
+pub are_all : (start : Told) (given : List Arrival) (now : Told) (sources : List Stream) → AreSettled sources → IsFirst sources (length sources) None → SourcesStand start given sources now → AreAll (packets_of (files_in sources) start) given
+are_all start given now sources settled none h = all_are (packets_of (files_in sources) start) given (all_left sources now) (all_given sources now settled none) h.order
+
+torn_ahead : (ahead : Ahead) (s : Stream) (rest : Option (List ℕ)) → IsSettled ahead → time_in ahead s.latest ≡ None → option_map (λ (c : Capture). c.torn) (unread ahead s.reading rest) ≡ Some (tear_in ahead)
+torn_ahead Unread s rest settled e = absurd settled
+torn_ahead Held s rest settled e = absurd cc
+torn_ahead Ended s rest settled e = refl
+torn_ahead (Torn offset) s rest settled e = refl
+
+pub are_torn : (start : Told) (given : List Arrival) (now : Told) (sources : List Stream) → AreSettled sources → IsFirst sources (length sources) None → SourcesStand start given sources now → AreTorn start sources
+are_torn start given now sources settled none h = λ port s e.
+    subst (IsTear (start.rest s.reading.file)) (torn_ahead s.ahead s (now.rest s.reading.file) (settled port s e) (none_left_at sources port s e none)) (h.each port s e).torn
+
+pub has_more_at : (start : Told) (given : List Arrival) (now : Told) (sources : List Stream) (first : First) → AreSettled sources → IsFirst sources (length sources) (Some first)
+    → SourcesStand start given sources now → HasMore (packets_of (files_in sources) start) (length given)
+has_more_at start given now sources first settled is h =
+    let found = stream_at sources first.port is.0 in
+    has_more start given now sources first settled is found.0 found.1 h

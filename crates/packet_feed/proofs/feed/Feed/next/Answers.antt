@@ -1,0 +1,48 @@
+use Rattle.std.proofs.Common.{◌∙◌, ◌+◌, sym, ap, subst, arith}
+use Rattle.packet_feed.specs.Feeding.{Feeding}
+use Rattle.packet_feed.specs.Sources.{SourcesStand, files_in}
+use Rattle.packet_feed.proofs.Nexts.{next_stands, next_shown, next_files, next_feeding, has_more_at, are_all, are_torn}
+use Rattle.packet_feed.proofs.feed.Feed.next.Goals as goal
+
+pub returns-then-self-clause-feeds : goal.returns-then-self-clause-feeds
+returns-then-self-clause-feeds g c = λ start given h.
+    let told = g.F.Files.told in
+    let ok = c.in_ok-fill_all.ensures in
+    let before : SourcesStand start given c.self.inside.sources (told c.args.files.now) = subst (λ (v : Feeding). SourcesStand start given v.sources (told c.args.files.now)) (sym c.self.view_is) h.sources in
+    let stands = ok.stand start given before in (
+      record { count = h.count ∙ ap (λ (v : Feeding). v.given) (sym c.self.view_is); sources = stands },
+      has_more_at start given (told c.fill_all.new.files) c.fill_all.new.sources c.in-Some.first ok.settled c.in-Some.ensures stands,
+    )
+
+pub invariant_of-self-in-Some : goal.invariant_of-self-in-Some
+invariant_of-self-in-Some g c =
+    next_feeding c.in-Some.first.port c.give-packet.result c.self.inside.sources c.fill_all.new.sources c.give-packet.new.sources c.self.inside.given c.self.inside.most c.give-packet.ensures (omega (arith, c.if-self.false)) c.fill_all.ensures.same_files c.fill_all.ensures.same_counts c.self.invariant
+
+pub returns-in-None-clause-feeds : goal.returns-in-None-clause-feeds
+returns-in-None-clause-feeds g c = λ start given h.
+    let told = g.F.Files.told in
+    let ok = c.in_ok-fill_all.ensures in
+    let before : SourcesStand start given c.self.inside.sources (told c.args.files.now) = subst (λ (v : Feeding). SourcesStand start given v.sources (told c.args.files.now)) (sym c.self.view_is) h.sources in
+    let stands = ok.stand start given before in (
+      record { count = h.count ∙ ap (λ (v : Feeding). v.given) (sym c.self.view_is); sources = stands },
+      are_all start given (told c.fill_all.new.files) c.fill_all.new.sources ok.settled c.in-None.ensures stands,
+      are_torn start given (told c.fill_all.new.files) c.fill_all.new.sources ok.settled c.in-None.ensures stands,
+    )
+
+pub returns-else-self-clause-feeds : goal.returns-else-self-clause-feeds
+returns-else-self-clause-feeds g c = λ start given h.
+    let told = g.F.Files.told in
+    let ok = c.in_ok-fill_all.ensures in
+    let before : SourcesStand start given c.self.inside.sources (told c.args.files.now) = subst (λ (v : Feeding). SourcesStand start given v.sources (told c.args.files.now)) (sym c.self.view_is) h.sources in
+    next_stands start given (told c.fill_all.new.files) c.in-Some.first.port c.in-Some.first.time c.self.inside.given c.self.inside.most c.give-packet.result c.fill_all.new.sources c.give-packet.new.sources c.give-packet.ensures ok.settled c.in-Some.ensures
+    (h.count ∙ ap (λ (v : Feeding). v.given) (sym c.self.view_is)) (ok.stand start given before)
+
+pub returns-else-self-clause-counts : goal.returns-else-self-clause-counts
+returns-else-self-clause-counts g c =
+    let given = ap (λ (v : Feeding). v.given) c.self.view_is in
+    let most = ap (λ (v : Feeding). v.most) c.self.view_is in
+    (omega arith, omega (arith, c.if-self.false), next_shown c.in-Some.first.port (c.self.inside.given + 1) c.self.inside.most c.give-packet.result c.fill_all.new.sources c.give-packet.new.sources c.give-packet.ensures)
+
+pub returns-else-self-clause-same_files : goal.returns-else-self-clause-same_files
+returns-else-self-clause-same_files g c =
+    next_files c.in-Some.first.port c.give-packet.result c.fill_all.new.sources c.give-packet.new.sources c.give-packet.ensures ∙ c.fill_all.ensures.same_files ∙ ap (λ (v : Feeding). files_in v.sources) c.self.view_is

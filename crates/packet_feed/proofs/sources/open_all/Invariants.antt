@@ -1,0 +1,14 @@
+use Rattle.std.proofs.Common.{◌≡◌, ℕ}
+use Rattle.packet_feed.proofs.Starting.{AreOpenedSoFar}
+use Rattle.packet_feed.proofs.sources.open_all.Given as goal
+
+-- the headers so far were read
+abbrev pub invariant-loop-port : goal.invariant-loop-port
+invariant-loop-port g l =
+    let told = g.F.Files.told in
+    record {
+      opened : AreOpenedSoFar l.captures l.port (told l.fn.files) l.sources (told l.files);
+      reads : (h : ℕ) → g.F.Files.is_read l.fn.files h → g.F.Files.is_read l.files h;
+      writes : (h : ℕ) → g.F.Files.is_written l.fn.files h → g.F.Files.is_written l.files h;
+      count : g.F.Files.counted l.files ≡ g.F.Files.counted l.fn.files;
+    }

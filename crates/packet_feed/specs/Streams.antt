@@ -1,0 +1,69 @@
+-- A capture that is read as a stream: what was given of it, what was read ahead, and what is left.
+use Rattle.std.specs.Prelude.{ℕ, ◌+◌, List, [], ◌∷◌, Option, Some, None, option_map}
+use Rattle.pcap_file.specs.declared.form.Form.{Form}
+use Rattle.pcap_file.specs.Capture.{Capture}
+use Rattle.pcap_file.specs.Reading.{Reading, left_in}
+use Rattle.packet_feed.specs.declared.ahead.Ahead.{Ahead}
+use Rattle.packet_feed.specs.declared.ahead.Ahead.TheVariants.{Unread, Held, Ended, Torn}
+use Rattle.packet_feed.specs.Arrivals.{Arrival, arrival_of, arrivals_from}
+
+-- a reader, what was read ahead, how many records were given, the latest time of the records that
+-- were read, and of the last one the original length and the captured bytes
+pub record Stream : Type 0 where
+  pub reading : Reading
+  pub ahead : Ahead
+  pub seq : ℕ
+  pub latest : ℕ
+  pub original : ℕ
+  pub frame : List ℕ
+
+-- a capture without records that is torn so
+abbrev pub none_left : Form → Option ℕ → Capture
+none_left form torn = record { form = form; records = []; torn = torn }
+
+-- what a capture comes to behind what was read of it, where the rest of its file is told
+abbrev pub unread : Ahead → Reading → Option (List ℕ) → Option Capture
+unread Unread r rest = left_in r.state r.form r.offset rest
+unread Held r rest = left_in r.state r.form r.offset rest
+unread Ended r rest = Some (none_left r.form None)
+unread (Torn offset) r rest = Some (none_left r.form (Some offset))
+
+-- the packet of the record that was read last, had it come in at a port
+abbrev pub last_read : ℕ → Stream → Arrival
+last_read port s = arrival_of port s.seq s.latest s.original s.frame
+
+-- the packets that are still to be given, where a capture is still to be read
+abbrev pub to_give : Ahead → ℕ → Stream → Capture → List Arrival
+to_give Held port s c = last_read port s ∷ arrivals_from port c.form.unit (s.seq + 1) s.latest c.records
+to_give Unread port s c = arrivals_from port c.form.unit s.seq s.latest c.records
+to_give Ended port s c = arrivals_from port c.form.unit s.seq s.latest c.records
+to_give (Torn offset) port s c = arrivals_from port c.form.unit s.seq s.latest c.records
+
+-- the same, where the rest of the file is told
+abbrev pub packets_left : ℕ → Stream → Option (List ℕ) → Option (List Arrival)
+packets_left port s rest = option_map (to_give s.ahead port s) (unread s.ahead s.reading rest)
+
+-- where the capture is torn behind what was read of it
+abbrev pub tear_left : Stream → Option (List ℕ) → Option (Option ℕ)
+tear_left s rest = option_map (λ c. c.torn) (unread s.ahead s.reading rest)
+
+-- It is known what comes next.
+abbrev pub IsSettled : Ahead → Type 0
+IsSettled Unread = ⊥
+IsSettled Held = Unit {0}
+IsSettled Ended = Unit {0}
+IsSettled (Torn offset) = Unit {0}
+
+-- where a capture was found to be torn
+abbrev pub tear_in : Ahead → Option ℕ
+tear_in Unread = None
+tear_in Held = None
+tear_in Ended = None
+tear_in (Torn offset) = Some offset
+
+-- the time of the record that was read ahead, if one was
+abbrev pub time_in : Ahead → ℕ → Option ℕ
+time_in Unread latest = None
+time_in Held latest = Some latest
+time_in Ended latest = None
+time_in (Torn offset) latest = None

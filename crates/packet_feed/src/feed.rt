@@ -1,0 +1,160 @@
+//! The packets of captures in capture order.
+ghost use Rattle.std.specs.Prelude.{◌≡◌, ◌^◌, ◌<◌, ◌≤◌, ◌+◌, ℕ, List, [], length, OnErr};
+ghost use Rattle.nf_files.specs.Told.{Told};
+ghost use Rattle.pcap_file.specs.Record.{greatest_time};
+ghost use Rattle.packet_feed.specs.Arrivals.{Arrival};
+ghost use Rattle.packet_feed.specs.Order.{in_order, IsOrdered};
+ghost use Rattle.packet_feed.specs.Faults.{IsCause, IsNoHeaderFault};
+ghost use Rattle.packet_feed.specs.Told.{EachFile, IsApart, KeepsOthers};
+ghost use Rattle.packet_feed.specs.Streams.{last_read};
+ghost use Rattle.packet_feed.specs.Sources.{files_in};
+ghost use Rattle.packet_feed.specs.Feeding.{StandsFor, Starts, Feeds, Counts, frame_of, original_of, first_tear, tears_in};
+
+use crate::fault::FeedFault;
+use crate::fed::Fed;
+use crate::first::earliest;
+use crate::source::Source;
+use crate::sources::{fill_all, give, open_all, torn};
+use nf_base::seq::Seq;
+use nf_files::Files;
+use std::alloc::Global;
+use std::marker::Model;
+
+/// Captures, one a port, whose packets are given in capture order: least time first, ties by port,
+/// then in the order of the file.
+///
+/// A packet's time is the latest of its capture's records up to it, so that the times of a capture
+/// never fall. Of each capture the header, the records that were given and at most one record more
+/// were taken, and the memory of one record is held.
+#[derive(Drop)]
+pub struct Feed {
+    sources: Seq<Source>,
+    /// The port of the packet that was given last.
+    shown: usize,
+    given: u32,
+    most: u32,
+}
+
+impl Model for Feed {
+    ghost use Rattle.packet_feed.specs.Feeding.{Feeding, IsFeeding};
+
+    ghost Value = { Feeding };
+
+    ghost view = { λ f. record {
+      sources = f.sources;
+      shown = f.shown;
+      given = f.given;
+      most = f.most;
+    } };
+
+    ghost invariant = { λ f. IsFeeding f.sources f.given f.most };
+}
+
+impl Feed {
+    /// Reads the headers of captures, which were all opened to be read and of which nothing was read
+    /// yet; at most so many packets will be given.
+    ///
+    /// The capture at index `i` is that of port `i`. Nothing behind the headers is taken.
+    pub fn start<F: Files>(
+        alloc: Global,
+        files: &mut F,
+        captures: &[u32],
+        most: u32,
+    ) -> Result<Feed, FeedFault>
+        requires opened { EachFile (F.is_read files.old) captures.now }
+        // No file stands there twice.
+        requires apart { IsApart captures.now }
+        requires ports { length captures.now ≤ 2 ^ 32 }
+        // The feed stands for what the files hold, and for no packet; or this header is the first
+        // that is short or wrong.
+        ensures starts { Starts captures.now most (F.told files.old) (F.told files.new) result }
+        ensures kept { KeepsOthers captures.now (F.told files.old) (F.told files.new) }
+        ensures cause { IsCause (F.counted files.old) (F.counted files.new) captures.now result }
+        ensures reads { (g : ℕ) → F.is_read files.old g → F.is_read files.new g }
+        ensures writes { (g : ℕ) → F.is_written files.old g → F.is_written files.new g }
+        // The order in which packets are given is the capture order.
+        ensures ordered { (arrivals : List Arrival) → IsOrdered arrivals (in_order arrivals) }
+    {
+        let sources = open_all(alloc, files, captures)?;
+        Ok(Feed {
+            sources,
+            shown: 0,
+            given: 0,
+            most,
+        })
+    }
+
+    /// The next packet in capture order.
+    ///
+    /// `End` comes exactly where no whole record is left in any capture, and `TooMany` exactly where
+    /// one is and as many packets were given as were asked for. After an `Err` this feed may have
+    /// moved, and no call is to be made on it.
+    pub fn next<F: Files>(&mut self, files: &mut F) -> Result<Fed, FeedFault>
+        requires opened { EachFile (F.is_read files.old) (files_in self.old.sources) }
+        // Whatever bytes and packets the feed stood for, it stands for the same bytes, and for this
+        // packet behind them; or they are all, in capture order, and captures are torn as it tells;
+        // or there are more.
+        ensures feeds { (start : Told) → (given : List Arrival) →
+            StandsFor start given self.old (F.told files.old) →
+            Feeds start given self.new (F.told files.new) result }
+        ensures counts { Counts self.old self.new result }
+        ensures same_files { files_in self.new.sources ≡ files_in self.old.sources }
+        ensures same_most { self.new.most ≡ self.old.most }
+        ensures kept { let all = files_in self.old.sources in
+            KeepsOthers all (F.told files.old) (F.told files.new) }
+        ensures cause { let all = files_in self.old.sources in
+            IsCause (F.counted files.old) (F.counted files.new) all result }
+        ensures never { IsNoHeaderFault result }
+        ensures reads { (g : ℕ) → F.is_read files.old g → F.is_read files.new g }
+        ensures writes { (g : ℕ) → F.is_written files.old g → F.is_written files.new g }
+    {
+        fill_all(&mut self.sources, files)?;
+        match earliest(&self.sources) {
+            None => Ok(Fed::End),
+            Some(first) => {
+                if self.given >= self.most {
+                    return Ok(Fed::TooMany);
+                }
+                let packet = give(&mut self.sources, first);
+                self.shown = first.port;
+                self.given += 1;
+                Ok(Fed::Packet(packet))
+            }
+        }
+    }
+
+    /// How many packets were given.
+    pub fn given(&self) -> u32
+        ensures { result ≡ self.now.given }
+    {
+        self.given
+    }
+
+    /// The captured bytes of the packet that was given last.
+    pub fn frame(&self) -> &[u8]
+        ensures { result.now ≡ frame_of self.now }
+    {
+        match self.sources.as_slice().get(self.shown) {
+            Some(source) => source.frame(),
+            None => &[],
+        }
+    }
+
+    /// The length of its frame on the wire, in bytes.
+    pub fn original(&self) -> u32
+        ensures { result ≡ original_of self.now }
+    {
+        match self.sources.as_slice().get(self.shown) {
+            Some(source) => source.original(),
+            None => 0,
+        }
+    }
+
+    /// The least port whose capture was found to be torn, and the offset of the torn record there, in
+    /// bytes; after `End` that is each that is.
+    pub fn torn(&self) -> Option<(u32, u64)>
+        ensures { result ≡ first_tear 0 (tears_in self.now.sources) }
+    {
+        torn(&self.sources)
+    }
+}

@@ -1,0 +1,15 @@
+//! Packets of several captures that are read as streams, in the order in which they came.
+#![tactic(auto)]
+
+mod ahead;
+mod fault;
+mod fed;
+mod feed;
+mod first;
+mod source;
+mod sources;
+
+pub use ahead::Ahead;
+pub use fault::FeedFault;
+pub use fed::Fed;
+pub use feed::Feed;

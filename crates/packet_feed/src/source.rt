@@ -1,0 +1,184 @@
+//! One capture that is read as a stream.
+ghost use Rattle.std.specs.Prelude.{◌≡◌, ◌+◌, ◌-◌, ◌^◌, ◌<◌, ◌≤◌, ℕ, length, OnOk};
+ghost use Rattle.nf_files.specs.Reads.{Keeps};
+ghost use Rattle.pcap_file.specs.Causes.{IsCause, IsNoHeaderFault};
+ghost use Rattle.pcap_file.specs.Record.{greatest_time};
+ghost use Rattle.packet_feed.specs.declared.ahead.Ahead.TheVariants.{Unread, Held};
+ghost use Rattle.packet_feed.specs.Arrivals.{arrival_of};
+ghost use Rattle.packet_feed.specs.Streams.{tear_in, time_in, last_read};
+ghost use Rattle.packet_feed.specs.Sources.{Opens, IsFilled};
+
+use crate::ahead::Ahead;
+use frame_ip::fields_of;
+use nf_base::packet::{Packet, PacketId};
+use nf_files::Files;
+use pcap_file::{CapFault, Next, Reader};
+use std::alloc::Global;
+use std::marker::Model;
+
+/// A capture, and at most one record of it that was read and not yet given.
+#[derive(Drop)]
+pub(crate) struct Source {
+    reader: Reader,
+    ahead: Ahead,
+    /// How many records were given.
+    seq: u32,
+    /// The latest time of the records that were read, in nanoseconds.
+    latest: u64,
+    /// Of the record that was read last: the frame's length on the wire, and its captured bytes.
+    original: u32,
+    frame: Vec<u8>,
+}
+
+impl Model for Source {
+    ghost use Rattle.std.specs.Prelude.{◌≡◌, ◌≤◌, length};
+    ghost use Rattle.pcap_file.specs.Record.{greatest_time};
+    ghost use Rattle.packet_feed.specs.declared.ahead.Ahead.TheVariants.{Held};
+    ghost use Rattle.packet_feed.specs.Streams.{Stream};
+
+    ghost Value = { Stream };
+
+    ghost view = { λ s. record {
+      reading = s.reader;
+      ahead = s.ahead;
+      seq = s.seq;
+      latest = s.latest;
+      original = s.original;
+      frame = s.frame.items;
+    } };
+
+    ghost invariant = { λ s.
+        (s.latest ≤ greatest_time) × (s.ahead ≡ Held → length s.frame.items ≤ 262144) };
+}
+
+impl Source {
+    /// Reads the header of a capture.
+    pub(crate) fn open<F: Files>(
+        alloc: Global,
+        files: &mut F,
+        file: u32,
+    ) -> Result<Source, CapFault>
+        requires opened { F.is_read files.old file }
+        ensures opens { let before = (F.told files.old).rest file in
+            Opens file before ((F.told files.new).rest file) result }
+        ensures kept { Keeps (F.told files.old) (F.told files.new) file }
+        ensures cause { IsCause (F.counted files.old) (F.counted files.new) file result }
+        ensures reads { (g : ℕ) → F.is_read files.old g → F.is_read files.new g }
+        ensures writes { (g : ℕ) → F.is_written files.old g → F.is_written files.new g }
+    {
+        let reader = Reader::header(alloc, files, file)?;
+        Ok(Source {
+            reader,
+            ahead: Ahead::Unread,
+            seq: 0,
+            latest: 0,
+            original: 0,
+            frame: Vec::new(alloc),
+        })
+    }
+
+    /// Where the capture was found to be torn.
+    pub(crate) fn tear(&self) -> Option<u64>
+        ensures { result ≡ tear_in self.now.ahead }
+    {
+        match self.ahead {
+            Ahead::Torn(offset) => Some(offset),
+            _ => None,
+        }
+    }
+
+    /// The time of the record that was read ahead, if one was.
+    pub(crate) fn time(&self) -> Option<u64>
+        ensures { result ≡ time_in self.now.ahead self.now.latest }
+    {
+        match self.ahead {
+            Ahead::Held => Some(self.latest),
+            _ => None,
+        }
+    }
+
+    /// The captured bytes of the frame that was read last.
+    pub(crate) fn frame(&self) -> &[u8]
+        ensures { result.now ≡ self.now.frame }
+    {
+        self.frame.as_slice()
+    }
+
+    /// Its length on the wire.
+    pub(crate) fn original(&self) -> u32
+        ensures { result ≡ self.now.original }
+    {
+        self.original
+    }
+
+    // Reads the next record.
+    fn read<F: Files>(&mut self, files: &mut F) -> Result<(), CapFault>
+        requires opened { F.is_read files.old self.old.reading.file }
+        requires unread { self.old.ahead ≡ Unread }
+        ensures filled { let file = self.old.reading.file in
+            OnOk result (IsFilled self.old self.new
+            ((F.told files.old).rest file) ((F.told files.new).rest file)) }
+        ensures same_file { self.new.reading.file ≡ self.old.reading.file }
+        ensures same_count { self.new.seq ≡ self.old.seq }
+        ensures kept { Keeps (F.told files.old) (F.told files.new) self.old.reading.file }
+        ensures cause { let file = self.old.reading.file in
+            IsCause (F.counted files.old) (F.counted files.new) file result }
+        ensures never { IsNoHeaderFault result }
+        ensures reads { (g : ℕ) → F.is_read files.old g → F.is_read files.new g }
+        ensures writes { (g : ℕ) → F.is_written files.old g → F.is_written files.new g }
+    {
+        match self.reader.next(files, &mut self.frame)? {
+            Next::Frame(head) => {
+                self.latest = self.latest.max(head.time);
+                self.original = head.original;
+                self.ahead = Ahead::Held;
+            }
+            Next::End => self.ahead = Ahead::Ended,
+            Next::Torn(offset) => self.ahead = Ahead::Torn(offset),
+        }
+        Ok(())
+    }
+
+    /// Reads the next record, where it isn't known yet what comes next.
+    pub(crate) fn fill<F: Files>(&mut self, files: &mut F) -> Result<(), CapFault>
+        requires opened { F.is_read files.old self.old.reading.file }
+        ensures filled { let file = self.old.reading.file in
+            OnOk result (IsFilled self.old self.new
+            ((F.told files.old).rest file) ((F.told files.new).rest file)) }
+        ensures same_file { self.new.reading.file ≡ self.old.reading.file }
+        ensures same_count { self.new.seq ≡ self.old.seq }
+        ensures kept { Keeps (F.told files.old) (F.told files.new) self.old.reading.file }
+        ensures cause { let file = self.old.reading.file in
+            IsCause (F.counted files.old) (F.counted files.new) file result }
+        ensures never { IsNoHeaderFault result }
+        ensures reads { (g : ℕ) → F.is_read files.old g → F.is_read files.new g }
+        ensures writes { (g : ℕ) → F.is_written files.old g → F.is_written files.new g }
+    {
+        match self.ahead {
+            Ahead::Unread => self.read(files),
+            _ => Ok(()),
+        }
+    }
+
+    /// Gives the record that was read ahead, as the packet of a port.
+    pub(crate) fn give(&mut self, port: u32) -> Packet
+        requires held { self.old.ahead ≡ Held }
+        requires room { self.old.seq < 2 ^ 32 - 1 }
+        ensures packet { result ≡ (last_read port self.old).packet }
+        ensures given { self.new ≡ record self.old { ahead = Unread; seq = self.old.seq + 1 } }
+        ensures time { result.time ≤ greatest_time }
+        ensures captured { length self.old.frame ≤ 262144 }
+    {
+        let packet = Packet {
+            id: PacketId {
+                port,
+                seq: self.seq,
+            },
+            time: self.latest,
+            fields: fields_of(self.frame.as_slice(), self.original),
+        };
+        self.ahead = Ahead::Unread;
+        self.seq += 1;
+        packet
+    }
+}

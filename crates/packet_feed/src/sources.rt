@@ -1,0 +1,95 @@
+//! Captures that are read side by side.
+ghost use Rattle.std.specs.Prelude.{◌≡◌, ◌-◌, ◌^◌, ◌<◌, ◌≤◌, ℕ, List, length, OnOk, Some};
+ghost use Rattle.std.specs.List.{All};
+ghost use Rattle.nf_files.specs.Told.{Told};
+ghost use Rattle.packet_feed.specs.Arrivals.{Arrival};
+ghost use Rattle.packet_feed.specs.Faults.{IsCause, IsNoHeaderFault};
+ghost use Rattle.packet_feed.specs.Told.{EachFile, IsApart, KeepsOthers};
+ghost use Rattle.packet_feed.specs.Sources.{files_in, counts_in, SourcesStand, AreSettled, AreOpened, IsFirst, IsGiven};
+ghost use Rattle.packet_feed.specs.Feeding.{first_tear, tears_in};
+
+use crate::fault::FeedFault;
+use crate::first::First;
+use crate::source::Source;
+use nf_base::packet::Packet;
+use nf_base::seq::Seq;
+use nf_files::Files;
+use std::alloc::Global;
+
+/// Reads the headers of captures, in the order of their ports.
+pub(crate) fn open_all<F: Files>(
+    alloc: Global,
+    files: &mut F,
+    captures: &[u32],
+) -> Result<Seq<Source>, FeedFault>
+    requires opened { EachFile (F.is_read files.old) captures.now }
+    requires apart { IsApart captures.now }
+    requires ports { length captures.now ≤ 2 ^ 32 }
+    ensures opens { AreOpened captures.now (F.told files.old) (F.told files.new) result }
+    ensures kept { KeepsOthers captures.now (F.told files.old) (F.told files.new) }
+    ensures cause { IsCause (F.counted files.old) (F.counted files.new) captures.now result }
+    ensures reads { (g : ℕ) → F.is_read files.old g → F.is_read files.new g }
+    ensures writes { (g : ℕ) → F.is_written files.old g → F.is_written files.new g }
+{
+    let mut sources = Seq::new(alloc);
+    for (port, file) in captures.iter().enumerate() {
+        match Source::open(alloc, files, *file) {
+            Ok(source) => match sources.push(source) {
+                Ok(()) => {}
+                Err(_) => return Err(FeedFault::Memory),
+            },
+            Err(fault) => return Err(FeedFault::at(port as u32, fault)),
+        }
+    }
+    Ok(sources)
+}
+
+/// Reads the next record of each capture of which it isn't known yet what comes next.
+pub(crate) fn fill_all<F: Files>(sources: &mut Seq<Source>, files: &mut F) -> Result<(), FeedFault>
+    requires opened { EachFile (F.is_read files.old) (files_in sources.old) }
+    requires apart { IsApart (files_in sources.old) }
+    requires ports { length sources.old ≤ 2 ^ 32 }
+    ensures stand { (start : Told) → (given : List Arrival) →
+        SourcesStand start given sources.old (F.told files.old) →
+        OnOk result (SourcesStand start given sources.new (F.told files.new)) }
+    ensures settled { OnOk result (AreSettled sources.new) }
+    ensures same_files { files_in sources.new ≡ files_in sources.old }
+    ensures same_counts { counts_in sources.new ≡ counts_in sources.old }
+    ensures kept { KeepsOthers (files_in sources.old) (F.told files.old) (F.told files.new) }
+    ensures cause { let all = files_in sources.old in
+        IsCause (F.counted files.old) (F.counted files.new) all result }
+    ensures never { IsNoHeaderFault result }
+    ensures reads { (g : ℕ) → F.is_read files.old g → F.is_read files.new g }
+    ensures writes { (g : ℕ) → F.is_written files.old g → F.is_written files.new g }
+{
+    for port in 0..sources.len() {
+        match sources.item_mut(port).fill(files) {
+            Ok(()) => {}
+            Err(fault) => return Err(FeedFault::at(port as u32, fault)),
+        }
+    }
+    Ok(())
+}
+
+/// Gives the packet that comes first of those that were read ahead.
+pub(crate) fn give(sources: &mut Seq<Source>, first: First) -> Packet
+    requires first { IsFirst sources.old (length sources.old) (Some first) }
+    requires room { All (λ count. count < 2 ^ 32 - 1) (counts_in sources.old) }
+    requires ports { length sources.old ≤ 2 ^ 32 }
+    ensures { IsGiven first.port result sources.old sources.new }
+{
+    sources.item_mut(first.port).give(first.port as u32)
+}
+
+/// The least port whose capture was found to be torn, and the offset of the torn record there.
+pub(crate) fn torn(sources: &Seq<Source>) -> Option<(u32, u64)>
+    requires { length sources.now ≤ 2 ^ 32 }
+    ensures { result ≡ first_tear 0 (tears_in sources.now) }
+{
+    for port in 0..sources.len() {
+        if let Some(offset) = sources.item(port).tear() {
+            return Some((port as u32, offset));
+        }
+    }
+    None
+}

@@ -1,0 +1,7 @@
+pub mod Going
+pub mod Bytes
+pub mod Edited
+pub mod Held
+pub mod Reached
+pub mod Complete
+pub mod Journals

@@ -1,0 +1,99 @@
+use Rattle.std.proofs.Common.{◌∙◌, length, refl, sym, arith}
+use Rattle.nf_base.specs.Functions.{function_of}
+use Rattle.packet_feed.specs.Sources.{files_in}
+use Rattle.stream_run.specs.Writing.{files_of}
+use Rattle.stream_run.proofs.Held.{same_length, but_none, read_on, written_on}
+use Rattle.stream_run.proofs.Reached.{reached_none, reached_more, ends_all, ends_early, halts_reading, halts_writing}
+use Rattle.stream_run.proofs.running.handle_all.Goals as goal
+
+pub packets-init : goal.packets-init
+packets-init g c =
+    let told = g.F.Files.told in
+    record {
+      reached = reached_none (function_of c.args.func.now) (length c.args.func.now.handlers) c.args.feed.now (told c.args.files.now) c.args.sinks.now c.args.tables.now.state c.requires.opens c.requires.new c.requires.heads;
+      captures = c.requires.captures;
+      most = refl;
+      within = omega (arith, c.requires.new);
+      same = refl;
+      same_files = refl;
+      kept = but_none (files_of c.args.sinks.now) (told c.args.files.now);
+      reads = λ n r. r;
+      writes = λ n r. r;
+      count = refl;
+    }
+
+pub returns-in-Ok-End-clause-comes : goal.returns-in-Ok-End-clause-comes
+returns-in-Ok-End-clause-comes g c =
+    let told = g.F.Files.told in
+    let ok = c.in-Ok-End.ensures in
+    ends_all (function_of c.args.func.now) (length c.args.func.now.handlers) c.args.feed.now (told c.args.files.now) c.packets.feed c.next.new.self (told c.packets.files) (told c.next.new.files) c.packets.sinks c.packets.tables.state c.packets.invariant.reached
+    (rw c.in-Ok-End.field-0-is at ok.feeds) (rw c.in-Ok-End.field-0-is at ok.counts) c.next.ensures.kept.givens (c.next.ensures.same_files ∙ c.packets.invariant.captures ∙ sym c.requires.captures) (c.next.ensures.same_most ∙ c.packets.invariant.most) (omega (arith, c.packets.invariant.within, c.packets.invariant.most))
+
+pub returns-in-Ok-TooMany-clause-comes : goal.returns-in-Ok-TooMany-clause-comes
+returns-in-Ok-TooMany-clause-comes g c =
+    let told = g.F.Files.told in
+    let ok = c.in-Ok-TooMany.ensures in
+    let counts = rw c.in-Ok-TooMany.field-0-is at ok.counts in
+    ends_early (function_of c.args.func.now) (length c.args.func.now.handlers) c.args.feed.now (told c.args.files.now) c.packets.feed c.next.new.self (told c.packets.files) (told c.next.new.files) c.packets.sinks c.packets.tables.state c.packets.invariant.reached
+    (rw c.in-Ok-TooMany.field-0-is at ok.feeds) counts.0 counts.1 c.next.ensures.same_most c.next.ensures.kept.givens (c.next.ensures.same_files ∙ c.packets.invariant.captures ∙ sym c.requires.captures) (c.next.ensures.same_most ∙ c.packets.invariant.most)
+
+pub handle_one-requires-clause-few : goal.handle_one-requires-clause-few
+handle_one-requires-clause-few g c = omega (arith, same_length c.packets.sinks c.args.sinks.now c.packets.invariant.same_files, c.requires.few)
+
+pub packets-preserved : goal.packets-preserved
+packets-preserved g c =
+    let told = g.F.Files.told in
+    let inv = c.packets.invariant in
+    let ok = c.in-Ok-Packet.ensures in
+    let counts = rw c.in-Ok-Packet.field-0-is at ok.counts in
+    record {
+      reached = reached_more (function_of c.args.func.now) (length c.args.func.now.handlers) c.args.feed.now (told c.args.files.now) c.packets.feed c.next.new.self (told c.packets.files) (told c.next.new.files) (told c.handle_one.new.files) c.packets.sinks c.handle_one.new.sinks c.packets.tables.state c.handle_one.new.tables.state
+          c.in-Ok-Packet.packet c.original-original.result c.frame-frame.result.now inv.reached
+          (rw c.in-Ok-Packet.field-0-is at ok.feeds) c.original-original.ensures c.frame-frame.ensures counts.0 c.next.ensures.kept.givens c.handle_one.ensures.kept.rests c.in-Ok.ensures.handles;
+      captures = c.next.ensures.same_files ∙ inv.captures;
+      most = c.next.ensures.same_most ∙ inv.most;
+      within = omega (arith, counts.0, counts.1, c.next.ensures.same_most);
+      same = c.handle_one.ensures.same ∙ inv.same;
+      same_files = c.handle_one.ensures.same_files ∙ inv.same_files;
+      kept = written_on (files_of c.args.sinks.now) (files_of c.packets.sinks) (files_in c.packets.feed.sources) (told c.args.files.now) (told c.packets.files) (told c.next.new.files) (told c.handle_one.new.files) inv.same_files inv.kept c.next.ensures.kept c.handle_one.ensures.kept;
+      reads = λ n r. c.handle_one.ensures.reads n (c.next.ensures.reads n (inv.reads n r));
+      writes = λ n r. c.handle_one.ensures.writes n (c.next.ensures.writes n (inv.writes n r));
+      count = c.in-Ok.ensures.cause ∙ ok.cause ∙ inv.count;
+    }
+
+pub returns-in-Err-handle_one-clause-comes : goal.returns-in-Err-handle_one-clause-comes
+returns-in-Err-handle_one-clause-comes g c =
+    let told = g.F.Files.told in
+    let inv = c.packets.invariant in
+    let ok = c.in-Ok-Packet.ensures in
+    let counts = rw c.in-Ok-Packet.field-0-is at ok.counts in
+    halts_writing (function_of c.args.func.now) (length c.args.func.now.handlers) c.args.feed.now (told c.args.files.now) c.packets.feed c.next.new.self (told c.packets.files) (told c.next.new.files) (told c.handle_one.new.files) c.packets.sinks c.handle_one.new.sinks c.packets.tables.state c.handle_one.new.tables.state
+    c.in-Ok-Packet.packet c.original-original.result c.frame-frame.result.now c.in-Err-handle_one.stop inv.reached
+    (rw c.in-Ok-Packet.field-0-is at ok.feeds) c.original-original.ensures c.frame-frame.ensures (c.next.ensures.same_files ∙ inv.captures ∙ sym c.requires.captures) (omega (arith, counts.1, inv.most)) c.next.ensures.kept.givens c.in-Err-handle_one.ensures.handles
+
+pub returns-in-Err-clause-comes : goal.returns-in-Err-clause-comes
+returns-in-Err-clause-comes g c =
+    let told = g.F.Files.told in
+    let inv = c.packets.invariant in
+    halts_reading (function_of c.args.func.now) (length c.args.func.now.handlers) c.args.feed.now (told c.args.files.now) c.packets.feed (told c.packets.files) (told c.next.new.files) c.packets.sinks c.packets.tables.state inv.reached
+    (inv.captures ∙ sym c.requires.captures) (omega (arith, inv.within, inv.most)) c.next.ensures.kept.givens
+
+pub returns-in-Ok-End-clause-kept : goal.returns-in-Ok-End-clause-kept
+returns-in-Ok-End-clause-kept g c =
+    let told = g.F.Files.told in
+    read_on (files_of c.args.sinks.now) (files_in c.packets.feed.sources) (told c.args.files.now) (told c.packets.files) (told c.next.new.files) c.packets.invariant.kept c.next.ensures.kept
+
+pub returns-in-Ok-TooMany-clause-kept : goal.returns-in-Ok-TooMany-clause-kept
+returns-in-Ok-TooMany-clause-kept g c =
+    let told = g.F.Files.told in
+    read_on (files_of c.args.sinks.now) (files_in c.packets.feed.sources) (told c.args.files.now) (told c.packets.files) (told c.next.new.files) c.packets.invariant.kept c.next.ensures.kept
+
+pub returns-in-Err-clause-kept : goal.returns-in-Err-clause-kept
+returns-in-Err-clause-kept g c =
+    let told = g.F.Files.told in
+    read_on (files_of c.args.sinks.now) (files_in c.packets.feed.sources) (told c.args.files.now) (told c.packets.files) (told c.next.new.files) c.packets.invariant.kept c.next.ensures.kept
+
+pub returns-in-Err-handle_one-clause-kept : goal.returns-in-Err-handle_one-clause-kept
+returns-in-Err-handle_one-clause-kept g c =
+    let told = g.F.Files.told in
+    written_on (files_of c.args.sinks.now) (files_of c.packets.sinks) (files_in c.packets.feed.sources) (told c.args.files.now) (told c.packets.files) (told c.next.new.files) (told c.handle_one.new.files) c.packets.invariant.same_files c.packets.invariant.kept c.next.ensures.kept c.handle_one.ensures.kept

@@ -1,0 +1,27 @@
+use Rattle.std.proofs.Common.{◌≡◌, ◌-◌, ◌≤◌, ℕ, length}
+use Rattle.nf_base.specs.Functions.{function_of}
+use Rattle.nf_engine.specs.View.{fixed_of}
+use Rattle.packet_feed.specs.Sources.{files_in}
+use Rattle.stream_run.specs.Writing.{files_of, KeepsBut}
+use Rattle.stream_run.specs.Streaming.{Reaches}
+use Rattle.stream_run.proofs.running.handle_all.Given as goal
+
+-- the packets so far were handled, and what they leave is in the files or held
+abbrev pub invariant-packets : goal.invariant-packets
+invariant-packets g l =
+    let told = g.F.Files.told in
+    record {
+      reached : Reaches (function_of l.func) (length l.func.handlers) l.fn.feed (told l.fn.files) l.feed (told l.files) l.sinks l.tables.state;
+      captures : files_in l.feed.sources ≡ l.captures;
+      most : l.feed.most ≡ l.fn.feed.most;
+      within : l.feed.given ≤ l.feed.most;
+      same : fixed_of l.tables ≡ fixed_of l.fn.tables;
+      same_files : files_of l.sinks ≡ files_of l.fn.sinks;
+      kept : KeepsBut (files_of l.fn.sinks) (told l.fn.files) (told l.files);
+      reads : (n : ℕ) → g.F.Files.is_read l.fn.files n → g.F.Files.is_read l.files n;
+      writes : (n : ℕ) → g.F.Files.is_written l.fn.files n → g.F.Files.is_written l.files n;
+      count : g.F.Files.counted l.files ≡ g.F.Files.counted l.fn.files;
+    }
+
+abbrev pub decreases-packets : goal.decreases-packets
+decreases-packets g l = l.feed.most - l.feed.given

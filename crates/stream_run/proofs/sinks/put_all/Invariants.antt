@@ -1,0 +1,22 @@
+use Rattle.std.proofs.Common.{◌≡◌, ◌∷◌, ◌++◌, [], ℕ, List}
+use Rattle.run_history.specs.declared.line.Mode.{Mode}
+use Rattle.stream_run.specs.Runs.{Handled}
+use Rattle.stream_run.specs.Texts.{bytes_of}
+use Rattle.stream_run.specs.Writing.{came_to, files_of, AreHeld, KeepsAllBut}
+use Rattle.stream_run.proofs.Held.{IsPartly}
+use Rattle.stream_run.proofs.sinks.put_all.Given as goal
+
+-- in the files so far the packet is there, in the others not yet
+abbrev pub invariant-loop-k : goal.invariant-loop-k
+invariant-loop-k g l =
+    let told = g.F.Files.told in
+    let h = came_to l.packet l.original l.frame l.done in
+    record {
+      partly : (mode : Mode) (workers : ℕ) (hs : List Handled) → AreHeld mode workers l.ports hs (told l.fn.files) l.fn.sinks
+          → IsPartly (λ j. bytes_of mode workers l.ports j hs) (λ j. bytes_of mode workers l.ports j (hs ++ h ∷ [])) l.k (told l.files) l.sinks;
+      same_files : files_of l.sinks ≡ files_of l.fn.sinks;
+      kept : KeepsAllBut (files_of l.fn.sinks) (told l.fn.files) (told l.files);
+      reads : (n : ℕ) → g.F.Files.is_read l.fn.files n → g.F.Files.is_read l.files n;
+      writes : (n : ℕ) → g.F.Files.is_written l.fn.files n → g.F.Files.is_written l.files n;
+      count : g.F.Files.counted l.files ≡ g.F.Files.counted l.fn.files;
+    }

@@ -1,0 +1,31 @@
+use Rattle.std.proofs.Common.{◌∙◌, ℕ, List, length, ap}
+use Rattle.std.specs.List.{slice_get}
+use Rattle.nf_base.specs.Functions.{function_of}
+use Rattle.run_history.specs.declared.line.Mode.TheVariants.{One}
+use Rattle.stream_run.specs.Writing.{files_of}
+use Rattle.stream_run.proofs.Held.{but_both, but_written}
+use Rattle.stream_run.proofs.Complete.{empty_told, finishes}
+use Rattle.stream_run.proofs.streaming.flow.Goals as goal
+
+pub returns-in-Ok-flush_all-clause-flows : goal.returns-in-Ok-flush_all-clause-flows
+returns-in-Ok-flush_all-clause-flows g c =
+    let told = g.F.Files.told in
+    let f = function_of c.args.func.now in
+    let ports = length c.args.func.now.handlers in
+    let h = c.in-Ok.ensures.comes in
+    let held = c.in-Ok-flush_all.ensures.goes_on One 1 ports h.reached.hs h.reached.held in
+    let same = c.flush_all.ensures.same_files ∙ c.handle_all.ensures.same_files in
+    finishes f ports c.args.feed.now (told c.args.files.now) c.handle_all.new.feed (told c.handle_all.new.files) c.handle_all.new.sinks c.handle_all.new.tables.state c.in-Ok.ending (told c.flush_all.new.files) (files_of c.args.sinks.now) h
+    (λ k file e. empty_told f ports (told c.flush_all.new.files) c.flush_all.new.sinks h.reached.hs held c.in-Ok-flush_all.ensures.empty k file (ap (λ (fs : List ℕ). slice_get fs k) same ∙ e))
+
+pub returns-in-Ok-flush_all-clause-kept : goal.returns-in-Ok-flush_all-clause-kept
+returns-in-Ok-flush_all-clause-kept g c =
+    let told = g.F.Files.told in
+    but_both (files_of c.args.sinks.now) (told c.args.files.now) (told c.handle_all.new.files) (told c.flush_all.new.files) c.handle_all.ensures.kept
+    (but_written (files_of c.args.sinks.now) (files_of c.handle_all.new.sinks) (told c.handle_all.new.files) (told c.flush_all.new.files) c.handle_all.ensures.same_files c.flush_all.ensures.kept)
+
+pub returns-in-Err-flush_all-clause-kept : goal.returns-in-Err-flush_all-clause-kept
+returns-in-Err-flush_all-clause-kept g c =
+    let told = g.F.Files.told in
+    but_both (files_of c.args.sinks.now) (told c.args.files.now) (told c.handle_all.new.files) (told c.flush_all.new.files) c.handle_all.ensures.kept
+    (but_written (files_of c.args.sinks.now) (files_of c.handle_all.new.sinks) (told c.handle_all.new.files) (told c.flush_all.new.files) c.handle_all.ensures.same_files c.flush_all.ensures.kept)

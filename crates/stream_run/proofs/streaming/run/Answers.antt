@@ -1,0 +1,49 @@
+use Rattle.std.proofs.Common.{◌≡◌, ◌∙◌, ℕ, List, length, sym, ap, subst, Some}
+use Rattle.std.specs.List.{slice_get}
+use Rattle.std.proofs.lemmas.List.{length-map}
+use Rattle.nf_base.specs.declared.func.Func.{Func}
+use Rattle.nf_base.specs.declared.func.Handler.{Handler}
+use Rattle.nf_base.specs.View.{block_of}
+use Rattle.nf_base.specs.Functions.{function_of}
+use Rattle.run_history.specs.declared.line.Mode.TheVariants.{One}
+use Rattle.stream_run.specs.Texts.{head}
+use Rattle.stream_run.specs.Writing.{Holding, KeepsBut}
+use Rattle.stream_run.proofs.Held.{but_none}
+use Rattle.stream_run.specs.Lawful.{Streams}
+use Rattle.stream_run.proofs.Complete.{is_run_at, cut_short_at, halts_none, heads_held}
+use Rattle.stream_run.proofs.streaming.run.Goals as goal
+
+-- the ports of a function are counted by its handlers
+counted : (func : Func) → length func.handlers ≡ length (function_of func).handlers
+counted func = sym (length-map func.handlers (λ (h : Handler). block_of h.block))
+
+pub returns-in-Err-clause-runs : goal.returns-in-Err-clause-runs
+returns-in-Err-clause-runs g c =
+    let told = g.F.Files.told in
+    let f = function_of c.args.func.now in
+    let ports = ap (λ (t : List ℕ). length t) c.requires.captures ∙ c.requires.ports in
+    cut_short_at f (length c.args.func.now.handlers) c.args.feed.now (told c.args.files.now) (told c.args.files.now) c.args.targets.now (counted c.args.func.now) ports
+    (halts_none f (length c.args.func.now.handlers) c.args.feed.now (told c.args.files.now) c.args.targets.now c.requires.empty)
+
+pub stream-requires-clause-heads : goal.stream-requires-clause-heads
+stream-requires-clause-heads g c =
+    let told = g.F.Files.told in
+    let n = length c.args.func.now.handlers in
+    heads_held n (told c.args.files.now) c.in-Ok.sinks c.args.targets.now c.in-Ok.ensures.files
+    (subst (λ (m : ℕ). (k : ℕ) (s : Holding) → slice_get c.in-Ok.sinks k ≡ Some s → s.held ≡ head One 1 m k) c.len.ensures.value c.in-Ok.ensures.heads) c.requires.empty
+
+pub returns-clause-runs : goal.returns-clause-runs
+returns-clause-runs g c =
+    let told = g.F.Files.told in
+    let f = function_of c.args.func.now in
+    let ports = ap (λ (t : List ℕ). length t) c.requires.captures ∙ c.requires.ports in
+    is_run_at f (length c.args.func.now.handlers) c.args.feed.now (told c.args.files.now) c.stream.new.feed (told c.stream.new.files) c.args.targets.now c.stream.result (counted c.args.func.now) ports
+    (subst (λ (fs : List ℕ). Streams f (length c.args.func.now.handlers) c.args.feed.now (told c.args.files.now) c.stream.new.feed (told c.stream.new.files) fs c.stream.result) c.in-Ok.ensures.files c.stream.ensures.streams)
+
+pub returns-in-Err-clause-kept : goal.returns-in-Err-clause-kept
+returns-in-Err-clause-kept g c = but_none c.args.targets.now (g.F.Files.told c.args.files.now)
+
+pub returns-clause-kept : goal.returns-clause-kept
+returns-clause-kept g c =
+    let told = g.F.Files.told in
+    subst (λ (fs : List ℕ). KeepsBut fs (told c.args.files.now) (told c.stream.new.files)) c.in-Ok.ensures.files c.stream.ensures.kept

@@ -1,0 +1,96 @@
+-- Files that are written side by side, each by its own buffer.
+use Rattle.std.specs.Prelude.{◌≡◌, ◌≢◌, ℕ, List, ◌++◌, length, map, slice_get, Option, Some, None, Result, Ok, Err}
+use Rattle.std.specs.List.{All}
+use Rattle.nf_base.specs.declared.packet.Packet.{Packet}
+use Rattle.nf_base.specs.declared.done.Done.{Done}
+use Rattle.nf_files.specs.Told.{Told}
+use Rattle.nf_files.specs.Causes.{Counted, Faulted}
+use Rattle.run_history.specs.declared.line.Mode.{Mode}
+use Rattle.stream_run.specs.declared.stop.Stop.{Stop}
+use Rattle.stream_run.specs.declared.stop.Stop.TheVariants.{File, Memory}
+use Rattle.stream_run.specs.Runs.{Handled}
+use Rattle.stream_run.specs.Texts.{bytes_of, IsFrontOf}
+
+-- a packet that worker 0 handled, and what it came to
+abbrev pub came_to : Packet → ℕ → List ℕ → Done → Handled
+came_to packet original frame done = record {
+  arrival = record { packet = packet; original = original; frame = frame };
+  worker = 0;
+  done = done;
+}
+
+-- a file, and the bytes that are still to be given to it
+pub record Holding : Type 0 where
+  pub file : ℕ
+  pub held : List ℕ
+
+-- These bytes were given to a file, where that is told, but for those that are still held.
+abbrev pub Holds : List ℕ → Option (List ℕ) → List ℕ → Type 0
+Holds bytes None held = Unit {0}
+Holds bytes (Some given) held = given ++ held ≡ bytes
+
+-- a front of these bytes was given to a file, where that is told
+abbrev pub IsFrontIfTold : List ℕ → Option (List ℕ) → Type 0
+IsFrontIfTold bytes None = Unit {0}
+IsFrontIfTold bytes (Some given) = IsFrontOf bytes given
+
+-- nothing changed but what was given to one file, and what stands under its name
+pub record KeepsOther (file : ℕ) (old new : Told) : Type 0 where
+  pub rests : (g : ℕ) → new.rest g ≡ old.rest g
+  pub givens : (g : ℕ) → g ≢ file → new.given g ≡ old.given g
+  pub names : (g : ℕ) → new.name g ≡ old.name g
+  pub contents : (n : List ℕ) → old.name file ≢ Some n → new.content n ≡ old.content n
+  pub latest_same : (n : List ℕ) → new.latest n ≡ old.latest n
+  pub next_same : new.next ≡ old.next
+
+-- what giving held bytes to a file comes to: they were given or are still held, or a front was given
+abbrev pub GoesOn : {T E : Type 0} → List ℕ → Option (List ℕ) → List ℕ → Result T E → Type 0
+GoesOn bytes given held (Ok x) = Holds bytes given held
+GoesOn bytes given held (Err e) = IsFrontIfTold bytes given
+
+-- the count of faults of a call that can be stopped: it changes where a file failed, and there alone
+abbrev pub IsStopCause : {T : Type 0} → Counted → Counted → Result T Stop → Type 0
+IsStopCause old new (Ok x) = new ≡ old
+IsStopCause old new (Err Memory) = new ≡ old
+IsStopCause old new (Err (File file)) = Faulted old new file
+
+-- the files that are written
+abbrev pub files_of : List Holding → List ℕ
+files_of sinks = map (λ s. s.file) sinks
+
+-- Of each file what packets leave there was given, but for what is held.
+abbrev pub AreHeld : Mode → ℕ → ℕ → List Handled → Told → List Holding → Type 0
+AreHeld mode workers ports hs told sinks =
+    (k : ℕ) (s : Holding) → slice_get sinks k ≡ Some s → Holds (bytes_of mode workers ports k hs) (told.given s.file) s.held
+
+-- Each file was given a front of what packets leave there.
+abbrev pub AreFronts : Mode → ℕ → ℕ → List Handled → Told → List ℕ → Type 0
+AreFronts mode workers ports hs told files =
+    (k file : ℕ) → slice_get files k ≡ Some file → IsFrontIfTold (bytes_of mode workers ports k hs) (told.given file)
+
+-- nothing changed but what was given to some files, and what stands under their names
+pub record KeepsAllBut (files : List ℕ) (old new : Told) : Type 0 where
+  pub rests : (g : ℕ) → new.rest g ≡ old.rest g
+  pub givens : (g : ℕ) → All (λ f. f ≢ g) files → new.given g ≡ old.given g
+  pub names : (g : ℕ) → new.name g ≡ old.name g
+  pub contents : (n : List ℕ) → All (λ f. old.name f ≢ Some n) files → new.content n ≡ old.content n
+  pub latest_same : (n : List ℕ) → new.latest n ≡ old.latest n
+  pub next_same : new.next ≡ old.next
+
+-- what writing to all files comes to: all is held or was given, or fronts were given
+abbrev pub AllGoOn : {T E : Type 0} → Mode → ℕ → ℕ → List Handled → Told → List Holding → Result T E → Type 0
+AllGoOn mode workers ports hs told sinks (Ok x) = AreHeld mode workers ports hs told sinks
+AllGoOn mode workers ports hs told sinks (Err e) = AreFronts mode workers ports hs told (files_of sinks)
+
+-- nothing is held
+abbrev pub AreEmpty : List Holding → Type 0
+AreEmpty sinks = (k : ℕ) (s : Holding) → slice_get sinks k ≡ Some s → length s.held ≡ 0
+
+-- Nothing changed but what is left of files that are read, what was given to some files, and what
+-- stands under their names.
+pub record KeepsBut (files : List ℕ) (old new : Told) : Type 0 where
+  pub givens : (g : ℕ) → All (λ f. f ≢ g) files → new.given g ≡ old.given g
+  pub names : (g : ℕ) → new.name g ≡ old.name g
+  pub contents : (n : List ℕ) → All (λ f. old.name f ≢ Some n) files → new.content n ≡ old.content n
+  pub latest_same : (n : List ℕ) → new.latest n ≡ old.latest n
+  pub next_same : new.next ≡ old.next

@@ -1,0 +1,20 @@
+//! A run as a stream: packets are handled as they come, and what they leave is written as the run goes.
+#![tactic(auto)]
+
+mod ending;
+pub mod laws;
+mod piece;
+mod ran;
+mod running;
+mod sink;
+mod sinks;
+mod stop;
+mod streaming;
+
+pub use ending::Ending;
+pub use ran::Ran;
+pub use running::handle_all;
+pub use sink::Sink;
+pub use sinks::{flush_all, put_all};
+pub use stop::Stop;
+pub use streaming::run;

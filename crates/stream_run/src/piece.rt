@@ -1,0 +1,92 @@
+//! What one packet leaves in a file.
+ghost use Rattle.std.specs.Prelude.{◌≡◌, ◌≤◌, ◌++◌, length, take, drop, OnOk};
+ghost use Rattle.pcap_file.specs.Record.{greatest_time, record_at};
+ghost use Rattle.pcap_file.specs.Spelled.{written_bytes};
+ghost use Rattle.stream_run.specs.Texts.{sends, with_edits, piece};
+ghost use Rattle.stream_run.specs.Writing.{came_to};
+
+use frame_ip::{edit, view};
+use nf_base::done::{Action, Done, Edits};
+use nf_base::packet::Packet;
+use pcap_file::push_record;
+use run_history::line::push_packet;
+use std::alloc::AllocError;
+
+// Whether an action sends a packet that came in at a port out at another.
+fn sends(action: Action, from: u32, port: u32) -> bool
+    ensures { result ≡ sends action from port }
+{
+    match action {
+        Action::Skip => false,
+        Action::Drop => false,
+        Action::To(out) => out == port,
+        Action::Flood => from != port,
+    }
+}
+
+// Writes a packet's edits into its frame, where it is handled.
+#[tactic(auto, unfolding(crate::specs::Texts::with_edits))]
+fn edit_handled(frame: &mut [u8], edits: &Edits)
+    ensures edited { frame.new ≡ with_edits edits.now frame.old }
+    ensures long { length (with_edits edits.now frame.old) ≡ length frame.old }
+{
+    if view(frame, 0).is_some() {
+        edit(frame, edits);
+    }
+}
+
+// Writes a packet's edits into its frame, which stands last.
+fn edit_last(bytes: &mut [u8], start: usize, edits: &Edits)
+    requires { start ≤ length bytes.old }
+    ensures edited { bytes.new ≡
+        take start bytes.old ++ with_edits edits.now (drop start bytes.old) }
+    ensures long { length (with_edits edits.now (drop start bytes.old))
+        ≡ length (drop start bytes.old) }
+{
+    edit_handled(&mut bytes[start..], edits);
+}
+
+// Appends the record of a packet; its frame is edited where it is gathered.
+fn push_edited(
+    buffer: &mut Vec<u8>,
+    time: u64,
+    original: u32,
+    frame: &[u8],
+    edits: &Edits,
+) -> Result<(), AllocError>
+    requires time { time ≤ greatest_time }
+    requires captured { length frame.now ≤ 262144 }
+    ensures { OnOk result (buffer.new.items ≡ buffer.old.items
+        ++ written_bytes (record_at time original (with_edits edits.now frame.now))) }
+{
+    push_record(buffer, time, original, frame)?;
+    let start = buffer.len() - frame.len();
+    edit_last(buffer.as_mut_slice(), start, edits);
+    Ok(())
+}
+
+/// Appends what a packet leaves in a file: a record in the output of a port where it is sent out
+/// there, and a line in the journal, which comes behind the outputs.
+pub(crate) fn push_piece(
+    buffer: &mut Vec<u8>,
+    ports: u32,
+    file: u32,
+    packet: &Packet,
+    original: u32,
+    frame: &[u8],
+    done: &Done,
+) -> Result<(), AllocError>
+    requires time { packet.now.time ≤ greatest_time }
+    requires captured { length frame.now ≤ 262144 }
+    ensures { OnOk result (buffer.new.items ≡ buffer.old.items
+        ++ piece ports file (came_to packet.now original frame.now done.now)) }
+{
+    if file >= ports {
+        return push_packet(buffer, packet.id, 0, done.action, &done.picks);
+    }
+    if sends(done.action, packet.id.port, file) {
+        push_edited(buffer, packet.time, original, frame, &done.edits)
+    } else {
+        Ok(())
+    }
+}

@@ -1,0 +1,74 @@
+//! Files that are written side by side, by number: the outputs in the order of their ports, and the
+//! journal behind them.
+ghost use Rattle.std.specs.Prelude.{◌≡◌, ◌^◌, ◌≤◌, ◌∷◌, ◌++◌, [], ℕ, List, length, OnOk};
+ghost use Rattle.pcap_file.specs.Record.{greatest_time};
+ghost use Rattle.packet_feed.specs.Told.{EachFile, IsApart};
+ghost use Rattle.run_history.specs.declared.line.Mode.{Mode};
+ghost use Rattle.stream_run.specs.Runs.{Handled};
+ghost use Rattle.stream_run.specs.Writing.{came_to, files_of, AreHeld, AllGoOn, AreEmpty, KeepsAllBut, IsStopCause};
+
+use crate::sink::Sink;
+use crate::stop::Stop;
+use nf_base::done::Done;
+use nf_base::packet::Packet;
+use nf_base::seq::Seq;
+use nf_files::Files;
+
+/// Puts what a packet leaves in each file there.
+pub fn put_all<F: Files>(
+    sinks: &mut Seq<Sink>,
+    files: &mut F,
+    ports: u32,
+    packet: &Packet,
+    original: u32,
+    frame: &[u8],
+    done: &Done,
+) -> Result<(), Stop>
+    requires created { EachFile (F.is_written files.old) (files_of sinks.old) }
+    requires apart { IsApart (files_of sinks.old) }
+    requires few { length sinks.old ≤ 2 ^ 32 }
+    requires time { packet.now.time ≤ greatest_time }
+    requires captured { length frame.now ≤ 262144 }
+    ensures goes_on { let h = came_to packet.now original frame.now done.now in
+        (mode : Mode) → (workers : ℕ) → (hs : List Handled) →
+        AreHeld mode workers ports hs (F.told files.old) sinks.old →
+        AllGoOn mode workers ports (hs ++ h ∷ []) (F.told files.new) sinks.new result }
+    ensures same_files { files_of sinks.new ≡ files_of sinks.old }
+    ensures kept { KeepsAllBut (files_of sinks.old) (F.told files.old) (F.told files.new) }
+    ensures cause { IsStopCause (F.counted files.old) (F.counted files.new) result }
+    ensures reads { (g : ℕ) → F.is_read files.old g → F.is_read files.new g }
+    ensures writes { (g : ℕ) → F.is_written files.old g → F.is_written files.new g }
+{
+    for k in 0..sinks.len() {
+        let sink = sinks.item_mut(k);
+        match sink.put(files, ports, k as u32, packet, original, frame, done) {
+            Ok(()) => {}
+            Err(stop) => return Err(stop),
+        }
+    }
+    Ok(())
+}
+
+/// Gives to all files what is held for them.
+pub fn flush_all<F: Files>(sinks: &mut Seq<Sink>, files: &mut F) -> Result<(), Stop>
+    requires created { EachFile (F.is_written files.old) (files_of sinks.old) }
+    requires apart { IsApart (files_of sinks.old) }
+    ensures goes_on { (mode : Mode) → (workers : ℕ) → (ports : ℕ) → (hs : List Handled) →
+        AreHeld mode workers ports hs (F.told files.old) sinks.old →
+        AllGoOn mode workers ports hs (F.told files.new) sinks.new result }
+    ensures empty { OnOk result (AreEmpty sinks.new) }
+    ensures same_files { files_of sinks.new ≡ files_of sinks.old }
+    ensures kept { KeepsAllBut (files_of sinks.old) (F.told files.old) (F.told files.new) }
+    ensures cause { IsStopCause (F.counted files.old) (F.counted files.new) result }
+    ensures reads { (g : ℕ) → F.is_read files.old g → F.is_read files.new g }
+    ensures writes { (g : ℕ) → F.is_written files.old g → F.is_written files.new g }
+{
+    for k in 0..sinks.len() {
+        let sink = sinks.item_mut(k);
+        match sink.flush(files) {
+            Ok(()) => {}
+            Err(stop) => return Err(stop),
+        }
+    }
+    Ok(())
+}
