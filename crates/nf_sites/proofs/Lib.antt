@@ -3,6 +3,7 @@ pub mod Pairs
 pub mod Sorting
 pub mod Placed
 pub mod Rising
+pub mod RisingTexts
 pub mod OfText
 pub mod Listing
 pub mod KeptLabels

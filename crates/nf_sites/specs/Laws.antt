@@ -1,9 +1,12 @@
 -- Laws of sites.
 use Rattle.std.specs.Prelude.{◌≡◌, ◌↔◌, ◌≤◌, ℕ, true, Some, slice_get, Contains, AllPairs}
+use Rattle.std.specs.List.{flat_map}
+use Rattle.std.specs.List.Sorted.{IsStrictlyIncreasing}
 use Rattle.nf_base.specs.declared.decl.ObjectId.{ObjectId}
 use Rattle.nf_base.specs.declared.packet.Fields.{Fields}
 use Rattle.nf_base.specs.Text.{Block, Function}
-use Rattle.nf_base.specs.TextPlaces.{HasPlaces}
+use Rattle.nf_base.specs.Statements.{statements}
+use Rattle.nf_base.specs.TextPlaces.{places_in, HasPlaces}
 use Rattle.nf_sites.specs.Sites.{Site}
 use Rattle.nf_sites.specs.TextOrder.{PlacesRise}
 use Rattle.nf_sites.specs.OnPaths.{port_sites, sites_of, IsSite}
@@ -31,6 +34,12 @@ SitesStandInTextOrder =
     (f : Function) (port : ℕ) (block : Block) → slice_get f.handlers port ≡ Some block →
     PlacesRise block →
     AllPairs (λ (x y : Site). x.place ≤ y.place) (port_sites f port)
+
+-- which they do where all places rise, a `new`'s too, as the chain has its labels
+abbrev pub RisingTextsRise : Type 0
+RisingTextsRise =
+    (block : Block) → IsStrictlyIncreasing (flat_map places_in (statements block)) →
+    PlacesRise block
 
 -- a kept label is known at each site of its object
 abbrev pub KeptLabelsAreKnown : Type 0
