@@ -1,2 +1,3 @@
 pub mod Placed
 pub mod Tied
+pub mod Unkept

@@ -1,5 +1,6 @@
 -- What is answered over the places of a function's plan is so over the function.
-use Rattle.std.proofs.Common.{◌≡◌, ℕ, Bool, true, false, refl, ap, ◌∙◌, subst, List, length, inl, inr, Option, Some, None}
+use Rattle.std.proofs.Common.{◌≡◌, ℕ, Bool, true, false, refl, ap, sym, ◌∙◌, subst, List, length, inl, inr, Option, Some, None}
+use Rattle.std.proofs.lemmas.Bool.{false≢true}
 use Rattle.nf_base.specs.declared.keys.Keys.{Keys}
 use Rattle.nf_base.specs.Text.{Function}
 use Rattle.key_rows.specs.declared.place.Object.{Object}
@@ -41,6 +42,19 @@ given_to f keys are = record {
       ];
   past = λ port i within is high. are.past port i within (keyed_from f port is) high;
   unkeyed = λ port within none. are.unkeyed port within (not_keyed f port none (keyed.is_keyed (own_plan f).objects port) refl);
+}
+
+-- and back: given keys of a function are given over the places
+pub given_from : (f : Function) (keys : Keys) → AreGiven f keys → given.AreGiven (length f.handlers) (own_plan f).objects keys
+given_from f keys are = record {
+  may = may_from f keys are.may;
+  nearest = λ port i within low.
+      elim (are.nearest port i within low) [
+        | inl default ↦ inl default
+        | inr out ↦ inr (record { none = λ other may before. out.none other (may_to f other may) before })
+      ];
+  past = λ port i within is high. are.past port i within (keyed_to f port is) high;
+  unkeyed = λ port within none. are.unkeyed port within (λ is. false≢true (sym none ∙ keyed_from f port is));
 }
 
 answer_to : (f : Function) (answer : Option Keys) → given.AreAnswer (length f.handlers) (own_plan f).objects answer → AreAnswer f answer

@@ -1,3 +1,4 @@
 pub mod Keys
 pub mod Verdicts
 pub mod Laws
+pub mod Causes
