@@ -10,5 +10,6 @@ pub mod Endings
 pub mod Ending
 pub mod Handlers
 pub mod Descriptions
+pub mod OneText
 pub mod OutOfMemory
 pub mod Walked

@@ -1,6 +1,7 @@
 //! The whole program: from its words and the files outside to a status.
 #![tactic(auto)]
 
+mod analysing;
 mod captures;
 mod command;
 mod describing;
@@ -8,6 +9,7 @@ mod fault;
 mod function;
 mod handling;
 mod hashing;
+pub mod laws;
 mod loading;
 mod names;
 mod program;
