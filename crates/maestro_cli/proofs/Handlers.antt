@@ -15,11 +15,11 @@ use Rattle.nf_types.specs.DeclarationFaults.{port_faults, declarations_faults}
 use Rattle.nf_types.specs.Function.{function, handler_at}
 use Rattle.nf_types.specs.TextFaults.{is_handled, lacks_handler, handler_faults, faults}
 
-none_behind : (xs ys : List Fault) → xs ++ ys ≡ [] → ys ≡ []
+pub none_behind : (xs ys : List Fault) → xs ++ ys ≡ [] → ys ≡ []
 none_behind [] ys e = e
 none_behind (x ∷ xs) ys e = cc
 
-none_if : (b : Bool) (kind : TypingKind) (place : Place) → fault_if b kind place ≡ [] → b ≡ false
+pub none_if : (b : Bool) (kind : TypingKind) (place : Place) → fault_if b kind place ≡ [] → b ≡ false
 none_if true kind place e = cc
 none_if false kind place e = refl
 
@@ -31,7 +31,7 @@ none_lacks t e =
     (none_behind (port_faults t.ports) _
     (none_behind (length_faults t.name) _ e))))
 
-or_false : (a b : Bool) → (a || b) ≡ false → (a ≡ false) × (b ≡ false)
+pub or_false : (a b : Bool) → (a || b) ≡ false → (a ≡ false) × (b ≡ false)
 or_false true b e = cc
 or_false false b e = (refl, e)
 

@@ -13,3 +13,4 @@ pub mod Descriptions
 pub mod OneText
 pub mod OutOfMemory
 pub mod Walked
+pub mod OneAnswer

@@ -3,6 +3,7 @@ pub mod Endings
 pub mod Asked
 pub mod Source
 pub mod Walking
+pub mod Laws
 pub mod Runs
 pub mod Handling
 pub mod Numbers
