@@ -4,7 +4,7 @@ use Rattle.std.specs.Option.{option_map}
 use Rattle.std.specs.Str.{bytes_eq}
 use Rattle.clap.specs.Words.{Kinds, Row, Text, all_of, fault_of, first_of, subcommand_of}
 use Rattle.command_words.specs.declared.command.Description.{Description}
-use Rattle.command_words.specs.declared.command.Description.TheVariants.{Check}
+use Rattle.command_words.specs.declared.command.Description.TheVariants.{Check, Explain, Keys}
 use Rattle.command_words.specs.Grammar.{app}
 use Rattle.command_words.specs.Texts.{and_then, Endpoint, number_up_to, workers_in, endpoint_in, key_in}
 
@@ -69,6 +69,14 @@ hash_in rows =
     and_then (given_key (first_of (codes "key") rows)) (λ key.
     option_map (λ w. record { source = s; destination = d; key = key; workers = w }) (or_default 1 workers_in (first_of (codes "workers") rows)))))
 
+-- which text on a function a name asks for
+abbrev pub description_named : Text → Option Description
+description_named name =
+    if bytes_eq name (codes "check") then Some Check else
+    if bytes_eq name (codes "explain") then Some Explain else
+    if bytes_eq name (codes "keys") then Some Keys else
+    None
+
 abbrev pub describe_in : Description → List Row → Option Describe
 describe_in what rows = option_map (λ f. record { what = what; function = f }) (first_of (codes "function") rows)
 
@@ -77,8 +85,7 @@ abbrev pub named : Text → List Row → Option Command
 named name rows =
     if bytes_eq name (codes "run") then option_map RunCommand (run_in rows) else
     if bytes_eq name (codes "hash") then option_map HashCommand (hash_in rows) else
-    if bytes_eq name (codes "check") then option_map DescribeCommand (describe_in Check rows) else
-    None
+    and_then (description_named name) (λ what. option_map DescribeCommand (describe_in what rows))
 
 abbrev pub in_match : Option (Text × List Row) → Option Command
 in_match found = and_then found (λ found. named found.0 found.1)

@@ -34,8 +34,15 @@ hash_app =
 abbrev pub description_app : Text → App
 description_app name = with_rule (new_app name) (word (codes "function"))
 
+-- check NF, explain NF and keys NF, behind other commands
+abbrev pub with_descriptions : App → App
+with_descriptions others =
+    with_subcommand (with_subcommand (with_subcommand others
+    (description_app (codes "check")).top) (description_app (codes "explain")).top)
+    (description_app (codes "keys")).top
+
 -- every command
 abbrev pub app : App
 app =
-    with_subcommand (with_subcommand (with_subcommand (new_app (codes "maestro"))
-    run_app.top) hash_app.top) (description_app (codes "check")).top
+    with_descriptions (with_subcommand (with_subcommand (new_app (codes "maestro"))
+    run_app.top) hash_app.top)

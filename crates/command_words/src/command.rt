@@ -32,6 +32,10 @@ pub struct HashCommand {
 pub enum Description {
     /// What it declares, and how many feasible paths each handler has.
     Check,
+    /// Its objects with the sites of each, and then the verdict.
+    Explain,
+    /// The verdict: the keys of its ports, or why there are none.
+    Keys,
 }
 
 /// A text on a function.

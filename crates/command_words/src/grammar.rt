@@ -73,13 +73,25 @@ fn description_words<'a>(alloc: Global, name: &'a str) -> Result<Command<'a>, Al
     Command::new(alloc, name).arg(word(alloc, "function"))
 }
 
+/// `check NF`, `explain NF` and `keys NF`, behind the commands that are there.
+fn with_descriptions<'a>(alloc: Global, command: Command<'a>) -> Result<Command<'a>, AllocError>
+    requires local { (out-Command command).has_globals ≡ false }
+    ensures app { IfOk result (λ c. app_of c ≡ grammar.with_descriptions (app_of command.entry)) }
+    ensures local { IfOk result (λ c. (out-Command c).has_globals ≡ false) }
+{
+    command
+        .subcommand(description_words(alloc, "check")?)?
+        .subcommand(description_words(alloc, "explain")?)?
+        .subcommand(description_words(alloc, "keys")?)
+}
+
 /// Every command.
 pub fn all_words<'a>(alloc: Global) -> Result<Command<'a>, AllocError>
     ensures app { IfOk result (λ c. app_of c ≡ grammar.app) }
     ensures local { IfOk result (λ c. (out-Command c).has_globals ≡ false) }
 {
-    Command::new(alloc, "maestro")
+    let command = Command::new(alloc, "maestro")
         .subcommand(run_words(alloc)?)?
-        .subcommand(hash_words(alloc)?)?
-        .subcommand(description_words(alloc, "check")?)
+        .subcommand(hash_words(alloc)?)?;
+    with_descriptions(alloc, command)
 }

@@ -164,6 +164,18 @@ fn describe_command(
     }
 }
 
+/// Which text on a function a name asks for.
+fn description_named(name: &str) -> Option<Description>
+    ensures { result ≡ meant.description_named name.now }
+{
+    match name {
+        "check" => Some(Description::Check),
+        "explain" => Some(Description::Explain),
+        "keys" => Some(Description::Keys),
+        _ => None,
+    }
+}
+
 /// The command of a name, with what stands beside it.
 fn named(alloc: Global, name: &str, matches: &ArgMatches) -> Result<Option<Command>, AllocError>
     ensures few { IfOk result (λ r. IfSome r view.HasFew) }
@@ -173,10 +185,11 @@ fn named(alloc: Global, name: &str, matches: &ArgMatches) -> Result<Option<Comma
         Ok(run_command(alloc, matches)?.map(Command::Run))
     } else if name == "hash" {
         Ok(hash_command(matches).map(Command::Hash))
-    } else if name == "check" {
-        Ok(describe_command(alloc, Description::Check, matches)?.map(Command::Describe))
     } else {
-        Ok(None)
+        match description_named(name) {
+            Some(what) => Ok(describe_command(alloc, what, matches)?.map(Command::Describe)),
+            None => Ok(None),
+        }
     }
 }
 

@@ -1,3 +1,4 @@
 pub mod Placed
 pub mod Tied
 pub mod Unkept
+pub mod One

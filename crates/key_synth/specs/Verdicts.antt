@@ -49,6 +49,11 @@ abbrev pub IsVerdict : Function → Verdict → Type 0
 IsVerdict f (Sharded keys) = AreGiven f keys
 IsVerdict f (Locked why) = NoneMayBeGiven f × IsCause f.objects (own_plan f).standings why
 
+-- two verdicts on one function are equal
+abbrev pub VerdictsAreOne : Type 0
+VerdictsAreOne = (f : Function) (verdict other : Verdict) →
+    IsVerdict f verdict → IsVerdict f other → verdict ≡ other
+
 -- Packets that meet have equal hashes under the keys of a verdict.
 abbrev pub Separates : Function → Verdict → Type 0
 Separates f (Sharded keys) = HashAlikeWhereTheyMeet f keys

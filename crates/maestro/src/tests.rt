@@ -11,4 +11,5 @@ mod functions;
 mod language;
 mod runs;
 mod texts;
+mod verdicts;
 mod words;

@@ -8,7 +8,7 @@ use Rattle.command_words.specs.Commands.{Describe}
 use Rattle.maestro_cli.specs.Source.{IsFunctionUnder}
 use Rattle.maestro_cli.specs.Opened.{IsUntouched}
 use Rattle.maestro_cli.specs.Printed.{Printed, PrintedFront, Says, IsStop, ComplainsFront}
-use Rattle.maestro_cli.specs.Describing.{description}
+use Rattle.maestro_cli.specs.Describing.{IsDescription}
 use Rattle.maestro_cli.specs.Described.{PrintsFront, StopsDescribing, DescribesTo}
 use Rattle.maestro_cli.specs.Answer.{IsUndescribed, Describes}
 use Rattle.maestro_cli.specs.Running.{Tells}
@@ -33,6 +33,8 @@ front_told c before mid after same h = elim h [
   | inr begun ↦ inr (record {
     function = begun.function;
     is_function = begun.is_function;
+    text = begun.text;
+    is_text = begun.is_text;
     stdout = record { front = begun.stdout.front; is_front = begun.stdout.is_front; printed = rw same begun.stdout.printed };
   })
 ]
@@ -72,15 +74,17 @@ told_description c before mid after (Torn port offset) result unnamed h tells = 
 told_description c before mid after (TooMany most) result unnamed h tells = absurd h
 
 -- the text of a function was given to standard output, or a front of it
-pub description_said : (c : Describe) (start mid now : Told) (f : Function) (text : List ℕ) (res : Result (Unit {0}) Status) → IsUntouched start mid → mid.name 0 ≡ None → IsFunctionUnder start c.function f → text ≡ description c.what f → Says mid now 0 text res → DescribesTo c start now res
-description_said c start mid now f text (Ok x) u unnamed is same said = record {
+pub description_said : (c : Describe) (start mid now : Told) (f : Function) (said_text text : List ℕ) (res : Result (Unit {0}) Status) → IsUntouched start mid → mid.name 0 ≡ None → IsFunctionUnder start c.function f → said_text ≡ text → IsDescription c.what f text → Says mid now 0 said_text res → DescribesTo c start now res
+description_said c start mid now f said_text text (Ok x) u unnamed is same is_text said = record {
   function = f;
   is_function = is;
+  text = text;
+  is_text = is_text;
   contents = λ n. contents_printed mid now 0 _ n unnamed said ∙ u.contents n;
-  stdout = subst (λ (p : List ℕ). Printed start now 0 p) same (printed_piece start mid now 0 text (u.standard 0 (omega arith)) said);
+  stdout = subst (λ (p : List ℕ). Printed start now 0 p) same (printed_piece start mid now 0 said_text (u.standard 0 (omega arith)) said);
   stderr = printed_none start now 1 (said.givens 1 (λ e. omega (arith, e)) ∙ u.standard 1 (omega arith));
 }
-description_said c start mid now f text (Err status) u unnamed is same said = stopped_at status said.0
+description_said c start mid now f said_text text (Err status) u unnamed is same is_text said = stopped_at status said.0
   where
     all : StopsDescribing c start now
     all = record {
@@ -88,7 +92,9 @@ description_said c start mid now f text (Err status) u unnamed is same said = st
       stdout = inr (record {
         function = f;
         is_function = is;
-        stdout = subst (λ (p : List ℕ). PrintedFront start now 0 p) same (printed_front start mid now 0 text (u.standard 0 (omega arith)) said.1);
+        text = text;
+        is_text = is_text;
+        stdout = subst (λ (p : List ℕ). PrintedFront start now 0 p) same (printed_front start mid now 0 said_text (u.standard 0 (omega arith)) said.1);
       });
       stderr = said.1.wrote.givens 1 (λ e. omega (arith, e)) ∙ u.standard 1 (omega arith);
     }

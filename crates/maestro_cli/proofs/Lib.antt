@@ -10,6 +10,7 @@ pub mod Endings
 pub mod Ending
 pub mod Handlers
 pub mod Descriptions
+pub mod OneText
 pub mod OutOfMemory
 pub mod Walked
 pub mod OneAnswer

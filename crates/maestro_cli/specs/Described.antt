@@ -8,21 +8,25 @@ use Rattle.maestro_cli.specs.declared.status.Status.TheVariants.{Done, Usage, Re
 use Rattle.maestro_cli.specs.Source.{IsFunctionUnder, IsNoFunctionUnder}
 use Rattle.maestro_cli.specs.Opened.{IsUntouched}
 use Rattle.maestro_cli.specs.Printed.{Printed, PrintedFront}
-use Rattle.maestro_cli.specs.Describing.{description}
+use Rattle.maestro_cli.specs.Describing.{IsDescription}
 
 -- what stands under the name is a function, and its text was printed, and no more
 pub record IsDescribed (c : Describe) (before after : Told) : Type 0 where
   pub function : Function
   pub is_function : IsFunctionUnder before c.function function
+  pub text : List ℕ
+  pub is_text : IsDescription c.what function text
   pub contents : (n : List ℕ) → after.content n ≡ before.content n
-  pub stdout : Printed before after 0 (description c.what function)
+  pub stdout : Printed before after 0 text
   pub stderr : Printed before after 1 []
 
 -- what stands under the name is a function, and a front of its text was printed
 pub record IsBegun (c : Describe) (before after : Told) : Type 0 where
   pub function : Function
   pub is_function : IsFunctionUnder before c.function function
-  pub stdout : PrintedFront before after 0 (description c.what function)
+  pub text : List ℕ
+  pub is_text : IsDescription c.what function text
+  pub stdout : PrintedFront before after 0 text
 
 -- nothing was printed on standard output, or a front of the text
 abbrev pub PrintsFront : Describe → Told → Told → Type 0

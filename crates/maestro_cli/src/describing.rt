@@ -2,11 +2,12 @@
 ghost use Rattle.std.specs.Prelude.{◌≡◌, ◌++◌, OnOk, IfOk, codes, decimal, length};
 ghost use Rattle.nf_base.specs.Functions.{function_of};
 ghost use Rattle.command_words.specs.View.{describe};
-ghost use Rattle.maestro_cli.specs.Source.{path_counts};
+ghost use Rattle.maestro_cli.specs.Source.{path_counts, HasFewPaths};
 ghost use Rattle.maestro_cli.specs.Numbers.{Start, HasStepCause};
 ghost use Rattle.maestro_cli.specs.Describing as meant;
 ghost use Rattle.maestro_cli.specs.Described.{DescribesTo};
 
+use crate::analysing::{explanation, verdict};
 use crate::function::Source;
 use crate::loading::read_function;
 use crate::say::print;
@@ -74,10 +75,13 @@ fn check_line(alloc: Global, source: &Source) -> Result<Vec<u8>, AllocError>
 // What is printed of a function.
 fn description(alloc: Global, what: Description, source: &Source) -> Result<Vec<u8>, AllocError>
     requires counts { source.now.paths.items ≡ path_counts (function_of source.now.func) }
-    ensures { IfOk result (λ text. text.items ≡ meant.description what (function_of source.now.func)) }
+    requires few { HasFewPaths (function_of source.now.func) }
+    ensures { IfOk result (λ text. meant.IsDescription what (function_of source.now.func) text.items) }
 {
     match what {
         Description::Check => check_line(alloc, source),
+        Description::Explain => explanation(alloc, &source.func),
+        Description::Keys => verdict(alloc, &source.func),
     }
 }
 

@@ -1,4 +1,5 @@
 //! Laws of texts. Each function's contract is a law; its body does nothing.
+ghost use Rattle.maestro_cli.specs.Describing.{DescriptionsAreOne};
 ghost use Rattle.maestro_cli.specs.Laws.{IsOneFunction, HasOneFault, IsNoFunctionWithFault};
 
 /// A text is one function, or it has one first fault, and never both: so what is refused is no function, and
@@ -7,4 +8,10 @@ pub fn a_text_is_a_function_or_has_a_fault()
     ensures function { IsOneFunction }
     ensures fault { HasOneFault }
     ensures apart { IsNoFunctionWithFault }
+{}
+
+/// A function has one text of each kind: two that `check`, `explain` or `keys` may print of it are
+/// equal.
+pub fn descriptions_are_one()
+    ensures { DescriptionsAreOne }
 {}

@@ -1,6 +1,7 @@
 //! The whole program: from its words and the files outside to a status.
 #![tactic(auto)]
 
+mod analysing;
 mod captures;
 mod command;
 mod describing;

@@ -153,7 +153,7 @@ fn obey<F: Files>(alloc: Global, files: &mut F, command: &Asked) -> Status
 ///   options `--workers 1` and `--max-packets N`, 10,000,000 where it is left out;
 /// - `hash`, a source and a destination as `ADDRESS:PORT`; with the options `--key`, 80 hexadecimal digits, and
 ///   `--workers`, 1 to 16;
-/// - `check`, a network function's file.
+/// - `check`, `explain` or `keys`, a network function's file.
 pub fn maestro<F: Files>(alloc: Global, words: &[String], files: &mut F) -> Status
     ensures answer { Answers (command_of (map string_bytes words.now)) (F.told files.old) (F.told files.new) result }
     ensures cause { HasStatusCause (start_of (F.told files.old) (command_of (map string_bytes words.now))) (F.counted files.old) (F.counted files.new) result }

@@ -25,7 +25,7 @@ fn run_line(alloc: Global, line: &str) -> Result<String, Fail> {
     Ok(said)
 }
 
-const NO_COMMANDS: [&str; 63] = [
+const NO_COMMANDS: [&str; 71] = [
     "",
     "maestro",
     "maestro run",
@@ -75,6 +75,14 @@ const NO_COMMANDS: [&str; 63] = [
     "maestro check -x.nf",
     "maestro Check x.nf",
     "maestro checks x.nf",
+    "maestro explain",
+    "maestro explain x.nf y.nf",
+    "maestro explain --keys x.nf",
+    "maestro Explain x.nf",
+    "maestro keys",
+    "maestro keys x.nf y.nf",
+    "maestro keys x.nf --workers 1",
+    "maestro key x.nf",
     "maestro hash",
     "maestro hash 1.2.3.4:1",
     "maestro hash 1.2.3.4 5.6.7.8:2",
@@ -224,31 +232,37 @@ fn lines_that_are_hashes(rt: HostRuntime) -> Result<(), Fail> {
     Ok(())
 }
 
-/// The name of the function that is to be checked.
-fn checked(alloc: Global, line: &str) -> Result<String, AllocError> {
+/// The name of the function of which this text is asked for.
+fn described(alloc: Global, line: &str, what: Description) -> Result<String, AllocError> {
     if let Some(Command::Describe(describe)) = asked(alloc, line)? {
-        if describe.what == Description::Check {
+        if describe.what == what {
             return describe.function.clone();
         }
     }
     Ok(String::new(alloc))
 }
 
-const CHECKS: [(&str, &str); 3] = [
-    ("maestro check x.nf", "x.nf"),
-    ("another check x.nf", "x.nf"),
-    ("maestro check -- --help", "--help"),
+const DESCRIBED: [(&str, Description, &str); 8] = [
+    ("maestro check x.nf", Description::Check, "x.nf"),
+    ("another check x.nf", Description::Check, "x.nf"),
+    ("maestro check -- --help", Description::Check, "--help"),
+    ("maestro explain x.nf", Description::Explain, "x.nf"),
+    ("maestro explain keys", Description::Explain, "keys"),
+    ("maestro keys x.nf", Description::Keys, "x.nf"),
+    ("maestro keys check", Description::Keys, "check"),
+    ("maestro keys -- -x.nf", Description::Keys, "-x.nf"),
 ];
 
-fn checks() -> &'static [(&'static str, &'static str)] {
-    &CHECKS
+fn all_described() -> &'static [(&'static str, Description, &'static str)] {
+    &DESCRIBED
 }
 
 #[test]
-fn lines_that_are_checks(rt: HostRuntime) -> Result<(), Fail> {
+fn lines_that_ask_for_a_text(rt: HostRuntime) -> Result<(), Fail> {
     let alloc = rt.alloc();
-    for (line, expected) in checks() {
-        assert_eq!(rt; checked(alloc, line)?.as_str(), *expected, "{line}");
+    for (line, what, expected) in all_described() {
+        let function = described(alloc, line, *what)?;
+        assert_eq!(rt; function.as_str(), *expected, "{line}");
     }
     Ok(())
 }

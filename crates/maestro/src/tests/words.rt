@@ -7,7 +7,7 @@ use nf_types::TypingKind;
 use std::alloc::{AllocError, Global};
 use std::test::Fail;
 
-const BAD_LINES: [&str; 39] = [
+const BAD_LINES: [&str; 43] = [
     "",
     "maestro",
     "maestro run",
@@ -41,6 +41,10 @@ const BAD_LINES: [&str; 39] = [
     "maestro --version",
     "maestro check",
     "maestro check x.nf a.pcap",
+    "maestro explain",
+    "maestro explain x.nf a.pcap",
+    "maestro keys",
+    "maestro keys x.nf a.pcap",
     "maestro run x.nf out a.pcap b.pcap --max-packets -1",
     "maestro run x.nf out a.pcap b.pcap --max-packets 4294967296",
     "maestro hash 1.2.3.4:5",
