@@ -1,5 +1,5 @@
 -- Keys that are admissible at the places, and by the sites.
-use Rattle.std.proofs.Common.{◌≡◌, ◌↔◌, ◌⊎◌, ◌<◌, ℕ, List, [], ◌∷◌, Bool, true, false, Option, Some, None, if◌then◌else◌, length, map, get_or, All, Contains, refl, ap, sym, ◌∙◌, subst, inl, inr}
+use Rattle.std.proofs.Common.{◌≡◌, ◌⊎◌, ℕ, List, [], ◌∷◌, true, Option, Some, None, map, get_or, All, Contains, refl, ap, sym, ◌∙◌, subst, inl, inr}
 use Rattle.std.specs.List.{filter_map, cons_option}
 use Rattle.std.proofs.lemmas.Bool.{cases_Bool}
 use Rattle.std.proofs.lemmas.Option.{same_Some}
@@ -9,7 +9,6 @@ use Rattle.nf_base.specs.declared.keys.Keys.{Keys}
 use Rattle.nf_base.specs.declared.packet.Fields.{Fields}
 use Rattle.nf_base.specs.Text.{Function}
 use Rattle.nf_base.specs.Objects.{is_written}
-use Rattle.hash_fields.specs.Hashed.{value, IsInput}
 use Rattle.nf_laws.proofs.Listed.{here, there, has, has_none, kept, was}
 use Rattle.nf_sites.specs.Sites as text
 use Rattle.nf_sites.specs.OnPaths as listed
@@ -18,11 +17,10 @@ use Rattle.nf_sites.specs.Admissible.{AreEqual, Agree, IsAdmissibleBySites}
 use Rattle.nf_sites.proofs.Lists.{passes, from_map, to_map, all_has}
 use Rattle.nf_sites.proofs.KeptLabels.{itself, one_object}
 use Rattle.access_keys.specs.declared.site.Site.{Site}
-use Rattle.access_keys.specs.Told.{site_told, sites_told}
+use Rattle.access_keys.specs.Told.{site_told}
 use Rattle.key_rows.specs.declared.place.Place.{Place}
 use Rattle.key_rows.specs.declared.place.Object.{Object}
 use Rattle.key_rows.specs.Places as rows
-use Rattle.shard_rules.specs.Once.{each_once}
 use Rattle.shard_rules.specs.Sites.{object_sites, field_at, knows}
 use Rattle.shard_rules.specs.Rules.{is_kept, kept_labels}
 use Rattle.shard_rules.specs.Places.{place_of, same_place, places_of}

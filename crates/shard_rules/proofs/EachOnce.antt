@@ -1,10 +1,9 @@
 -- The places of sites, each once.
-use Rattle.std.proofs.Common.{ℕ, List, map, Contains, subst}
+use Rattle.std.proofs.Common.{map, Contains, subst}
 use Rattle.nf_sites.proofs.Lists.{from_map, to_map}
-use Rattle.access_keys.specs.declared.site.Site.{Site}
 use Rattle.key_rows.specs.declared.place.Place.{Place}
-use Rattle.shard_rules.specs.Places.{place_of, same_place, places_of}
-use Rattle.shard_rules.specs.Laws.{IsSiteAt, PlacesAreThoseOfSites, PlacesStandOnce, PlacesComeInOrder}
+use Rattle.shard_rules.specs.Places.{place_of, same_place}
+use Rattle.shard_rules.specs.Laws.{PlacesAreThoseOfSites, PlacesStandOnce, PlacesComeInOrder}
 use Rattle.shard_rules.proofs.Once.{once_from, once_to, stand_once}
 use Rattle.shard_rules.proofs.SamePlace.{places_same, place_itself}
 use Rattle.shard_rules.proofs.OneMore.{one_site}

@@ -1,5 +1,5 @@
 -- Kept labels, and what each place has of them.
-use Rattle.std.proofs.Common.{◌≡◌, ◌↔◌, ◌<◌, ◌+◌, ℕ, List, [], ◌∷◌, Bool, true, false, Option, Some, None, length, map, get_or, Contains, refl, ap, sym, ◌∙◌, subst, arith}
+use Rattle.std.proofs.Common.{◌≡◌, ◌<◌, ◌+◌, ℕ, List, [], ◌∷◌, Bool, true, false, Option, Some, None, map, Contains, refl, ap, subst, arith}
 use Rattle.std.specs.List.{filter_map, range_with_len}
 use Rattle.std.specs.List.Sorted.{IsStrictlyIncreasing}
 use Rattle.std.specs.Option.{is_some}
@@ -14,9 +14,8 @@ use Rattle.nf_sites.proofs.Lists.{passes, all_has, all_true}
 use Rattle.nf_sites.proofs.KeptLabels.{itself, one_object}
 use Rattle.hash_fields.specs.declared.hashable.Hashable.{Hashable}
 use Rattle.access_keys.specs.declared.site.Site.{Site}
-use Rattle.shard_rules.specs.Sites.{object_sites, field_at, knows}
+use Rattle.shard_rules.specs.Sites.{field_at, knows}
 use Rattle.shard_rules.specs.Rules.{is_kept, kept_labels}
-use Rattle.shard_rules.specs.Places.{place_of}
 use Rattle.shard_rules.specs.Laws.{SitesAreOfTheirObject, KeptLabelsAreKnown, KeptLabelsRise, PlacesHaveEachKeptLabel}
 
 pub of_object : SitesAreOfTheirObject

@@ -1,5 +1,5 @@
 -- The function's own sites, and what they know.
-use Rattle.std.proofs.Common.{◌≡◌, ◌<◌, ◌+◌, ℕ, zero, suc, List, [], ◌∷◌, Bool, true, false, ◌&&◌, if◌then◌else◌, cond, Option, Some, None, length, map, filter, get_or, Contains, slice_get, refl, ap, sym, ◌∙◌, subst, arith, inl, inr}
+use Rattle.std.proofs.Common.{◌≡◌, ◌<◌, ◌+◌, ℕ, zero, suc, List, [], ◌∷◌, Bool, ◌&&◌, cond, Some, map, filter, Contains, slice_get, refl, ap, sym, ◌∙◌, subst, arith, inl, inr}
 use Rattle.std.specs.List.{list_all, range_with_len}
 use Rattle.std.specs.Option.{is_some}
 use Rattle.std.proofs.lemmas.Bool.{cases_Bool}
@@ -9,15 +9,12 @@ use Rattle.nf_base.specs.declared.decl.ObjectId.TheVariants as object
 use Rattle.nf_base.specs.Chains.{joined}
 use Rattle.nf_base.specs.Text.{Function}
 use Rattle.nf_laws.proofs.Listed.{here, there, has, has_none}
-use Rattle.hash_fields.specs.declared.hashable.Hashable.{Hashable}
 use Rattle.nf_sites.specs.Sites as text
 use Rattle.nf_sites.specs.OnPaths as listed
-use Rattle.nf_sites.specs.Known.{known, known_labels, label_count, labels_of, same_object, is_known_at, is_kept, kept}
+use Rattle.nf_sites.specs.Known.{known, label_count, labels_of, same_object, is_known_at, is_kept}
 use Rattle.nf_sites.proofs.KeptLabels.{one_object}
-use Rattle.access_keys.specs.declared.site.Site.{Site}
 use Rattle.access_keys.specs.Told.{site_told, sites_told}
 use Rattle.shard_rules.specs.Sites.{object_sites, field_at, knows}
-use Rattle.shard_rules.specs.Rules.{kept_labels}
 use Rattle.shard_rules.specs.Served.{own_sites, KeptLabelsAreTheFunctions}
 
 at_index : {A : Type 0} (g : ℕ → A) (a n k : ℕ) → k < n → slice_get (map g (range_with_len a n)) k ≡ Some (g (a + k))

@@ -1,5 +1,5 @@
 -- The table of the rules.
-use Rattle.std.proofs.Common.{◌≡◌, ◌≢◌, ◌↔◌, ℕ, List, [], ◌∷◌, Bool, true, false, not, ◌&&◌, cond, if◌then◌else◌, Contains, refl, ap, sym, ◌∙◌, subst, inl, inr}
+use Rattle.std.proofs.Common.{◌≡◌, ◌≢◌, ℕ, List, [], ◌∷◌, Bool, true, false, not, ◌&&◌, cond, if◌then◌else◌, Contains, refl, ap, sym, ◌∙◌, subst, inl, inr}
 use Rattle.std.specs.List.{list_any, list_all}
 use Rattle.std.proofs.lemmas.Bool.{cases_Bool, true≢false}
 use Rattle.nf_sites.specs.declared.sort.Sort.{Sort}
@@ -11,7 +11,7 @@ use Rattle.shard_rules.specs.declared.rule.Rule.{Rule}
 use Rattle.shard_rules.specs.declared.rule.Rule.TheVariants.{SameKey, Subset, DisjointKeys, Unhashable, Interchangeable}
 use Rattle.shard_rules.specs.Sites.{knows, knows_one, know_alike, know_same, all_know_same, is_find_sort, is_find}
 use Rattle.shard_rules.specs.Rules.{rule_of}
-use Rattle.shard_rules.specs.Laws.{KnowsOne, AllKnowOne, SomeKnowsNone, AllKnowTheSame, HasFind, Fits, OneRuleFits}
+use Rattle.shard_rules.specs.Laws.{KnowsOne, AllKnowTheSame, HasFind, Fits, OneRuleFits}
 
 -- what isn't so of all fails at one
 all_fails : {A : Type 0} (test : A → Bool) (xs : List A) → list_all test xs ≡ false → (x : A) × Contains xs x × (test x ≡ false)

@@ -1,5 +1,5 @@
 -- Whether a statement writes an object, by the blocks in it and what stands behind it.
-use Rattle.std.proofs.Common.{◌≡◌, ◌++◌, List, [], ◌∷◌, Bool, true, false, ◌||◌, refl, ap, ◌∙◌, map}
+use Rattle.std.proofs.Common.{◌≡◌, ◌++◌, List, [], ◌∷◌, Bool, false, ◌||◌, refl, ap, map}
 use Rattle.std.specs.List.{list_any}
 use Rattle.std.proofs.lemmas.List.Folds.{list_any-append}
 use Rattle.nf_base.specs.declared.decl.ObjectId.{ObjectId}

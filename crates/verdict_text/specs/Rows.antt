@@ -1,21 +1,18 @@
 -- Worked rows: the texts of some functions, with their sites and what these come to.
-use Rattle.std.specs.Prelude.{◌≡◌, ℕ, List, [], ◌∷◌, ◌++◌, Option, Some, None, replicate, codes}
+use Rattle.std.specs.Prelude.{◌≡◌, ℕ, List, [], ◌∷◌, ◌++◌, replicate, codes}
 use Rattle.nf_base.specs.declared.decl.ObjectId.{ObjectId}
 use Rattle.nf_base.specs.declared.decl.ObjectId.TheVariants as object
 use Rattle.nf_base.specs.declared.decl.ChainDecl.{ChainDecl}
 use Rattle.nf_base.specs.declared.decl.ArrayDecl.{ArrayDecl}
 use Rattle.nf_base.specs.declared.decl.ColumnDecl.{ColumnDecl}
 use Rattle.nf_base.specs.declared.decl.MapDecl.{MapDecl}
-use Rattle.nf_base.specs.declared.width.Width.TheVariants.{W16, W32, W48, W64}
+use Rattle.nf_base.specs.declared.width.Width.TheVariants.{W16, W32, W64}
 use Rattle.nf_base.specs.Text.{Function}
-use Rattle.hash_fields.specs.declared.hashable.Hashable.{Hashable}
-use Rattle.nf_sites.specs.declared.sort.Sort.TheVariants.{Get, Find, New, Name, Load, Store}
-use Rattle.access_keys.specs.declared.site.Site.{Site}
 use Rattle.shard_rules.specs.declared.rule.Rule.TheVariants.{SameKey, Subset, DisjointKeys, Unhashable, Interchangeable}
 use Rattle.shard_rules.specs.declared.plan.Standing.{Standing}
 use Rattle.shard_rules.specs.declared.plan.Standing.TheVariants.{ReadOnly, Unused, Ruled}
 use Rattle.shard_rules.specs.declared.plan.Plan.{Plan}
-use Rattle.shard_rules.specs.Rows.{at_chain, policer, translator, hidden, narrowed, counter}
+use Rattle.shard_rules.specs.Rows.{policer, translator, hidden, narrowed, counter}
 use Rattle.toeplitz_hash.specs.declared.key.TheConstants.{DEFAULT_KEY}
 use Rattle.key_synth.specs.declared.verdict.Cause.TheVariants as cause
 use Rattle.key_synth.specs.declared.verdict.Verdict.{Verdict}

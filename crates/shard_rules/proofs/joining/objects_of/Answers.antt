@@ -1,4 +1,4 @@
-use Rattle.std.proofs.Common.{◌≡◌, ◌∙◌, sym, ap}
+use Rattle.std.proofs.Common.{◌∙◌, sym, ap}
 use Rattle.nf_sites.specs.Known.{same_object}
 use Rattle.shard_rules.specs.Once.{with_one}
 use Rattle.shard_rules.proofs.OneMore.{object_more}

@@ -1,4 +1,4 @@
-use Rattle.std.proofs.Common.{◌≡◌, ◌∙◌, sym, ap}
+use Rattle.std.proofs.Common.{◌∙◌, sym, ap}
 use Rattle.shard_rules.specs.Once.{with_one}
 use Rattle.shard_rules.specs.Places.{place_of, same_place}
 use Rattle.shard_rules.proofs.OneMore.{site_more, site_other}

@@ -1,4 +1,4 @@
-use Rattle.std.proofs.Common.{◌≡◌, ◌∙◌, Bool, refl, sym}
+use Rattle.std.proofs.Common.{◌∙◌, Bool, refl, sym}
 use Rattle.std.specs.List.{range_with_len}
 use Rattle.nf_sites.specs.Known.{same_object}
 use Rattle.access_keys.specs.declared.site.Site.{Site}
