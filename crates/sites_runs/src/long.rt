@@ -2,8 +2,8 @@
 
 use std::alloc::{AllocError, Global};
 
-/// The names of the long functions.
-pub const LONG: [&str; 15] = [
+/// The names of the long functions, but for `paths`, which has twice the tests of `halves`.
+pub const LONG: [&str; 14] = [
     "touch",
     "free",
     "write",
@@ -16,7 +16,6 @@ pub const LONG: [&str; 15] = [
     "loads",
     "deep",
     "halves",
-    "paths",
     "news",
     "unreached",
 ];
@@ -151,9 +150,9 @@ pub fn text(alloc: Global, name: &str) -> Result<Vec<u8>, AllocError> {
         "store" => statements(alloc, "v[0]=1;", 131_000),
         "set" => statements(alloc, "set ttl=1;", 104_000),
         "test" => statements(alloc, "if 1<2{}", 131_000),
-        "get" => statements(alloc, "get x = c.m(1) { }", 31),
-        "find" => statements(alloc, "find x = c[0] { }", 31),
-        "new" => statements(alloc, "new x = c(a = 1) { }", 15),
+        "get" => statements(alloc, "get x = c.m(1) { }", 11),
+        "find" => statements(alloc, "find x = c[0] { }", 11),
+        "new" => statements(alloc, "new x = c(a = 1) { }", 7),
         "loads" => loads(alloc, 2_650),
         "deep" => deep(alloc),
         "halves" => paths(alloc, 20_000, "v[ttl]=1;"),
