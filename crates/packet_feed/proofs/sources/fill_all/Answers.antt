@@ -5,7 +5,7 @@ use Rattle.packet_feed.specs.Told.{IsApart}
 use Rattle.packet_feed.specs.Streams.{Stream}
 use Rattle.packet_feed.specs.Sources.{files_in}
 use Rattle.packet_feed.proofs.Gathering.{map_kept}
-use Rattle.packet_feed.proofs.Standing.{filled_stands, file_at, same_length, at_file, kept_more, settled_more, faulted_at}
+use Rattle.packet_feed.proofs.Standing.{filled_stands, file_at, same_length, kept_more, settled_more, faulted_at}
 use Rattle.packet_feed.proofs.sources.fill_all.Goals as goal
 
 pub fill-requires : goal.fill-requires
