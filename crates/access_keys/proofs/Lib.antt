@@ -1,6 +1,7 @@
 pub mod Replay
 pub mod Reach
 pub mod Putting
+pub mod InOrder
 pub mod Gathering
 pub mod Same
 pub mod Steps

@@ -2,11 +2,13 @@
 ghost use Rattle.std.specs.Prelude.{◌≡◌, ◌∷◌, [], OnOk, map};
 ghost use Rattle.nf_base.specs.View.{expression_of, given_of, guard_of};
 ghost use Rattle.nf_sites.specs.Sites.{cell_site, expression_sites, given_sites, guard_sites};
+ghost use Rattle.nf_sites.specs.ReadOrder.{by_first_read};
 ghost use Rattle.access_keys.specs.Shown.{Puts};
 
 use crate::creation::NewFields;
 use crate::known::index_known;
 use crate::places::Places;
+use crate::read_order::by_first_read;
 use crate::site::Site;
 use nf_base::decl::{ChainDecl, ObjectId};
 use nf_base::expr::{Expr, Given, Guard};
@@ -110,6 +112,23 @@ pub fn put_given(
         (given_sites here.now.port (map given_of given.now))) }
 {
     for one in given {
+        put_value(alloc, here, &one.value, sites)?;
+    }
+    Ok(())
+}
+
+/// Those of the cells that the values of a `new` read, in text order.
+pub fn put_labels(
+    alloc: Global,
+    here: &Here<'_>,
+    labels: &[Given],
+    sites: &mut Vec<Site>,
+) -> Result<(), AllocError>
+    ensures { OnOk result (Puts here.now sites.old.items sites.new.items
+        (given_sites here.now.port (by_first_read (map given_of labels.now)))) }
+{
+    let values = by_first_read(alloc, labels)?;
+    for one in values.as_slice() {
         put_value(alloc, here, &one.value, sites)?;
     }
     Ok(())

@@ -12,6 +12,7 @@ mod lookup;
 mod marking;
 mod named;
 mod places;
+mod read_order;
 mod site;
 mod statement;
 

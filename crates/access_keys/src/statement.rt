@@ -6,7 +6,7 @@ ghost use Rattle.nf_sites.specs.OnPaths.{sites_along};
 ghost use Rattle.access_keys.specs.Order.{head_of, head_seen};
 ghost use Rattle.access_keys.specs.Shown.{Puts};
 
-use crate::access::{Here, put_cell, put_given, put_guards, put_value};
+use crate::access::{Here, put_cell, put_given, put_guards, put_labels, put_value};
 use crate::lookup::{put_find, put_get, put_new};
 use crate::site::Site;
 use nf_base::block::{Block, Creation, Ending, Operation, Question};
@@ -80,7 +80,7 @@ fn put_question(
     }
 }
 
-/// A `new` and its look-ups stand before what its values read.
+/// A `new` and its look-ups stand before what its values read, which stands in text order.
 fn put_creation(
     alloc: Global,
     here: &Here<'_>,
@@ -91,7 +91,7 @@ fn put_creation(
         (creation_sites here.now.decls.now here.now.port (creation_of creation.now))) }
 {
     put_new(alloc, here, creation, sites)?;
-    put_given(alloc, here, creation.labels.as_slice(), sites)
+    put_labels(alloc, here, creation.labels.as_slice(), sites)
 }
 
 /// The sites of the end of a block.

@@ -24,11 +24,13 @@ use Rattle.nf_laws.proofs.Consumed.{then_then}
 use Rattle.nf_laws.proofs.Plain.{question_event}
 use Rattle.nf_sites.specs.declared.sort.Sort.TheVariants as sort
 use Rattle.nf_sites.specs.Named.{numbered}
+use Rattle.nf_sites.specs.ReadOrder.{by_first_read}
 use Rattle.nf_sites.specs.Sites.{Site, first_in, first_label, cell_site, expression_sites, given_sites, guard_sites, operation_sites, get_site, find_site, question_sites, new_site, name_site, name_sites, statement_sites}
 use Rattle.nf_sites.specs.OnPaths.{statement_of}
 use Rattle.nf_sites.specs.Covers.{AllGiven, label_value, AreTogether, StandsBy}
 use Rattle.nf_sites.specs.Labelled.{MadeAs, Listed, AllLabelled}
 use Rattle.nf_sites.proofs.Slots.{slot, slot_here}
+use Rattle.nf_sites.proofs.Sorting.{sorted_to}
 use Rattle.nf_sites.proofs.Givens.{map_numbered, drop_at, given_key, given_labels, given_guards, key_given}
 use Rattle.nf_sites.proofs.Keeping.{View, input_of, Covered, CoveredBy, fits_labels, made_labelled, Bound, Live, Keeping, keeping_made, keeping_bind, keeping_op, number_here, past}
 
@@ -144,6 +146,10 @@ all_ahead v before ns c w [] es a h g = g before a
 all_ahead v before ns c w (x ∷ gs) es a h g =
     reads_ahead v before ns c w x.value (reads_all (input_of v) c gs es) a (left_in v.all (expression_sites v.port x.value) (given_sites v.port gs) h)
     (λ later b. all_ahead v later ns c w gs es b (right_in v.all (expression_sites v.port x.value) (given_sites v.port gs) h) g)
+
+-- those of values in the order of their reads
+values_in : (all : List Site) (port : ℕ) (gs : List Given) → In all (given_sites port (by_first_read gs)) → In all (given_sites port gs)
+values_in all port gs h = λ x i. h x (sorted_to (λ (g : Given). expression_sites port g.value) gs x i)
 
 guards_ahead : (v : View) (before : List Event) (ns : Numbers) (c : Context) (w : Completion) (gs : List Guard) (es : List Event) → Keeping v before ns c.state.chains c.vars → In v.all (guard_sites v.port gs) → Then v ns c w es → Good v before ns w (reads_guards (input_of v) c gs es)
 guards_ahead v before ns c w [] es a h g = g before a
@@ -462,16 +468,17 @@ covers v stops (Make n made taken full next) before ns c g k r a on h =
     let maps = maps_of v.f.chains n.chain in
     let names = name_sites v.port n 0 maps in
     let follows : (d : Context) (ms : Numbers) (later : List Event) → Keeping v later ms d.state.chains d.vars → On v (path d) → Good v later ms (then_ d) (go d) = λ d ms later b s. covers v stops next later ms d g k r b s h in
-    let own = first_in_all v.all (new_site v.port n) (names ++ given_sites v.port n.labels) on.0 in
-    let rest = rest_in v.all (new_site v.port n) (names ++ given_sites v.port n.labels) on.0 in
+    let reads_of = given_sites v.port (by_first_read n.labels) in
+    let own = first_in_all v.all (new_site v.port n) (names ++ reads_of) on.0 in
+    let rest = rest_in v.all (new_site v.port n) (names ++ reads_of) on.0 in
     let goes : (x : NewResult) → to ≡ x → On v (if_new x (λ i. route stops p made (with_new p c n i) path) (route stops p taken c path) (route stops p full c path) (route stops p full c path) (route stops p full c path)) = λ x e.
     subst (λ (x : NewResult). On v (if_new x (λ i. route stops p made (with_new p c n i) path) (route stops p taken c path) (route stops p full c path) (route stops p full c path) (route stops p full c path))) e on.2 in
     let tail = if_new to (λ i. events stops p made (with_new p c n i) go) (events stops p taken c go) (events stops p full c go) [] [] in
     let whole = if_new to (λ i. exec stops p made (with_new p c n i)) (exec stops p taken c) (exec stops p full c) NoStep (StoppedAt n.chain c.left) in
     subst (λ (w : Completion). Good v before ns w (events stops p (Make n made taken full next) c k)) (sym (then_then whole (exec stops p next) g))
-    (all_ahead v before ns c (and_then whole then_) n.labels (event ∷ tail) a (right_in v.all names (given_sites v.port n.labels) rest)
+    (all_ahead v before ns c (and_then whole then_) n.labels (event ∷ tail) a (values_in v.all v.port n.labels (right_in v.all names reads_of rest))
     (λ last b. new_good v last ns n.place n.chain labels c.left to (λ i. exec stops p made (with_new p c n i)) (exec stops p taken c) (exec stops p full c) then_ (λ i. events stops p made (with_new p c n i) go) (events stops p taken c go) (events stops p full c go)
-    (keys_covered v last c n to 0 (KeyOf n.chain) maps (λ j ks. let e : 0 + j ≡ j = omega arith in ap (λ k. KeyOf n.chain k ks) (sym e)) refl (left_in v.all names (given_sites v.port n.labels) rest))
+    (keys_covered v last c n to 0 (KeyOf n.chain) maps (λ j ks. let e : 0 + j ≡ j = omega arith in ap (λ k. KeyOf n.chain k ks) (sym e)) refl (left_in v.all names reads_of rest))
     (λ i e table. (
       record { touched = new_covered v c n (ns.made n.chain) own (on.1 c) table; stands = record { place = refl; own = refl } },
       covers v stops made (last ++ event ∷ []) (one_more n.chain i ns) (with_new p c n i) then_ go path (new_keeps v last ns stops c n i b e table (on.1 c) own) (goes (Made i) e) follows,

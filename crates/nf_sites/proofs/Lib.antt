@@ -1,7 +1,9 @@
 pub mod Lists
 pub mod Pairs
+pub mod Sorting
 pub mod Placed
 pub mod Rising
+pub mod RisingTexts
 pub mod OfText
 pub mod Listing
 pub mod KeptLabels
@@ -18,3 +20,4 @@ pub mod Separate
 pub mod HashedRows
 pub mod Speaking
 pub mod TouchedRows
+pub mod OrderedRows

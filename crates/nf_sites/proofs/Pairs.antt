@@ -14,7 +14,7 @@ pub from_all : {A : Type 0} (R : A → A → Type 0) (xs : List A) → AllPairs 
 from_all R [] all = tt
 from_all R (x ∷ xs) all = (λ y h. subst (R x) h.2 (all 0 (suc h.0) y (omega arith) (let lt = h.1 in omega arith)), from_all R xs (rest_pairs R x xs all))
 
-is_in : {A : Type 0} (xs : List A) (k : ℕ) (d : A) → k < length xs → Contains xs (slice_index_or xs k d)
+pub is_in : {A : Type 0} (xs : List A) (k : ℕ) (d : A) → k < length xs → Contains xs (slice_index_or xs k d)
 is_in [] k d lt = absurd (omega (arith, lt))
 is_in (x ∷ xs) zero d lt = here x xs
 is_in (x ∷ xs) (suc k) d lt = there x xs (slice_index_or xs k d) (is_in xs k d (omega (arith, lt)))

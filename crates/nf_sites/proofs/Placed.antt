@@ -9,7 +9,9 @@ use Rattle.nf_base.specs.Statements.{Statement, Ends, Does, Asks, Makes}
 use Rattle.nf_base.specs.TextPlaces.{expression_places, given_places, guard_places, places_in}
 use Rattle.nf_sites.specs.declared.sort.Sort.TheVariants as sort
 use Rattle.nf_sites.specs.Sites.{Site, cell_site, expression_sites, given_sites, guard_sites, get_site, find_site, new_site, name_sites, name_site, statement_sites}
+use Rattle.nf_sites.specs.ReadOrder.{by_first_read}
 use Rattle.nf_laws.proofs.Listed.{here, there, has, has_none}
+use Rattle.nf_sites.proofs.Sorting.{sorted_from}
 
 pub record IsOf (of : ℕ) (places : List ℕ) (x : Site) : Type 0 where
   pub port : x.port ≡ of
@@ -40,6 +42,10 @@ of_expression port (Both operator l r) x h = either_of port (expression_places l
 pub of_givens : (port : ℕ) (gs : List Given) (x : Site) → Contains (given_sites port gs) x → IsOf port (given_places gs) x
 of_givens port [] x h = absurd (has_none x h)
 of_givens port (g ∷ gs) x h = either_of port (expression_places g.value) (given_places gs) (expression_sites port g.value) (given_sites port gs) x (of_expression port g.value x) (of_givens port gs x) h
+
+-- in whatever order the values stand
+pub of_sorted : (port : ℕ) (gs : List Given) (x : Site) → Contains (given_sites port (by_first_read gs)) x → IsOf port (given_places gs) x
+of_sorted port gs x h = of_givens port gs x (sorted_from (λ (g : Given). expression_sites port g.value) gs x h)
 
 pub of_guards : (port : ℕ) (gs : List Guard) (x : Site) → Contains (guard_sites port gs) x → IsOf port (guard_places gs) x
 of_guards port [] x h = absurd (has_none x h)
@@ -81,10 +87,11 @@ of_statement decls port (Asks (Test place comparison l r)) x h =
     record { port = w.port; place = there place (expression_places l ++ expression_places r) x.place w.place }
 of_statement decls port (Makes n) x h =
     let names = name_sites port n 0 (maps_of decls n.chain) in
-    elim (has (new_site port n) (names ++ given_sites port n.labels) x h) [
+    let reads = given_sites port (by_first_read n.labels) in
+    elim (has (new_site port n) (names ++ reads) x h) [
       | inl q ↦ at_place port n.place (given_places n.labels) x (subst (λ (y : Site). IsAt port n.place y) q (record { port = refl; place = refl }))
-      | inr i ↦ elim (Contains-append_cases names (given_sites port n.labels) x i) [
+      | inr i ↦ elim (Contains-append_cases names reads x i) [
         | inl j ↦ at_place port n.place (given_places n.labels) x (of_names port n 0 (maps_of decls n.chain) x j)
-        | inr j ↦ let w = of_givens port n.labels x j in record { port = w.port; place = there n.place (given_places n.labels) x.place w.place }
+        | inr j ↦ let w = of_sorted port n.labels x j in record { port = w.port; place = there n.place (given_places n.labels) x.place w.place }
       ]
     ]

@@ -2,7 +2,8 @@
 use Rattle.std.proofs.Common.{◌≡◌, ◌<◌, ◌≤◌, ℕ, suc, List, [], ◌∷◌, ◌++◌, AllPairs, Contains, Option, Some, None, slice_get, refl, sym, subst, arith, inl, inr}
 use Rattle.std.specs.List.{flat_map}
 use Rattle.std.proofs.lemmas.List.Kept.{AllPairs-from_increasing}
-use Rattle.std.proofs.lemmas.List.Elements.{Contains-append_cases}
+use Rattle.std.specs.List.Sorted.{IsStrictlyIncreasing}
+use Rattle.std.proofs.lemmas.List.Elements.{Contains-append_cases, All-contains}
 use Rattle.nf_base.specs.declared.decl.MapDecl.{MapDecl}
 use Rattle.nf_base.specs.declared.decl.ChainDecl.{ChainDecl}
 use Rattle.nf_base.specs.Text.{Expression, Number, Read, Index, Label, Column, Cell, Both, Given, Guard, FallsOff, Flood, Discard, Forward, Touch, Free, Set, Write, Store, Get, Find, Test, Creation, Block, Function}
@@ -12,10 +13,13 @@ use Rattle.nf_base.specs.TextPlaces.{expression_places, given_places, guard_plac
 use Rattle.nf_sites.specs.declared.sort.Sort.TheVariants as sort
 use Rattle.nf_sites.specs.Sites.{Site, cell_site, expression_sites, given_sites, guard_sites, get_site, find_site, name_sites, statement_sites}
 use Rattle.nf_sites.specs.OnPaths.{sites_along, text_sites, is_reached, handler_sites}
+use Rattle.nf_sites.specs.ReadOrder.{by_first_read}
+use Rattle.nf_sites.specs.TextOrder.{StandBefore, StandApart, NewRises, StatementRises}
 use Rattle.nf_sites.specs.Laws.{SitesAreOfTheirPort, SitesStandInTextOrder}
-use Rattle.nf_laws.proofs.Listed.{has_none, was}
+use Rattle.nf_laws.proofs.Listed.{here, there, has_none, was}
 use Rattle.nf_sites.proofs.Pairs.{Pairs, from_all, to_all, left, right, across, joined, filtered}
-use Rattle.nf_sites.proofs.Placed.{IsOf, either_of, of_expression, of_givens, of_guards, of_names, of_statement}
+use Rattle.nf_sites.proofs.Sorting.{Follow, sorted_of, sorted_follow, follow_before, before_all}
+use Rattle.nf_sites.proofs.Placed.{IsOf, either_of, of_expression, of_givens, of_sorted, of_guards, of_names, of_statement}
 
 abbrev Below : ℕ → ℕ → Type 0
 Below a b = a < b
@@ -58,54 +62,75 @@ names_in_order : (port : ℕ) (n : Creation) (m : ℕ) (decls : List MapDecl) �
 names_in_order port n m [] = tt
 names_in_order port n m (decl ∷ decls) = (λ y i. let e = (of_names port n (suc m) decls y i).place in omega (arith, e), names_in_order port n (suc m) decls)
 
-of_new : (decls : List ChainDecl) (port : ℕ) (n : Creation) → Rising (n.place ∷ given_places n.labels) → InOrder (statement_sites decls port (Makes n))
+each_in_order : (port : ℕ) (gs : List Given) → ((g : Given) → Contains gs g → Rising (expression_places g.value)) → Pairs Follow gs → InOrder (given_sites port gs)
+each_in_order port [] r p = tt
+each_in_order port (g ∷ gs) r p =
+    let lower = before_all (λ (h : Given). expression_places h.value) (expression_places g.value) gs (λ h i. follow_before g h (p.0 h i)) in
+    joined Behind (expression_sites port g.value) (given_sites port gs) (of_reads port g.value (r g (here g gs))) (each_in_order port gs (λ h i. r h (there g gs h i)) p.1)
+    (λ x y i j. let lt = lower x.place y.place (of_expression port g.value x i).place (of_givens port gs y j).place in omega (arith, lt))
+
+rises : (ns : List ℕ) → IsStrictlyIncreasing ns → Rising ns
+rises ns h = from_all Below ns (AllPairs-from_increasing ns h)
+
+of_new : (decls : List ChainDecl) (port : ℕ) (n : Creation) → NewRises n → InOrder (statement_sites decls port (Makes n))
 of_new decls port n h =
     let names = name_sites port n 0 (maps_of decls n.chain) in
-    let reads = given_sites port n.labels in (
+    let reads = given_sites port (by_first_read n.labels) in
+    let later : (y : Site) → Contains reads y → n.place < y.place = λ y j. h.first n.place y.place (here n.place []) (of_sorted port n.labels y j).place in (
       λ y i. elim (Contains-append_cases names reads y i) [
         | inl j ↦ let e = (of_names port n 0 (maps_of decls n.chain) y j).place in omega (arith, e)
-        | inr j ↦ let lt = h.0 y.place (of_givens port n.labels y j).place in omega (arith, lt)
+        | inr j ↦ let lt = later y j in omega (arith, lt)
       ],
-      joined Behind names reads (names_in_order port n 0 (maps_of decls n.chain)) (of_values port n.labels h.1)
-          (λ x y i j. let e = (of_names port n 0 (maps_of decls n.chain) x i).place in let lt = h.0 y.place (of_givens port n.labels y j).place in omega (arith, e, lt)),
+      joined Behind names reads (names_in_order port n 0 (maps_of decls n.chain))
+          (each_in_order port (by_first_read n.labels)
+          (λ g i. rises (expression_places g.value) (All-contains (λ (x : Given). IsStrictlyIncreasing (expression_places x.value)) n.labels g h.each (sorted_of n.labels g i)))
+          (sorted_follow n.labels (from_all StandApart n.labels h.apart)))
+          (λ x y i j. let e = (of_names port n 0 (maps_of decls n.chain) x i).place in let lt = later y j in omega (arith, e, lt)),
     )
 
-in_statement : (decls : List ChainDecl) (port : ℕ) (s : Statement) → Rising (places_in s) → InOrder (statement_sites decls port s)
+in_statement : (decls : List ChainDecl) (port : ℕ) (s : Statement) → StatementRises s → InOrder (statement_sites decls port s)
 in_statement decls port (Ends FallsOff) h = tt
 in_statement decls port (Ends Flood) h = tt
 in_statement decls port (Ends Discard) h = tt
-in_statement decls port (Ends (Forward to)) h = of_reads port to h
+in_statement decls port (Ends (Forward to)) h = of_reads port to (rises (expression_places to) h)
 in_statement decls port (Does (Touch var)) h = tt
 in_statement decls port (Does (Free var)) h = tt
-in_statement decls port (Does (Set field g)) h = of_reads port g.value h
-in_statement decls port (Does (Write var column g)) h = of_reads port g.value h
+in_statement decls port (Does (Set field g)) h = of_reads port g.value (rises (expression_places g.value) h)
+in_statement decls port (Does (Write var column g)) h = of_reads port g.value (rises (expression_places g.value) h)
 in_statement decls port (Does (Store place array at g)) h =
-    first port place (expression_places at ++ expression_places g.value) (cell_site port sort.Store place array at) (expression_sites port at ++ expression_sites port g.value) refl h
+    first port place (expression_places at ++ expression_places g.value) (cell_site port sort.Store place array at) (expression_sites port at ++ expression_sites port g.value) refl (rises (place ∷ (expression_places at ++ expression_places g.value)) h)
     (λ x. either_of port (expression_places at) (expression_places g.value) (expression_sites port at) (expression_sites port g.value) x (of_expression port at x) (of_expression port g.value x))
     (λ r. both port (expression_places at) (expression_places g.value) (expression_sites port at) (expression_sites port g.value) r (of_expression port at) (of_expression port g.value) (of_reads port at) (of_reads port g.value))
-in_statement decls port (Asks (Get place chain m key var)) h = first port place (given_places key) (get_site decls port place chain m key) (given_sites port key) refl h (of_givens port key) (of_values port key)
+in_statement decls port (Asks (Get place chain m key var)) h = first port place (given_places key) (get_site decls port place chain m key) (given_sites port key) refl (rises (place ∷ given_places key) h) (of_givens port key) (of_values port key)
 in_statement decls port (Asks (Find place chain at guards var)) h =
-    first port place (expression_places at ++ guard_places guards) (find_site port place chain guards) (expression_sites port at ++ guard_sites port guards) refl h
+    first port place (expression_places at ++ guard_places guards) (find_site port place chain guards) (expression_sites port at ++ guard_sites port guards) refl (rises (place ∷ (expression_places at ++ guard_places guards)) h)
     (λ x. either_of port (expression_places at) (guard_places guards) (expression_sites port at) (guard_sites port guards) x (of_expression port at x) (of_guards port guards x))
     (λ r. both port (expression_places at) (guard_places guards) (expression_sites port at) (guard_sites port guards) r (of_expression port at) (of_guards port guards) (of_reads port at) (of_asked port guards))
 in_statement decls port (Asks (Test place comparison l r)) h =
-    both port (expression_places l) (expression_places r) (expression_sites port l) (expression_sites port r) h.1 (of_expression port l) (of_expression port r) (of_reads port l) (of_reads port r)
+    both port (expression_places l) (expression_places r) (expression_sites port l) (expression_sites port r) (rises (place ∷ (expression_places l ++ expression_places r)) h).1 (of_expression port l) (of_expression port r) (of_reads port l) (of_reads port r)
 in_statement decls port (Makes n) h = of_new decls port n h
 
 pub along : (decls : List ChainDecl) (port : ℕ) (ss : List Statement) (x : Site) → Contains (sites_along decls port ss) x → IsOf port (flat_map places_in ss) x
 along decls port [] x h = absurd (has_none x h)
 along decls port (s ∷ ss) x h = either_of port (places_in s) (flat_map places_in ss) (statement_sites decls port s) (sites_along decls port ss) x (of_statement decls port s x) (along decls port ss x) h
 
-all_in_order : (decls : List ChainDecl) (port : ℕ) (ss : List Statement) → Rising (flat_map places_in ss) → InOrder (sites_along decls port ss)
-all_in_order decls port [] h = tt
-all_in_order decls port (s ∷ ss) h =
-    both port (places_in s) (flat_map places_in ss) (statement_sites decls port s) (sites_along decls port ss) h (of_statement decls port s) (along decls port ss) (in_statement decls port s) (all_in_order decls port ss)
+-- the places of one statement stand before those of another
+abbrev Lower : Statement → Statement → Type 0
+Lower s t = StandBefore (places_in s) (places_in t)
+
+all_in_order : (decls : List ChainDecl) (port : ℕ) (ss : List Statement) → ((s : Statement) → Contains ss s → StatementRises s) → Pairs Lower ss → InOrder (sites_along decls port ss)
+all_in_order decls port [] r p = tt
+all_in_order decls port (s ∷ ss) r p =
+    let lower = before_all places_in (places_in s) ss p.0 in
+    joined Behind (statement_sites decls port s) (sites_along decls port ss) (in_statement decls port s (r s (here s ss))) (all_in_order decls port ss (λ t i. r t (there s ss t i)) p.1)
+    (λ x y i j. let lt = lower x.place y.place (of_statement decls port s x i).place (along decls port ss y j).place in omega (arith, lt))
 
 pub in_text_order : SitesStandInTextOrder
-in_text_order f port block e rises =
-    let h = from_all Below (flat_map places_in (statements block)) (AllPairs-from_increasing (flat_map places_in (statements block)) rises) in
+in_text_order f port block e h =
+    let ss = statements block in
+    let all = all_in_order f.chains port ss (λ s i. All-contains StatementRises ss s h.each i) (from_all Lower ss h.between) in
     subst (λ (o : Option Block). AllPairs Behind (handler_sites f port o)) (sym e)
-    (to_all Behind (handler_sites f port (Some block)) (filtered Behind (λ (x : Site). is_reached f port x.place) (text_sites f.chains port block) (all_in_order f.chains port (statements block) h)))
+    (to_all Behind (handler_sites f port (Some block)) (filtered Behind (λ (x : Site). is_reached f port x.place) (text_sites f.chains port block) all))
 
 at_handler : (f : Function) (port : ℕ) (o : Option Block) (x : Site) → Contains (handler_sites f port o) x → x.port ≡ port
 at_handler f port None x h = absurd (has_none x h)

@@ -8,6 +8,7 @@ use Rattle.nf_base.specs.Text.{Block, Function}
 use Rattle.nf_base.specs.Statements.{statements}
 use Rattle.nf_base.specs.TextPlaces.{places_in, HasPlaces}
 use Rattle.nf_sites.specs.Sites.{Site}
+use Rattle.nf_sites.specs.TextOrder.{PlacesRise}
 use Rattle.nf_sites.specs.OnPaths.{port_sites, sites_of, IsSite}
 use Rattle.nf_sites.specs.Known.{is_kept, IsKept}
 use Rattle.nf_sites.specs.Admissible.{IsAdmissibleBySites, IsAdmissible}
@@ -26,12 +27,19 @@ abbrev pub SitesAreOfTheirPort : Type 0
 SitesAreOfTheirPort =
     (f : Function) (port : ℕ) (x : Site) → Contains (port_sites f port) x → x.port ≡ port
 
--- and stand as their places do, where those rise along the text; a `new` and its look-ups have one
+-- and stand as their places do, where those rise along the text, in whatever order a `new` is given
+-- its labels; it has one place with its look-ups
 abbrev pub SitesStandInTextOrder : Type 0
 SitesStandInTextOrder =
     (f : Function) (port : ℕ) (block : Block) → slice_get f.handlers port ≡ Some block →
-    IsStrictlyIncreasing (flat_map places_in (statements block)) →
+    PlacesRise block →
     AllPairs (λ (x y : Site). x.place ≤ y.place) (port_sites f port)
+
+-- which they do where all places rise, a `new`'s too, as the chain has its labels
+abbrev pub RisingTextsRise : Type 0
+RisingTextsRise =
+    (block : Block) → IsStrictlyIncreasing (flat_map places_in (statements block)) →
+    PlacesRise block
 
 -- a kept label is known at each site of its object
 abbrev pub KeptLabelsAreKnown : Type 0

@@ -1,4 +1,6 @@
 pub mod Named
+pub mod ReadOrder
+pub mod TextOrder
 pub mod Sites
 pub mod OnPaths
 pub mod Known
@@ -12,3 +14,4 @@ pub mod Separation
 pub mod Samples
 pub mod Rows
 pub mod CoverRows
+pub mod OrderRows

@@ -12,6 +12,7 @@ use Rattle.nf_base.specs.Statements.{Statement, Ends, Does, Asks, Makes}
 use Rattle.nf_sites.specs.declared.sort.Sort.{Sort}
 use Rattle.nf_sites.specs.declared.sort.Sort.TheVariants as sort
 use Rattle.nf_sites.specs.Named.{Named, numbered}
+use Rattle.nf_sites.specs.ReadOrder.{by_first_read}
 
 -- an object touched at a place of a port's text, and the labels that are given values there
 pub record Site : Type 0 where
@@ -129,10 +130,11 @@ abbrev pub name_sites : ℕ → Creation → ℕ → List MapDecl → List Site
 name_sites port n m [] = []
 name_sites port n m (decl ∷ decls) = name_site port n m decl ∷ name_sites port n (suc m) decls
 
--- a `new`, its look-up of each map of its chain, and then what its values read
+-- a `new`, its look-up of each map of its chain, and then what its values read, in text order
 abbrev pub creation_sites : List ChainDecl → ℕ → Creation → List Site
 creation_sites decls port n =
-    new_site port n ∷ (name_sites port n 0 (maps_of decls n.chain) ++ given_sites port n.labels)
+    new_site port n
+    ∷ (name_sites port n 0 (maps_of decls n.chain) ++ given_sites port (by_first_read n.labels))
 
 -- the cells that an end reads
 abbrev pub ending_sites : ℕ → Ending → List Site

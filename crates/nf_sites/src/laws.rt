@@ -1,6 +1,6 @@
 //! Laws of sites. Each function's contract is a law; its body does nothing.
 ghost use Rattle.nf_sites.specs.KnownLaws.{FieldsAreGiven, TogetherIs, SpeakersSpeak, NoneSpeaksWhere};
-ghost use Rattle.nf_sites.specs.Laws.{ListsSayWhatIsAdmissible, SitesOnPathsAreListed, ListedSitesAreOnPaths, SitesAreOfTheirPort, SitesStandInTextOrder, KeptLabelsAreKnown, LabelsKnownAreKept};
+ghost use Rattle.nf_sites.specs.Laws.{ListsSayWhatIsAdmissible, RisingTextsRise, SitesOnPathsAreListed, ListedSitesAreOnPaths, SitesAreOfTheirPort, SitesStandInTextOrder, KeptLabelsAreKnown, LabelsKnownAreKept};
 
 /// The sites of a function are those on feasible paths: all of them, and, where its text has
 /// places, no others.
@@ -9,10 +9,12 @@ pub fn sites_are_on_feasible_paths()
     ensures only { ListedSitesAreOnPaths }
 {}
 
-/// The sites of a port are of that port, in the order of the text's places.
+/// The sites of a port are of that port, in the order of the text's places, whatever order the text
+/// gives the labels of a `new` in.
 pub fn sites_stand_in_text_order()
     ensures port { SitesAreOfTheirPort }
     ensures rising { SitesStandInTextOrder }
+    ensures whole { RisingTextsRise }
 {}
 
 /// A label is kept exactly where it is known at each site of its object.

@@ -1,5 +1,6 @@
 //! Worked rows, as the definitions compute them.
 ghost use Rattle.nf_sites.specs.CoverRows.{SortsAreTold, EntriesAreFoundFirst, ValuesAreGiven};
+ghost use Rattle.nf_sites.specs.OrderRows.{LabelsInAnyOrder};
 ghost use Rattle.nf_sites.specs.Rows.{SitesKnow, LabelsAreTogether, TextsHaveSites, HashesAreAdmissible};
 
 /// The sites of a policer, a NAT, a bridge, a function with a look-up that only its `new` makes,
@@ -16,6 +17,12 @@ pub fn labels_are_together()
 /// The sites of a text with every kind of statement, and of one with a place that is never reached.
 pub fn texts_have_sites()
     ensures { TextsHaveSites }
+{}
+
+/// The sites of a `new` whose labels the text gives in another order than the chain declares them:
+/// the cells that they read stand as the text has them.
+pub fn labels_are_given_in_any_order()
+    ensures { LabelsInAnyOrder }
 {}
 
 /// At a policer's port a hash of the destination address is admissible, and one of the source is
