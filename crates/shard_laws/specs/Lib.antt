@@ -1,0 +1,9 @@
+pub mod Homes
+pub mod Agreement
+pub mod Queues
+pub mod Parts
+pub mod Unions
+pub mod Laws
+pub mod Rule
+pub mod ShareLaws
+pub mod Rows
