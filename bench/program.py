@@ -19,6 +19,15 @@ def built():
     return TOP / "crates" / "maestro" / "out" / "maestro"
 
 
+def built_crate(name):
+    """A program that only tries or measures a library, proved and built where it isn't yet."""
+    crate = TOP / "crates" / name
+    took = subprocess.run(["rt", "run"], cwd=crate, stdin=subprocess.DEVNULL, capture_output=True, check=False)
+    if took.returncode:
+        sys.exit(f"{Path(sys.argv[0]).name}: `rt run` in {crate} ended with {took.returncode}\n{took.stderr.decode()}")
+    return crate / "out" / name
+
+
 @dataclass
 class Took:
     """What a process took, in seconds and KiB, and how it ended."""

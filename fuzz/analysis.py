@@ -207,6 +207,12 @@ class Object:
         return [label for label in self.widths if all(label in site.known for site in self.sites)]
 
     @property
+    def places(self):
+        """Of each site the number of its port, and the fields that it knows of the kept labels."""
+        kept = self.kept
+        return [(site.port, tuple(site.known[it] for it in kept)) for site in self.sites]
+
+    @property
     def rule(self):
         if not self.kept:
             return "J4" if any(not site.known for site in self.sites) else "J3"
@@ -256,9 +262,8 @@ class Analysis:
     def judge(self):
         """Finds the keys, or the cause for which there are none."""
         shared = [it for it in self.objects.values() if it.written and it.sites]
-        plan = [[(site.port, tuple(site.known[it] for it in of.kept)) for site in of.sites] for of in shared]
-        self.plan = plan
-        self.keys = given_keys(RSS, self.function.ports, plan, key_of(DEFAULT))
+        self.plan = [it.places for it in shared]
+        self.keys = given_keys(RSS, self.function.ports, self.plan, key_of(DEFAULT))
         self.cause = "hash"
         for it in reversed(shared):
             if not it.kept:

@@ -131,15 +131,12 @@ class Solutions:
         return found
 
 
-def nearest(unknowns, rows, default, groups):
-    """The solution nearest a default by reading order that has a 1 in each group of unknowns, None where none has.
-
-    So read, each unknown is the default's unless no solution with a 1 in each group has it behind those before.
-    """
+def signed_solutions(unknowns, rows, groups):
+    """The solutions of equations, and those with 0 in all of some groups of unknowns, each with its sign of inclusion
+    and exclusion."""
     base = Solutions(unknowns)
     for row in rows:
         base.add(row)
-    # The solutions with 0 in all of some groups, each with the sign of inclusion and exclusion.
     signed = [(1, base)]
     for group in groups:
         for sign, of in list(signed):
@@ -147,14 +144,28 @@ def nearest(unknowns, rows, default, groups):
             for at in group:
                 without.add(1 << at)
             signed.append((-sign, without))
-    if not sum(sign * of.count() for sign, of in signed):
+    return signed
+
+
+def count(signed):
+    """How many solutions have a 1 in each group."""
+    return sum(sign * of.count() for sign, of in signed)
+
+
+def nearest(unknowns, rows, default, groups):
+    """The solution nearest a default by reading order that has a 1 in each group of unknowns, None where none has.
+
+    So read, each unknown is the default's unless no solution with a 1 in each group has it behind those before.
+    """
+    signed = signed_solutions(unknowns, rows, groups)
+    if not count(signed):
         return None
     found = 0
     for at in range(unknowns):
         wanted = default >> at & 1
         for value in (wanted, 1 - wanted):
             tried = [(sign, with_equation(of, 1 << at | value << unknowns)) for sign, of in signed if not of.none]
-            if sum(sign * of.count() for sign, of in tried):
+            if count(tried):
                 break
         signed = tried
         found |= value << at
@@ -184,28 +195,46 @@ def agreeing(hashing, left, right):
     return [(pair & half, pair >> hashing.inputs) for pair in system.basis()]
 
 
-def equations(hashing, objects):
-    """What admissible keys have to satisfy. An object is the list of its sites, each the number of its port and the
-    fields of the kept labels; port p's bit i is unknown p * positions + i."""
+def numbered(objects):
+    """The ports at which objects have sites, in order, and the objects with each port's number among these. An object
+    is the list of its sites, each its port and the fields of the kept labels."""
+    keyed = sorted({port for places in objects for port, _ in places})
+    return keyed, [[(keyed.index(port), fields) for port, fields in places] for places in objects]
+
+
+def alike(hashing, objects):
+    """Pairs of inputs of which it is enough that each two hash alike: the number of a port and its input, twice."""
     found = set()
     for places in objects:
         for (port, left), (other, right) in combinations_with_replacement(sorted(set(places)), 2):
-            for one, two in agreeing(hashing, left, right):
-                for j in range(hashing.bits):
-                    shift = hashing.positions
-                    found.add((one << j << port * shift) ^ (two << j << other * shift))
+            found.update((port, one, other, two) for one, two in agreeing(hashing, left, right))
+    return found
+
+
+def equations(hashing, pairs):
+    """What keys have to satisfy under which these pairs of inputs hash alike: port p's bit i is unknown
+    p * positions + i."""
+    found = set()
+    for port, one, other, two in pairs:
+        for j in range(hashing.bits):
+            shift = hashing.positions
+            found.add((one << j << port * shift) ^ (two << j << other * shift))
     return found - {0}
+
+
+def groups(hashing, ports):
+    """Of so many ports the unknowns of which one has to be a 1, so that the keys spread."""
+    return [[number * hashing.positions + at for at in hashing.spreading] for number in range(ports)]
 
 
 def given_keys(hashing, ports, objects, default):
     """The given keys of so many ports as vectors, None where no admissible keys spread."""
-    keyed = sorted({port for places in objects for port, _ in places})
-    numbered = [[(keyed.index(port), fields) for port, fields in places] for places in objects]
+    keyed, placed = numbered(objects)
     each = hashing.positions
     front = default & (1 << each) - 1
     wanted = sum(front << number * each for number in range(len(keyed)))
-    groups = [[number * each + at for at in hashing.spreading] for number in range(len(keyed))]
-    found = nearest(len(keyed) * each, sorted(equations(hashing, numbered)), wanted, groups)
+    rows = sorted(equations(hashing, alike(hashing, placed)))
+    found = nearest(len(keyed) * each, rows, wanted, groups(hashing, len(keyed)))
     if found is None:
         return None
     keys = [default] * ports

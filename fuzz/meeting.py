@@ -103,18 +103,24 @@ def touched(analysis, captures, random, events):
     return found
 
 
-def apart(analysis, keys, packets, events):
-    """Two packets that meet and hash apart under the keys, None where all that meet hash alike."""
+def hashing(keys):
+    """The hash of packets under each port's key, by their port and their fields."""
+    return lambda port, fields: toeplitz(RSS, keys[port], input_of(RSS, fields))
+
+
+def apart(analysis, hash_of, packets, events):
+    """Two packets that meet and hash apart, None where all that meet hash alike."""
     written = {it.name for it in analysis.objects.values() if it.written}
     by_place, hashes, inputs = defaultdict(list), [], []
     for number, (port, fields, places) in enumerate(packets):
         inputs.append(input_of(RSS, fields))
-        hashes.append(toeplitz(RSS, keys[port], inputs[-1]))
+        hashes.append(hash_of(port, fields))
         for place in places:
             if place[0] in written:
                 by_place[place].append(number)
     pairs = {pair for numbers in by_place.values() for pair in itertools.combinations(numbers, 2)}
     events["pairs that meet"] += len(pairs)
+    events["different hashes"] += len(set(hashes))
     for one, other in sorted(pairs):
         events["pairs of different inputs"] += inputs[one] != inputs[other]
         events["pairs at different ports"] += packets[one][0] != packets[other][0]
