@@ -4,7 +4,7 @@ import subprocess
 import sys
 import threading
 import time
-from dataclasses import dataclass
+from dataclasses import dataclass, replace
 from pathlib import Path
 
 TOP = Path(__file__).resolve().parent.parent
@@ -30,12 +30,67 @@ def built_crate(name):
 
 @dataclass
 class Took:
-    """What a process took, in seconds and KiB, and how it ended."""
+    """What a process took, in seconds and KiB, and how it ended.
+
+    The processor's seconds are those in the program and those in the system.
+    """
     seconds: float
-    processor: float
+    user: float
+    system: float
     memory: int
     status: int
     said: bytes
+
+    @property
+    def processor(self):
+        return self.user + self.system
+
+    @staticmethod
+    def none():
+        return Took(0, 0, 0, 0, 0, b"")
+
+    def then(self, later):
+        """What this and a later process took together."""
+        return Took(
+            self.seconds + later.seconds,
+            self.user + later.user,
+            self.system + later.system,
+            max(self.memory, later.memory),
+            later.status,
+            later.said,
+        )
+
+
+def best(runs):
+    """The least time of a few runs, that of the processor of one run, and the most memory."""
+    least = min(runs, key=lambda took: took.processor)
+    memory = max(took.memory for took in runs)
+    return replace(least, seconds=min(took.seconds for took in runs), memory=memory)
+
+
+class Tools:
+    """Programs in C that are built into a folder: the firewall by hand, and one that tells what another took."""
+
+    def __init__(self, folder):
+        self.folder = folder
+        self.floor = self.compiled("floor")
+        self.launcher = self.compiled("took")
+
+    def compiled(self, name):
+        built_as = self.folder / name
+        words = ["cc", "-O3", "-o", built_as, Path(__file__).resolve().parent / f"{name}.c"]
+        if subprocess.run(words, check=False).returncode:
+            sys.exit(f"{Path(sys.argv[0]).name}: {name}.c can't be compiled")
+        return built_as
+
+    def took(self, words, stdout=subprocess.PIPE, stderr=None):
+        """Runs a program to its end. Its memory is its own, whatever this script holds."""
+        told = self.folder / "took.txt"
+        run = subprocess.run([self.launcher, told, *words], stdout=stdout, stderr=stderr, check=False)
+        if run.returncode:
+            sys.exit(f"{Path(sys.argv[0]).name}: {words[0]} can't be run")
+        seconds, user, system, memory, status = told.read_text().split()
+        return Took(float(seconds), float(user), float(system), int(memory), int(status), run.stdout or b"")
 
 
 def timed(words, limit=None, **how):
@@ -56,4 +111,4 @@ def timed(words, limit=None, **how):
             stop.cancel()
     seconds = time.monotonic() - start
     process.returncode = os.waitstatus_to_exitcode(status)
-    return Took(seconds, used.ru_utime + used.ru_stime, used.ru_maxrss, process.returncode, said)
+    return Took(seconds, used.ru_utime, used.ru_stime, used.ru_maxrss, process.returncode, said)

@@ -14,9 +14,14 @@ import struct
 LIFETIME = 60_000_000_000
 # The header of a capture with nanoseconds, little-endian, of Ethernet.
 HEADER = struct.pack("<IHHIIII", 0xA1B23C4D, 2, 4, 0, 0, 262144, 1)
+HEADER_SIZE = len(HEADER)
 RECORD = struct.Struct("<IIII")
 # As in the "simple Internet mix", of 12 frames 7 small ones, 4 of middle size and a large one, in bytes.
 MIX = (64, 570, 64, 64, 570, 64, 1500, 64, 570, 64, 570, 64)
+# Six small frames, three of middle size and three large ones: 565 bytes on the mean.
+FULL = (92, 1500, 92, 576, 92, 1500, 92, 576, 92, 1500, 92, 576)
+# Captured bytes of a frame that is cut: its headers, as with `tcpdump -s 64`.
+CUT = 64
 SERVER = (198 << 24 | 51 << 16 | 100 << 8 | 7, 80)
 TCP, UDP = 6, 17
 
@@ -49,12 +54,13 @@ def headers(source, target, size, protocol):
 
 
 class Traffic:
-    """So many records a capture, of so many flows, with frames of some sizes in turn."""
+    """So many records a capture, of so many flows, with frames of some sizes in turn, whole or cut to some bytes."""
 
-    def __init__(self, records, flows, sizes=MIX):
+    def __init__(self, records, flows, sizes=MIX, cut=None):
         self.records = records
         self.flows = flows
         self.sizes = sizes
+        self.cut = cut
 
     def turns(self, port):
         """The flow of each record, without an end."""
@@ -76,7 +82,7 @@ class Traffic:
                 frame = frames.get((flow, size))
                 if frame is None:
                     source, target = (client(flow), SERVER) if port == 0 else (SERVER, reply_to(flow))
-                    frame = headers(source, target, size, TCP if flow % 2 else UDP).ljust(size, b"\0")
+                    frame = headers(source, target, size, TCP if flow % 2 else UDP).ljust(size, b"\0")[:self.cut]
                     frames[flow, size] = frame
-                out.write(RECORD.pack(time // 10**9, time % 10**9, size, size) + frame)
+                out.write(RECORD.pack(time // 10**9, time % 10**9, len(frame), size) + frame)
                 time += step

@@ -8,5 +8,6 @@ pub mod Causes
 pub mod Expected
 pub mod Opened
 pub mod Memory
+pub mod Origins
 pub mod Untold
 pub mod Standard

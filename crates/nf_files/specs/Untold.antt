@@ -3,8 +3,8 @@ use Rattle.std.specs.Prelude.{◌≡◌, ℕ, ◌+◌, ◌-◌, ◌≤◌, List,
 use Rattle.std.specs.Io.KnownBytes.{prepend_known}
 use Rattle.nf_files.specs.declared.kind.Kind.{Kind}
 use Rattle.nf_files.specs.declared.kind.Kind.TheVariants as good
-use Rattle.nf_files.specs.declared.real.SystemFile.{SystemFile}
-use Rattle.nf_files.specs.declared.real.SystemFile.TheVariants.{Input, Output}
+use Rattle.nf_files.specs.declared.system_file.SystemFile.{SystemFile}
+use Rattle.nf_files.specs.declared.system_file.SystemFile.TheVariants.{Input, Output}
 use Rattle.nf_files.specs.Told.{Told}
 
 -- so many files were opened
@@ -20,7 +20,7 @@ untold opened = record {
 
 -- what an opened file is good for
 abbrev pub good_for : {F : Type 0} → SystemFile F → Kind
-good_for (Input ahead) = good.Input
+good_for (Input origin ahead) = good.Input
 good_for (Output file) = good.Output
 
 -- the number of an opened file that is good for this
@@ -29,7 +29,7 @@ IsOf kind files g = (2 ≤ g) × (option_map good_for (slice_get files (g - 2)) 
 
 -- the bytes of an opened file that are still to be read, where those of the system's are known
 abbrev pub left_of : {F : Type 0} → (F → Option (List ℕ)) → Option (SystemFile F) → Option (List ℕ)
-left_of remaining (Some (Input ahead)) = prepend_known ahead.buffer (remaining ahead.file)
+left_of remaining (Some (Input origin ahead)) = prepend_known ahead.buffer (remaining ahead.file)
 left_of remaining (Some (Output file)) = None
 left_of remaining None = None
 
@@ -39,7 +39,7 @@ left_at remaining files g = left_of remaining (slice_get files (g - 2))
 
 -- the bytes that an opened file holds, where those of the system's are known
 abbrev pub held_of : {F : Type 0} → (F → Option (List ℕ)) → Option (SystemFile F) → Option (List ℕ)
-held_of contents (Some (Input ahead)) = None
+held_of contents (Some (Input origin ahead)) = None
 held_of contents (Some (Output file)) = contents file
 held_of contents None = None
 

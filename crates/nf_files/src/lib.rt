@@ -10,8 +10,10 @@ mod files;
 mod kind;
 mod memory;
 mod number;
+mod origin;
 mod real;
 mod standard;
+mod system_file;
 mod whole;
 
 pub use count::FaultCount;

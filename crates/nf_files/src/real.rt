@@ -11,30 +11,13 @@ ghost use Rattle.nf_files.specs.declared.kind.Kind.TheVariants.{Input, Output};
 use crate::ahead::Ahead;
 use crate::buffer::Buffer;
 use crate::number::next_number;
+use crate::origin::Origin;
 use crate::standard::Standard;
+use crate::system_file::{SystemFile, create_file, open_file};
 use crate::{FaultCount, Files, FilesFault};
 use std::alloc::Global;
-use std::fs::OpenFile;
 use std::io::{Read, Stderr, Stdout, Write};
-use std::{fs, io, rt};
-
-/// An opened file of the system.
-#[derive(Drop)]
-pub(crate) enum SystemFile<F> {
-    /// It is read, ahead.
-    Input(Ahead<F>),
-    /// It is written.
-    Output(F),
-}
-
-// Opens a name to be read. A directory is refused.
-fn open_file<R: rt::Files>(system: &R, name: &str) -> io::Result<R::File> {
-    let file = fs::open(system, name)?;
-    if file.metadata()?.is_dir() {
-        return Err(io::Error::from(io::ErrorKind::IsADirectory));
-    }
-    Ok(file)
-}
+use std::{io, rt};
 
 // Where none is taken of a piece that isn't empty, that is an error.
 fn some_taken(piece: &[u8], answer: io::Result<usize>) -> io::Result<usize>
@@ -54,7 +37,9 @@ fn some_taken(piece: &[u8], answer: io::Result<usize>) -> io::Result<usize>
 ///
 /// An input is read ahead, 65,536 bytes a call of the system; a fault is told by the read that needs
 /// the bytes. No output is buffered, so a write that returned has reached the system. Opening a
-/// directory to be read fails. Memory never runs out once the system was asked.
+/// directory to be read fails. So does creating a name under which a file stands that was opened to
+/// be read, by this name or another: it stays as it is. Memory never runs out once the system was
+/// asked.
 #[derive(Drop)]
 pub struct RealFiles<'a, R: rt::Files> {
     alloc: Global,
@@ -94,7 +79,7 @@ impl<'a, R: rt::Files> RealFiles<'a, R> {
             IsOf k self.old.opened.items g → IsOf k self.new.opened.items g }
     {
         let answer = match &mut self.opened[file as usize - 2] {
-            SystemFile::Input(ahead) => ahead.read(out),
+            SystemFile::Input { ahead, .. } => ahead.read(out),
             SystemFile::Output(_) => unreachable!(),
         };
         self.count.answer(file, answer)
@@ -117,7 +102,7 @@ impl<'a, R: rt::Files> RealFiles<'a, R> {
         }
         match &mut self.opened[file as usize - 2] {
             SystemFile::Output(output) => output.write(piece),
-            SystemFile::Input(_) => unreachable!(),
+            SystemFile::Input { .. } => unreachable!(),
         }
     }
 
@@ -161,16 +146,23 @@ impl<'a, R: rt::Files> Files for RealFiles<'a, R> {
         let number = next_number(self.opened.len())?;
         self.opened.reserve(1)?;
         let buffer = Buffer::new(self.alloc)?;
-        let file = self.count.answer(number, open_file(self.system, name))?;
-        self.opened
-            .push_reserved(SystemFile::Input(Ahead::new(file, buffer)));
+        let name_kept = Vec::from_slice(self.alloc, name.as_bytes())?;
+        let (file, node) = self.count.answer(number, open_file(self.system, name))?;
+        self.opened.push_reserved(SystemFile::Input {
+            origin: Origin {
+                name: name_kept,
+                node,
+            },
+            ahead: Ahead::new(file, buffer),
+        });
         Ok(number)
     }
 
     fn create_out(&mut self, name: &str) -> Result<u32, FilesFault> {
         let number = next_number(self.opened.len())?;
         self.opened.reserve(1)?;
-        let file = self.count.answer(number, fs::create(self.system, name))?;
+        let made = create_file(self.system, self.opened.as_slice(), name);
+        let file = self.count.answer(number, made)?;
         self.opened.push_reserved(SystemFile::Output(file));
         Ok(number)
     }

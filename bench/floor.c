@@ -1,0 +1,427 @@
+/* The firewall of bench/throughput by hand, in one thread: the distance to it is what the proved program costs.
+ *
+ *     floor OUT INSIDE OUTSIDE INDICES LIFETIME
+ *
+ * It reads two captures as streams, and writes what `maestro run` writes for that function: OUT.0.pcap, OUT.1.pcap,
+ * OUT.journal and OUT.state, byte for byte. A flow goes out by the inside port and its answers come in by the other; a
+ * flow that wasn't used for LIFETIME nanoseconds is forgotten. Captures are classic pcap over Ethernet in any of the
+ * four forms; a torn record ends one.
+ */
+#include <errno.h>
+#include <fcntl.h>
+#include <stdint.h>
+#include <stdio.h>
+#include <stdlib.h>
+#include <string.h>
+#include <unistd.h>
+
+enum { PIECE = 65536, MOST_CAPTURED = 262144, HEADER = 24, RECORD = 16 };
+
+static const uint64_t GREATEST_TIME = 4294967295999999999u;
+static const uint32_t NONE = UINT32_MAX;
+
+static void stop(const char *what)
+{
+    fprintf(stderr, "floor: %s%s%s\n", what, errno ? ": " : "", errno ? strerror(errno) : "");
+    exit(1);
+}
+
+static void *room(size_t size)
+{
+    void *found = calloc(1, size);
+    if (!found)
+        stop("out of memory");
+    return found;
+}
+
+static uint32_t little(const uint8_t *at)
+{
+    uint32_t number;
+    memcpy(&number, at, 4);
+    return number;
+}
+
+static uint32_t big(const uint8_t *at)
+{
+    return __builtin_bswap32(little(at));
+}
+
+static uint32_t big_16(const uint8_t *at)
+{
+    return (uint32_t)at[0] << 8 | at[1];
+}
+
+/* Files that are written, each by its own buffer. */
+
+struct output {
+    int file;
+    size_t used;
+    uint8_t bytes[PIECE + RECORD + MOST_CAPTURED];
+};
+
+static struct output *output(const char *front, const char *end)
+{
+    char name[4096];
+    struct output *to = room(sizeof *to);
+    if (snprintf(name, sizeof name, "%s.%s", front, end) >= (int)sizeof name)
+        stop("a name is too long");
+    to->file = open(name, O_WRONLY | O_CREAT | O_TRUNC, 0666);
+    if (to->file < 0)
+        stop(name);
+    return to;
+}
+
+static void flush(struct output *to)
+{
+    for (size_t at = 0; at < to->used;) {
+        ssize_t count = write(to->file, to->bytes + at, to->used - at);
+        if (count < 0)
+            stop("a write failed");
+        at += (size_t)count;
+    }
+    to->used = 0;
+}
+
+static void put(struct output *to, const void *bytes, size_t count)
+{
+    memcpy(to->bytes + to->used, bytes, count);
+    to->used += count;
+}
+
+static void put_text(struct output *to, const char *text)
+{
+    put(to, text, strlen(text));
+}
+
+static void put_number(struct output *to, uint64_t number)
+{
+    char digits[20];
+    unsigned at = sizeof digits;
+    do {
+        digits[--at] = (char)('0' + number % 10);
+        number /= 10;
+    } while (number);
+    put(to, digits + at, sizeof digits - at);
+}
+
+static void full(struct output *to)
+{
+    if (to->used >= PIECE)
+        flush(to);
+}
+
+/* Captures, each with the next whole record of it in its buffer. */
+
+struct capture {
+    int file, is_big, is_micro, has_next;
+    size_t at, end;
+    uint64_t time;
+    uint32_t seq, captured, original;
+    uint8_t bytes[PIECE + RECORD + MOST_CAPTURED];
+};
+
+/* Whether so many bytes stand in the buffer, from its first unread one. */
+static int has(struct capture *from, size_t count)
+{
+    while (from->end - from->at < count) {
+        memmove(from->bytes, from->bytes + from->at, from->end - from->at);
+        from->end -= from->at;
+        from->at = 0;
+        ssize_t more = read(from->file, from->bytes + from->end, PIECE);
+        if (more < 0)
+            stop("a read failed");
+        if (more == 0)
+            return 0;
+        from->end += (size_t)more;
+    }
+    return 1;
+}
+
+static uint32_t number(const struct capture *from, size_t offset)
+{
+    const uint8_t *at = from->bytes + from->at + offset;
+    return from->is_big ? big(at) : little(at);
+}
+
+/* Goes to the next record. Times of a capture never fall. */
+static void next(struct capture *from)
+{
+    from->has_next = 0;
+    if (!has(from, RECORD))
+        return;
+    uint64_t fraction = number(from, 4);
+    uint64_t time = number(from, 0) * UINT64_C(1000000000) + (from->is_micro ? fraction * 1000 : fraction);
+    if (time > GREATEST_TIME)
+        time = GREATEST_TIME;
+    from->captured = number(from, 8);
+    from->original = number(from, 12);
+    if (from->captured > MOST_CAPTURED || !has(from, RECORD + (size_t)from->captured))
+        return;
+    if (time > from->time)
+        from->time = time;
+    from->has_next = 1;
+}
+
+static struct capture *capture(const char *name)
+{
+    struct capture *from = room(sizeof *from);
+    from->file = open(name, O_RDONLY);
+    if (from->file < 0)
+        stop(name);
+    if (!has(from, HEADER))
+        stop("no capture");
+    uint32_t magic = big(from->bytes);
+    from->is_big = magic == 0xa1b2c3d4 || magic == 0xa1b23c4d;
+    from->is_micro = magic == 0xa1b2c3d4 || magic == 0xd4c3b2a1;
+    if (!from->is_big && magic != 0xd4c3b2a1 && magic != 0x4d3cb2a1)
+        stop("no capture");
+    if ((number(from, 20) & 0xffff) != 1)
+        stop("no capture");
+    from->at = HEADER;
+    next(from);
+    return from;
+}
+
+/* Flows, in a list by the time of their last use, and found by open addressing: a slot has 32 bits of a key's hash
+ * and the flow's index, and slots behind a freed one close up. */
+
+struct key {
+    uint32_t inside, outside;
+    uint16_t inside_port, outside_port;
+};
+
+struct flow {
+    uint64_t stamp;
+    struct key key;
+    uint32_t hash, next, previous;
+};
+
+struct slot {
+    uint32_t hash, index;
+};
+
+/* Two rings go through the flows: at `indices` begins that of the live ones, and behind it that of the free ones. */
+static struct flow *flows;
+static struct slot *slots;
+static uint32_t indices, mask;
+static uint64_t greatest, lifetime;
+
+static void link_last(uint32_t index, uint32_t ring)
+{
+    uint32_t last = flows[ring].previous;
+    flows[index].previous = last;
+    flows[index].next = ring;
+    flows[last].next = index;
+    flows[ring].previous = index;
+}
+
+static void unlink_flow(uint32_t index)
+{
+    flows[flows[index].previous].next = flows[index].next;
+    flows[flows[index].next].previous = flows[index].previous;
+}
+
+static void make_tables(void)
+{
+    uint32_t count = 1;
+    while (count < 2 * indices)
+        count *= 2;
+    mask = count - 1;
+    flows = room((indices + 2) * sizeof *flows);
+    slots = room(count * sizeof *slots);
+    for (uint32_t at = 0; at < count; at++)
+        slots[at].index = NONE;
+    for (uint32_t ring = indices; ring < indices + 2; ring++)
+        flows[ring].next = flows[ring].previous = ring;
+    for (uint32_t index = 0; index < indices; index++)
+        link_last(index, indices + 1);
+}
+
+static uint32_t hash_of(const struct key *key)
+{
+    uint64_t addresses = (uint64_t)key->inside << 32 | key->outside;
+    uint64_t ports = (uint64_t)key->inside_port << 16 | key->outside_port;
+    uint64_t mixed = (addresses ^ ports * 0x9e3779b97f4a7c15u) * 0xd6e8feb86659fd93u;
+    return (uint32_t)(mixed >> 32);
+}
+
+static int is_same(const struct key *one, const struct key *other)
+{
+    return one->inside == other->inside && one->outside == other->outside && one->inside_port == other->inside_port
+        && one->outside_port == other->outside_port;
+}
+
+/* The slot of a key, or the empty one where it is to stand. */
+static uint32_t slot_of(const struct key *key, uint32_t hash)
+{
+    uint32_t at = hash & mask;
+    while (slots[at].index != NONE && !(slots[at].hash == hash && is_same(&flows[slots[at].index].key, key)))
+        at = (at + 1) & mask;
+    return at;
+}
+
+static void take_out(uint32_t index)
+{
+    uint32_t hole = slot_of(&flows[index].key, flows[index].hash);
+    for (uint32_t at = (hole + 1) & mask; slots[at].index != NONE; at = (at + 1) & mask) {
+        if (((at - slots[at].hash) & mask) >= ((at - hole) & mask)) {
+            slots[hole] = slots[at];
+            hole = at;
+        }
+    }
+    slots[hole].index = NONE;
+}
+
+static void renew(uint32_t index, uint64_t time)
+{
+    if (time > greatest)
+        greatest = time;
+    flows[index].stamp = greatest;
+    unlink_flow(index);
+    link_last(index, indices);
+}
+
+static void expire(uint64_t time)
+{
+    for (;;) {
+        uint32_t oldest = flows[indices].next;
+        if (oldest == indices || flows[oldest].stamp >= time || time - flows[oldest].stamp <= lifetime)
+            return;
+        take_out(oldest);
+        unlink_flow(oldest);
+        link_last(oldest, indices + 1);
+    }
+}
+
+/* What comes of a packet. */
+
+enum action { SKIP, DROP, FORWARD };
+
+struct answer {
+    enum action action;
+    uint32_t index;
+};
+
+/* The key of a frame's flow, whichever way it goes: whether it is of IPv4 with TCP or UDP, and no fragment. */
+static int key_of(const uint8_t *frame, uint32_t captured, unsigned port, struct key *key)
+{
+    if (captured < 42 || big_16(frame + 12) != 0x0800 || frame[14] >> 4 != 4 || (frame[14] & 15) < 5)
+        return 0;
+    uint32_t at = 14u + 4u * (frame[14] & 15u);
+    uint32_t needed = frame[23] == 6 ? 20 : frame[23] == 17 ? 8 : MOST_CAPTURED;
+    if (big_16(frame + 20) & 0x3fff || at + needed > captured)
+        return 0;
+    uint32_t source = big(frame + 26), target = big(frame + 30);
+    uint16_t source_port = (uint16_t)big_16(frame + at), target_port = (uint16_t)big_16(frame + at + 2);
+    *key = port == 0 ? (struct key){source, target, source_port, target_port}
+                     : (struct key){target, source, target_port, source_port};
+    return 1;
+}
+
+static struct answer handle(const struct capture *from, unsigned port)
+{
+    struct key key;
+    if (!key_of(from->bytes + from->at + RECORD, from->captured, port, &key))
+        return (struct answer){SKIP, NONE};
+    expire(from->time);
+    uint32_t hash = hash_of(&key);
+    uint32_t at = slot_of(&key, hash);
+    uint32_t index = slots[at].index;
+    if (index != NONE) {
+        renew(index, from->time);
+        return (struct answer){FORWARD, NONE};
+    }
+    index = flows[indices + 1].next;
+    if (port == 1 || index == indices + 1)
+        return (struct answer){DROP, NONE};
+    slots[at] = (struct slot){hash, index};
+    flows[index].key = key;
+    flows[index].hash = hash;
+    renew(index, from->time);
+    return (struct answer){FORWARD, index};
+}
+
+/* What a packet and the flows leave in files. */
+
+static void put_record(struct output *to, const struct capture *from)
+{
+    uint32_t numbers[4] = {(uint32_t)(from->time / 1000000000), (uint32_t)(from->time % 1000000000), from->captured,
+        from->original};
+    put(to, numbers, RECORD);
+    put(to, from->bytes + from->at + RECORD, from->captured);
+    full(to);
+}
+
+static void put_line(struct output *to, const struct capture *from, unsigned port, struct answer answer)
+{
+    put_number(to, port);
+    put_text(to, " ");
+    put_number(to, from->seq);
+    put_text(to, answer.action == SKIP ? " 0 skip " : answer.action == DROP ? " 0 drop " : port ? " 0 to:0 " : " 0 to:1 ");
+    if (answer.index == NONE)
+        put_text(to, "-");
+    else
+        put_number(to, answer.index);
+    put_text(to, "\n");
+    full(to);
+}
+
+static void put_state(struct output *to)
+{
+    put_text(to, "chain flows greatest ");
+    put_number(to, greatest);
+    put_text(to, "\n");
+    uint8_t *is_free = room(indices + 2);
+    for (uint32_t index = flows[indices + 1].next; index != indices + 1; index = flows[index].next)
+        is_free[index] = 1;
+    for (uint32_t index = 0; index < indices; index++) {
+        const struct flow *flow = &flows[index];
+        if (is_free[index])
+            continue;
+        uint64_t values[4] = {flow->key.inside, flow->key.outside, flow->key.inside_port, flow->key.outside_port};
+        put_number(to, index);
+        put_text(to, " ");
+        put_number(to, flow->stamp);
+        for (unsigned k = 0; k < 4; k++) {
+            put_text(to, (const char *[]){" a=", " b=", " c=", " d="}[k]);
+            put_number(to, values[k]);
+        }
+        put_text(to, "\n");
+        full(to);
+    }
+    flush(to);
+}
+
+int main(int count, char **words)
+{
+    static const uint8_t header[HEADER] = {0x4d, 0x3c, 0xb2, 0xa1, 2, 0, 4, 0, 0, 0, 0, 0, 0, 0, 0, 0, 0, 0, 4, 0, 1};
+    if (count != 6)
+        stop("OUT INSIDE OUTSIDE INDICES LIFETIME");
+    indices = (uint32_t)strtoul(words[4], NULL, 10);
+    lifetime = strtoull(words[5], NULL, 10);
+    if (indices < 1 || indices > 65536)
+        stop("there are 1 to 65536 indices");
+    struct capture *from[2] = {capture(words[2]), capture(words[3])};
+    struct output *to[2] = {output(words[1], "0.pcap"), output(words[1], "1.pcap")};
+    struct output *journal = output(words[1], "journal");
+    make_tables();
+    put(to[0], header, HEADER);
+    put(to[1], header, HEADER);
+    put_text(journal, "maestro journal 1 one 1\n");
+    while (from[0]->has_next || from[1]->has_next) {
+        unsigned port = !from[0]->has_next || (from[1]->has_next && from[1]->time < from[0]->time);
+        struct answer answer = handle(from[port], port);
+        if (answer.action == FORWARD)
+            put_record(to[1 - port], from[port]);
+        put_line(journal, from[port], port, answer);
+        from[port]->at += RECORD + from[port]->captured;
+        from[port]->seq++;
+        next(from[port]);
+    }
+    flush(to[0]);
+    flush(to[1]);
+    flush(journal);
+    put_state(output(words[1], "state"));
+    printf("ran %llu one 1\n", (unsigned long long)from[0]->seq + from[1]->seq);
+    return 0;
+}
