@@ -10,6 +10,7 @@ ghost use Rattle.nf_files.specs.declared.kind.Kind.TheVariants.{Input, Output};
 
 use crate::ahead::Ahead;
 use crate::buffer::Buffer;
+use crate::kind::Kind;
 use crate::number::next_number;
 use crate::standard::Standard;
 use crate::{FaultCount, Files, FilesFault};
@@ -75,7 +76,7 @@ impl<'a, R: rt::Files> RealFiles<'a, R> {
             system,
             standard: Standard::new(output, errors),
             opened: Vec::new(alloc),
-            count: FaultCount::new(),
+            count: FaultCount::new(alloc),
         }
     }
 
@@ -159,6 +160,7 @@ impl<'a, R: rt::Files> Files for RealFiles<'a, R> {
 
     fn open_in(&mut self, name: &str) -> Result<u32, FilesFault> {
         let number = next_number(self.opened.len())?;
+        self.count.ask(self.alloc, name, Kind::Input)?;
         self.opened.reserve(1)?;
         let buffer = Buffer::new(self.alloc)?;
         let file = self.count.answer(number, open_file(self.system, name))?;
@@ -169,6 +171,7 @@ impl<'a, R: rt::Files> Files for RealFiles<'a, R> {
 
     fn create_out(&mut self, name: &str) -> Result<u32, FilesFault> {
         let number = next_number(self.opened.len())?;
+        self.count.ask(self.alloc, name, Kind::Output)?;
         self.opened.reserve(1)?;
         let file = self.count.answer(number, fs::create(self.system, name))?;
         self.opened.push_reserved(SystemFile::Output(file));
