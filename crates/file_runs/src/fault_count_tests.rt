@@ -11,7 +11,7 @@ fn each_fault_counts_and_the_first_is_kept(rt: HostRuntime) {
         (&[2, 2, 2], 3, Some(2)),
     ];
     for (files, faults, first) in cases {
-        let mut count = FaultCount::new();
+        let mut count = FaultCount::new(rt.alloc());
         for file in files {
             assert_eq!(rt; count.fail(*file), FilesFault::Failed);
         }

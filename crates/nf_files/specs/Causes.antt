@@ -1,17 +1,38 @@
 -- When a call may answer that the outside failed.
-use Rattle.std.specs.Prelude.{◌≡◌, ℕ, ◌+◌, ◌-◌, ◌^◌, ◌≤◌, min, Option, Some, None, Result, Ok, Err}
+use Rattle.std.specs.Prelude.{◌≡◌, ◌⊎◌, ℕ, ◌+◌, ◌-◌, ◌^◌, ◌≤◌, List, [], ◌∷◌, ◌++◌, map, min, Option, Some, None, Result, Ok, Err}
+use Rattle.nf_files.specs.declared.kind.Kind.{Kind}
+use Rattle.nf_files.specs.declared.opening.Opening.{Opening}
 use Rattle.nf_files.specs.declared.count.FaultCount.{FaultCount}
 use Rattle.nf_files.specs.declared.fault.FilesFault.{FilesFault}
 use Rattle.nf_files.specs.declared.fault.FilesFault.TheVariants.{Failed, Memory}
 
--- the faults that were counted, and the file of the first
+-- a name that was asked to be opened or created, and which of the two
+pub record Asked : Type 0 where
+  pub name : List ℕ
+  pub kind : Kind
+
+-- the faults that were counted, the file of the first, and the names that were asked to be opened or
+-- created in their order, those of calls that failed too
 pub record Counted : Type 0 where
   pub faults : ℕ
   pub first : Option ℕ
+  pub asked : List Asked
+
+-- what the code took down of a name that was asked for
+abbrev pub asked_of : Opening → Asked
+asked_of o = record { name = o.name.items; kind = o.kind }
 
 -- what a count of faults tells
 abbrev pub counted_of : FaultCount → Counted
-counted_of c = record { faults = c.faults; first = c.first }
+counted_of c = record { faults = c.faults; first = c.first; asked = map asked_of c.openings.items }
+
+-- a name that was asked for
+abbrev pub an_asking : List ℕ → Kind → List Asked
+an_asking name kind = record { name = name; kind = kind } ∷ []
+
+-- the same after more names were asked for
+abbrev pub asking : List Asked → Counted → Counted
+asking names c = record { faults = c.faults; first = c.first; asked = c.asked ++ names }
 
 -- no file is the first to fail exactly where no fault was counted
 abbrev pub IsCount : Counted → Type 0
@@ -31,9 +52,17 @@ pub record Faulted (old new : Counted) (file : ℕ) : Type 0 where
   pub later : old.faults ≤ new.faults
   pub rose : Rose old.faults new.faults
   pub first : FirstAfter old.first file new.first
+  pub asked : new.asked ≡ old.asked
 
 -- the count of a call on a file: it changes where the call failed, and there alone
 abbrev pub HasCause : {T : Type 0} → Counted → Counted → ℕ → Result T FilesFault → Type 0
 HasCause old new file (Ok x) = new ≡ old
 HasCause old new file (Err (Memory e)) = new ≡ old
 HasCause old new file (Err Failed) = Faulted old new file
+
+-- The count of a call that asks for a name, which would get this number: the name was asked for; where
+-- memory ran out perhaps not.
+abbrev pub HasAsked : {T : Type 0} → Counted → Counted → List Asked → ℕ → Result T FilesFault → Type 0
+HasAsked old new one file (Ok x) = new ≡ asking one old
+HasAsked old new one file (Err (Memory e)) = (new ≡ old) ⊎ (new ≡ asking one old)
+HasAsked old new one file (Err Failed) = Faulted (asking one old) new file

@@ -9,7 +9,7 @@ use Rattle.nf_files.specs.declared.memory.store.Store.{Store}
 use Rattle.nf_files.specs.declared.memory.calls.Calls.{Calls}
 use Rattle.nf_files.specs.declared.memory.MemoryFiles.{MemoryFiles}
 use Rattle.nf_files.specs.Told.{Told}
-use Rattle.nf_files.specs.Causes.{Counted}
+use Rattle.nf_files.specs.Causes.{Counted, counted_of}
 use Rattle.nf_files.specs.Opened.{rest_of, given_of, name_of, kind_of, last_created}
 
 -- of standard output, of standard error, and of the opened files, whose numbers begin at 2
@@ -61,7 +61,7 @@ abbrev pub memory_told : MemoryFiles → Told
 memory_told m = store_told m.store
 
 abbrev pub calls_counted : Calls → Counted
-calls_counted c = record { faults = c.count.faults; first = c.count.first }
+calls_counted c = counted_of c.count
 
 abbrev pub memory_counted : MemoryFiles → Counted
 memory_counted m = calls_counted m.calls

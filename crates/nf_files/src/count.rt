@@ -1,31 +1,49 @@
-// A count of faults.
+// A count of faults, and the names that were asked for.
 ghost use Rattle.std.specs.Prelude.{◌≡◌, None};
 
 use crate::FilesFault;
+use crate::kind::Kind;
+use crate::opening::Opening;
+use std::alloc::{AllocError, Global};
 use std::io;
 
-/// How many calls failed, and the file of the first.
+/// How many calls failed, the file of the first, and the names that were asked to be opened or created.
 #[derive(Debug, Drop)]
 pub struct FaultCount {
     faults: u64,
     first: Option<u32>,
+    openings: Vec<Opening>,
     // No file is the first to fail exactly where no fault was counted.
     ghost agrees: { (first ≡ None → faults ≡ 0) × (faults ≡ 0 → first ≡ None) },
 }
 
 impl FaultCount {
-    ghost use Rattle.nf_files.specs.Causes.{counted_of, Faulted, HasCause};
+    ghost use Rattle.std.specs.Prelude.{[], OnOk, OnErr};
+    ghost use Rattle.nf_files.specs.Causes.{counted_of, an_asking, asking, Faulted, HasCause};
     ghost use Rattle.nf_files.specs.Expected.{IsAnswer};
 
-    /// No fault.
-    pub fn new() -> Self
+    /// No fault, and no name.
+    pub fn new(alloc: Global) -> Self
         ensures none { result.faults ≡ 0 }
         ensures no_first { result.first ≡ None }
+        ensures no_name { result.openings.items ≡ [] }
     {
         FaultCount {
             faults: 0,
             first: None,
+            openings: Vec::new(alloc),
         }
+    }
+
+    /// Takes a name down that is asked for. This is none of the calls that can fail.
+    pub fn ask(&mut self, alloc: Global, name: &str, kind: Kind) -> Result<(), AllocError>
+        ensures ok { let one = an_asking name.now kind in
+            OnOk result (counted_of self.new ≡ asking one (counted_of self.old)) }
+        ensures err { OnErr result (counted_of self.new ≡ counted_of self.old) }
+    {
+        let name = Vec::from_slice(alloc, name.as_bytes())?;
+        self.openings.push(Opening { name, kind })?;
+        Ok(())
     }
 
     /// Counts one more fault, up to 2^64 - 1, on a file, and gives what its call answers.

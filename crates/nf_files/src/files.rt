@@ -1,10 +1,11 @@
 // The trait of the files outside.
-ghost use Rattle.std.specs.Prelude.{◌≡◌, ◌<◌, ◌≤◌, ◌⊎◌, ℕ, List, IfOk, OnErr, None, length, take};
+ghost use Rattle.std.specs.Prelude.{◌≡◌, ◌<◌, ◌≤◌, ◌^◌, ◌⊎◌, ℕ, List, IfOk, IsErr, OnErr, None, length, take};
 ghost use Rattle.nf_files.specs.Told.{Told, Same};
 ghost use Rattle.nf_files.specs.Openings.{Opens, Creates};
 ghost use Rattle.nf_files.specs.Reads.{Reads};
 ghost use Rattle.nf_files.specs.Writes.{Writes};
-ghost use Rattle.nf_files.specs.Causes.{Counted, HasCause, IsCount};
+ghost use Rattle.nf_files.specs.Causes.{Counted, HasCause, HasAsked, an_asking, IsCount};
+ghost use Rattle.nf_files.specs.declared.kind.Kind.TheVariants.{Input, Output};
 ghost use Rattle.nf_files.specs.Expected.{IsFailed, IsNotMemory};
 
 use crate::FilesFault;
@@ -13,7 +14,8 @@ use crate::FilesFault;
 ///
 /// Files have numbers. 0 is standard output and 1 is standard error: both are written and never
 /// opened. The others count from 2 in the order of opening. A call that answers `Failed` has raised
-/// the count, or it stands at 2^64 - 1. An `Err` changes nothing else.
+/// the count, or it stands at 2^64 - 1. An `Err` changes nothing else. The names that were asked to be
+/// opened or created are told with the count, those of calls that failed too.
 pub trait Files {
     ghost told: { Self → Told };
 
@@ -40,8 +42,12 @@ pub trait Files {
         ensures ok { IfOk result (λ file. Opens (told self.old) (told self.new) name.now file) }
         ensures readable { IfOk result (is_read self.new) }
         ensures err { OnErr result (Same (told self.old) (told self.new)) }
-        ensures cause { HasCause (counted self.old) (counted self.new) (told self.old).next result }
-        ensures fails { will_not_open self.old name.now → IsFailed result }
+        ensures cause { let one = an_asking name.now Input in
+            HasAsked (counted self.old) (counted self.new) one (told self.old).next result }
+        // A number of 32 bits was left for it.
+        ensures numbered { IsFailed result → (told self.old).next < 2 ^ 32 }
+        // It fails, or memory runs out before that.
+        ensures fails { will_not_open self.old name.now → IsErr result }
         ensures passes { will_open self.old name.now → IsFailed result → ⊥ }
         ensures reads { (g : ℕ) → is_read self.old g → is_read self.new g }
         ensures writes { (g : ℕ) → is_written self.old g → is_written self.new g };
@@ -51,8 +57,10 @@ pub trait Files {
         ensures ok { IfOk result (λ file. Creates (told self.old) (told self.new) name.now file) }
         ensures writable { IfOk result (is_written self.new) }
         ensures err { OnErr result (Same (told self.old) (told self.new)) }
-        ensures cause { HasCause (counted self.old) (counted self.new) (told self.old).next result }
-        ensures fails { will_fail self.old → IsFailed result }
+        ensures cause { let one = an_asking name.now Output in
+            HasAsked (counted self.old) (counted self.new) one (told self.old).next result }
+        ensures numbered { IsFailed result → (told self.old).next < 2 ^ 32 }
+        ensures fails { will_fail self.old → IsErr result }
         ensures passes { will_pass self.old → IsFailed result → ⊥ }
         ensures reads { (g : ℕ) → is_read self.old g → is_read self.new g }
         ensures writes { (g : ℕ) → is_written self.old g → is_written self.new g };

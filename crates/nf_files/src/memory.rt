@@ -10,6 +10,7 @@ mod named;
 mod opened;
 mod store;
 
+use crate::kind::Kind;
 use crate::number::next_number;
 use crate::{Files, FilesFault};
 use calls::Calls;
@@ -32,14 +33,14 @@ impl MemoryFiles {
     /// Nothing stands under any name, and no call was made. `fails` lists the calls that fail.
     pub fn new(alloc: Global, fails: Vec<u64>) -> Self
         ensures nothing { Same nothing (memory_told result) }
-        ensures no_fault { memory_counted result ≡ record { faults = 0; first = None } }
+        ensures no_fault { memory_counted result ≡ record { faults = 0; first = None; asked = [] } }
         ensures fails { result.calls.fails ≡ fails }
         ensures no_call { result.calls.made ≡ 0 }
     {
         MemoryFiles {
             alloc,
             store: Store::new(alloc),
-            calls: Calls::new(fails),
+            calls: Calls::new(alloc, fails),
         }
     }
 
@@ -94,6 +95,7 @@ impl Files for MemoryFiles {
 
     fn open_in(&mut self, name: &str) -> Result<u32, FilesFault> {
         let number = next_number(self.store.files.len())?;
+        self.calls.ask(self.alloc, name, Kind::Input)?;
         if self.calls.fails_next() {
             return Err(self.calls.fail(number));
         }
@@ -108,6 +110,7 @@ impl Files for MemoryFiles {
 
     fn create_out(&mut self, name: &str) -> Result<u32, FilesFault> {
         let number = next_number(self.store.files.len())?;
+        self.calls.ask(self.alloc, name, Kind::Output)?;
         if self.calls.fails_next() {
             return Err(self.calls.fail(number));
         }

@@ -10,6 +10,7 @@ ghost use Rattle.nf_files.specs.declared.kind.Kind.TheVariants.{Input, Output};
 
 use crate::ahead::Ahead;
 use crate::buffer::Buffer;
+use crate::kind::Kind;
 use crate::number::next_number;
 use crate::origin::Origin;
 use crate::standard::Standard;
@@ -60,7 +61,7 @@ impl<'a, R: rt::Files> RealFiles<'a, R> {
             system,
             standard: Standard::new(output, errors),
             opened: Vec::new(alloc),
-            count: FaultCount::new(),
+            count: FaultCount::new(alloc),
         }
     }
 
@@ -144,6 +145,7 @@ impl<'a, R: rt::Files> Files for RealFiles<'a, R> {
 
     fn open_in(&mut self, name: &str) -> Result<u32, FilesFault> {
         let number = next_number(self.opened.len())?;
+        self.count.ask(self.alloc, name, Kind::Input)?;
         self.opened.reserve(1)?;
         let buffer = Buffer::new(self.alloc)?;
         let name_kept = Vec::from_slice(self.alloc, name.as_bytes())?;
@@ -160,6 +162,7 @@ impl<'a, R: rt::Files> Files for RealFiles<'a, R> {
 
     fn create_out(&mut self, name: &str) -> Result<u32, FilesFault> {
         let number = next_number(self.opened.len())?;
+        self.count.ask(self.alloc, name, Kind::Output)?;
         self.opened.reserve(1)?;
         let made = create_file(self.system, self.opened.as_slice(), name);
         let file = self.count.answer(number, made)?;

@@ -1,9 +1,11 @@
 // Which calls on `MemoryFiles` fail.
-ghost use Rattle.std.specs.Prelude.{◌≡◌, ◌+◌, ◌-◌, ◌^◌, min, None};
-ghost use Rattle.nf_files.specs.Causes.{Faulted};
+ghost use Rattle.std.specs.Prelude.{◌≡◌, ◌+◌, ◌-◌, ◌^◌, [], min, None, OnOk, OnErr};
+ghost use Rattle.nf_files.specs.Causes.{Faulted, an_asking, asking};
 ghost use Rattle.nf_files.specs.Memory.{is_listed, calls_counted};
 
+use crate::kind::Kind;
 use crate::{FaultCount, FilesFault};
+use std::alloc::{AllocError, Global};
 
 /// The calls that are to fail, counted from 0, and the faults so far.
 #[derive(Drop)]
@@ -16,16 +18,27 @@ pub struct Calls {
 
 impl Calls {
     // No call was made.
-    pub fn new(fails: Vec<u64>) -> Self
+    pub fn new(alloc: Global, fails: Vec<u64>) -> Self
         ensures fails { result.fails ≡ fails }
         ensures none { result.made ≡ 0 }
-        ensures no_fault { calls_counted result ≡ record { faults = 0; first = None } }
+        ensures no_fault { calls_counted result ≡ record { faults = 0; first = None; asked = [] } }
     {
         Calls {
             fails,
             made: 0,
-            count: FaultCount::new(),
+            count: FaultCount::new(alloc),
         }
+    }
+
+    // Takes a name down that is asked for.
+    pub fn ask(&mut self, alloc: Global, name: &str, kind: Kind) -> Result<(), AllocError>
+        ensures ok { let one = an_asking name.now kind in
+            OnOk result (calls_counted self.new ≡ asking one (calls_counted self.old)) }
+        ensures err { OnErr result (calls_counted self.new ≡ calls_counted self.old) }
+        ensures made { self.new.made ≡ self.old.made }
+        ensures fails { self.new.fails ≡ self.old.fails }
+    {
+        self.count.ask(alloc, name, kind)
     }
 
     // Whether the next call is one that fails.
