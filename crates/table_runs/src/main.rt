@@ -7,6 +7,8 @@ mod chain_tests;
 #[cfg(test)]
 mod map_tests;
 #[cfg(test)]
+mod merge_tests;
+#[cfg(test)]
 mod tables_tests;
 
 use nf_base::share::Share;

@@ -20,7 +20,7 @@ use std::test::Fail;
 use vig_tables::{Created, Tables};
 
 /// So many columns; only how many there are matters to the tables.
-fn columns<const MOST: u32>(
+pub fn columns<const MOST: u32>(
     alloc: Global,
     count: u32,
 ) -> Result<Limited<ColumnDecl, MOST>, AllocError> {
@@ -36,7 +36,7 @@ fn columns<const MOST: u32>(
     Ok(columns)
 }
 
-fn map(alloc: Global, first: u32, parts: u32) -> MapDecl
+pub fn map(alloc: Global, first: u32, parts: u32) -> MapDecl
     ensures { result.parts ≡ parts }
 {
     MapDecl {
@@ -84,7 +84,7 @@ fn hosts(alloc: Global) -> Result<ChainDecl, AllocError>
 }
 
 /// Four cells, of which the first opens with 7.
-fn cells(alloc: Global) -> Result<ArrayDecl, AllocError> {
+pub fn cells(alloc: Global) -> Result<ArrayDecl, AllocError> {
     let cells = Vec::from_slice(alloc, &[7, 0, 0, 9])?;
     Ok(ArrayDecl {
         name: Name::new(alloc),
@@ -94,7 +94,7 @@ fn cells(alloc: Global) -> Result<ArrayDecl, AllocError> {
 }
 
 /// Sends nothing on.
-fn silent() -> Handler
+pub fn silent() -> Handler
     ensures { (decls : List ChainDecl) → All (Fits decls) (statements (block_of result.block)) }
 {
     Handler {
@@ -128,7 +128,7 @@ fn second_of_two(alloc: Global) -> Result<Tables, AllocError> {
     Tables::new(alloc, &function(alloc)?, Share { queue: 1, of: 2 })
 }
 
-fn key(parts: &[u64]) -> Key {
+pub fn key(parts: &[u64]) -> Key {
     let mut key = Key::new();
     for part in parts {
         if key.len() < 8 {

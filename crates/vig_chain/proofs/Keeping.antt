@@ -1,6 +1,6 @@
 -- A chain's fields keep what is true of them where an index is given a stamp, or loses it.
 use Rattle.std.proofs.Common.{◌≡◌, ◌≢◌, ◌∙◌, ap, sym, refl, subst, arith, ℕ, ◌+◌, ◌<◌, ◌≤◌, Bool, true, List, length, inl, inr, ◌⊎◌}
-use Rattle.std.specs.Prelude.{Option, Some, None, slice_index, slice_set, IsTrue, IsSome, MatchBool, ◌==◌}
+use Rattle.std.specs.Prelude.{Option, Some, None, slice_index, slice_set, IsTrue, IsSome, IfSome, MatchBool, ◌==◌}
 use Rattle.std.proofs.Math.ListN.{length-set}
 use Rattle.std.proofs.lemmas.Bool.{cases_eq, and_parts, and_from}
 use Rattle.std.proofs.lemmas.Bool.Decides.{eqb_tells}
@@ -105,6 +105,27 @@ pub own_of :
     (size : ℕ) (chain : Stamps) (rings : Rings) (k : IsSoundChain size chain rings) (i : ℕ)
     (o : Option ℕ) → o ≡ stamp_of chain.slots i → IsSome o → IsTrue (owns chain.share i)
 own_of size chain rings k i o is live = let got = some_of o live in k.own i got.0 (sym is ∙ got.1)
+
+-- no stamp is above the greatest one
+pub under_of :
+    (size : ℕ) (chain : Stamps) (rings : Rings) (k : IsSoundChain size chain rings) (i : ℕ)
+    (o : Option ℕ) → o ≡ stamp_of chain.slots i → IfSome o (λ stamp. stamp ≤ chain.greatest)
+under_of size chain rings k i None is = tt
+under_of size chain rings k i (Some stamp) is = k.under i stamp (sym is)
+
+-- a chain stays sound where its greatest stamp rises
+pub raised_sound :
+    (size : ℕ) (chain : Stamps) (rings : Rings) (top : ℕ) → IsSoundChain size chain rings
+    → chain.greatest ≤ top → IsSoundChain size (record chain { greatest = top }) rings
+raised_sound size chain rings top k no_less = record {
+  slots = k.slots;
+  most = k.most;
+  cells = k.cells;
+  linked = k.linked;
+  sorted = k.sorted;
+  under = λ i s at. omega (arith, k.under i s at);
+  own = k.own;
+}
 
 -- an own index within that is free or live
 pub own_at :

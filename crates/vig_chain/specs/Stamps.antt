@@ -71,6 +71,10 @@ NoneAbove most chain = (i s : ℕ) → stamp_of chain.slots i ≡ Some s → s �
 abbrev pub next_stamp : ℕ → Stamps → ℕ
 next_stamp time chain = max time chain.greatest
 
+-- a chain that gave a stamp
+abbrev pub raised : ℕ → Stamps → Stamps
+raised stamp chain = record chain { greatest = max chain.greatest stamp }
+
 -- an entry with the chain's next stamp, put at an index or given that stamp anew
 abbrev pub stamped : ℕ → ℕ → Stamps → Stamps
 stamped time i chain = record chain {

@@ -3,7 +3,7 @@ ghost use Rattle.std.specs.Prelude.{◌≡◌, ℕ, ◌<◌, ◌≤◌, length, 
 ghost use Rattle.std.specs.Bool.{OnTrue, OnFalse};
 ghost use Rattle.vig_chain.specs.Rings.{lone_cells, AreLinked};
 ghost use Rattle.nf_base.specs.Shares.{owns};
-ghost use Rattle.vig_chain.specs.Stamps.{opened, stamp_of, is_vacant_at, is_available, is_past, is_due_at, SomeIndexHas, NoIndexHas, IsOldest, NoneAbove, stamped, freed};
+ghost use Rattle.vig_chain.specs.Stamps.{opened, stamp_of, is_vacant_at, is_available, is_past, is_due_at, SomeIndexHas, NoIndexHas, IsOldest, NoneAbove, raised, stamped, freed};
 
 use crate::links::Links;
 use nf_base::share::Share;
@@ -83,6 +83,7 @@ impl Chain {
     pub fn stamp(&self, index: u32) -> Option<u64>
         ensures value { result ≡ stamp_of self.now.slots index }
         ensures own { IsSome result → IsTrue (owns self.now.share index) }
+        ensures under { IfSome result (λ stamp. stamp ≤ self.now.greatest) }
     {
         *self.stamps.get(index as usize)?
     }
@@ -93,6 +94,13 @@ impl Chain {
         ensures above { NoneAbove result self.now }
     {
         self.greatest
+    }
+
+    /// Takes a stamp for one given so far: the greatest one is then no less.
+    pub fn raise(&mut self, stamp: u64)
+        ensures { self.new ≡ raised stamp self.old }
+    {
+        self.greatest = self.greatest.max(stamp);
     }
 
     /// Whether no own index is vacant.
@@ -241,7 +249,7 @@ impl Chain {
 }
 
 /// Whether a stamp and a lifetime, added exactly, come before a time.
-fn is_past(stamp: u64, time: u64, lifetime: u64) -> bool
+pub fn is_past(stamp: u64, time: u64, lifetime: u64) -> bool
     ensures { result ≡ is_past time lifetime stamp }
 {
     stamp < time && lifetime < time - stamp

@@ -5,4 +5,4 @@
 mod chain;
 mod links;
 
-pub use chain::Chain;
+pub use chain::{Chain, is_past};

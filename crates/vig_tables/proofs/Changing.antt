@@ -9,11 +9,11 @@ use Rattle.nf_base.specs.declared.state.Entry.{Entry}
 use Rattle.nf_base.specs.Chains.{entry_at, touched, written}
 use Rattle.nf_base.specs.Chains as chains
 use Rattle.nf_base.specs.Shares.{owns}
-use Rattle.vig_chain.specs.Stamps.{Stamps, stamp_of, stamped, freed, next_stamp, is_due_at, NoIndexHas}
+use Rattle.vig_chain.specs.Stamps.{Stamps, stamp_of, raised, stamped, freed, next_stamp, is_due_at, NoIndexHas}
 use Rattle.vig_tables.specs.Grid.{Grid, row_at, with_row}
 use Rattle.vig_tables.specs.Keyed.{Keyed, AreBound, IsUnbound}
 use Rattle.vig_tables.specs.Slots.{live}
-use Rattle.vig_tables.specs.Table.{with_chain, without_past}
+use Rattle.vig_tables.specs.Table.{with_chain, without_past, overwritten}
 use Rattle.vig_tables.specs.Joined.{entries, table_of, IsJoined, AreJoined}
 use Rattle.vig_tables.proofs.Changes.{true_after, same_after}
 use Rattle.vig_tables.proofs.Entries.{stamp-set_other, stamp_set, columns_set, none_again, live-set, weight, entry_within}
@@ -125,6 +125,35 @@ pub no_column_written :
     → AreJoined decl s maps labels columns → stamp_of s.slots i ≡ None
     → table_of decl s labels columns ≡ with_chain (written column v i (record { slots = entries s labels columns; greatest = s.greatest })) (table_of decl s labels columns)
 no_column_written decl s maps labels columns i column v j none = rw (stands_not decl s maps labels columns i j none) refl
+
+-- all free columns written over
+pub columns_written :
+    (decl : ChainDecl) (s : Stamps) (maps : List Keyed) (labels columns : Grid) (i stamp : ℕ)
+    (row : List ℕ) → AreJoined decl s maps labels columns → stamp_of s.slots i ≡ Some stamp
+    → table_of decl s labels (with_row i row columns) ≡ with_chain (overwritten row i (record { slots = entries s labels columns; greatest = s.greatest })) (table_of decl s labels columns)
+columns_written decl s maps labels columns i stamp row j at = rw (stands decl s maps labels columns i stamp j at, columns_set s.slots labels.rows columns.rows i row, at) refl
+
+pub no_columns_written :
+    (decl : ChainDecl) (s : Stamps) (maps : List Keyed) (labels columns : Grid) (i : ℕ)
+    (row : List ℕ) → AreJoined decl s maps labels columns → stamp_of s.slots i ≡ None
+    → table_of decl s labels columns ≡ with_chain (overwritten row i (record { slots = entries s labels columns; greatest = s.greatest })) (table_of decl s labels columns)
+no_columns_written decl s maps labels columns i row j none = rw (stands_not decl s maps labels columns i j none) refl
+
+-- a stamp given
+pub raised_joined :
+    (decl : ChainDecl) (s : Stamps) (maps : List Keyed) (labels columns : Grid) (stamp : ℕ)
+    → AreJoined decl s maps labels columns
+    → AreJoined decl (raised stamp s) maps labels columns
+raised_joined decl s maps labels columns stamp j = record {
+  size = j.size;
+  label_rows = j.label_rows;
+  column_rows = j.column_rows;
+  label_width = j.label_width;
+  column_width = j.column_width;
+  decls = j.decls;
+  joined = j.joined;
+  own = j.own;
+}
 
 some_of : (o : Option ℕ) → IsSome o → (stamp : ℕ) × (o ≡ Some stamp)
 some_of None live = absurd (grind arith)

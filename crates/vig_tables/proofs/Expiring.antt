@@ -5,13 +5,13 @@ use Rattle.std.proofs.lemmas.Bool.{cases_Bool, false≢true, cond-true, cond-fal
 use Rattle.nf_base.specs.declared.state.Entry.{Entry}
 use Rattle.nf_base.specs.Chains.{entry_at, alive, is_due, none_due}
 
-kept_past :
+pub kept_past :
     (time lifetime : ℕ) (s : Option Entry) → is_due time lifetime s ≡ true
     → alive time lifetime s ≡ None
 kept_past time lifetime None past = refl
 kept_past time lifetime (Some e) past = cond-true (nat_lt (e.stamp + lifetime) time) None (Some e) past
 
-kept_within :
+pub kept_within :
     (time lifetime : ℕ) (s : Option Entry) → is_due time lifetime s ≡ false
     → alive time lifetime s ≡ s
 kept_within time lifetime None within = refl

@@ -29,7 +29,7 @@ none_behind None e = refl
 none_behind (Some j) e = absurd (none-some (suc j) (sym e))
 
 -- where a key is first found its entry stands
-index_found :
+pub index_found :
     (m : MapDecl) (key : List ℕ) (slots : List (Option Entry)) (i : ℕ) → found m key slots ≡ Some i
     → has_key m key (entry_at slots i) ≡ true
 index_found m key [] i e = absurd (none-some i e)

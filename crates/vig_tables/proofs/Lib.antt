@@ -3,7 +3,13 @@ pub mod Changes
 pub mod Entries
 pub mod Joining
 pub mod Expiring
+pub mod Adopting
+pub mod Merging
 pub mod Reading
 pub mod Making
 pub mod Changing
 pub mod StateLemmas
+pub mod United
+pub mod Owners
+pub mod Collecting
+pub mod OneUnion

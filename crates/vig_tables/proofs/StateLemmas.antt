@@ -21,7 +21,7 @@ use Rattle.vig_tables.specs.Table.{Table, CauseOf, FindsFull, if_made, can_make_
 use Rattle.vig_tables.specs.TablesState.{state_of, decls_of, chains_of, changed, slots_at, HasParts, StandsAt, IsOfShare}
 
 -- what is read of an item that stands in a list
-some_read :
+pub some_read :
     {A B : Type 0} (f : A → B) (xs : List A) (k : ℕ) (x : A) (d : B) → slice_get xs k ≡ Some x
     → get_or (map f xs) k d ≡ f x
 some_read f [] k x d at = absurd (none-some x at)
@@ -72,6 +72,7 @@ stands_at tables arrays share k t all at = record {
     lifetime_is = some_read (λ (d : ChainDecl). d.lifetime) (decls_of tables) k t.decl 0 (decl_some tables k t at);
     label_count_is = some_read (λ (d : ChainDecl). length d.labels) (decls_of tables) k t.decl 0 (decl_some tables k t at);
   };
+  decl_is = decl_some tables k t at;
   share_is = sym (own_share tables share k t all at);
 }
 

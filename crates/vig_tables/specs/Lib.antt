@@ -4,3 +4,5 @@ pub mod Slots
 pub mod Table
 pub mod Joined
 pub mod TablesState
+pub mod Union
+pub mod Merging

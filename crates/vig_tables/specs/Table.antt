@@ -1,13 +1,13 @@
 -- What the tables of one chain are seen as, and what their calls do: the words of the step, over a
 -- share.
-use Rattle.std.specs.Prelude.{◌≡◌, ℕ, ◌-◌, Bool, true, false, not, ◌&&◌, nat_lt, IsTrue, List, [], ◌∷◌, map, Option, Some, None, if◌then◌else◌, slice_get, option_and_then}
+use Rattle.std.specs.Prelude.{◌≡◌, ℕ, ◌-◌, max, Bool, true, false, not, ◌&&◌, nat_lt, IsTrue, List, [], ◌∷◌, map, Option, Some, None, if◌then◌else◌, slice_get, slice_set, option_and_then}
 use Rattle.nf_base.specs.declared.decl.ChainDecl.{ChainDecl}
 use Rattle.nf_base.specs.declared.decl.ColumnDecl.{ColumnDecl}
 use Rattle.nf_base.specs.declared.decl.MapDecl.{MapDecl}
 use Rattle.nf_base.specs.declared.share.Share.{Share}
 use Rattle.nf_base.specs.declared.state.Chain.{Chain}
 use Rattle.nf_base.specs.declared.state.Entry.{Entry}
-use Rattle.nf_base.specs.Chains.{found, is_taken, is_vacant, stamped, fresh, unexpired}
+use Rattle.nf_base.specs.Chains.{entry_at, found, is_taken, is_vacant, on_live, stamped, fresh, unexpired}
 use Rattle.nf_base.specs.Context.{is_given, label_of, column_of}
 use Rattle.nf_base.specs.Shares.{owns, none_vacant}
 use Rattle.nf_base.specs.Step.{opening_chain}
@@ -92,6 +92,30 @@ can_make_at maps labels share slots i = not (is_taken maps labels slots) && is_o
 -- a chain without what is past its lifetime at a time
 abbrev pub without_past : ℕ → Table → Table
 without_past time t = with_chain (unexpired time t.decl.lifetime t.chain) t
+
+-- a chain that gave a stamp
+abbrev pub raised : ℕ → Chain → Chain
+raised stamp chain = record chain { greatest = max chain.greatest stamp }
+
+-- an entry put at an index with other free columns
+abbrev pub with_columns : List ℕ → ℕ → Entry → Chain → Chain
+with_columns columns i entry chain = record chain {
+  slots = slice_set chain.slots i (Some (record entry { columns = columns }));
+}
+
+-- the chain after the free columns of the entry at an index were written over
+abbrev pub overwritten : List ℕ → ℕ → Chain → Chain
+overwritten columns i chain = on_live (with_columns columns i) (entry_at chain.slots i) chain
+
+-- whether an entry of other tables, if it is one, can be made at an index
+abbrev pub can_adopt : Option Entry → Table → ℕ → Bool
+can_adopt None t i = false
+can_adopt (Some e) t i = can_make_at t.decl.maps e.labels t.share t.chain.slots i
+
+-- an entry of other tables made at an index, with its own stamp where none so far was later
+abbrev pub adopted : Option Entry → ℕ → Table → Table
+adopted None i t = t
+adopted (Some e) i t = with_chain (stamped e.stamp i e t.chain) t
 
 -- A column of an entry: so many labels come first, then its free columns. 0 where there is none.
 abbrev pub cell_of : ℕ → ℕ → Option Entry → ℕ

@@ -1,5 +1,5 @@
 -- What the tables of a function are seen as, a state over a share, and what their calls do.
-use Rattle.std.specs.Prelude.{◌≡◌, ℕ, ◌-◌, nat_lt, List, [], ◌∷◌, length, map, drop, get_or, Option, Some, None, if◌then◌else◌, slice_set}
+use Rattle.std.specs.Prelude.{◌≡◌, ℕ, ◌-◌, nat_lt, List, [], ◌∷◌, length, map, drop, get_or, Option, Some, None, if◌then◌else◌, slice_get, slice_set}
 use Rattle.std.specs.Borrow.{Bor}
 use Rattle.nf_base.specs.declared.decl.ChainDecl.{ChainDecl}
 use Rattle.nf_base.specs.declared.decl.MapDecl.{MapDecl}
@@ -93,6 +93,7 @@ pub record StandsAt (t : TablesState) (k : ℕ) (table : Table) : Type 0 where
   pub parts :
       HasParts t k table.chain table.decl.maps (zeros table.decl.columns) table.decl.lifetime
       (length table.decl.labels)
+  pub decl_is : slice_get t.decls k ≡ Some table.decl
   pub share_is : t.share ≡ table.share
 
 -- the tables of a chain: past the last there are none

@@ -1,12 +1,12 @@
 //! The tables of one chain.
-ghost use Rattle.std.specs.Prelude.{◌≡◌, ◌≤◌, ◌<◌, length, not, IfOk, option_and_then, slice_get, replicate};
+ghost use Rattle.std.specs.Prelude.{◌≡◌, ◌≤◌, ◌<◌, length, not, IfOk, IfSome, option_and_then, slice_get, replicate};
 ghost use Rattle.std.specs.Bool.{OnTrue, OnFalse};
 ghost use Rattle.std.specs.Option.{option_map};
-ghost use Rattle.nf_base.specs.Chains.{entry_at, is_taken, none_due, touched, freed, written};
+ghost use Rattle.nf_base.specs.Chains.{alive, entry_at, is_taken, none_due, touched, freed, written};
 ghost use Rattle.nf_base.specs.Context.{or_zero, label_of, column_of};
 ghost use Rattle.nf_base.specs.Limits.{HaveShortKeys};
 ghost use Rattle.nf_base.specs.Shares.{owns, none_vacant};
-ghost use Rattle.vig_tables.specs.Table.{opened, with_chain, index_under, index_with, has_label, has_labels, CauseOf, if_made, can_make_at, entered, without_past};
+ghost use Rattle.vig_tables.specs.Table.{opened, with_chain, index_under, index_with, has_label, has_labels, CauseOf, if_made, can_make_at, entered, without_past, raised, overwritten, can_adopt, adopted};
 ghost use Rattle.vig_tables.specs.Slots.{labelled, live};
 
 use crate::created::Created;
@@ -20,7 +20,7 @@ use nf_base::share::Share;
 use nf_base::state::{self, Entry};
 use std::alloc::{AllocError, Global};
 use std::marker::Model;
-use vig_chain::Chain;
+use vig_chain::{Chain, is_past};
 
 /// The entries of one chain, by index and by the keys of its maps.
 ///
@@ -98,6 +98,23 @@ impl ChainTables {
         ensures { result ≡ option_map (λ e. e.stamp) (entry_at self.now.chain.slots i) }
     {
         self.chain.stamp(i)
+    }
+
+    /// The stamp of the entry at an index, where it is not past its lifetime at a time: else none.
+    pub fn living_stamp(&self, i: u32, time: u64) -> Option<u64>
+        ensures value { let entry = entry_at self.now.chain.slots i in
+            result ≡ option_map (λ e. e.stamp) (alive time self.now.decl.lifetime entry) }
+        ensures under { IfSome result (λ stamp. stamp ≤ self.now.chain.greatest) }
+    {
+        let stamp = match self.chain.stamp(i) {
+            Some(stamp) => stamp,
+            None => return None,
+        };
+        if is_past(stamp, time, self.decl.lifetime) {
+            None
+        } else {
+            Some(stamp)
+        }
     }
 
     /// The greatest stamp given so far, 0 before the first.
@@ -229,6 +246,43 @@ impl ChainTables {
         if self.chain.stamp(i).is_some() {
             self.columns.set(i, column, value);
         }
+    }
+
+    /// Writes over the free columns of the entry at an index, if there is one.
+    fn set_columns(&mut self, i: u32, columns: &[u64])
+        requires { length columns.now ≡ length self.old.decl.columns }
+        ensures { self.new ≡ with_chain (overwritten columns.now i self.old.chain) self.old }
+    {
+        if self.chain.stamp(i).is_some() {
+            self.columns.set_row(i, columns);
+        }
+    }
+
+    /// Makes the entry that other tables of the chain have at an index, at that index: false where
+    /// they have none, the index is not own or is live, or a key is bound.
+    pub fn adopt(&mut self, i: u32, other: &ChainTables) -> bool
+        requires { other.now.decl ≡ self.old.decl }
+        ensures cause { result ≡ can_adopt (entry_at other.now.chain.slots i) self.old i }
+        ensures adopted { let entry = entry_at other.now.chain.slots i in
+            OnTrue result (self.new ≡ adopted entry i self.old) }
+        ensures unchanged { OnFalse result (self.new ≡ self.old) }
+    {
+        let stamp = match other.chain.stamp(i) {
+            Some(stamp) => stamp,
+            None => return false,
+        };
+        if !self.create_at(i, other.labels.row(i), stamp) {
+            return false;
+        }
+        self.set_columns(i, other.columns.row(i));
+        true
+    }
+
+    /// Takes a stamp for one given so far: the greatest one is then no less.
+    pub fn raise(&mut self, stamp: u64)
+        ensures { self.new ≡ with_chain (raised stamp self.old.chain) self.old }
+    {
+        self.chain.raise(stamp);
     }
 
     /// An index, if it is one of the chain, is live and its entry has these labels, each with its

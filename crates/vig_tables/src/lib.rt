@@ -7,6 +7,10 @@ mod created;
 mod key_map;
 mod rows;
 mod tables;
+mod unions;
 
 pub use created::Created;
 pub use tables::Tables;
+pub use unions::{
+    cells_are_the_changed_ones, owners_own, the_greatest_stamp_is_a_shares, unions_are_one,
+};

@@ -46,7 +46,8 @@ impl Rows {
     /// A row.
     pub fn row(&self, i: u32) -> &[u64]
         requires { i < length self.now.rows }
-        ensures { result.now ≡ row_at self.now i }
+        ensures value { result.now ≡ row_at self.now i }
+        ensures wide { length result.now ≡ self.now.width }
     {
         let width = self.width as usize;
         let start = i as usize * width;

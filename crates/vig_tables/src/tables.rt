@@ -11,6 +11,8 @@ ghost use Rattle.nf_base.specs.Step.{opening_cells};
 ghost use Rattle.vig_tables.specs.Table.{opened, index_under, index_with, CauseOf, if_made, can_make_at, cell_of, without_past};
 ghost use Rattle.vig_tables.specs.TablesState.{opened_tables, decls_of, chains_of, with_chains, slots_at, changed, with_cell, label_count, index_over, IsTableAt};
 
+mod merged;
+
 use crate::chain_tables::ChainTables;
 use crate::created::Created;
 use nf_base::decl::{ArrayDecl, ChainDecl};
@@ -29,7 +31,7 @@ use std::marker::Model;
 /// whose indices are given out. Chains and arrays go by number, from 0, in text order, and maps
 /// over all chains. A number past the last chain stands for one with no index and no map, a number
 /// past the last array for one with no cell. Times and stamps are in nanoseconds. No call but
-/// `new`, `state` and `copy` takes memory.
+/// `new`, `state`, `copy` and `merge` takes memory.
 #[derive(Drop)]
 pub struct Tables {
     chains: Seq<ChainTables>,

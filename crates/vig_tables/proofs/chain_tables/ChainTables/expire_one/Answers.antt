@@ -13,12 +13,12 @@ row-requires c =
 pub unbind_all-requires : goal.unbind_all-requires
 unbind_all-requires c =
     let at = past_stamped c.self.inside.chain c.args.time c.self.inside.decl.lifetime c.in-Some.i c.in-Some.ensures.cause in
-    rw c.row.ensures (keys_bound _ _ _ _ _ c.in-Some.i at.0 c.self.invariant at.1)
+    rw c.row.ensures.value (keys_bound _ _ _ _ _ c.in-Some.i at.0 c.self.invariant at.1)
 
 pub invariant_of-self-2 : goal.invariant_of-self-2
 invariant_of-self-2 c =
     let at = past_stamped c.self.inside.chain c.args.time c.self.inside.decl.lifetime c.in-Some.i c.in-Some.ensures.cause in
-    rw c.in-Some.ensures.freed (freed_joined _ _ _ _ _ _ c.in-Some.i at.0 c.self.invariant at.1 (rw c.row.ensures at c.unbind_all.ensures))
+    rw c.in-Some.ensures.freed (freed_joined _ _ _ _ _ _ c.in-Some.i at.0 c.self.invariant at.1 (rw c.row.ensures.value at c.unbind_all.ensures))
 
 pub returns-clause-same : goal.returns-clause-same
 returns-clause-same c = rw (← c.self.view_is, c.in-Some.ensures.freed) (past_gone _ _ _ _ _ c.args.time c.in-Some.i c.self.invariant c.in-Some.ensures.cause)

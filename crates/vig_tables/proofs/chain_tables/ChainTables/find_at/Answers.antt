@@ -20,12 +20,12 @@ pub returns-then-has_labels : goal.returns-then-has_labels
 returns-then-has_labels c =
     let a = c.self.inside in
     let at = not_none_stamped a.chain c.args.index c.stamp.result c.is_none.result c.stamp.ensures.value c.is_none.ensures c.if-is_none.false in
-    let is = c.has_labels.ensures ∙ ap (λ (row : List ℕ). has_labels c.args.guards.now (labelled row)) c.row.ensures in
+    let is = c.has_labels.ensures ∙ ap (λ (row : List ℕ). has_labels c.args.guards.now (labelled row)) c.row.ensures.value in
     rw (← c.self.view_is) (ap (λ b. if b then Some c.args.index else None) (sym c.if-has_labels.true) ∙ looked_at (entries a.chain a.labels a.columns) c.args.index c.args.guards.now (entry_with at.0 a.labels a.columns c.args.index) c.has_labels.result (stands _ _ _ _ _ c.args.index at.0 c.self.invariant at.1) is)
 
 pub returns-else-has_labels : goal.returns-else-has_labels
 returns-else-has_labels c =
     let a = c.self.inside in
     let at = not_none_stamped a.chain c.args.index c.stamp.result c.is_none.result c.stamp.ensures.value c.is_none.ensures c.if-is_none.false in
-    let is = c.has_labels.ensures ∙ ap (λ (row : List ℕ). has_labels c.args.guards.now (labelled row)) c.row.ensures in
+    let is = c.has_labels.ensures ∙ ap (λ (row : List ℕ). has_labels c.args.guards.now (labelled row)) c.row.ensures.value in
     rw (← c.self.view_is) (ap (λ b. if b then Some c.args.index else None) (sym c.if-has_labels.false) ∙ looked_at (entries a.chain a.labels a.columns) c.args.index c.args.guards.now (entry_with at.0 a.labels a.columns c.args.index) c.has_labels.result (stands _ _ _ _ _ c.args.index at.0 c.self.invariant at.1) is)

@@ -15,4 +15,4 @@ row-requires c =
 pub returns : goal.returns
 returns c =
     let at = not_none_stamped c.self.inside.chain c.args.i c.stamp.result c.is_none.result c.stamp.ensures.value c.is_none.ensures c.if-is_none.false in
-    rw (← c.self.view_is, c.number_at.ensures, c.row.ensures, stands _ _ _ _ _ c.args.i at.0 c.self.invariant at.1) refl
+    rw (← c.self.view_is, c.number_at.ensures, c.row.ensures.value, stands _ _ _ _ _ c.args.i at.0 c.self.invariant at.1) refl
