@@ -5,6 +5,5 @@ pub mod InOrder
 pub mod Gathering
 pub mod Same
 pub mod Steps
-pub mod Splits
 pub mod OnPath
 pub mod Covered

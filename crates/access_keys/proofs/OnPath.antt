@@ -14,7 +14,7 @@ use Rattle.nf_sites.specs.Sites as text
 use Rattle.nf_sites.specs.OnPaths.{statement_of, sites_along, text_sites, is_on, is_reached, handler_sites, port_sites}
 use Rattle.access_keys.specs.declared.site.Site.{Site}
 use Rattle.access_keys.specs.declared.access.Here.{Here}
-use Rattle.access_keys.specs.Alive.{alive, past}
+use Rattle.path_walk.specs.Alive.{alive, past}
 use Rattle.access_keys.specs.Together.{new_seen, all_set}
 use Rattle.access_keys.specs.Reached.{has, places_marked, AreMarked}
 use Rattle.access_keys.specs.Shown.{shown, passing, Puts}

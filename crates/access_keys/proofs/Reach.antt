@@ -6,7 +6,7 @@ use Rattle.nf_base.specs.Text.{Ending, FallsOff, Flood, Discard, Forward, Operat
 use Rattle.nf_base.specs.Statements.{Statement, Ends, Does, Asks, Makes, statements}
 use Rattle.nf_base.specs.Paths as path
 use Rattle.nf_base.specs.Paths.{Branch, PathStep, Doing, Asking, Making, Closing}
-use Rattle.access_keys.specs.Alive.{into_first, into_second, into_third, those, is_any, past, alive}
+use Rattle.path_walk.specs.Alive.{into_first, into_second, into_third, those, is_any, past, alive}
 use Rattle.access_keys.proofs.Replay.{replay, asked_way, made_way}
 
 -- a test of statements, and the same of steps, which passes at no end that falls off

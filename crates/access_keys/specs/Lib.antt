@@ -1,5 +1,4 @@
 pub mod Order
-pub mod Alive
 pub mod Together
 pub mod Speaking
 pub mod Reached

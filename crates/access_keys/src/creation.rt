@@ -3,14 +3,14 @@ ghost use Rattle.std.specs.Prelude.{◌≡◌, ◌++◌, IfOk, OnOk, map};
 ghost use Rattle.std.specs.List.{flat_map};
 ghost use Rattle.nf_base.specs.Functions.{function_of};
 ghost use Rattle.nf_base.specs.View.{block_of, creation_of};
-ghost use Rattle.access_keys.specs.Order.{head_of, head_seen};
+ghost use Rattle.path_walk.specs.Order.{head_of, head_seen};
 ghost use Rattle.access_keys.specs.Together.{new_seen, set_fields, set_in, all_set, alike, are_together};
 
 use crate::field::{field_at, fields_given, same_field};
-use crate::listing::listed;
 use hash_fields::Hashable;
 use nf_base::block::{Block, Creation};
 use nf_base::func::Func;
+use path_walk::all_statements;
 use std::alloc::{AllocError, Global};
 
 /// The fields that a `new` sets the labels of its chain from.
@@ -69,7 +69,7 @@ pub fn all_new(alloc: Global, func: &Func) -> Result<Vec<NewFields>, AllocError>
 {
     let mut all = Vec::new(alloc);
     for handler in func.handlers.as_slice() {
-        let statements = listed(alloc, &handler.block)?;
+        let statements = all_statements(alloc, &handler.block)?;
         put_news(alloc, statements.as_slice(), &mut all)?;
     }
     Ok(all)

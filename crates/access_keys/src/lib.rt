@@ -7,14 +7,12 @@ mod creation;
 mod field;
 mod function;
 mod known;
-mod listing;
 mod lookup;
-mod marking;
 mod named;
 mod places;
 mod read_order;
 mod site;
 mod statement;
 
-pub use function::{all_paths, sites};
+pub use function::sites;
 pub use site::{Known, Site};

@@ -2,7 +2,7 @@
 ghost use Rattle.std.specs.Prelude.{◌≡◌, ℕ, ◌∷◌, ◌++◌, [], false, IfOk, OnOk, length, map};
 ghost use Rattle.nf_base.specs.TextPlaces.{expression_places, given_places, guard_places, ending_places, operation_place, operation_reads, question_own, question_reads, places_in};
 ghost use Rattle.nf_base.specs.View.{block_of, ending_of, expression_of, given_of, guard_of, operation_of, question_of};
-ghost use Rattle.access_keys.specs.Order.{head_of, head_seen};
+ghost use Rattle.path_walk.specs.Order.{head_of, head_seen};
 ghost use Rattle.access_keys.specs.Reached.{has, HasMore, places_if, AreMarked};
 
 use nf_base::block::{Block, Ending, Operation, Question};

@@ -3,7 +3,7 @@ ghost use Rattle.std.specs.Prelude.{◌≡◌, OnOk, map};
 ghost use Rattle.nf_base.specs.View.{block_of, creation_of, ending_of, operation_of, question_of};
 ghost use Rattle.nf_sites.specs.Sites.{operation_sites, question_sites, creation_sites, ending_sites, statement_sites};
 ghost use Rattle.nf_sites.specs.OnPaths.{sites_along};
-ghost use Rattle.access_keys.specs.Order.{head_of, head_seen};
+ghost use Rattle.path_walk.specs.Order.{head_of, head_seen};
 ghost use Rattle.access_keys.specs.Shown.{Puts};
 
 use crate::access::{Here, put_cell, put_given, put_guards, put_labels, put_value};

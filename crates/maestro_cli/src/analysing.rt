@@ -5,25 +5,18 @@ ghost use Rattle.shard_rules.specs.Served.{own_sites, own_plan};
 ghost use Rattle.maestro_cli.specs.Source.{HasFewPaths};
 ghost use Rattle.maestro_cli.specs.Describing.{IsVerdictText, IsExplanation};
 
-use access_keys::{Site, all_paths, sites};
+use access_keys::{Site, sites};
 use key_synth::synthesise;
 use nf_base::func::Func;
-use path_walk::WalkFault;
 use shard_rules::{Plan, join};
 use std::alloc::{AllocError, Global};
 use verdict_text::{explain, verdict_part};
 
-// The sites of a function. Its paths, which may be many, are given up with this call.
+// The sites of a function. Its few paths bound the work.
 fn own_sites(alloc: Global, func: &Func) -> Result<Vec<Site>, AllocError>
-    requires few { HasFewPaths (function_of func.now) }
     ensures { IfOk result (λ all. all.items ≡ own_sites (function_of func.now)) }
 {
-    match all_paths(alloc, func) {
-        Ok(paths) => sites(alloc, func, paths.as_slice()),
-        Err(WalkFault::Memory) => Err(AllocError),
-        // No port has more than 4,096.
-        Err(WalkFault::TooManyPaths) => unreachable!(),
-    }
+    sites(alloc, func)
 }
 
 // What the sites of a function come to. They are given up with this call.

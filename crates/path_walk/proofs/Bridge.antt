@@ -15,13 +15,13 @@ use Rattle.std.proofs.lemmas.List.{length-map}
 use Rattle.path_walk.specs.declared.test.Text.{Text}
 use Rattle.path_walk.specs.Layout.{IsLaidOut}
 use Rattle.path_walk.specs.Seen.{line_map, lines_seen, text_seen}
-use Rattle.path_walk.specs.Trees.{Tree, Leaf, Free, Tested, Made, unfolded}
+use Rattle.path_walk.specs.Trees.{Tree, Leaf, Free, Tested, Made, unfolded, tree_map}
 use Rattle.path_walk.specs.Lines.{child, grown, trees, tree_at, IsBelow, IsLaid}
 use Rattle.path_walk.specs.Numbering.{text_at, AreApart, HasNumber, AreNumbered}
 use Rattle.path_walk.specs.Known.{Marks, nothing_known, mark_at, excludes, told_mark}
 use Rattle.path_walk.specs.Walks.{ahead, one_way, tested, leaves}
 use Rattle.path_walk.proofs.Fitting.{tell, goes, if_goes, fitting, tree_paths}
-use Rattle.path_walk.proofs.Lines.{tree_map, tree_at_map}
+use Rattle.path_walk.proofs.Lines.{tree_at_map}
 use Rattle.path_walk.proofs.Marking.{Represents, nothing, again, told_one, goes_free, goes_not, goes_as_marked, goes_no_other}
 
 -- each test of a tree has one of so many numbers
@@ -84,7 +84,7 @@ by_mark texts m before n e hit miss None false r apart w fh fm mark ex =
     ap₂ join (ap (ahead Hits) (fh (told (not e)) (tell x (not e) ∷ before) (s (not e)))) (ap (ahead Misses) (fm (told e) (tell x e ∷ before) (s e)))
     ∙ sym (ap₂ (λ u v. if_goes u (ahead Hits (fitting (tell x (not e) ∷ before) (tree_map (text_at texts) hit))) ++ if_goes v (ahead Misses (fitting (tell x e ∷ before) (tree_map (text_at texts) miss)))) (yes (not e)) (yes e))
 
-all_fit : (texts : List TestText) → AreApart texts → (t : Tree ℕ) → AllNumbered (length texts) t → Fits texts t
+pub all_fit : (texts : List TestText) → AreApart texts → (t : Tree ℕ) → AllNumbered (length texts) t → Fits texts t
 all_fit texts apart Leaf h m before r = refl
 all_fit texts apart (Free hit miss) h m before r = ap₂ (λ xs ys. ahead Hits xs ++ ahead Misses ys) (all_fit texts apart hit h.0 m before r) (all_fit texts apart miss h.1 m before r)
 all_fit texts apart (Tested n e hit miss) h m before r =

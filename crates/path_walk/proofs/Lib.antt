@@ -12,3 +12,7 @@ pub mod Marking
 pub mod Bridge
 pub mod Apart
 pub mod Handled
+pub mod Splits
+pub mod Ahead
+pub mod AskedTexts
+pub mod GoneThrough

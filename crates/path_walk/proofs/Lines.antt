@@ -4,7 +4,7 @@ use Rattle.std.proofs.lemmas.List.{length_push, get_or_append_left, get_or_push}
 use Rattle.path_walk.specs.declared.line.Line.{Line}
 use Rattle.path_walk.specs.declared.line.Line.TheVariants as line
 use Rattle.path_walk.specs.Seen.{line_map}
-use Rattle.path_walk.specs.Trees.{Tree, Leaf, Free, Tested, Made}
+use Rattle.path_walk.specs.Trees.{Tree, Leaf, Free, Tested, Made, tree_map}
 use Rattle.path_walk.specs.Lines.{child, grown, trees, tree_at, IsBelow, IsLaid, Keeps}
 
 pub trees_push : {A : Type 0} (ts : List (Tree A)) (ls : List (Line A)) (l : Line A) → trees ts (ls ++ l ∷ []) ≡ trees ts ls ++ grown l (trees ts ls) ∷ []
@@ -96,13 +96,6 @@ tree_push ls l =
     let n = length_trees [] ls in
     let e : length (trees [] ls) ≡ length ls = omega arith in
     ap (λ ts. child ts (length ls)) (trees_push [] ls l) ∙ get_or_push (trees [] ls) (grown l (trees [] ls)) Leaf (length ls) e
-
--- the trees of lines with other names for their tests
-abbrev pub tree_map : {A B : Type 0} → (A → B) → Tree A → Tree B
-tree_map f Leaf = Leaf
-tree_map f (Free hit miss) = Free (tree_map f hit) (tree_map f miss)
-tree_map f (Tested test e hit miss) = Tested (f test) e (tree_map f hit) (tree_map f miss)
-tree_map f (Made made taken full) = Made (tree_map f made) (tree_map f taken) (tree_map f full)
 
 child_map : {A B : Type 0} (f : A → B) (ts : List (Tree A)) (i : ℕ) → child (map (tree_map f) ts) i ≡ tree_map f (child ts i)
 child_map f [] i = refl

@@ -13,7 +13,7 @@ use Rattle.path_walk.specs.Lines.{child, grown, trees, IsLaid}
 use Rattle.path_walk.specs.Known.{Marks, known_seen, mark_at, excludes, told_mark}
 use Rattle.path_walk.specs.Numbering.{text_at}
 use Rattle.path_walk.specs.Walks.{ahead, one_way, tested, leaves, test_leaves}
-use Rattle.path_walk.specs.Counts.{count_at, count_of, count_waiting, count_left, PointWaits, TestCounts, LineCounts, CountSteps, CountGoesOn, CountEnds, CountAdvances}
+use Rattle.path_walk.specs.Counts.{count_at, count_of, LineGoes, count_waiting, count_left, PointWaits, TestCounts, LineCounts, CountSteps, CountGoesOn, CountEnds, CountAdvances}
 use Rattle.path_walk.proofs.Lines.{length_trees, tree_is}
 use Rattle.path_walk.proofs.Walking.{some_leaves}
 
@@ -31,36 +31,6 @@ waiting_behind texts trees (x ∷ ps) p = let e = waiting_behind texts trees ps 
 pub point_waits : (ps all : List Point) (p : Point) (m : Marks) (at : ℕ) → all ≡ ps ++ p ∷ [] → p.at ≡ at → known_seen p.known ≡ m → PointWaits m at ps all
 point_waits ps all p m at e a k = λ texts trees.
     ap (count_waiting texts trees) e ∙ waiting_behind texts trees ps p ∙ ap₂ (λ x i. count_at texts trees x i + count_waiting texts trees ps) k a
-
--- a look-up, the miss of which waits
-pub counts_free : (texts : List TestText) (old new : Point) (olds news : List Point) (hit miss : ℕ) → PointWaits (known_seen old.known) miss olds news → new.at ≡ hit → known_seen new.known ≡ known_seen old.known → LineCounts texts (line.Free hit miss) old olds new news
-counts_free texts old new olds news hit miss w a k = record {
-  left = λ trees.
-      let m = known_seen old.known in
-      let e : count_of texts trees new ≡ count_at texts trees m hit = ap₂ (count_at texts trees) k a in
-      let f = w texts trees in
-      let n = length_two Hits Misses (leaves texts (child trees hit) m) (leaves texts (child trees miss) m) in
-      omega arith;
-  falls = λ n k. subst (λ x. x < n) (sym a) k.0;
-}
-
--- a `new`, two ways of which wait
-pub counts_make : (texts : List TestText) (old new : Point) (olds mids news : List Point) (made taken full : ℕ) → PointWaits (known_seen old.known) full olds mids → PointWaits (known_seen old.known) taken mids news → new.at ≡ made → known_seen new.known ≡ known_seen old.known → LineCounts texts (line.Make made taken full) old olds new news
-counts_make texts old new olds mids news made taken full w v a k = record {
-  left = λ trees.
-      let m = known_seen old.known in
-      let xs = leaves texts (child trees made) m in
-      let ys = leaves texts (child trees taken) m in
-      let zs = leaves texts (child trees full) m in
-      let e : count_of texts trees new ≡ count_at texts trees m made = ap₂ (count_at texts trees) k a in
-      let f = w texts trees in
-      let g = v texts trees in
-      let p = length_two IsTaken IsFull ys zs in
-      let q = length-append (ahead Makes xs) (ahead IsTaken ys ++ ahead IsFull zs) in
-      let r = length_ahead Makes xs in
-      omega arith;
-  falls = λ n k. subst (λ x. x < n) (sym a) k.0;
-}
 
 -- both ways of a test, the miss of which waits
 pub counts_both : (t : NumberedTest) (old new : Point) (olds news : List Point) → excludes t.equals (known_seen old.known) ≡ false →
@@ -88,59 +58,6 @@ if_length : (b : Bool) (texts : List TestText) (trees : List (Tree ℕ)) (m : Ma
     length (if b then ahead Hits (leaves texts (child trees hit) m) else ahead Misses (leaves texts (child trees miss) m)) ≡ count_at texts trees m (if b then hit else miss)
 if_length true texts trees m hit miss = length_ahead Hits (leaves texts (child trees hit) m)
 if_length false texts trees m hit miss = length_ahead Misses (leaves texts (child trees miss) m)
-
--- a test that goes one way
-pub counts_one : (t : NumberedTest) (old new : Point) (mark : Option Bool) (holds : Bool) (k : Marks) (ps : List Point) → new.at ≡ one_way t.exchanged holds t.hit t.miss → known_seen new.known ≡ k →
-    ((hit miss : Marks → List (List Branch)) → tested t.exchanged mark (excludes t.equals (known_seen old.known)) (known_seen old.known) (told_mark (known_seen old.known) t.number t.equals) hit miss ≡ one_way t.exchanged holds (hit k) (miss k)) →
-    TestCounts mark t old ps new ps
-counts_one t old new mark holds k ps a m e = record {
-  left = λ texts trees.
-      ap (λ n. n + count_waiting texts trees ps)
-      (ap₂ (count_at texts trees) m a
-      ∙ sym (if_length (differ t.exchanged holds) texts trees k t.hit t.miss)
-      ∙ ap length (sym (e (λ x. ahead Hits (leaves texts (child trees t.hit) x)) (λ x. ahead Misses (leaves texts (child trees t.miss) x)))));
-  falls = λ n x y. subst (λ z. z < n) (sym a) (if_falls (differ t.exchanged holds) t.hit t.miss n x y);
-}
-
--- a test of no mark whose field is another number
-pub counts_other : (t : NumberedTest) (old new : Point) (ps : List Point) → excludes t.equals (known_seen old.known) ≡ true → new.at ≡ one_way t.exchanged false t.hit t.miss →
-    known_seen new.known ≡ told_mark (known_seen old.known) t.number t.equals false → TestCounts None t old ps new ps
-counts_other t old new ps other a k =
-    counts_one t old new None false (told_mark (known_seen old.known) t.number t.equals false) ps a k
-    (λ hit miss. ap (λ b. tested t.exchanged None b (known_seen old.known) (told_mark (known_seen old.known) t.number t.equals) hit miss) other)
-
--- a line that is a test
-pub counts_test : (texts : List TestText) (t : NumberedTest) (old new : Point) (olds news : List Point) → t.equals ≡ equals_of (text_at texts t.number) → TestCounts (mark_at (known_seen old.known) t.number) t old olds new news →
-    LineCounts texts (line.Test t.number t.exchanged t.hit t.miss) old olds new news
-counts_test texts t old new olds news e h = record {
-  left = λ trees.
-      let m = known_seen old.known in
-      h.left texts trees
-      ∙ ap (λ x. length (tested t.exchanged (mark_at m t.number) (excludes x m) m (told_mark m t.number x) (λ k. ahead Hits (leaves texts (child trees t.hit) k)) (λ k. ahead Misses (leaves texts (child trees t.miss) k))) + count_waiting texts trees olds) e;
-  falls = λ n k. h.falls n k.0 k.1;
-}
-
--- a line that is a test of this mark
-pub counts_marked : (texts : List TestText) (old new : Point) (ps : List Point) (n : ℕ) (exchanged holds : Bool) (hit miss : ℕ) → mark_at (known_seen old.known) n ≡ Some holds →
-    new.at ≡ one_way exchanged holds hit miss → known_seen new.known ≡ known_seen old.known → LineCounts texts (line.Test n exchanged hit miss) old ps new ps
-counts_marked texts old new ps n exchanged holds hit miss e a k =
-    let t : NumberedTest = record { number = n; equals = equals_of (text_at texts n); exchanged = exchanged; hit = hit; miss = miss } in
-    counts_test texts t old new ps ps refl
-    (counts_one t old new (mark_at (known_seen old.known) n) holds (known_seen old.known) ps a k
-    (λ h m. ap (λ mark. tested exchanged mark (excludes (equals_of (text_at texts n)) (known_seen old.known)) (known_seen old.known) (told_mark (known_seen old.known) n (equals_of (text_at texts n))) h m) e))
-
-same_way : (b : Bool) (hit miss : ℕ) → hit ≡ miss → hit ≡ (if b then hit else miss)
-same_way true hit miss e = refl
-same_way false hit miss e = e
-
--- a line that is a test of some mark whose two ways are one
-pub counts_idle : (texts : List TestText) (old new : Point) (ps : List Point) (n : ℕ) (exchanged : Bool) (hit miss : ℕ) → is_some (mark_at (known_seen old.known) n) ≡ true → hit ≡ miss →
-    new.at ≡ hit → known_seen new.known ≡ known_seen old.known → LineCounts texts (line.Test n exchanged hit miss) old ps new ps
-counts_idle texts old new ps n exchanged hit miss some one a k = by_mark (mark_at (known_seen old.known) n) refl some
-  where
-    by_mark : (mark : Option Bool) → mark_at (known_seen old.known) n ≡ mark → is_some mark ≡ true → LineCounts texts (line.Test n exchanged hit miss) old ps new ps
-    by_mark None e s = cc
-    by_mark (Some holds) e s = counts_marked texts old new ps n exchanged holds hit miss e (a ∙ same_way (differ exchanged holds) hit miss one) k
 
 -- a point past all lines
 pub count_past : (texts : List TestText) (ls : List (Line ℕ)) (old : Point) (ps : List Point) → length ls ≤ old.at → CountEnds texts (trees [] ls) old ps ps
@@ -184,3 +101,27 @@ more_counted texts trees p ps =
     let h = some_counted texts trees ps in
     let k = some_leaves texts (child trees p.at) (known_seen p.known) in
     omega arith
+
+-- a test of some mark is passed
+pub goes_told : (m : Marks) (n : ℕ) (exchanged holds : Bool) (hit miss at : ℕ) → mark_at m n ≡ Some holds → at ≡ one_way exchanged holds hit miss → LineGoes m (line.Test n exchanged hit miss) at
+goes_told m n exchanged holds hit miss at e w = record {
+  left = λ texts trees.
+      let o = equals_of (text_at texts n) in
+      ap (count_at texts trees m) w ∙ sym (if_length (differ exchanged holds) texts trees m hit miss)
+      ∙ ap (λ (mark : Option Bool). length (tested exchanged mark (excludes o m) m (told_mark m n o) (λ k. ahead Hits (leaves texts (child trees hit) k)) (λ k. ahead Misses (leaves texts (child trees miss) k)))) (sym e);
+  falls = λ k b. subst (λ x. x < k) (sym w) (if_falls (differ exchanged holds) hit miss k b.0 b.1);
+}
+
+-- a line further
+pub passed_more : (texts : List TestText) (ls : List (Line ℕ)) (l : Line ℕ) (m : Marks) (at next : ℕ) → IsLaid ls → slice_get ls at ≡ Some l → LineGoes m l next →
+    count_at texts (trees [] ls) m next ≡ count_at texts (trees [] ls) m at
+passed_more texts ls l m at next laid e h = h.left texts (trees [] ls) ∙ ap (λ t. length (leaves texts t m)) (sym (tree_is ls at l laid e))
+
+-- a step behind what was passed
+pub passed_on : (goes : Bool) (texts : List TestText) (trees : List (Tree ℕ)) (old mid : Point) (olds : List Point) (new : Point) (news : List Point) →
+    count_of texts trees mid ≡ count_of texts trees old → mid.at ≤ old.at → CountAdvances goes texts trees mid olds new news → CountAdvances goes texts trees old olds new news
+passed_on true texts trees old mid olds new news e w h = record {
+  left = h.left ∙ ap (λ n. n + count_waiting texts trees olds) e;
+  falls = let f = h.falls in omega arith;
+}
+passed_on false texts trees old mid olds new news e w h = record { others = h.others; ends = sym e ∙ h.ends }

@@ -13,3 +13,6 @@ pub mod Known
 pub mod Branches
 pub mod Walks
 pub mod Counts
+pub mod Order
+pub mod Alive
+pub mod Ahead

@@ -1,12 +1,14 @@
 -- Worked rows: blocks, and how their feasible paths branch.
-use Rattle.std.specs.Prelude.{◌≡◌, ℕ, List, [], ◌∷◌, map}
+use Rattle.std.specs.Prelude.{◌≡◌, ℕ, Bool, true, false, List, [], ◌∷◌, map}
 use Rattle.nf_base.specs.declared.packet.Field.TheVariants.{SrcIp, DstIp, SrcPort, DstPort}
 use Rattle.nf_base.specs.declared.width.Width.TheVariants.{W32, W16}
 use Rattle.nf_base.specs.declared.expr.Comparison.{Comparison}
 use Rattle.nf_base.specs.declared.expr.Comparison.TheVariants.{Equal, NotEqual, Less, LessOrEqual, Greater}
-use Rattle.nf_base.specs.Text.{Number, Read, Cell, Given, Question, Get, Test, FallsOff, Forward, Discard, Touch, Block, End, Do, Ask, Make}
+use Rattle.nf_base.specs.Text.{Number, Read, Cell, Given, Question, Get, Test, FallsOff, Flood, Forward, Discard, Touch, Block, End, Do, Ask, Make}
 use Rattle.nf_base.specs.Paths.{Branch, Hits, Misses, Makes, IsTaken, IsFull}
 use Rattle.path_walk.specs.Feasible.{feasible_paths, branches_along}
+use Rattle.path_walk.specs.Listed.{block_branches}
+use Rattle.path_walk.specs.Alive.{alive}
 
 -- a block that does nothing
 abbrev pub nothing : Block
@@ -70,3 +72,28 @@ pub record PathsBranchAs : Type 0 where
   pub cells_go_all_ways :
       BranchAs (tested (cell_is 1 ∷ cell_is 1 ∷ []))
       ((Hits ∷ Hits ∷ []) ∷ (Hits ∷ Misses ∷ []) ∷ (Misses ∷ Hits ∷ []) ∷ (Misses ∷ Misses ∷ []) ∷ [])
+
+-- the statements of a block that its feasible paths come to, in text order
+abbrev pub Reaches : Block → List Bool → Type 0
+Reaches block marks = alive block (block_branches block) ≡ marks
+
+-- a question with one block that is looked at, behind which the handler ends
+abbrev pub asked_first : Question → Block → Block
+asked_first q hit = Ask q hit nothing (End Flood)
+
+pub record StatementsAreReached : Type 0 where
+  -- of the firewall all
+  pub firewall_whole :
+      Reaches firewall (true ∷ true ∷ true ∷ true ∷ true ∷ true ∷ true ∷ true ∷ true ∷ [])
+  -- a field is no two numbers: the second test's hit
+  pub no_two_numbers :
+      Reaches (asked_first (port_is Equal 1) (asked_first (port_is Equal 2) (End Discard)))
+      (true ∷ true ∷ false ∷ true ∷ true ∷ true ∷ true ∷ [])
+  -- what is dropped doesn't go on: a later test of that text misses
+  pub dropped_ends :
+      Reaches (Ask (port_is Less 7) (End Discard) nothing (tested (port_is Less 7 ∷ [])))
+      (true ∷ true ∷ true ∷ true ∷ false ∷ true ∷ true ∷ [])
+  -- behind a `new` whose blocks all drop stands nothing that is reached
+  pub nothing_behind :
+      Reaches (Make (record { place = 0; chain = 0; labels = plain; var = 0 }) (End Discard) (End Discard) (End Discard) nothing)
+      (true ∷ true ∷ true ∷ true ∷ false ∷ [])

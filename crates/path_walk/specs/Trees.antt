@@ -33,3 +33,10 @@ unfolded (Do op next) t = unfolded next t
 unfolded (Ask q hit miss next) t = asking q (unfolded hit (unfolded next t)) (unfolded miss (unfolded next t))
 unfolded (Make n made taken full next) t =
     Made (unfolded made (unfolded next t)) (unfolded taken (unfolded next t)) (unfolded full (unfolded next t))
+
+-- a tree with other names for its tests
+abbrev pub tree_map : {A B : Type 0} → (A → B) → Tree A → Tree B
+tree_map f Leaf = Leaf
+tree_map f (Free hit miss) = Free (tree_map f hit) (tree_map f miss)
+tree_map f (Tested test e hit miss) = Tested (f test) e (tree_map f hit) (tree_map f miss)
+tree_map f (Made made taken full) = Made (tree_map f made) (tree_map f taken) (tree_map f full)

@@ -1,6 +1,6 @@
 //! Laws of tests and paths. Each function's contract is a law; its body does nothing.
 ghost use Rattle.path_walk.specs.Laws.{TextsAreTheirTokens, FeasibleIs, IsFeasibleWhere, PacketsTakeFeasiblePaths, OutcomesAreListed, PathsAreListedOnce};
-ghost use Rattle.path_walk.specs.Rows.{PathsBranchAs};
+ghost use Rattle.path_walk.specs.Rows.{PathsBranchAs, StatementsAreReached};
 
 /// Tests of one text have the same sign and the same sides.
 pub fn texts_are_their_tokens()
@@ -28,4 +28,9 @@ pub fn paths_branch_apart()
 /// How the paths of some small blocks branch, worked out by hand.
 pub fn small_blocks_branch_so()
     ensures { PathsBranchAs }
+{}
+
+/// Which statements the feasible paths of some small blocks come to, worked out by hand.
+pub fn small_blocks_are_reached_so()
+    ensures { StatementsAreReached }
 {}

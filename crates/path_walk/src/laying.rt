@@ -16,7 +16,7 @@ use nf_base::block::{Block, Ending, Question};
 use std::alloc::{AllocError, Global};
 
 /// How a path goes on at a question.
-fn asked<'a>(question: &'a Question, hit: usize, miss: usize) -> Line<Text<'a>>
+pub fn asked<'a>(question: &'a Question, hit: usize, miss: usize) -> Line<Text<'a>>
     ensures { line_map text_seen result ≡ question_line (question_of question.now) hit miss }
 {
     match question {

@@ -32,7 +32,7 @@ impl<'a> Texts<'a> {
     }
 
     /// The number of the text that has these tokens.
-    fn find(&self, key: &Vec<u64>) -> Option<usize>
+    pub fn find(&self, key: &Vec<u64>) -> Option<usize>
         ensures { result ≡ get_by (λ k. slice_cmp nat_cmp key.now.items k.items) self.now.numbers }
     {
         self.numbers.get(key).copied()
@@ -67,7 +67,7 @@ impl<'a> Texts<'a> {
 }
 
 /// A line with a number for its test.
-fn numbered_line<'a>(
+pub fn numbered_line<'a>(
     alloc: Global,
     line: &Line<Text<'a>>,
     texts: &mut Texts<'a>,

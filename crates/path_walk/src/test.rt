@@ -1,5 +1,5 @@
 //! Tests of fields and numbers, and how they are compared with one another.
-ghost use Rattle.std.specs.Prelude.{◌≡◌, map};
+ghost use Rattle.std.specs.Prelude.{◌≡◌, ◌&&◌, map};
 ghost use Rattle.nf_laws.specs.Paths.{of_packet};
 ghost use Rattle.nf_base.specs.View.{expression_of};
 ghost use Rattle.path_walk.specs.Tests.{sign_of, is_exchanged};
@@ -48,6 +48,13 @@ pub fn is_of_packet(value: &Expr) -> bool
     }
 }
 
+/// Whether the sides of a test are of fields and numbers alone.
+pub fn are_of_packet(left: &Expr, right: &Expr) -> bool
+    ensures { result ≡ (of_packet (expression_of left.now) && of_packet (expression_of right.now)) }
+{
+    is_of_packet(left) && is_of_packet(right)
+}
+
 /// The sign that a comparison is brought to.
 pub fn sign_of_comparison(comparison: Comparison) -> Sign
     ensures { result ≡ sign_of comparison }
@@ -80,7 +87,7 @@ pub fn equals_at(texts: &[Text<'_>], number: usize) -> Option<FieldIs>
 }
 
 /// What `field == number` says, where the test is one.
-fn equals(text: &Text<'_>) -> Option<FieldIs>
+pub fn equals(text: &Text<'_>) -> Option<FieldIs>
     ensures { result ≡ equals_of (text_seen text.now) }
 {
     match (text.sign, text.left, text.right) {

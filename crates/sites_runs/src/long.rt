@@ -2,7 +2,8 @@
 
 use std::alloc::{AllocError, Global};
 
-/// The names of the long functions, but for `paths`, which has twice the tests of `halves`.
+/// The names of the long functions, but for `paths`, which has twice the tests of `halves`, and `twelfths`, which has as
+/// many tests as fit.
 pub const LONG: [&str; 14] = [
     "touch",
     "free",
@@ -82,6 +83,20 @@ fn paths(alloc: Global, times: u32, behind: &str) -> Result<Vec<u8>, AllocError>
     Ok(text)
 }
 
+/// Twelve tests of numbers alone, and then so many of the same texts.
+fn twelfths(alloc: Global, times: u32) -> Result<Vec<u8>, AllocError> {
+    let mut text = Vec::new(alloc);
+    put(&mut text, "nf twelfths { ports 1; on 0 { ")?;
+    for k in 0..times {
+        let twelfth = k % 12;
+        let piece = format!(in alloc; "if {}<{}", twelfth % 6, 8 + twelfth / 6)?;
+        put(&mut text, piece.as_str())?;
+        put(&mut text, "{}")?;
+    }
+    put(&mut text, " } }")?;
+    Ok(text)
+}
+
 /// A test that can't hit in front of as many statements as fit.
 fn unreached(alloc: Global) -> Result<Vec<u8>, AllocError> {
     let mut text = Vec::new(alloc);
@@ -157,6 +172,7 @@ pub fn text(alloc: Global, name: &str) -> Result<Vec<u8>, AllocError> {
         "deep" => deep(alloc),
         "halves" => paths(alloc, 20_000, "v[ttl]=1;"),
         "paths" => paths(alloc, 40_000, "v[ttl]=1;"),
+        "twelfths" => twelfths(alloc, 131_000),
         "news" => news(alloc),
         "unreached" => unreached(alloc),
         _ => paths(alloc, 40_000, ""),

@@ -10,18 +10,20 @@ mod times;
 
 use crate::long::{LONG, text};
 use crate::telling::told;
-use access_keys::{Site, all_paths, sites};
+use access_keys::{Site, sites};
 use nf_base::func::Func;
 use nf_syntax::parse;
 use nf_types::check;
-use path_walk::WalkFault;
+use path_walk::{WalkFault, count_paths};
 use std::alloc::Global;
 use std::{env, io};
 
-/// The sites of a function.
+/// The sites of a function whose ports have no more than 4,096 paths each.
 fn found(alloc: Global, func: &Func) -> Result<Vec<Site>, WalkFault> {
-    let paths = all_paths(alloc, func)?;
-    Ok(sites(alloc, func, paths.as_slice())?)
+    for port in 0..func.handlers.len() {
+        count_paths(alloc, func, port)?;
+    }
+    Ok(sites(alloc, func)?)
 }
 
 /// The function of a text, if it is one.

@@ -1,12 +1,13 @@
 //! How long it takes to find the sites of the long functions.
 use crate::long::text;
-use access_keys::{all_paths, sites};
+use access_keys::sites;
 use nf_syntax::parse;
 use nf_types::check;
+use path_walk::count_paths;
 use std::io;
 use std::time::Instant;
 
-/// Prints how long it takes to list the paths of a long function, and to find its sites.
+/// Prints how long it takes to count the paths of a long function's first port, and to find its sites.
 pub fn print(rt: &HostRuntime, name: &str) -> io::Result<()> {
     let text = text(rt.alloc(), name)?;
     let Ok(tree) = parse(rt.alloc(), text.as_slice()) else {
@@ -16,15 +17,15 @@ pub fn print(rt: &HostRuntime, name: &str) -> io::Result<()> {
         return println!(rt; "{name}: not well typed");
     };
     let start = Instant::now(rt)?;
-    let Ok(paths) = all_paths(rt.alloc(), &func) else {
-        return println!(rt; "{name}: no paths");
+    let Ok(paths) = count_paths(rt.alloc(), &func, 0) else {
+        return println!(rt; "{name}: too many paths");
     };
-    let listed = start.elapsed(rt)?.as_micros();
+    let counted = start.elapsed(rt)?.as_micros();
     let start = Instant::now(rt)?;
-    let all = sites(rt.alloc(), &func, paths.as_slice())?;
+    let all = sites(rt.alloc(), &func)?;
     let found = start.elapsed(rt)?.as_micros();
     println!(rt;
-        "{name}: {} bytes, paths {listed} us, sites {found} us, {} sites",
+        "{name}: {} bytes, {paths} paths in {counted} us, {} sites in {found} us",
         text.len(),
         all.len()
     )

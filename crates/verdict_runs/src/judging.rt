@@ -1,11 +1,11 @@
 //! A text and what its analysis comes to.
 
-use access_keys::{all_paths, sites};
+use access_keys::sites;
 use key_synth::synthesise;
 use nf_base::func::Func;
 use nf_syntax::parse;
 use nf_types::check;
-use path_walk::WalkFault;
+use path_walk::{WalkFault, count_paths};
 use shard_rules::join;
 use std::alloc::Global;
 use thiserror::Error;
@@ -33,11 +33,12 @@ fn fault_of(fault: WalkFault) -> Fault {
 
 /// The text of a function's objects and of its verdict.
 fn explained(alloc: Global, func: &Func) -> Result<Vec<u8>, Fault> {
-    let walked = match all_paths(alloc, func) {
-        Ok(walked) => walked,
-        Err(fault) => return Err(fault_of(fault)),
-    };
-    let Ok(all) = sites(alloc, func, walked.as_slice()) else {
+    for port in 0..func.handlers.len() {
+        if let Err(fault) = count_paths(alloc, func, port) {
+            return Err(fault_of(fault));
+        }
+    }
+    let Ok(all) = sites(alloc, func) else {
         return Err(Fault::Memory);
     };
     let Ok(plan) = join(alloc, func, all.as_slice()) else {

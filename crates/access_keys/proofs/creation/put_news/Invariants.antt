@@ -1,7 +1,7 @@
 -- those of the statements that were gone along
 use Rattle.std.proofs.Common.{◌≡◌, ◌++◌, map, take}
 use Rattle.std.specs.List.{flat_map}
-use Rattle.access_keys.specs.Order.{head_seen}
+use Rattle.path_walk.specs.Order.{head_seen}
 use Rattle.access_keys.specs.Together.{new_seen, set_in}
 use Rattle.access_keys.proofs.creation.put_news.Given as goal
 

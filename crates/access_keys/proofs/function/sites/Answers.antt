@@ -1,31 +1,14 @@
-use Rattle.std.proofs.Common.{◌≡◌, ◌∙◌, Vec, Global, length, ap, arith}
+use Rattle.std.proofs.Common.{◌≡◌, ◌∙◌, length, ap, arith}
 use Rattle.std.proofs.lemmas.List.{length-map}
 use Rattle.nf_base.specs.declared.func.Handler.{Handler}
 use Rattle.nf_base.specs.Functions.{function_of}
 use Rattle.nf_base.specs.View.{block_of}
-use Rattle.path_walk.specs.declared.walk.Path.{Path}
-use Rattle.path_walk.specs.Listed.{port_branches}
 use Rattle.nf_sites.specs.OnPaths.{port_sites}
 use Rattle.std.specs.List.{flat_map, range_with_len}
 use Rattle.access_keys.specs.Told.{site_told, sites_told}
 use Rattle.access_keys.proofs.Covered.{told_cover}
-use Rattle.access_keys.proofs.Steps.{item_is, items_are, ports_more}
+use Rattle.access_keys.proofs.Steps.{ports_more}
 use Rattle.access_keys.proofs.function.sites.Goals as goal
-
-pub bounds-paths-port : goal.bounds-paths-port
-bounds-paths-port c =
-    let f = function_of c.args.func.now in
-    let handlers = length-map c.args.func.now.handlers (λ (h : Handler). block_of h.block) in
-    let paths : length c.args.paths.now ≡ length f.handlers =
-    items_are (λ (v : Vec Path Global). v.items) (port_branches f) (length f.handlers) c.args.paths.now c.requires in
-    omega arith
-
-pub put_handler-requires-clause-paths : goal.put_handler-requires-clause-paths
-put_handler-requires-clause-paths c =
-    let f = function_of c.args.func.now in
-    let handlers = length-map c.args.func.now.handlers (λ (h : Handler). block_of h.block) in
-    c.as_slice-listed.ensures.value
-    ∙ item_is (λ (v : Vec Path Global). v.items) (port_branches f) (length f.handlers) c.args.paths.now c.loop-port.port c.index-paths-port.result c.requires (omega arith) c.index-paths-port.is
 
 pub loop-port-preserved : goal.loop-port-preserved
 loop-port-preserved c =

@@ -1,5 +1,5 @@
 use Rattle.std.proofs.Common.{false, arith}
-use Rattle.access_keys.specs.Order.{head_seen}
+use Rattle.path_walk.specs.Order.{head_seen}
 use Rattle.access_keys.proofs.Gathering.{marked_more}
 use Rattle.access_keys.proofs.places.places_marked.Goals as goal
 

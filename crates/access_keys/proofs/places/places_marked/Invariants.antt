@@ -1,6 +1,6 @@
 -- those of the statements so far
 use Rattle.std.proofs.Common.{map, take}
-use Rattle.access_keys.specs.Order.{head_seen}
+use Rattle.path_walk.specs.Order.{head_seen}
 use Rattle.access_keys.specs.Reached.{AreMarked}
 use Rattle.access_keys.proofs.places.places_marked.Given as goal
 

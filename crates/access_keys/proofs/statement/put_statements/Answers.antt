@@ -1,6 +1,6 @@
 use Rattle.std.proofs.Common.{arith}
 use Rattle.nf_sites.specs.Sites.{statement_sites}
-use Rattle.access_keys.specs.Order.{head_seen}
+use Rattle.path_walk.specs.Order.{head_seen}
 use Rattle.access_keys.proofs.Putting.{puts_all}
 use Rattle.access_keys.proofs.statement.put_statements.Goals as goal
 

@@ -3,7 +3,7 @@ use Rattle.std.proofs.Common.{take}
 use Rattle.std.specs.List.{flat_map}
 use Rattle.nf_base.specs.declared.block.Block as block
 use Rattle.nf_sites.specs.Sites.{statement_sites}
-use Rattle.access_keys.specs.Order.{head_seen}
+use Rattle.path_walk.specs.Order.{head_seen}
 use Rattle.access_keys.specs.Shown.{Puts}
 use denote.Ref.{Bor}
 use Rattle.access_keys.proofs.statement.put_statements.Given as goal
