@@ -41,6 +41,7 @@ calls_more seat n (x ∷ xs) ys =
 grows_case : (own : Bool) (x : Ordered) (xs : List Ordered) (seat n k : ℕ) → k ≤ n → ((j : ℕ) → j ≤ length_behind n x.way → j ≤ seen_from j (calls_from seat (length_behind n x.way) xs)) → k ≤ seen_from k (in_front own (call_at n x) (calls_from seat (length_behind n x.way) xs))
 grows_case true x xs seat n k le ih = le_trans (le_trans le (behind_way x.way n)) (ih (length_behind n x.way) (le_refl _))
 grows_case false x xs seat n k le ih = ih k (le_trans le (behind_way x.way n))
+
 seen_grows : (xs : List Ordered) (seat n k : ℕ) → k ≤ n → k ≤ seen_from k (calls_from seat n xs)
 seen_grows [] seat n k le = le_refl k
 seen_grows (x ∷ xs) seat n k le = grows_case (x.seat == seat) x xs seat n k le (λ j l. seen_grows xs seat (length_behind n x.way) j l)
@@ -53,6 +54,7 @@ longer_grows (x ∷ xs) n = le_trans (behind_way x.way n) (longer_grows xs (leng
 within_case : (own : Bool) (x : Ordered) (xs : List Ordered) (seat n k : ℕ) → k ≤ n → ((j : ℕ) → j ≤ length_behind n x.way → seen_from j (calls_from seat (length_behind n x.way) xs) ≤ longer (length_behind n x.way) xs) → seen_from k (in_front own (call_at n x) (calls_from seat (length_behind n x.way) xs)) ≤ longer n (x ∷ xs)
 within_case true x xs seat n k le ih = ih (length_behind n x.way) (le_refl _)
 within_case false x xs seat n k le ih = ih k (le_trans le (behind_way x.way n))
+
 pub seen_within : (xs : List Ordered) (seat n k : ℕ) → k ≤ n → seen_from k (calls_from seat n xs) ≤ longer n xs
 seen_within [] seat n k le = le
 seen_within (x ∷ xs) seat n k le = within_case (x.seat == seat) x xs seat n k le (λ j l. seen_within xs seat (length_behind n x.way) j l)
@@ -65,6 +67,7 @@ none_case true x xs seat n k le ih lt =
     let over = behind_way x.way n in
     absurd (omega (arith, lt, up, over))
 none_case false x xs seat n k le ih lt = let over = behind_way x.way n in ih k (le_trans le over) (omega (arith, lt, over))
+
 no_calls : (xs : List Ordered) (seat n k : ℕ) → k ≤ n → seen_from k (calls_from seat n xs) < n → calls_from seat n xs ≡ []
 no_calls [] seat n k le lt = refl
 no_calls (x ∷ xs) seat n k le lt = none_case (x.seat == seat) x xs seat n k le (λ j l t. no_calls xs seat (length_behind n x.way) j l t) lt
@@ -79,10 +82,12 @@ front_other : (seat n : ℕ) (look : Ordered) (xs : List Ordered) → look.way �
 front_other seat n look xs e other =
     ap (λ (own : Bool). in_front own (call_at n look) (calls_from seat (length_behind n look.way) xs)) other
     ∙ ap (λ (w : Way). calls_from seat (length_behind n w) xs) e
+
 other_case : (w : Way) (seat n m : ℕ) (look x : Ordered) (xs : List Ordered) → look.way ≡ Look → (look.seat == seat) ≡ false → ((j k : ℕ) → calls_from seat j (put_behind k look xs) ≡ calls_from seat j xs) → calls_from seat n (put_case w m look x xs) ≡ calls_from seat n (x ∷ xs)
 other_case Look seat n m look x xs e other ih = ap (in_front (x.seat == seat) (call_at n x)) (ih (length_behind n x.way) m)
 other_case Alone seat n zero look x xs e other ih = front_other seat n look (x ∷ xs) e other
 other_case Alone seat n (suc m) look x xs e other ih = ap (in_front (x.seat == seat) (call_at n x)) (ih (length_behind n x.way) m)
+
 pub put_other : (xs : List Ordered) (seat n m : ℕ) (look : Ordered) → look.way ≡ Look → (look.seat == seat) ≡ false → calls_from seat n (put_behind m look xs) ≡ calls_from seat n xs
 put_other [] seat n m look e other = front_other seat n look [] e other
 put_other (x ∷ xs) seat n m look e other = other_case x.way seat n m look x xs e other (λ j k. put_other xs seat j k look e other)

@@ -1,6 +1,6 @@
 -- How the state goes along an order.
 use Rattle.std.proofs.Common.{◌≡◌, ℕ, zero, suc, ◌+◌, ◌≤◌, List, [], ◌∷◌, ◌++◌, length, map, fold, take, Option, Some, None, option_and_then, refl, sym, ap, ◌∙◌, subst, arith, append_assoc, append-nil, take_all, length-append}
-use Rattle.std.proofs.lemmas.List.{map-append, take_at, take-append-le}
+use Rattle.std.proofs.lemmas.List.{map-append, length-map, take_at, append_cancel_left}
 use Rattle.std.proofs.lemmas.Option.{same_Some}
 use mathlib.Core.List.{IsPrefix}
 use Rattle.nf_base.specs.declared.packet.Packet.{Packet}
@@ -11,7 +11,7 @@ use Rattle.nf_base.specs.Operations.{never}
 use Rattle.nf_base.specs.Step.{StepResult, step, opening}
 use Rattle.nf_base.specs.Runs.{Handling, RunResult, run, with_answer}
 use Rattle.nf_laws.specs.Runs.{with_answers}
-use Rattle.nf_laws.proofs.Parted.{runs_part}
+use Rattle.nf_laws.proofs.Parted.{runs_part, answer_each}
 use Rattle.lock_core.specs.declared.call.Way.{Way}
 use Rattle.lock_core.specs.declared.call.Way.TheVariants.{Look, Alone}
 use Rattle.lock_core.specs.declared.call.Entry.{Entry}
@@ -21,12 +21,13 @@ use Rattle.lock_core.specs.Events.{handling_of, answer_of, ComesTo}
 use Rattle.lock_core.specs.Histories.{handling_in, answer_in, Runs}
 use Rattle.lock_core.proofs.Orders.{left_by_look, grown_by_alone, history_prefix}
 
--- a packet's step with its very answer; a look leaves the state
+-- a packet of one of the function's ports makes a step with its very answer, and a look leaves the
+-- state
 pub record Steps (f : Function) (s : State) (x : Ordered) (u : State) : Type 0 where
   pub steps : step f s x.packet x.done.picks ≡ Some (record { state = u; done = x.done })
   pub leaves : x.way ≡ Look → u ≡ s
 
--- the steps of an order's packets, one after another
+-- the steps of an order's packets, one after another, from a state to another
 abbrev pub Goes : Function → State → List Ordered → State → Type 0
 Goes f s [] t = s ≡ t
 Goes f s (x ∷ xs) t = (u : State) × Steps f s x u × Goes f u xs t
@@ -76,7 +77,7 @@ goes_history f (x ∷ xs) before s t p g = goes_history f xs (with_packet before
 -- ---- a look that is put in
 
 -- what stood is the front of what a history becomes
-front_is : (n : ℕ) (before all : List Entry) → IsPrefix before all → n ≡ length before → take n all ≡ before
+pub front_is : (n : ℕ) (before all : List Entry) → IsPrefix before all → n ≡ length before → take n all ≡ before
 front_is n before all p e = ap (take n) (sym p.1) ∙ take_at before p.0 n (sym e)
 
 -- what is to be shown of the packets behind a first one
@@ -107,3 +108,53 @@ goes_put f [] n look before s t q p g there one =
     let same : q ≡ s = comes_once f before q s (subst (λ (z : List Entry). ComesTo f z q) (take_all (length before + n) before (omega arith)) there) p in
     (s, subst (λ (z : State). Steps f z look z) same one, g)
 goes_put f (x ∷ xs) n look before s t q p g there one = put_case x.way f n look x xs refl (λ left. goes_put f xs left look) before s t q p g there one
+
+-- ---- the last entry of a history
+
+last_step : (f : Function) (ds : List Done) (t : State) (done : Done) (o : Option StepResult) → with_answers ds (option_and_then (λ (next : StepResult). with_answer next.done (Some (record { state = next.state; answers = [] }))) o) ≡ Some (record { state = t; answers = ds ++ done ∷ [] }) → o ≡ Some (record { state = t; done = done })
+last_step f ds t done None e = cc
+last_step f ds t done (Some next) e =
+    let both = same_Some _ _ e in
+    let states : next.state ≡ t = ap (λ (r : RunResult). r.state) both in
+    let answers : next.done ∷ [] ≡ done ∷ [] = append_cancel_left ds (next.done ∷ []) (done ∷ []) (ap (λ (r : RunResult). r.answers) both) in
+    let dones : next.done ≡ done = cc answers in
+    ap (λ (s : State). Some (record { state = s; done = next.done })) states ∙ ap (λ (d : Done). Some (record { state = t; done = d })) dones
+
+-- the last entry of a history makes a step where the others end
+pub comes_split : (f : Function) (es : List Entry) (e : Entry) (s t : State) → ComesTo f es s → ComesTo f (es ++ e ∷ []) t → step f s e.packet e.done.picks ≡ Some (record { state = t; done = e.done })
+comes_split f es e s t p q =
+    let then_one = λ (r : RunResult). with_answers r.answers (run f r.state (handling_of e ∷ [])) in
+    last_step f (map answer_of es) t e.done (step f s e.packet e.done.picks)
+    (sym (ap (option_and_then then_one) p)
+    ∙ sym (runs_part never f (opening f) (map handling_of es) (handling_of e ∷ []))
+    ∙ ap (run f (opening f)) (sym (map-append handling_of es (e ∷ [])))
+    ∙ q
+    ∙ ap (λ (ds : List Done). Some (record { state = t; answers = ds })) (map-append answer_of es (e ∷ [])))
+
+-- a history that is the front of one with a run has a run
+same_front : (xs ys cs ds : List Done) → length xs ≡ length ys → xs ++ cs ≡ ys ++ ds → xs ≡ ys
+same_front [] [] cs ds n e = refl
+same_front [] (y ∷ ys) cs ds n e = absurd (omega (arith, n))
+same_front (x ∷ xs) [] cs ds n e = absurd (omega (arith, n))
+same_front (x ∷ xs) (y ∷ ys) cs ds n e =
+    let heads : x ≡ y = cc e in
+    let rest = same_front xs ys cs ds (omega (arith, n)) (cc e) in
+    cc (heads, rest)
+
+front_answers : (f : Function) (r : RunResult) (before rest : List Done) (t : State) (o : Option RunResult) → length r.answers ≡ length before → with_answers r.answers o ≡ Some (record { state = t; answers = before ++ rest }) → r.answers ≡ before
+front_answers f r before rest t None n e = cc
+front_answers f r before rest t (Some x) n e = same_front r.answers before x.answers rest n (ap (λ (y : RunResult). y.answers) (same_Some _ _ e))
+
+front_runs : (f : Function) (es rest : List Entry) (t : State) (o : Option RunResult) → run f (opening f) (map handling_of es) ≡ o
+    → option_and_then (λ (r : RunResult). with_answers r.answers (run f r.state (map handling_of rest))) o ≡ Some (record { state = t; answers = map answer_of (es ++ rest) }) → (u : State) × ComesTo f es u
+front_runs f es rest t None p e = cc
+front_runs f es rest t (Some r) p e =
+    let long : length r.answers ≡ length (map answer_of es) = answer_each never f (opening f) (map handling_of es) r p ∙ length-map es handling_of ∙ sym (length-map es answer_of) in
+    let same : r.answers ≡ map answer_of es = front_answers f r (map answer_of es) (map answer_of rest) t (run f r.state (map handling_of rest)) long (e ∙ ap (λ (ds : List Done). Some (record { state = t; answers = ds })) (map-append answer_of es rest)) in
+    (r.state, p ∙ ap (λ (ds : List Done). Some (record { state = r.state; answers = ds })) same)
+
+pub comes_prefix : (f : Function) (es all : List Entry) (t : State) → IsPrefix es all → ComesTo f all t → (u : State) × ComesTo f es u
+comes_prefix f es all t p q =
+    let whole : ComesTo f (es ++ p.0) t = subst (λ (z : List Entry). ComesTo f z t) (sym p.1) q in
+    front_runs f es p.0 t (run f (opening f) (map handling_of es)) refl
+    (sym (runs_part never f (opening f) (map handling_of es) (map handling_of p.0)) ∙ ap (run f (opening f)) (sym (map-append handling_of es p.0)) ∙ whole)

@@ -24,15 +24,16 @@ number_case true es e seat k z numbered is at =
     (at_end (entries_of seat es) e k z at)
 number_case false es e seat k z numbered is at = numbered seat k z (ap (λ xs. slice_get xs k) (sym (append-nil (entries_of seat es))) ∙ at)
 
-number_more : (es : List Entry) (x : Ordered) → AreNumbered es → AreNumbered (es ++ entry_behind es x ∷ [])
-number_more es x numbered seat k z at =
-    number_case (x.seat == seat) es (entry_behind es x) seat k z numbered
-    (λ own. ap (λ (s : ℕ). count_of s es) (eqb-true x.seat seat own))
-    (ap (λ xs. slice_get xs k) (sym (filter-append (λ (e : Entry). e.seat == seat) es (entry_behind es x ∷ []))) ∙ at)
+-- an entry with the number that comes next at its seat
+pub number_next : (es : List Entry) (e : Entry) → AreNumbered es → e.number ≡ count_of e.seat es → AreNumbered (es ++ e ∷ [])
+number_next es e numbered next seat k z at =
+    number_case (e.seat == seat) es e seat k z numbered
+    (λ own. next ∙ ap (λ (s : ℕ). count_of s es) (eqb-true e.seat seat own))
+    (ap (λ xs. slice_get xs k) (sym (filter-append (λ (x : Entry). x.seat == seat) es (e ∷ []))) ∙ at)
 
 number_one : (w : Way) (es : List Entry) (x : Ordered) → x.way ≡ w → AreNumbered es → AreNumbered (with_packet es x)
 number_one Look es x e numbered = subst AreNumbered (sym (left_by_look es x e)) numbered
-number_one Alone es x e numbered = subst AreNumbered (sym (grown_by_alone es x e)) (number_more es x numbered)
+number_one Alone es x e numbered = subst AreNumbered (sym (grown_by_alone es x e)) (number_next es (entry_behind es x) numbered refl)
 
 pub are_numbered : (xs : List Ordered) (es : List Entry) → AreNumbered es → AreNumbered (fold with_packet es xs)
 are_numbered [] es numbered = numbered

@@ -87,17 +87,24 @@ put_call true order seat n look own e within seen =
     ∙ ap (λ (k : ℕ). calls_of seat order ++ call_at k look ∷ []) (omega arith)
 put_call false order seat n look own e within seen = put_other order seat 0 n look e own ∙ sym (append-nil (calls_of seat order))
 
+-- the state goes on as it did
+pub look_goes : (f : Function) (order : List Ordered) (t : State) (seat n : ℕ) (packet : Packet) (done : Done) → Goes f (opening f) order t → packet.id.port < length f.handlers → IsLook f (take n (history order)) packet done
+    → Goes f (opening f) (put_behind n (record { seat = seat; way = way.Look; packet = packet; done = done }) order) t
+look_goes f order t seat n packet done g port answer =
+    let look : Ordered = record { seat = seat; way = way.Look; packet = packet; done = done } in
+    let none : done.picks ≡ [] = steps_pick never f answer.state packet [] (record { state = answer.state; done = done }) answer.steps in
+    let stepped : step f answer.state packet done.picks ≡ Some (record { state = answer.state; done = done }) = ap (step f answer.state packet) none ∙ answer.steps in
+    let there : ComesTo f (take (length {A = Entry} [] + n) (history order)) answer.state = subst (λ (k : ℕ). ComesTo f (take k (history order)) answer.state) (omega arith) answer.comes in
+    goes_put f order n look [] (opening f) t answer.state (comes_none f) g there (record { steps = stepped; leaves = λ e. refl })
+
 look_more : (f : Function) (seats : ℕ) (ts : List Turn) (order : List Ordered) (seat n : ℕ) (packet : Packet) (placed : Placed) → IsHeld f seats ts order → IsValidLook f seats order seat n packet → placed.place ≡ n
     → IsLook f (take n (history order)) packet placed.done → IsHeld f seats (ts ++ record { event = Look seat n packet; placed = placed } ∷ []) (put_behind n (record { seat = seat; way = way.Look; packet = packet; done = placed.done }) order)
 look_more f seats ts order seat n packet placed h valid place answer =
     let look : Ordered = record { seat = seat; way = way.Look; packet = packet; done = placed.done } in
     let t : Turn = record { event = Look seat n packet; placed = placed } in
-    let none : placed.done.picks ≡ [] = steps_pick never f answer.state packet [] (record { state = answer.state; done = placed.done }) answer.steps in
-    let stepped : step f answer.state packet placed.done.picks ≡ Some (record { state = answer.state; done = placed.done }) = ap (step f answer.state packet) none ∙ answer.steps in
-    let there : ComesTo f (take (length {A = Entry} [] + n) (history order)) answer.state = subst (λ (k : ℕ). ComesTo f (take k (history order)) answer.state) (omega arith) answer.comes in
     record {
       state = h.state;
-      goes = goes_put f order n look [] (opening f) h.state answer.state (comes_none f) h.goes there (record { steps = stepped; leaves = λ e. refl });
+      goes = look_goes f order h.state seat n packet placed.done h.goes valid.port answer;
       calls = λ s. put_call (seat == s) order s n look refl refl valid.within valid.seen
           ∙ ap (λ (cs : List Call). cs ++ own_call (seat == s) (call_at n look)) (h.calls s)
           ∙ ap (λ (k : ℕ). made_by s ts ++ own_call (seat == s) (record { way = way.Look; place = k; packet = packet; done = placed.done })) (sym place)
@@ -110,6 +117,11 @@ look_more f seats ts order seat n packet placed h valid place answer =
 not_look : way.Alone ≡ way.Look → ⊥
 not_look e = cc
 
+-- the state goes on by its step
+pub alone_goes : (f : Function) (order : List Ordered) (t u : State) (seat : ℕ) (packet : Packet) (done : Done) → Goes f (opening f) order t → packet.id.port < length f.handlers → step f t packet done.picks ≡ Some (record { state = u; done = done })
+    → Goes f (opening f) (order ++ record { seat = seat; way = way.Alone; packet = packet; done = done } ∷ []) u
+alone_goes f order t u seat packet done g port stepped = goes_more f order (opening f) t u _ g (record { steps = stepped; leaves = λ e. absurd (not_look e) })
+
 alone_more : (f : Function) (seats : ℕ) (ts : List Turn) (order : List Ordered) (seat : ℕ) (packet : Packet) (placed : Placed) → IsHeld f seats ts order → IsValidAlone f seats seat packet → placed.place ≡ length (history order)
     → IsStep f (history order) packet placed.done → IsHeld f seats (ts ++ record { event = Alone seat packet; placed = placed } ∷ []) (order ++ record { seat = seat; way = way.Alone; packet = packet; done = placed.done } ∷ [])
 alone_more f seats ts order seat packet placed h valid place answer =
@@ -120,7 +132,7 @@ alone_more f seats ts order seat packet placed h valid place answer =
     let long : longer 0 order ≡ placed.place = sym (place ∙ length_is order []) in
     record {
       state = answer.next;
-      goes = goes_more f order (opening f) h.state answer.next x h.goes (record { steps = ap (λ (s : State). step f s packet placed.done.picks) (sym same) ∙ answer.steps; leaves = λ e. absurd (not_look e) });
+      goes = alone_goes f order h.state answer.next seat packet placed.done h.goes valid.port (ap (λ (s : State). step f s packet placed.done.picks) (sym same) ∙ answer.steps);
       calls = λ s. calls_more s 0 order (x ∷ [])
           ∙ ap (λ (cs : List Call). cs ++ own_call (seat == s) (call_at (longer 0 order) x)) (h.calls s)
           ∙ ap (λ (k : ℕ). made_by s ts ++ own_call (seat == s) (call_at k x)) long
@@ -164,7 +176,7 @@ histories_grow f seats order new (t ∷ ts) p =
 
 -- ---- each valid event has an answer
 
-quiet_steps : (o : Option StepResult) (test : StepResult → Bool) → option_map test o ≡ Some true → (r : StepResult) × (o ≡ Some r)
+pub quiet_steps : (o : Option StepResult) (test : StepResult → Bool) → option_map test o ≡ Some true → (r : StepResult) × (o ≡ Some r)
 quiet_steps None test e = cc
 quiet_steps (Some r) test e = (r, refl)
 
@@ -172,8 +184,7 @@ pub answers : ValidEventsAreAnswered
 answers f seats turns order (Look seat n packet) p valid =
     let behind = valid.behind in
     let found = quiet_steps (step f behind.state packet []) _ behind.is_quiet in
-    let same = quiet_same f behind.state packet [] found.0 behind.is_quiet found.1 in
-    (
+    let same = quiet_same f behind.state packet [] found.0 behind.is_quiet found.1 in (
       record { place = n; done = found.0.done },
       (
         refl,
@@ -188,8 +199,7 @@ answers f seats turns order (Look seat n packet) p valid =
 answers f seats turns order (Alone seat packet) p valid =
     let h = one_history f seats turns order p in
     let found = some_choices f h.state packet (handles valid.port) in
-    let picks = steps_pick never f h.state packet found.0 found.1.0 found.1.1 in
-    (
+    let picks = steps_pick never f h.state packet found.0 found.1.0 found.1.1 in (
       record { place = length (history order); done = found.1.0.done },
       (
         refl,

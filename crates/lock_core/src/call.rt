@@ -52,7 +52,10 @@ pub enum Event {
         packet: Packet,
     },
     /// To handle a packet at the end of the history.
-    Alone { seat: u32, packet: Packet },
+    Alone {
+        seat: u32,
+        packet: Packet,
+    },
 }
 
 /// What an event came to.

@@ -6,6 +6,13 @@
 #![tactic(auto)]
 
 mod call;
+mod done;
 pub mod laws;
+mod log;
+mod order;
+pub mod rows;
+mod tables;
 
 pub use call::{Call, Entry, Event, Ordered, Placed, Way};
+pub use done::again;
+pub use log::Log;
