@@ -81,7 +81,7 @@ worked_more f share came before after (stops worker packet waiting fields choice
 worked_more f share came before after (stays worker chain was) = ([], sym (append_nil before.worked))
 
 -- each event
-dispatch_holds : (x : Setup) (p : Packet) (m : Machine) → Holds x m → Holds x (dispatched x p m)
+pub dispatch_holds : (x : Setup) (p : Packet) (m : Machine) → Holds x m → Holds x (dispatched x p m)
 dispatch_holds x p m h = record {
   worker = λ w. elim (cases_eq (x.queue p) w) [
     | inl same ↦
@@ -117,7 +117,7 @@ if_false : {A : Type 0} (b : Bool) (x y : A) → b ≡ false → (if b then x el
 if_false true x y e = cc
 if_false false x y e = refl
 
-work_holds : (x : Setup) (w : ℕ) (came : Worked) (worker : Worker) (m : Machine) → Holds x m → Works x.function (x.share w) came (m.worker w) worker → Holds x (with_worker w worker m)
+pub work_holds : (x : Setup) (w : ℕ) (came : Worked) (worker : Worker) (m : Machine) → Holds x m → Works x.function (x.share w) came (m.worker w) worker → Holds x (with_worker w worker m)
 work_holds x w came worker m h go =
     let grown = worked_more x.function (x.share w) came (m.worker w) worker go in
     record {
@@ -140,7 +140,7 @@ work_holds x w came worker m h go =
       ];
     }
 
-collect_holds : (x : Setup) (a : Answer) (m : Machine) → Holds x m → IsNext x m a → Holds x (collected a m)
+pub collect_holds : (x : Setup) (a : Answer) (m : Machine) → Holds x m → IsNext x m a → Holds x (collected a m)
 collect_holds x a m h next =
     let u = x.queue a.packet in
     record {

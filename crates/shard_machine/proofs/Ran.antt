@@ -191,10 +191,10 @@ all_collected x m r is h times meet all e =
     (subst (λ (z : RunResult). IsUnion (owner_of x.workers) x.function (last_time 0 (lines_of m.collected)) x.workers (λ w. (c.runs w).state) z.state) same c.union)
 
 -- the packet that a worker stopped at
-head_is : (p q : Packet) (ps qs : List Packet) → p ∷ ps ≡ q ∷ qs → p ≡ q
+pub head_is : (p q : Packet) (ps qs : List Packet) → p ∷ ps ≡ q ∷ qs → p ≡ q
 head_is p q ps qs e = cc
 
-stop_packet : (x : Setup) (m : Machine) (h : Holds x m) (packet : Packet) (later : List Packet) → m.dispatched ≡ packets_of m.collected ++ packet ∷ later → (m.worker (x.queue packet)).worked ≡ answers_at x.queue (x.queue packet) m.collected →
+pub stop_packet : (x : Setup) (m : Machine) (h : Holds x m) (packet : Packet) (later : List Packet) → m.dispatched ≡ packets_of m.collected ++ packet ∷ later → (m.worker (x.queue packet)).worked ≡ answers_at x.queue (x.queue packet) m.collected →
     (m.worker (x.queue packet)).waiting ≡ packet ∷ packets_at x.queue (x.queue packet) later
 stop_packet x m h packet later next at =
     let u = x.queue packet in

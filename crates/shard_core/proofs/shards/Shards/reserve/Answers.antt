@@ -1,0 +1,5 @@
+use Rattle.shard_core.proofs.Machines.{same_rooms}
+use Rattle.shard_core.proofs.shards.Shards.reserve.Goals as goal
+
+pub returns-clause-stands : goal.returns-clause-stands
+returns-clause-stands c = λ x m h. same_rooms x m c.args.self.now c.reserve_all.new.self c.reserve_all.ensures.same h

@@ -1,0 +1,4 @@
+pub mod Fifos
+pub mod Held
+pub mod Sharded
+pub mod Keyed
