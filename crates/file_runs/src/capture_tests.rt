@@ -1,33 +1,16 @@
-//! Captures in memory.
-use pcap_file::{CapFault, Endian, Place, Places, TimeUnit, push_header, push_record, records};
+//! Captures in files.
+use crate::calls::{header, left, next, open};
+use crate::story::{End, read_all};
+use nf_files::{Files, MemoryFiles};
+use pcap_file::{CapFault, Head, push_header, push_record};
 use std::alloc::{AllocError, Global};
 use std::test::Fail;
 
-/// The 24 bytes of a header, and a record of a frame of 3 bytes with seconds 1 and fraction 2, original length 60.
+/// A header of the form big-endian in microseconds, and a record of a frame of 3 bytes.
 const BIG: [u8; 43] = [
     0xa1, 0xb2, 0xc3, 0xd4, 0, 2, 0, 4, 0, 0, 0, 0, 0, 0, 0, 0, 0, 0, 0, 96, 0, 0, 0, 1, 0, 0, 0,
     1, 0, 0, 0, 2, 0, 0, 0, 3, 0, 0, 0, 60, 7, 8, 9,
 ];
-
-const LITTLE: [u8; 43] = [
-    0xd4, 0xc3, 0xb2, 0xa1, 2, 0, 4, 0, 0, 0, 0, 0, 0, 0, 0, 0, 96, 0, 0, 0, 1, 0, 0, 0, 1, 0, 0,
-    0, 2, 0, 0, 0, 3, 0, 0, 0, 60, 0, 0, 0, 7, 8, 9,
-];
-
-const BIG_NANO: [u8; 4] = [0xa1, 0xb2, 0x3c, 0x4d];
-
-const LITTLE_NANO: [u8; 4] = [0x4d, 0x3c, 0xb2, 0xa1];
-
-fn capture(alloc: Global, times: &[u64]) -> Result<Vec<u8>, AllocError> {
-    let mut out = Vec::new(alloc);
-    push_header(&mut out)?;
-    for time in times {
-        if *time <= 4_294_967_295_999_999_999 {
-            push_record(&mut out, *time, 60, &[7, 8, 9])?;
-        }
-    }
-    Ok(out)
-}
 
 /// The bytes from `at` on are changed.
 fn changed(alloc: Global, bytes: &[u8], at: usize, new: &[u8]) -> Result<Vec<u8>, AllocError> {
@@ -42,139 +25,148 @@ fn changed(alloc: Global, bytes: &[u8], at: usize, new: &[u8]) -> Result<Vec<u8>
     Ok(out)
 }
 
-// The tests read captures through this, which promises nothing: what the answers are is compared, and not proved.
-fn read(alloc: Global, bytes: &[u8]) -> Result<Places, CapFault> {
-    records(alloc, bytes)
-}
-
-fn first(found: &Places) -> Option<Place> {
-    found.as_slice().first().copied()
-}
-
 #[test]
-fn all_four_forms_are_read(rt: HostRuntime) -> Result<(), Fail> {
-    let micro = 1_000_002_000;
-    let nano = 1_000_000_002;
-    let big = Vec::from_slice(rt.alloc(), &BIG)?;
-    let little = Vec::from_slice(rt.alloc(), &LITTLE)?;
-    let cases = [
-        (big, Endian::Big, TimeUnit::Microseconds, micro),
-        (
-            changed(rt.alloc(), &BIG, 0, &BIG_NANO)?,
-            Endian::Big,
-            TimeUnit::Nanoseconds,
-            nano,
-        ),
-        (little, Endian::Little, TimeUnit::Microseconds, micro),
-        (
-            changed(rt.alloc(), &LITTLE, 0, &LITTLE_NANO)?,
-            Endian::Little,
-            TimeUnit::Nanoseconds,
-            nano,
-        ),
+fn a_wrong_header_is_no_capture(rt: HostRuntime) -> Result<(), Fail> {
+    let wrong = End::Unread(CapFault::NotCapture);
+    let cases: [(usize, &[u8], End, &str); 7] = [
+        (0, &[0xa1, 0xb2, 0xc3, 0xd5], wrong, "another magic number"),
+        (0, &[0xd4, 0xb2, 0xc3, 0xa1], wrong, "another byte order"),
+        (20, &[0, 0, 0, 101], wrong, "another link type"),
+        (20, &[0, 0, 1, 1], wrong, "a second byte of the link type"),
+        (20, &[0x14, 0, 0, 1], End::End, "high bits of the link type"),
+        (20, &[0, 1, 0, 1], End::End, "bit 16 of the link type"),
+        (4, &[9; 8], End::End, "another version and zone"),
     ];
-    for (bytes, order, unit, time) in &cases {
-        let found = read(rt.alloc(), bytes)?;
-        assert_eq!(rt; (found.form().order, found.form().unit), (*order, *unit));
-        assert_eq!(rt; (found.len(), found.torn()), (1, None));
-        match first(&found) {
-            None => assert!(rt; false, "no record"),
-            Some(place) => {
-                assert_eq!(rt; place.head.time, *time);
-                assert_eq!(rt;
-                    (place.head.captured, place.head.original, place.offset),
-                    (3, 60, 40)
-                );
-            }
-        }
-    }
-    Ok(())
-}
-
-#[test]
-fn a_short_or_wrong_header_is_no_capture(rt: HostRuntime) -> Result<(), Fail> {
-    let cases: [(usize, &[u8], bool, &str); 7] = [
-        (0, &[0xa1, 0xb2, 0xc3, 0xd5], false, "another magic number"),
-        (0, &[0xd4, 0xb2, 0xc3, 0xa1], false, "another byte order"),
-        (20, &[0, 0, 0, 101], false, "another link type"),
-        (20, &[0, 0, 1, 1], false, "a second byte of the link type"),
-        (20, &[0x14, 0, 0, 1], true, "high bits of the link type"),
-        (20, &[0, 1, 0, 1], true, "bit 16 of the link type"),
-        (
-            4,
-            &[9, 9, 9, 9, 9, 9, 9, 9],
-            true,
-            "another version and zone",
-        ),
-    ];
-    for (at, new, is_capture, what) in cases {
+    for (at, new, end, what) in cases {
         let bytes = changed(rt.alloc(), &BIG, at, new)?;
-        assert_eq!(rt; read(rt.alloc(), &bytes).is_ok(), is_capture, "{what}");
+        let story = read_all(rt.alloc(), bytes.as_slice(), &[])?;
+        assert_eq!(rt; story.end, end, "{what}");
     }
-    assert_eq!(rt;
-        read(rt.alloc(), &BIG[..23]).err(),
-        Some(CapFault::NotCapture)
-    );
-    let alone = read(rt.alloc(), &BIG[..24])?;
-    assert!(rt; alone.is_empty() && alone.torn().is_none());
     Ok(())
 }
 
+/// A record of that capture takes 19 bytes behind the header's 24.
 #[test]
-fn a_torn_record_ends_a_capture(rt: HostRuntime) -> Result<(), Fail> {
-    let bytes = capture(rt.alloc(), &[1, 5])?;
-    assert_eq!(rt; bytes.len(), 62);
-    for cut in 24..63 {
-        let torn = match cut {
-            24 | 43 | 62 => None,
-            25..43 => Some(24),
-            _ => Some(43),
+fn a_torn_record_is_named_by_its_offset(rt: HostRuntime) -> Result<(), Fail> {
+    for cut in 0..44 {
+        let story = read_all(rt.alloc(), BIG.get(..cut).unwrap_or(&BIG), &[])?;
+        let (count, end) = match cut {
+            0..24 => (0, End::Unread(CapFault::NotCapture)),
+            24 => (0, End::End),
+            25..43 => (0, End::Torn(24)),
+            _ => (1, End::End),
         };
-        let found = read(rt.alloc(), &bytes[..cut])?;
-        assert_eq!(rt; found.torn(), torn, "{cut} bytes");
-        assert_eq!(rt; found.len(), (cut - 24) / 19, "{cut} bytes");
+        assert_eq!(rt; (story.heads.len(), story.end), (count, end), "{cut} bytes");
     }
     Ok(())
 }
 
+/// The calls that fail are counted from 0, in the order of the calls: the opening, and then the reads, of which each
+/// wanted piece takes one.
 #[test]
-fn times_are_capped(rt: HostRuntime) -> Result<(), Fail> {
-    let mut bytes = capture(rt.alloc(), &[])?;
-    bytes.extend_from_slice(&[255; 8])?;
-    bytes.extend_from_slice(&[0, 0, 0, 0, 60, 0, 0, 0])?;
-    bytes.extend_from_slice(&[0, 0, 0, 0, 0, 0x94, 0x35, 0x77, 0, 0, 0, 0, 60, 0, 0, 0])?;
-    let found = read(rt.alloc(), &bytes)?;
-    let expected = [4_294_967_295_999_999_999, 2_000_000_000];
-    assert_eq!(rt; found.len(), 2);
-    for (place, time) in found.as_slice().iter().zip(&expected) {
-        assert_eq!(rt; place.head.time, *time);
+fn each_call_that_fails_is_told(rt: HostRuntime) -> Result<(), Fail> {
+    let cases = [
+        (0, 0, End::Unopened),
+        (1, 0, End::Unread(CapFault::File)),
+        (2, 0, End::Fault(CapFault::File)),
+        (3, 0, End::Fault(CapFault::File)),
+        (4, 1, End::Fault(CapFault::File)),
+        (5, 1, End::End),
+    ];
+    for (call, count, end) in cases {
+        let story = read_all(rt.alloc(), &BIG, &[call])?;
+        assert_eq!(rt; (story.heads.len(), story.end), (count, end), "call {call}");
     }
     Ok(())
 }
 
+/// The header and the first 16 bytes of a record, and so many zeros.
+fn record(alloc: Global, numbers: [u8; 16], zeros: usize) -> Result<Vec<u8>, AllocError> {
+    let mut bytes = Vec::new(alloc);
+    push_header(&mut bytes)?;
+    bytes.extend_from_slice(&numbers)?;
+    bytes.resize(bytes.len().saturating_add(zeros), 0)?;
+    Ok(bytes)
+}
+
 #[test]
-fn more_than_262_144_captured_bytes_are_torn(rt: HostRuntime) -> Result<(), Fail> {
-    let cases = [(0, 262_144, None), (1, 262_145, Some(24))];
-    for (low, captured, torn) in cases {
-        let mut bytes = capture(rt.alloc(), &[])?;
-        bytes.extend_from_slice(&[0, 0, 0, 0, 0, 0, 0, 0, low, 0, 4, 0, 60, 0, 0, 0])?;
-        bytes.resize(40 + captured, 0)?;
-        let found = read(rt.alloc(), &bytes)?;
-        assert_eq!(rt; found.torn(), torn);
-        assert_eq!(rt; found.is_empty(), torn.is_some());
+fn times_are_capped_and_262_145_captured_bytes_are_torn(rt: HostRuntime) -> Result<(), Fail> {
+    let last = [
+        255, 255, 255, 255, 255, 255, 255, 255, 0, 0, 0, 0, 60, 0, 0, 0,
+    ];
+    let late = [0, 0, 0, 0, 0, 0x94, 0x35, 0x77, 0, 0, 0, 0, 60, 0, 0, 0];
+    let most = [0, 0, 0, 0, 0, 0, 0, 0, 0, 0, 4, 0, 60, 0, 0, 0];
+    let more = [0, 0, 0, 0, 0, 0, 0, 0, 1, 0, 4, 0, 60, 0, 0, 0];
+    let cases = [
+        (last, 0, Some(4_294_967_295_999_999_999), End::End),
+        (late, 0, Some(2_000_000_000), End::End),
+        (most, 262_144, Some(0), End::End),
+        (more, 262_145, None, End::Torn(24)),
+    ];
+    for (numbers, zeros, time, end) in cases {
+        let bytes = record(rt.alloc(), numbers, zeros)?;
+        let story = read_all(rt.alloc(), bytes.as_slice(), &[])?;
+        let given = story.heads.first().map(|head| head.time);
+        assert_eq!(rt; (given, story.end), (time, end), "{zeros}");
     }
     Ok(())
 }
 
 #[test]
 fn a_written_capture_is_read_again(rt: HostRuntime) -> Result<(), Fail> {
-    let mut bytes = capture(rt.alloc(), &[1_000_000_002, 5])?;
-    bytes.extend_from_slice(&[1, 2, 3])?;
-    let found = read(rt.alloc(), &bytes)?;
-    assert_eq!(rt; (found.len(), found.torn()), (2, Some(62)));
-    for (place, time) in found.as_slice().iter().zip(&[1_000_000_002, 5]) {
-        assert_eq!(rt; place.head.time, *time);
-        assert_eq!(rt; (place.head.captured, place.head.original), (3, 60));
+    let alloc = rt.alloc();
+    let long = [7; 200_000];
+    let mut bytes = Vec::new(alloc);
+    push_header(&mut bytes)?;
+    push_record(&mut bytes, 2_000_000_009, 60_000, &long)?;
+    push_record(&mut bytes, 5, 60, &[1, 2])?;
+    let story = read_all(alloc, bytes.as_slice(), &[])?;
+    let heads = [
+        Head {
+            time: 2_000_000_009,
+            captured: 200_000,
+            original: 60_000,
+        },
+        Head {
+            time: 5,
+            captured: 2,
+            original: 60,
+        },
+    ];
+    assert_eq!(rt;
+        (story.heads.as_slice(), story.end),
+        (heads.as_slice(), End::End)
+    );
+    let mut frames = Vec::from_slice(alloc, &long)?;
+    frames.extend_from_slice(&[1, 2])?;
+    assert!(rt; story.frames.as_slice() == frames.as_slice());
+    Ok(())
+}
+
+/// How many bytes are left of a capture once its header was read, and once its first record was.
+fn left_behind<F: Files>(alloc: Global, files: &mut F, records: u32) -> Result<usize, Fail> {
+    let file = open(files, "a")?;
+    let mut reader = header(alloc, files, file)?;
+    let mut frame = Vec::new(alloc);
+    if records > 0 {
+        next(&mut reader, files, &mut frame)?;
+    }
+    Ok(left(files, file))
+}
+
+#[test]
+fn no_byte_behind_a_record_is_taken(rt: HostRuntime) -> Result<(), Fail> {
+    let alloc = rt.alloc();
+    let mut bytes = Vec::from_slice(alloc, &BIG)?;
+    bytes.extend_from_slice(b"rest")?;
+    for (records, left) in [(0, 23), (1, 4)] {
+        let mut files = MemoryFiles::new(alloc, Vec::new(alloc));
+        files.put("a", bytes.as_slice())?;
+        assert_eq!(rt;
+            left_behind(alloc, &mut files, records)?,
+            left,
+            "{records} records"
+        );
     }
     Ok(())
 }

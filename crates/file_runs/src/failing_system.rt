@@ -1,10 +1,11 @@
-//! A system whose files fail to be read in the middle.
+//! A system whose files fail to be read in the middle, and have no numbers.
 use std::alloc::Allocator;
 use std::fs::{Metadata, OpenFile, OpenOptions};
 use std::io::{Read, Seek, SeekFrom, Write};
 use std::{io, rt};
 
-/// The files of a system, but each one that is read has other bytes: 5, with an error after the third.
+/// The files of a system, but each one that is read has other bytes: 5, with an error after the third. It is never told
+/// which file one is.
 #[derive(Drop)]
 pub struct FailingSystem<R> {
     pub system: R,
@@ -54,7 +55,7 @@ impl<F: Seek> Seek for FailingFile<F> {
 
 impl<F: OpenFile> OpenFile for FailingFile<F> {
     fn metadata(&self) -> io::Result<Metadata> {
-        self.file.metadata()
+        Ok(Metadata::of_file(5))
     }
 
     fn set_len(&self, size: u64) -> io::Result<()> {

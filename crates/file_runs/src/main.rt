@@ -1,8 +1,7 @@
-//! Prints the packets of two captures in the order in which a run handles them: by time, ties by port, and the times
-//! of one port never fall. Its tests are those of files, captures, frames, journals, states and outputs.
+//! Writes a capture into a file in memory, and prints its records as they are read again. Its tests are those of files,
+//! captures, frames, journals and states.
 #![tactic(auto)]
 
-#[cfg(test)]
 mod calls;
 #[cfg(test)]
 mod capture_tests;
@@ -17,44 +16,38 @@ mod history_tests;
 #[cfg(test)]
 mod memory_files_tests;
 #[cfg(test)]
-mod order_tests;
-#[cfg(test)]
-mod output_tests;
-#[cfg(test)]
 mod real_files_tests;
 #[cfg(test)]
-mod stream_tests;
+mod script;
+mod story;
 
-use capture_order::load;
 use pcap_file::{push_header, push_record};
 use std::alloc::{AllocError, Global};
 use std::io;
+use story::{End, read_all};
 
-/// A capture of frames of one byte, by their times in nanoseconds.
-fn capture(alloc: Global, times: &[u64]) -> Result<Vec<u8>, AllocError> {
+/// A capture of three frames, of which the last is cut.
+fn capture(alloc: Global) -> Result<Vec<u8>, AllocError> {
     let mut out = Vec::new(alloc);
     push_header(&mut out)?;
-    for time in times {
-        if *time <= 4_294_967_295_999_999_999 {
-            push_record(&mut out, *time, 60, &[1])?;
-        }
-    }
+    push_record(&mut out, 5, 60, &[1, 2, 3])?;
+    push_record(&mut out, 1_000_000_000, 1500, &[])?;
+    push_record(&mut out, 4_294_967_295_999_999_999, 64, &[4, 5])?;
+    out.pop();
     Ok(out)
 }
 
 fn main(rt: HostRuntime) -> io::Result<()> {
-    let first = capture(rt.alloc(), &[5, 9, 2])?;
-    let second = capture(rt.alloc(), &[9, 4, 12])?;
-    let captures = [first, second];
-    let Ok(loaded) = load(rt.alloc(), &captures, 6) else {
-        return println!(rt; "no packets");
-    };
-    for arrival in &loaded.arrivals {
-        let id = arrival.packet.id;
+    let bytes = capture(rt.alloc())?;
+    let story = read_all(rt.alloc(), bytes.as_slice(), &[])?;
+    for head in &story.heads {
         println!(rt;
-            "time {}, port {}, number {}",
-            arrival.packet.time, id.port, id.seq
+            "time {}, {} bytes of {}",
+            head.time, head.captured, head.original
         )?;
     }
-    Ok(())
+    match story.end {
+        End::Torn(offset) => println!(rt; "torn at byte {offset}"),
+        _ => println!(rt; "whole"),
+    }
 }

@@ -1,103 +1,270 @@
 //! Files of the system.
-use crate::calls::read_behind;
 use crate::failing_system::FailingSystem;
-use nf_files::{Files, FilesFault, RealFiles, read_whole, write_whole};
+use crate::script::{Answer, Call, Told, make_all};
+use nf_files::{FilesFault, RealFiles};
+use std::alloc::{AllocError, Global};
+use std::io::pipe;
+use std::os::fd::AsRawFd;
+use std::os::unix::fs::symlink;
 use std::test::Fail;
-use std::{env, fs, process};
+use std::{env, fs, io, process};
 
-#[test]
-fn what_was_written_is_read_again(rt: HostRuntime) -> Result<(), Fail> {
-    let alloc = rt.alloc();
-    let name = format!(in rt.alloc(); "nf_files-test-{}", process::id(rt.process()))?;
-    let path = env::temp_dir(&rt)?.join(rt.alloc(), name.as_str())?;
-    let mut files = RealFiles::new(alloc, &rt, rt.stdout(), rt.stderr());
-    fs::write(&rt, &path, b"old and long".as_slice())?;
-    let written = files.create_out(path.as_str())?;
-    write_whole(&mut files, written, b"one ")?;
-    write_whole(&mut files, written, b"two")?;
-    let read = files.open_in(path.as_str())?;
-    assert_eq!(rt; (written, read), (2, 3));
-    assert_eq!(rt;
-        read_whole(alloc, &mut files, read)?.as_slice(),
-        b"one two".as_slice()
-    );
-    fs::remove_file(&rt, &path)?;
-    Ok(())
+const FAILED: Answer = Answer::Fault(FilesFault::Failed);
+
+/// What calls on files of the system answer.
+fn made(rt: &HostRuntime, calls: &[Call]) -> Result<Told, AllocError> {
+    let mut files = RealFiles::new(rt.alloc(), rt, rt.stdout(), rt.stderr());
+    make_all(rt.alloc(), &mut files, calls)
+}
+
+/// The same of the system that fails to be read, and tells no numbers of files.
+fn made_failing(rt: &HostRuntime, calls: &[Call]) -> Result<Told, AllocError> {
+    let system = FailingSystem { system: rt };
+    let mut files = RealFiles::new(rt.alloc(), &system, rt.stdout(), rt.stderr());
+    make_all(rt.alloc(), &mut files, calls)
+}
+
+/// A new folder for the files of a test.
+fn folder(rt: &HostRuntime, test: &str) -> io::Result<String> {
+    let name = format!(in rt.alloc(); "nf_files-{}-{test}", process::id(rt.process()))?;
+    let path = env::temp_dir(rt)?.join(rt.alloc(), name.as_str())?;
+    fs::create_dir(rt, path.as_str())?;
+    Ok(format!(in rt.alloc(); "{}", path.as_str())?)
+}
+
+/// The path of a name in it.
+fn path(alloc: Global, folder: &str, name: &str) -> io::Result<String> {
+    Ok(format!(in alloc; "{folder}/{name}")?)
+}
+
+/// Whether a file has these bytes.
+fn has(rt: &HostRuntime, name: &str, bytes: &[u8]) -> io::Result<bool> {
+    Ok(fs::read(rt, name)?.as_slice() == bytes)
 }
 
 #[test]
+fn what_was_written_is_read_again(rt: HostRuntime) -> Result<(), Fail> {
+    let folder = folder(&rt, "again")?;
+    let name = path(rt.alloc(), folder.as_str(), "file")?;
+    fs::write(&rt, name.as_str(), b"old and long".as_slice())?;
+    let calls = [
+        Call::Create(name.as_str()),
+        Call::Write(b"one "),
+        Call::Write(b"two"),
+        Call::Open(name.as_str()),
+        Call::Read(16),
+        Call::Read(16),
+    ];
+    let answers = [
+        Answer::File(2),
+        Answer::Count(4),
+        Answer::Count(3),
+        Answer::File(3),
+        Answer::Count(7),
+        Answer::Count(0),
+    ];
+    let told = made(&rt, &calls)?;
+    assert_eq!(rt; told.answers.as_slice(), answers.as_slice());
+    assert_eq!(rt; told.bytes.as_slice(), b"one two".as_slice());
+    fs::remove_dir_all(&rt, folder.as_str())?;
+    Ok(())
+}
+
+/// Of the last two no byte can be read, or written.
+#[test]
 fn faults_of_the_system_are_told(rt: HostRuntime) -> Result<(), Fail> {
-    let mut files = RealFiles::new(rt.alloc(), &rt, rt.stdout(), rt.stderr());
-    assert_eq!(rt; files.open_in("/no such folder/a"), Err(FilesFault::Failed));
-    assert_eq!(rt;
-        files.create_out("/no such folder/a"),
-        Err(FilesFault::Failed)
-    );
-    assert_eq!(rt; files.open_in("/"), Err(FilesFault::Failed), "a directory");
-    // Where the system has them, no byte can be read of the first file, and none written to the other.
-    if let Ok(memory) = files.open_in("/proc/self/mem") {
-        let mut out = [0u8; 8];
-        assert_eq!(rt; files.read(memory, &mut out), Err(FilesFault::Failed));
-        assert_eq!(rt;
-            files.read(memory, &mut out),
-            Err(FilesFault::Failed),
-            "still"
-        );
-    }
-    if let Ok(full) = files.create_out("/dev/full") {
-        assert_eq!(rt; files.write(full, b"x"), Err(FilesFault::Failed));
+    let cases: [(&str, &[Call], &[Answer]); 4] = [
+        (
+            "/",
+            &[
+                Call::Open("/no such folder/a"),
+                Call::Create("/no such folder/a"),
+            ],
+            &[FAILED, FAILED],
+        ),
+        (
+            "/",
+            &[Call::Open("/"), Call::Create("/")],
+            &[FAILED, FAILED],
+        ),
+        (
+            "/proc/self/mem",
+            &[Call::Open("/proc/self/mem"), Call::Read(8), Call::Read(8)],
+            &[Answer::File(2), FAILED, FAILED],
+        ),
+        (
+            "/dev/full",
+            &[Call::Create("/dev/full"), Call::Write(b"x")],
+            &[Answer::File(2), FAILED],
+        ),
+    ];
+    for (needed, calls, answers) in cases {
+        if fs::exists(&rt, needed)? {
+            let told = made(&rt, calls)?;
+            assert_eq!(rt; told.answers.as_slice(), answers, "{needed}");
+        }
     }
     Ok(())
 }
 
 #[test]
 fn a_fault_is_told_once_behind_the_bytes_before_it(rt: HostRuntime) -> Result<(), Fail> {
-    let system = FailingSystem { system: &rt };
-    let mut files = RealFiles::new(rt.alloc(), &system, rt.stdout(), rt.stderr());
-    let name = format!(in rt.alloc(); "nf_files-failing-{}", process::id(rt.process()))?;
-    let path = env::temp_dir(&rt)?.join(rt.alloc(), name.as_str())?;
-    fs::write(&rt, &path, b"".as_slice())?;
-    let file = files.open_in(path.as_str())?;
-    fs::remove_file(&rt, &path)?;
-    let mut out = [0u8; 8];
-    assert_eq!(rt; files.read(file, &mut out[..2]), Ok(2));
-    assert_eq!(rt;
-        files.read(file, &mut out),
-        Ok(1),
-        "what was read before the fault"
+    let calls = [
+        Call::Open("/dev/null"),
+        Call::Read(2),
+        Call::Read(8),
+        Call::Read(0),
+        Call::Read(8),
+        Call::Read(8),
+        Call::Read(8),
+    ];
+    // No byte is needed of a read of none, and more bytes come behind the fault.
+    let answers = [
+        Answer::File(2),
+        Answer::Count(2),
+        Answer::Count(1),
+        Answer::Count(0),
+        FAILED,
+        Answer::Count(2),
+        Answer::Count(0),
+    ];
+    let told = made_failing(&rt, &calls)?;
+    assert_eq!(rt; told.answers.as_slice(), answers.as_slice());
+    assert_eq!(rt; told.bytes.as_slice(), b"abcde".as_slice());
+    Ok(())
+}
+
+/// All that the reads may leave is read at the end: 400,000 bytes are there.
+#[test]
+fn reads_of_any_size_go_on_where_the_last_one_ended(rt: HostRuntime) -> Result<(), Fail> {
+    let folder = folder(&rt, "ahead")?;
+    let name = path(rt.alloc(), folder.as_str(), "file")?;
+    let mut bytes = Vec::new(rt.alloc());
+    for number in 0..100_000u32 {
+        bytes.extend_from_slice(&number.to_le_bytes())?;
+    }
+    fs::write(&rt, name.as_str(), bytes.as_slice())?;
+    let calls = [
+        Call::Open(name.as_str()),
+        Call::Read(1),
+        Call::Read(65_519),
+        Call::Read(65_536),
+        Call::Read(100_000),
+        Call::Read(3),
+        Call::Read(65_535),
+        Call::Read(70_000),
+        Call::Read(400_000),
+        Call::Read(400_000),
+        Call::Read(400_000),
+    ];
+    let told = made(&rt, &calls)?;
+    assert!(rt;
+        told.bytes.as_slice() == bytes.as_slice(),
+        "{} bytes",
+        told.bytes.len()
     );
-    assert_eq!(rt; files.read(file, &mut out[..0]), Ok(0), "no byte is needed");
-    assert_eq!(rt; files.read(file, &mut out), Err(FilesFault::Failed));
-    assert_eq!(rt; files.read(file, &mut out), Ok(2), "what comes behind it");
-    assert_eq!(rt; &out[..2], b"de".as_slice());
-    assert_eq!(rt; files.read(file, &mut out), Ok(0));
+    fs::remove_dir_all(&rt, folder.as_str())?;
+    Ok(())
+}
+
+/// By whatever name it is to be created: its own, spelled otherwise, or that of a link.
+#[test]
+fn a_file_that_is_read_is_not_emptied(rt: HostRuntime) -> Result<(), Fail> {
+    let alloc = rt.alloc();
+    let folder = folder(&rt, "read")?;
+    let name = path(alloc, folder.as_str(), "in")?;
+    let spelled = path(alloc, folder.as_str(), "./in")?;
+    let hard = path(alloc, folder.as_str(), "hard")?;
+    let soft = path(alloc, folder.as_str(), "soft")?;
+    let other = path(alloc, folder.as_str(), "other")?;
+    fs::write(&rt, name.as_str(), b"whole".as_slice())?;
+    fs::write(&rt, other.as_str(), b"old".as_slice())?;
+    fs::hard_link(&rt, name.as_str(), hard.as_str())?;
+    symlink(&rt, "in", soft.as_str())?;
+    let calls = [
+        Call::Open(name.as_str()),
+        Call::Read(2),
+        Call::Create(name.as_str()),
+        Call::Create(spelled.as_str()),
+        Call::Create(hard.as_str()),
+        Call::Create(soft.as_str()),
+        Call::Read(8),
+        Call::Create(other.as_str()),
+    ];
+    let answers = [
+        Answer::File(2),
+        Answer::Count(2),
+        FAILED,
+        FAILED,
+        FAILED,
+        FAILED,
+        Answer::Count(3),
+        Answer::File(3),
+    ];
+    let told = made(&rt, &calls)?;
+    assert_eq!(rt; told.answers.as_slice(), answers.as_slice());
+    assert!(rt; has(&rt, name.as_str(), b"whole")? && has(&rt, other.as_str(), b"")?);
+    fs::remove_dir_all(&rt, folder.as_str())?;
     Ok(())
 }
 
 #[test]
-fn reads_of_any_size_go_on_where_the_last_one_ended(rt: HostRuntime) -> Result<(), Fail> {
-    let alloc = rt.alloc();
-    let name = format!(in rt.alloc(); "nf_files-ahead-{}", process::id(rt.process()))?;
-    let path = env::temp_dir(&rt)?.join(rt.alloc(), name.as_str())?;
-    let mut bytes = Vec::new(alloc);
-    for number in 0..100_000u32 {
-        bytes.extend_from_slice(&number.to_le_bytes())?;
-    }
-    fs::write(&rt, &path, bytes.as_slice())?;
-    let mut files = RealFiles::new(alloc, &rt, rt.stdout(), rt.stderr());
-    let file = files.open_in(path.as_str())?;
-    let mut all = Vec::new(alloc);
-    read_behind(alloc, &mut files, file, 1, &mut all)?;
-    read_behind(alloc, &mut files, file, 65_519, &mut all)?;
-    read_behind(alloc, &mut files, file, 65_536, &mut all)?;
-    read_behind(alloc, &mut files, file, 100_000, &mut all)?;
-    read_behind(alloc, &mut files, file, 3, &mut all)?;
-    read_behind(alloc, &mut files, file, 65_535, &mut all)?;
-    read_behind(alloc, &mut files, file, 70_000, &mut all)?;
-    assert!(rt; all.len() > 131_072, "{} bytes", all.len());
-    let rest = read_whole(alloc, &mut files, file)?;
-    all.extend_from_slice(rest.as_slice())?;
-    assert!(rt; all.as_slice() == bytes.as_slice());
-    fs::remove_file(&rt, &path)?;
+fn a_file_without_a_number_goes_by_its_name(rt: HostRuntime) -> Result<(), Fail> {
+    let folder = folder(&rt, "name")?;
+    let name = path(rt.alloc(), folder.as_str(), "in")?;
+    let other = path(rt.alloc(), folder.as_str(), "out")?;
+    fs::write(&rt, name.as_str(), b"whole".as_slice())?;
+    fs::write(&rt, other.as_str(), b"old".as_slice())?;
+    let calls = [
+        Call::Open(name.as_str()),
+        Call::Create(name.as_str()),
+        Call::Create(other.as_str()),
+    ];
+    let answers = [Answer::File(2), FAILED, Answer::File(3)];
+    let told = made_failing(&rt, &calls)?;
+    assert_eq!(rt; told.answers.as_slice(), answers.as_slice());
+    assert!(rt; has(&rt, name.as_str(), b"whole")? && has(&rt, other.as_str(), b"")?);
+    fs::remove_dir_all(&rt, folder.as_str())?;
+    Ok(())
+}
+
+#[test]
+fn a_device_is_written_though_it_is_read(rt: HostRuntime) -> Result<(), Fail> {
+    let calls = [
+        Call::Open("/dev/null"),
+        Call::Create("/dev/null"),
+        Call::Write(b"x"),
+    ];
+    let answers = [Answer::File(2), Answer::File(3), Answer::Count(1)];
+    let told = made(&rt, &calls)?;
+    assert_eq!(rt; told.answers.as_slice(), answers.as_slice());
+    Ok(())
+}
+
+/// What goes through a pipe between these names.
+fn through<'a>(rt: &HostRuntime, from: &'a str, to: &'a str) -> Result<Told, AllocError> {
+    let calls = [
+        Call::Open(from),
+        Call::Create(to),
+        Call::Write(b"ab"),
+        Call::Read(8),
+    ];
+    made(rt, &calls)
+}
+
+#[test]
+fn pipes_are_read_and_written(rt: HostRuntime) -> Result<(), Fail> {
+    let (reader, writer) = pipe(&rt)?;
+    let from = format!(in rt.alloc(); "/dev/fd/{}", reader.as_raw_fd())?;
+    let to = format!(in rt.alloc(); "/dev/fd/{}", writer.as_raw_fd())?;
+    let told = through(&rt, from.as_str(), to.as_str())?;
+    let answers = [
+        Answer::File(2),
+        Answer::File(3),
+        Answer::Count(2),
+        Answer::Count(2),
+    ];
+    assert_eq!(rt; told.answers.as_slice(), answers.as_slice());
+    assert_eq!(rt; told.bytes.as_slice(), b"ab".as_slice());
     Ok(())
 }
