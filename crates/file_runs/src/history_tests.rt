@@ -17,21 +17,21 @@ use nf_base::seq::Seq;
 use nf_base::size::Size;
 use nf_base::state::{Chain, Entry, State};
 use nf_base::width::Width;
-use nf_base::workers::Workers;
+use run_history::header::Header;
 use run_history::line::{JournalLine, Mode, write_line};
 use run_history::state_text::state_text;
 use std::alloc::{AllocError, Global};
 
 #[test]
 fn a_header_names_the_mode_and_the_workers(rt: HostRuntime) {
-    let cases: [(Mode, Workers, &str); 3] = [
-        (Mode::One, Workers::new(1), "maestro journal 1 one 1\n"),
-        (Mode::Shard, Workers::new(2), "maestro journal 1 shard 2\n"),
-        (Mode::Lock, Workers::new(16), "maestro journal 1 lock 16\n"),
+    let cases: [(Mode, u32, &str); 3] = [
+        (Mode::One, 1, "maestro journal 1 one 1\n"),
+        (Mode::Shard, 2, "maestro journal 1 shard 2\n"),
+        (Mode::Lock, 16, "maestro journal 1 lock 16\n"),
     ];
     for (mode, workers, text) in cases {
-        let line = JournalLine::Header { mode, workers };
-        let bytes = write_line(rt.alloc(), &line).expect(&rt, "memory");
+        let header = Header::of(mode, workers).expect(&rt, "a number of workers of the mode");
+        let bytes = write_line(rt.alloc(), &JournalLine::Header(header)).expect(&rt, "memory");
         assert!(rt; bytes.as_slice() == text.as_bytes(), "{text}");
     }
 }

@@ -11,6 +11,7 @@ use crate::flush::{PIECE, flush_when_large};
 use crate::handled::Handled;
 use nf_base::workers::Workers;
 use nf_files::{Files, FilesFault, write_whole};
+use run_history::header::Header;
 use run_history::line::{JournalLine, Mode, push_packet, write_line};
 use std::alloc::{AllocError, Global};
 
@@ -47,11 +48,8 @@ fn add_line<F: Files>(
 fn one_worker(alloc: Global) -> Result<Vec<u8>, AllocError>
     ensures { IfOk result (λ bytes. bytes.items ≡ header_line One 1) }
 {
-    let header = JournalLine::Header {
-        mode: Mode::One,
-        workers: Workers::new(1),
-    };
-    write_line(alloc, &header)
+    let header = Header::new(Mode::One, Workers::new(1));
+    write_line(alloc, &JournalLine::Header(header))
 }
 
 /// Writes the journal of a run of one worker: a header, and a line for each packet.

@@ -43,5 +43,5 @@ abbrev pub packet_line : PacketId → ℕ → Action → List ℕ → List ℕ
 packet_line id worker action picks = numbers_word id worker ++ action_word action ++ codes " " ++ choices_word picks ++ codes "\n"
 
 abbrev pub line_bytes : JournalLine → List ℕ
-line_bytes (Header mode workers) = header_line mode workers
+line_bytes (Header heading) = header_line heading.mode heading.workers
 line_bytes (Packet id worker action picks) = packet_line id worker action picks

@@ -10,6 +10,7 @@
 ghost use Rattle.std.specs.Prelude.{◌≡◌, ◌++◌, OnOk, OnErr, IfOk, drop, take, length};
 ghost use Rattle.run_history.specs.Line.{line_bytes, mode_word, action_word, choices_word, more_choices, header_line, packet_line, numbers_word, journal_title};
 
+use crate::header::Header;
 use crate::text::{push_bytes, push_decimal};
 use nf_base::done::Action;
 use nf_base::packet::PacketId;
@@ -32,10 +33,7 @@ pub enum Mode {
 #[derive(Debug, Drop)]
 pub enum JournalLine {
     /// The first line.
-    Header {
-        mode: Mode,
-        workers: Workers,
-    },
+    Header(Header),
     /// What one packet came to.
     Packet {
         id: PacketId,
@@ -152,7 +150,7 @@ pub fn push_line(out: &mut Vec<u8>, line: &JournalLine) -> Result<(), AllocError
     ensures ok { OnOk result (out.new.items ≡ out.old.items ++ line_bytes line.now) }
 {
     match line {
-        JournalLine::Header { mode, workers } => push_header(out, *mode, *workers),
+        JournalLine::Header(header) => push_header(out, header.mode(), header.workers()),
         JournalLine::Packet {
             id,
             worker,

@@ -23,6 +23,7 @@ use nf_base::workers::Workers;
 use nf_files::Files;
 use packet_feed::Feed;
 use pcap_file::push_header;
+use run_history::header::Header;
 use run_history::line::{JournalLine, Mode, push_line};
 use std::alloc::{AllocError, Global};
 use vig_tables::Tables;
@@ -35,11 +36,8 @@ fn head(alloc: Global, ports: u32, file: u32) -> Result<Vec<u8>, AllocError>
     if file < ports {
         push_header(&mut bytes)?;
     } else {
-        let line = JournalLine::Header {
-            mode: Mode::One,
-            workers: Workers::new(1),
-        };
-        push_line(&mut bytes, &line)?;
+        let header = Header::new(Mode::One, Workers::new(1));
+        push_line(&mut bytes, &JournalLine::Header(header))?;
     }
     Ok(bytes)
 }
