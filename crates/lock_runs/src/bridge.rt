@@ -1,0 +1,71 @@
+//! A learning bridge of two ports, and a packet of each port for the other's address.
+
+use lock_core::Event;
+use nf_base::func::Func;
+use nf_base::mac::Mac;
+use nf_base::packet::{Fields, Packet, PacketId};
+use nf_syntax::parse;
+use nf_types::check;
+use std::alloc::Global;
+
+const BRIDGE: &[u8] = b"nf bridge {
+  ports 2;
+  chain macs 4 lifetime 10 { map by_mac(m: 48); free at: 8; }
+  on 0 {
+    get e = macs.by_mac(src_mac) { touch e; e.at = 0; }
+    else { new f = macs(m = src_mac) { f.at = 0; } }
+    get g = macs.by_mac(dst_mac) { forward g.at; }
+    flood;
+  }
+  on 1 {
+    get e = macs.by_mac(src_mac) { touch e; e.at = 1; }
+    else { new f = macs(m = src_mac) { f.at = 1; } }
+    get g = macs.by_mac(dst_mac) { forward g.at; }
+    flood;
+  }
+}";
+
+/// The bridge, unless memory runs out.
+pub fn bridge(alloc: Global) -> Option<Func> {
+    let Ok(tree) = parse(alloc, BRIDGE) else {
+        return None;
+    };
+    check(alloc, &tree).ok()
+}
+
+/// The packet of a port, from its own address to the other's: at 5 nanoseconds at port 0, else at 9.
+pub fn packet(port: u32) -> Packet {
+    let (time, from, to) = if port == 0 { (5, 10, 11) } else { (9, 11, 10) };
+    Packet {
+        id: PacketId { port, seq: 0 },
+        time,
+        fields: Some(Fields {
+            length: 60,
+            src_mac: Mac::new(from),
+            dst_mac: Mac::new(to),
+            src_ip: 1,
+            dst_ip: 2,
+            proto: 17,
+            ttl: 64,
+            src_port: 1000,
+            dst_port: 80,
+        }),
+    }
+}
+
+/// A seat looks at the packet of a port, at this many entries.
+pub fn look(seat: u32, prefix: u64, port: u32) -> Event {
+    Event::Look {
+        seat,
+        prefix,
+        packet: packet(port),
+    }
+}
+
+/// A seat handles the packet of a port alone.
+pub fn alone(seat: u32, port: u32) -> Event {
+    Event::Alone {
+        seat,
+        packet: packet(port),
+    }
+}
