@@ -1,45 +1,39 @@
--- The files that a run leaves.
-use Rattle.std.specs.Prelude.{ℕ, ◌+◌, List, ◌++◌, length, codes, decimal, nat_lt, nat_eq, if◌then◌else◌}
+-- What the files hold that a run leaves, and how far they came.
+use Rattle.std.specs.Prelude.{◌≡◌, ◌≢◌, ℕ, ◌+◌, ◌<◌, ◌≤◌, List, [], length, Option, Some, None, nat_le, if◌then◌else◌}
+use Rattle.nf_base.specs.Text.{Function}
+use Rattle.nf_base.specs.Runs.{RunResult}
+use Rattle.nf_files.specs.Told.{Told, IsToldAs}
 use Rattle.run_history.specs.StateText.{state_text}
-use Rattle.run_files.specs.Written.{output_bytes, journal_bytes}
-use Rattle.maestro_cli.specs.Runs.{Run}
+use Rattle.stream_run.specs.Runs.{Run, course_of}
+use Rattle.stream_run.specs.Texts.{file_bytes}
+use Rattle.stream_run.specs.Writing.{IsFrontIfTold}
 
--- a file that is created: its name, and what it holds in the end
-pub record Created : Type 0 where
-  pub name : List ℕ
-  pub bytes : List ℕ
+-- the text of the last state, where a run has one
+abbrev pub text_of : Function → Option RunResult → List ℕ
+text_of f None = []
+text_of f (Some result) = state_text f result.state
 
--- the name of the output capture of a port, behind the front that the command gives: `.0.pcap` and so on
-abbrev pub output_name : List ℕ → ℕ → List ℕ
-output_name out port = out ++ codes "." ++ decimal port ++ codes ".pcap"
+-- the text of a run's last state
+abbrev pub state_bytes : Run → List ℕ
+state_bytes r = text_of r.function (course_of r)
 
--- the name of the journal
-abbrev pub journal_name : List ℕ → List ℕ
-journal_name out = out ++ codes ".journal"
+-- What a run leaves in the files that it creates, from 0: the outputs, the journal, the state.
+abbrev pub bytes_at : Run → ℕ → List ℕ
+bytes_at r k = if nat_le k (length r.function.handlers) then file_bytes r k else state_bytes r
 
--- the name of the last state's text
-abbrev pub state_name : List ℕ → List ℕ
-state_name out = out ++ codes ".state"
+-- Where it is told under which number a name was created last, it is this number, and what stands
+-- under the name is what was given to it.
+abbrev pub IsStanding : Told → List ℕ → ℕ → Type 0
+IsStanding told n file = (other : ℕ) → told.latest n ≡ Some other → (other ≡ file) × (told.content n ≡ told.given file)
 
--- the output capture of a port: what was sent there
-abbrev pub output_file : List ℕ → Run → ℕ → Created
-output_file out r port = record { name = output_name out port; bytes = output_bytes port r.captures r.handled }
-
--- the journal: a line for each packet, in the order in which they were handled
-abbrev pub journal_file : List ℕ → Run → Created
-journal_file out r = record { name = journal_name out; bytes = journal_bytes r.handled }
-
--- the text of the last state
-abbrev pub state_file : List ℕ → Run → Created
-state_file out r = record { name = state_name out; bytes = state_text r.function r.state }
-
--- The files in the order of their creation, from 0: an output capture for each port, the journal, the state.
-abbrev pub created_file : List ℕ → Run → ℕ → Created
-created_file out r k =
-    if nat_lt k (length r.captures) then output_file out r k
-    else if nat_eq k (length r.captures) then journal_file out r
-    else state_file out r
-
--- how many files a finished run has created
-abbrev pub files_created : Run → ℕ
-files_created r = length r.captures + 2
+-- How far the files of a run came, whose numbers begin at one: so many were created under their names
+-- and stand there, and so many of these hold all of their bytes, the others a front of them. No other
+-- name has changed.
+pub record Left (before now : Told) (base : ℕ) (name bytes : ℕ → List ℕ) (made full : ℕ) : Type 0 where
+  pub next : now.next ≡ base + made
+  pub names : (k : ℕ) → k < made → IsToldAs (name k) (now.name (base + k))
+  pub standing : (k : ℕ) → k < made → IsStanding now (name k) (base + k)
+  pub fronts : (k : ℕ) → k < made → IsFrontIfTold (bytes k) (now.given (base + k))
+  pub wholes : (k : ℕ) → k < full → IsToldAs (bytes k) (now.given (base + k))
+  pub within : full ≤ made
+  pub contents : (n : List ℕ) → ((k : ℕ) → k < made → name k ≢ n) → now.content n ≡ before.content n

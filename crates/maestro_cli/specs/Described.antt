@@ -1,51 +1,131 @@
--- What printing a text on a function comes to.
-use Rattle.std.specs.Prelude.{◌≡◌, ◌⊎◌, ℕ, List, [], Result, Ok, Err}
+-- What printing a line of a hash, or a text on a function, comes to before that is told on standard error.
+use Rattle.std.specs.Prelude.{◌≡◌, ◌⊎◌, ℕ, List, [], ◌∷◌, Result, Ok, Err}
 use Rattle.nf_base.specs.Text.{Function}
 use Rattle.nf_files.specs.Told.{Told}
-use Rattle.command_words.specs.Commands.{Describe}
-use Rattle.maestro_cli.specs.declared.status.Status.{Status}
-use Rattle.maestro_cli.specs.declared.status.Status.TheVariants.{Done, Usage, Refused, FileFault, NotCapture, Torn, TooMany, Memory}
+use Rattle.nf_files.specs.Causes.{Counted, Faulted, asking}
+use Rattle.command_words.specs.Commands.{Hash, Describe}
+use Rattle.stream_run.specs.declared.stop.Stop.{Stop as NumberStop}
+use Rattle.stream_run.specs.declared.stop.Stop.TheVariants as numbered
+use Rattle.maestro_cli.specs.declared.status.RunFile.TheVariants.{Nf, Stdout}
+use Rattle.maestro_cli.specs.declared.status.Stop.{Stop}
+use Rattle.maestro_cli.specs.declared.status.Stop.TheVariants.{File, Memory}
+use Rattle.maestro_cli.specs.declared.status.TextFault.{TextFault}
+use Rattle.maestro_cli.specs.declared.loading.NoFunction.{NoFunction}
+use Rattle.maestro_cli.specs.declared.loading.NoFunction.TheVariants as none
+use Rattle.command_words.specs.declared.command.Description.{Description}
+use Rattle.maestro_cli.specs.Outside.{Outside, IsUntouched, HasOnlyAsked}
+use Rattle.maestro_cli.specs.Names.{reading}
 use Rattle.maestro_cli.specs.Source.{IsFunctionUnder, IsNoFunctionUnder}
-use Rattle.maestro_cli.specs.Opened.{IsUntouched}
 use Rattle.maestro_cli.specs.Printed.{Printed, PrintedFront}
 use Rattle.maestro_cli.specs.Describing.{IsDescription}
+use Rattle.maestro_cli.specs.Hashing.{hash_line}
 
--- what stands under the name is a function, and its text was printed, and no more
-pub record IsDescribed (c : Describe) (before after : Told) : Type 0 where
+-- what a stop of printing is
+abbrev pub stop_at_stdout : NumberStop → Stop
+stop_at_stdout (numbered.File number) = File Stdout
+stop_at_stdout numbered.Memory = Memory
+
+-- standard output failed, or memory ran out
+abbrev pub IsPrintCause : Counted → Counted → Stop → Type 0
+IsPrintCause old new (File file) = (file ≡ Stdout) × Faulted old new 0
+IsPrintCause old new Memory = new ≡ old
+
+-- the text's file failed, which is the first that is opened, or memory ran out
+abbrev pub IsTextCause : List ℕ → ℕ → Counted → Counted → Stop → Type 0
+IsTextCause name first old new (File file) = (file ≡ Nf) × Faulted (asking (reading name ∷ []) old) new first
+IsTextCause name first old new Memory = (new ≡ old) ⊎ (new ≡ asking (reading name ∷ []) old)
+
+-- The line of a hash was printed, and nothing else. No name was asked for.
+pub record IsHashed (c : Hash) (before now : Outside) : Type 0 where
+  pub contents : (n : List ℕ) → now.told.content n ≡ before.told.content n
+  pub stdout : Printed before.told now.told 0 (hash_line c)
+  pub stderr : now.told.given 1 ≡ before.told.given 1
+  pub counted : now.counted ≡ before.counted
+
+-- That was stopped.
+pub record IsUnhashed (c : Hash) (before now : Outside) (stop : Stop) : Type 0 where
+  pub contents : (n : List ℕ) → now.told.content n ≡ before.told.content n
+  pub stdout : PrintedFront before.told now.told 0 (hash_line c)
+  pub stderr : now.told.given 1 ≡ before.told.given 1
+  pub cause : IsPrintCause before.counted now.counted stop
+
+-- What stands under the name is a function, and its text was printed, and no more.
+pub record IsDescribed (c : Describe) (before now : Outside) : Type 0 where
   pub function : Function
-  pub is_function : IsFunctionUnder before c.function function
+  pub is_function : IsFunctionUnder before.told c.function function
   pub text : List ℕ
   pub is_text : IsDescription c.what function text
-  pub contents : (n : List ℕ) → after.content n ≡ before.content n
-  pub stdout : Printed before after 0 text
-  pub stderr : Printed before after 1 []
+  pub contents : (n : List ℕ) → now.told.content n ≡ before.told.content n
+  pub stdout : Printed before.told now.told 0 text
+  pub stderr : now.told.given 1 ≡ before.told.given 1
+  pub counted : now.counted ≡ asking (reading c.function ∷ []) before.counted
 
--- what stands under the name is a function, and a front of its text was printed
-pub record IsBegun (c : Describe) (before after : Told) : Type 0 where
+-- What stands under the name is no function, and this is its first fault.
+abbrev pub IsNotDescribed : Describe → Outside → Outside → TextFault → Type 0
+IsNotDescribed c before now fault =
+    IsNoFunctionUnder before.told c.function fault × HasOnlyAsked (reading c.function ∷ []) before now
+
+-- What stands under the name could not be read, or memory ran out before anything was printed.
+pub record IsUnread (c : Describe) (before now : Outside) (stop : Stop) : Type 0 where
+  pub untouched : IsUntouched before.told now.told
+  pub cause : IsTextCause c.function before.told.next before.counted now.counted stop
+
+-- What stands under the name is a function, and a front of its text was printed.
+pub record IsHalfDescribed (c : Describe) (before now : Outside) (stop : Stop) : Type 0 where
   pub function : Function
-  pub is_function : IsFunctionUnder before c.function function
+  pub is_function : IsFunctionUnder before.told c.function function
   pub text : List ℕ
   pub is_text : IsDescription c.what function text
-  pub stdout : PrintedFront before after 0 text
+  pub contents : (n : List ℕ) → now.told.content n ≡ before.told.content n
+  pub stdout : PrintedFront before.told now.told 0 text
+  pub stderr : now.told.given 1 ≡ before.told.given 1
+  pub cause : IsPrintCause (asking (reading c.function ∷ []) before.counted) now.counted stop
 
--- nothing was printed on standard output, or a front of the text
-abbrev pub PrintsFront : Describe → Told → Told → Type 0
-PrintsFront c before after = Printed before after 0 [] ⊎ IsBegun c before after
+-- That was stopped.
+abbrev pub IsUndescribed : Describe → Outside → Outside → Stop → Type 0
+IsUndescribed c before now stop = IsUnread c before now stop ⊎ IsHalfDescribed c before now stop
 
--- printing was stopped, of which standard error says nothing yet
-pub record StopsDescribing (c : Describe) (before now : Told) : Type 0 where
-  pub contents : (n : List ℕ) → now.content n ≡ before.content n
-  pub stdout : PrintsFront c before now
-  pub stderr : now.given 1 ≡ before.given 1
+-- a text on a function was printed, or a front of it
+pub record IsPrinted (before now : Outside) (text : List ℕ) : Type 0 where
+  pub contents : (n : List ℕ) → now.told.content n ≡ before.told.content n
+  pub stdout : Printed before.told now.told 0 text
+  pub stderr : now.told.given 1 ≡ before.told.given 1
+  pub counted : now.counted ≡ before.counted
 
--- what printing the text comes to before its end is told on standard error
-abbrev pub DescribesTo : {T : Type 0} → Describe → Told → Told → Result T Status → Type 0
+pub record IsHalfPrinted (before now : Outside) (text : List ℕ) (stop : Stop) : Type 0 where
+  pub contents : (n : List ℕ) → now.told.content n ≡ before.told.content n
+  pub stdout : PrintedFront before.told now.told 0 text
+  pub stderr : now.told.given 1 ≡ before.told.given 1
+  pub cause : IsPrintCause before.counted now.counted stop
+
+-- what printing comes to
+abbrev pub PrintsTo : {T : Type 0} → Outside → Outside → List ℕ → Result T Stop → Type 0
+PrintsTo before now text (Ok x) = IsPrinted before now text
+PrintsTo before now text (Err stop) = IsHalfPrinted before now text stop
+
+-- what printing a text on a function comes to; memory may run out before there is one
+pub record PrintsOne {T : Type 0} (what : Description) (f : Function) (before now : Outside) (result : Result T Stop) : Type 0 where
+  pub text : List ℕ
+  pub is_text : IsDescription what f text
+  pub prints : PrintsTo before now text result
+
+-- nothing was printed, since memory ran out
+pub record IsStill (before now : Outside) (stop : Stop) : Type 0 where
+  pub untouched : IsUntouched before.told now.told
+  pub counted : now.counted ≡ before.counted
+  pub memory : stop ≡ Memory
+
+abbrev pub PrintsText : {T : Type 0} → Description → Function → Outside → Outside → Result T Stop → Type 0
+PrintsText {T = T} what f before now (Ok x) = PrintsOne {T = T} what f before now (Ok x)
+PrintsText {T = T} what f before now (Err stop) = PrintsOne {T = T} what f before now (Err stop) ⊎ IsStill before now stop
+
+-- what that comes to of the function under a name
+abbrev pub DescribesTo : {T : Type 0} → Describe → Outside → Outside → Result T NoFunction → Type 0
 DescribesTo c before now (Ok x) = IsDescribed c before now
-DescribesTo c before now (Err (Refused kind line column)) = IsNoFunctionUnder before c.function kind line column × IsUntouched before now
-DescribesTo c before now (Err (FileFault file)) = StopsDescribing c before now
-DescribesTo c before now (Err Memory) = StopsDescribing c before now
-DescribesTo c before now (Err Done) = ⊥
-DescribesTo c before now (Err Usage) = ⊥
-DescribesTo c before now (Err (NotCapture port)) = ⊥
-DescribesTo c before now (Err (Torn port offset)) = ⊥
-DescribesTo c before now (Err (TooMany most)) = ⊥
+DescribesTo c before now (Err (none.Text fault)) = IsNotDescribed c before now fault
+DescribesTo c before now (Err (none.Stop stop)) = IsUndescribed c before now stop
+
+-- what printing the line of a hash comes to
+abbrev pub HashesTo : {T : Type 0} → Hash → Outside → Outside → Result T Stop → Type 0
+HashesTo c before now (Ok x) = IsHashed c before now
+HashesTo c before now (Err stop) = IsUnhashed c before now stop

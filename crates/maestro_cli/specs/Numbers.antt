@@ -1,43 +1,53 @@
--- The numbers of a run's files, by the order of their openings, and the cause of a status.
-use Rattle.std.specs.Prelude.{◌≡◌, ℕ, ◌+◌, Result, Ok, Err}
-use Rattle.nf_files.specs.Told.{Told}
-use Rattle.nf_files.specs.Causes.{Counted, Faulted}
+-- Which file of a command a number is, and why a call could not go on.
+use Rattle.std.specs.Prelude.{◌≡◌, ℕ, ◌+◌, ◌-◌, List, ◌++◌, nat_lt, nat_le, nat_eq, if◌then◌else◌}
+use Rattle.nf_files.specs.Causes.{Counted, Faulted, Asked, asking}
+use Rattle.stream_run.specs.declared.stop.Stop.{Stop as NumberStop}
+use Rattle.stream_run.specs.declared.stop.Stop.TheVariants as numbered
 use Rattle.maestro_cli.specs.declared.status.RunFile.{RunFile}
 use Rattle.maestro_cli.specs.declared.status.RunFile.TheVariants.{Nf, Capture, Output, OutJournal, State, Stdout, Stderr}
-use Rattle.maestro_cli.specs.declared.status.Status.{Status}
-use Rattle.maestro_cli.specs.declared.status.Status.TheVariants.{Done, Usage, Refused, FileFault, NotCapture, Torn, TooMany, Memory}
+use Rattle.maestro_cli.specs.declared.status.Stop.{Stop}
+use Rattle.maestro_cli.specs.declared.status.Stop.TheVariants as stops
 
--- what is told as a run begins, and how many captures it has
-pub record Start : Type 0 where
-  pub told : Told
-  pub captures : ℕ
+-- Openings are numbered from a first one on. Of so many ports the text is opened first, then the
+-- captures in port order; then the outputs are created in port order, then the journal, and the state last.
+abbrev pub opened_file : ℕ → ℕ → RunFile
+opened_file ports place =
+    if nat_le place ports then Capture (place - 1)
+    else if nat_le place (ports + ports) then Output (place - 1 - ports)
+    else if nat_eq place (ports + ports + 1) then OutJournal
+    else State
 
--- the number of the first file that a run creates
-abbrev pub first_created : Start → ℕ
-first_created s = s.told.next + 1 + s.captures
+-- the file of a number, where this one was the first to be opened; 0 is standard output, and 1
+-- standard error
+abbrev pub file_of : ℕ → ℕ → ℕ → RunFile
+file_of first ports number =
+    if nat_eq number first then Nf
+    else if nat_eq number 0 then Stdout
+    else if nat_eq number 1 then Stderr
+    else opened_file ports (number - first)
 
--- The text is opened first, then the captures in port order; then the outputs are created in port order, then the journal, and the state last.
-abbrev pub number_of : Start → RunFile → ℕ
-number_of s Nf = s.told.next
-number_of s (Capture port) = s.told.next + 1 + port
-number_of s (Output port) = first_created s + port
-number_of s OutJournal = first_created s + s.captures
-number_of s State = first_created s + s.captures + 1
-number_of s Stdout = 0
-number_of s Stderr = 1
+-- what a stop by the file of a number is
+abbrev pub stop_named : ℕ → ℕ → NumberStop → Stop
+stop_named first ports (numbered.File number) = stops.File (file_of first ports number)
+stop_named first ports numbered.Memory = stops.Memory
 
--- A file fault tells the file of the first fault, and at no other status did the count move.
-abbrev pub HasStatusCause : Start → Counted → Counted → Status → Type 0
-HasStatusCause s old new (FileFault file) = Faulted old new (number_of s file)
-HasStatusCause s old new Done = new ≡ old
-HasStatusCause s old new Usage = new ≡ old
-HasStatusCause s old new (Refused kind line column) = new ≡ old
-HasStatusCause s old new (NotCapture port) = new ≡ old
-HasStatusCause s old new (Torn port offset) = new ≡ old
-HasStatusCause s old new (TooMany most) = new ≡ old
-HasStatusCause s old new Memory = new ≡ old
+-- a file failed, or memory ran out: the count rose, at this file, or it is as before
+pub record FailedAt (first ports : ℕ) (old new : Counted) (file : RunFile) : Type 0 where
+  pub number : ℕ
+  pub faulted : Faulted old new number
+  pub file_is : file ≡ file_of first ports number
 
--- the same of a step of a run
-abbrev pub HasStepCause : {T : Type 0} → Start → Counted → Counted → Result T Status → Type 0
-HasStepCause s old new (Ok x) = new ≡ old
-HasStepCause s old new (Err status) = HasStatusCause s old new status
+abbrev pub IsCauseOf : ℕ → ℕ → Counted → Counted → Stop → Type 0
+IsCauseOf first ports old new (stops.File file) = FailedAt first ports old new file
+IsCauseOf first ports old new stops.Memory = new ≡ old
+
+-- these are the first of a list
+pub record IsFrontOf {A : Type 0} (all front : List A) : Type 0 where
+  pub later : List A
+  pub whole : front ++ later ≡ all
+
+-- A call was stopped; the names that it had asked for then are the first of a list.
+pub record Stops (first ports : ℕ) (names : List Asked) (old new : Counted) (stop : Stop) : Type 0 where
+  pub front : List Asked
+  pub is_front : IsFrontOf names front
+  pub cause : IsCauseOf first ports (asking front old) new stop

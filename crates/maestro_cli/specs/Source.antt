@@ -14,8 +14,9 @@ use Rattle.path_walk.specs.Feasible.{port_paths}
 use Rattle.maestro_cli.specs.declared.function.Source.{Source}
 use Rattle.maestro_cli.specs.declared.status.Fault.{Fault}
 use Rattle.maestro_cli.specs.declared.status.Fault.TheVariants as kinds
-use Rattle.maestro_cli.specs.declared.status.Status.{Status}
-use Rattle.maestro_cli.specs.declared.status.Status.TheVariants.{Done, Usage, Refused, FileFault, NotCapture, Torn, TooMany, Memory}
+use Rattle.maestro_cli.specs.declared.status.TextFault.{TextFault}
+use Rattle.maestro_cli.specs.declared.function.Unread.{Unread}
+use Rattle.maestro_cli.specs.declared.function.Unread.TheVariants.{Text, Memory}
 
 -- how many feasible paths the handler of a port has
 abbrev pub path_count : Function → ℕ → ℕ
@@ -88,10 +89,10 @@ pub record IsFunctionUnder (told : Told) (name : List ℕ) (f : Function) : Type
   pub is_function : IsFunction text f
 
 -- what stands under a name is no function, and this is its first fault
-pub record IsNoFunctionUnder (told : Told) (name : List ℕ) (kind : Fault) (line column : ℕ) : Type 0 where
+pub record IsNoFunctionUnder (told : Told) (name : List ℕ) (fault : TextFault) : Type 0 where
   pub text : List ℕ
   pub text_told : IsToldAs text (told.content name)
-  pub fault : IsFault text kind line column
+  pub is_fault : IsFault text fault.kind fault.line fault.column
 
 -- a text's function as the code holds it, with its numbers of paths
 pub record Holds (text : List ℕ) (source : Source) : Type 0 where
@@ -99,13 +100,7 @@ pub record Holds (text : List ℕ) (source : Source) : Type 0 where
   pub counts : source.paths.items ≡ path_counts (function_of source.func)
 
 -- what reading a text comes to; want of memory is free
-abbrev pub Reads : List ℕ → Result Source Status → Type 0
+abbrev pub Reads : List ℕ → Result Source Unread → Type 0
 Reads text (Ok source) = Holds text source
-Reads text (Err (Refused kind line column)) = IsFault text kind line column
+Reads text (Err (Text fault)) = IsFault text fault.kind fault.line fault.column
 Reads text (Err Memory) = Unit {0}
-Reads text (Err Done) = ⊥
-Reads text (Err Usage) = ⊥
-Reads text (Err (FileFault file)) = ⊥
-Reads text (Err (NotCapture port)) = ⊥
-Reads text (Err (Torn port offset)) = ⊥
-Reads text (Err (TooMany most)) = ⊥

@@ -1,5 +1,12 @@
--- Statuses as numbers, with which the process ends.
+-- How the program ends: a run that nothing stopped, what was refused, and what was stopped.
 use Rattle.std.specs.Prelude.{ℕ}
+use Rattle.maestro_cli.specs.declared.status.TextFault.{TextFault}
+use Rattle.maestro_cli.specs.declared.status.End.{End}
+use Rattle.maestro_cli.specs.declared.status.End.TheVariants as ends
+use Rattle.maestro_cli.specs.declared.status.Refusal.{Refusal}
+use Rattle.maestro_cli.specs.declared.status.Refusal.TheVariants as refusals
+use Rattle.maestro_cli.specs.declared.status.Stop.{Stop}
+use Rattle.maestro_cli.specs.declared.status.Stop.TheVariants as stops
 use Rattle.maestro_cli.specs.declared.status.Status.{Status}
 use Rattle.maestro_cli.specs.declared.status.Status.TheVariants.{Done, Usage, Refused, FileFault, NotCapture, Torn, TooMany, Memory}
 
@@ -13,3 +20,20 @@ number_of_status (NotCapture port) = 4
 number_of_status (Torn port offset) = 5
 number_of_status (TooMany most) = 7
 number_of_status Memory = 9
+
+-- the status of a run that ends so
+abbrev pub end_status : End → Status
+end_status ends.Whole = Done
+end_status (ends.Torn port offset) = Torn port offset
+end_status (ends.TooMany most) = TooMany most
+
+-- the status of a call that is refused so
+abbrev pub refusal_status : Refusal → Status
+refusal_status refusals.Usage = Usage
+refusal_status (refusals.Text fault) = Refused fault.kind fault.line fault.column
+refusal_status (refusals.NotCapture port) = NotCapture port
+
+-- the status of a call that is stopped so
+abbrev pub stop_status : Stop → Status
+stop_status (stops.File file) = FileFault file
+stop_status stops.Memory = Memory

@@ -55,6 +55,11 @@ status_words Memory = codes "out of memory"
 abbrev pub error_line : Status → List ℕ
 error_line status = codes "maestro: " ++ status_words status ++ codes "\n"
 
+-- what an end says on standard error: its line, and nothing where it is a success
+abbrev pub said_of : Status → List ℕ
+said_of Done = []
+said_of status = error_line status
+
 -- the line on standard output of a run of so many packets, by one worker
 abbrev pub ran_line : ℕ → List ℕ
 ran_line packets = codes "ran " ++ decimal packets ++ codes " one 1\n"

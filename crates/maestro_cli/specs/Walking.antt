@@ -8,8 +8,8 @@ use Rattle.nf_types.specs.TextFaults.{is_handled}
 use Rattle.maestro_cli.specs.declared.function.Source.{Source}
 use Rattle.maestro_cli.specs.declared.function.Uncounted.{Uncounted}
 use Rattle.maestro_cli.specs.declared.function.Uncounted.TheVariants as causes
-use Rattle.maestro_cli.specs.declared.status.Status.{Status}
-use Rattle.maestro_cli.specs.declared.status.Status.TheVariants.{Done, Usage, Refused, FileFault, NotCapture, Torn, TooMany, Memory}
+use Rattle.maestro_cli.specs.declared.function.Unread.{Unread}
+use Rattle.maestro_cli.specs.declared.function.Unread.TheVariants.{Text, Memory}
 use Rattle.maestro_cli.specs.Source.{path_counts, IsPastPaths, IsHandlerPlace, IsFunctionOf, IsTreeFault, place_at}
 
 -- a port of the function has too many paths, the least such one; want of memory is free
@@ -28,13 +28,7 @@ pub record HoldsTree (tree : Tree) (source : Source) : Type 0 where
   pub counts : source.paths.items ≡ path_counts (function_of source.func)
 
 -- what a tree comes to; want of memory is free
-abbrev pub Checks : Tree → Result Source Status → Type 0
+abbrev pub Checks : Tree → Result Source Unread → Type 0
 Checks tree (Ok source) = HoldsTree tree source
-Checks tree (Err (Refused kind line column)) = IsTreeFault tree kind (place_at line column)
+Checks tree (Err (Text fault)) = IsTreeFault tree fault.kind (place_at fault.line fault.column)
 Checks tree (Err Memory) = Unit {0}
-Checks tree (Err Done) = ⊥
-Checks tree (Err Usage) = ⊥
-Checks tree (Err (FileFault file)) = ⊥
-Checks tree (Err (NotCapture port)) = ⊥
-Checks tree (Err (Torn port offset)) = ⊥
-Checks tree (Err (TooMany most)) = ⊥

@@ -3,15 +3,15 @@ ghost use Rattle.std.specs.Prelude.{◌≡◌, ◌++◌, OnOk, IfOk, codes, deci
 ghost use Rattle.nf_base.specs.Functions.{function_of};
 ghost use Rattle.command_words.specs.View.{describe};
 ghost use Rattle.maestro_cli.specs.Source.{path_counts, HasFewPaths};
-ghost use Rattle.maestro_cli.specs.Numbers.{Start, HasStepCause};
+ghost use Rattle.maestro_cli.specs.Outside.{seen};
 ghost use Rattle.maestro_cli.specs.Describing as meant;
-ghost use Rattle.maestro_cli.specs.Described.{DescribesTo};
+ghost use Rattle.maestro_cli.specs.Described.{PrintsText, DescribesTo};
 
 use crate::analysing::{explanation, verdict};
 use crate::function::Source;
-use crate::loading::read_function;
-use crate::say::print;
-use crate::status::Status;
+use crate::loading::{NoFunction, read_function};
+use crate::say::print_out;
+use crate::status::Stop;
 use command_words::{DescribeCommand, Description};
 use itoa::Buffer;
 use nf_base::func::Func;
@@ -85,23 +85,38 @@ fn description(alloc: Global, what: Description, source: &Source) -> Result<Vec<
     }
 }
 
+// Prints a text on a function.
+fn print_source<F: Files>(
+    alloc: Global,
+    files: &mut F,
+    what: Description,
+    source: &Source,
+) -> Result<(), Stop>
+    requires counts { source.now.paths.items ≡ path_counts (function_of source.now.func) }
+    requires few { HasFewPaths (function_of source.now.func) }
+    ensures prints { PrintsText what (function_of source.now.func)
+        (seen (F.told files.old) (F.counted files.old)) (seen (F.told files.new) (F.counted files.new)) result }
+{
+    match description(alloc, what, source) {
+        Ok(text) => print_out(files, text.as_slice()),
+        Err(_) => Err(Stop::Memory),
+    }
+}
+
 /// Prints a text on the function under a name.
 pub fn print_description<F: Files>(
     alloc: Global,
     files: &mut F,
     command: &DescribeCommand,
-) -> Result<(), Status>
-    ghost start: { Start }
-    requires begins { F.told files.old ≡ start.told }
-    ensures describes { DescribesTo (describe command.now) start.told (F.told files.new) result }
-    ensures cause { HasStepCause start (F.counted files.old) (F.counted files.new) result }
+) -> Result<(), NoFunction>
+    ensures describes { DescribesTo (describe command.now)
+        (seen (F.told files.old) (F.counted files.old)) (seen (F.told files.new) (F.counted files.new)) result }
 {
-    let source = match read_function(alloc, files, &command.function) {
-        Ok(source) => source,
-        Err(status) => return Err(status),
-    };
-    match description(alloc, command.what, &source) {
-        Ok(text) => print(files, text.as_slice()),
-        Err(_) => Err(Status::Memory),
+    match read_function(alloc, files, &command.function) {
+        Ok(found) => match print_source(alloc, files, command.what, &found.source) {
+            Ok(()) => Ok(()),
+            Err(stop) => Err(NoFunction::Stop(stop)),
+        },
+        Err(none) => Err(none),
     }
 }

@@ -7,7 +7,7 @@ ghost use Rattle.nf_types.specs.TextFaults.{faults};
 ghost use Rattle.maestro_cli.specs.Source.{path_counts, HasFewPaths, Reads};
 ghost use Rattle.maestro_cli.specs.Walking.{FindsHandler, IsUncounted, Checks};
 
-use crate::status::{Fault, Status};
+use crate::status::{Fault, TextFault};
 use nf_base::func::Func;
 use nf_syntax::{ParseFault, parse};
 use nf_tokens::Place;
@@ -21,6 +21,14 @@ use std::alloc::Global;
 pub struct Source {
     pub func: Func,
     pub paths: Vec<u32>,
+}
+
+/// Why a text is no function.
+#[derive(Clone, Copy, Debug, PartialEq, Eq)]
+pub enum Unread {
+    /// It breaks the grammar, a rule, or the limit of paths.
+    Text(TextFault),
+    Memory,
 }
 
 /// Why paths are not counted.
@@ -64,20 +72,20 @@ fn handler_place(handlers: &[HandlerTree], port: u32) -> Option<Place>
 }
 
 // A function, with how many feasible paths its handlers have.
-fn walked(alloc: Global, tree: &Tree, func: Func) -> Result<Source, Status>
+fn walked(alloc: Global, tree: &Tree, func: Func) -> Result<Source, Unread>
     requires faultless { faults (tree_of tree.now) ≡ [] }
     requires stands_for { function_of func ≡ function (tree_of tree.now) }
     ensures { Checks (tree_of tree.now) result }
 {
     match counted(alloc, &func) {
         Ok(paths) => Ok(Source { func, paths }),
-        Err(Uncounted::Memory) => Err(Status::Memory),
+        Err(Uncounted::Memory) => Err(Unread::Memory),
         Err(Uncounted::TooMany { port }) => match handler_place(tree.handlers.as_slice(), port) {
-            Some(place) => Err(Status::Refused {
+            Some(place) => Err(Unread::Text(TextFault {
                 kind: Fault::TooManyPaths,
                 line: place.line,
                 column: place.column,
-            }),
+            })),
             // Each port has a handler.
             None => unreachable!(),
         },
@@ -85,31 +93,31 @@ fn walked(alloc: Global, tree: &Tree, func: Func) -> Result<Source, Status>
 }
 
 // The network function that a tree stands for.
-fn function_of_tree(alloc: Global, tree: &Tree) -> Result<Source, Status>
+fn function_of_tree(alloc: Global, tree: &Tree) -> Result<Source, Unread>
     ensures { Checks (tree_of tree.now) result }
 {
     match check(alloc, tree) {
         Ok(func) => walked(alloc, tree, func),
-        Err(CheckFault::Typing { kind, line, column }) => Err(Status::Refused {
+        Err(CheckFault::Typing { kind, line, column }) => Err(Unread::Text(TextFault {
             kind: Fault::Typing(kind),
             line,
             column,
-        }),
-        Err(CheckFault::Memory) => Err(Status::Memory),
+        })),
+        Err(CheckFault::Memory) => Err(Unread::Memory),
     }
 }
 
 /// The network function that a text is.
-pub fn function_in(alloc: Global, text: &[u8]) -> Result<Source, Status>
+pub fn function_in(alloc: Global, text: &[u8]) -> Result<Source, Unread>
     ensures { Reads text.now result }
 {
     match parse(alloc, text) {
         Ok(tree) => function_of_tree(alloc, &tree),
-        Err(ParseFault::Syntax { kind, line, column }) => Err(Status::Refused {
+        Err(ParseFault::Syntax { kind, line, column }) => Err(Unread::Text(TextFault {
             kind: Fault::Syntax(kind),
             line,
             column,
-        }),
-        Err(ParseFault::Memory) => Err(Status::Memory),
+        })),
+        Err(ParseFault::Memory) => Err(Unread::Memory),
     }
 }

@@ -2,23 +2,21 @@
 #![tactic(auto)]
 
 mod analysing;
-mod captures;
-mod command;
 mod describing;
-mod fault;
 mod function;
-mod handling;
 mod hashing;
+mod job;
 pub mod laws;
+mod line;
 mod loading;
 mod names;
+mod numbers;
+mod opening;
 mod program;
-mod report;
 mod running;
 mod say;
 mod status;
 mod text;
-mod writing;
 
 pub use program::maestro;
 pub use status::{Fault, RunFile, Status};

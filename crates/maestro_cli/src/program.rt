@@ -1,148 +1,92 @@
 //! The whole program.
-ghost use Rattle.std.specs.Prelude.{◌≡◌, ◌≤◌, map, length, string_bytes, Some};
+ghost use Rattle.std.specs.Prelude.{◌≤◌, length, map, string_bytes, Some};
 ghost use Rattle.command_words.specs.Commands.{command_of};
 ghost use Rattle.command_words.specs.View as view;
-ghost use Rattle.maestro_cli.specs.Asked.{asked};
-ghost use Rattle.maestro_cli.specs.Hashing.{hash_line};
-ghost use Rattle.maestro_cli.specs.Printed.{Says, IsEarly};
-ghost use Rattle.maestro_cli.specs.Numbers.{Start, HasStatusCause, HasStepCause};
-ghost use Rattle.maestro_cli.specs.Answer.{Answers, Runs, Hashes, Describes, start_of};
-ghost use Rattle.maestro_cli.specs.Running.{Begun, Tells};
+ghost use Rattle.maestro_cli.specs.Outside.{seen};
+ghost use Rattle.maestro_cli.specs.Answer.{Answers, Comes, ComesTo, Runs, Hashes, Describes};
+ghost use Rattle.maestro_cli.specs.Described.{HashesTo};
 
-use crate::command::Command;
 use crate::describing::print_description;
 use crate::hashing::hash_line;
+use crate::loading::NoFunction;
 use crate::running::run;
-use crate::say::{complain, print};
-use crate::status::Status;
-use command_words::{Command as Asked, DescribeCommand, HashCommand, RunCommand, command_of};
+use crate::say::{print_out, tell};
+use crate::status::{Halt, Refusal, Status, Stop};
+use command_words::{Command, DescribeCommand, HashCommand, RunCommand, command_of};
 use nf_files::Files;
 use std::alloc::Global;
 
-// Says on standard error how a call ended that is no success.
-//
-// A fault of this doesn't hide one that stands already.
-fn tell<F: Files>(alloc: Global, files: &mut F, status: Status) -> Status
-    ghost begun: { Begun }
-    requires cause { HasStatusCause begun.start begun.counted (F.counted files.old) status }
-    ensures tells { Tells (F.told files.old) (F.told files.new) status result }
-    ensures cause { HasStatusCause begun.start begun.counted (F.counted files.new) result }
-{
-    match complain(alloc, files, status) {
-        Ok(()) => status,
-        Err(stop) => match status {
-            Status::FileFault(file) => Status::FileFault(file),
-            _ => stop,
-        },
-    }
-}
-
-// Says on standard error how a call ended that began nothing.
-fn decline<F: Files>(alloc: Global, files: &mut F, status: Status) -> Status
-    ghost begun: { Begun }
-    requires counts { F.counted files.old ≡ begun.counted }
-    requires early { IsEarly status }
-    requires quiet { HasStatusCause begun.start begun.counted begun.counted status }
-    ensures tells { Tells (F.told files.old) (F.told files.new) status result }
-    ensures cause { HasStatusCause begun.start begun.counted (F.counted files.new) result }
-    ensures early { IsEarly result }
-{
-    match complain(alloc, files, status) {
-        Ok(()) => status,
-        Err(stop) => stop,
-    }
-}
-
 // Does a run.
-fn carry_out<F: Files>(alloc: Global, files: &mut F, command: &Command) -> Status
-    ghost begun: { Begun }
-    requires begins { F.told files.old ≡ begun.start.told }
-    requires counts { F.counted files.old ≡ begun.counted }
-    requires ports { begun.start.captures ≡ length command.now.captures.now }
-    requires some { 1 ≤ length command.now.captures.now }
-    requires few { length command.now.captures.now ≤ 4 }
-    ensures runs { Runs (asked command.now) begun.start.told (F.told files.new) result }
-    ensures cause { HasStatusCause begun.start begun.counted (F.counted files.new) result }
+fn do_run<F: Files>(alloc: Global, files: &mut F, command: &RunCommand) -> Status
+    requires some { 1 ≤ length command.now.captures.items }
+    requires few { length command.now.captures.items ≤ 4 }
+    ensures { Runs (view.run command.now) (seen (F.told files.old) (F.counted files.old))
+        (seen (F.told files.new) (F.counted files.new)) result }
 {
     match run(alloc, files, command) {
-        Ok(()) => Status::Done,
-        Err(status) => tell(alloc, files, status),
+        Ok(end) => end.status(),
+        Err(Halt::Refusal(refusal)) => refusal.status(),
+        Err(Halt::Stop(stop)) => stop.status(),
     }
 }
 
 // Prints the line of a hash.
-fn print_hash<F: Files>(alloc: Global, files: &mut F, command: &HashCommand) -> Result<(), Status>
-    ghost start: { Start }
-    ensures prints { Says (F.told files.old) (F.told files.new) 0 (hash_line (view.hash command.now)) result }
-    ensures cause { HasStepCause start (F.counted files.old) (F.counted files.new) result }
+fn print_hash<F: Files>(alloc: Global, files: &mut F, command: &HashCommand) -> Result<(), Stop>
+    ensures { HashesTo (view.hash command.now) (seen (F.told files.old) (F.counted files.old))
+        (seen (F.told files.new) (F.counted files.new)) result }
 {
     match hash_line(alloc, command) {
-        Ok(line) => print(files, line.as_bytes()),
-        Err(_) => Err(Status::Memory),
+        Ok(line) => print_out(files, line.as_bytes()),
+        Err(_) => Err(Stop::Memory),
     }
 }
 
-// Prints the line of a hash, and says where that failed.
-fn hash_and_tell<F: Files>(alloc: Global, files: &mut F, command: &HashCommand) -> Status
-    ghost begun: { Begun }
-    requires counts { F.counted files.old ≡ begun.counted }
-    ensures hashes { Hashes (view.hash command.now) (F.told files.old) (F.told files.new) result }
-    ensures cause { HasStatusCause begun.start begun.counted (F.counted files.new) result }
+// Does a hash.
+fn do_hash<F: Files>(alloc: Global, files: &mut F, command: &HashCommand) -> Status
+    ensures { Hashes (view.hash command.now) (seen (F.told files.old) (F.counted files.old))
+        (seen (F.told files.new) (F.counted files.new)) result }
 {
     match print_hash(alloc, files, command) {
         Ok(()) => Status::Done,
-        Err(status) => tell(alloc, files, status),
+        Err(stop) => stop.status(),
     }
 }
 
-// Does the run that is asked for.
-fn run_and_tell<F: Files>(alloc: Global, files: &mut F, asked: &RunCommand) -> Status
-    ghost begun: { Begun }
-    requires begins { F.told files.old ≡ begun.start.told }
-    requires counts { F.counted files.old ≡ begun.counted }
-    requires ports { begun.start.captures ≡ length asked.now.captures.items }
-    requires some { 1 ≤ length asked.now.captures.items }
-    requires few { length asked.now.captures.items ≤ 4 }
-    ensures runs { Runs (view.run asked.now) begun.start.told (F.told files.new) result }
-    ensures cause { HasStatusCause begun.start begun.counted (F.counted files.new) result }
-{
-    let command = Command {
-        function: &asked.function,
-        out: &asked.out,
-        captures: asked.captures.as_slice(),
-        most: asked.most,
-    };
-    carry_out(alloc, files, &command)
-}
-
-// Prints a text on a function, and says where that failed.
-fn describe_and_tell<F: Files>(alloc: Global, files: &mut F, command: &DescribeCommand) -> Status
-    ghost begun: { Begun }
-    requires begins { F.told files.old ≡ begun.start.told }
-    requires counts { F.counted files.old ≡ begun.counted }
-    ensures describes { Describes (view.describe command.now) begun.start.told (F.told files.new) result }
-    ensures cause { HasStatusCause begun.start begun.counted (F.counted files.new) result }
+// Prints a text on a function.
+fn do_describe<F: Files>(alloc: Global, files: &mut F, command: &DescribeCommand) -> Status
+    ensures { Describes (view.describe command.now) (seen (F.told files.old) (F.counted files.old))
+        (seen (F.told files.new) (F.counted files.new)) result }
 {
     match print_description(alloc, files, command) {
         Ok(()) => Status::Done,
-        Err(status) => tell(alloc, files, status),
+        Err(NoFunction::Text(fault)) => Refusal::Text(fault).status(),
+        Err(NoFunction::Stop(stop)) => stop.status(),
     }
 }
 
 // Does what a command asks for.
-fn obey<F: Files>(alloc: Global, files: &mut F, command: &Asked) -> Status
-    ghost begun: { Begun }
-    requires begins { F.told files.old ≡ begun.start.told }
-    requires counts { F.counted files.old ≡ begun.counted }
-    requires start { begun.start ≡ start_of begun.start.told (Some (view.asked command.now)) }
+fn obey<F: Files>(alloc: Global, files: &mut F, command: &Command) -> Status
     requires few { view.HasFew command.now }
-    ensures answer { Answers (Some (view.asked command.now)) begun.start.told (F.told files.new) result }
-    ensures cause { HasStatusCause begun.start begun.counted (F.counted files.new) result }
+    ensures { Comes (Some (view.asked command.now)) (seen (F.told files.old) (F.counted files.old))
+        (seen (F.told files.new) (F.counted files.new)) result }
 {
     match command {
-        Asked::Run(asked) => run_and_tell(alloc, files, asked),
-        Asked::Hash(asked) => hash_and_tell(alloc, files, asked),
-        Asked::Describe(asked) => describe_and_tell(alloc, files, asked),
+        Command::Run(asked) => do_run(alloc, files, asked),
+        Command::Hash(asked) => do_hash(alloc, files, asked),
+        Command::Describe(asked) => do_describe(alloc, files, asked),
+    }
+}
+
+// Does what words ask for.
+fn carry_out<F: Files>(alloc: Global, words: &[String], files: &mut F) -> Status
+    ensures { let before = seen (F.told files.old) (F.counted files.old) in
+        ComesTo (command_of (map string_bytes words.now)) before
+        (seen (F.told files.new) (F.counted files.new)) result }
+{
+    match command_of(alloc, words) {
+        Ok(Some(command)) => obey(alloc, files, &command),
+        Ok(None) => Status::Usage,
+        Err(_) => Status::Memory,
     }
 }
 
@@ -155,15 +99,11 @@ fn obey<F: Files>(alloc: Global, files: &mut F, command: &Asked) -> Status
 ///   `--workers`, 1 to 16;
 /// - `check`, `explain` or `keys`, a network function's file.
 pub fn maestro<F: Files>(alloc: Global, words: &[String], files: &mut F) -> Status
-    ensures answer { Answers (command_of (map string_bytes words.now)) (F.told files.old) (F.told files.new) result }
-    ensures cause { HasStatusCause (start_of (F.told files.old) (command_of (map string_bytes words.now))) (F.counted files.old) (F.counted files.new) result }
+    // What the call came to, what it asked for and which call failed; and what standard error holds of that.
+    ensures answer { let before = seen (F.told files.old) (F.counted files.old) in
+        Answers (command_of (map string_bytes words.now)) before
+        (seen (F.told files.new) (F.counted files.new)) result }
 {
-    let asked = match command_of(alloc, words) {
-        Ok(asked) => asked,
-        Err(_) => return decline(alloc, files, Status::Memory),
-    };
-    match asked {
-        None => decline(alloc, files, Status::Usage),
-        Some(command) => obey(alloc, files, &command),
-    }
+    let due = carry_out(alloc, words, files);
+    tell(files, due)
 }

@@ -1,68 +1,80 @@
 //! What is printed, given to the standard outputs.
-ghost use Rattle.std.specs.Prelude.{◌≡◌, ◌<◌, IfErr};
-ghost use Rattle.maestro_cli.specs.Texts.{error_line};
-ghost use Rattle.maestro_cli.specs.declared.status.Status.TheVariants.{Memory};
-ghost use Rattle.maestro_cli.specs.Printed.{IsStopAt, Says, Complains};
-ghost use Rattle.maestro_cli.specs.declared.status.RunFile.TheVariants.{Stderr};
-ghost use Rattle.maestro_cli.specs.Numbers.{Start, HasStepCause, number_of};
+ghost use Rattle.std.specs.Prelude.{◌≡◌, ◌≢◌, ◌<◌};
+ghost use Rattle.stream_run.specs.Writing.{IsStopCause, StopsAt};
+ghost use Rattle.maestro_cli.specs.declared.status.Status.TheVariants.{Done};
+ghost use Rattle.maestro_cli.specs.Outside.{seen};
+ghost use Rattle.maestro_cli.specs.Printed.{Says, Tells, after_stop};
+ghost use Rattle.maestro_cli.specs.Described.{PrintsTo, stop_at_stdout};
 
-use crate::fault::outcome_of;
-use crate::status::{RunFile, Status};
+use crate::status::{RunFile, Status, Stop};
 use crate::text::error_line;
 use nf_files::{Files, write_whole};
-use std::alloc::Global;
+use stream_run::Stop as NumberStop;
 
-fn say<F: Files>(files: &mut F, file: u32, which: RunFile, line: &[u8]) -> Result<(), Status>
-    ghost start: { Start }
-    requires number { file ≡ number_of start which }
+/// Gives a piece to standard output, whose number is 0, or to standard error, whose number is 1.
+pub fn say<F: Files>(files: &mut F, file: u32, piece: &[u8]) -> Result<(), NumberStop>
     requires standard { file < 2 }
-    ensures wrote { Says (F.told files.old) (F.told files.new) file line.now result }
-    ensures at { IfErr result (IsStopAt which) }
-    ensures cause { HasStepCause start (F.counted files.old) (F.counted files.new) result }
+    ensures wrote { Says (F.told files.old) (F.told files.new) file piece.now result }
+    ensures at { StopsAt file result }
+    ensures cause { IsStopCause (F.counted files.old) (F.counted files.new) result }
 {
-    let wrote = write_whole(files, file, line);
-    outcome_of(which, wrote)
+    match write_whole(files, file, piece) {
+        Ok(()) => Ok(()),
+        Err(fault) => Err(NumberStop::of(file, fault)),
+    }
 }
 
-/// Prints a line on standard output.
-pub fn print<F: Files>(files: &mut F, line: &[u8]) -> Result<(), Status>
-    ghost start: { Start }
-    ensures wrote { Says (F.told files.old) (F.told files.new) 0 line.now result }
-    ensures cause { HasStepCause start (F.counted files.old) (F.counted files.new) result }
+// What a stop of printing is.
+fn stop_at_stdout(stop: NumberStop) -> Stop
+    ensures { result ≡ stop_at_stdout stop }
 {
-    say(files, 0, RunFile::Stdout, line)
+    match stop {
+        NumberStop::File(_) => Stop::File(RunFile::Stdout),
+        NumberStop::Memory => Stop::Memory,
+    }
 }
 
-fn print_error<F: Files>(files: &mut F, line: &[u8]) -> Result<(), Status>
-    ghost start: { Start }
-    ensures wrote { Says (F.told files.old) (F.told files.new) 1 line.now result }
-    ensures at { IfErr result (IsStopAt Stderr) }
-    ensures cause { HasStepCause start (F.counted files.old) (F.counted files.new) result }
+/// Prints on standard output.
+pub fn print_out<F: Files>(files: &mut F, piece: &[u8]) -> Result<(), Stop>
+    ensures { PrintsTo (seen (F.told files.old) (F.counted files.old))
+        (seen (F.told files.new) (F.counted files.new)) piece.now result }
 {
-    say(files, 1, RunFile::Stderr, line)
+    match say(files, 0, piece) {
+        Ok(()) => Ok(()),
+        Err(stop) => Err(stop_at_stdout(stop)),
+    }
 }
 
-fn print_want_of_memory<F: Files>(files: &mut F) -> Result<(), Status>
-    ghost start: { Start }
-    ensures wrote { Says (F.told files.old) (F.told files.new) 1 (error_line Memory) result }
-    ensures at { IfErr result (IsStopAt Stderr) }
-    ensures cause { HasStepCause start (F.counted files.old) (F.counted files.new) result }
+// A status after standard error could not be written: a fault that stands already is not hidden.
+fn after_stop(due: Status, stop: NumberStop) -> Status
+    ensures { result ≡ after_stop due stop }
 {
-    print_error(files, b"maestro: out of memory\n")
+    match (due, stop) {
+        (Status::FileFault(file), _) => Status::FileFault(file),
+        (_, NumberStop::File(_)) => Status::FileFault(RunFile::Stderr),
+        (_, NumberStop::Memory) => Status::Memory,
+    }
 }
 
-/// Says on standard error how a call ended.
-pub fn complain<F: Files>(alloc: Global, files: &mut F, status: Status) -> Result<(), Status>
-    ghost start: { Start }
-    ensures wrote { Complains (F.told files.old) (F.told files.new) status result }
-    ensures at { IfErr result (IsStopAt Stderr) }
-    ensures cause { HasStepCause start (F.counted files.old) (F.counted files.new) result }
+// Says on standard error how a call ended that is no success.
+fn complain<F: Files>(files: &mut F, due: Status) -> Status
+    requires { due ≢ Done }
+    ensures { Tells (seen (F.told files.old) (F.counted files.old))
+        (seen (F.told files.new) (F.counted files.new)) due result }
 {
-    match error_line(alloc, status) {
-        Ok(line) => print_error(files, line.as_bytes()),
-        Err(_) => match print_want_of_memory(files) {
-            Ok(()) => Err(Status::Memory),
-            Err(stop) => Err(stop),
-        },
+    match say(files, 1, error_line(due).as_str().as_bytes()) {
+        Ok(()) => due,
+        Err(stop) => after_stop(due, stop),
+    }
+}
+
+/// Says on standard error how a call ended, where that is no success.
+pub fn tell<F: Files>(files: &mut F, due: Status) -> Status
+    ensures { Tells (seen (F.told files.old) (F.counted files.old))
+        (seen (F.told files.new) (F.counted files.new)) due result }
+{
+    match due {
+        Status::Done => Status::Done,
+        _ => complain(files, due),
     }
 }

@@ -1,11 +1,9 @@
 //! How the program ends.
 ghost use Rattle.std.specs.Prelude.{◌≡◌};
-ghost use Rattle.maestro_cli.specs.Statuses.{number_of_status};
-ghost use Rattle.maestro_cli.specs.declared.status.Status.TheVariants.{Memory};
+ghost use Rattle.maestro_cli.specs.Statuses.{number_of_status, end_status, refusal_status, stop_status};
 
 use nf_syntax::SyntaxKind;
 use nf_types::TypingKind;
-use std::alloc::AllocError;
 
 /// A file of a run.
 #[derive(Clone, Copy, Debug, PartialEq, Eq)]
@@ -32,6 +30,52 @@ pub enum Fault {
     Typing(TypingKind),
     /// A handler has more than 4,096 feasible paths.
     TooManyPaths,
+}
+
+/// The first fault of a text. Lines and columns count from 1.
+#[derive(Clone, Copy, Debug, PartialEq, Eq)]
+pub struct TextFault {
+    pub kind: Fault,
+    pub line: u32,
+    pub column: u32,
+}
+
+/// How a run ends that nothing stops.
+#[derive(Clone, Copy, Debug, PartialEq, Eq)]
+pub enum End {
+    /// All packets were handled.
+    Whole,
+    /// All packets were handled, up to where captures are torn; this is the least port of a torn one, and the
+    /// offset of the torn record in its capture, in bytes.
+    Torn { port: u32, offset: u64 },
+    /// There are more packets than this; as many were handled.
+    TooMany { most: u32 },
+}
+
+/// Why nothing was begun.
+#[derive(Clone, Copy, Debug, PartialEq, Eq)]
+pub enum Refusal {
+    /// The captures are not as many as the function's ports.
+    Usage,
+    /// The text is no network function.
+    Text(TextFault),
+    /// This is the least port whose file is no capture.
+    NotCapture { port: u32 },
+}
+
+/// Why a call could not go on.
+#[derive(Clone, Copy, Debug, PartialEq, Eq)]
+pub enum Stop {
+    /// A call on a file failed.
+    File(RunFile),
+    Memory,
+}
+
+/// Why a run has no end.
+#[derive(Clone, Copy, Debug, PartialEq, Eq)]
+pub enum Halt {
+    Refusal(Refusal),
+    Stop(Stop),
 }
 
 /// How a call of the program ended.
@@ -72,10 +116,42 @@ impl Status {
     }
 }
 
-impl From<AllocError> for Status {
-    ghost from_gives = { λ _ e. e ≡ Memory };
+impl End {
+    /// The status of a run that ends so.
+    pub fn status(self) -> Status
+        ensures { result ≡ end_status self }
+    {
+        match self {
+            End::Whole => Status::Done,
+            End::Torn { port, offset } => Status::Torn { port, offset },
+            End::TooMany { most } => Status::TooMany { most },
+        }
+    }
+}
 
-    fn from(_: AllocError) -> Self {
-        Status::Memory
+impl Refusal {
+    /// The status of a call that is refused so.
+    pub fn status(self) -> Status
+        ensures { result ≡ refusal_status self }
+    {
+        match self {
+            Refusal::Usage => Status::Usage,
+            Refusal::Text(TextFault { kind, line, column }) => {
+                Status::Refused { kind, line, column }
+            }
+            Refusal::NotCapture { port } => Status::NotCapture { port },
+        }
+    }
+}
+
+impl Stop {
+    /// The status of a call that is stopped so.
+    pub fn status(self) -> Status
+        ensures { result ≡ stop_status self }
+    {
+        match self {
+            Stop::File(file) => Status::FileFault(file),
+            Stop::Memory => Status::Memory,
+        }
     }
 }

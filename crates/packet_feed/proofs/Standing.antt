@@ -216,16 +216,19 @@ faulted_at T U before old new files port f File is e at same h =
 
 -- ---- other files are written
 
-pub stands_kept : (start : Told) (given : List Arrival) (sources : List Stream) (old new : Told) → ((g : ℕ) → new.rest g ≡ old.rest g) → SourcesStand start given sources old → SourcesStand start given sources new
-stands_kept start given sources old new same h = record {
+pub stands_among : (start : Told) (given : List Arrival) (sources : List Stream) (old new : Told) → ((port : ℕ) (s : Stream) → slice_get sources port ≡ Some s → new.rest s.reading.file ≡ old.rest s.reading.file) → SourcesStand start given sources old → SourcesStand start given sources new
+stands_among start given sources old new same h = record {
   order = follows_on (packets_of (files_in sources) start) given (all_left sources old) (all_left sources new) h.order
       (gathered_carries (λ port (x : Stream). packets_left port x (old.rest x.reading.file)) (λ port (x : Stream). packets_left port x (new.rest x.reading.file)) sources sources refl
       (λ (j : ℕ) (x y : Stream) p q.
       let is : x ≡ y = one_is x y (sym p ∙ q) in
       subst (λ (t : Stream). Carries (packets_left j x (old.rest x.reading.file)) (packets_left j t (new.rest t.reading.file))) is
-      (carries_is (packets_left j x (old.rest x.reading.file)) (packets_left j x (new.rest x.reading.file)) (ap (packets_left j x) (same x.reading.file)))));
-  each = λ port s e. source_stays start given old new port s (same s.reading.file) (h.each port s e);
+      (carries_is (packets_left j x (old.rest x.reading.file)) (packets_left j x (new.rest x.reading.file)) (ap (packets_left j x) (same j x p)))));
+  each = λ port s e. source_stays start given old new port s (same port s e) (h.each port s e);
 }
+
+pub stands_kept : (start : Told) (given : List Arrival) (sources : List Stream) (old new : Told) → ((g : ℕ) → new.rest g ≡ old.rest g) → SourcesStand start given sources old → SourcesStand start given sources new
+stands_kept start given sources old new same h = stands_among start given sources old new (λ port s e. same s.reading.file) h
 
 -- ---- each packet came in at the port of its capture
 

@@ -1,7 +1,7 @@
 -- Whole runs: what was handled is one lawful run, or the front of one.
 use Rattle.std.proofs.Common.{◌≡◌, ℕ, zero, suc, ◌+◌, ◌-◌, ◌≤◌, ◌<◌, List, [], ◌∷◌, ◌++◌, length, map, take, Option, Some, None, Result, Ok, Err, ◌⊎◌, inl, inr, refl, sym, ap, ◌∙◌, subst, append-nil, zero-add, arith}
 use Rattle.std.specs.List.{AllByRecursion, slice_get}
-use Rattle.std.proofs.lemmas.List.{map-append, length-map, take_all, take_at, nil_from_length}
+use Rattle.std.proofs.lemmas.List.{map-append, length-map, length-append, take_all, take_at, nil_from_length}
 use Rattle.std.proofs.lemmas.List.Elements.{All-from_recursion, recursion_from_All}
 use Rattle.std.proofs.lemmas.List.Sorted.{All-permutation}
 use Rattle.nf_base.specs.Text.{Function}
@@ -70,13 +70,14 @@ handled_of f hs state u = handled_is (run_of f One 1 hs) (result_in hs state) (r
 bytes_are : (f : Function) (hs : List Handled) (state : State) (k : ℕ) → IsUndivided f hs state → file_bytes (run_of f One 1 hs) k ≡ bytes_of One 1 (length f.handlers) k hs
 bytes_are f hs state k u = ap (bytes_of One 1 (length f.handlers) k) (handled_of f hs state u)
 
-is_one : (f : Function) (most : ℕ) (all : Option (List Arrival)) (hs : List Handled) (state : State) → IsUndivided f hs state → AllByRecursion (λ (h : Handled). h.worker ≡ 0) hs → AreTheFirst most all (map arrival_of hs) → IsOneRun f most all (run_of f One 1 hs)
-is_one f most all hs state u alone first = record {
+is_one : (f : Function) (most : ℕ) (all : Option (List Arrival)) (hs : List Handled) (state : State) → IsUndivided f hs state → AllByRecursion (λ (h : Handled). h.worker ≡ 0) hs → length hs ≤ most → AreTheFirst most all (map arrival_of hs) → IsOneRun f most all (run_of f One 1 hs)
+is_one f most all hs state u alone within first = record {
   function = refl;
   mode = refl;
   workers = refl;
   alone = all_alone hs alone;
   legal = record { result = result_in hs state; ran = ran_of f hs state u };
+  within = omega (arith, length-map hs turn_of, within);
   packets = subst (AreTheFirst most all) (sym (same_arrivals hs)) first;
 }
 
@@ -104,11 +105,13 @@ ends_so ending.TooMany feed before hs h =
 finished : (f : Function) (begun : Feeding) (start : Told) (feed : Feeding) (now : Told) (files : List ℕ) (ran : Ran) → Finishes f (length f.handlers) begun start feed now files ran.ending ran.packets ran.state → IsFinished f begun start feed now files ran
 finished f begun start feed now files ran h = record {
   run = run_of f One 1 h.hs;
-  some = is_one f begun.most None h.hs ran.state h.undivided h.alone tt;
+  some = is_one f begun.most None h.hs ran.state h.undivided h.alone h.within tt;
+  same_files = h.same_files;
+  same_most = h.same_most;
   lawful = λ before b.
       let how = how_ended ran.ending feed before h.hs begun.most h.same_most (h.ending_is before b) in
       let moved = subst (λ (fs : List ℕ). ((ran.ending ≡ ending.All) × AreAll (packets_of fs before) (map arrival_of h.hs)) ⊎ ((ran.ending ≡ ending.TooMany) × (length h.hs ≡ begun.most))) h.same_files how in
-      is_one f begun.most (packets_of (files_in begun.sources) before) h.hs ran.state h.undivided h.alone
+      is_one f begun.most (packets_of (files_in begun.sources) before) h.hs ran.state h.undivided h.alone h.within
       (first_most ran.ending (packets_of (files_in begun.sources) before) (map arrival_of h.hs) (length h.hs) begun.most (h.first before b) h.within (length-map h.hs arrival_of) moved);
   ending = λ before b. ends_so ran.ending feed before h.hs (h.ending_is before b);
   count = length-map h.hs turn_of ∙ h.count;
@@ -135,6 +138,11 @@ with_handlers : (f : Function) (n : ℕ) (as_list : List Arrival) → n ≡ leng
 with_handlers f n [] e h = tt
 with_handlers f n (a ∷ as_list) e h = (handles (omega (arith, h.0)), with_handlers f n as_list e h.1)
 
+taken_within : {A : Type 0} (n : ℕ) (xs : List A) → length (take n xs) ≤ n
+taken_within zero xs = omega arith
+taken_within (suc n) [] = omega arith
+taken_within (suc n) (x ∷ xs) = omega (arith, taken_within n xs)
+
 alone_later : (ts later : List Turn) → AllByRecursion (λ (t : Turn). t.worker ≡ 0) ts → AllByRecursion (λ (t : Turn). t.worker ≡ 0) later → AllByRecursion (λ (t : Turn). t.worker ≡ 0) (ts ++ later)
 alone_later [] later h k = k
 alone_later (t ∷ ts) later h k = (h.0, alone_later ts later h.1 k)
@@ -146,12 +154,12 @@ holds_fronts : (f : Function) (most n : ℕ) (all : Option (List Arrival)) (hs :
     → AreFirst all (map arrival_of hs) → AllIn (λ (a : Arrival). a.packet.id.port < n) all → AreFronts One 1 (length f.handlers) hs now files → HoldsFronts f most all now files
 holds_fronts f most n None hs state now files ports u alone within first in_ports fronts = record {
   run = run_of f One 1 hs;
-  is_run = is_one f most None hs state u alone tt;
+  is_run = is_one f most None hs state u alone within tt;
   fronts = fronts_of f hs state now files u fronts;
 }
 holds_fronts f most n (Some all) hs state now files ports u alone within first in_ports fronts =
     let r = run_of f One 1 hs in
-    let one = is_one f most None hs state u alone tt in
+    let one = is_one f most None hs state u alone within tt in
     let given = map arrival_of hs in
     let more = take (most - length given) first.0 in
     let P : Arrival → Type 0 = λ a. a.packet.id.port < n in
@@ -169,6 +177,7 @@ holds_fronts f most n (Some all) hs state now files ports u alone within first i
         workers = refl;
         alone = alone_later r.turns on.0 one.alone (recursion_from_All (λ (t : Turn). t.worker ≡ 0) on.0 on.1.1);
         legal = on.1.2;
+        within = omega (arith, length-append r.turns on.0, ap (λ (t : List Arrival). length t) on.1.0, length-map on.0 arrival_in, taken_within (most - length given) first.0, length-map hs turn_of, long, within);
         packets = map-append arrival_in r.turns on.0 ∙ ap (λ (t : List Arrival). t ++ map arrival_in on.0) (same_arrivals hs) ∙ ap (λ (t : List Arrival). given ++ t) on.1.0 ∙ sym whole;
       };
       fronts = λ k file e. front_longer (file_bytes r k) (file_bytes (longer r on.0) k) (now.given file) (only_grow r on.0 k one.legal on.1.2) (fronts_of f hs state now files u fronts k file e);

@@ -1,5 +1,5 @@
 -- Bytes that were given to a file, and those that are still held.
-use Rattle.std.proofs.Common.{◌≡◌, ◌≢◌, ℕ, zero, suc, ◌+◌, ◌<◌, ◌≤◌, List, [], ◌∷◌, ◌++◌, length, set, take, drop, Option, Some, None, inl, inr, refl, sym, ap, ◌∙◌, subst, append_assoc, append-nil, arith}
+use Rattle.std.proofs.Common.{◌≡◌, ◌≢◌, ℕ, zero, suc, ◌+◌, ◌<◌, ◌≤◌, List, [], ◌∷◌, ◌++◌, length, set, take, drop, Option, Some, None, Result, Ok, Err, inl, inr, refl, sym, ap, ◌∙◌, subst, append_assoc, append-nil, arith}
 use Rattle.std.specs.List.{All, slice_get}
 use Rattle.std.specs.Option.{option_map}
 use Rattle.std.proofs.lemmas.List.{take-append-drop, length-map}
@@ -7,14 +7,19 @@ use Rattle.std.proofs.lemmas.List.Elements.{All-get_or, All-weaker}
 use Rattle.std.proofs.lemmas.Option.{slice_get-map, slice_get_within, get_or_from_slice_get}
 use Rattle.std.proofs.lemmas.Bool.{cases_eq, cases_lt}
 use Rattle.nf_base.proofs.Mixes.{got_set}
-use Rattle.nf_files.specs.Told.{Told}
+use Rattle.nf_files.specs.Told.{Told, IsCurrent}
 use Rattle.nf_files.specs.Pieces.{Gains}
 use Rattle.nf_files.specs.Writes.{Writes}
 use Rattle.packet_feed.specs.Told.{IsApart, KeepsOthers}
 use Rattle.run_history.specs.declared.line.Mode.{Mode}
+use Rattle.packet_feed.specs.declared.fault.FeedFault.{FeedFault}
+use Rattle.packet_feed.specs.declared.fault.FeedFault.TheVariants as feed
+use Rattle.stream_run.specs.declared.stop.Stop.{Stop}
+use Rattle.stream_run.specs.declared.stop.Stop.TheVariants.{File, Memory}
+use Rattle.stream_run.specs.Streaming.{stop_on, stop_in}
 use Rattle.stream_run.specs.Runs.{Handled}
 use Rattle.stream_run.specs.Texts.{bytes_of, piece, IsFrontOf}
-use Rattle.stream_run.specs.Writing.{Holding, Holds, IsFrontIfTold, KeepsOther, KeepsAllBut, KeepsBut, files_of}
+use Rattle.stream_run.specs.Writing.{Holding, Holds, IsFrontIfTold, KeepsOther, KeepsAllBut, KeepsBut, IsSameOrOther, StopsAt, StopsAmong, files_of}
 use Rattle.stream_run.proofs.Bytes.{bytes_more}
 
 -- ---- one file
@@ -51,7 +56,7 @@ flushed_front bytes held count (Some a) (Some b) h k = record {
 }
 
 pub other_kept : (old new : Told) (file : ℕ) (bytes : List ℕ) → Writes old new file bytes → KeepsOther file old new
-other_kept old new file bytes w = record { rests = w.rests; givens = w.givens; names = w.names; contents = w.contents; latest_same = w.latest_same; next_same = w.next_same }
+other_kept old new file bytes w = record { current = w.current; rests = w.rests; givens = w.givens; names = w.names; contents = w.contents; latest_same = w.latest_same; next_same = w.next_same }
 
 -- ---- all files
 
@@ -119,8 +124,17 @@ same_bytes bytes = record { later = []; all = append-nil bytes }
 at_file : (P : ℕ → Type 0) (files : List ℕ) (k f : ℕ) → slice_get files k ≡ Some f → All P files → P f
 at_file P files k f e h = subst P (get_or_from_slice_get files k f f e) (All-get_or P files k f (slice_get_within files k f e) h)
 
+-- what stands under a name, after one file was written
+current_more : (f : ℕ) (start old new : Told) (n : List ℕ) (file : ℕ) → ((g : ℕ) → old.name g ≡ start.name g) → KeepsOther f old new → IsSameOrOther start n file f → IsCurrent old n file → IsCurrent new n file
+current_more f start old new n file named h (inl same) c = subst (IsCurrent new n) same (h.current n (subst (IsCurrent old n) (sym same) c))
+current_more f start old new n file named h (inr other) c = record {
+  last = h.latest_same n ∙ c.last;
+  follows = h.contents n (λ is. other.1 (sym (named f) ∙ is)) ∙ c.follows ∙ sym (h.givens file (λ e. other.0 (sym e)));
+}
+
 pub kept_more : (files : List ℕ) (k f : ℕ) (start old new : Told) → slice_get files k ≡ Some f → KeepsAllBut files start old → KeepsOther f old new → KeepsAllBut files start new
 kept_more files k f start old new e h kept = record {
+  current = λ n file all c. current_more f start old new n file h.names kept (at_file (IsSameOrOther start n file) files k f e all) (h.current n file all c);
   rests = λ g. kept.rests g ∙ h.rests g;
   givens = λ g others. kept.givens g (λ same. at_file (λ (x : ℕ). x ≢ g) files k f e others (sym same)) ∙ h.givens g others;
   names = λ g. kept.names g ∙ h.names g;
@@ -130,7 +144,7 @@ kept_more files k f start old new e h kept = record {
 }
 
 pub kept_none : (files : List ℕ) (told : Told) → KeepsAllBut files told told
-kept_none files told = record { rests = λ g. refl; givens = λ g others. refl; names = λ g. refl; contents = λ n others. refl; latest_same = λ n. refl; next_same = refl }
+kept_none files told = record { current = λ n file all c. c; rests = λ g. refl; givens = λ g others. refl; names = λ g. refl; contents = λ n others. refl; latest_same = λ n. refl; next_same = refl }
 
 pub same_length : (xs ys : List Holding) → files_of xs ≡ files_of ys → length xs ≡ length ys
 same_length xs ys e = omega (arith, ap (λ (t : List ℕ). length t) e, length-map xs (λ (x : Holding). x.file), length-map ys (λ (x : Holding). x.file))
@@ -152,13 +166,21 @@ empty_more sinks k new_s none h j s lt e = elim (got_set sinks k j new_s s e) [
 -- ---- nothing else changes
 
 pub but_none : (files : List ℕ) (told : Told) → KeepsBut files told told
-but_none files told = record { givens = λ g others. refl; names = λ g. refl; contents = λ n others. refl; latest_same = λ n. refl; next_same = refl }
+but_none files told = record { current = λ n file all c. c; givens = λ g others. refl; names = λ g. refl; contents = λ n others. refl; latest_same = λ n. refl; next_same = refl }
 
 named_still : (files : List ℕ) (old now : Told) (n : List ℕ) → ((g : ℕ) → now.name g ≡ old.name g) → All (λ (f : ℕ). old.name f ≢ Some n) files → All (λ (f : ℕ). now.name f ≢ Some n) files
 named_still files old now n same h = All-weaker (λ (f : ℕ). old.name f ≢ Some n) (λ (f : ℕ). now.name f ≢ Some n) (λ f ne is. ne (sym (same f) ∙ is)) files h
 
+other_still : (files : List ℕ) (old now : Told) (n : List ℕ) (file : ℕ) → ((g : ℕ) → now.name g ≡ old.name g) → All (IsSameOrOther old n file) files → All (IsSameOrOther now n file) files
+other_still files old now n file same h = All-weaker (IsSameOrOther old n file) (IsSameOrOther now n file) still files h
+  where
+    still : (f : ℕ) → IsSameOrOther old n file f → IsSameOrOther now n file f
+    still f (inl is) = inl is
+    still f (inr other) = inr (other.0, λ is. other.1 (sym (same f) ∙ is))
+
 pub but_both : (files : List ℕ) (old now new : Told) → KeepsBut files old now → KeepsBut files now new → KeepsBut files old new
 but_both files old now new h k = record {
+  current = λ n file all c. k.current n file (other_still files old now n file h.names all) (h.current n file all c);
   givens = λ g others. k.givens g others ∙ h.givens g others;
   names = λ g. k.names g ∙ h.names g;
   contents = λ n others. k.contents n (named_still files old now n h.names others) ∙ h.contents n others;
@@ -167,10 +189,10 @@ but_both files old now new h k = record {
 }
 
 pub but_read : (files captures : List ℕ) (old new : Told) → KeepsOthers captures old new → KeepsBut files old new
-but_read files captures old new k = record { givens = λ g others. k.givens g; names = k.names; contents = λ n others. k.contents n; latest_same = k.latest_same; next_same = k.next_same }
+but_read files captures old new k = record { current = λ n file all c. record { last = k.latest_same n ∙ c.last; follows = k.contents n ∙ c.follows ∙ sym (k.givens file) }; givens = λ g others. k.givens g; names = k.names; contents = λ n others. k.contents n; latest_same = k.latest_same; next_same = k.next_same }
 
 pub but_written : (files all : List ℕ) (old new : Told) → all ≡ files → KeepsAllBut all old new → KeepsBut files old new
-but_written files all old new same k = subst (λ (fs : List ℕ). KeepsBut fs old new) same (record { givens = k.givens; names = k.names; contents = k.contents; latest_same = k.latest_same; next_same = k.next_same })
+but_written files all old new same k = subst (λ (fs : List ℕ). KeepsBut fs old new) same (record { current = k.current; givens = k.givens; names = k.names; contents = k.contents; latest_same = k.latest_same; next_same = k.next_same })
 
 -- captures were read on
 pub read_on : (files captures : List ℕ) (start old new : Told) → KeepsBut files start old → KeepsOthers captures old new → KeepsBut files start new
@@ -179,3 +201,27 @@ read_on files captures start old new h k = but_both files start old new h (but_r
 -- captures were read on, and files written
 pub written_on : (files all captures : List ℕ) (start old read new : Told) → all ≡ files → KeepsBut files start old → KeepsOthers captures old read → KeepsAllBut all read new → KeepsBut files start new
 written_on files all captures start old read new same h k w = but_both files start read new (read_on files captures start old read h k) (but_written files all read new same w)
+
+-- ---- which file failed
+
+pub stops_here : (T U : Type 0) (files : List ℕ) (k file : ℕ) (stop : Stop) → slice_get files k ≡ Some file → StopsAt {T = T} file (Err stop) → StopsAmong {T = U} [] files (Err stop)
+stops_here T U files k file Memory e h = tt
+stops_here T U files k file (File g) e h = inr (k, e ∙ ap Some (sym h))
+
+none_in : (k g : ℕ) → slice_get [] k ≡ Some g → ⊥
+none_in k g e = cc
+
+-- one of the files that are written is one of all
+pub stops_wider : (T U : Type 0) (captures files all : List ℕ) (stop : Stop) → all ≡ files → StopsAmong {T = T} [] all (Err stop) → StopsAmong {T = U} captures files (Err stop)
+stops_wider T U captures files all Memory same h = tt
+stops_wider T U captures files all (File g) same (inl none) = absurd (none_in none.0 g none.1)
+stops_wider T U captures files all (File g) same (inr one) = inr (one.0, ap (λ (fs : List ℕ). slice_get fs one.0) (sym same) ∙ one.1)
+
+stops_on : (T : Type 0) (captures files : List ℕ) (port : ℕ) (o : Option ℕ) → slice_get captures port ≡ o → StopsAmong {T = T} captures files (Err (stop_on o))
+stops_on T captures files port None e = tt
+stops_on T captures files port (Some file) e = inl (port, e)
+
+pub stops_reading : (T : Type 0) (captures files : List ℕ) (fault : FeedFault) → StopsAmong {T = T} captures files (Err (stop_in captures fault))
+stops_reading T captures files (feed.NotCapture port) = tt
+stops_reading T captures files (feed.File port) = stops_on T captures files port (slice_get captures port) refl
+stops_reading T captures files feed.Memory = tt

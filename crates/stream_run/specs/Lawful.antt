@@ -25,14 +25,15 @@ abbrev pub AreTheFirst : ℕ → Option (List Arrival) → List Arrival → Type
 AreTheFirst most None arrivals = Unit {0}
 AreTheFirst most (Some all) arrivals = arrivals ≡ take most (in_order all)
 
--- One worker, whose number is 0, handles the first packets of captures in capture order, each with
--- choices that are legal.
+-- One worker, whose number is 0, handles the first packets of captures in capture order, at most so
+-- many, each with choices that are legal.
 pub record IsOneRun (f : Function) (most : ℕ) (all : Option (List Arrival)) (r : Run) : Type 0 where
   pub function : r.function ≡ f
   pub mode : r.mode ≡ One
   pub workers : r.workers ≡ 1
   pub alone : AllByRecursion (λ (t : Turn). t.worker ≡ 0) r.turns
   pub legal : IsLegal r
+  pub within : length r.turns ≤ most
   pub packets : AreTheFirst most all (map arrival_in r.turns)
 
 -- how a run ended: all packets were handled, and captures are torn as was found; or there are more
@@ -46,6 +47,8 @@ pub record IsFinished (f : Function) (begun : Feeding) (start : Told) (feed : Fe
   pub some : IsOneRun f begun.most None run
   pub lawful : (before : Told) → StandsFor before [] begun start → IsOneRun f begun.most (packets_of (files_in begun.sources) before) run
   pub ending : (before : Told) → StandsFor before [] begun start → EndsSo ran.ending feed before (map arrival_in run.turns)
+  pub same_files : files_in feed.sources ≡ files_in begun.sources
+  pub same_most : feed.most ≡ begun.most
   pub count : length run.turns ≡ ran.packets
   pub left : (answers : List Done) × (course_of run ≡ Some (record { state = ran.state; answers = answers }))
   pub wholes : (k file : ℕ) → slice_get files k ≡ Some file → IsToldAs (file_bytes run k) (now.given file)

@@ -1,9 +1,9 @@
 -- Files that are written side by side, each by its own buffer.
-use Rattle.std.specs.Prelude.{◌≡◌, ◌≢◌, ℕ, List, ◌++◌, length, map, slice_get, Option, Some, None, Result, Ok, Err}
+use Rattle.std.specs.Prelude.{◌≡◌, ◌≢◌, ◌⊎◌, ℕ, List, ◌++◌, length, map, slice_get, Option, Some, None, Result, Ok, Err}
 use Rattle.std.specs.List.{All}
 use Rattle.nf_base.specs.declared.packet.Packet.{Packet}
 use Rattle.nf_base.specs.declared.done.Done.{Done}
-use Rattle.nf_files.specs.Told.{Told}
+use Rattle.nf_files.specs.Told.{Told, IsCurrent}
 use Rattle.nf_files.specs.Causes.{Counted, Faulted}
 use Rattle.run_history.specs.declared.line.Mode.{Mode}
 use Rattle.stream_run.specs.declared.stop.Stop.{Stop}
@@ -34,8 +34,9 @@ abbrev pub IsFrontIfTold : List ℕ → Option (List ℕ) → Type 0
 IsFrontIfTold bytes None = Unit {0}
 IsFrontIfTold bytes (Some given) = IsFrontOf bytes given
 
--- nothing changed but what was given to one file, and what stands under its name
+-- Nothing changed but what was given to one file, and what stands under its name follows.
 pub record KeepsOther (file : ℕ) (old new : Told) : Type 0 where
+  pub current : (n : List ℕ) → IsCurrent old n file → IsCurrent new n file
   pub rests : (g : ℕ) → new.rest g ≡ old.rest g
   pub givens : (g : ℕ) → g ≢ file → new.given g ≡ old.given g
   pub names : (g : ℕ) → new.name g ≡ old.name g
@@ -54,6 +55,22 @@ IsStopCause old new (Ok x) = new ≡ old
 IsStopCause old new (Err Memory) = new ≡ old
 IsStopCause old new (Err (File file)) = Faulted old new file
 
+-- a call that can be stopped, by this file or for want of memory
+abbrev pub StopsAt : {T : Type 0} → ℕ → Result T Stop → Type 0
+StopsAt file (Ok x) = Unit {0}
+StopsAt file (Err Memory) = Unit {0}
+StopsAt file (Err (File g)) = g ≡ file
+
+-- a number stands in a list
+abbrev pub IsOneOf : List ℕ → ℕ → Type 0
+IsOneOf files file = (k : ℕ) × (slice_get files k ≡ Some file)
+
+-- the same, by one of these files, or of those
+abbrev pub StopsAmong : {T : Type 0} → List ℕ → List ℕ → Result T Stop → Type 0
+StopsAmong files others (Ok x) = Unit {0}
+StopsAmong files others (Err Memory) = Unit {0}
+StopsAmong files others (Err (File file)) = IsOneOf files file ⊎ IsOneOf others file
+
 -- the files that are written
 abbrev pub files_of : List Holding → List ℕ
 files_of sinks = map (λ s. s.file) sinks
@@ -68,8 +85,13 @@ abbrev pub AreFronts : Mode → ℕ → ℕ → List Handled → Told → List �
 AreFronts mode workers ports hs told files =
     (k file : ℕ) → slice_get files k ≡ Some file → IsFrontIfTold (bytes_of mode workers ports k hs) (told.given file)
 
--- nothing changed but what was given to some files, and what stands under their names
+-- a file is this one, or another one that stands under another name
+abbrev pub IsSameOrOther : Told → List ℕ → ℕ → ℕ → Type 0
+IsSameOrOther told n file g = (g ≡ file) ⊎ ((g ≢ file) × (told.name g ≢ Some n))
+
+-- Nothing changed but what was given to some files, and what stands under their names follows.
 pub record KeepsAllBut (files : List ℕ) (old new : Told) : Type 0 where
+  pub current : (n : List ℕ) (file : ℕ) → All (IsSameOrOther old n file) files → IsCurrent old n file → IsCurrent new n file
   pub rests : (g : ℕ) → new.rest g ≡ old.rest g
   pub givens : (g : ℕ) → All (λ f. f ≢ g) files → new.given g ≡ old.given g
   pub names : (g : ℕ) → new.name g ≡ old.name g
@@ -86,9 +108,10 @@ AllGoOn mode workers ports hs told sinks (Err e) = AreFronts mode workers ports 
 abbrev pub AreEmpty : List Holding → Type 0
 AreEmpty sinks = (k : ℕ) (s : Holding) → slice_get sinks k ≡ Some s → length s.held ≡ 0
 
--- Nothing changed but what is left of files that are read, what was given to some files, and what
--- stands under their names.
+-- Nothing changed but what is left of files that are read, and what was given to some files; what
+-- stands under their names follows.
 pub record KeepsBut (files : List ℕ) (old new : Told) : Type 0 where
+  pub current : (n : List ℕ) (file : ℕ) → All (IsSameOrOther old n file) files → IsCurrent old n file → IsCurrent new n file
   pub givens : (g : ℕ) → All (λ f. f ≢ g) files → new.given g ≡ old.given g
   pub names : (g : ℕ) → new.name g ≡ old.name g
   pub contents : (n : List ℕ) → All (λ f. old.name f ≢ Some n) files → new.content n ≡ old.content n

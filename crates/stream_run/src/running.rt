@@ -7,7 +7,7 @@ ghost use Rattle.pcap_file.specs.Record.{greatest_time};
 ghost use Rattle.packet_feed.specs.Told.{EachFile, IsApart};
 ghost use Rattle.packet_feed.specs.Sources.{files_in};
 ghost use Rattle.run_history.specs.declared.line.Mode.TheVariants.{One};
-ghost use Rattle.stream_run.specs.Writing.{files_of, AreHeld, KeepsAllBut, KeepsBut, IsStopCause};
+ghost use Rattle.stream_run.specs.Writing.{files_of, AreHeld, KeepsAllBut, KeepsBut, IsStopCause, StopsAmong};
 ghost use Rattle.stream_run.specs.Streaming.{HandlesOne, Comes, stop_in};
 
 use crate::ending::Ending;
@@ -64,6 +64,7 @@ fn handle_one<F: Files>(
     ensures same_files { files_of sinks.new ≡ files_of sinks.old }
     ensures kept { KeepsAllBut (files_of sinks.old) (F.told files.old) (F.told files.new) }
     ensures cause { IsStopCause (F.counted files.old) (F.counted files.new) result }
+    ensures among { StopsAmong [] (files_of sinks.old) result }
     ensures reads { (g : ℕ) → F.is_read files.old g → F.is_read files.new g }
     ensures writes { (g : ℕ) → F.is_written files.old g → F.is_written files.new g }
 {
@@ -126,6 +127,7 @@ pub fn handle_all<F: Files>(
     ensures same_files { files_of sinks.new ≡ files_of sinks.old }
     ensures kept { KeepsBut (files_of sinks.old) (F.told files.old) (F.told files.new) }
     ensures cause { IsStopCause (F.counted files.old) (F.counted files.new) result }
+    ensures among { StopsAmong captures.now (files_of sinks.old) result }
     ensures reads { (g : ℕ) → F.is_read files.old g → F.is_read files.new g }
     ensures writes { (g : ℕ) → F.is_written files.old g → F.is_written files.new g }
 {

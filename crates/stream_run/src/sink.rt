@@ -2,7 +2,7 @@
 ghost use Rattle.std.specs.Prelude.{◌≡◌, ◌<◌, ◌≤◌, ◌++◌, ◌⊎◌, ℕ, List, length, OnOk, vec_len};
 ghost use Rattle.pcap_file.specs.Record.{greatest_time};
 ghost use Rattle.stream_run.specs.Texts.{piece};
-ghost use Rattle.stream_run.specs.Writing.{came_to, Holds, GoesOn, KeepsOther, IsStopCause};
+ghost use Rattle.stream_run.specs.Writing.{came_to, Holds, GoesOn, KeepsOther, IsStopCause, StopsAt};
 
 use crate::piece::push_piece;
 use crate::stop::Stop;
@@ -47,6 +47,7 @@ impl Sink {
         ensures same_file { self.new.file ≡ self.old.file }
         ensures kept { KeepsOther self.old.file (F.told files.old) (F.told files.new) }
         ensures cause { IsStopCause (F.counted files.old) (F.counted files.new) result }
+        ensures at { StopsAt self.old.file result }
         ensures reads { (g : ℕ) → F.is_read files.old g → F.is_read files.new g }
         ensures writes { (g : ℕ) → F.is_written files.old g → F.is_written files.new g }
     {
@@ -80,6 +81,7 @@ impl Sink {
         ensures same_file { self.new.file ≡ self.old.file }
         ensures kept { KeepsOther self.old.file (F.told files.old) (F.told files.new) }
         ensures cause { IsStopCause (F.counted files.old) (F.counted files.new) result }
+        ensures at { StopsAt self.old.file result }
         ensures reads { (g : ℕ) → F.is_read files.old g → F.is_read files.new g }
         ensures writes { (g : ℕ) → F.is_written files.old g → F.is_written files.new g }
     {

@@ -5,7 +5,7 @@ ghost use Rattle.pcap_file.specs.Record.{greatest_time};
 ghost use Rattle.packet_feed.specs.Told.{EachFile, IsApart};
 ghost use Rattle.run_history.specs.declared.line.Mode.{Mode};
 ghost use Rattle.stream_run.specs.Runs.{Handled};
-ghost use Rattle.stream_run.specs.Writing.{came_to, files_of, AreHeld, AllGoOn, AreEmpty, KeepsAllBut, IsStopCause};
+ghost use Rattle.stream_run.specs.Writing.{came_to, files_of, AreHeld, AllGoOn, AreEmpty, KeepsAllBut, IsStopCause, StopsAmong};
 
 use crate::sink::Sink;
 use crate::stop::Stop;
@@ -36,6 +36,7 @@ pub fn put_all<F: Files>(
     ensures same_files { files_of sinks.new ≡ files_of sinks.old }
     ensures kept { KeepsAllBut (files_of sinks.old) (F.told files.old) (F.told files.new) }
     ensures cause { IsStopCause (F.counted files.old) (F.counted files.new) result }
+    ensures among { StopsAmong [] (files_of sinks.old) result }
     ensures reads { (g : ℕ) → F.is_read files.old g → F.is_read files.new g }
     ensures writes { (g : ℕ) → F.is_written files.old g → F.is_written files.new g }
 {
@@ -60,6 +61,7 @@ pub fn flush_all<F: Files>(sinks: &mut Seq<Sink>, files: &mut F) -> Result<(), S
     ensures same_files { files_of sinks.new ≡ files_of sinks.old }
     ensures kept { KeepsAllBut (files_of sinks.old) (F.told files.old) (F.told files.new) }
     ensures cause { IsStopCause (F.counted files.old) (F.counted files.new) result }
+    ensures among { StopsAmong [] (files_of sinks.old) result }
     ensures reads { (g : ℕ) → F.is_read files.old g → F.is_read files.new g }
     ensures writes { (g : ℕ) → F.is_written files.old g → F.is_written files.new g }
 {

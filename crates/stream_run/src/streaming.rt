@@ -1,5 +1,5 @@
 //! A whole run by one worker.
-ghost use Rattle.std.specs.Prelude.{◌≡◌, ◌^◌, ◌≤◌, ℕ, [], Some, length, slice_get, IfOk};
+ghost use Rattle.std.specs.Prelude.{◌≡◌, ◌^◌, ◌+◌, ◌≤◌, ℕ, [], Some, length, slice_get, IfOk};
 ghost use Rattle.nf_base.specs.Step.{opening};
 ghost use Rattle.nf_base.specs.Functions.{function_of};
 ghost use Rattle.nf_files.specs.Told.{IsEmptyIfTold};
@@ -7,7 +7,7 @@ ghost use Rattle.packet_feed.specs.Told.{EachFile, IsApart};
 ghost use Rattle.packet_feed.specs.Sources.{files_in};
 ghost use Rattle.run_history.specs.declared.line.Mode.TheVariants.{One};
 ghost use Rattle.stream_run.specs.Texts.{head};
-ghost use Rattle.stream_run.specs.Writing.{Holding, AreHeld, files_of, KeepsBut, IsStopCause};
+ghost use Rattle.stream_run.specs.Writing.{Holding, AreHeld, files_of, KeepsBut, IsStopCause, StopsAmong};
 ghost use Rattle.stream_run.specs.Lawful.{Runs, Flows, Streams};
 
 use crate::ending::Ending;
@@ -83,6 +83,7 @@ fn flow<F: Files>(
         (files_of sinks.old) tables.new.state result }
     ensures kept { KeepsBut (files_of sinks.old) (F.told files.old) (F.told files.new) }
     ensures cause { IsStopCause (F.counted files.old) (F.counted files.new) result }
+    ensures among { StopsAmong captures.now (files_of sinks.old) result }
 {
     let ending = match handle_all(files, func, tables, feed, captures, sinks) {
         Ok(ending) => ending,
@@ -116,6 +117,7 @@ fn stream<F: Files>(
         feed.old (F.told files.old) feed.new (F.told files.new) (files_of sinks.old) result }
     ensures kept { KeepsBut (files_of sinks.old) (F.told files.old) (F.told files.new) }
     ensures cause { IsStopCause (F.counted files.old) (F.counted files.new) result }
+    ensures among { StopsAmong captures.now (files_of sinks.old) result }
 {
     let mut tables = match Tables::new(alloc, func, Share { queue: 0, of: 1 }) {
         Ok(tables) => tables,
@@ -155,6 +157,7 @@ pub fn run<F: Files>(
     requires opened { EachFile (F.is_read files.old) captures.now }
     requires created { EachFile (F.is_written files.old) targets.now }
     requires apart { IsApart targets.now }
+    requires as_many { length targets.now ≡ length func.now.handlers + 1 }
     requires few { length targets.now ≤ 2 ^ 32 }
     requires empty { (k : ℕ) → (file : ℕ) → slice_get targets.now k ≡ Some file →
         IsEmptyIfTold ((F.told files.old).given file) }
@@ -164,6 +167,8 @@ pub fn run<F: Files>(
         feed.new (F.told files.new) targets.now result }
     ensures kept { KeepsBut targets.now (F.told files.old) (F.told files.new) }
     ensures cause { IsStopCause (F.counted files.old) (F.counted files.new) result }
+    // The file that failed is one of the captures or of the targets.
+    ensures among { StopsAmong captures.now targets.now result }
 {
     let mut sinks = match sinks(alloc, func.handlers.len(), targets) {
         Ok(sinks) => sinks,

@@ -1,59 +1,53 @@
-use Rattle.std.proofs.Common.{◌≡◌, ◌∙◌, ℕ, length, map, string_bytes, ap, sym, subst, arith}
-use Rattle.std.proofs.lemmas.List.{length-map}
+use Rattle.std.proofs.Common.{◌≡◌, ◌+◌, ◌∙◌, ℕ, List, [], ◌∷◌, Ok, Err, string_bytes, ap, sym, subst, arith}
 use Rattle.nf_base.specs.Functions.{function_of}
-use Rattle.nf_base.specs.View.{block_of}
-use Rattle.capture_order.specs.Arrivals.{all_bytes}
-use Rattle.capture_order.specs.Loaded.{IsLoaded}
-use Rattle.maestro_cli.specs.Endings.{ending_of}
-use Rattle.maestro_cli.specs.Running.{Ends}
-use Rattle.maestro_cli.specs.Asked.{asked}
-use Rattle.maestro_cli.proofs.Readings.{told_length}
-use Rattle.maestro_cli.proofs.Ending.{runs_ended}
+use Rattle.nf_files.specs.Told.{Told}
+use Rattle.nf_files.specs.Causes.{Counted}
+use Rattle.command_words.specs.Commands.{Run as RunAsked}
+use Rattle.command_words.specs.View as view
+use Rattle.maestro_cli.specs.declared.loading.Found.{Found}
+use Rattle.maestro_cli.specs.declared.loading.NoFunction.{NoFunction}
+use Rattle.maestro_cli.specs.declared.status.Halt.{Halt}
+use Rattle.maestro_cli.specs.Outside.{Outside, IsUntouched, seen}
+use Rattle.maestro_cli.specs.Loading.{FindsFunction, HasFoundCause}
+use Rattle.maestro_cli.specs.Ending.{RunsTo}
+use Rattle.maestro_cli.specs.Progress.{HasFound, unfound}
+use Rattle.maestro_cli.proofs.Beginning.{is_unfound}
 use Rattle.maestro_cli.proofs.running.run.Goals as goal
 
-pub finish-requires : goal.finish-requires
-finish-requires g c κs within =
-    let pre = c.requires.1 in
-    let names = c.args.command.now.captures.now in
-    let read = c.in-Ok-read_packets.ensures in
-    let items = c.in-Ok-read_packets.packets.captures.items in
-    let count : length items ≡ length names = omega (arith, length-map items (λ v. v.items), told_length g.start.told.content (map string_bytes names) (all_bytes items) read.finds.captures_told, length-map names string_bytes) in (
+-- the function was read, since this moment
+found_since : (c : RunAsked) (a before now : Outside) (found : Found) → a ≡ before → FindsFunction a.told c.function (Ok found) → now.told.next ≡ a.told.next + 1 → IsUntouched a.told now.told → HasFoundCause c.function a.told.next a.counted now.counted (Ok found) → HasFound c before now found
+found_since c a before now found same finds next untouched cause = subst (λ (o : Outside). HasFound c o now found) same (record {
+  is_function = finds.is_function;
+  number = finds.number;
+  from_two = finds.from_two;
+  next = next;
+  only = record { untouched = untouched; asked = cause };
+})
+
+none_since : (c : RunAsked) (a before now : Outside) (why : NoFunction) (halt : Halt) → a ≡ before → halt ≡ unfound why → IsUntouched a.told now.told → FindsFunction a.told c.function (Err why) → HasFoundCause c.function a.told.next a.counted now.counted (Err why) → RunsTo c before now (Err halt)
+none_since c a before now why halt same is untouched finds cause =
+    subst (λ (h : Halt). RunsTo c before now (Err h)) (sym is) (subst (λ (o : Outside). RunsTo c o now (Err (unfound why))) same (is_unfound c a now why untouched finds cause))
+
+pub run_found-requires : goal.run_found-requires
+run_found-requires g c κs within =
+    let told = g.F.Files.told in
+    let counted = g.F.Files.counted in (
       within,
       (
-        read.next,
+        c.requires.1.1.0,
         (
-          read.untouched,
-          (
-            omega (arith, count, pre.1.0),
-            (
-              omega (arith, count, pre.1.1.1),
-              (
-                omega (arith, count, pre.1.1.0),
-                (
-                  count ∙ c.if-command-len.false ∙ c.len.ensures.value,
-                  (
-                    subst (λ (m : ℕ). IsLoaded (all_bytes items) m c.in-Ok-read_packets.packets.arrivals.items) (sym read.finds.at_most) read.finds.loaded,
-                    (
-                      read.finds.within,
-                      read.finds.ending ∙ ap (λ (m : ℕ). ending_of m (all_bytes items)) (sym read.finds.at_most),
-                    ),
-                  ),
-                ),
-              ),
-            ),
-          ),
+          c.requires.1.1.1,
+          found_since (view.run c.args.command.now) (seen (told c.args.files.now) (counted c.args.files.now)) g.before (seen (told c.read_function.new.files) (counted c.read_function.new.files)) c.in-Ok.found c.requires.1.0
+              c.in-Ok.ensures.finds c.in-Ok.ensures.next c.read_function.ensures.untouched c.in-Ok.ensures.cause,
         ),
       ),
     )
 
-pub returns-clause-runs : goal.returns-clause-runs
-returns-clause-runs g c =
-    let pre = c.requires.1 in
-    let names = c.args.command.now.captures.now in
-    let func = c.in-Ok.source.func in
-    runs_ended (asked c.args.command.now) g.start (g.F.Files.told c.finish.new.files) (function_of func) (all_bytes c.in-Ok-read_packets.packets.captures.items) c.finish.result
-    c.in-Ok.ensures.finds.is_function
-    (omega (arith, length-map names string_bytes, length-map func.handlers (λ h. block_of h.block), c.if-command-len.false, c.len.ensures.value))
-    c.in-Ok-read_packets.ensures.finds.captures_told
-    (omega (arith, length-map names string_bytes, pre.1.0))
-    (subst (λ (m : ℕ). Ends g.start (g.F.Files.told c.finish.new.files) (string_bytes c.args.command.now.out.now) (function_of func) (all_bytes c.in-Ok-read_packets.packets.captures.items) m c.finish.result) c.in-Ok-read_packets.ensures.finds.at_most c.finish.ensures.ends)
+pub returns-in-Err : goal.returns-in-Err
+returns-in-Err g c =
+    let told = g.F.Files.told in
+    let counted = g.F.Files.counted in
+    record {
+      runs = none_since (view.run c.args.command.now) (seen (told c.args.files.now) (counted c.args.files.now)) g.before (seen (told c.read_function.new.files) (counted c.read_function.new.files)) c.in-Err.none c.unfound.result c.requires.1.0 c.unfound.ensures
+          c.read_function.ensures.untouched c.in-Err.ensures.finds c.in-Err.ensures.cause;
+    }

@@ -1,8 +1,13 @@
-use Rattle.maestro_cli.specs.declared.status.Status.TheVariants.{Memory}
-use Rattle.maestro_cli.specs.Texts.{error_line}
-use Rattle.maestro_cli.proofs.Printing.{front_all}
+use Rattle.std.proofs.Common.{◌∙◌, List, ℕ, inl, refl, sym, subst}
+use Rattle.nf_files.specs.Writes.{Writes}
+use Rattle.maestro_cli.proofs.Printing.{said_is}
 use Rattle.maestro_cli.proofs.say.complain.Goals as goal
 
-pub returns-in-Ok-print_want_of_memory-clause-wrote : goal.returns-in-Ok-print_want_of_memory-clause-wrote
-returns-in-Ok-print_want_of_memory-clause-wrote g c =
-    (tt, record { of = Memory; wrote = front_all (g.F.Files.told c.args.files.now) (g.F.Files.told c.print_want_of_memory.new.files) 1 (error_line Memory) c.in-Ok-print_want_of_memory.ensures.wrote })
+pub returns-in-Ok : goal.returns-in-Ok
+returns-in-Ok g c =
+    let told = g.F.Files.told in
+    inl (record {
+      status_is = refl;
+      wrote = subst (λ (p : List ℕ). Writes (told c.args.files.now) (told c.say.new.files) 1 p) (c.as_bytes.ensures.value ∙ c.as_str.ensures.value ∙ c.error_line.ensures ∙ sym (said_is c.args.due c.requires)) c.in-Ok.ensures.wrote;
+      counted = c.in-Ok.ensures.cause;
+    })

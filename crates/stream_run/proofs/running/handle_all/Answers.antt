@@ -2,7 +2,8 @@ use Rattle.std.proofs.Common.{◌∙◌, length, refl, sym, arith}
 use Rattle.nf_base.specs.Functions.{function_of}
 use Rattle.packet_feed.specs.Sources.{files_in}
 use Rattle.stream_run.specs.Writing.{files_of}
-use Rattle.stream_run.proofs.Held.{same_length, but_none, read_on, written_on}
+use Rattle.stream_run.specs.declared.ending.Ending.{Ending}
+use Rattle.stream_run.proofs.Held.{same_length, but_none, read_on, written_on, stops_reading, stops_wider}
 use Rattle.stream_run.proofs.Reached.{reached_none, reached_more, ends_all, ends_early, halts_reading, halts_writing}
 use Rattle.stream_run.proofs.running.handle_all.Goals as goal
 
@@ -97,3 +98,9 @@ pub returns-in-Err-handle_one-clause-kept : goal.returns-in-Err-handle_one-claus
 returns-in-Err-handle_one-clause-kept g c =
     let told = g.F.Files.told in
     written_on (files_of c.args.sinks.now) (files_of c.packets.sinks) (files_in c.packets.feed.sources) (told c.args.files.now) (told c.packets.files) (told c.next.new.files) (told c.handle_one.new.files) c.packets.invariant.same_files c.packets.invariant.kept c.next.ensures.kept c.handle_one.ensures.kept
+
+pub returns-in-Err-clause-among : goal.returns-in-Err-clause-among
+returns-in-Err-clause-among g c = rw c.stop_in.ensures (stops_reading Ending c.args.captures.now (files_of c.args.sinks.now) c.in-Err.fault)
+
+pub returns-in-Err-handle_one-clause-among : goal.returns-in-Err-handle_one-clause-among
+returns-in-Err-handle_one-clause-among g c = stops_wider (Unit {0}) Ending c.args.captures.now (files_of c.args.sinks.now) (files_of c.packets.sinks) c.in-Err-handle_one.stop c.packets.invariant.same_files c.in-Err-handle_one.ensures.among

@@ -5,7 +5,7 @@ use Rattle.packet_feed.specs.Told.{IsApart}
 use Rattle.packet_feed.proofs.Gathering.{map_kept}
 use Rattle.stream_run.specs.Texts.{bytes_of}
 use Rattle.stream_run.specs.Writing.{Holding, files_of}
-use Rattle.stream_run.proofs.Held.{file_at, same_length, partly_more, partly_fronts, all_partly, same_bytes, kept_more, empty_more}
+use Rattle.stream_run.proofs.Held.{file_at, same_length, partly_more, partly_fronts, all_partly, same_bytes, kept_more, stops_here, empty_more}
 use Rattle.stream_run.proofs.sinks.flush_all.Goals as goal
 
 pub flush-requires : goal.flush-requires
@@ -90,3 +90,14 @@ pub returns-clause-empty : goal.returns-clause-empty
 returns-clause-empty g c = λ k s e.
     let inside : k < length c.loop-k.sinks = slice_get_within c.loop-k.sinks k s e in
     c.loop-k.invariant.empty k s (omega (arith, c.len-k-end.ensures, c.loop-k-test.false, same_length c.loop-k.sinks c.args.sinks.now c.loop-k.invariant.same_files)) e
+
+pub returns-in-Err-clause-among : goal.returns-in-Err-clause-among
+returns-in-Err-clause-among g c =
+    let now = c.loop-k.sinks in
+    let k = c.loop-k.k in
+    let s = c.item_mut-sink.result.now in
+    let inv = c.loop-k.invariant in
+    let lt : k < length now = omega (arith, c.len-k-end.ensures, c.loop-k-test.true, same_length now c.args.sinks.now inv.same_files) in
+    let at = slice_get_read now (length now) k s refl lt c.item_mut-sink.ensures.value in
+    let file = sym (ap (λ (fs : List ℕ). slice_get fs k) inv.same_files) ∙ file_at now k s at in
+    stops_here (Unit {0}) (Unit {0}) (files_of c.args.sinks.now) k s.file c.in-Err.stop file c.in-Err.ensures.at

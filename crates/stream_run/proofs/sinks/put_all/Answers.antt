@@ -6,7 +6,7 @@ use Rattle.packet_feed.proofs.Gathering.{map_kept}
 use Rattle.stream_run.specs.Texts.{bytes_of}
 use Rattle.stream_run.specs.Writing.{Holding, Holds, IsFrontIfTold, files_of, came_to}
 use Rattle.stream_run.proofs.Bytes.{bytes_more}
-use Rattle.stream_run.proofs.Held.{file_at, same_length, partly_more, partly_fronts, all_partly, grows, kept_more}
+use Rattle.stream_run.proofs.Held.{file_at, same_length, partly_more, partly_fronts, all_partly, grows, kept_more, stops_here}
 use Rattle.stream_run.proofs.sinks.put_all.Goals as goal
 
 pub put-requires-clause-created : goal.put-requires-clause-created
@@ -88,3 +88,14 @@ pub returns-clause-goes_on : goal.returns-clause-goes_on
 returns-clause-goes_on g c = λ mode workers hs held.
     let h = came_to c.args.packet.now c.args.original c.args.frame.now c.args.done.now in
     all_partly (λ j. bytes_of mode workers c.args.ports j hs) (λ j. bytes_of mode workers c.args.ports j (hs ++ h ∷ [])) c.loop-k.sinks c.loop-k.k (g.F.Files.told c.loop-k.files) (omega (arith, c.len-k-end.ensures, c.loop-k-test.false, same_length c.loop-k.sinks c.args.sinks.now c.loop-k.invariant.same_files)) (c.loop-k.invariant.partly mode workers hs held)
+
+pub returns-in-Err-clause-among : goal.returns-in-Err-clause-among
+returns-in-Err-clause-among g c =
+    let now = c.loop-k.sinks in
+    let k = c.loop-k.k in
+    let s = c.item_mut-sink.result.now in
+    let inv = c.loop-k.invariant in
+    let lt : k < length now = omega (arith, c.len-k-end.ensures, c.loop-k-test.true, same_length now c.args.sinks.now inv.same_files) in
+    let at = slice_get_read now (length now) k s refl lt c.item_mut-sink.ensures.value in
+    let file = sym (ap (λ (fs : List ℕ). slice_get fs k) inv.same_files) ∙ file_at now k s at in
+    stops_here (Unit {0}) (Unit {0}) (files_of c.args.sinks.now) k s.file c.in-Err.stop file c.in-Err.ensures.at

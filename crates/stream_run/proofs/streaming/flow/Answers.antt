@@ -3,7 +3,8 @@ use Rattle.std.specs.List.{slice_get}
 use Rattle.nf_base.specs.Functions.{function_of}
 use Rattle.run_history.specs.declared.line.Mode.TheVariants.{One}
 use Rattle.stream_run.specs.Writing.{files_of}
-use Rattle.stream_run.proofs.Held.{but_both, but_written}
+use Rattle.stream_run.specs.declared.ending.Ending.{Ending}
+use Rattle.stream_run.proofs.Held.{but_both, but_written, stops_wider}
 use Rattle.stream_run.proofs.Complete.{empty_told, finishes}
 use Rattle.stream_run.proofs.streaming.flow.Goals as goal
 
@@ -29,3 +30,6 @@ returns-in-Err-flush_all-clause-kept g c =
     let told = g.F.Files.told in
     but_both (files_of c.args.sinks.now) (told c.args.files.now) (told c.handle_all.new.files) (told c.flush_all.new.files) c.handle_all.ensures.kept
     (but_written (files_of c.args.sinks.now) (files_of c.handle_all.new.sinks) (told c.handle_all.new.files) (told c.flush_all.new.files) c.handle_all.ensures.same_files c.flush_all.ensures.kept)
+
+pub returns-in-Err-flush_all-clause-among : goal.returns-in-Err-flush_all-clause-among
+returns-in-Err-flush_all-clause-among g c = stops_wider (Unit {0}) Ending c.args.captures.now (files_of c.args.sinks.now) (files_of c.handle_all.new.sinks) c.in-Err-flush_all.stop c.handle_all.ensures.same_files c.in-Err-flush_all.ensures.among

@@ -7,7 +7,7 @@ use Rattle.nf_base.specs.View.{block_of}
 use Rattle.nf_base.specs.Functions.{function_of}
 use Rattle.run_history.specs.declared.line.Mode.TheVariants.{One}
 use Rattle.stream_run.specs.Texts.{head}
-use Rattle.stream_run.specs.Writing.{Holding, KeepsBut}
+use Rattle.stream_run.specs.Writing.{Holding, KeepsBut, StopsAmong}
 use Rattle.stream_run.proofs.Held.{but_none}
 use Rattle.stream_run.specs.Lawful.{Streams}
 use Rattle.stream_run.proofs.Complete.{is_run_at, cut_short_at, halts_none, heads_held}
@@ -47,3 +47,6 @@ pub returns-clause-kept : goal.returns-clause-kept
 returns-clause-kept g c =
     let told = g.F.Files.told in
     subst (λ (fs : List ℕ). KeepsBut fs (told c.args.files.now) (told c.stream.new.files)) c.in-Ok.ensures.files c.stream.ensures.kept
+
+pub returns-clause-among : goal.returns-clause-among
+returns-clause-among g c = subst (λ (fs : List ℕ). StopsAmong c.args.captures.now fs c.stream.result) c.in-Ok.ensures.files c.stream.ensures.among

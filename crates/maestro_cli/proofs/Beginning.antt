@@ -1,0 +1,164 @@
+-- A run that was refused or stopped before it created anything.
+use Rattle.std.proofs.Common.{◌≡◌, ◌≢◌, ◌⊎◌, inl, inr, ℕ, ◌+◌, ◌-◌, ◌<◌, ◌≤◌, List, [], ◌∷◌, ◌++◌, length, map, Option, Some, None, slice_get, Result, Ok, Err, refl, ap, sym, subst, ◌∙◌, arith}
+use Rattle.std.proofs.lemmas.Option.{slice_get_within}
+use Rattle.nf_base.specs.Functions.{function_of}
+use Rattle.nf_base.specs.Text.{Function}
+use Rattle.nf_files.specs.Told.{Told}
+use Rattle.nf_files.specs.Causes.{Counted, Faulted, Asked, asking}
+use Rattle.packet_feed.specs.Told.{IsCapture, IsNoCapture, KeepsOthers}
+use Rattle.packet_feed.specs.Faults.{FaultedAt}
+use Rattle.packet_feed.specs.Faults as feeding
+use Rattle.packet_feed.specs.Sources.{files_in, IsLeastBad}
+use Rattle.packet_feed.specs.Feeding.{Feeding, Starts}
+use Rattle.packet_feed.specs.declared.fault.FeedFault.{FeedFault}
+use Rattle.packet_feed.specs.declared.fault.FeedFault.TheVariants as feed
+use Rattle.stream_run.specs.declared.stop.Stop.{Stop as NumberStop}
+use Rattle.stream_run.specs.declared.stop.Stop.TheVariants as numbered
+use Rattle.command_words.specs.Commands.{Run as RunAsked}
+use Rattle.maestro_cli.specs.declared.job.Job.{Job}
+use Rattle.maestro_cli.specs.declared.loading.Found.{Found}
+use Rattle.maestro_cli.specs.declared.loading.NoFunction.{NoFunction}
+use Rattle.maestro_cli.specs.declared.loading.NoFunction.TheVariants as none
+use Rattle.maestro_cli.specs.declared.status.RunFile.{RunFile}
+use Rattle.maestro_cli.specs.declared.status.RunFile.TheVariants.{Nf, Capture}
+use Rattle.maestro_cli.specs.declared.status.Stop.{Stop}
+use Rattle.maestro_cli.specs.declared.status.Stop.TheVariants as stops
+use Rattle.maestro_cli.specs.declared.status.End.{End}
+use Rattle.maestro_cli.specs.declared.status.Halt.{Halt}
+use Rattle.maestro_cli.specs.declared.status.Halt.TheVariants as halts
+use Rattle.maestro_cli.specs.declared.status.Refusal.TheVariants as refusals
+use Rattle.maestro_cli.specs.Outside.{Outside, IsUntouched, HasOnlyAsked}
+use Rattle.maestro_cli.specs.Names.{reading, inputs_of, asked_by}
+use Rattle.maestro_cli.specs.Numbers.{file_of, stop_named, Stops, IsFrontOf}
+use Rattle.maestro_cli.specs.Opened.{AreOpened, AsksAll, AsksSome, StopsFrom}
+use Rattle.maestro_cli.specs.Runs.{HasPorts, HasNoCapture, HasOtherPorts}
+use Rattle.maestro_cli.specs.Described.{IsTextCause}
+use Rattle.maestro_cli.specs.Loading.{FindsFunction, HasFoundCause}
+use Rattle.maestro_cli.specs.Ending.{KnownAt, IsKnown, IsUnbegun, IsStopped, RunsTo}
+use Rattle.maestro_cli.specs.Progress.{HasFound, IsJob, HasOpened, HasFed, asked, ports_of, unfed, stop_on, unfound}
+use Rattle.maestro_cli.proofs.Asking.{asking_both, asking_none, front_all, front_before}
+use Rattle.maestro_cli.proofs.Creating.{untouched_both}
+use Rattle.maestro_cli.proofs.Leaving.{all_at}
+use Rattle.maestro_cli.proofs.Numbering.{file_first, file_behind, opened_capture}
+use Rattle.maestro_cli.proofs.Stopping.{stopped_behind, memory_behind, stopped_asking, captures_front}
+use Rattle.maestro_cli.proofs.Starting.{below_names, got_at}
+
+-- ---- the captures' headers
+
+-- a capture's file, before anything was created
+known_capture : (c : RunAsked) (told : Told) (f : Function) (first ports number i : ℕ) → HasPorts c told f → 2 ≤ first → number ≡ first + 1 + i → i < ports → KnownAt c told (file_of first ports number)
+known_capture c told f first ports number i h two at lt =
+    subst (KnownAt c told) (sym (file_behind first ports number (1 + i) two (omega (arith, at)) (omega arith) ∙ opened_capture ports (1 + i) (omega (arith, lt)))) (f, h)
+
+-- headers were read: nothing but what is left of captures changed
+pub untouched_fed : (before a b : Outside) (job : Job) (captures : List ℕ) → IsJob before.told job → HasOpened before a job captures → KeepsOthers captures a.told b.told → IsUntouched before.told b.told
+untouched_fed before a b job captures is h kept = record {
+  contents = λ n. kept.contents n ∙ h.only.untouched.contents n;
+  standard = λ g lt. kept.givens g ∙ h.only.untouched.standard g lt;
+}
+
+pub has_fed : (before a b : Outside) (job : Job) (captures : List ℕ) (v : Feeding) → IsJob before.told job → HasOpened before a job captures → Starts captures (asked job).most a.told b.told (Ok v) → KeepsOthers captures a.told b.told → b.counted ≡ a.counted → HasFed before b job captures v
+has_fed before a b job captures v is h starts kept counted = record {
+  start = a.told;
+  rests = h.rests;
+  stands = starts.0;
+  files = starts.1;
+  most = starts.2;
+  next = kept.next_same ∙ h.next;
+  all = h.all;
+  numbers = h.numbers;
+  only = record { untouched = untouched_fed before a b job captures is h kept; asked = counted ∙ h.only.asked };
+}
+
+no_capture : (before a : Outside) (job : Job) (captures : List ℕ) (port : ℕ) → IsJob before.told job → HasOpened before a job captures → IsLeastBad captures a.told port → HasNoCapture (asked job) before.told port
+no_capture before a job captures port is h bad =
+    let name = got_at (asked job).captures port (omega (arith, slice_get_within captures port bad.file bad.at, h.all)) in
+    record {
+      function = function_of job.func.now;
+      has_ports = is.has_ports;
+      name = name.0;
+      at = name.1;
+      none = subst IsNoCapture (h.rests port bad.file name.0 bad.at name.1) bad.none;
+      lesser = below_names IsCapture a.told before.told captures (asked job).captures port h.all h.rests (λ p f lt e. bad.lesser p f lt e);
+    }
+
+-- a capture's file failed
+failed_at : (before a b : Outside) (job : Job) (captures : List ℕ) (port : ℕ) (o : Option ℕ) → IsJob before.told job → HasOpened before a job captures → IsUntouched before.told b.told → slice_get captures port ≡ o → FaultedAt a.counted b.counted o → RunsTo (asked job) before b (Err (stop_on job.numbers o))
+failed_at before a b job captures port None is h untouched e faulted = absurd faulted
+failed_at before a b job captures port (Some file) is h untouched e faulted =
+    let first : job.numbers.first ≡ before.told.next = is.first in
+    let named : stop_named job.numbers.first job.numbers.ports (numbered.File file) ≡ stop_named before.told.next (ports_of job) (numbered.File file) =
+    ap (λ (n : ℕ). stop_named n job.numbers.ports (numbered.File file)) first ∙ ap (λ (n : ℕ). stop_named before.told.next n (numbered.File file)) is.ports in
+    subst (λ (s : Stop). IsStopped (asked job) before b s) (sym named) (inl (record {
+      known = known_capture (asked job) before.told (function_of job.func.now) before.told.next (ports_of job) file port is.has_ports (omega (arith, is.from_two, first)) (h.numbers port file e) (omega (arith, slice_get_within captures port file e, h.all));
+      untouched = untouched;
+      stops = stopped_behind (inputs_of (asked job)) (inputs_of (asked job)) before.told.next (ports_of job) before.counted a.counted b.counted (numbered.File file) (front_all (inputs_of (asked job))) h.only.asked faulted;
+    }))
+
+-- captures could not be read
+pub is_unfed : (before a b : Outside) (job : Job) (captures : List ℕ) (fault : FeedFault) → IsJob before.told job → HasOpened before a job captures → Starts captures (asked job).most a.told b.told (Err fault) → KeepsOthers captures a.told b.told → feeding.IsCause {T = Unit {0}} a.counted b.counted captures (Err fault) → RunsTo (asked job) before b (Err (unfed job.numbers captures fault))
+is_unfed before a b job captures (feed.NotCapture port) is h starts kept cause =
+    (no_capture before a job captures port is h starts, record { untouched = untouched_fed before a b job captures is h kept; asked = cause ∙ h.only.asked })
+is_unfed before a b job captures (feed.File port) is h starts kept cause = failed_at before a b job captures port (slice_get captures port) is h (untouched_fed before a b job captures is h kept) refl cause
+is_unfed before a b job captures feed.Memory is h starts kept cause = inl (record {
+  known = tt;
+  untouched = untouched_fed before a b job captures is h kept;
+  stops = memory_behind (inputs_of (asked job)) (inputs_of (asked job)) before.told.next (ports_of job) before.counted b.counted (front_all (inputs_of (asked job))) (cause ∙ h.only.asked);
+})
+
+-- ---- the captures' names
+
+pub has_opened : (before a b : Outside) (job : Job) (captures : List ℕ) → IsJob before.told job → a.told.next ≡ before.told.next + 1 → HasOnlyAsked (reading (asked job).function ∷ []) before a → AreOpened a.told b.told (asked job).captures captures → length captures ≡ ports_of job → IsUntouched a.told b.told → b.counted ≡ asking (map reading (asked job).captures) a.counted → HasOpened before b job captures
+has_opened before a b job captures is next only opened all untouched counted = record {
+  next = opened.next ∙ ap (λ (n : ℕ). n + length captures) next;
+  all = all;
+  numbers = λ i f e. opened.numbers i f e ∙ ap (λ (n : ℕ). n + i) next;
+  rests = λ i f n e q. opened.rests i f n e q ∙ only.untouched.contents n;
+  only = record {
+    untouched = untouched_both before.told a.told b.told only.untouched untouched;
+    asked = counted ∙ ap (asking (map reading (asked job).captures)) only.asked ∙ asking_both (reading (asked job).function ∷ []) (map reading (asked job).captures) before.counted;
+  };
+}
+
+known_opening : (c : RunAsked) (told : Told) (f : Function) (first ports count : ℕ) (stop : NumberStop) → HasPorts c told f → 2 ≤ first → count ≤ ports → StopsFrom (first + 1) count stop → IsKnown c told (stop_named first ports stop)
+known_opening c told f first ports count numbered.Memory h two le from = tt
+known_opening c told f first ports count (numbered.File number) h two le from =
+    known_capture c told f first ports number (number - (first + 1)) h two (omega (arith, from.0)) (omega (arith, from.0, from.1, le))
+
+-- a capture could not be opened
+pub is_unopened : (before a b : Outside) (job : Job) (stop : NumberStop) → IsJob before.told job → HasOnlyAsked (reading (asked job).function ∷ []) before a → IsUntouched a.told b.told → StopsFrom (before.told.next + 1) (ports_of job) stop → AsksSome (map reading (asked job).captures) a.counted b.counted stop
+    → IsStopped (asked job) before b (stop_named before.told.next (ports_of job) stop)
+is_unopened before a b job stop is only untouched from asks = inl (record {
+  known = known_opening (asked job) before.told (function_of job.func.now) before.told.next (ports_of job) (ports_of job) stop is.has_ports (omega (arith, is.from_two, is.first)) (omega arith) from;
+  untouched = untouched_both before.told a.told b.told only.untouched untouched;
+  stops = stopped_asking (inputs_of (asked job)) (reading (asked job).function ∷ []) (map reading (asked job).captures) before.told.next (ports_of job) before.counted a.counted b.counted stop (λ front g. captures_front (asked job) front g) only.asked asks;
+})
+
+-- ---- the function
+
+-- the text could not be read
+unread_text : (c : RunAsked) (before b : Outside) (stop : Stop) → IsUntouched before.told b.told → IsTextCause c.function before.told.next before.counted b.counted stop → IsUnbegun c before b stop
+unread_text c before b (stops.File file) untouched cause = record {
+  known = subst (KnownAt c before.told) (sym cause.0) tt;
+  untouched = untouched;
+  stops = record {
+    front = reading c.function ∷ [];
+    is_front = record { later = map reading c.captures; whole = refl };
+    cause = record { number = before.told.next; faulted = cause.1; file_is = cause.0 ∙ sym (file_first before.told.next (length c.captures)) };
+  };
+}
+unread_text c before b stops.Memory untouched (inl same) = record {
+  known = tt;
+  untouched = untouched;
+  stops = record { front = []; is_front = record { later = inputs_of c; whole = refl }; cause = same ∙ asking_none before.counted };
+}
+unread_text c before b stops.Memory untouched (inr more) = record {
+  known = tt;
+  untouched = untouched;
+  stops = record { front = reading c.function ∷ []; is_front = record { later = map reading c.captures; whole = refl }; cause = more };
+}
+
+-- there is no function
+pub is_unfound : (c : RunAsked) (before b : Outside) (why : NoFunction) → IsUntouched before.told b.told → FindsFunction before.told c.function (Err why) → HasFoundCause c.function before.told.next before.counted b.counted (Err why) → RunsTo c before b (Err (unfound why))
+is_unfound c before b (none.Text fault) untouched finds cause = (finds, record { untouched = untouched; asked = cause })
+is_unfound c before b (none.Stop stop) untouched finds cause = inl (unread_text c before b stop untouched cause)

@@ -1,0 +1,239 @@
+-- A run whose packets were all handled, up to its end.
+use Rattle.std.proofs.Common.{◌≡◌, ◌≢◌, ◌⊎◌, inl, inr, ℕ, ◌+◌, ◌<◌, ◌≤◌, Bool, List, [], ◌∷◌, ◌++◌, length, map, Option, Some, None, Ok, Err, nat_le, if◌then◌else◌, refl, ap, sym, subst, ◌∙◌, append_assoc, append-nil, arith}
+use Rattle.std.specs.List.{range_with_len}
+use Rattle.std.proofs.lemmas.Bool.{lt-leb}
+use Rattle.std.proofs.lemmas.List.FromFn.{map-range_with_len_more}
+use Rattle.nf_base.specs.Functions.{function_of}
+use Rattle.nf_base.specs.Text.{Function}
+use Rattle.nf_base.specs.Runs.{RunResult}
+use Rattle.nf_base.specs.declared.state.State.{State}
+use Rattle.nf_files.specs.Told.{Told, Same, IsEmptyIfTold}
+use Rattle.nf_files.specs.Openings.{Creates}
+use Rattle.nf_files.specs.Pieces.{Gains}
+use Rattle.nf_files.specs.Writes.{Writes, WritesFront}
+use Rattle.nf_files.specs.Causes.{Counted, Asked, asking}
+use Rattle.run_history.specs.StateText.{state_text}
+use Rattle.stream_run.specs.Texts.{file_bytes, IsFrontOf as IsBytesFront}
+use Rattle.stream_run.specs.Runs.{Run, course_of}
+use Rattle.stream_run.specs.declared.stop.Stop.{Stop as NumberStop}
+use Rattle.stream_run.specs.declared.stop.Stop.TheVariants as numbered
+use Rattle.stream_run.specs.Writing.{IsStopCause, StopsAt}
+use Rattle.maestro_cli.specs.declared.job.Job.{Job}
+use Rattle.maestro_cli.specs.declared.status.End.{End}
+use Rattle.maestro_cli.specs.declared.status.Stop.{Stop}
+use Rattle.maestro_cli.specs.declared.status.Stop.TheVariants as stops
+use Rattle.maestro_cli.specs.declared.status.Halt.{Halt}
+use Rattle.maestro_cli.specs.declared.status.Halt.TheVariants as halts
+use Rattle.maestro_cli.specs.Outside.{Outside}
+use Rattle.maestro_cli.specs.Names.{name_at, writing, inputs_of, created_by, asked_by}
+use Rattle.maestro_cli.specs.Numbers.{stop_named, Stops, IsFrontOf}
+use Rattle.maestro_cli.specs.Created.{Left, bytes_at, state_bytes, text_of}
+use Rattle.maestro_cli.specs.Opened.{AsksNext}
+use Rattle.maestro_cli.specs.Ending.{HasLeft, IsFinished, IsFar, IsStopped, IsCutShort, RunsTo}
+use Rattle.maestro_cli.specs.Printed.{Printed, PrintedFront}
+use Rattle.maestro_cli.specs.Progress.{IsJob, HasRun, asked, ports_of}
+use Rattle.maestro_cli.specs.Texts.{ran_line}
+use Rattle.maestro_cli.proofs.Asking.{asking_both, front_all}
+use Rattle.maestro_cli.proofs.Printing.{printed_front}
+use Rattle.maestro_cli.proofs.Naming.{names_apart}
+use Rattle.maestro_cli.proofs.Leaving.{left_created, left_same, left_written, left_half, left_printed}
+use Rattle.maestro_cli.proofs.Numbering.{far_state, far_stdout}
+use Rattle.maestro_cli.proofs.Stopping.{stopped_behind, memory_behind, stopped_next, created_front}
+
+-- the files of a run have names of their own
+pub apart : (before : Told) (job : Job) → IsJob before job → (i j : ℕ) → i ≤ ports_of job + 1 → j ≤ ports_of job + 1 → i ≢ j → name_at (asked job).out (ports_of job) i ≢ name_at (asked job).out (ports_of job) j
+apart before job is i j within other ne = names_apart (asked job).out (ports_of job) i j (omega (arith, is.few, is.ports)) within other ne
+
+-- The state's text is what a run leaves in its last file.
+pub last_bytes : (before : Outside) (now : Outside) (job : Job) (packets : ℕ) (state : State) (end : End) (made full : ℕ) → (h : HasRun before now job packets state end made full) → bytes_at h.run (ports_of job + 1) ≡ state_text h.run.function state
+last_bytes before now job packets state end made full h =
+    ap (λ (b : Bool). if b then file_bytes h.run (ports_of job + 1) else state_bytes h.run) (lt-leb (ports_of job + 1) (length h.run.function.handlers) (omega (arith, h.is_run.has_ports.as_many)))
+    ∙ ap (text_of h.run.function) h.left
+
+-- ---- once all files are whole
+
+pub run_printed : (before a b : Outside) (job : Job) (packets : ℕ) (state : State) (end : End) (piece : List ℕ) → IsJob before.told job → HasRun before a job packets state end (ports_of job + 2) (ports_of job + 2) → a.told.name 0 ≡ None → piece ≡ ran_line packets → Writes a.told b.told 0 piece → b.counted ≡ a.counted → IsFinished (asked job) before b end
+run_printed before a b job packets state end piece is h unnamed line wrote counted =
+    let n = ports_of job in
+    record {
+      run = h.run;
+      is_run = h.is_run;
+      ending = h.ending;
+      files = left_printed before.told a.told b.told (before.told.next + 1 + n) (name_at (asked job).out n) (bytes_at h.run) (n + 2) (n + 2) 0 piece h.files (omega arith) (omega (arith, is.from_two, is.first)) unnamed wrote;
+      stdout = subst (λ (p : List ℕ). Gains p (before.told.given 0) (b.told.given 0)) (line ∙ ap ran_line (sym h.count)) (subst (λ o. Gains piece o (b.told.given 0)) h.stdout wrote.gained);
+      stderr = wrote.givens 1 (λ e. omega (arith, e)) ∙ h.stderr;
+      asked = counted ∙ h.asked_for;
+    }
+
+far_printed : (first ports : ℕ) (stop : NumberStop) (made full : ℕ) → 2 ≤ first → full ≡ ports + 2 → StopsAt {T = Unit {0}} 0 (Err stop) → IsFar ports (stop_named first ports stop) made full
+far_printed first ports numbered.Memory made full two whole at = tt
+far_printed first ports (numbered.File number) made full two whole at = subst (λ (g : ℕ). IsFar ports (stop_named first ports (numbered.File g)) made full) (sym at) (far_stdout first ports made full two whole)
+
+pub run_half_printed : (before a b : Outside) (job : Job) (packets : ℕ) (state : State) (end : End) (piece : List ℕ) (stop : NumberStop) → IsJob before.told job → HasRun before a job packets state end (ports_of job + 2) (ports_of job + 2) → a.told.name 0 ≡ None → piece ≡ ran_line packets → WritesFront a.told b.told 0 piece → StopsAt {T = Unit {0}} 0 (Err stop) → IsStopCause {T = Unit {0}} a.counted b.counted (Err stop)
+    → IsStopped (asked job) before b (stop_named before.told.next (ports_of job) stop)
+run_half_printed before a b job packets state end piece stop is h unnamed line wrote at cause =
+    let n = ports_of job in
+    let two : 2 ≤ before.told.next = omega (arith, is.from_two, is.first) in
+    let front = printed_front a.told b.told 0 piece wrote in
+    inr (record {
+      run = h.run;
+      is_run = h.is_run;
+      made = n + 2;
+      full = n + 2;
+      within = omega arith;
+      files = left_printed before.told a.told b.told (before.told.next + 1 + n) (name_at (asked job).out n) (bytes_at h.run) (n + 2) (n + 2) 0 _ h.files (omega arith) (omega (arith, two)) unnamed wrote.wrote;
+      far = far_printed before.told.next n stop (n + 2) (n + 2) two refl at;
+      last = λ lt. omega arith;
+      stdout = inr (
+        refl,
+        record {
+          front = front.front;
+          is_front = subst (λ (p : List ℕ). IsBytesFront p front.front) (line ∙ ap ran_line (sym h.count)) front.is_front;
+          printed = subst (λ o. Gains front.front o (b.told.given 0)) h.stdout front.printed;
+        },
+      );
+      stderr = wrote.wrote.givens 1 (λ e. omega (arith, e)) ∙ h.stderr;
+      stops = stopped_behind (asked_by (asked job)) (inputs_of (asked job) ++ created_by (asked job).out n (n + 2)) before.told.next n before.counted a.counted b.counted stop (front_all (asked_by (asked job))) h.asked_for cause;
+    })
+
+-- ---- the state
+
+one_more : (before now : Told) (base : ℕ) (name bytes : ℕ → List ℕ) (n : ℕ) → Left before now base name bytes (n + 2) (n + 1) → Left before now base name bytes (n + 1 + 1) (n + 1)
+one_more before now base name bytes n h = let e : n + 2 ≡ n + 1 + 1 = omega arith in subst (λ (m : ℕ). Left before now base name bytes m (n + 1)) e h
+
+one_less : (before now : Told) (base : ℕ) (name bytes : ℕ → List ℕ) (n : ℕ) → Left before now base name bytes (n + 1 + 1) (n + 1) → Left before now base name bytes (n + 2) (n + 1)
+one_less before now base name bytes n h = let e : n + 1 + 1 ≡ n + 2 = omega arith in subst (λ (m : ℕ). Left before now base name bytes m (n + 1)) e h
+
+two_more : (before now : Told) (base : ℕ) (name bytes : ℕ → List ℕ) (n : ℕ) → Left before now base name bytes (n + 1 + 1) (n + 1 + 1) → Left before now base name bytes (n + 2) (n + 2)
+two_more before now base name bytes n h = let e : n + 1 + 1 ≡ n + 2 = omega arith in subst (λ (m : ℕ). Left before now base name bytes m m) e h
+
+-- the state is whole
+pub state_written : (before a b : Outside) (job : Job) (packets : ℕ) (state : State) (end : End) (file : ℕ) (piece : List ℕ) → IsJob before.told job → (h : HasRun before a job packets state end (ports_of job + 2) (ports_of job + 1)) → IsEmptyIfTold (a.told.given file) → file ≡ before.told.next + 1 + ports_of job + (ports_of job + 1)
+    → piece ≡ state_text (function_of job.func.now) state → Writes a.told b.told file piece → b.counted ≡ a.counted → HasRun before b job packets state end (ports_of job + 2) (ports_of job + 2)
+state_written before a b job packets state end file piece is h empty at text wrote counted =
+    let n = ports_of job in
+    let two : 2 ≤ file = omega (arith, at) in
+    let bytes : piece ≡ bytes_at h.run (n + 1) = text ∙ ap (λ (f : Function). state_text f state) (sym h.of_function) ∙ sym (last_bytes before a job packets state end (n + 2) (n + 1) h) in
+    record {
+      run = h.run;
+      is_run = h.is_run;
+      of_function = h.of_function;
+      ending = h.ending;
+      files = two_more before.told b.told (before.told.next + 1 + n) (name_at (asked job).out n) (bytes_at h.run) n (left_written before.told a.told b.told (before.told.next + 1 + n) (name_at (asked job).out n) (bytes_at h.run) (n + 1) file (one_more before.told a.told (before.told.next + 1 + n) (name_at (asked job).out n) (bytes_at h.run) n h.files) empty at (λ k lt. apart before.told job is k (n + 1) (omega (arith, lt)) (omega arith) (λ e. omega (arith, e, lt))) (subst (λ (p : List ℕ). Writes a.told b.told file p) bytes wrote));
+      count = h.count;
+      answers = h.answers;
+      left = h.left;
+      stdout = wrote.givens 0 (λ e. omega (arith, e, two)) ∙ h.stdout;
+      stderr = wrote.givens 1 (λ e. omega (arith, e, two)) ∙ h.stderr;
+      asked_for = counted ∙ h.asked_for;
+    }
+
+far_at_state : (first ports number : ℕ) (stop : NumberStop) (made full : ℕ) → 2 ≤ first → number ≡ first + 1 + ports + (ports + 1) → ports + 1 ≤ full → StopsAt {T = Unit {0}} number (Err stop) → IsFar ports (stop_named first ports stop) made full
+far_at_state first ports number numbered.Memory made full two is whole at = tt
+far_at_state first ports number (numbered.File file) made full two is whole at = far_state first ports file made full two (at ∙ is) whole
+
+-- a front of the state was given to its file
+pub state_half_written : (before a b : Outside) (job : Job) (packets : ℕ) (state : State) (end : End) (file : ℕ) (piece : List ℕ) (stop : NumberStop) → IsJob before.told job → (h : HasRun before a job packets state end (ports_of job + 2) (ports_of job + 1)) → IsEmptyIfTold (a.told.given file) → file ≡ before.told.next + 1 + ports_of job + (ports_of job + 1)
+    → piece ≡ state_text (function_of job.func.now) state → WritesFront a.told b.told file piece → StopsAt {T = Unit {0}} file (Err stop) → IsStopCause {T = Unit {0}} a.counted b.counted (Err stop) → IsStopped (asked job) before b (stop_named before.told.next (ports_of job) stop)
+state_half_written before a b job packets state end file piece stop is h empty at text wrote stops_at cause =
+    let n = ports_of job in
+    let two : 2 ≤ before.told.next = omega (arith, is.from_two, is.first) in
+    let bytes : piece ≡ bytes_at h.run (n + 1) = text ∙ ap (λ (f : Function). state_text f state) (sym h.of_function) ∙ sym (last_bytes before a job packets state end (n + 2) (n + 1) h) in
+    inr (record {
+      run = h.run;
+      is_run = h.is_run;
+      made = n + 2;
+      full = n + 1;
+      within = omega arith;
+      files = one_less before.told b.told (before.told.next + 1 + n) (name_at (asked job).out n) (bytes_at h.run) n (left_half before.told a.told b.told (before.told.next + 1 + n) (name_at (asked job).out n) (bytes_at h.run) (n + 1) file (one_more before.told a.told (before.told.next + 1 + n) (name_at (asked job).out n) (bytes_at h.run) n h.files) empty at (λ k lt. apart before.told job is k (n + 1) (omega (arith, lt)) (omega arith) (λ e. omega (arith, e, lt))) (subst (λ (p : List ℕ). WritesFront a.told b.told file p) bytes wrote));
+      far = far_at_state before.told.next n file stop (n + 2) (n + 1) two at (omega arith) stops_at;
+      last = λ lt. omega arith;
+      stdout = inl (wrote.wrote.givens 0 (λ e. omega (arith, e, at)) ∙ h.stdout);
+      stderr = wrote.wrote.givens 1 (λ e. omega (arith, e, at)) ∙ h.stderr;
+      stops = stopped_behind (asked_by (asked job)) (inputs_of (asked job) ++ created_by (asked job).out n (n + 2)) before.told.next n before.counted a.counted b.counted stop (front_all (asked_by (asked job))) h.asked_for cause;
+    })
+
+-- memory ran out
+pub run_starved : (before a : Outside) (job : Job) (packets : ℕ) (state : State) (end : End) (made full : ℕ) → made ≤ ports_of job + 2 → (ports_of job + 1 < made → ports_of job + 1 ≤ full) → HasRun before a job packets state end made full → IsStopped (asked job) before a stops.Memory
+run_starved before a job packets state end made full within last h =
+    let n = ports_of job in
+    inr (record {
+      run = h.run;
+      is_run = h.is_run;
+      made = made;
+      full = full;
+      within = within;
+      files = h.files;
+      far = tt;
+      last = last;
+      stdout = inl h.stdout;
+      stderr = h.stderr;
+      stops = memory_behind (asked_by (asked job)) (inputs_of (asked job) ++ created_by (asked job).out n made) before.told.next n before.counted a.counted (created_front (asked job) made within) h.asked_for;
+    })
+
+-- one name more is asked for
+created_next : (out : List ℕ) (n made : ℕ) → created_by out n made ++ writing (name_at out n made) ∷ [] ≡ created_by out n (made + 1)
+created_next out n made = sym (map-range_with_len_more (λ k. writing (name_at out n k)) 0 made made (omega arith))
+
+asked_next : (inputs : List Asked) (out : List ℕ) (n made : ℕ) → (inputs ++ created_by out n made) ++ writing (name_at out n made) ∷ [] ≡ inputs ++ created_by out n (made + 1)
+asked_next inputs out n made = append_assoc inputs (created_by out n made) (writing (name_at out n made) ∷ []) ∙ ap (λ (t : List Asked). inputs ++ t) (created_next out n made)
+
+-- the state's file was created
+pub state_created : (before a b : Outside) (job : Job) (packets : ℕ) (state : State) (end : End) (file : ℕ) → IsJob before.told job → HasRun before a job packets state end (ports_of job + 1) (ports_of job + 1) → Creates a.told b.told (name_at (asked job).out (ports_of job) (ports_of job + 1)) file
+    → b.counted ≡ asking (writing (name_at (asked job).out (ports_of job) (ports_of job + 1)) ∷ []) a.counted → HasRun before b job packets state end (ports_of job + 2) (ports_of job + 1)
+state_created before a b job packets state end file is h created counted =
+    let n = ports_of job in
+    let two : 2 ≤ file = created.from_two in
+    let more : n + 1 + 1 ≡ n + 2 = omega arith in
+    record {
+      run = h.run;
+      is_run = h.is_run;
+      of_function = h.of_function;
+      ending = h.ending;
+      files = subst (λ (m : ℕ). Left before.told b.told (before.told.next + 1 + n) (name_at (asked job).out n) (bytes_at h.run) m (n + 1)) more
+          (left_created before.told a.told b.told (before.told.next + 1 + n) (name_at (asked job).out n) (bytes_at h.run) (n + 1) (n + 1) file h.files created (λ k lt. apart before.told job is k (n + 1) (omega (arith, lt)) (omega arith) (λ e. omega (arith, e, lt))));
+      count = h.count;
+      answers = h.answers;
+      left = h.left;
+      stdout = created.givens 0 (λ e. omega (arith, e, two)) ∙ h.stdout;
+      stderr = created.givens 1 (λ e. omega (arith, e, two)) ∙ h.stderr;
+      asked_for = counted ∙ ap (asking (writing (name_at (asked job).out n (n + 1)) ∷ [])) h.asked_for
+          ∙ asking_both (inputs_of (asked job) ++ created_by (asked job).out n (n + 1)) (writing (name_at (asked job).out n (n + 1)) ∷ []) before.counted
+          ∙ ap (λ (t : List Asked). asking t before.counted) (asked_next (inputs_of (asked job)) (asked job).out n (n + 1) ∙ ap (λ (m : ℕ). inputs_of (asked job) ++ created_by (asked job).out n m) more);
+    }
+
+far_creating : (first ports number : ℕ) (stop : NumberStop) (made full : ℕ) (old new : Counted) (one : Asked) → 2 ≤ first → number ≡ first + 1 + ports + (ports + 1) → ports + 1 ≤ full → AsksNext {T = ℕ} one number old new (Err stop) → IsFar ports (stop_named first ports stop) made full
+far_creating first ports number numbered.Memory made full old new one two is whole h = tt
+far_creating first ports number (numbered.File file) made full old new one two is whole h = far_state first ports file made full two (h.0 ∙ is) whole
+
+-- the state's file could not be created
+pub state_uncreated : (before a b : Outside) (job : Job) (packets : ℕ) (state : State) (end : End) (number : ℕ) (stop : NumberStop) → IsJob before.told job → HasRun before a job packets state end (ports_of job + 1) (ports_of job + 1) → Same a.told b.told → a.told.next ≡ number
+    → AsksNext {T = ℕ} (writing (name_at (asked job).out (ports_of job) (ports_of job + 1))) number a.counted b.counted (Err stop) → IsStopped (asked job) before b (stop_named before.told.next (ports_of job) stop)
+state_uncreated before a b job packets state end number stop is h same at asks =
+    let n = ports_of job in
+    let two : 2 ≤ before.told.next = omega (arith, is.from_two, is.first) in
+    let more : n + 1 + 1 ≡ n + 2 = omega arith in
+    inr (record {
+      run = h.run;
+      is_run = h.is_run;
+      made = n + 1;
+      full = n + 1;
+      within = omega arith;
+      files = left_same before.told a.told b.told (before.told.next + 1 + n) (name_at (asked job).out n) (bytes_at h.run) (n + 1) (n + 1) h.files same;
+      far = far_creating before.told.next n number stop (n + 1) (n + 1) a.counted b.counted _ two (sym at ∙ h.files.next) (omega arith) asks;
+      last = λ lt. omega arith;
+      stdout = inl (same.givens 0 ∙ h.stdout);
+      stderr = same.givens 1 ∙ h.stderr;
+      stops = stopped_next (asked_by (asked job)) (inputs_of (asked job) ++ created_by (asked job).out n (n + 1)) (writing (name_at (asked job).out n (n + 1))) number before.told.next n before.counted a.counted b.counted stop
+          (created_front (asked job) (n + 1) (omega arith))
+          (subst (λ (t : List Asked). IsFrontOf (asked_by (asked job)) t) (sym (asked_next (inputs_of (asked job)) (asked job).out n (n + 1)))
+          (subst (λ (m : ℕ). IsFrontOf (asked_by (asked job)) (inputs_of (asked job) ++ created_by (asked job).out n m)) (sym more) (front_all (asked_by (asked job)))))
+          h.asked_for asks;
+    })
+
+-- a stop, by the numbers of a job
+pub halted : (before b : Outside) (job : Job) (stop : NumberStop) (halt : Halt) → IsJob before.told job → halt ≡ halts.Stop (stop_named job.numbers.first job.numbers.ports stop) → IsStopped (asked job) before b (stop_named before.told.next (ports_of job) stop) → RunsTo (asked job) before b (Err halt)
+halted before b job stop halt is e h =
+    let named : stop_named job.numbers.first job.numbers.ports stop ≡ stop_named before.told.next (ports_of job) stop =
+    ap (λ (n : ℕ). stop_named n job.numbers.ports stop) is.first ∙ ap (λ (n : ℕ). stop_named before.told.next n stop) is.ports in
+    subst (λ (x : Halt). RunsTo (asked job) before b (Err x)) (sym e) (subst (λ (s : Stop). IsStopped (asked job) before b s) (sym named) h)

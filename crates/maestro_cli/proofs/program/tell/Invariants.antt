@@ -1,4 +1,0 @@
-use Rattle.maestro_cli.proofs.program.tell.Given as goal
-
-abbrev pub ghost-complain : goal.ghost-complain
-ghost-complain g a = g.begun.start

@@ -1,4 +1,0 @@
-use Rattle.maestro_cli.proofs.say.print.Given as goal
-
-abbrev pub ghost-say : goal.ghost-say
-ghost-say g a = g.start

@@ -1,4 +1,0 @@
-use Rattle.maestro_cli.proofs.writing.create_state.Given as goal
-
-abbrev pub ghost-create : goal.ghost-create
-ghost-create g a = g.start

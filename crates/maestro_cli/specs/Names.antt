@@ -1,0 +1,45 @@
+-- The names that a command asks for, in their order: the function's text, the captures in the order of
+-- their ports, then the outputs in the order of their ports, the journal, and the state last.
+use Rattle.std.specs.Prelude.{ℕ, ◌+◌, List, [], ◌∷◌, ◌++◌, length, map, codes, decimal, nat_lt, nat_eq, if◌then◌else◌}
+use Rattle.std.specs.List.{range_with_len}
+use Rattle.nf_files.specs.declared.kind.Kind.TheVariants.{Input, Output}
+use Rattle.nf_files.specs.Causes.{Asked}
+use Rattle.command_words.specs.Commands.{Run as RunAsked}
+
+-- the name of the output capture of a port, behind the front that the command gives: `.0.pcap` and so on
+abbrev pub output_name : List ℕ → ℕ → List ℕ
+output_name out port = out ++ codes "." ++ decimal port ++ codes ".pcap"
+
+-- the name of the journal
+abbrev pub journal_name : List ℕ → List ℕ
+journal_name out = out ++ codes ".journal"
+
+-- the name of the last state's text
+abbrev pub state_name : List ℕ → List ℕ
+state_name out = out ++ codes ".state"
+
+-- the name of the file that a run of so many ports creates behind so many others
+unfoldable pub name_at : List ℕ → ℕ → ℕ → List ℕ
+name_at out ports k =
+    if nat_lt k ports then output_name out k
+    else if nat_eq k ports then journal_name out
+    else state_name out
+
+-- a name that is asked for to be read, and one to be written
+abbrev pub reading : List ℕ → Asked
+reading n = record { name = n; kind = Input }
+
+abbrev pub writing : List ℕ → Asked
+writing n = record { name = n; kind = Output }
+
+-- the names that a run reads
+abbrev pub inputs_of : RunAsked → List Asked
+inputs_of c = reading c.function ∷ map reading c.captures
+
+-- the first so many names that a run of so many ports creates
+abbrev pub created_by : List ℕ → ℕ → ℕ → List Asked
+created_by out ports count = map (λ k. writing (name_at out ports k)) (range_with_len 0 count)
+
+-- all names that a run asks for
+abbrev pub asked_by : RunAsked → List Asked
+asked_by c = inputs_of c ++ created_by c.out (length c.captures) (length c.captures + 2)

@@ -1,0 +1,128 @@
+-- How far a run came, before its end.
+use Rattle.std.specs.Prelude.{◌≡◌, ◌≢◌, ◌⊎◌, ℕ, ◌+◌, ◌<◌, ◌≤◌, List, [], ◌∷◌, ◌++◌, length, map, Option, Some, None, slice_get, if◌then◌else◌}
+use Rattle.nf_base.specs.Functions.{function_of}
+use Rattle.nf_base.specs.declared.done.Done.{Done}
+use Rattle.nf_base.specs.declared.state.State.{State}
+use Rattle.nf_base.specs.declared.func.Func.{Func}
+use Rattle.nf_files.specs.Told.{Told}
+use Rattle.nf_files.specs.Causes.{asking}
+use Rattle.packet_feed.specs.Told.{EachFile, IsApart}
+use Rattle.packet_feed.specs.Sources.{files_in}
+use Rattle.packet_feed.specs.Feeding.{Feeding, StandsFor}
+use Rattle.stream_run.specs.Runs.{Run, course_of}
+use Rattle.stream_run.specs.declared.ending.Ending.{Ending}
+use Rattle.stream_run.specs.declared.ending.Ending.TheVariants as ending
+use Rattle.command_words.specs.Commands.{Run as RunAsked}
+use Rattle.command_words.specs.View as view
+use Rattle.packet_feed.specs.declared.fault.FeedFault.{FeedFault}
+use Rattle.packet_feed.specs.declared.fault.FeedFault.TheVariants as feed
+use Rattle.stream_run.specs.declared.stop.Stop.TheVariants as numbered
+use Rattle.maestro_cli.specs.declared.numbers.Numbers.{Numbers}
+use Rattle.maestro_cli.specs.declared.status.Refusal.TheVariants as refusals
+use Rattle.maestro_cli.specs.declared.status.Stop.TheVariants as stops
+use Rattle.maestro_cli.specs.declared.status.Halt.{Halt}
+use Rattle.maestro_cli.specs.declared.status.Halt.TheVariants as halts
+use Rattle.maestro_cli.specs.Numbers.{stop_named}
+use Rattle.maestro_cli.specs.declared.loading.NoFunction.{NoFunction}
+use Rattle.maestro_cli.specs.declared.loading.NoFunction.TheVariants as none
+use Rattle.maestro_cli.specs.declared.loading.Found.{Found}
+use Rattle.maestro_cli.specs.declared.job.Job.{Job}
+use Rattle.maestro_cli.specs.declared.status.End.{End}
+use Rattle.maestro_cli.specs.declared.status.End.TheVariants.{Whole, Torn, TooMany}
+use Rattle.maestro_cli.specs.Outside.{Outside, IsUntouched, HasOnlyAsked}
+use Rattle.maestro_cli.specs.Names.{reading, inputs_of, created_by, name_at}
+use Rattle.maestro_cli.specs.Source.{IsFunctionUnder}
+use Rattle.maestro_cli.specs.Opened.{AreAllCreated}
+use Rattle.maestro_cli.specs.Runs.{HasPorts, IsRunOf, IsEndOf}
+use Rattle.maestro_cli.specs.Ending.{HasLeft}
+
+-- the function was read
+pub record HasFound (c : RunAsked) (before now : Outside) (found : Found) : Type 0 where
+  pub is_function : IsFunctionUnder before.told c.function (function_of found.source.func)
+  pub number : found.file ≡ before.told.next
+  pub from_two : 2 ≤ found.file
+  pub next : now.told.next ≡ before.told.next + 1
+  pub only : HasOnlyAsked (reading c.function ∷ []) before now
+
+-- what a job is: the run that a command asks for, with its function and the numbers of its files
+pub record IsJob (before : Told) (job : Job) : Type 0 where
+  pub has_ports : HasPorts (view.run job.command.now) before (function_of job.func.now)
+  pub handlers : length job.func.now.handlers ≡ job.numbers.ports
+  pub first : job.numbers.first ≡ before.next
+  pub from_two : 2 ≤ job.numbers.first
+  pub ports : job.numbers.ports ≡ length (view.run job.command.now).captures
+  pub some : 1 ≤ job.numbers.ports
+  pub few : job.numbers.ports ≤ 4
+
+-- the run that a job is of
+abbrev pub asked : Job → RunAsked
+asked job = view.run job.command.now
+
+-- how many ports it has
+abbrev pub ports_of : Job → ℕ
+ports_of job = length (asked job).captures
+
+-- The captures were opened, and nothing of them was read yet.
+pub record HasOpened (before now : Outside) (job : Job) (captures : List ℕ) : Type 0 where
+  pub next : now.told.next ≡ before.told.next + 1 + length captures
+  pub all : length captures ≡ ports_of job
+  pub numbers : (i f : ℕ) → slice_get captures i ≡ Some f → f ≡ before.told.next + 1 + i
+  pub rests : (i f : ℕ) (n : List ℕ) → slice_get captures i ≡ Some f → slice_get (asked job).captures i ≡ Some n → now.told.rest f ≡ before.told.content n
+  pub only : HasOnlyAsked (inputs_of (asked job)) before now
+
+-- Their headers were read: a feed stands for what stood under their names, and gave no packet yet.
+pub record HasFed (before now : Outside) (job : Job) (captures : List ℕ) (feed : Feeding) : Type 0 where
+  pub start : Told
+  pub rests : (i f : ℕ) (n : List ℕ) → slice_get captures i ≡ Some f → slice_get (asked job).captures i ≡ Some n → start.rest f ≡ before.told.content n
+  pub stands : StandsFor start [] feed now.told
+  pub files : files_in feed.sources ≡ captures
+  pub most : feed.most ≡ (asked job).most
+  pub next : now.told.next ≡ before.told.next + 1 + length captures
+  pub all : length captures ≡ ports_of job
+  pub numbers : (i f : ℕ) → slice_get captures i ≡ Some f → f ≡ before.told.next + 1 + i
+  pub only : HasOnlyAsked (inputs_of (asked job)) before now
+
+-- The outputs and the journal were created, and nothing was given to them yet.
+pub record HasReady (before now : Outside) (job : Job) (captures targets : List ℕ) (feed : Feeding) : Type 0 where
+  pub old : Outside
+  pub fed : HasFed before old job captures feed
+  pub created : AreAllCreated old.told now.told (name_at (asked job).out (ports_of job)) targets (ports_of job + 1)
+  pub asked_for : now.counted ≡ asking (created_by (asked job).out (ports_of job) (ports_of job + 1)) old.counted
+
+-- how a run ends, by how its packets ended and by the first torn capture
+abbrev pub torn_end : Option (ℕ × ℕ) → End
+torn_end None = Whole
+torn_end (Some tear) = Torn tear.0 tear.1
+
+abbrev pub end_of : ℕ → Ending → Option (ℕ × ℕ) → End
+end_of most ending.All tear = torn_end tear
+end_of most ending.TooMany tear = TooMany most
+
+-- All packets were handled; so many files were created, and so many of these are whole.
+pub record HasRun (before now : Outside) (job : Job) (packets : ℕ) (state : State) (end : End) (made full : ℕ) : Type 0 where
+  pub run : Run
+  pub is_run : IsRunOf (asked job) before.told run
+  pub of_function : run.function ≡ function_of job.func.now
+  pub ending : IsEndOf (asked job) before.told run end
+  pub files : HasLeft (asked job) before now run made full
+  pub count : length run.turns ≡ packets
+  pub answers : List Done
+  pub left : course_of run ≡ Some (record { state = state; answers = answers })
+  pub stdout : now.told.given 0 ≡ before.told.given 0
+  pub stderr : now.told.given 1 ≡ before.told.given 1
+  pub asked_for : now.counted ≡ asking (inputs_of (asked job) ++ created_by (asked job).out (ports_of job) made) before.counted
+
+-- why captures can't be read, for a run
+abbrev pub stop_on : Numbers → Option ℕ → Halt
+stop_on numbers None = halts.Stop stops.Memory
+stop_on numbers (Some file) = halts.Stop (stop_named numbers.first numbers.ports (numbered.File file))
+
+abbrev pub unfed : Numbers → List ℕ → FeedFault → Halt
+unfed numbers captures (feed.NotCapture port) = halts.Refusal (refusals.NotCapture port)
+unfed numbers captures (feed.File port) = stop_on numbers (slice_get captures port)
+unfed numbers captures feed.Memory = halts.Stop stops.Memory
+
+-- why there is no function under a name, for a run
+abbrev pub unfound : NoFunction → Halt
+unfound (none.Text fault) = halts.Refusal (refusals.Text fault)
+unfound (none.Stop stop) = halts.Stop stop

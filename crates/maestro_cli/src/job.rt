@@ -1,0 +1,13 @@
+//! A run that is to be done.
+
+use crate::numbers::Numbers;
+use command_words::RunCommand;
+use nf_base::func::Func;
+
+/// A run that is to be done: what was asked for, the function, and the numbers of its files.
+#[derive(Drop)]
+pub struct Job<'a> {
+    pub command: &'a RunCommand,
+    pub func: &'a Func,
+    pub numbers: Numbers,
+}
