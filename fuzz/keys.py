@@ -83,8 +83,8 @@ def toeplitz(hashing, key, given):
 
 # ---- linear algebra
 class Solutions:
-    """The solutions of equations with the sum 0 in so many unknowns. An equation is a vector over them. Each that is kept
-    says what its last unknown is by those before, and has another last one than the others."""
+    """The solutions of equations with the sum 0 in so many unknowns. An equation is a vector over them. Each that is
+    kept says what its last unknown is by those before, and has another last one than the others."""
 
     def __init__(self, unknowns):
         self.unknowns, self.rows = unknowns, {}
