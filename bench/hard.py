@@ -91,6 +91,12 @@ def writes_on_many_paths(most=LONGEST):
     return repeated(front, ["a[dst_port]=1;"], most=most)
 
 
+def writes_in_tests(most=LONGEST):
+    """The same, in tests of twelve texts in turn, so that each path is as long as the text."""
+    parts = [f"if src_port<{number}{{a[dst_port]=1;}}" for number in range(12)]
+    return repeated("nf tests { ports 1; array a 65536 : 64; on 0 { ", parts, most=most)
+
+
 def functions():
     """Each function's name and text, and a short text with the same places where its own is too long to be analysed
     a second time."""
@@ -103,4 +109,5 @@ def functions():
         ("1 MiB of reads by one field", reads("dst_port"), None),
         ("1 MiB of reads by two fields", reads("dst_port", "src_port"), None),
         ("1 MiB of writes on 4,096 paths", writes_on_many_paths(), writes_on_many_paths(most=400)),
+        ("1 MiB of tests and writes on 4,096 paths", writes_in_tests(), writes_in_tests(most=500)),
     ]

@@ -83,51 +83,46 @@ def toeplitz(hashing, key, given):
 
 # ---- linear algebra
 class Solutions:
-    """The solutions of equations in so many unknowns. An equation is a vector over them, with its constant behind."""
+    """The solutions of equations with the sum 0 in so many unknowns. An equation is a vector over them. Each that is
+    kept says what its last unknown is by those before, and has another last one than the others."""
 
     def __init__(self, unknowns):
-        self.unknowns, self.rows, self.none = unknowns, {}, False
+        self.unknowns, self.rows = unknowns, {}
 
     def copy(self):
         made = Solutions(self.unknowns)
-        made.rows, made.none = dict(self.rows), self.none
+        made.rows = dict(self.rows)
         return made
 
-    def reduced(self, row):
-        """What an equation says beyond those that are there."""
-        kept = 0
-        while row:
-            lowest = row & -row
-            known = self.rows.get(lowest)
-            if known is None:
-                kept |= lowest
-                row ^= lowest
-            else:
-                row ^= known
-        return kept
-
     def add(self, row):
-        row = self.reduced(row)
-        lowest = row & -row
-        if lowest == 1 << self.unknowns:
-            self.none = True
-        elif row:
-            self.rows[lowest] = row
+        while row:
+            last = row.bit_length() - 1
+            if last not in self.rows:
+                self.rows[last] = row
+                return
+            row ^= self.rows[last]
 
-    def count(self):
-        """How many there are."""
-        return 0 if self.none else 1 << self.unknowns - len(self.rows)
+    def may_have(self, found, at, value):
+        """Whether this may be the value of an unknown behind those that were found before."""
+        row = self.rows.get(at)
+        return row is None or (row & (found | value << at)).bit_count() % 2 == 0
+
+    def free(self):
+        """How many unknowns are free from each one on."""
+        found = [0]
+        for at in reversed(range(self.unknowns)):
+            found.append(found[-1] + (at not in self.rows))
+        return found[::-1]
 
     def basis(self):
-        """A basis of them, where all constants are 0."""
-        free = [1 << at for at in range(self.unknowns) if 1 << at not in self.rows]
         found = []
-        for one in free:
-            # Rows by falling pivot: each has its pivot and later unknowns alone.
-            for pivot in sorted(self.rows, reverse=True):
-                if (self.rows[pivot] & one).bit_count() & 1:
-                    one |= pivot
-            found.append(one)
+        for free in range(self.unknowns):
+            one = 1 << free
+            if free not in self.rows:
+                for last in sorted(self.rows):
+                    if (self.rows[last] & one).bit_count() % 2:
+                        one |= 1 << last
+                found.append(one)
         return found
 
 
@@ -147,9 +142,9 @@ def signed_solutions(unknowns, rows, groups):
     return signed
 
 
-def count(signed):
+def count(unknowns, rows, groups):
     """How many solutions have a 1 in each group."""
-    return sum(sign * of.count() for sign, of in signed)
+    return sum(sign << of.free()[0] for sign, of in signed_solutions(unknowns, rows, groups))
 
 
 def nearest(unknowns, rows, default, groups):
@@ -157,29 +152,19 @@ def nearest(unknowns, rows, default, groups):
 
     So read, each unknown is the default's unless no solution with a 1 in each group has it behind those before.
     """
-    signed = signed_solutions(unknowns, rows, groups)
-    if not count(signed):
+    signed = [(sign, of, of.free()) for sign, of in signed_solutions(unknowns, rows, groups)]
+    if not sum(sign << free[0] for sign, _, free in signed):
         return None
     found = 0
     for at in range(unknowns):
         wanted = default >> at & 1
         for value in (wanted, 1 - wanted):
-            tried = [(sign, with_equation(of, 1 << at | value << unknowns)) for sign, of in signed if not of.none]
-            if count(tried):
+            tried = [it for it in signed if it[1].may_have(found, at, value)]
+            if sum(sign << free[at + 1] for sign, _, free in tried):
                 break
         signed = tried
         found |= value << at
     return found
-
-
-def with_equation(solutions, row):
-    """The solutions that an equation holds of too. Those given are changed only where it leaves none."""
-    row = solutions.reduced(row)
-    if not row:
-        return solutions
-    made = solutions.copy()
-    made.add(row)
-    return made
 
 
 # ---- keys
@@ -214,11 +199,10 @@ def alike(hashing, objects):
 def equations(hashing, pairs):
     """What keys have to satisfy under which these pairs of inputs hash alike: port p's bit i is unknown
     p * positions + i."""
-    found = set()
+    found, each = set(), hashing.positions
     for port, one, other, two in pairs:
-        for j in range(hashing.bits):
-            shift = hashing.positions
-            found.add((one << j << port * shift) ^ (two << j << other * shift))
+        at_first = one << port * each ^ two << other * each
+        found.update(at_first << j for j in range(hashing.bits))
     return found - {0}
 
 

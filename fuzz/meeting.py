@@ -113,7 +113,7 @@ def apart(analysis, hash_of, packets, events):
     written = {it.name for it in analysis.objects.values() if it.written}
     by_place, hashes, inputs = defaultdict(list), [], []
     for number, (port, fields, places) in enumerate(packets):
-        inputs.append(input_of(RSS, fields))
+        inputs.append([fields[name] for name, _ in RSS.fields])
         hashes.append(hash_of(port, fields))
         for place in places:
             if place[0] in written:
