@@ -4,3 +4,4 @@ pub mod Machines
 pub mod Taking
 pub mod Giving
 pub mod Keyed
+pub mod Played

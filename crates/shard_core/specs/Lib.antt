@@ -2,3 +2,4 @@ pub mod Fifos
 pub mod Held
 pub mod Sharded
 pub mod Keyed
+pub mod Plays

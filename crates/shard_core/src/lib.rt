@@ -5,6 +5,7 @@
 mod collected;
 mod fifo;
 pub mod laws;
+mod playing;
 mod shards;
 mod worker;
 
