@@ -1,0 +1,20 @@
+-- The end of the history.
+use Rattle.std.specs.Prelude.{◌≡◌, ℕ, ◌<◌, List, length, get_or}
+use Rattle.nf_base.specs.Text.{Function}
+use Rattle.vig_tables.specs.TablesState.{TablesState}
+use Rattle.lock_core.specs.declared.call.Entry.{Entry}
+use Rattle.lock_core.specs.Calls.{count_of}
+use Rattle.lock_mode.specs.Sides.{RanTo}
+
+-- by seat, how many entries of a history are the seat's
+abbrev pub AreCounts : List Entry → List ℕ → Type 0
+AreCounts entries counts =
+    (seat d : ℕ) → seat < length counts → get_or counts seat d ≡ count_of seat entries
+
+-- tables where a history ends, and how many of its entries each of so many seats has
+pub record IsTail (f of_tail : Function) (seats : ℕ) (t : TablesState) (entries : List Entry)
+    (counts : List ℕ) : Type 0 where
+  pub same : of_tail ≡ f
+  pub each : length counts ≡ seats
+  pub ran : RanTo f t entries
+  pub counted : AreCounts entries counts

@@ -1,0 +1,136 @@
+//! What lies under the writer's lock: the writer, and the end of the history.
+ghost use Rattle.std.specs.Prelude.{◌≡◌, ◌<◌, ◌+◌, ◌^◌, ◌++◌, ◌∷◌, [], length, drop, true, IfOk, OnErr};
+ghost use Rattle.lock_core.specs.Events.{IsStep};
+ghost use mathlib.Core.List.{IsPrefix};
+ghost use Rattle.lock_core.specs.Calls.{count_of};
+ghost use Rattle.lock_mode.specs.Alone.{IsAlone};
+
+use crate::book::{Book, Front, Naming};
+use crate::rule::{Rising, Seeing, TableWriter};
+use crate::side::{Op, Side};
+use crate::tail::Tail;
+use crate::viewer::until;
+use core::mem::replace_with;
+use crossbeam_utils::rule::Protocol;
+use left_right::Absorb;
+use lock_core::{Placed, again};
+use nf_base::packet::Packet;
+use std::alloc::AllocError;
+use std::sync::Wait;
+use std::thread;
+
+/// The writer, which has published all of the history. It is not `Drop`.
+pub struct Desk<J: Naming>
+where
+    Side<J>: Absorb<Op<J>>,
+    Rising: Protocol<Side<J>, u64>,
+{
+    writer: TableWriter<J>,
+    tail: Tail<J>,
+    book: Book<J>,
+    pub ghost settled: { drop writer.behind writer.log.items ≡ [] },
+    pub ghost same: { writer.desk.shown.value.0 ≡ tail },
+    pub ghost whole: { writer.desk.shown.value.1 ≡ true },
+}
+
+/// Waits until an operation stands in the writer's list.
+fn append_waiting<J: Naming, R: Wait>(rt: &R, writer: &mut TableWriter<J>, op: Op<J>)
+    ensures desk { writer.new.desk ≡ writer.old.desk }
+    ensures pending { drop writer.new.behind writer.new.log.items
+        ≡ drop writer.old.behind writer.old.log.items ++ op ∷ [] }
+{
+    let mut op = op;
+    for _ in rt.forever() {
+        match writer.append(op) {
+            Ok(()) => return,
+            Err(back) => op = back,
+        }
+        thread::yield_now();
+    }
+    unreachable!()
+}
+
+impl<J: Naming> Desk<J> {
+    /// Handles a packet of a seat at the end of the history, and publishes the tables behind it.
+    ///
+    /// `Err` comes before anything is done.
+    pub fn alone<R: Wait>(
+        self,
+        rt: &R,
+        seat: u32,
+        packet: &Packet,
+    ) -> (Desk<J>, Result<Placed, AllocError>)
+        requires seat { seat < J.seats }
+        requires port { packet.now.id.port < length J.function.handlers }
+        ensures place { IfOk result.1 (λ placed. placed.place ≡ length self.tail) }
+        ensures steps { IfOk result.1 (λ placed.
+            IsStep J.function self.tail packet.now placed.done) }
+        ensures history { IfOk result.1 (λ placed. result.0.tail ≡ self.tail
+            ++ (record { seat = seat; number = count_of seat self.tail; packet = packet.now; done = placed.done }) ∷ []) }
+        ensures same { OnErr result.1 (result.0.tail ≡ self.tail) }
+    {
+        let place = self.tail.len();
+        if place >= 1 << 32 {
+            return (self, Err(AllocError));
+        }
+        let Desk {
+            mut writer,
+            mut tail,
+            book,
+        } = self;
+        let entry = tail.alone(rt, &book, seat, packet);
+        let done = again(&entry.done);
+        append_waiting(rt, &mut writer, Op::new(tail.seen(), entry));
+        let (writer, published) = writer.publish_as::<Seeing, R>(rt);
+        match published {
+            Ok(()) => (Desk { writer, tail, book }, Ok(Placed { place, done })),
+            Err(_) => unreachable!(),
+        }
+    }
+}
+
+/// Waits until what was seen is not more than there is: then the history begins with it.
+fn wait_for<J: Naming, R: Wait>(rt: &R, seen: &Front<J>, tail: &Tail<J>)
+    ensures { IsPrefix seen.now tail.now }
+{
+    for _ in rt.forever() {
+        if seen.len() <= tail.len() {
+            let _front = until(seen, tail.seen());
+            return;
+        }
+        thread::yield_now();
+    }
+    unreachable!()
+}
+
+impl<J: Naming> Desk<J> {
+    /// Handles a packet of a seat behind all that the seat has seen, and tells the history then.
+    pub fn place<R: Wait>(
+        &mut self,
+        rt: &R,
+        seen: &Front<J>,
+        seat: u32,
+        packet: &Packet,
+    ) -> Result<(Placed, Front<J>), AllocError>
+        requires seat { seat < J.seats }
+        requires port { packet.now.id.port < length J.function.handlers }
+        ensures { IfOk result (λ r. IsAlone J.function seen.now seat packet.now r.0 r.1) }
+    {
+        wait_for(rt, seen, &self.tail);
+        let placed = replace_with(self, rt, |desk, rt| desk.alone(rt, seat, packet));
+        match placed {
+            Ok(placed) => Ok((placed, self.tail.seen())),
+            Err(refused) => Err(refused),
+        }
+    }
+
+    /// Ends the writer, which waits for those that are in the tables.
+    pub fn end<R: Wait>(self, rt: &R) {
+        let Desk {
+            writer,
+            tail: _tail,
+            book: _book,
+        } = self;
+        let _side = writer.take(rt);
+    }
+}

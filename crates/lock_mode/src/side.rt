@@ -1,0 +1,115 @@
+//! One of the two copies of the tables.
+ghost use Rattle.std.specs.Prelude.{◌≡◌, ◌<◌, true, length};
+ghost use Rattle.nf_engine.specs.Looks.{IfDone, IfNeedsWrite};
+ghost use Rattle.lock_core.specs.Events.{IsLook, IsQuietBehind};
+ghost use Rattle.lock_mode.specs.Sides.{IsNext};
+
+use crate::book::{Front, Naming};
+use left_right::Absorb;
+use lock_core::Entry;
+use nf_base::func::Func;
+use nf_base::packet::Packet;
+use nf_engine::{Look, look, replay};
+use std::alloc::AllocError;
+use std::marker::Model;
+use vig_tables::Tables;
+
+/// What the writer publishes: the history with one entry more, and that entry.
+#[derive(Drop)]
+pub struct Op<J: Naming> {
+    front: Front<J>,
+    entry: Entry,
+}
+
+impl<J: Naming> Model for Op<J> {
+    ghost use Rattle.std.specs.Prelude.{List};
+    ghost use Rattle.lock_core.specs.declared.call.Entry.{Entry};
+    ghost use Rattle.lock_mode.specs.Sides.{IsNext};
+
+    ghost Value = { List Entry };
+
+    ghost view = { λ o. o.front };
+
+    ghost invariant = { λ o. IsNext J.function o.front o.entry };
+}
+
+impl<J: Naming> Op<J> {
+    pub fn new(front: Front<J>, entry: Entry) -> Op<J>
+        requires { IsNext J.function front entry }
+        ensures { result ≡ front }
+    {
+        Op { front, entry }
+    }
+}
+
+/// The tables, with the history that they have run.
+#[derive(Drop)]
+pub struct Side<J: Naming> {
+    func: Func,
+    tables: Tables,
+    whole: bool,
+    front: Front<J>,
+}
+
+impl<J: Naming> Model for Side<J> {
+    ghost use Rattle.std.specs.Prelude.{Bool, List};
+    ghost use Rattle.nf_base.specs.Functions.{function_of};
+    ghost use Rattle.lock_core.specs.declared.call.Entry.{Entry};
+    ghost use Rattle.lock_mode.specs.Sides.{Ran};
+
+    ghost Value = { List Entry × Bool };
+
+    ghost view = { λ s. (s.front, s.whole) };
+
+    ghost invariant = { λ s. Ran J.function (function_of s.func) s.whole s.tables s.front };
+}
+
+impl<J: Naming> Side<J> {
+    /// A look at a packet, without a write.
+    pub fn look(&self, packet: &Packet) -> Look
+        requires whole { self.now.1 ≡ true }
+        requires port { packet.now.id.port < length J.function.handlers }
+        ensures done { IfDone result (λ done. IsLook J.function self.now.0 packet.now done) }
+        ensures needs { IfNeedsWrite result (IsQuietBehind J.function self.now.0 packet.now → ⊥) }
+    {
+        look(&self.tables, &self.func, packet)
+    }
+
+    /// The history.
+    pub fn seen(&self) -> Front<J>
+        ensures { result ≡ self.now.0 }
+    {
+        self.front.again()
+    }
+}
+
+impl<J: Naming> Absorb<Op<J>> for Side<J> {
+    ghost use Rattle.lock_mode.specs.Sides.{after};
+
+    type State = ([Entry; 0], bool);
+
+    ghost state = { λ s. s };
+
+    ghost applied = { after };
+
+    ghost never_fails = { Unit {0} };
+
+    fn absorb_first(&mut self, op: &Op<J>, _other: &Side<J>) -> Result<(), AllocError> {
+        let (had, has) = (self.front.len(), op.front.len());
+        if self.whole && has > 0 && had == has - 1 {
+            let both = self.front.longer(&op.front);
+            let done = replay(
+                &mut self.tables,
+                &self.func,
+                &op.entry.packet,
+                &op.entry.done.picks,
+            );
+            drop(done);
+            self.front = both;
+        } else {
+            self.whole = false;
+            self.front = op.front.again();
+        }
+        Ok(())
+    }
+}
