@@ -130,11 +130,20 @@ def joined(random):
     return found
 
 
-def zeros(random):
-    """All bits but a few are 0, and these are bound to one another."""
-    kept = random.sample(range(BITS), random.choice((1, 4, 10, 60)))
+def bound(random, kept):
+    """All bits but these are 0, and these are bound to one another."""
     found = [1 << at for at in range(BITS) if at not in kept]
     return found + [sum(1 << at for at in kept if random.random() < 0.5) for _ in range(random.randrange(len(kept)))]
+
+
+def few(random):
+    return bound(random, random.sample(range(BITS), random.choice((1, 4, 10, 60))))
+
+
+def early(random):
+    """The keys have no later ones than a few in the groups, so that the search meets these last."""
+    last = RSS.spreading[0] + random.choice((0, 1, 2, 5, 20))
+    return bound(random, [port * RSS.positions + at for port in range(PORTS) for at in range(last + 1)])
 
 
 def of_places(random):
@@ -146,7 +155,7 @@ def of_places(random):
     return sorted(equations(RSS, alike(RSS, objects)))
 
 
-FAMILIES = {it.__name__: it for it in (dense, nearly_full, sparse, repeated, joined, zeros, of_places)}
+FAMILIES = {it.__name__: it for it in (dense, nearly_full, sparse, repeated, joined, few, early, of_places)}
 
 
 def some_groups(random):
