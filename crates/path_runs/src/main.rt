@@ -1,12 +1,14 @@
 //! Lists or counts the paths of blocks that are made up, and prints how many each has, or why they are not
-//! listed.
+//! listed; and how many statements they come to.
 #![tactic(auto)]
 
 mod blocks;
 
 use blocks::{hub, nested, numbers, tests};
 use nf_base::block::Block;
-use path_walk::{WalkFault, block_path_count, block_paths, count_paths, paths};
+use path_walk::{
+    WalkFault, all_statements, block_path_count, block_paths, count_paths, paths, reached,
+};
 use std::alloc::{AllocError, Global};
 use std::io;
 
@@ -40,6 +42,29 @@ fn print_count(rt: &HostRuntime, name: &str, count: Result<usize, WalkFault>) ->
     match count {
         Ok(count) => println!(rt; "{name}: {count}"),
         Err(fault) => println!(rt; "{name}: {fault}"),
+    }
+}
+
+/// How many of a block's statements its feasible paths come to, and how many it has.
+fn reached_of(
+    alloc: Global,
+    block: Result<Block, AllocError>,
+) -> Result<(usize, usize), AllocError> {
+    let block = block?;
+    let marks = reached(alloc, &block)?;
+    let mut count = 0;
+    for mark in marks.as_slice() {
+        if *mark {
+            count += 1;
+        }
+    }
+    Ok((count, all_statements(alloc, &block)?.len()))
+}
+
+fn print_reached(rt: &HostRuntime, name: &str, block: Result<Block, AllocError>) -> io::Result<()> {
+    match reached_of(rt.alloc(), block) {
+        Ok((count, all)) => println!(rt; "{name}, reached: {count} of {all} statements"),
+        Err(_) => println!(rt; "{name}: out of memory"),
     }
 }
 
@@ -111,5 +136,9 @@ fn main(rt: HostRuntime) -> io::Result<()> {
         number(alloc, numbers(alloc, 4096)),
     )?;
     print_count(&rt, "port 0 of a hub, counted", port_number(alloc, 0))?;
-    print_count(&rt, "port 1 of it, counted", port_number(alloc, 1))
+    print_count(&rt, "port 1 of it, counted", port_number(alloc, 1))?;
+    print_reached(&rt, "131072 tests of one text", tests(alloc, 131_072, 1))?;
+    print_reached(&rt, "40000 tests of 12 texts", tests(alloc, 40_000, 12))?;
+    print_reached(&rt, "4095 numbers of a field", numbers(alloc, 4095))?;
+    print_reached(&rt, "64 blocks deep", nested(alloc, 64))
 }

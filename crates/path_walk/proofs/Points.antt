@@ -13,7 +13,7 @@ use Rattle.path_walk.specs.Lines.{child, grown, trees, IsLaid}
 use Rattle.path_walk.specs.Known.{Marks, known_seen, mark_at, excludes, told_mark}
 use Rattle.path_walk.specs.Numbering.{text_at}
 use Rattle.path_walk.specs.Walks.{ahead, one_way, tested, leaves, test_leaves}
-use Rattle.path_walk.specs.Counts.{count_at, count_of, LineGoes, count_waiting, count_left, PointWaits, TestCounts, LineCounts, CountSteps, CountGoesOn, CountEnds, CountAdvances}
+use Rattle.path_walk.specs.Counts.{count_at, count_of, count_waiting, count_left, PointWaits, TestCounts, LineCounts, CountSteps, CountGoesOn, CountEnds, CountAdvances}
 use Rattle.path_walk.proofs.Lines.{length_trees, tree_is}
 use Rattle.path_walk.proofs.Walking.{some_leaves}
 
@@ -49,15 +49,6 @@ counts_both t old new olds news none w a k = record {
       omega arith;
   falls = λ n x y. subst (λ z. z < n) (sym a) x;
 }
-
-if_falls : (b : Bool) (hit miss n : ℕ) → hit < n → miss < n → (if b then hit else miss) < n
-if_falls true hit miss n h k = h
-if_falls false hit miss n h k = k
-
-if_length : (b : Bool) (texts : List TestText) (trees : List (Tree ℕ)) (m : Marks) (hit miss : ℕ) →
-    length (if b then ahead Hits (leaves texts (child trees hit) m) else ahead Misses (leaves texts (child trees miss) m)) ≡ count_at texts trees m (if b then hit else miss)
-if_length true texts trees m hit miss = length_ahead Hits (leaves texts (child trees hit) m)
-if_length false texts trees m hit miss = length_ahead Misses (leaves texts (child trees miss) m)
 
 -- a point past all lines
 pub count_past : (texts : List TestText) (ls : List (Line ℕ)) (old : Point) (ps : List Point) → length ls ≤ old.at → CountEnds texts (trees [] ls) old ps ps
@@ -101,27 +92,3 @@ more_counted texts trees p ps =
     let h = some_counted texts trees ps in
     let k = some_leaves texts (child trees p.at) (known_seen p.known) in
     omega arith
-
--- a test of some mark is passed
-pub goes_told : (m : Marks) (n : ℕ) (exchanged holds : Bool) (hit miss at : ℕ) → mark_at m n ≡ Some holds → at ≡ one_way exchanged holds hit miss → LineGoes m (line.Test n exchanged hit miss) at
-goes_told m n exchanged holds hit miss at e w = record {
-  left = λ texts trees.
-      let o = equals_of (text_at texts n) in
-      ap (count_at texts trees m) w ∙ sym (if_length (differ exchanged holds) texts trees m hit miss)
-      ∙ ap (λ (mark : Option Bool). length (tested exchanged mark (excludes o m) m (told_mark m n o) (λ k. ahead Hits (leaves texts (child trees hit) k)) (λ k. ahead Misses (leaves texts (child trees miss) k)))) (sym e);
-  falls = λ k b. subst (λ x. x < k) (sym w) (if_falls (differ exchanged holds) hit miss k b.0 b.1);
-}
-
--- a line further
-pub passed_more : (texts : List TestText) (ls : List (Line ℕ)) (l : Line ℕ) (m : Marks) (at next : ℕ) → IsLaid ls → slice_get ls at ≡ Some l → LineGoes m l next →
-    count_at texts (trees [] ls) m next ≡ count_at texts (trees [] ls) m at
-passed_more texts ls l m at next laid e h = h.left texts (trees [] ls) ∙ ap (λ t. length (leaves texts t m)) (sym (tree_is ls at l laid e))
-
--- a step behind what was passed
-pub passed_on : (goes : Bool) (texts : List TestText) (trees : List (Tree ℕ)) (old mid : Point) (olds : List Point) (new : Point) (news : List Point) →
-    count_of texts trees mid ≡ count_of texts trees old → mid.at ≤ old.at → CountAdvances goes texts trees mid olds new news → CountAdvances goes texts trees old olds new news
-passed_on true texts trees old mid olds new news e w h = record {
-  left = h.left ∙ ap (λ n. n + count_waiting texts trees olds) e;
-  falls = let f = h.falls in omega arith;
-}
-passed_on false texts trees old mid olds new news e w h = record { others = h.others; ends = sym e ∙ h.ends }

@@ -51,13 +51,6 @@ pub record LineCounts (texts : List TestText) (line : Line ℕ) (old : Point) (o
       ≡ length (leaves texts (grown line trees) (known_seen old.known)) + count_waiting texts trees olds
   pub falls : (n : ℕ) → IsBelow n line → new.at < n
 
--- a path of which this is known goes on from a line at an earlier one, and knows no more
-pub record LineGoes (m : Marks) (line : Line ℕ) (at : ℕ) : Type 0 where
-  pub left :
-      (texts : List TestText) (trees : List (Tree ℕ)) →
-      count_at texts trees m at ≡ length (leaves texts (grown line trees) m)
-  pub falls : (n : ℕ) → IsBelow n line → at < n
-
 -- a step at a line: the path ends at it, or goes on
 abbrev pub CountSteps : Bool → List TestText → Line ℕ → (old : Point) (olds : List Point) (new : Point) (news : List Point) → Type 0
 CountSteps true texts line old olds new news = LineCounts texts line old olds new news

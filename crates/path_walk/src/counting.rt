@@ -1,11 +1,11 @@
 //! How many paths begin at a line: a walk that keeps what its tests say, and lists nothing.
-ghost use Rattle.std.specs.Prelude.{◌≡◌, ◌<◌, ◌≤◌, ◌+◌, [], IfOk, OnOk, IfErr, IfSome, map, None, List, false, vec_len, length};
+ghost use Rattle.std.specs.Prelude.{◌≡◌, ◌<◌, ◌≤◌, ◌+◌, IfOk, OnOk, IfErr, map, None, List, false, vec_len, length};
 ghost use Rattle.path_walk.specs.Seen.{text_seen};
 ghost use Rattle.path_walk.specs.Known.{nothing_known, known_seen, excludes};
 ghost use Rattle.path_walk.specs.Tests.{TestText};
-ghost use Rattle.path_walk.specs.Lines.{trees, IsLaid};
+ghost use Rattle.path_walk.specs.Lines.{IsLaid};
 ghost use Rattle.path_walk.specs.Walks.{one_way, paths_from};
-ghost use Rattle.path_walk.specs.Counts.{count_at, LineGoes, PointWaits, TestCounts, LineCounts, CountSteps, CountAdvancesAlong, count_left_along, count_waiting_along};
+ghost use Rattle.path_walk.specs.Counts.{PointWaits, TestCounts, LineCounts, CountSteps, CountAdvancesAlong, count_left_along, count_waiting_along};
 ghost use Rattle.path_walk.specs.Listed.{IsCause};
 ghost use Rattle.path_walk.specs.declared.line.Line.TheVariants as lines;
 ghost use Rattle.path_walk.specs.declared.fault.WalkFault.TheVariants.{TooManyPaths};
@@ -66,17 +66,11 @@ fn make(
     Ok(())
 }
 
-/// Where a test leads that holds so. One whose two ways are one waits for nothing.
+/// Where a test leads that holds so.
 fn way(exchanged: bool, holds: bool, hit: usize, miss: usize) -> usize
     ensures { result ≡ one_way exchanged holds hit miss }
 {
-    if hit == miss {
-        hit
-    } else if exchanged != holds {
-        hit
-    } else {
-        miss
-    }
+    if exchanged != holds { hit } else { miss }
 }
 
 /// Goes both ways at a test of no mark, the way where it hits first.
@@ -137,6 +131,11 @@ fn step(
             hit,
             miss,
         } => {
+            // What a test says whose two ways are one is not waited for.
+            if *hit == *miss && point.known.is_marked(*test) {
+                point.at = *hit;
+                return Ok(true);
+            }
             if let Some(holds) = point.known.mark(*test) {
                 point.at = way(*exchanged, holds, *hit, *miss);
                 return Ok(true);
@@ -155,44 +154,6 @@ fn step(
     Ok(true)
 }
 
-/// Where a path goes on from a test whose text went some way before.
-fn told_way(line: &Line<usize>, known: &Known) -> Option<usize>
-    ensures { IfSome result (λ at. LineGoes (known_seen known.now) line.now at) }
-{
-    match line {
-        Line::Stop => None,
-        Line::Free { .. } => None,
-        Line::Test {
-            test,
-            exchanged,
-            hit,
-            miss,
-        } => match known.mark(*test) {
-            Some(holds) => Some(way(*exchanged, holds, *hit, *miss)),
-            None => None,
-        },
-        Line::Make { .. } => None,
-    }
-}
-
-/// Goes past all tests in a row whose texts went some way before: the line behind them.
-fn passed(numbered: &Numbered<'_>, known: &Known, from: usize) -> usize
-    requires { IsLaid numbered.now.lines.items }
-    ensures left { (texts : List TestText) →
-        count_at texts (trees [] numbered.now.lines.items) (known_seen known.now) result
-        ≡ count_at texts (trees [] numbered.now.lines.items) (known_seen known.now) from }
-    ensures within { result ≤ from }
-{
-    let mut at = from;
-    'tests: while at < numbered.lines.len() {
-        match told_way(&numbered.lines[at], known) {
-            Some(next) => at = next,
-            None => return at,
-        }
-    }
-    at
-}
-
 /// One step of a path: `false` where it ends.
 fn advance(
     alloc: Global,
@@ -203,7 +164,6 @@ fn advance(
     requires { IsLaid numbered.now.lines.items }
     ensures { IfOk result (CountAdvancesAlong numbered.now point.old waiting.old.items point.new waiting.new.items) }
 {
-    point.at = passed(numbered, &point.known, point.at);
     if point.at < numbered.lines.len() {
         step(
             alloc,

@@ -1,5 +1,5 @@
 //! What the tests of a path so far say.
-ghost use Rattle.std.specs.Prelude.{◌≡◌, IfOk, None, Some, map, slice_set, get_or, replicate};
+ghost use Rattle.std.specs.Prelude.{◌≡◌, IfOk, None, Some, is_some, map, slice_set, get_or, replicate};
 ghost use Rattle.path_walk.specs.declared.known.Mark.TheVariants.{Unknown};
 ghost use Rattle.path_walk.specs.Known.{mark_seen, nothing_known, known_seen, mark_at, with_number, excludes, told_mark};
 
@@ -111,6 +111,13 @@ impl Known {
         ensures { result ≡ mark_at (known_seen self.now) number }
     {
         mark_of(self.marks.as_slice(), number)
+    }
+
+    /// Whether the text of a number went some way.
+    pub fn is_marked(&self, number: usize) -> bool
+        ensures { result ≡ is_some (mark_at (known_seen self.now) number) }
+    {
+        self.mark(number).is_some()
     }
 
     /// Whether a field is known to be another number.

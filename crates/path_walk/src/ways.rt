@@ -45,6 +45,7 @@ impl Ways {
     }
 
     /// A path that goes one way.
+    #[inline(always)]
     fn put_way(&mut self, hits: bool, known: Box<Known>) -> Result<(), AllocError>
         ensures first { OnOk result (all_known self.new.first.items
             ≡ all_known self.old.first.items ++ one_if hits (known_in known)) }
@@ -107,6 +108,7 @@ impl Ways {
     }
 
     /// A path that comes to a test.
+    #[inline(always)]
     fn put(&mut self, alloc: Global, test: Asked, known: Box<Known>) -> Result<(), AllocError>
         ensures first { OnOk result (all_known self.new.first.items
             ≡ all_known self.old.first.items ++ behind_test test true (known_in known)) }
