@@ -1,5 +1,5 @@
 -- The kinds of step keep the rule of the published tables.
-use Rattle.std.proofs.Common.{◌≡◌, ℕ, ◌≤◌, ◌≢◌, Bool, true, List, length, refl, subst, ⊎_elim, le_refl, le_trans, zero-le}
+use Rattle.std.proofs.Common.{◌≡◌, ℕ, zero, suc, ◌≤◌, ◌≢◌, Bool, true, List, [], ◌∷◌, length, ap, refl, subst, ⊎_elim, le_refl, le_trans, zero-le}
 use mathlib.Core.Option.{some}
 use lib.ListN.{get_elem?}
 use Rattle.left_right.specs.Register.{Admits, TurnsAt}
@@ -21,3 +21,11 @@ sees seat v x y told up views h at = (
   ),
   (told h.0, le_trans (h.1 seat v at) up, refl),
 )
+
+one_view : (seat v : ℕ) → get_elem? (0 ∷ []) seat ≡ some v → 0 ≡ v
+one_view zero v e = cc e
+one_view (suc seat) v e = cc e
+
+-- tables are opened with one view, which knows of nothing
+pub opens : (x : List Entry × Bool) → x.1 ≡ true → Rises x (0 ∷ [])
+opens x whole = (whole, λ seat v at. subst (λ (z : ℕ). z ≤ length x.0) (one_view seat v at) zero-le)

@@ -1,6 +1,7 @@
 -- One entry more at the end of the history.
-use Rattle.std.proofs.Common.{◌≡◌, ◌≢◌, ℕ, ◌+◌, ◌≤◌, ◌<◌, ◌==◌, Bool, true, false, List, [], ◌∷◌, ◌++◌, length, filter, cond, set, get_or, Some, refl, ap, sym, ◌∙◌, subst, arith, length-append, length-set, get_or-set_same, get_or-set_other, append-nil, eqb-true, eq-eqb, ne_eqb, ⊎_elim}
+use Rattle.std.proofs.Common.{◌≡◌, ◌≢◌, ℕ, ◌+◌, ◌≤◌, ◌<◌, ◌==◌, Bool, true, false, List, [], ◌∷◌, ◌++◌, length, filter, cond, set, get_or, replicate, Some, refl, ap, sym, ◌∙◌, subst, arith, length-append, length-set, get_or-set_same, get_or-set_other, append-nil, eqb-true, eq-eqb, ne_eqb, ⊎_elim}
 use Rattle.std.proofs.lemmas.List.Elements.{filter-append}
+use Rattle.std.proofs.lemmas.List.{length-replicate, get_or-replicate}
 use Rattle.std.proofs.lemmas.Bool.{cases_eq}
 use Rattle.nf_base.specs.declared.packet.Packet.{Packet}
 use Rattle.nf_base.specs.declared.state.State.{State}
@@ -72,3 +73,15 @@ ran_with f g t u es new e same ran stepped fixed is = record {
 
 pub is_next : (f : Function) (u : TablesState) (es new : List Entry) (e : Entry) → new ≡ es ++ e ∷ [] → e.packet.id.port < length f.handlers → RanTo f u new → IsNext f new e
 is_next f u es new e is port ran = record { before = es; ends = is; port = port; state = u.state; comes = ran.comes }
+
+-- an empty history's end
+pub opens_tail : (f g : Function) (seats n : ℕ) (t : TablesState) (front : List Entry) (counts : List ℕ) → g ≡ f → RanTo f t [] → front ≡ [] → n ≡ seats → counts ≡ replicate n 0 → IsTail f g seats t front counts
+opens_tail f g seats n t front counts same ran empty each zeros = record {
+  same = same;
+  each = ap length zeros ∙ length-replicate n 0 ∙ each;
+  ran = subst (RanTo f t) (sym empty) ran;
+  counted = λ seat d lt.
+      ap (λ (xs : List ℕ). get_or xs seat d) zeros
+      ∙ get_or-replicate n seat 0 d (omega (arith, lt, ap length zeros ∙ length-replicate n 0))
+      ∙ ap (count_of seat) (sym empty);
+}

@@ -51,6 +51,15 @@ fn append_waiting<J: Naming, R: Wait>(rt: &R, writer: &mut TableWriter<J>, op: O
 }
 
 impl<J: Naming> Desk<J> {
+    /// A writer that has published the history so far.
+    pub fn over(writer: TableWriter<J>, tail: Tail<J>, book: Book<J>) -> Desk<J>
+        requires settled { drop writer.behind writer.log.items ≡ [] }
+        requires same { writer.desk.shown.value ≡ (tail, true) }
+        ensures { result.tail ≡ tail }
+    {
+        Desk { writer, tail, book }
+    }
+
     /// Handles a packet of a seat at the end of the history, and publishes the tables behind it.
     ///
     /// `Err` comes before anything is done.

@@ -10,11 +10,12 @@ ghost use Rattle.lock_mode.specs.Looks.{IfDone, IfNeedsWrite, IfRefused};
 use crate::book::{Front, Naming};
 use crate::gate::Gate;
 use crate::looked::Looked;
+use crate::rule::TableReader;
 use crate::viewer::{Viewer, catch_up, look_by};
 use core::mem::replace_with;
 use lock_core::{Call, Placed, Way, again};
 use nf_base::packet::Packet;
-use std::alloc::AllocError;
+use std::alloc::{AllocError, Global};
 use std::sync::Wait;
 
 /// One of those who share the tables.
@@ -127,6 +128,28 @@ fn seen_by_seat<J: Naming, G: Gate + Drop, R: Wait>(
         },
         (),
     )
+}
+
+/// A seat that has done nothing, over one of the readers of the tables; its calls have no room yet.
+pub fn new_seat<J: Naming, G: Gate + Drop>(
+    alloc: Global,
+    number: u32,
+    gate: G,
+    front: Front<J>,
+    reader: TableReader<J>,
+) -> Seat<J, G>
+    requires empty { front ≡ [] }
+    ensures number { result.number ≡ number }
+    ensures gate { result.gate ≡ gate }
+    ensures seen { result.viewer.front ≡ [] }
+    ensures calls { result.calls.items ≡ [] }
+{
+    Seat {
+        number,
+        gate,
+        viewer: Viewer::new(front, reader),
+        calls: Vec::new(alloc),
+    }
 }
 
 impl<J: Naming, G: Gate + Drop> Seat<J, G> {

@@ -1,16 +1,17 @@
 //! The tables that seats share.
-ghost use Rattle.std.specs.Prelude.{◌≡◌, ◌<◌, ◌≤◌, ◌+◌, ◌++◌, ◌∷◌, [], length, IfOk, OnErr};
+ghost use Rattle.std.specs.Prelude.{◌≡◌, ◌<◌, ◌≤◌, ◌+◌, ◌++◌, ◌∷◌, [], length, drop, true, IfOk, OnErr};
 ghost use Rattle.std.specs.Vec.{vec_len, vec_capacity};
 ghost use mathlib.Core.List.{IsPrefix};
 ghost use Rattle.lock_core.specs.declared.call.Way.TheVariants as way;
 ghost use Rattle.lock_mode.specs.Alone.{IsAlone};
 
-use crate::book::{Front, Naming};
+use crate::book::{Book, Front, Naming};
 use crate::desk::Desk;
 use crate::gate::Gate;
-use crate::rule::Rising;
+use crate::rule::{Rising, TableWriter};
 use crate::seat::Seat;
 use crate::side::{Op, Side};
+use crate::tail::Tail;
 use crossbeam_utils::rule::Protocol;
 use left_right::Absorb;
 use lock_core::Placed;
@@ -28,6 +29,16 @@ where
 }
 
 impl<J: Naming> Shared<J> {
+    /// Tables that were opened, for seats to share.
+    pub fn over(writer: TableWriter<J>, tail: Tail<J>, book: Book<J>) -> Shared<J>
+        requires settled { drop writer.behind writer.log.items ≡ [] }
+        requires same { writer.desk.shown.value ≡ (tail, true) }
+    {
+        Shared {
+            desk: Mutex::new(Desk::over(writer, tail, book)),
+        }
+    }
+
     /// Handles a packet under the writer's lock, behind all that was seen.
     fn place<R: Wait>(
         &self,

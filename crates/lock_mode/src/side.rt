@@ -1,8 +1,9 @@
 //! One of the two copies of the tables.
-ghost use Rattle.std.specs.Prelude.{◌≡◌, ◌<◌, true, length};
+ghost use Rattle.std.specs.Prelude.{◌≡◌, ◌<◌, true, [], length};
 ghost use Rattle.nf_engine.specs.Looks.{IfDone, IfNeedsWrite};
 ghost use Rattle.lock_core.specs.Events.{IsLook, IsQuietBehind};
-ghost use Rattle.lock_mode.specs.Sides.{IsNext};
+ghost use Rattle.nf_base.specs.Functions.{function_of};
+ghost use Rattle.lock_mode.specs.Sides.{IsNext, RanTo};
 
 use crate::book::{Front, Naming};
 use left_right::Absorb;
@@ -24,7 +25,8 @@ pub struct Op<J: Naming> {
 impl<J: Naming> Model for Op<J> {
     ghost use Rattle.std.specs.Prelude.{List};
     ghost use Rattle.lock_core.specs.declared.call.Entry.{Entry};
-    ghost use Rattle.lock_mode.specs.Sides.{IsNext};
+    ghost use Rattle.nf_base.specs.Functions.{function_of};
+    ghost use Rattle.lock_mode.specs.Sides.{IsNext, RanTo};
 
     ghost Value = { List Entry };
 
@@ -65,6 +67,21 @@ impl<J: Naming> Model for Side<J> {
 }
 
 impl<J: Naming> Side<J> {
+    /// The opening tables of the function.
+    pub fn opening(func: Func, tables: Tables, front: Front<J>) -> Side<J>
+        requires function { function_of func ≡ J.function }
+        requires ran { RanTo J.function tables [] }
+        requires empty { front ≡ [] }
+        ensures { result ≡ ([], true) }
+    {
+        Side {
+            func,
+            tables,
+            whole: true,
+            front,
+        }
+    }
+
     /// A look at a packet, without a write.
     pub fn look(&self, packet: &Packet) -> Look
         requires whole { self.now.1 ≡ true }

@@ -1,12 +1,12 @@
 //! The end of the history, where the next packet is handled.
-ghost use Rattle.std.specs.Prelude.{◌≡◌, ◌<◌, ◌+◌, ◌^◌, ◌++◌, ◌∷◌, [], length, Some};
+ghost use Rattle.std.specs.Prelude.{◌≡◌, ◌<◌, ◌+◌, ◌^◌, ◌++◌, ◌∷◌, [], length, replicate, Some, IfOk};
 ghost use Rattle.nf_base.specs.Functions.{function_of};
 ghost use Rattle.nf_base.specs.Step.{step};
 ghost use Rattle.nf_engine.specs.View.{fixed_of};
 ghost use Rattle.lock_core.specs.Calls.{count_of};
 ghost use Rattle.lock_core.specs.Events.{IsStep};
 ghost use Rattle.lock_mode.specs.Books.{MayFollow};
-ghost use Rattle.lock_mode.specs.Sides.{IsNext};
+ghost use Rattle.lock_mode.specs.Sides.{IsNext, RanTo};
 
 use crate::book::{Book, Front, Naming};
 use lock_core::Entry;
@@ -14,6 +14,7 @@ use nf_base::done::Done;
 use nf_base::func::Func;
 use nf_base::packet::Packet;
 use nf_engine::{Handled, handle};
+use std::alloc::{AllocError, Global};
 use std::marker::Model;
 use std::sync::Wait;
 use std::thread;
@@ -76,7 +77,50 @@ fn add_waiting<J: Naming, R: Wait>(rt: &R, front: &mut Front<J>, book: &Book<J>,
     unreachable!()
 }
 
+/// So many zeros.
+fn zeros(alloc: Global, count: u32) -> Result<Vec<u64>, AllocError>
+    ensures { IfOk result (λ zeros. zeros.items ≡ replicate count 0) }
+{
+    Ok(vec![in alloc; 0; count as usize]?)
+}
+
 impl<J: Naming> Tail<J> {
+    /// The end of an empty history.
+    pub fn opening(
+        alloc: Global,
+        func: Func,
+        tables: Tables,
+        front: Front<J>,
+        seats: u32,
+    ) -> Result<Tail<J>, AllocError>
+        requires function { function_of func ≡ J.function }
+        requires ran { RanTo J.function tables [] }
+        requires empty { front ≡ [] }
+        requires seats { seats ≡ J.seats }
+        ensures { IfOk result (λ tail. tail ≡ []) }
+    {
+        let counts = zeros(alloc, seats)?;
+        Ok(Tail {
+            func,
+            tables,
+            front,
+            counts,
+        })
+    }
+
+    /// The tables where the history ends.
+    pub fn into_tables(self) -> Tables
+        ensures { RanTo J.function result self }
+    {
+        let Tail {
+            func: _func,
+            tables,
+            front: _front,
+            counts: _counts,
+        } = self;
+        tables
+    }
+
     /// How many entries the history has.
     pub fn len(&self) -> u64
         ensures { result ≡ length self.now }

@@ -1,5 +1,5 @@
 //! What one seat has seen, and its reader, which sees no less.
-ghost use Rattle.std.specs.Prelude.{◌≡◌, ◌<◌, ◌≤◌, length};
+ghost use Rattle.std.specs.Prelude.{◌≡◌, ◌<◌, ◌≤◌, [], length};
 ghost use mathlib.Core.List.{IsPrefix};
 ghost use Rattle.left_right.specs.Sides.{view};
 ghost use Rattle.lock_core.specs.Events.{IsLook, IsQuietBehind};
@@ -20,6 +20,16 @@ pub struct Viewer<J: Naming> {
     pub(crate) front: Front<J>,
     pub(crate) reader: TableReader<J>,
     ghost behind: { length front ≤ view reader.place },
+}
+
+impl<J: Naming> Viewer<J> {
+    /// A viewer that has seen nothing.
+    pub(crate) fn new(front: Front<J>, reader: TableReader<J>) -> Viewer<J>
+        requires { front ≡ [] }
+        ensures { result.front ≡ [] }
+    {
+        Viewer { front, reader }
+    }
 }
 
 /// What was published, if it is no less than was seen: it begins with that.
