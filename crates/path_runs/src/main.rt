@@ -52,12 +52,7 @@ fn reached_of(
 ) -> Result<(usize, usize), AllocError> {
     let block = block?;
     let marks = reached(alloc, &block)?;
-    let mut count = 0;
-    for mark in marks.as_slice() {
-        if *mark {
-            count += 1;
-        }
-    }
+    let count = marks.as_slice().iter().filter(|mark| **mark).count();
     Ok((count, all_statements(alloc, &block)?.len()))
 }
 
