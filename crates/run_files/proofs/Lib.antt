@@ -1,4 +1,0 @@
-pub mod Pieces
-pub mod Lines
-pub mod Sent
-pub mod Edited
