@@ -1,6 +1,6 @@
 //! Calls on files, feeds and runs. They promise what further calls ask for and no more: what the answers are is
 //! compared, and not proved.
-ghost use Rattle.std.specs.Prelude.{◌≡◌, ◌≤◌, ◌^◌, ℕ, length, IfOk};
+ghost use Rattle.std.specs.Prelude.{◌≡◌, ◌≤◌, ◌+◌, ◌^◌, ℕ, length, IfOk};
 ghost use Rattle.nf_files.specs.Told.{IsEmptyIfTold};
 ghost use Rattle.packet_feed.specs.Told.{EachFile, IsApart};
 ghost use Rattle.packet_feed.specs.Sources.{files_in};
@@ -82,6 +82,7 @@ pub fn run_all<F: Files>(
     requires readable { EachFile (F.is_read files.old) opened.now }
     requires writable { EachFile (F.is_written files.old) made.now }
     requires apart { IsApart made.now }
+    requires as_many { length made.now ≡ length func.now.handlers + 1 }
     requires few { length made.now ≤ 2 ^ 32 }
     requires empty { EachFile (λ file. IsEmptyIfTold ((F.told files.old).given file)) made.now }
 {

@@ -1,12 +1,15 @@
 //! Runs over files in memory, and what they come to.
 ghost use Rattle.std.specs.Prelude.{◌≡◌, ◌≤◌, length};
+ghost use Rattle.nf_files.specs.Told.{IsEmptyIfTold};
+ghost use Rattle.packet_feed.specs.Told.{EachFile, IsApart};
+ghost use Rattle.packet_feed.specs.Sources.{files_in};
 
 use crate::calls::{create_all, open_all, run_all, start, torn};
 use nf_base::func::Func;
 use nf_files::{Files, MemoryFiles};
 use nf_syntax::parse;
 use nf_types::check;
-use packet_feed::FeedFault;
+use packet_feed::{Feed, FeedFault};
 use run_history::state_text::state_text;
 use std::alloc::{AllocError, Global};
 use stream_run::{Ending, Stop};
@@ -104,6 +107,41 @@ pub fn outcome_of(
     Ok(outcome)
 }
 
+/// Runs a function over captures that are opened, where a file was created for each port and one for the journal.
+fn run_made<F: Files>(
+    alloc: Global,
+    files: &mut F,
+    func: &Func,
+    feed: &mut Feed,
+    opened: &[u32],
+    made: &[u32],
+    outcome: &mut Outcome,
+) -> Result<(), AllocError>
+    requires captures { files_in feed.old.sources ≡ opened.now }
+    requires ports { length opened.now ≡ length func.now.handlers }
+    requires new { feed.old.given ≡ 0 }
+    requires readable { EachFile (F.is_read files.old) opened.now }
+    requires writable { EachFile (F.is_written files.old) made.now }
+    requires apart { IsApart made.now }
+    requires few { length made.now ≤ 5 }
+    requires empty { EachFile (λ file. IsEmptyIfTold ((F.told files.old).given file)) made.now }
+{
+    if made.len() != func.handlers.len() as usize + 1 {
+        outcome.end = End::Uncreated;
+        return Ok(());
+    }
+    let ran = run_all(alloc, files, func, feed, opened, made);
+    outcome.torn = torn(feed);
+    match ran {
+        Err(stop) => outcome.end = End::Stopped(stop),
+        Ok(ran) => {
+            outcome.end = End::Ran(ran.ending, ran.packets);
+            outcome.state = state_text(alloc, func, &ran.state)?;
+        }
+    }
+    Ok(())
+}
+
 /// Runs a function over the captures of these names in any files.
 fn run_over<F: Files>(
     alloc: Global,
@@ -123,22 +161,8 @@ fn run_over<F: Files>(
             Ok(mut feed) => match create_all(alloc, files, outputs(names.len())) {
                 Err(_) => outcome.end = End::Uncreated,
                 Ok(made) => {
-                    let ran = run_all(
-                        alloc,
-                        files,
-                        func,
-                        &mut feed,
-                        opened.as_slice(),
-                        made.as_slice(),
-                    );
-                    outcome.torn = torn(&feed);
-                    match ran {
-                        Err(stop) => outcome.end = End::Stopped(stop),
-                        Ok(ran) => {
-                            outcome.end = End::Ran(ran.ending, ran.packets);
-                            outcome.state = state_text(alloc, func, &ran.state)?;
-                        }
-                    }
+                    let (opened, made) = (opened.as_slice(), made.as_slice());
+                    return run_made(alloc, files, func, &mut feed, opened, made, outcome);
                 }
             },
         },
