@@ -13,13 +13,15 @@ pub struct FaultCount {
     faults: u64,
     first: Option<u32>,
     openings: Vec<Opening>,
+    // Whether there was no memory to take the name of a call down that failed.
+    missing: bool,
     // No file is the first to fail exactly where no fault was counted.
     ghost agrees: { (first ≡ None → faults ≡ 0) × (faults ≡ 0 → first ≡ None) },
 }
 
 impl FaultCount {
-    ghost use Rattle.std.specs.Prelude.{[], OnOk, OnErr};
-    ghost use Rattle.nf_files.specs.Causes.{counted_of, an_asking, asking, Faulted, HasCause};
+    ghost use Rattle.std.specs.Prelude.{[], false, OnOk, OnErr};
+    ghost use Rattle.nf_files.specs.Causes.{counted_of, an_asking, asking, losing, Faulted, FaultedAsking, HasCause};
     ghost use Rattle.nf_files.specs.Expected.{IsAnswer};
 
     /// No fault, and no name.
@@ -27,11 +29,13 @@ impl FaultCount {
         ensures none { result.faults ≡ 0 }
         ensures no_first { result.first ≡ None }
         ensures no_name { result.openings.items ≡ [] }
+        ensures none_missing { result.missing ≡ false }
     {
         FaultCount {
             faults: 0,
             first: None,
             openings: Vec::new(alloc),
+            missing: false,
         }
     }
 
@@ -44,6 +48,26 @@ impl FaultCount {
         let name = Vec::from_slice(alloc, name.as_bytes())?;
         self.openings.push(Opening { name, kind })?;
         Ok(())
+    }
+
+    // A name was asked for that can't be taken down.
+    fn lose(&mut self)
+        ensures { counted_of self.new ≡ losing (counted_of self.old) }
+    {
+        self.missing = true;
+    }
+
+    /// Takes a name down that is asked for by a call that fails, on a file; where there is no memory for
+    /// it, it is missing from then on. Gives what the call answers.
+    pub fn refuse(&mut self, alloc: Global, file: u32, name: &str, kind: Kind) -> FilesFault
+        ensures value { result ≡ FilesFault.Failed }
+        ensures counted { let one = an_asking name.now kind in
+            FaultedAsking (counted_of self.old) (counted_of self.new) one file }
+    {
+        if self.ask(alloc, name, kind).is_err() {
+            self.lose();
+        }
+        self.fail(file)
     }
 
     /// Counts one more fault, up to 2^64 - 1, on a file, and gives what its call answers.

@@ -1,5 +1,5 @@
 // The trait of the files outside.
-ghost use Rattle.std.specs.Prelude.{◌≡◌, ◌<◌, ◌≤◌, ◌^◌, ◌⊎◌, ℕ, List, IfOk, IsErr, OnErr, None, length, take};
+ghost use Rattle.std.specs.Prelude.{◌≡◌, ◌<◌, ◌≤◌, ◌^◌, ◌⊎◌, ℕ, List, IfOk, OnErr, None, length, take};
 ghost use Rattle.nf_files.specs.Told.{Told, Same};
 ghost use Rattle.nf_files.specs.Openings.{Opens, Creates};
 ghost use Rattle.nf_files.specs.Reads.{Reads};
@@ -15,7 +15,8 @@ use crate::FilesFault;
 /// Files have numbers. 0 is standard output and 1 is standard error: both are written and never
 /// opened. The others count from 2 in the order of opening. A call that answers `Failed` has raised
 /// the count, or it stands at 2^64 - 1. An `Err` changes nothing else. The names that were asked to be
-/// opened or created are told with the count, those of calls that failed too.
+/// opened or created are told with the count, those of calls that failed too; where such a call had no
+/// memory to take its name down, it is told that names are missing.
 pub trait Files {
     ghost told: { Self → Told };
 
@@ -46,8 +47,7 @@ pub trait Files {
             HasAsked (counted self.old) (counted self.new) one (told self.old).next result }
         // A number of 32 bits was left for it.
         ensures numbered { IsFailed result → (told self.old).next < 2 ^ 32 }
-        // It fails, or memory runs out before that.
-        ensures fails { will_not_open self.old name.now → IsErr result }
+        ensures fails { will_not_open self.old name.now → IsFailed result }
         ensures passes { will_open self.old name.now → IsFailed result → ⊥ }
         ensures reads { (g : ℕ) → is_read self.old g → is_read self.new g }
         ensures writes { (g : ℕ) → is_written self.old g → is_written self.new g };
@@ -60,7 +60,7 @@ pub trait Files {
         ensures cause { let one = an_asking name.now Output in
             HasAsked (counted self.old) (counted self.new) one (told self.old).next result }
         ensures numbered { IsFailed result → (told self.old).next < 2 ^ 32 }
-        ensures fails { will_fail self.old → IsErr result }
+        ensures fails { will_fail self.old → IsFailed result }
         ensures passes { will_pass self.old → IsFailed result → ⊥ }
         ensures reads { (g : ℕ) → is_read self.old g → is_read self.new g }
         ensures writes { (g : ℕ) → is_written self.old g → is_written self.new g };

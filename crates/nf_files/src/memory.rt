@@ -1,6 +1,7 @@
 // Files in memory.
 ghost use Rattle.std.specs.Prelude.{◌≡◌, ℕ, [], option_map, unwrap_or, OnOk, OnErr, None, suc};
 ghost use Rattle.nf_files.specs.Memory.{memory_told, memory_counted, nothing, is_input, is_output, will_fail, will_pass, will_open, will_not_open};
+ghost use Rattle.nf_files.specs.Causes.{no_calls};
 ghost use Rattle.nf_files.specs.Standard.{of_standard};
 ghost use Rattle.nf_files.specs.Puts.{Puts};
 ghost use Rattle.nf_files.specs.Told.{Same};
@@ -33,7 +34,7 @@ impl MemoryFiles {
     /// Nothing stands under any name, and no call was made. `fails` lists the calls that fail.
     pub fn new(alloc: Global, fails: Vec<u64>) -> Self
         ensures nothing { Same nothing (memory_told result) }
-        ensures no_fault { memory_counted result ≡ record { faults = 0; first = None; asked = [] } }
+        ensures no_fault { memory_counted result ≡ no_calls }
         ensures fails { result.calls.fails ≡ fails }
         ensures no_call { result.calls.made ≡ 0 }
     {
@@ -95,13 +96,13 @@ impl Files for MemoryFiles {
 
     fn open_in(&mut self, name: &str) -> Result<u32, FilesFault> {
         let number = next_number(self.store.files.len())?;
-        self.calls.ask(self.alloc, name, Kind::Input)?;
         if self.calls.fails_next() {
-            return Err(self.calls.fail(number));
+            return Err(self.calls.refuse(self.alloc, number, name, Kind::Input));
         }
         let Some(content) = self.store.content(name) else {
-            return Err(self.calls.fail(number));
+            return Err(self.calls.refuse(self.alloc, number, name, Kind::Input));
         };
+        self.calls.ask(self.alloc, name, Kind::Input)?;
         let bytes = Vec::from_slice(self.alloc, content)?;
         self.store.open(self.alloc, bytes)?;
         self.calls.pass();
@@ -110,10 +111,10 @@ impl Files for MemoryFiles {
 
     fn create_out(&mut self, name: &str) -> Result<u32, FilesFault> {
         let number = next_number(self.store.files.len())?;
-        self.calls.ask(self.alloc, name, Kind::Output)?;
         if self.calls.fails_next() {
-            return Err(self.calls.fail(number));
+            return Err(self.calls.refuse(self.alloc, number, name, Kind::Output));
         }
+        self.calls.ask(self.alloc, name, Kind::Output)?;
         self.store.create(self.alloc, name)?;
         self.calls.pass();
         Ok(number)

@@ -1,6 +1,6 @@
 // Which calls on `MemoryFiles` fail.
-ghost use Rattle.std.specs.Prelude.{◌≡◌, ◌+◌, ◌-◌, ◌^◌, [], min, None, OnOk, OnErr};
-ghost use Rattle.nf_files.specs.Causes.{Faulted, an_asking, asking};
+ghost use Rattle.std.specs.Prelude.{◌≡◌, ◌+◌, ◌-◌, ◌^◌, min, None, OnOk, OnErr};
+ghost use Rattle.nf_files.specs.Causes.{Faulted, FaultedAsking, an_asking, asking, no_calls};
 ghost use Rattle.nf_files.specs.Memory.{is_listed, calls_counted};
 
 use crate::kind::Kind;
@@ -21,7 +21,7 @@ impl Calls {
     pub fn new(alloc: Global, fails: Vec<u64>) -> Self
         ensures fails { result.fails ≡ fails }
         ensures none { result.made ≡ 0 }
-        ensures no_fault { calls_counted result ≡ record { faults = 0; first = None; asked = [] } }
+        ensures no_fault { calls_counted result ≡ no_calls }
     {
         Calls {
             fails,
@@ -66,5 +66,17 @@ impl Calls {
     {
         self.made = self.made.saturating_add(1);
         self.count.fail(file)
+    }
+
+    // The next call asked for a name, and failed.
+    pub fn refuse(&mut self, alloc: Global, file: u32, name: &str, kind: Kind) -> FilesFault
+        ensures value { result ≡ FilesFault.Failed }
+        ensures cause { let one = an_asking name.now kind in
+            FaultedAsking (calls_counted self.old) (calls_counted self.new) one file }
+        ensures made { self.new.made ≡ min (self.old.made + 1) (2 ^ 64 - 1) }
+        ensures fails { self.new.fails ≡ self.old.fails }
+    {
+        self.made = self.made.saturating_add(1);
+        self.count.refuse(alloc, file, name, kind)
     }
 }
