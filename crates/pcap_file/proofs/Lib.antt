@@ -1,5 +1,5 @@
 pub mod Steps
-pub mod Placing
+pub mod Recording
 pub mod Numbers
 pub mod Spelling
 pub mod Reaching

@@ -15,7 +15,7 @@ use Rattle.pcap_file.specs.Capture.{Capture, captured_in, is_sized, is_whole, re
 use Rattle.pcap_file.specs.Held.{to_come, Filled}
 use Rattle.pcap_file.specs.Reading.{IsReached, Steps}
 use Rattle.pcap_file.proofs.Steps.{whole, steps, stops, ends}
-use Rattle.pcap_file.proofs.Placing.{form_kept, frame_long, some_there, none_there}
+use Rattle.pcap_file.proofs.Recording.{form_kept, frame_long, some_there, none_there}
 
 pub number_front : (order : Endian) (xs ys : List ℕ) → 4 ≤ length xs → number_in order (xs ++ ys) ≡ number_in order xs
 number_front Big xs ys le = big_from-append 4 xs ys le

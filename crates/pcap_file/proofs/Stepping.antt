@@ -16,7 +16,7 @@ use Rattle.pcap_file.specs.Reading.{Reading, IsOnly, IsReached, Steps, left, lef
 use Rattle.pcap_file.proofs.Reaching.{step_frame, step_end, step_torn}
 use Rattle.pcap_file.proofs.Growing.{none_held_after}
 use Rattle.pcap_file.proofs.Steps.{whole}
-use Rattle.pcap_file.proofs.Placing.{frame_long, some_there}
+use Rattle.pcap_file.proofs.Recording.{frame_long, some_there}
 
 abbrev pub held_of : Reading → Held
 held_of r = record { file = r.file; bytes = [] }

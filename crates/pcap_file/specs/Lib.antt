@@ -2,7 +2,7 @@ pub mod Form
 pub mod Record
 pub mod Capture
 pub mod Spelled
-pub mod Placed
+pub mod Laws
 pub mod Held
 pub mod Causes
 pub mod Taken

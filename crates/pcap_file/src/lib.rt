@@ -1,21 +1,18 @@
-//! Captures: the libpcap file format 2.4, from bytes and to bytes.
+//! Captures: the libpcap file format 2.4, read from a file and written into bytes.
 #![tactic(auto)]
 
 mod fault;
 mod form;
 mod front;
 mod head;
+pub mod laws;
 mod number;
-mod places;
 mod reader;
 mod record;
-mod whole;
 mod writing;
 
 pub use fault::CapFault;
 pub use form::{Endian, Form, TimeUnit};
 pub use head::Head;
-pub use places::{Place, Places};
 pub use reader::{Next, Reader, State};
-pub use whole::records;
 pub use writing::{push_header, push_record};
