@@ -6,3 +6,4 @@ pub mod Standing
 pub mod Starting
 pub mod Firsts
 pub mod Nexts
+pub mod Times

@@ -120,7 +120,7 @@ others_behind sources k time s told e same settled first j x p ne =
       seq_lt = λ le lo. let down : x.latest ≤ time = omega arith in let low : k ≤ j = least.1 down in absurd (ne (omega arith));
     })
 
-held_first : (sources : List Stream) (k time : ℕ) (s : Stream) → slice_get sources k ≡ Some s → IsFirst sources (length sources) (Some (record { port = k; time = time })) → (s.ahead ≡ Held) × (s.latest ≡ time)
+pub held_first : (sources : List Stream) (k time : ℕ) (s : Stream) → slice_get sources k ≡ Some s → IsFirst sources (length sources) (Some (record { port = k; time = time })) → (s.ahead ≡ Held) × (s.latest ≡ time)
 held_first sources k time s e first = held_since s.ahead s.latest time (sym (ap (λ (o : Option Stream). option_and_then (λ (y : Stream). time_in y.ahead y.latest) o) e) ∙ first.1)
 
 follows_pick : (all : Option (List Arrival)) (given : List Arrival) (a : Arrival) (x y : Option (List Arrival)) → Follows all given x → Picks (IsBehind a) a x y → Follows all (given ++ a ∷ []) y

@@ -13,7 +13,7 @@ use Rattle.packet_feed.specs.Arrivals.{Arrival}
 use Rattle.packet_feed.specs.Order.{in_order}
 use Rattle.packet_feed.specs.Told.{IsTear, IsApart, packets_of}
 use Rattle.packet_feed.specs.Streams.{Stream, tear_in}
-use Rattle.packet_feed.specs.Sources.{files_in, counts_in, SourcesStand, IsLeastBad}
+use Rattle.packet_feed.specs.Sources.{files_in, counts_in, SourcesStand, AreFrom, IsLeastBad}
 
 -- The captures, the port of the packet that was given last, how many were given, and how many are
 -- asked for at most.
@@ -97,6 +97,14 @@ Counts old new (Ok (next.Packet packet)) = (new.given ≡ old.given + 1) × (old
 Counts old new (Ok next.End) = new.given ≡ old.given
 Counts old new (Ok next.TooMany) = (new.given ≡ old.given) × (old.given ≡ old.most)
 Counts old new (Err fault) = new.given ≡ old.given
+
+-- Where nothing that is still given comes before a time, the packet that is given doesn't, and nothing
+-- comes before it then.
+abbrev pub GoesFrom : ℕ → List Stream → Result Fed FeedFault → Type 0
+GoesFrom time sources (Ok (next.Packet packet)) = (time ≤ packet.time) × AreFrom packet.time sources
+GoesFrom time sources (Ok next.End) = AreFrom time sources
+GoesFrom time sources (Ok next.TooMany) = AreFrom time sources
+GoesFrom time sources (Err fault) = Unit {0}
 
 -- what starting comes to
 abbrev pub Starts : List ℕ → ℕ → Told → Told → Result Feeding FeedFault → Type 0

@@ -13,7 +13,7 @@ use Rattle.packet_feed.specs.Order.{in_order}
 use Rattle.packet_feed.specs.declared.fault.FeedFault.{FeedFault}
 use Rattle.packet_feed.specs.declared.fault.FeedFault.TheVariants as feed
 use Rattle.packet_feed.specs.Told.{Carries, gathered, packets_in, packets_of, IsTear, IsNoCapture, IsCapture}
-use Rattle.packet_feed.specs.Streams.{Stream, last_read, packets_left, tear_left, time_in, IsSettled}
+use Rattle.packet_feed.specs.Streams.{Stream, last_read, packets_left, tear_left, time_in, IsSettled, IsFrom}
 use Rattle.packet_feed.specs.Taken.{IsTaken, TakesAhead}
 
 -- the files of captures, by port
@@ -71,6 +71,10 @@ pub record IsFilled (old new : Stream) (before now : Option (List ℕ)) : Type 0
 -- of each capture it is known what comes next
 abbrev pub AreSettled : List Stream → Type 0
 AreSettled sources = (port : ℕ) (s : Stream) → slice_get sources port ≡ Some s → IsSettled s.ahead
+
+-- nothing that captures still give comes before a time
+abbrev pub AreFrom : ℕ → List Stream → Type 0
+AreFrom time sources = (port : ℕ) (s : Stream) → slice_get sources port ≡ Some s → IsFrom time s.ahead s.latest
 
 -- the time of the packet that a port's capture gives next, if it is read ahead
 abbrev pub time_at : List Stream → ℕ → Option ℕ

@@ -1,5 +1,5 @@
 -- A capture that is read as a stream: what was given of it, what was read ahead, and what is left.
-use Rattle.std.specs.Prelude.{ℕ, ◌+◌, List, [], ◌∷◌, Option, Some, None, option_map}
+use Rattle.std.specs.Prelude.{ℕ, ◌+◌, ◌≤◌, List, [], ◌∷◌, Option, Some, None, option_map}
 use Rattle.pcap_file.specs.declared.form.Form.{Form}
 use Rattle.pcap_file.specs.Capture.{Capture}
 use Rattle.pcap_file.specs.Reading.{Reading, left_in}
@@ -67,3 +67,11 @@ time_in Unread latest = None
 time_in Held latest = Some latest
 time_in Ended latest = None
 time_in (Torn offset) latest = None
+
+-- What a capture still gives doesn't come before a time: so it is of the latest record that was read,
+-- unless no more are read.
+abbrev pub IsFrom : ℕ → Ahead → ℕ → Type 0
+IsFrom time Unread latest = time ≤ latest
+IsFrom time Held latest = time ≤ latest
+IsFrom time Ended latest = Unit {0}
+IsFrom time (Torn offset) latest = Unit {0}

@@ -7,8 +7,8 @@ ghost use Rattle.packet_feed.specs.Order.{in_order, IsOrdered};
 ghost use Rattle.packet_feed.specs.Faults.{IsCause, IsNoHeaderFault};
 ghost use Rattle.packet_feed.specs.Told.{EachFile, IsApart, KeepsOthers};
 ghost use Rattle.packet_feed.specs.Streams.{last_read};
-ghost use Rattle.packet_feed.specs.Sources.{files_in};
-ghost use Rattle.packet_feed.specs.Feeding.{StandsFor, Starts, Feeds, Counts, frame_of, original_of, first_tear, tears_in};
+ghost use Rattle.packet_feed.specs.Sources.{files_in, AreFrom};
+ghost use Rattle.packet_feed.specs.Feeding.{StandsFor, Starts, Feeds, GoesFrom, Counts, frame_of, original_of, first_tear, tears_in};
 
 use crate::fault::FeedFault;
 use crate::fed::Fed;
@@ -98,6 +98,9 @@ impl Feed {
             StandsFor start given self.old (F.told files.old) →
             Feeds start given self.new (F.told files.new) result }
         ensures counts { Counts self.old self.new result }
+        // Times never fall.
+        ensures times { (time : ℕ) → AreFrom time self.old.sources →
+            GoesFrom time self.new.sources result }
         ensures same_files { files_in self.new.sources ≡ files_in self.old.sources }
         ensures same_most { self.new.most ≡ self.old.most }
         ensures kept { let all = files_in self.old.sources in

@@ -5,7 +5,7 @@ ghost use Rattle.pcap_file.specs.Causes.{IsCause, IsNoHeaderFault};
 ghost use Rattle.pcap_file.specs.Record.{greatest_time};
 ghost use Rattle.packet_feed.specs.declared.ahead.Ahead.TheVariants.{Unread, Held};
 ghost use Rattle.packet_feed.specs.Arrivals.{arrival_of};
-ghost use Rattle.packet_feed.specs.Streams.{tear_in, time_in, last_read};
+ghost use Rattle.packet_feed.specs.Streams.{tear_in, time_in, last_read, IsFrom};
 ghost use Rattle.packet_feed.specs.Sources.{Opens, IsFilled};
 
 use crate::ahead::Ahead;
@@ -118,6 +118,8 @@ impl Source {
         ensures filled { let file = self.old.reading.file in
             OnOk result (IsFilled self.old self.new
             ((F.told files.old).rest file) ((F.told files.new).rest file)) }
+        ensures later { (time : ℕ) → IsFrom time self.old.ahead self.old.latest →
+            OnOk result (IsFrom time self.new.ahead self.new.latest) }
         ensures same_file { self.new.reading.file ≡ self.old.reading.file }
         ensures same_count { self.new.seq ≡ self.old.seq }
         ensures kept { Keeps (F.told files.old) (F.told files.new) self.old.reading.file }
@@ -145,6 +147,8 @@ impl Source {
         ensures filled { let file = self.old.reading.file in
             OnOk result (IsFilled self.old self.new
             ((F.told files.old).rest file) ((F.told files.new).rest file)) }
+        ensures later { (time : ℕ) → IsFrom time self.old.ahead self.old.latest →
+            OnOk result (IsFrom time self.new.ahead self.new.latest) }
         ensures same_file { self.new.reading.file ≡ self.old.reading.file }
         ensures same_count { self.new.seq ≡ self.old.seq }
         ensures kept { Keeps (F.told files.old) (F.told files.new) self.old.reading.file }

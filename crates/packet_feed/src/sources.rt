@@ -5,7 +5,7 @@ ghost use Rattle.nf_files.specs.Told.{Told};
 ghost use Rattle.packet_feed.specs.Arrivals.{Arrival};
 ghost use Rattle.packet_feed.specs.Faults.{IsCause, IsNoHeaderFault};
 ghost use Rattle.packet_feed.specs.Told.{EachFile, IsApart, KeepsOthers};
-ghost use Rattle.packet_feed.specs.Sources.{files_in, counts_in, SourcesStand, AreSettled, AreOpened, IsFirst, IsGiven};
+ghost use Rattle.packet_feed.specs.Sources.{files_in, counts_in, SourcesStand, AreSettled, AreFrom, AreOpened, IsFirst, IsGiven};
 ghost use Rattle.packet_feed.specs.Feeding.{first_tear, tears_in};
 
 use crate::fault::FeedFault;
@@ -53,6 +53,7 @@ pub(crate) fn fill_all<F: Files>(sources: &mut Seq<Source>, files: &mut F) -> Re
         SourcesStand start given sources.old (F.told files.old) →
         OnOk result (SourcesStand start given sources.new (F.told files.new)) }
     ensures settled { OnOk result (AreSettled sources.new) }
+    ensures later { (time : ℕ) → AreFrom time sources.old → OnOk result (AreFrom time sources.new) }
     ensures same_files { files_in sources.new ≡ files_in sources.old }
     ensures same_counts { counts_in sources.new ≡ counts_in sources.old }
     ensures kept { KeepsOthers (files_in sources.old) (F.told files.old) (F.told files.new) }

@@ -6,6 +6,7 @@ use Rattle.packet_feed.specs.Streams.{Stream}
 use Rattle.packet_feed.specs.Sources.{files_in}
 use Rattle.packet_feed.proofs.Gathering.{map_kept}
 use Rattle.packet_feed.proofs.Standing.{filled_stands, file_at, same_length, kept_more, settled_more, faulted_at}
+use Rattle.packet_feed.proofs.Times.{from_more}
 use Rattle.packet_feed.proofs.sources.fill_all.Goals as goal
 
 pub fill-requires : goal.fill-requires
@@ -72,6 +73,7 @@ loop-port-preserved g c =
     record {
       stand = λ start given h. filled_stands start given now port s c.fill.new.self (told c.loop-port.files) (told c.fill.new.files) apart at c.fill.ensures.same_file c.in-Ok.ensures.filled c.fill.ensures.kept (inv.stand start given h);
       settled = settled_more now port c.fill.new.self c.in-Ok.ensures.filled.settled inv.settled;
+      later = λ time h. from_more time now port s c.fill.new.self at (c.in-Ok.ensures.later time) (inv.later time h);
       same_files = map_kept (λ (x : Stream). x.reading.file) now port s c.fill.new.self at c.fill.ensures.same_file ∙ inv.same_files;
       same_counts = map_kept (λ (x : Stream). x.seq) now port s c.fill.new.self at c.fill.ensures.same_count ∙ inv.same_counts;
       kept = kept_more (files_in c.args.sources.now) port f (told c.args.files.now) (told c.loop-port.files) (told c.fill.new.files) file inv.kept c.fill.ensures.kept;

@@ -1,7 +1,8 @@
 use Rattle.std.proofs.Common.{◌∙◌, ◌+◌, sym, ap, subst, arith}
 use Rattle.packet_feed.specs.Feeding.{Feeding}
-use Rattle.packet_feed.specs.Sources.{SourcesStand, files_in}
+use Rattle.packet_feed.specs.Sources.{SourcesStand, files_in, AreFrom}
 use Rattle.packet_feed.proofs.Nexts.{next_stands, next_shown, next_files, next_feeding, has_more_at, are_all, are_torn}
+use Rattle.packet_feed.proofs.Times.{gives_from}
 use Rattle.packet_feed.proofs.feed.Feed.next.Goals as goal
 
 pub returns-then-self-clause-feeds : goal.returns-then-self-clause-feeds
@@ -46,3 +47,14 @@ returns-else-self-clause-counts g c =
 pub returns-else-self-clause-same_files : goal.returns-else-self-clause-same_files
 returns-else-self-clause-same_files g c =
     next_files c.in-Some.first.port c.give-packet.result c.fill_all.new.sources c.give-packet.new.sources c.give-packet.ensures ∙ c.fill_all.ensures.same_files ∙ ap (λ (v : Feeding). files_in v.sources) c.self.view_is
+
+pub returns-then-self-clause-times : goal.returns-then-self-clause-times
+returns-then-self-clause-times g c = λ time h. c.in_ok-fill_all.ensures.later time (subst (λ (v : Feeding). AreFrom time v.sources) (sym c.self.view_is) h)
+
+pub returns-in-None-clause-times : goal.returns-in-None-clause-times
+returns-in-None-clause-times g c = λ time h. c.in_ok-fill_all.ensures.later time (subst (λ (v : Feeding). AreFrom time v.sources) (sym c.self.view_is) h)
+
+pub returns-else-self-clause-times : goal.returns-else-self-clause-times
+returns-else-self-clause-times g c = λ time h.
+    gives_from time c.in-Some.first.port c.in-Some.first.time c.give-packet.result c.fill_all.new.sources c.give-packet.new.sources c.give-packet.ensures c.in_ok-fill_all.ensures.settled c.in-Some.ensures
+    (c.in_ok-fill_all.ensures.later time (subst (λ (v : Feeding). AreFrom time v.sources) (sym c.self.view_is) h))
