@@ -16,3 +16,4 @@ pub mod Splits
 pub mod Ahead
 pub mod AskedTexts
 pub mod GoneThrough
+pub mod Settled

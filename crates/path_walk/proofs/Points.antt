@@ -17,7 +17,7 @@ use Rattle.path_walk.specs.Counts.{count_at, count_of, count_waiting, count_left
 use Rattle.path_walk.proofs.Lines.{length_trees, tree_is}
 use Rattle.path_walk.proofs.Walking.{some_leaves}
 
-length_ahead : (b : Branch) (ps : List (List Branch)) → length (ahead b ps) ≡ length ps
+pub length_ahead : (b : Branch) (ps : List (List Branch)) → length (ahead b ps) ≡ length ps
 length_ahead b ps = length-map ps (λ (path : List Branch). b ∷ path)
 
 length_two : (b d : Branch) (xs ys : List (List Branch)) → length (ahead b xs ++ ahead d ys) ≡ length xs + length ys

@@ -1,5 +1,5 @@
 -- How many paths a walk along lines has still to count.
-use Rattle.std.specs.Prelude.{◌≡◌, ◌<◌, ◌+◌, ℕ, Bool, true, false, List, [], ◌∷◌, map, length, Option}
+use Rattle.std.specs.Prelude.{◌≡◌, ◌<◌, ◌+◌, ℕ, Bool, true, false, List, [], ◌∷◌, map, length, slice_get, Option, Some}
 use Rattle.path_walk.specs.declared.line.Line.{Line}
 use Rattle.path_walk.specs.declared.line.Line.TheVariants as lines
 use Rattle.path_walk.specs.declared.counting.Point.{Point}
@@ -82,3 +82,18 @@ count_waiting_along n ps = count_waiting (map text_seen n.texts.items) (trees []
 -- a step along numbered lines
 abbrev pub CountAdvancesAlong : Numbered → (old : Point) (olds : List Point) (new : Point) (news : List Point) → Bool → Type 0
 CountAdvancesAlong n old olds new news goes = CountAdvances goes (map text_seen n.texts.items) (trees [] n.lines.items) old olds new news
+
+-- how many paths a point has, along numbered lines
+abbrev pub count_along : Numbered → Point → ℕ
+count_along n p = count_of (map text_seen n.texts.items) (trees [] n.lines.items) p
+
+-- a line is an end, or a test that has one of so many texts
+abbrev pub IsPlain : ℕ → Line ℕ → Type 0
+IsPlain texts lines.Stop = Unit {0}
+IsPlain texts (lines.Free hit miss) = ⊥
+IsPlain texts (lines.Test n exchanged hit miss) = n < texts
+IsPlain texts (lines.Make made taken full) = ⊥
+
+-- and so are the first so many lines
+pub record ArePlain (texts : ℕ) (ls : List (Line ℕ)) (count : ℕ) : Type 0 where
+  pub at : (i : ℕ) (l : Line ℕ) → i < count → slice_get ls i ≡ Some l → IsPlain texts l

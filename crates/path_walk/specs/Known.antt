@@ -1,5 +1,5 @@
 -- What the tests of a path so far say, by the numbers of their texts.
-use Rattle.std.specs.Prelude.{ℕ, Bool, true, false, ◌==◌, not, List, map, get_or, slice_set, replicate, Option, Some, None, if◌then◌else◌}
+use Rattle.std.specs.Prelude.{◌≡◌, ◌<◌, ℕ, Bool, true, false, ◌==◌, not, is_some, List, map, get_or, slice_set, replicate, Option, Some, None, if◌then◌else◌}
 use Rattle.nf_base.specs.declared.packet.Field.{Field}
 use Rattle.path_walk.specs.declared.known.Known.{Known}
 use Rattle.path_walk.specs.declared.known.Mark.{Mark}
@@ -50,3 +50,7 @@ told_mark m n equals holds = record {
   marks = slice_set m.marks n (Some holds);
   numbers = if holds then with_number equals m.numbers else m.numbers;
 }
+
+-- the first so many texts each went some way
+pub record AreMarked (m : Marks) (count : ℕ) : Type 0 where
+  pub each : (n : ℕ) → n < count → is_some (mark_at m n) ≡ true

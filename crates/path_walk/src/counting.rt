@@ -1,11 +1,11 @@
 //! How many paths begin at a line: a walk that keeps what its tests say, and lists nothing.
-ghost use Rattle.std.specs.Prelude.{◌≡◌, ◌<◌, ◌≤◌, ◌+◌, IfOk, OnOk, IfErr, map, None, List, false, vec_len, length};
+ghost use Rattle.std.specs.Prelude.{◌≡◌, ◌<◌, ◌≤◌, ◌+◌, IfOk, OnOk, IfErr, map, None, List, true, false, vec_len, length};
 ghost use Rattle.path_walk.specs.Seen.{text_seen};
 ghost use Rattle.path_walk.specs.Known.{nothing_known, known_seen, excludes};
 ghost use Rattle.path_walk.specs.Tests.{TestText};
 ghost use Rattle.path_walk.specs.Lines.{IsLaid};
 ghost use Rattle.path_walk.specs.Walks.{one_way, paths_from};
-ghost use Rattle.path_walk.specs.Counts.{PointWaits, TestCounts, LineCounts, CountSteps, CountAdvancesAlong, count_left_along, count_waiting_along};
+ghost use Rattle.path_walk.specs.Counts.{PointWaits, TestCounts, LineCounts, CountSteps, CountAdvancesAlong, count_along, count_left_along, count_waiting_along, IsPlain, ArePlain};
 ghost use Rattle.path_walk.specs.Listed.{IsCause};
 ghost use Rattle.path_walk.specs.declared.line.Line.TheVariants as lines;
 ghost use Rattle.path_walk.specs.declared.fault.WalkFault.TheVariants.{TooManyPaths};
@@ -154,6 +154,30 @@ fn step(
     Ok(true)
 }
 
+/// Whether a line is an end, or a test that has one of so many texts.
+fn is_plain(line: &Line<usize>, texts: usize) -> bool
+    ensures { result ≡ true → IsPlain texts line.now }
+{
+    match line {
+        Line::Stop => true,
+        Line::Free { .. } => false,
+        Line::Test { test, .. } => *test < texts,
+        Line::Make { .. } => false,
+    }
+}
+
+/// How many lines, from the first on, are ends and tests of the packet alone.
+fn plain_lines(numbered: &Numbered<'_>) -> usize
+    ensures { ArePlain (length numbered.now.texts.items) numbered.now.lines.items result }
+{
+    for (i, line) in numbered.lines.as_slice().iter().enumerate() {
+        if !is_plain(line, numbered.texts.len()) {
+            return i;
+        }
+    }
+    numbered.lines.len()
+}
+
 /// One step of a path: `false` where it ends.
 fn advance(
     alloc: Global,
@@ -177,28 +201,48 @@ fn advance(
     }
 }
 
-/// Follows a path to its end, while fewer than `room` others wait.
+/// Whether a point comes to tests alone, each of which goes as its text went.
+fn is_settled(numbered: &Numbered<'_>, plain: usize, point: &Point) -> bool
+    requires laid { IsLaid numbered.now.lines.items }
+    requires plain { ArePlain (length numbered.now.texts.items) numbered.now.lines.items plain }
+    ensures { result ≡ true → count_along numbered.now point.now ≡ 1 }
+{
+    point.at < plain && point.known.are_marked(numbered.texts.len())
+}
+
+/// Follows a path until it has one way left, while fewer than `room` others wait. The first `plain`
+/// lines are ends and tests of the packet alone.
 fn follow(
     alloc: Global,
     numbered: &Numbered<'_>,
+    plain: usize,
     first: Point,
     waiting: &mut Vec<Point>,
     room: usize,
 ) -> Result<(), WalkFault>
     requires laid { IsLaid numbered.now.lines.items }
+    requires plain { ArePlain (length numbered.now.texts.items) numbered.now.lines.items plain }
     requires room { vec_len waiting.old < room }
     ensures left { OnOk result (count_left_along numbered.now first waiting.old.items ≡ 1 + count_waiting_along numbered.now waiting.new.items) }
     ensures within { OnOk result (vec_len waiting.new < room) }
     ensures many { IfErr result (λ fault. fault ≡ TooManyPaths → room < count_left_along numbered.now first waiting.old.items) }
 {
     let mut point = first;
+    if is_settled(numbered, plain, &point) {
+        return Ok(());
+    }
     'steps: loop {
+        let others = waiting.len();
         let goes = advance(alloc, numbered, &mut point, waiting)?;
         if !goes {
             return Ok(());
         }
         if waiting.len() >= room {
             return Err(WalkFault::TooManyPaths);
+        }
+        // What a path knows is looked at where it branches, not at each of its tests.
+        if waiting.len() > others && is_settled(numbered, plain, &point) {
+            return Ok(());
         }
     }
 }
@@ -210,12 +254,13 @@ pub fn counted(alloc: Global, numbered: &Numbered<'_>, at: usize) -> Result<u32,
     ensures most { IfOk result (λ n. n ≤ 4096) }
     ensures many { IfErr result (IsCause (paths_from numbered.now at)) }
 {
+    let plain = plain_lines(numbered);
     let mut count = 0;
     let mut waiting = Vec::new(alloc);
     let known = Known::new(alloc, numbered.texts.len())?;
     waiting.push(Point { at, known })?;
     while let Some(point) = waiting.pop() {
-        follow(alloc, numbered, point, &mut waiting, MOST - count)?;
+        follow(alloc, numbered, plain, point, &mut waiting, MOST - count)?;
         count += 1;
     }
     Ok(count as u32)

@@ -72,8 +72,9 @@ pub fn paths(alloc: Global, func: &Func, port: u32) -> Result<Vec<Path>, WalkFau
 
 /// How many feasible paths a port's handler has. A port that the function doesn't have has none.
 ///
-/// The work is that of listing them; the memory is that of the text and of the tests of the paths that
-/// branch off one path.
+/// The work is at most that of listing them: a path is followed until nothing but tests stand ahead of
+/// it, each of a text that went some way on it already. The memory is that of the text and of the tests
+/// of the paths that branch off one path.
 pub fn count_paths(alloc: Global, func: &Func, port: u32) -> Result<u32, WalkFault>
     ensures count { IfOk result (λ n. n ≡ length (port_branches (function_of func.now) port)) }
     // More than 4,096 are refused, and no fewer.
