@@ -1,5 +1,5 @@
 -- Packets that meet have one queue.
-use Rattle.std.proofs.Common.{◌≡◌, ℕ, List, [], ◌∷◌, ◌++◌, Contains, refl, ap, sym, ◌∙◌, subst}
+use Rattle.std.proofs.Common.{◌≡◌, List, ◌∷◌, Contains, ap, sym, ◌∙◌, subst}
 use Rattle.std.proofs.lemmas.List.Elements.{Contains-append_right}
 use Rattle.nf_base.specs.declared.packet.Packet.{Packet}
 use Rattle.nf_base.specs.Text.{Function}

@@ -5,3 +5,10 @@ pub mod Taking
 pub mod Giving
 pub mod Keyed
 pub mod Played
+pub mod Apart
+pub mod Uniting
+pub mod Finishing
+pub mod Setups
+pub mod Counting
+pub mod Starting
+pub mod Reserving

@@ -1,7 +1,7 @@
 -- What shards stand for, call by call.
-use Rattle.std.proofs.Common.{◌≡◌, ◌≢◌, ◌<◌, ℕ, zero, suc, ◌==◌, Bool, true, false, eq-eqb, ne_eqb, List, [], ◌∷◌, ◌++◌, length, map, Option, Some, None, slice_get, slice_set, if◌then◌else◌, refl, ap, ap₂, sym, ◌∙◌, subst, arith, inl, inr}
-use Rattle.std.proofs.lemmas.Option.{same_Some}
+use Rattle.std.proofs.Common.{◌≡◌, ◌<◌, ℕ, ◌==◌, Bool, true, false, eq-eqb, ne_eqb, List, [], ◌∷◌, ◌++◌, length, map, Option, Some, None, slice_get, if◌then◌else◌, refl, ap, ap₂, sym, ◌∙◌, subst, arith, inl, inr}
 use Rattle.std.proofs.lemmas.List.{length-set}
+use Rattle.std.proofs.lemmas.Option.{slice_get_within}
 use Rattle.nf_base.specs.declared.packet.Packet.{Packet}
 use Rattle.nf_base.specs.declared.share.Share.{Share}
 use Rattle.nf_base.specs.Text.{Function}
@@ -9,40 +9,42 @@ use Rattle.nf_base.specs.Functions.{function_of}
 use Rattle.nf_base.proofs.Mixes.{got_set}
 use Rattle.nf_engine.specs.View.{Fixed}
 use Rattle.rss_table.specs.Tables.{even_table, queue_of}
+use Rattle.shard_laws.specs.Queues.{time_after, last_time}
 use Rattle.shard_machine.specs.declared.event.Answer.{Answer}
 use Rattle.shard_machine.specs.declared.event.Worked.{Worked}
-use Rattle.shard_machine.specs.Machine.{Setup, Machine, Worker, packets_of, packets_at, answers_at}
-use Rattle.shard_machine.specs.Events.{Works, IsNext, with_worker, given, dispatched, collected}
-use Rattle.shard_machine.specs.Moments.{Holds, IsAtStop}
+use Rattle.shard_machine.specs.Machine.{Setup, Machine, Worker, packets_of, lines_of, packets_at, answers_at}
+use Rattle.shard_machine.specs.Events.{Works, IsNext, with_worker, collected}
 use Rattle.shard_machine.proofs.Sent.{append_nil, append_twice, map_append, same_behind, packets_append, answers_append, packets_of_at, one_at, one_answer_at, no_answer_at}
-use Rattle.shard_machine.proofs.Kept.{dispatch_holds, work_holds, collect_holds}
+use Rattle.shard_machine.proofs.Kept.{work_holds, collect_holds}
 use Rattle.shard_core.specs.Held as one
 use Rattle.shard_core.specs.Held.{Held, WorksOn, StartsWith}
-use Rattle.shard_core.specs.Sharded.{Sharded, queue_in, IsSetupOf, WorkerStands, StandsFor, OneChanged, GivenTo, WorkedAt, WorksAt, answer_of, TakenFrom, Takes, NoneTaken, Collects, StopIn, IsStopOf, SameButRooms}
+use Rattle.shard_core.specs.Sharded.{Sharded, IsWhole, IsSetupOf, WorkerStands, StandsFor, OneChanged, WorkedAt, WorksAt, answer_of, TakenFrom, Takes, NoneTaken, Collects, StopIn, IsStopOf, SameButRooms}
 use Rattle.shard_core.specs.declared.collected.Collected.{Collected}
 use Rattle.shard_core.specs.declared.collected.Stop.{Stop}
 use Rattle.shard_machine.proofs.Ran.{stop_packet}
+use Rattle.shard_core.proofs.Changing.{some_worker}
 use Rattle.shard_core.proofs.Standing.{works_on, same_stands}
-use Rattle.shard_core.proofs.Changing.{each_changed}
 
-if_true : {A : Type 0} (b : Bool) (x y : A) → b ≡ true → (if b then x else y) ≡ x
+pub if_true : {A : Type 0} (b : Bool) (x y : A) → b ≡ true → (if b then x else y) ≡ x
 if_true true x y e = refl
 if_true false x y e = cc
 
-if_false : {A : Type 0} (b : Bool) (x y : A) → b ≡ false → (if b then x else y) ≡ y
+pub if_false : {A : Type 0} (b : Bool) (x y : A) → b ≡ false → (if b then x else y) ≡ y
 if_false true x y e = cc
 if_false false x y e = refl
 
 -- the setup stays
 pub same_setup : (x : Setup) (w : ℕ) (old new : Sharded) (before after : Held) → OneChanged w old new before after → IsSetupOf x old → IsSetupOf x new
-same_setup x w old new before after c s =
-    let long : length new.workers ≡ length old.workers = ap length c.workers ∙ length-set old.workers w after in
-    record {
-      is = s.is;
-      function = s.function ∙ ap function_of (sym c.func);
-      workers = s.workers ∙ sym long;
-      queue = λ p. s.queue p ∙ ap₂ (λ n keys. queue_of (even_table n) keys p) (sym long) (sym c.keys);
-    }
+same_setup x w old new before after c s = record {
+  is = s.is;
+  function = s.function ∙ ap function_of (sym c.func);
+  workers = s.workers ∙ sym c.count;
+  queue = λ p. s.queue p ∙ ap₂ (λ n keys. queue_of (even_table n) keys p) (sym c.count) (sym c.keys);
+}
+
+-- all workers are there as before
+pub changed_whole : (w : ℕ) (old new : Sharded) (before after : Held) → OneChanged w old new before after → IsWhole old → IsWhole new
+changed_whole w old new before after c whole = ap length c.workers ∙ length-set old.workers w after ∙ whole ∙ sym c.count
 
 -- a worker works
 pub works_at : (x : Setup) (m : Machine) (w : ℕ) (came : Worked) (old new : Sharded) → StandsFor x m old → WorkedAt w came old new → WorksAt x m w came new
@@ -73,6 +75,8 @@ works_at x m w came old new h n =
         left = h.left;
         sent = h.sent;
         order = ap (λ z. z.items) n.queues ∙ h.order;
+        time = n.time ∙ h.time;
+        whole = changed_whole w old new n.before n.after n.changed h.whole;
       };
     }
 
@@ -83,6 +87,11 @@ left_first queue (p ∷ later) q qs e = (p, (later, refl, cc, cc))
 
 same_first : {A : Type 0} (x y : A) (xs ys : List A) → x ∷ xs ≡ y ∷ ys → x ≡ y
 same_first x y xs ys e = cc
+
+-- the time of the last handled packet, after one more answer
+last_more : (time : ℕ) (xs : List Answer) (a : Answer) → last_time time (lines_of (xs ++ a ∷ [])) ≡ time_after (last_time time (lines_of xs)) a.packet
+last_more time [] a = refl
+last_more time (b ∷ xs) a = last_more (time_after time b.packet) xs a
 
 -- an answer is taken
 pub takes_on : (x : Setup) (m : Machine) (c : Collected) (old new : Sharded) → StandsFor x m old → TakenFrom c old new → Collects x m (Some c) new
@@ -138,6 +147,8 @@ takes_on x m c old new h n =
         left = later;
         sent = h.sent ∙ ap (λ zs. packets_of m.collected ++ zs) (left ∙ ap (λ z. z ∷ later) (sym is)) ∙ sym (append_twice (packets_of m.collected) (a.packet ∷ []) later) ∙ ap (λ zs. zs ++ later) (sym (map_append (λ (b : Answer). b.packet) m.collected (a ∷ [])));
         order = rest;
+        time = n.time ∙ ap (λ (t : ℕ). time_after t c.packet) h.time ∙ sym (last_more 0 m.collected a);
+        whole = changed_whole u old new n.before n.after n.changed h.whole;
       },
     )
 
@@ -148,11 +159,6 @@ no_left x m left a sent next = (next.later, same_behind (packets_of m.collected)
 head_queue : (queue : Packet → ℕ) (q : ℕ) (qs : List ℕ) (left : List Packet) (p : Packet) (later : List Packet) → q ∷ qs ≡ map queue left → left ≡ p ∷ later → q ≡ queue p
 head_queue queue q qs left p later e f = same_first q (queue p) qs (map queue later) (e ∙ ap (map queue) f)
 
-there_is : (n : ℕ) (ws : List Held) (q : ℕ) → q < length ws → (held : Held) × (slice_get ws q ≡ Some held)
-there_is n [] q lt = absurd (omega (arith, lt))
-there_is n (h ∷ ws) zero lt = (h, refl)
-there_is n (h ∷ ws) (suc q) lt = there_is n ws q (omega (arith, lt))
-
 none_next : (x : Setup) (m : Machine) (queues : List ℕ) (old : Sharded) → StandsFor x m old → old.queues.items ≡ queues → NoneTaken queues old.workers → (a : Answer) → IsNext x m a → ⊥
 none_next x m [] old h e none a next =
     let w = no_left x m h.left a h.sent next in
@@ -162,8 +168,9 @@ none_next x m (q ∷ qs) old h e none a next =
     let w = no_left x m h.left a h.sent next in
     let at : q ≡ x.queue a.packet = head_queue x.queue q qs h.left a.packet w.0 (sym e ∙ h.order) w.1 in
     let n = h.setup.workers in
+    let whole = h.whole in
     let lt : x.queue a.packet < x.workers = h.setup.is.below a.packet in
-    let held = there_is 0 old.workers (x.queue a.packet) (omega (arith, n, lt)) in
+    let held = some_worker old.workers (x.queue a.packet) (omega (arith, n, lt, whole)) in
     let k = h.workers (x.queue a.packet) held.0 held.1 in
     let nothing : held.0.answers ≡ [] = none held.0 (ap (slice_get old.workers) at ∙ held.1) in
     let had : answers_at x.queue (x.queue a.packet) m.collected ++ [] ≡ answers_at x.queue (x.queue a.packet) m.collected ++ a ∷ next.more = sym (k.stands.worked ∙ ap (λ zs. answers_at x.queue (x.queue a.packet) m.collected ++ zs) nothing) ∙ next.worked in
@@ -181,20 +188,17 @@ same_rooms x m old new s h = record {
   };
   holds = h.holds;
   workers = λ w held at.
-      let lt : w < length new.workers = within new.workers w held at in
-      let was = there_is 0 old.workers w (let c = s.count in omega (arith, lt, c)) in
+      let lt : w < length new.workers = slice_get_within new.workers w held at in
+      let was = some_worker old.workers w (let c = s.long in omega (arith, lt, c)) in
       let k = h.workers w was.0 was.1 in
       let e = s.each w was.0 held was.1 at in
       record { stands = same_stands was.0 held (m.worker w) (answers_at x.queue w m.collected) e k.stands; share = ap (λ t. t.share) e.tables ∙ k.share };
   left = h.left;
   sent = h.sent;
   order = s.queues ∙ h.order;
+  time = s.time ∙ h.time;
+  whole = s.long ∙ h.whole ∙ sym s.count;
 }
-  where
-    within : (ws : List Held) (w : ℕ) (held : Held) → slice_get ws w ≡ Some held → w < length ws
-    within [] w held e = cc
-    within (a ∷ ws) zero held e = omega arith
-    within (a ∷ ws) (suc w) held e = let lt = within ws w held e in omega (arith, lt)
 
 pub collects_on : (x : Setup) (m : Machine) (got : Option Collected) (old new : Sharded) → StandsFor x m old → Takes got old new → Collects x m got new
 collects_on x m None old new h n = (none_next x m old.queues.items old h refl n.0, same_rooms x m old new n.1 h)

@@ -13,14 +13,14 @@ use Rattle.shard_machine.specs.declared.event.Worked.{Worked}
 use Rattle.shard_machine.specs.Machine.{Setup, Machine}
 use Rattle.shard_machine.specs.Events as event
 use Rattle.shard_machine.specs.Events.{Plays, dispatched}
-use Rattle.shard_machine.proofs.Sent.{append_twice, map_append}
+use Rattle.shard_machine.proofs.Sent.{map_append}
 use Rattle.shard_core.specs.declared.collected.Collected.{Collected}
 use Rattle.shard_core.specs.Held.{Held}
-use Rattle.shard_core.specs.Sharded.{Sharded, StandsFor, OneChanged, GivenTo, WorkedAt, WorksAt, TakenFrom, Takes, Collects, SameButRooms, answer_of}
+use Rattle.shard_core.specs.Sharded.{Sharded, IsWhole, StandsFor, OneChanged, GivenTo, WorkedAt, WorksAt, Takes, Collects, SameButRooms, answer_of}
 use Rattle.shard_core.specs.Plays.{Played, PlayedFront, SameSize}
 use Rattle.shard_core.proofs.Giving.{on_both}
 
-plays_append : (x : Setup) (es fs : List Event) (m n k : Machine) (got more : List Answer) → Plays x es m n got → Plays x fs n k more → Plays x (es ++ fs) m k (got ++ more)
+pub plays_append : (x : Setup) (es fs : List Event) (m n k : Machine) (got more : List Answer) → Plays x es m n got → Plays x fs n k more → Plays x (es ++ fs) m k (got ++ more)
 plays_append x es fs m n k got more (event.ends j) q = q
 plays_append x es fs m n k got more (event.dispatches p rest a b c go) q = event.dispatches p (rest ++ fs) m k (got ++ more) (plays_append x rest fs (dispatched x p m) n k got more go q)
 plays_append x es fs m n k got more (event.works w came worker rest a b c lt one go) q = event.works w came worker (rest ++ fs) m k (got ++ more) lt one (plays_append x rest fs (event.with_worker w worker m) n k got more go q)
@@ -47,9 +47,10 @@ one_dispatched x m p new h = record { machine = dispatched x p m; plays = event.
 pub one_worked : (x : Setup) (m : Machine) (w : ℕ) (came : Worked) (old new : Sharded) → StandsFor x m old → w < length old.workers → WorksAt x m w came new → Played x m (Work w ∷ []) [] new
 one_worked x m w came old new h lt n =
     let count = h.setup.workers in
+    let whole = h.whole in
     record {
       machine = event.with_worker w n.next m;
-      plays = event.works w came n.next [] m (event.with_worker w n.next m) [] (omega (arith, lt, count)) n.works (event.ends (event.with_worker w n.next m));
+      plays = event.works w came n.next [] m (event.with_worker w n.next m) [] (omega (arith, lt, count, whole)) n.works (event.ends (event.with_worker w n.next m));
       queues = λ k d l. absurd (omega (arith, l));
       stands = n.stands;
     }
@@ -69,10 +70,10 @@ one_collected x m (Some c) new n = record {
 
 -- the size stays
 changed_size : (w : ℕ) (old new : Sharded) (before after : Held) → OneChanged w old new before after → SameSize old new
-changed_size w old new before after c = record { func = c.func; count = ap length c.workers ∙ length-set old.workers w after }
+changed_size w old new before after c = record { func = c.func; count = c.count; long = ap length c.workers ∙ length-set old.workers w after }
 
 pub rooms_size : (old new : Sharded) → SameButRooms old new → SameSize old new
-rooms_size old new s = record { func = s.func; count = s.count }
+rooms_size old new s = record { func = s.func; count = s.count; long = s.long }
 
 pub given_size : {T E : Type 0} (r : Result T E) (p : Packet) (old new : Sharded) → OnOk r (GivenTo p old new) → OnErr r (SameButRooms old new) → SameSize old new
 given_size r p old new given err = on_both r (GivenTo p old new) (SameButRooms old new) (SameSize old new) given err (λ n. changed_size _ old new n.before n.after n.changed) (rooms_size old new)
@@ -106,8 +107,12 @@ take_all (x ∷ xs) (suc n) le = ap (λ zs. x ∷ zs) (take_all xs n (omega (ari
 pub played_all : (x : Setup) (m : Machine) (all : List Event) (i : ℕ) (got : List Collected) (v : Sharded) → length all ≤ i → Played x m (take i all) got v → Played x m all got v
 played_all x m all i got v le p = subst (λ (es : List Event). Played x m es got v) (take_all all i le) p
 
+-- all workers are there as before
+pub still_whole : (old new : Sharded) → SameSize old new → IsWhole old → IsWhole new
+still_whole old new s whole = s.long ∙ whole ∙ sym s.count
+
 pub sizes_more : (old mid new : Sharded) → SameSize old mid → SameSize mid new → SameSize old new
-sizes_more old mid new a b = record { func = b.func ∙ a.func; count = b.count ∙ a.count }
+sizes_more old mid new a b = record { func = b.func ∙ a.func; count = b.count ∙ a.count; long = b.long ∙ a.long }
 
 -- where nothing was played yet
 pub any_err : {T E : Type 0} (r : Result T E) (P : Type 0) → P → OnErr r P

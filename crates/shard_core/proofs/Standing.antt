@@ -1,11 +1,9 @@
 -- What a worker stands for, call by call.
 use Rattle.std.proofs.Common.{◌≡◌, ℕ, List, [], ◌∷◌, ◌++◌, Option, Some, None, refl, ap, sym, ◌∙◌, subst}
-use Rattle.nf_base.specs.declared.packet.Packet.{Packet}
-use Rattle.nf_base.specs.declared.share.Share.{Share}
 use Rattle.nf_base.specs.declared.state.State.{State}
 use Rattle.nf_base.specs.Text.{Function}
 use Rattle.nf_base.specs.Shares.{share_stops, IsShareStop}
-use Rattle.nf_base.specs.Step.{StepResult, step_by}
+use Rattle.nf_base.specs.Step.{step_by}
 use Rattle.shard_machine.specs.declared.event.Answer.{Answer}
 use Rattle.shard_machine.specs.declared.event.Worked.{Worked}
 use Rattle.shard_machine.specs.declared.event.Worked.TheVariants as worked

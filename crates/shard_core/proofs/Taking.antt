@@ -1,5 +1,5 @@
 -- An answer taken from one worker of shards.
-use Rattle.std.proofs.Common.{◌≡◌, ◌<◌, ◌≤◌, ℕ, zero, suc, List, [], ◌∷◌, length, All, Option, Some, None, slice_get, slice_index_or, slice_set, refl, ap, ap₂, sym, ◌∙◌, subst, arith, inl, inr}
+use Rattle.std.proofs.Common.{◌≡◌, ◌<◌, ◌≤◌, ℕ, suc, List, [], ◌∷◌, length, All, Option, Some, None, slice_get, slice_index_or, slice_set, refl, ap, ap₂, sym, ◌∙◌, subst, arith, inl, inr}
 use Rattle.std.proofs.lemmas.Option.{same_Some, slice_get_read}
 use Rattle.std.proofs.lemmas.List.{length-set}
 use Rattle.nf_base.specs.declared.func.Func.{Func}
@@ -7,14 +7,13 @@ use Rattle.nf_base.specs.declared.keys.Keys.{Keys}
 use Rattle.nf_base.specs.declared.packet.Packet.{Packet}
 use Rattle.nf_base.proofs.Mixes.{got_set}
 use Rattle.nf_engine.specs.View.{fixed_of}
-use Rattle.vig_tables.specs.TablesState.{TablesState}
 use Rattle.std.specs.Borrow.{Bor}
 use Rattle.std.specs.Prelude.{IfSome, IfNone}
 use Rattle.shard_core.specs.declared.collected.Stop.{Stop}
 use Rattle.shard_core.specs.Fifos.{Pending, IsFirst}
 use Rattle.shard_core.specs.Held.{Held, SameButRoom, IsStopIn, IsNoStop}
-use Rattle.shard_core.specs.Sharded.{Sharded, IsSharded, SameButRooms, HasRoom, NoneTaken, ComesFirst, StopIn}
-use Rattle.shard_core.proofs.Changing.{worker_of, changed_sharded, changed_room}
+use Rattle.shard_core.specs.Sharded.{sharded_of, IsSharded, SameButRooms, HasRoom, NoneTaken, ComesFirst, StopIn}
+use Rattle.shard_core.proofs.Changing.{worker_of, changed_sharded}
 
 pub first_below : (q n : ℕ) (qs : List ℕ) → ComesFirst q qs → All (λ (p : ℕ). p < n) qs → q < n
 first_below q n [] first all = absurd first
@@ -33,42 +32,44 @@ same_waiting before after t = ap (λ (h : Held). h.waiting) t
 pub same_stopped : (before after : Held) → Taken before after → after.stopped ≡ before.stopped
 same_stopped before after t = ap (λ (h : Held). h.stopped) t
 
-pub there : (func : Func) (keys : Keys) (ws : List Held) (queues table : List ℕ) (q : ℕ) (before : Held) → IsSharded func keys ws queues table → ComesFirst q queues → before ≡ slice_index_or ws q before → slice_get ws q ≡ Some before
-there func keys ws queues table q before is first value = slice_get_read ws (length ws) q before refl (first_below q (length ws) queues first is.below) value
+pub there : (func : Func) (keys : Keys) (count : ℕ) (ws : List Held) (queues table : List ℕ) (q : ℕ) (before : Held) → length ws ≡ count → IsSharded func keys count ws queues table → ComesFirst q queues → before ≡ slice_index_or ws q before → slice_get ws q ≡ Some before
+there func keys count ws queues table q before whole is first value = slice_get_read ws (length ws) q before refl (subst (λ (n : ℕ). q < n) (sym whole) (first_below q count queues first is.below)) value
 
-pub taken_sharded : (func : Func) (keys : Keys) (ws : List Held) (queues table : List ℕ) (q : ℕ) (before after : Held) → IsSharded func keys ws queues table → slice_get ws q ≡ Some before → Taken before after → IsSharded func keys (slice_set ws q after) queues table
-taken_sharded func keys ws queues table q before after is at t =
+pub taken_sharded : (func : Func) (keys : Keys) (count : ℕ) (ws : List Held) (queues table : List ℕ) (q : ℕ) (before after : Held) → IsSharded func keys count ws queues table → slice_get ws q ≡ Some before → Taken before after → IsSharded func keys count (slice_set ws q after) queues table
+taken_sharded func keys count ws queues table q before after is at t =
     let one = is.each q before at in
-    changed_sharded func keys ws queues table q after is
-    (worker_of func.chains (length func.handlers) (length ws) q before after one (ap fixed_of (same_tables before after t)) (subst (All (λ (p : Packet). p.id.port < length func.handlers)) (sym (same_waiting before after t)) one.ports_are))
+    changed_sharded func keys count ws queues table q after is
+    (worker_of func.chains (length func.handlers) count q before after one (ap fixed_of (same_tables before after t)) (subst (All (λ (p : Packet). p.id.port < length func.handlers)) (sym (same_waiting before after t)) one.ports_are))
 
 below_tail : (n p : ℕ) (ps : List ℕ) → All (λ (q : ℕ). q < n) (p ∷ ps) → All (λ (q : ℕ). q < n) ps
 below_tail n p ps all k d lt = all (suc k) d (omega (arith, lt))
 
-pub popped_sharded : (func : Func) (keys : Keys) (ws : List Held) (q : ℕ) (queues rest table : List ℕ) → queues ≡ q ∷ rest → IsSharded func keys ws queues table → IsSharded func keys ws rest table
-popped_sharded func keys ws q queues rest table e is = record {
+pub popped_sharded : (func : Func) (keys : Keys) (count : ℕ) (ws : List Held) (q : ℕ) (queues rest table : List ℕ) → queues ≡ q ∷ rest → IsSharded func keys count ws queues table → IsSharded func keys count ws rest table
+popped_sharded func keys count ws q queues rest table e is = record {
   table_is = is.table_is;
   some = is.some;
   most = is.most;
   keys_fit = is.keys_fit;
   each = is.each;
-  below = below_tail (length ws) q rest (subst (All (λ (p : ℕ). p < length ws)) e is.below);
+  below = below_tail count q rest (subst (All (λ (p : ℕ). p < count)) e is.below);
 }
 
-pub more_room : (n : ℕ) (func : Func) (keys : Keys) (ws : List Held) (queues more : Pending ℕ) → queues.room ≤ more.room → HasRoom n (record { func = func; keys = keys; workers = ws; queues = queues }) → HasRoom n (record { func = func; keys = keys; workers = ws; queues = more })
-more_room n func keys ws queues more le room = record { queues = let l = room.queues in omega (arith, l, le); workers = room.workers }
+pub more_room : (n : ℕ) (func : Func) (keys : Keys) (count : ℕ) (ws : List Held) (queues more : Pending ℕ) (time later : ℕ) → queues.room ≤ more.room → HasRoom n (sharded_of func keys count ws queues time) → HasRoom n (sharded_of func keys count ws more later)
+more_room n func keys count ws queues more time later le room = record { queues = let l = room.queues in omega (arith, l, le); workers = room.workers }
 
-pub same_but_rooms : (func : Func) (keys : Keys) (ws : List Held) (queues : Pending ℕ) (q : ℕ) (before after : Held) → slice_get ws q ≡ Some before → SameButRoom before after →
-    SameButRooms (record { func = func; keys = keys; workers = ws; queues = queues }) (record { func = func; keys = keys; workers = slice_set ws q after; queues = queues })
-same_but_rooms func keys ws queues q before after at same = record {
+pub same_but_rooms : (func : Func) (keys : Keys) (count : ℕ) (ws : List Held) (queues : Pending ℕ) (time q : ℕ) (before after : Held) → slice_get ws q ≡ Some before → SameButRoom before after →
+    SameButRooms (sharded_of func keys count ws queues time) (sharded_of func keys count (slice_set ws q after) queues time)
+same_but_rooms func keys count ws queues time q before after at same = record {
   func = refl;
   keys = refl;
-  count = length-set ws q after;
+  count = refl;
+  long = length-set ws q after;
   each = λ w a b was is. elim (got_set ws q w after b is) [
     | inl e ↦ subst (λ (z : Held). SameButRoom z b) (same_Some _ _ (sym at ∙ ap (slice_get ws) (sym e.0) ∙ was)) (subst (λ (z : Held). SameButRoom before z) e.1 same)
     | inr e ↦ subst (λ (z : Held). SameButRoom a z) (same_Some _ _ (sym was ∙ e.1)) (record { tables = refl; waiting = refl; answers = refl; stopped = refl })
   ];
   queues = refl;
+  time = refl;
 }
 
 pub first_is : (q : ℕ) (queues : List ℕ) (r : ℕ) (rest : List ℕ) → ComesFirst q queues → queues ≡ r ∷ rest → queues ≡ q ∷ rest

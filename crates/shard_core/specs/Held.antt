@@ -1,5 +1,5 @@
 -- What a worker holds, and what it stands for.
-use Rattle.std.specs.Prelude.{◌≡◌, ℕ, ◌-◌, min, List, [], ◌∷◌, ◌++◌, length, Option, Some, None}
+use Rattle.std.specs.Prelude.{◌≡◌, ◌≤◌, ℕ, suc, ◌-◌, min, List, [], ◌∷◌, ◌++◌, length, Option, Some, None}
 use Rattle.nf_base.specs.declared.packet.Packet.{Packet}
 use Rattle.nf_base.specs.declared.packet.PacketId.{PacketId}
 use Rattle.nf_base.specs.declared.done.Done.{Done}
@@ -8,6 +8,7 @@ use Rattle.nf_base.specs.Text.{Function}
 use Rattle.nf_base.specs.Shares.{share_stops, AreOwn}
 use Rattle.nf_base.specs.Step.{step_by}
 use Rattle.nf_engine.specs.Handlings.{StopsAt}
+use Rattle.nf_engine.specs.View.{fixed_of}
 use Rattle.nf_engine.specs.declared.handling.Handled.{Handled}
 use Rattle.nf_engine.specs.declared.handling.Handled.TheVariants as handled
 use Rattle.vig_tables.specs.TablesState.{TablesState, opened_tables}
@@ -19,8 +20,8 @@ use Rattle.shard_machine.specs.Events.{Works}
 use Rattle.shard_core.specs.declared.collected.Stop.{Stop}
 use Rattle.shard_core.specs.Fifos.{Pending}
 
--- a worker's tables, the packets that wait for it, its answers that were not taken yet, the chain at
--- which it stopped, and for how many more packets it has room
+-- a worker's tables, the packets that wait for it, its answers that were not taken yet, the chain
+-- at which it stopped, and for how many more packets it has room
 pub record Held : Type 0 where
   pub tables : TablesState
   pub waiting : List Packet
@@ -116,6 +117,19 @@ HeldWorks f worked.Done old new = WorksNext f old new
 HeldWorks f worked.Idle old new =
     (old.stopped ≡ None) × (old.waiting ≡ []) × SameButRoom old new
 HeldWorks f worked.Stopped old new = Stops f old.stopped old new
+
+-- what one call of a worker's work comes to: its chains and its share stay, and no room is taken
+pub record WorksOnce (f : Function) (came : Worked) (old new : Held) : Type 0 where
+  pub works : HeldWorks f came old new
+  pub fixed : fixed_of new.tables ≡ fixed_of old.tables
+  pub room : old.room ≤ new.room
+
+-- so many calls, one after another
+pub data WorkedTimes (f : Function) (first : Held) : ℕ → Held → Type 0 where
+  begins : WorkedTimes f first 0 first
+  goes_on : (n : ℕ) (came : Worked) (before after : Held) →
+      WorkedTimes f first n before → WorksOnce f came before after →
+      WorkedTimes f first (suc n) after
 
 -- what handling a packet at once comes to
 abbrev pub HeldHandles : Function → Packet → Handled → Held → Held → Type 0

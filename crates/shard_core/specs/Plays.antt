@@ -1,6 +1,5 @@
 -- What playing events comes to.
 use Rattle.std.specs.Prelude.{◌≡◌, ◌<◌, ℕ, List, length, map, take, All}
-use Rattle.nf_base.specs.declared.packet.Packet.{Packet}
 use Rattle.shard_machine.specs.declared.event.Event.{Event}
 use Rattle.shard_machine.specs.declared.event.Event.TheVariants.{Dispatch, Work, Collect}
 use Rattle.shard_machine.specs.Machine.{Setup, Machine}
@@ -14,10 +13,11 @@ IsValid ports workers (Dispatch packet) = packet.id.port < ports
 IsValid ports workers (Work w) = w < workers
 IsValid ports workers Collect = Unit {0}
 
--- the function and the number of workers are the same
+-- the function and the number of queues are the same, and as many workers are there
 pub record SameSize (old new : Sharded) : Type 0 where
   pub func : new.func ≡ old.func
-  pub count : length new.workers ≡ length old.workers
+  pub count : new.count ≡ old.count
+  pub long : length new.workers ≡ length old.workers
 
 -- events were played from a machine on, and this was collected, each packet with its queue
 pub record Played (x : Setup) (m : Machine) (events : List Event) (got : List Collected)

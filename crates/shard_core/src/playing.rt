@@ -2,7 +2,7 @@
 ghost use Rattle.std.specs.Prelude.{◌≡◌, ◌≤◌, ◌<◌, ◌+◌, ℕ, [], ◌∷◌, ◌++◌, length, IfOk, OnOk, OnErr, All, option_to_list};
 ghost use Rattle.std.specs.Vec.{vec_len, vec_capacity};
 ghost use Rattle.shard_machine.specs.Machine.{Setup, Machine};
-ghost use Rattle.shard_core.specs.Sharded.{StandsFor};
+ghost use Rattle.shard_core.specs.Sharded.{StandsFor, IsWhole};
 ghost use Rattle.shard_core.specs.Plays.{IsValid, Played, PlayedFront, SameSize};
 
 use crate::collected::Collected;
@@ -15,8 +15,10 @@ impl Shards {
     ///
     /// After an `Err` the events up to the one that was refused were played.
     pub fn play(&mut self, alloc: Global, events: &[Event]) -> Result<Vec<Collected>, AllocError>
+        requires whole { IsWhole self.old }
         requires valid { let ports = length self.old.func.handlers in
             All (IsValid ports (length self.old.workers)) events.now }
+        ensures size { SameSize self.old self.new }
         ensures stands { (x : Setup) → (m : Machine) → StandsFor x m self.old →
             IfOk result (λ got. Played x m events.now got.items self.new) }
         ensures front { (x : Setup) → (m : Machine) → StandsFor x m self.old →
@@ -28,10 +30,12 @@ impl Shards {
     }
 
     fn play_into(&mut self, events: &[Event], got: &mut Vec<Collected>) -> Result<(), AllocError>
+        requires whole { IsWhole self.old }
         requires valid { let ports = length self.old.func.handlers in
             All (IsValid ports (length self.old.workers)) events.now }
         requires none { got.old.items ≡ [] }
         requires room { vec_len got.old + length events.now ≤ vec_capacity got.old }
+        ensures size { SameSize self.old self.new }
         ensures stands { (x : Setup) → (m : Machine) → StandsFor x m self.old →
             OnOk result (Played x m events.now got.new.items self.new) }
         ensures front { (x : Setup) → (m : Machine) → StandsFor x m self.old →
@@ -48,6 +52,7 @@ impl Shards {
 
     /// Plays one event, and answers what was collected.
     fn play_one(&mut self, event: &Event) -> Result<Option<Collected>, AllocError>
+        requires whole { IsWhole self.old }
         requires valid { let ports = length self.old.func.handlers in
             IsValid ports (length self.old.workers) event.now }
         ensures stands { (x : Setup) → (m : Machine) → StandsFor x m self.old →

@@ -1,8 +1,8 @@
 // One worker.
-ghost use Rattle.std.specs.Prelude.{◌≡◌, ◌≤◌, ◌<◌, ◌+◌, List, [], ◌∷◌, ◌++◌, length, None, IfOk, OnOk, IsOk, IfSome, IfNone, All, option_to_list};
+ghost use Rattle.std.specs.Prelude.{◌≡◌, ◌≤◌, ◌<◌, ◌+◌, ℕ, suc, List, [], ◌∷◌, ◌++◌, length, None, IfOk, OnOk, IsOk, IfSome, IfNone, All, option_to_list};
 ghost use Rattle.nf_base.specs.Functions.{function_of};
 ghost use Rattle.nf_engine.specs.View.{fixed_of};
-ghost use Rattle.shard_core.specs.Held.{IsNew, SameButRoom, first_id, StandsFor, StartsWith, HeldWorks, HeldHandles, WorksOn, IsStopIn, IsNoStop};
+ghost use Rattle.shard_core.specs.Held.{Held, WorkedTimes, IsNew, SameButRoom, first_id, StandsFor, StartsWith, HeldWorks, HeldHandles, WorksOn, IsStopIn, IsNoStop};
 ghost use Rattle.shard_machine.specs.Machine as machine;
 ghost use Rattle.shard_machine.specs.declared.event.Answer as answer;
 
@@ -78,7 +78,8 @@ impl Worker {
     pub fn give(&mut self, packet: &Packet)
         requires { 0 < self.old.room }
         ensures waiting { self.new.waiting ≡ self.old.waiting ++ packet.now ∷ [] }
-        ensures rest { self.new ≡ record self.old { waiting = self.new.waiting; room = self.new.room } }
+        ensures rest { let waiting = self.new.waiting in let room = self.new.room in
+            self.new ≡ record self.old { waiting = waiting; room = room } }
         ensures room { self.new.room + 1 ≡ self.old.room }
     {
         let Packet { id, time, fields } = *packet;
@@ -89,7 +90,8 @@ impl Worker {
     pub fn take(&mut self) -> Option<Answer>
         ensures answers { self.old.answers ≡ option_to_list result ++ self.new.answers }
         ensures none { IfNone result (self.old.answers ≡ []) }
-        ensures rest { self.new ≡ record self.old { answers = self.new.answers; room = self.new.room } }
+        ensures rest { let answers = self.new.answers in let room = self.new.room in
+            self.new ≡ record self.old { answers = answers; room = room } }
         ensures room { self.old.room ≤ self.new.room }
     {
         if self.answers.is_empty() {
@@ -114,6 +116,10 @@ impl Worker {
             WorksOn (function_of func.now) result share worker self.new taken }
         ensures fixed { fixed_of self.new.tables ≡ fixed_of self.old.tables }
         ensures room { self.old.room ≤ self.new.room }
+        // One call more, behind so many before it.
+        ensures times { (n : ℕ) → (first : Held) →
+            WorkedTimes (function_of func.now) first n self.old →
+            WorkedTimes (function_of func.now) first (suc n) self.new }
     {
         self.work_once(func)
     }
@@ -221,6 +227,13 @@ impl Worker {
     /// The tables, where no share stop was met.
     pub fn into_tables(self) -> Tables
         requires { self.stopped ≡ None }
+        ensures { result ≡ self.tables }
+    {
+        self.take_tables()
+    }
+
+    /// The tables, also where a share stop was met.
+    pub(crate) fn take_tables(self) -> Tables
         ensures { result ≡ self.tables }
     {
         let Worker {

@@ -1,3 +1,4 @@
 pub mod Sent
 pub mod Kept
 pub mod Ran
+pub mod Rowed

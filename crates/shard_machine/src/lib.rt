@@ -5,5 +5,6 @@
 
 mod event;
 pub mod laws;
+pub mod rows;
 
 pub use event::{Answer, Event, Worked};

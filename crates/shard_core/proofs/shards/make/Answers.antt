@@ -1,5 +1,5 @@
-use Rattle.std.proofs.Common.{◌≡◌, ◌≤◌, length, arith}
-use Rattle.shard_core.proofs.Giving.{new_sharded, same_handlers}
+use Rattle.std.proofs.Common.{arith}
+use Rattle.shard_core.proofs.Starting.{new_sharded, same_handlers}
 use Rattle.shard_core.proofs.shards.make.Goals as goal
 
 pub invariant_of-result : goal.invariant_of-result

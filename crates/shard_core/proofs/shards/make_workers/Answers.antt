@@ -1,8 +1,8 @@
-use Rattle.std.proofs.Common.{◌+◌, List, ◌∷◌, ◌++◌, [], sym, subst}
+use Rattle.std.proofs.Common.{◌+◌, List, sym, subst}
 use Rattle.nf_base.specs.Functions.{function_of}
 use Rattle.shard_core.specs.Held.{Held}
 use Rattle.shard_core.specs.Sharded.{AreNew}
-use Rattle.shard_core.proofs.Giving.{made_more}
+use Rattle.shard_core.proofs.Starting.{made_more}
 use Rattle.shard_core.proofs.shards.make_workers.Goals as goal
 
 pub loop-w-preserved : goal.loop-w-preserved

@@ -1,7 +1,7 @@
-use Rattle.std.proofs.Common.{◌≡◌, ◌<◌, ℕ, length, Some, slice_get, slice_set, refl, ◌∙◌, arith}
+use Rattle.std.proofs.Common.{◌≡◌, length, Some, slice_get, refl, ◌∙◌, arith}
 use Rattle.std.proofs.lemmas.Option.{slice_get_read}
 use Rattle.std.proofs.lemmas.List.{length-set}
-use Rattle.shard_core.proofs.Giving.{reserved_same, reserved_room, reserved_grows}
+use Rattle.shard_core.proofs.Reserving.{reserved_same, reserved_room, reserved_grows}
 use Rattle.shard_core.proofs.shards.reserve_each.Goals as goal
 
 pub returns-in-Err-clause-grows : goal.returns-in-Err-clause-grows

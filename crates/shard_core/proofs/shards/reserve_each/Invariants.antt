@@ -1,4 +1,4 @@
-use Rattle.std.proofs.Common.{◌≡◌, ◌≤◌, length, ℕ}
+use Rattle.std.proofs.Common.{◌≡◌, length, ℕ}
 use Rattle.shard_core.specs.Sharded.{AreSameButRoom, HaveRoom}
 use Rattle.shard_core.proofs.shards.reserve_each.Given as goal
 

@@ -1,4 +1,3 @@
-use Rattle.std.proofs.Common.{◌≡◌, length}
 use Rattle.shard_core.specs.Plays.{PlayedFront}
 use Rattle.shard_core.proofs.Played.{any_err, none_played}
 use Rattle.shard_core.proofs.shards.Shards.play.Goals as goal

@@ -1,4 +1,4 @@
-use Rattle.std.proofs.Common.{◌≡◌, ◌<◌, ◌≤◌, ◌+◌, List, [], length, refl, sym, subst, arith}
+use Rattle.std.proofs.Common.{List, [], refl, sym, subst, arith}
 use Rattle.std.specs.Option.{option_to_list}
 use Rattle.shard_core.specs.declared.collected.Collected.{Collected}
 use Rattle.shard_core.specs.Plays.{Played}
@@ -8,7 +8,7 @@ use Rattle.shard_core.proofs.shards.Shards.play_into.Goals as goal
 pub loop-i-init : goal.loop-i-init
 loop-i-init c = record {
   played = λ x m h. subst (λ (cs : List Collected). Played x m [] cs c.args.self.now) (sym c.requires.none) (played_none x m c.args.self.now h);
-  same = record { func = refl; count = refl };
+  same = record { func = refl; count = refl; long = refl };
   room = let r = c.requires.room in omega (arith, r);
 }
 
