@@ -1,0 +1,4 @@
+pub mod Workings
+pub mod Rounds
+pub mod Laws
+pub mod Rows

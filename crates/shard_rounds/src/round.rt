@@ -1,0 +1,57 @@
+// One round.
+ghost use Rattle.std.specs.Prelude.{◌≡◌, ◌<◌, ℕ, length, IfOk, OnErr, All};
+ghost use Rattle.shard_machine.specs.Machine.{Setup, Machine};
+ghost use Rattle.shard_core.specs.Sharded.{StandsFor, IsWhole, SameButRooms};
+ghost use Rattle.shard_core.specs.Plays.{SameSize};
+ghost use Rattle.shard_rounds.specs.Rounds.{RanRound};
+
+use crate::collecting::collect_all;
+use crate::giving::{give_all, take_room};
+use crate::working::work_apart;
+use nf_base::packet::Packet;
+use nf_base::seq::Seq;
+use shard_core::{Collected, Shards, Stop};
+use std::alloc::{AllocError, Global};
+use std::thread::Threads;
+use worker_turns::Turns;
+
+/// What a round came to.
+#[derive(Drop)]
+pub struct Round {
+    /// What was collected, in the order dispatched.
+    pub handled: Seq<Collected>,
+    /// The packet at which the next worker stopped, where all before it are collected.
+    pub stop: Option<Stop>,
+}
+
+/// Gives a batch of packets to their queues, lets each worker work all that waits for it, in a
+/// thread of its own where one can be made, and collects the answers in the order dispatched.
+///
+/// All room is taken before a packet is given or a worker starts: after an `Err` the shards are as
+/// before, but for their room.
+pub fn run_round<R: Threads + Sync, G: Turns + Sync>(
+    rt: &R,
+    alloc: Global,
+    shards: &mut Shards,
+    batch: &[Packet],
+    turns: &G,
+) -> Result<Round, AllocError>
+    requires whole { IsWhole shards.old }
+    requires ports { let ports = length shards.old.func.handlers in
+        All (λ p. p.id.port < ports) batch.now }
+    // Whatever machine the shards stood for.
+    ensures ran { (x : Setup) → (m : Machine) → StandsFor x m shards.old →
+        IfOk result (λ round. RanRound x m batch.now round shards.new) }
+    ensures err { OnErr result (SameButRooms shards.old shards.new) }
+    ensures stays { (x : Setup) → (m : Machine) → StandsFor x m shards.old →
+        OnErr result (StandsFor x m shards.new) }
+    ensures size { SameSize shards.old shards.new }
+{
+    let mut handled = take_room(alloc, shards, batch.len())?;
+    give_all(shards, batch);
+    work_apart(rt, shards, turns);
+    collect_all(shards, &mut handled);
+    let handled = Seq::from_vec(handled);
+    let stop = shards.stop();
+    Ok(Round { handled, stop })
+}
