@@ -18,6 +18,7 @@ use Rattle.packet_feed.specs.Feeding.{Feeding, AreAll, HasMore}
 use Rattle.packet_feed.proofs.Ordering.{is_ordered}
 use Rattle.packet_feed.proofs.Gathering.{AllIn}
 use Rattle.packet_feed.proofs.Standing.{all_ports}
+use Rattle.run_history.specs.declared.line.Mode.{Mode}
 use Rattle.run_history.specs.declared.line.Mode.TheVariants.{One}
 use Rattle.stream_run.specs.declared.ending.Ending.{Ending}
 use Rattle.stream_run.specs.declared.ending.Ending.TheVariants as ending
@@ -45,11 +46,11 @@ got_end (x ∷ xs) y (suc j) z e = elim (got_end xs y j z e) [
 
 -- ---- the run of packets that were handled
 
-same_handlings : (hs : List Handled) → map handling_of (map turn_of hs) ≡ map handling_in hs
+pub same_handlings : (hs : List Handled) → map handling_of (map turn_of hs) ≡ map handling_in hs
 same_handlings [] = refl
 same_handlings (h ∷ hs) = ap (λ (t : List Handling). handling_in h ∷ t) (same_handlings hs)
 
-same_arrivals : (hs : List Handled) → map arrival_in (map turn_of hs) ≡ map arrival_of hs
+pub same_arrivals : (hs : List Handled) → map arrival_in (map turn_of hs) ≡ map arrival_of hs
 same_arrivals [] = refl
 same_arrivals (h ∷ hs) = ap (λ (t : List Arrival). h.arrival ∷ t) (same_arrivals hs)
 
@@ -61,14 +62,14 @@ all_alone : (hs : List Handled) → AllByRecursion (λ (h : Handled). h.worker �
 all_alone [] h = tt
 all_alone (x ∷ hs) h = (h.0, all_alone hs h.1)
 
-ran_of : (f : Function) (hs : List Handled) (state : State) → IsUndivided f hs state → course_of (run_of f One 1 hs) ≡ Some (result_in hs state)
-ran_of f hs state u = ap (run f (opening f)) (same_handlings hs) ∙ u
+pub ran_of : (f : Function) (mode : Mode) (workers : ℕ) (hs : List Handled) (state : State) → IsUndivided f hs state → course_of (run_of f mode workers hs) ≡ Some (result_in hs state)
+ran_of f mode workers hs state u = ap (run f (opening f)) (same_handlings hs) ∙ u
 
-handled_of : (f : Function) (hs : List Handled) (state : State) → IsUndivided f hs state → handled_in (run_of f One 1 hs) ≡ hs
-handled_of f hs state u = handled_is (run_of f One 1 hs) (result_in hs state) (ran_of f hs state u) ∙ paired_again hs
+handled_of : (f : Function) (mode : Mode) (workers : ℕ) (hs : List Handled) (state : State) → IsUndivided f hs state → handled_in (run_of f mode workers hs) ≡ hs
+handled_of f mode workers hs state u = handled_is (run_of f mode workers hs) (result_in hs state) (ran_of f mode workers hs state u) ∙ paired_again hs
 
-bytes_are : (f : Function) (hs : List Handled) (state : State) (k : ℕ) → IsUndivided f hs state → file_bytes (run_of f One 1 hs) k ≡ bytes_of One 1 (length f.handlers) k hs
-bytes_are f hs state k u = ap (bytes_of One 1 (length f.handlers) k) (handled_of f hs state u)
+pub bytes_are : (f : Function) (mode : Mode) (workers : ℕ) (hs : List Handled) (state : State) (k : ℕ) → IsUndivided f hs state → file_bytes (run_of f mode workers hs) k ≡ bytes_of mode workers (length f.handlers) k hs
+bytes_are f mode workers hs state k u = ap (bytes_of mode workers (length f.handlers) k) (handled_of f mode workers hs state u)
 
 is_one : (f : Function) (most : ℕ) (all : Option (List Arrival)) (hs : List Handled) (state : State) → IsUndivided f hs state → AllByRecursion (λ (h : Handled). h.worker ≡ 0) hs → length hs ≤ most → AreTheFirst most all (map arrival_of hs) → IsOneRun f most all (run_of f One 1 hs)
 is_one f most all hs state u alone within first = record {
@@ -76,14 +77,14 @@ is_one f most all hs state u alone within first = record {
   mode = refl;
   workers = refl;
   alone = all_alone hs alone;
-  legal = record { result = result_in hs state; ran = ran_of f hs state u };
+  legal = record { result = result_in hs state; ran = ran_of f One 1 hs state u };
   within = omega (arith, length-map hs turn_of, within);
   packets = subst (AreTheFirst most all) (sym (same_arrivals hs)) first;
 }
 
 -- ---- a run that nothing stopped
 
-first_most : (e : Ending) (all : Option (List Arrival)) (given : List Arrival) (count most : ℕ) → AreFirst all given → count ≤ most → length given ≡ count → ((e ≡ ending.All) × AreAll all given) ⊎ ((e ≡ ending.TooMany) × (count ≡ most)) → AreTheFirst most all given
+pub first_most : (e : Ending) (all : Option (List Arrival)) (given : List Arrival) (count most : ℕ) → AreFirst all given → count ≤ most → length given ≡ count → ((e ≡ ending.All) × AreAll all given) ⊎ ((e ≡ ending.TooMany) × (count ≡ most)) → AreTheFirst most all given
 first_most e None given count most first le long how = tt
 first_most e (Some all) given count most first le long (inl how) =
     let whole : length (in_order all) ≤ most = omega (arith, ap (λ (t : List Arrival). length t) how.1) in
@@ -91,12 +92,12 @@ first_most e (Some all) given count most first le long (inl how) =
 first_most e (Some all) given count most first le long (inr how) =
     sym (ap (take most) first.1 ∙ take_at given first.0 most (omega (arith, how.1)))
 
-how_ended : (e : Ending) (feed : Feeding) (before : Told) (hs : List Handled) (most : ℕ) → feed.most ≡ most → IsEnding e feed before hs
+pub how_ended : (e : Ending) (feed : Feeding) (before : Told) (hs : List Handled) (most : ℕ) → feed.most ≡ most → IsEnding e feed before hs
     → ((e ≡ ending.All) × AreAll (packets_of (files_in feed.sources) before) (map arrival_of hs)) ⊎ ((e ≡ ending.TooMany) × (length hs ≡ most))
 how_ended ending.All feed before hs most same h = inl (refl, h.0)
 how_ended ending.TooMany feed before hs most same h = inr (refl, h.0 ∙ same)
 
-ends_so : (e : Ending) (feed : Feeding) (before : Told) (hs : List Handled) → IsEnding e feed before hs → EndsSo e feed before (map arrival_in (map turn_of hs))
+pub ends_so : (e : Ending) (feed : Feeding) (before : Told) (hs : List Handled) → IsEnding e feed before hs → EndsSo e feed before (map arrival_in (map turn_of hs))
 ends_so ending.All feed before hs h = (subst (AreAll (packets_of (files_in feed.sources) before)) (sym (same_arrivals hs)) h.0, h.1)
 ends_so ending.TooMany feed before hs h =
     let long : length (map arrival_in (map turn_of hs)) ≡ length hs = length-map (map turn_of hs) arrival_in ∙ length-map hs turn_of in
@@ -115,8 +116,8 @@ finished f begun start feed now files ran h = record {
       (first_most ran.ending (packets_of (files_in begun.sources) before) (map arrival_of h.hs) (length h.hs) begun.most (h.first before b) h.within (length-map h.hs arrival_of) moved);
   ending = λ before b. ends_so ran.ending feed before h.hs (h.ending_is before b);
   count = length-map h.hs turn_of ∙ h.count;
-  left = (map (λ (x : Handled). x.done) h.hs, ran_of f h.hs ran.state h.undivided);
-  wholes = λ k file e. subst (λ (t : List ℕ). IsToldAs t (now.given file)) (sym (bytes_are f h.hs ran.state k h.undivided)) (h.wholes k file e);
+  left = (map (λ (x : Handled). x.done) h.hs, ran_of f One 1 h.hs ran.state h.undivided);
+  wholes = λ k file e. subst (λ (t : List ℕ). IsToldAs t (now.given file)) (sym (bytes_are f One 1 h.hs ran.state k h.undivided)) (h.wholes k file e);
 }
 
 -- ---- a run that was stopped
@@ -148,7 +149,7 @@ alone_later [] later h k = k
 alone_later (t ∷ ts) later h k = (h.0, alone_later ts later h.1 k)
 
 fronts_of : (f : Function) (hs : List Handled) (state : State) (now : Told) (files : List ℕ) → IsUndivided f hs state → AreFronts One 1 (length f.handlers) hs now files → (k file : ℕ) → slice_get files k ≡ Some file → IsFrontIfTold (file_bytes (run_of f One 1 hs) k) (now.given file)
-fronts_of f hs state now files u fronts k file e = subst (λ (t : List ℕ). IsFrontIfTold t (now.given file)) (sym (bytes_are f hs state k u)) (fronts k file e)
+fronts_of f hs state now files u fronts k file e = subst (λ (t : List ℕ). IsFrontIfTold t (now.given file)) (sym (bytes_are f One 1 hs state k u)) (fronts k file e)
 
 holds_fronts : (f : Function) (most n : ℕ) (all : Option (List Arrival)) (hs : List Handled) (state : State) (now : Told) (files : List ℕ) → n ≡ length f.handlers → IsUndivided f hs state → AllByRecursion (λ (h : Handled). h.worker ≡ 0) hs → length hs ≤ most
     → AreFirst all (map arrival_of hs) → AllIn (λ (a : Arrival). a.packet.id.port < n) all → AreFronts One 1 (length f.handlers) hs now files → HoldsFronts f most all now files
@@ -192,11 +193,11 @@ cut_short f begun start now files ports h = record {
 
 -- ---- what is told of files
 
-first_none : (all : Option (List Arrival)) → AreFirst all []
+pub first_none : (all : Option (List Arrival)) → AreFirst all []
 first_none None = tt
 first_none (Some all) = (in_order all, refl)
 
-empty_front : (bytes : List ℕ) (given : Option (List ℕ)) → IsEmptyIfTold given → IsFrontIfTold bytes given
+pub empty_front : (bytes : List ℕ) (given : Option (List ℕ)) → IsEmptyIfTold given → IsFrontIfTold bytes given
 empty_front bytes None h = tt
 empty_front bytes (Some g) h = record { later = bytes; all = ap (λ (t : List ℕ). t ++ bytes) h }
 
@@ -204,11 +205,11 @@ fresh_held : (given : Option (List ℕ)) (held : List ℕ) → IsEmptyIfTold giv
 fresh_held None held h = tt
 fresh_held (Some g) held h = ap (λ (t : List ℕ). t ++ held) h
 
-all_told : (bytes : List ℕ) (given : Option (List ℕ)) (held : List ℕ) → length held ≡ 0 → Holds bytes given held → IsToldAs bytes given
+pub all_told : (bytes : List ℕ) (given : Option (List ℕ)) (held : List ℕ) → length held ≡ 0 → Holds bytes given held → IsToldAs bytes given
 all_told bytes None held e h = tt
 all_told bytes (Some g) held e h = sym (append-nil g) ∙ ap (λ (t : List ℕ). g ++ t) (sym (nil_from_length held e)) ∙ h
 
-whole_front : (bytes : List ℕ) (given : Option (List ℕ)) → IsToldAs bytes given → IsFrontIfTold bytes given
+pub whole_front : (bytes : List ℕ) (given : Option (List ℕ)) → IsToldAs bytes given → IsFrontIfTold bytes given
 whole_front bytes None h = tt
 whole_front bytes (Some g) h = record { later = []; all = append-nil g ∙ h }
 
@@ -230,15 +231,15 @@ halts_none f ports begun start files empty = record {
   fronts = λ k file e. empty_front (bytes_of One 1 ports k []) (start.given file) (empty k file e);
 }
 
-pub heads_held : (ports : ℕ) (now : Told) (sinks : List Holding) (files : List ℕ) → files_of sinks ≡ files → ((k : ℕ) (s : Holding) → slice_get sinks k ≡ Some s → s.held ≡ head One 1 ports k) → ((k file : ℕ) → slice_get files k ≡ Some file → IsEmptyIfTold (now.given file)) → AreHeld One 1 ports [] now sinks
-heads_held ports now sinks files same heads empty k s e =
+pub heads_held : (mode : Mode) (workers ports : ℕ) (now : Told) (sinks : List Holding) (files : List ℕ) → files_of sinks ≡ files → ((k : ℕ) (s : Holding) → slice_get sinks k ≡ Some s → s.held ≡ head mode workers ports k) → ((k file : ℕ) → slice_get files k ≡ Some file → IsEmptyIfTold (now.given file)) → AreHeld mode workers ports [] now sinks
+heads_held mode workers ports now sinks files same heads empty k s e =
     let file = ap (λ (fs : List ℕ). slice_get fs k) (sym same) ∙ file_at sinks k s e in
-    subst (λ (t : List ℕ). Holds t (now.given s.file) s.held) (heads k s e ∙ sym (bytes_none One 1 ports k)) (fresh_held (now.given s.file) s.held (empty k s.file file))
+    subst (λ (t : List ℕ). Holds t (now.given s.file) s.held) (heads k s e ∙ sym (bytes_none mode workers ports k)) (fresh_held (now.given s.file) s.held (empty k s.file file))
 
-pub empty_told : (f : Function) (ports : ℕ) (now : Told) (sinks : List Holding) (hs : List Handled) → AreHeld One 1 ports hs now sinks → AreEmpty sinks → (k file : ℕ) → slice_get (files_of sinks) k ≡ Some file → IsToldAs (bytes_of One 1 ports k hs) (now.given file)
-empty_told f ports now sinks hs held empty k file e =
+pub empty_told : (mode : Mode) (workers ports : ℕ) (now : Told) (sinks : List Holding) (hs : List Handled) → AreHeld mode workers ports hs now sinks → AreEmpty sinks → (k file : ℕ) → slice_get (files_of sinks) k ≡ Some file → IsToldAs (bytes_of mode workers ports k hs) (now.given file)
+empty_told mode workers ports now sinks hs held empty k file e =
     let s = stays_in sinks k file e in
-    subst (λ (n : ℕ). IsToldAs (bytes_of One 1 ports k hs) (now.given n)) s.2 (all_told (bytes_of One 1 ports k hs) (now.given s.0.file) s.0.held (empty k s.0 s.1) (held k s.0 s.1))
+    subst (λ (n : ℕ). IsToldAs (bytes_of mode workers ports k hs) (now.given n)) s.2 (all_told (bytes_of mode workers ports k hs) (now.given s.0.file) s.0.held (empty k s.0 s.1) (held k s.0 s.1))
 
 pub halts_at : (f : Function) (ports : ℕ) (begun : Feeding) (start : Told) (feed : Feeding) (now : Told) (sinks : List Holding) (state : State) (e : Ending) (new : Told) (files : List ℕ) → (h : Ends f ports begun start feed now sinks state e) → AreFronts One 1 ports h.reached.hs new files → Halts f ports begun start new files
 halts_at f ports begun start feed now sinks state e new files h fronts = record {

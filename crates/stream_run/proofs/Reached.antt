@@ -74,10 +74,10 @@ held_kept : (ports : ℕ) (hs : List Handled) (old new : Told) (sinks : List Hol
 held_kept ports hs old new sinks same h k s e = subst (λ (o : Option (List ℕ)). Holds (bytes_of One 1 ports k hs) o s.held) (sym (same s.file)) (h k s e)
 
 -- the arrivals so far and the packet that is shown
-arrivals_more : (hs : List Handled) (packet : Packet) (original : ℕ) (frame : List ℕ) (done : Done) (feed : Feeding) → original ≡ original_of feed → frame ≡ frame_of feed → map arrival_of hs ++ shown packet feed ∷ [] ≡ map arrival_of (hs ++ came_to packet original frame done ∷ [])
+arrivals_more : (hs : List Handled) (packet : Packet) (original : ℕ) (frame : List ℕ) (done : Done) (feed : Feeding) → original ≡ original_of feed → frame ≡ frame_of feed → map arrival_of hs ++ shown packet feed ∷ [] ≡ map arrival_of (hs ++ came_to 0 packet original frame done ∷ [])
 arrivals_more hs packet original frame done feed o f =
     let here : shown packet feed ≡ record { packet = packet; original = original; frame = frame } = rw (o, f) refl in
-    ap (λ (a : Arrival). map arrival_of hs ++ a ∷ []) here ∙ sym (map-append arrival_of hs (came_to packet original frame done ∷ []))
+    ap (λ (a : Arrival). map arrival_of hs ++ a ∷ []) here ∙ sym (map-append arrival_of hs (came_to 0 packet original frame done ∷ []))
 
 -- ---- what was reached
 
@@ -99,7 +99,7 @@ pub reached_more : (f : Function) (ports : ℕ) (begun : Feeding) (start : Told)
     → HandlesOne {T = Unit {0}} {E = Stop} f ports packet original frame state after read new sinks now (Ok tt)
     → Reaches f ports begun start next new now after
 reached_more f ports begun start feed next old read new sinks now state after packet original frame r feeds o fr given givens rests h =
-    let one = came_to packet original frame h.done in
+    let one = came_to 0 packet original frame h.done in
     record {
       hs = r.hs ++ one ∷ [];
       undivided = undivided_more f r.hs one state after r.undivided h.steps;
@@ -190,7 +190,7 @@ pub halts_writing : (f : Function) (ports : ℕ) (begun : Feeding) (start : Told
     → HandlesOne {T = Unit {0}} {E = Stop} f ports packet original frame state after read new sinks now (Err stop)
     → Halts f ports begun start new (files_of now)
 halts_writing f ports begun start feed next old read new sinks now state after packet original frame stop r feeds o fr same within givens h =
-    let one = came_to packet original frame h.done in
+    let one = came_to 0 packet original frame h.done in
     record {
       hs = r.hs ++ one ∷ [];
       state = after;

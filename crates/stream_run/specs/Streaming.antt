@@ -44,7 +44,7 @@ pub record HandlesOne {T E : Type 0} (f : Function) (ports : ℕ) (packet : Pack
     (before after : State) (old new : Told) (held now : List Holding) (result : Result T E) : Type 0 where
   pub done : Done
   pub steps : step f before packet done.picks ≡ Some (record { state = after; done = done })
-  pub goes_on : (hs : List Handled) → AreHeld One 1 ports hs old held → AllGoOn One 1 ports (hs ++ came_to packet original frame done ∷ []) new now result
+  pub goes_on : (hs : List Handled) → AreHeld One 1 ports hs old held → AllGoOn One 1 ports (hs ++ came_to 0 packet original frame done ∷ []) new now result
 
 -- These packets were handled since the run began, and what they leave was given to the files but for
 -- what is held.

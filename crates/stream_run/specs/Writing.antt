@@ -11,11 +11,11 @@ use Rattle.stream_run.specs.declared.stop.Stop.TheVariants.{File, Memory}
 use Rattle.stream_run.specs.Runs.{Handled}
 use Rattle.stream_run.specs.Texts.{bytes_of, IsFrontOf}
 
--- a packet that worker 0 handled, and what it came to
-abbrev pub came_to : Packet → ℕ → List ℕ → Done → Handled
-came_to packet original frame done = record {
+-- a packet that a worker handled, and what it came to
+abbrev pub came_to : ℕ → Packet → ℕ → List ℕ → Done → Handled
+came_to worker packet original frame done = record {
   arrival = record { packet = packet; original = original; frame = frame };
-  worker = 0;
+  worker = worker;
   done = done;
 }
 

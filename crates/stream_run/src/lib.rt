@@ -2,6 +2,7 @@
 #![tactic(auto)]
 
 mod ending;
+mod heads;
 pub mod laws;
 mod piece;
 mod ran;
@@ -12,8 +13,10 @@ mod stop;
 mod streaming;
 
 pub use ending::Ending;
+pub use heads::begin_sinks;
+pub use piece::push_sent;
 pub use ran::Ran;
-pub use running::handle_all;
+pub use running::{handle_all, stop_in};
 pub use sink::Sink;
 pub use sinks::{flush_all, put_all};
 pub use stop::Stop;

@@ -2,7 +2,7 @@
 ghost use Rattle.std.specs.Prelude.{◌≡◌, ◌≤◌, ◌++◌, length, take, drop, OnOk};
 ghost use Rattle.pcap_file.specs.Record.{greatest_time, record_at};
 ghost use Rattle.pcap_file.specs.Spelled.{written_bytes};
-ghost use Rattle.stream_run.specs.Texts.{sends, with_edits, piece};
+ghost use Rattle.stream_run.specs.Texts.{sends, with_edits, sent_bytes, piece};
 ghost use Rattle.stream_run.specs.Writing.{came_to};
 
 use frame_ip::{edit, view};
@@ -65,12 +65,10 @@ fn push_edited(
     Ok(())
 }
 
-/// Appends what a packet leaves in a file: a record in the output of a port where it is sent out
-/// there, and a line in the journal, which comes behind the outputs.
-pub(crate) fn push_piece(
+/// Appends what a packet leaves in the output of a port: a record where it is sent out there.
+pub fn push_sent(
     buffer: &mut Vec<u8>,
-    ports: u32,
-    file: u32,
+    port: u32,
     packet: &Packet,
     original: u32,
     frame: &[u8],
@@ -79,14 +77,34 @@ pub(crate) fn push_piece(
     requires time { packet.now.time ≤ greatest_time }
     requires captured { length frame.now ≤ 262144 }
     ensures { OnOk result (buffer.new.items ≡ buffer.old.items
-        ++ piece ports file (came_to packet.now original frame.now done.now)) }
+        ++ sent_bytes port (came_to 0 packet.now original frame.now done.now)) }
 {
-    if file >= ports {
-        return push_packet(buffer, packet.id, 0, done.action, &done.picks);
-    }
-    if sends(done.action, packet.id.port, file) {
+    if sends(done.action, packet.id.port, port) {
         push_edited(buffer, packet.time, original, frame, &done.edits)
     } else {
         Ok(())
     }
+}
+
+/// Appends what a packet leaves in a file: a record in the output of a port where it is sent out
+/// there, and a line in the journal, which comes behind the outputs.
+pub(crate) fn push_piece(
+    buffer: &mut Vec<u8>,
+    ports: u32,
+    file: u32,
+    worker: u32,
+    packet: &Packet,
+    original: u32,
+    frame: &[u8],
+    done: &Done,
+) -> Result<(), AllocError>
+    requires time { packet.now.time ≤ greatest_time }
+    requires captured { length frame.now ≤ 262144 }
+    ensures { OnOk result (buffer.new.items ≡ buffer.old.items
+        ++ piece ports file (came_to worker packet.now original frame.now done.now)) }
+{
+    if file >= ports {
+        return push_packet(buffer, packet.id, worker, done.action, &done.picks);
+    }
+    push_sent(buffer, file, packet, original, frame, done)
 }

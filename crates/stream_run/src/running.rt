@@ -73,6 +73,7 @@ fn handle_one<F: Files>(
         sinks,
         files,
         func.handlers.len(),
+        0,
         packet,
         original,
         frame,
@@ -80,8 +81,8 @@ fn handle_one<F: Files>(
     )
 }
 
-// What a fault of the captures in these files is.
-fn stop_in(captures: &[u32], fault: FeedFault) -> Stop
+/// What a fault of the captures in these files is for a run.
+pub fn stop_in(captures: &[u32], fault: FeedFault) -> Stop
     ensures { result ≡ stop_in captures.now fault }
 {
     match fault {

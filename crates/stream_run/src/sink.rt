@@ -67,6 +67,7 @@ impl Sink {
         files: &mut F,
         ports: u32,
         number: u32,
+        worker: u32,
         packet: &Packet,
         original: u32,
         frame: &[u8],
@@ -75,7 +76,8 @@ impl Sink {
         requires created { F.is_written files.old self.old.file }
         requires time { packet.now.time ≤ greatest_time }
         requires captured { length frame.now ≤ 262144 }
-        ensures goes_on { let more = piece ports number (came_to packet.now original frame.now done.now) in
+        ensures goes_on { let h = came_to worker packet.now original frame.now done.now in
+            let more = piece ports number h in
             (bytes : List ℕ) → Holds bytes ((F.told files.old).given self.old.file) self.old.held →
             GoesOn (bytes ++ more) ((F.told files.new).given self.old.file) self.new.held result }
         ensures same_file { self.new.file ≡ self.old.file }
@@ -89,6 +91,7 @@ impl Sink {
             &mut self.buffer,
             ports,
             number,
+            worker,
             packet,
             original,
             frame,

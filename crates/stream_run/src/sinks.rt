@@ -19,6 +19,7 @@ pub fn put_all<F: Files>(
     sinks: &mut Seq<Sink>,
     files: &mut F,
     ports: u32,
+    worker: u32,
     packet: &Packet,
     original: u32,
     frame: &[u8],
@@ -29,7 +30,7 @@ pub fn put_all<F: Files>(
     requires few { length sinks.old ≤ 2 ^ 32 }
     requires time { packet.now.time ≤ greatest_time }
     requires captured { length frame.now ≤ 262144 }
-    ensures goes_on { let h = came_to packet.now original frame.now done.now in
+    ensures goes_on { let h = came_to worker packet.now original frame.now done.now in
         (mode : Mode) → (workers : ℕ) → (hs : List Handled) →
         AreHeld mode workers ports hs (F.told files.old) sinks.old →
         AllGoOn mode workers ports (hs ++ h ∷ []) (F.told files.new) sinks.new result }
@@ -42,7 +43,9 @@ pub fn put_all<F: Files>(
 {
     for k in 0..sinks.len() {
         let sink = sinks.item_mut(k);
-        match sink.put(files, ports, k as u32, packet, original, frame, done) {
+        match sink.put(
+            files, ports, k as u32, worker, packet, original, frame, done,
+        ) {
             Ok(()) => {}
             Err(stop) => return Err(stop),
         }

@@ -1,16 +1,16 @@
 //! A whole run by one worker.
-ghost use Rattle.std.specs.Prelude.{◌≡◌, ◌^◌, ◌+◌, ◌≤◌, ℕ, [], Some, length, slice_get, IfOk};
+ghost use Rattle.std.specs.Prelude.{◌≡◌, ◌^◌, ◌+◌, ◌≤◌, ℕ, [], Some, length, slice_get};
 ghost use Rattle.nf_base.specs.Step.{opening};
 ghost use Rattle.nf_base.specs.Functions.{function_of};
 ghost use Rattle.nf_files.specs.Told.{IsEmptyIfTold};
 ghost use Rattle.packet_feed.specs.Told.{EachFile, IsApart};
 ghost use Rattle.packet_feed.specs.Sources.{files_in};
 ghost use Rattle.run_history.specs.declared.line.Mode.TheVariants.{One};
-ghost use Rattle.stream_run.specs.Texts.{head};
-ghost use Rattle.stream_run.specs.Writing.{Holding, AreHeld, files_of, KeepsBut, IsStopCause, StopsAmong};
+ghost use Rattle.stream_run.specs.Writing.{AreHeld, files_of, KeepsBut, IsStopCause, StopsAmong};
 ghost use Rattle.stream_run.specs.Lawful.{Runs, Flows, Streams};
 
 use crate::ending::Ending;
+use crate::heads::begin_sinks;
 use crate::ran::Ran;
 use crate::running::handle_all;
 use crate::sink::Sink;
@@ -22,40 +22,9 @@ use nf_base::share::Share;
 use nf_base::workers::Workers;
 use nf_files::Files;
 use packet_feed::Feed;
-use pcap_file::push_header;
-use run_history::header::Header;
-use run_history::line::{JournalLine, Mode, push_line};
-use std::alloc::{AllocError, Global};
+use run_history::line::Mode;
+use std::alloc::Global;
 use vig_tables::Tables;
-
-// What a file begins with: an output with the header of a capture, the journal with a line.
-fn head(alloc: Global, ports: u32, file: u32) -> Result<Vec<u8>, AllocError>
-    ensures { IfOk result (λ bytes. bytes.items ≡ head One 1 ports file) }
-{
-    let mut bytes = Vec::new(alloc);
-    if file < ports {
-        push_header(&mut bytes)?;
-    } else {
-        let header = Header::new(Mode::One, Workers::new(1));
-        push_line(&mut bytes, &JournalLine::Header(header))?;
-    }
-    Ok(bytes)
-}
-
-// The files, each with what it begins with still to be given to it.
-fn sinks(alloc: Global, ports: u32, targets: &[u32]) -> Result<Seq<Sink>, AllocError>
-    requires { length targets.now ≤ 2 ^ 32 }
-    ensures files { IfOk result (λ sinks. files_of sinks ≡ targets.now) }
-    ensures heads { IfOk result (λ sinks. (k : ℕ) → (s : Holding) →
-        slice_get sinks k ≡ Some s → s.held ≡ head One 1 ports k) }
-{
-    let mut sinks = Seq::new(alloc);
-    for (k, file) in targets.iter().enumerate() {
-        let bytes = head(alloc, ports, k as u32)?;
-        sinks.push(Sink::new(*file, bytes))?;
-    }
-    Ok(sinks)
-}
 
 // Handles all packets, and gives to the files what is held for them.
 fn flow<F: Files>(
@@ -170,7 +139,8 @@ pub fn run<F: Files>(
     // The file that failed is one of the captures or of the targets.
     ensures among { StopsAmong captures.now targets.now result }
 {
-    let mut sinks = match sinks(alloc, func.handlers.len(), targets) {
+    let ports = func.handlers.len();
+    let mut sinks = match begin_sinks(alloc, Mode::One, Workers::new(1), ports, targets) {
         Ok(sinks) => sinks,
         Err(_) => return Err(Stop::Memory),
     };

@@ -33,7 +33,7 @@ returns-in-Err-clause-goes_on g c = λ mode workers hs held j f q.
     let at = slice_get_read now (length now) k s refl lt c.item_mut-sink.ensures.value in
     let file = sym (ap (λ (fs : List ℕ). slice_get fs k) inv.same_files) ∙ file_at now k s at in
     let apart = subst (λ (fs : List ℕ). IsApart fs) (sym inv.same_files) c.requires.apart in
-    let h = came_to c.args.packet.now c.args.original c.args.frame.now c.args.done.now in
+    let h = came_to c.args.worker c.args.packet.now c.args.original c.args.frame.now c.args.done.now in
     let same = map_kept (λ (x : Holding). x.file) now k s c.put.new.self at c.put.ensures.same_file in
     partly_fronts (λ j. bytes_of mode workers c.args.ports j hs) (λ j. bytes_of mode workers c.args.ports j (hs ++ h ∷ [])) now k s (told c.loop-k.files) (told c.put.new.files) apart at c.put.ensures.kept (grows mode workers c.args.ports hs h) (λ x. subst (λ (xs : List ℕ). IsFrontIfTold xs ((told c.put.new.files).given s.file)) (sym (bytes_more mode workers c.args.ports k hs h)) (c.in-Err.ensures.goes_on (bytes_of mode workers c.args.ports k hs) x)) (inv.partly mode workers hs held) j f (ap (λ (fs : List ℕ). slice_get fs j) (sym same) ∙ q)
 
@@ -74,7 +74,7 @@ loop-k-preserved g c =
     let at = slice_get_read now (length now) k s refl lt c.item_mut-sink.ensures.value in
     let file = sym (ap (λ (fs : List ℕ). slice_get fs k) inv.same_files) ∙ file_at now k s at in
     let apart = subst (λ (fs : List ℕ). IsApart fs) (sym inv.same_files) c.requires.apart in
-    let h = came_to c.args.packet.now c.args.original c.args.frame.now c.args.done.now in
+    let h = came_to c.args.worker c.args.packet.now c.args.original c.args.frame.now c.args.done.now in
     record {
       partly = λ mode workers hs held. partly_more (λ j. bytes_of mode workers c.args.ports j hs) (λ j. bytes_of mode workers c.args.ports j (hs ++ h ∷ [])) now k s c.put.new.self (told c.loop-k.files) (told c.put.new.files) apart at c.put.ensures.same_file c.put.ensures.kept (λ x. subst (λ (xs : List ℕ). Holds xs ((told c.put.new.files).given s.file) c.put.new.self.held) (sym (bytes_more mode workers c.args.ports k hs h)) (c.in-Ok.ensures.goes_on (bytes_of mode workers c.args.ports k hs) x)) (inv.partly mode workers hs held);
       same_files = map_kept (λ (x : Holding). x.file) now k s c.put.new.self at c.put.ensures.same_file ∙ inv.same_files;
@@ -86,7 +86,7 @@ loop-k-preserved g c =
 
 pub returns-clause-goes_on : goal.returns-clause-goes_on
 returns-clause-goes_on g c = λ mode workers hs held.
-    let h = came_to c.args.packet.now c.args.original c.args.frame.now c.args.done.now in
+    let h = came_to c.args.worker c.args.packet.now c.args.original c.args.frame.now c.args.done.now in
     all_partly (λ j. bytes_of mode workers c.args.ports j hs) (λ j. bytes_of mode workers c.args.ports j (hs ++ h ∷ [])) c.loop-k.sinks c.loop-k.k (g.F.Files.told c.loop-k.files) (omega (arith, c.len-k-end.ensures, c.loop-k-test.false, same_length c.loop-k.sinks c.args.sinks.now c.loop-k.invariant.same_files)) (c.loop-k.invariant.partly mode workers hs held)
 
 pub returns-in-Err-clause-among : goal.returns-in-Err-clause-among

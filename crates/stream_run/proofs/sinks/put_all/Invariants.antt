@@ -10,7 +10,7 @@ use Rattle.stream_run.proofs.sinks.put_all.Given as goal
 abbrev pub invariant-loop-k : goal.invariant-loop-k
 invariant-loop-k g l =
     let told = g.F.Files.told in
-    let h = came_to l.packet l.original l.frame l.done in
+    let h = came_to l.worker l.packet l.original l.frame l.done in
     record {
       partly : (mode : Mode) (workers : ℕ) (hs : List Handled) → AreHeld mode workers l.ports hs (told l.fn.files) l.fn.sinks
           → IsPartly (λ j. bytes_of mode workers l.ports j hs) (λ j. bytes_of mode workers l.ports j (hs ++ h ∷ [])) l.k (told l.files) l.sinks;

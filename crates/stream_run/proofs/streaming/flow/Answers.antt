@@ -17,7 +17,7 @@ returns-in-Ok-flush_all-clause-flows g c =
     let held = c.in-Ok-flush_all.ensures.goes_on One 1 ports h.reached.hs h.reached.held in
     let same = c.flush_all.ensures.same_files ∙ c.handle_all.ensures.same_files in
     finishes f ports c.args.feed.now (told c.args.files.now) c.handle_all.new.feed (told c.handle_all.new.files) c.handle_all.new.sinks c.handle_all.new.tables.state c.in-Ok.ending (told c.flush_all.new.files) (files_of c.args.sinks.now) h
-    (λ k file e. empty_told f ports (told c.flush_all.new.files) c.flush_all.new.sinks h.reached.hs held c.in-Ok-flush_all.ensures.empty k file (ap (λ (fs : List ℕ). slice_get fs k) same ∙ e))
+    (λ k file e. empty_told One 1 ports (told c.flush_all.new.files) c.flush_all.new.sinks h.reached.hs held c.in-Ok-flush_all.ensures.empty k file (ap (λ (fs : List ℕ). slice_get fs k) same ∙ e))
 
 pub returns-in-Ok-flush_all-clause-kept : goal.returns-in-Ok-flush_all-clause-kept
 returns-in-Ok-flush_all-clause-kept g c =

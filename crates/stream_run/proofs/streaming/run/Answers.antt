@@ -1,5 +1,4 @@
-use Rattle.std.proofs.Common.{◌≡◌, ◌∙◌, ℕ, List, length, sym, ap, subst, Some}
-use Rattle.std.specs.List.{slice_get}
+use Rattle.std.proofs.Common.{◌≡◌, ◌∙◌, ℕ, List, length, sym, ap, ap₂, subst}
 use Rattle.std.proofs.lemmas.List.{length-map}
 use Rattle.nf_base.specs.declared.func.Func.{Func}
 use Rattle.nf_base.specs.declared.func.Handler.{Handler}
@@ -7,7 +6,7 @@ use Rattle.nf_base.specs.View.{block_of}
 use Rattle.nf_base.specs.Functions.{function_of}
 use Rattle.run_history.specs.declared.line.Mode.TheVariants.{One}
 use Rattle.stream_run.specs.Texts.{head}
-use Rattle.stream_run.specs.Writing.{Holding, KeepsBut, StopsAmong}
+use Rattle.stream_run.specs.Writing.{KeepsBut, StopsAmong}
 use Rattle.stream_run.proofs.Held.{but_none}
 use Rattle.stream_run.specs.Lawful.{Streams}
 use Rattle.stream_run.proofs.Complete.{is_run_at, cut_short_at, halts_none, heads_held}
@@ -29,8 +28,8 @@ pub stream-requires-clause-heads : goal.stream-requires-clause-heads
 stream-requires-clause-heads g c =
     let told = g.F.Files.told in
     let n = length c.args.func.now.handlers in
-    heads_held n (told c.args.files.now) c.in-Ok.sinks c.args.targets.now c.in-Ok.ensures.files
-    (subst (λ (m : ℕ). (k : ℕ) (s : Holding) → slice_get c.in-Ok.sinks k ≡ Some s → s.held ≡ head One 1 m k) c.len.ensures.value c.in-Ok.ensures.heads) c.requires.empty
+    heads_held One 1 n (told c.args.files.now) c.in-Ok.sinks c.args.targets.now c.in-Ok.ensures.files
+    (λ k s e. c.in-Ok.ensures.heads k s e ∙ ap₂ (λ (w m : ℕ). head One w m k) c.new.ensures c.len-ports.ensures.value) c.requires.empty
 
 pub returns-clause-runs : goal.returns-clause-runs
 returns-clause-runs g c =
