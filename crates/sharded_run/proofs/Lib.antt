@@ -1,0 +1,12 @@
+pub mod Rising
+pub mod Answered
+pub mod Lined
+pub mod Reached
+pub mod Complete
+pub mod Begun
+pub mod Gathered
+pub mod Owned
+pub mod Written
+pub mod Rounding
+pub mod Endings
+pub mod Queued

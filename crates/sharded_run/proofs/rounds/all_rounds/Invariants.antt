@@ -1,0 +1,36 @@
+use Rattle.std.proofs.Common.{◌≡◌, ◌<◌, ◌≤◌, ◌-◌, ℕ, length}
+use Rattle.nf_base.specs.declared.keys.Keys.{Keys}
+use Rattle.nf_base.specs.Functions.{function_of}
+use Rattle.nf_files.specs.Told.{Told}
+use Rattle.key_synth.specs.Laws.{HashAlikeWhereTheyMeet}
+use Rattle.packet_feed.specs.Sources.{files_in}
+use Rattle.packet_feed.specs.Feeding.{Feeding}
+use Rattle.shard_core.specs.Plays.{SameSize}
+use Rattle.stream_run.specs.Writing.{files_of, KeepsBut}
+use Rattle.sharded_run.specs.Rounds.{AreIdle}
+use Rattle.sharded_run.specs.Going.{Reaches}
+use Rattle.sharded_run.proofs.rounds.all_rounds.Given as goal
+
+-- whatever was reached before the rounds, more is reached by those so far
+abbrev pub invariant-rounds : goal.invariant-rounds
+invariant-rounds g l =
+    let told = g.F.Files.told in
+    let f = function_of l.fn.shards.func in
+    let ports = length l.captures in
+    record {
+      on : (keys : Keys) (workers : ℕ) (begun : Feeding) (start : Told) → 1 < workers → HashAlikeWhereTheyMeet f keys
+          → Reaches f keys workers ports begun start l.fn.feed (told l.fn.files) l.fn.sinks l.fn.shards → Reaches f keys workers ports begun start l.feed (told l.files) l.sinks l.shards;
+      idle : AreIdle l.shards;
+      captures : files_in l.feed.sources ≡ l.captures;
+      within : l.feed.given ≤ l.feed.most;
+      most : l.feed.most ≡ l.fn.feed.most;
+      same : SameSize l.fn.shards l.shards;
+      same_files : files_of l.sinks ≡ files_of l.fn.sinks;
+      kept : KeepsBut (files_of l.fn.sinks) (told l.fn.files) (told l.files);
+      reads : (n : ℕ) → g.F.Files.is_read l.fn.files n → g.F.Files.is_read l.files n;
+      writes : (n : ℕ) → g.F.Files.is_written l.fn.files n → g.F.Files.is_written l.files n;
+      count : g.F.Files.counted l.files ≡ g.F.Files.counted l.fn.files;
+    }
+
+abbrev pub decreases-rounds : goal.decreases-rounds
+decreases-rounds g l = l.feed.most - l.feed.given

@@ -1,0 +1,54 @@
+-- Packets that are read from captures before any of them is worked.
+use Rattle.std.specs.Prelude.{◌≡◌, ◌+◌, ◌<◌, ◌≤◌, ℕ, List, [], ◌∷◌, ◌++◌, length, map, Option, Some, None, Result, Ok, Err}
+use Rattle.std.specs.List.{AllByRecursion}
+use Rattle.nf_base.specs.declared.packet.Packet.{Packet}
+use Rattle.nf_files.specs.Told.{Told}
+use Rattle.nf_sites.specs.Separation.{HasInput}
+use Rattle.pcap_file.specs.Record.{greatest_time}
+use Rattle.packet_feed.specs.Arrivals.{Arrival, packet_of}
+use Rattle.packet_feed.specs.Told.{packets_of}
+use Rattle.packet_feed.specs.Sources.{files_in, AreFrom}
+use Rattle.packet_feed.specs.Feeding.{Feeding, StandsFor, AreAll, AreTorn, HasMore}
+use Rattle.stream_run.specs.declared.ending.Ending.{Ending}
+use Rattle.stream_run.specs.declared.ending.Ending.TheVariants.{All, TooMany}
+
+-- times go up from one to another
+abbrev pub Rises : ℕ → List Packet → ℕ → Type 0
+Rises time [] last = time ≤ last
+Rises time (p ∷ ps) last = (time ≤ p.time) × Rises p.time ps last
+
+-- a packet of one of so many ports, with fields within their widths
+pub record Fits (ports : ℕ) (packet : Packet) : Type 0 where
+  pub port : packet.id.port < ports
+  pub input : HasInput packet
+
+-- a record's time and its frame are no more than a capture can hold
+pub record IsKept (time : ℕ) (frame : List ℕ) : Type 0 where
+  pub time_is : time ≤ greatest_time
+  pub captured : length frame ≤ 262144
+
+-- These packets were read since.
+pub record Gathers (ports : ℕ) (begun feed : Feeding) (start now : Told) (batch : List Arrival) : Type 0 where
+  pub given : (before : Told) (given : List Arrival) → StandsFor before given begun start → StandsFor before (given ++ batch) feed now
+  pub count : feed.given ≡ begun.given + length batch
+  pub times : (time : ℕ) → AreFrom time begun.sources → (last : ℕ) × Rises time (map packet_of batch) last × AreFrom last feed.sources
+  pub same_files : files_in feed.sources ≡ files_in begun.sources
+  pub same_most : feed.most ≡ begun.most
+  pub within : begun.given ≤ begun.most → feed.given ≤ feed.most
+  pub fit : AllByRecursion (Fits ports) (map packet_of batch)
+
+-- behind the packets that were given none is left, or as many were given as may be and one is left
+abbrev pub IsOver : Ending → Feeding → Told → Feeding → List Arrival → Type 0
+IsOver All begun start feed batch =
+    (before : Told) (given : List Arrival) → StandsFor before given begun start →
+    AreAll (packets_of (files_in feed.sources) before) (given ++ batch) × AreTorn before feed.sources
+IsOver TooMany begun start feed batch =
+    (feed.given ≡ feed.most)
+    × ((before : Told) (given : List Arrival) → StandsFor before given begun start →
+    HasMore (packets_of (files_in feed.sources) before) (length (given ++ batch)))
+
+-- what reading at most so many packets comes to: as many, or fewer and an end
+abbrev pub Reads : {E : Type 0} → ℕ → ℕ → Feeding → Told → Feeding → Told → List Arrival → Result (Option Ending) E → Type 0
+Reads most ports begun start feed now batch (Ok None) = Gathers ports begun feed start now batch × (length batch ≡ most)
+Reads most ports begun start feed now batch (Ok (Some ending)) = Gathers ports begun feed start now batch × IsOver ending begun start feed batch
+Reads most ports begun start feed now batch (Err stop) = Unit {0}

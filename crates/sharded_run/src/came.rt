@@ -1,0 +1,30 @@
+//! What a run in mode `shard` came to.
+
+use shard_core::Stop;
+use stream_run::{Ending, Ran};
+
+/// The share stop at which a run ends.
+#[derive(Clone, Copy, Debug, PartialEq, Eq)]
+pub struct ShareFull {
+    pub stop: Stop,
+    /// How many packets were handled before it.
+    pub packets: u32,
+}
+
+/// How the rounds of a run end.
+#[derive(Clone, Copy, Debug, PartialEq, Eq)]
+pub enum Ended {
+    /// All packets were handled, or as many as were asked for.
+    Over(Ending),
+    /// A share has no index left at a packet, and those before it were handled.
+    Full(ShareFull),
+}
+
+/// What a run came to that no fault stopped.
+#[derive(Drop)]
+pub enum Came {
+    /// All packets were handled, or as many as were asked for.
+    Ran(Ran),
+    /// A share has no index left at a packet, and those before it were handled.
+    Full(ShareFull),
+}
