@@ -4,3 +4,6 @@ pub mod Absorbing
 pub mod Rising
 pub mod Tailing
 pub mod Publishing
+pub mod Making
+pub mod Merging
+pub mod Opens

@@ -4,3 +4,7 @@ pub mod Tails
 pub mod Alone
 pub mod Gates
 pub mod Looks
+pub mod Seats
+pub mod Closing
+pub mod Opening
+pub mod Merging

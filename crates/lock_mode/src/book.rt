@@ -81,17 +81,20 @@ impl Naming for Brand {
 }
 
 /// A book with an empty history, which has no name yet.
-pub struct Opened {
+pub struct Blank {
     head: Word<Entry, u64, Law>,
     seen: Seen<Entry, u64, Law>,
     pub ghost empty: { seen.log ≡ [] },
     pub ghost head_is: { head ≡ head_of seen.book },
 }
 
-impl Opened {
-    pub fn new() -> Opened {
+impl Blank {
+    /// A book of which there is one.
+    pub fn new() -> Blank
+        ensures { result.seen.log ≡ [] }
+    {
         let (seen, mut first, _second) = Seen::open(Start::alone(), 0, 0);
-        Opened {
+        Blank {
             head: Word::tracked(0, &mut first),
             seen,
         }
@@ -102,7 +105,7 @@ impl Opened {
         requires { self.seen.book ≡ J.book }
         ensures { result.1 ≡ [] }
     {
-        let Opened { head, seen } = self;
+        let Blank { head, seen } = self;
         (
             Book {
                 head,

@@ -4,23 +4,30 @@ ghost use Rattle.lock_core.specs.Events.{IsStep};
 ghost use mathlib.Core.List.{IsPrefix};
 ghost use Rattle.lock_core.specs.Calls.{count_of};
 ghost use Rattle.lock_mode.specs.Alone.{IsAlone};
+ghost use Rattle.lock_mode.specs.Merging.{HaveSeen, AreMerged};
+ghost use Rattle.lock_mode.specs.Seats.{AreAll};
+ghost use Rattle.lock_mode.specs.Sides.{RanTo};
 
 use crate::book::{Book, Front, Naming};
+use crate::gate::Gate;
+use crate::merge::merged;
 use crate::rule::{Rising, Seeing, TableWriter};
+use crate::seat::Seat;
 use crate::side::{Op, Side};
 use crate::tail::Tail;
 use crate::viewer::until;
 use core::mem::replace_with;
 use crossbeam_utils::rule::Protocol;
 use left_right::Absorb;
-use lock_core::{Placed, again};
+use lock_core::{Ordered, Placed, again};
 use nf_base::packet::Packet;
-use std::alloc::AllocError;
+use std::alloc::{AllocError, Global};
 use std::sync::Wait;
 use std::thread;
+use vig_tables::Tables;
 
 /// The writer, which has published all of the history. It is not `Drop`.
-pub struct Desk<J: Naming>
+pub(crate) struct Desk<J: Naming>
 where
     Side<J>: Absorb<Op<J>>,
     Rising: Protocol<Side<J>, u64>,
@@ -52,7 +59,7 @@ fn append_waiting<J: Naming, R: Wait>(rt: &R, writer: &mut TableWriter<J>, op: O
 
 impl<J: Naming> Desk<J> {
     /// A writer that has published the history so far.
-    pub fn over(writer: TableWriter<J>, tail: Tail<J>, book: Book<J>) -> Desk<J>
+    pub(crate) fn over(writer: TableWriter<J>, tail: Tail<J>, book: Book<J>) -> Desk<J>
         requires settled { drop writer.behind writer.log.items ≡ [] }
         requires same { writer.desk.shown.value ≡ (tail, true) }
         ensures { result.tail ≡ tail }
@@ -63,7 +70,7 @@ impl<J: Naming> Desk<J> {
     /// Handles a packet of a seat at the end of the history, and publishes the tables behind it.
     ///
     /// `Err` comes before anything is done.
-    pub fn alone<R: Wait>(
+    fn alone<R: Wait>(
         self,
         rt: &R,
         seat: u32,
@@ -112,9 +119,19 @@ fn wait_for<J: Naming, R: Wait>(rt: &R, seen: &Front<J>, tail: &Tail<J>)
     unreachable!()
 }
 
+/// Waits until none of the seats has seen more than there is.
+fn wait_for_all<J: Naming, G: Gate + Drop, R: Wait>(rt: &R, seats: &[Seat<J, G>], tail: &Tail<J>)
+    ensures { HaveSeen seats.now tail.now (length seats.now) }
+{
+    for at in 0..seats.len() {
+        let seat = &seats[at];
+        wait_for(rt, seat.seen(), tail);
+    }
+}
+
 impl<J: Naming> Desk<J> {
     /// Handles a packet of a seat behind all that the seat has seen, and tells the history then.
-    pub fn place<R: Wait>(
+    pub(crate) fn place<R: Wait>(
         &mut self,
         rt: &R,
         seen: &Front<J>,
@@ -133,13 +150,34 @@ impl<J: Naming> Desk<J> {
         }
     }
 
-    /// Ends the writer, which waits for those that are in the tables.
-    pub fn end<R: Wait>(self, rt: &R) {
+    /// All calls of all seats in one order. It waits for ever where they are not the whole history.
+    ///
+    /// `Err` is for want of memory.
+    pub(crate) fn order<R: Wait, G: Gate + Drop>(
+        &self,
+        rt: &R,
+        alloc: Global,
+        seats: &[Seat<J, G>],
+    ) -> Result<Vec<Ordered>, AllocError>
+        requires { AreAll J.seats seats.now }
+        ensures { IfOk result (λ order.
+            AreMerged J.function self.now.tail seats.now order.items) }
+    {
+        wait_for_all(rt, seats, &self.tail);
+        merged(rt, alloc, seats, &self.tail)
+    }
+
+    /// Ends the writer, which waits for those that are in the tables, and gives the tables where the
+    /// history ends.
+    pub(crate) fn end<R: Wait>(self, rt: &R) -> Tables
+        ensures { RanTo J.function result self.tail }
+    {
         let Desk {
             writer,
-            tail: _tail,
+            tail,
             book: _book,
         } = self;
         let _side = writer.take(rt);
+        tail.into_tables()
     }
 }

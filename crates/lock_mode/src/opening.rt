@@ -1,12 +1,26 @@
 //! The published tables, opened for so many readers.
-ghost use Rattle.std.specs.Prelude.{◌≡◌, IfOk, length};
+ghost use Rattle.std.specs.Prelude.{◌≡◌, ◌<◌, ◌≤◌, [], true, length, drop, IfOk};
+ghost use Rattle.nf_base.specs.Functions.{function_of};
+ghost use Rattle.lock_mode.specs.Gates.{Rose};
+ghost use Rattle.lock_mode.specs.Opening.{IfMany, IfOneSeat, AreNew, AreOpening};
 
-use crate::book::Naming;
+use crate::book::{Book, Front, Naming};
+use crate::gate::Gate;
 use crate::rule::{Rising, TableReader, TableWriter};
+use crate::seat::Seat;
+use crate::shared::Shared;
 use crate::side::{Op, Side};
+use crate::tail::Tail;
 use crossbeam_utils::rule::Protocol;
 use left_right::Absorb;
-use std::alloc::Global;
+use nf_base::func::Func;
+use nf_base::share::Share;
+use std::alloc::{AllocError, Global};
+use std::sync::Wait;
+use vig_tables::Tables;
+
+/// The share of one queue that has all indices.
+const WHOLE: Share = Share { queue: 0, of: 1 };
 
 /// Why tables can't be opened.
 #[derive(Clone, Copy, Debug, PartialEq, Eq)]
@@ -45,4 +59,158 @@ pub(crate) fn readers_of<J: Naming>(
         }
     }
     Ok(readers)
+}
+
+/// What tables were opened as.
+pub enum Opened<S, T> {
+    /// Shared tables, and their seats.
+    Many(S, T),
+    /// The tables for one seat, since the gate refused a reader.
+    OneSeat(Tables),
+}
+
+/// A copy of the opening tables.
+fn side_of<J: Naming>(alloc: Global, func: &Func, front: &Front<J>) -> Result<Side<J>, AllocError>
+    requires function { function_of func.now ≡ J.function }
+    requires empty { front.now ≡ [] }
+    ensures { IfOk result (λ side. side ≡ ([], true)) }
+{
+    let tables = Tables::new(alloc, func, WHOLE)?;
+    let func = func.copy(alloc)?;
+    Ok(Side::opening(func, tables, front.again()))
+}
+
+/// The end of an empty history.
+fn tail_of<J: Naming>(
+    alloc: Global,
+    func: &Func,
+    front: &Front<J>,
+    seats: u32,
+) -> Result<Tail<J>, AllocError>
+    requires function { function_of func.now ≡ J.function }
+    requires empty { front.now ≡ [] }
+    requires seats { J.seats ≡ seats }
+    ensures { IfOk result (λ tail. tail ≡ []) }
+{
+    let tables = Tables::new(alloc, func, WHOLE)?;
+    let func = func.copy(alloc)?;
+    Tail::opening(alloc, func, tables, front.again(), seats)
+}
+
+/// Two copies of the opening tables to be published, and the end of an empty history.
+#[derive(Drop)]
+pub(crate) struct Copies<J: Naming> {
+    first: Side<J>,
+    second: Side<J>,
+    tail: Tail<J>,
+}
+
+/// Copies of a function's opening tables.
+pub(crate) fn copies_of<J: Naming>(
+    alloc: Global,
+    func: &Func,
+    front: &Front<J>,
+    seats: u32,
+) -> Result<Copies<J>, AllocError>
+    requires function { function_of func.now ≡ J.function }
+    requires empty { front.now ≡ [] }
+    requires seats { J.seats ≡ seats }
+    ensures first { IfOk result (λ copies. copies.first ≡ ([], true)) }
+    ensures second { IfOk result (λ copies. copies.second ≡ ([], true)) }
+    ensures tail { IfOk result (λ copies. copies.tail ≡ []) }
+{
+    let first = side_of(alloc, func, front)?;
+    let second = side_of(alloc, func, front)?;
+    let tail = tail_of(alloc, func, front, seats)?;
+    Ok(Copies {
+        first,
+        second,
+        tail,
+    })
+}
+
+/// A seat for each reader, with a gate of its own.
+fn seats_of<J: Naming, G: Gate + Drop>(
+    alloc: Global,
+    gate: &G,
+    front: &Front<J>,
+    readers: Vec<TableReader<J>>,
+    seats: u32,
+) -> Result<Vec<Seat<J, G>>, AllocError>
+    requires empty { front.now ≡ [] }
+    requires seats { J.seats ≡ seats }
+    requires each { length readers.items ≡ seats }
+    ensures { IfOk result (λ all. AreNew J.seats all.items) }
+{
+    let mut readers = readers;
+    let mut all = Vec::with_capacity(alloc, seats as usize)?;
+    for number in 0..seats {
+        let Some(reader) = readers.pop() else {
+            unreachable!()
+        };
+        let seat = Seat::new(alloc, number, gate.seat(), front.again(), reader);
+        all.push(seat)?;
+    }
+    Ok(all)
+}
+
+/// Shared tables over what a gate has made, with a seat for each reader.
+fn seated<J: Naming, G: Gate + Drop, R: Wait>(
+    rt: &R,
+    alloc: Global,
+    gate: &G,
+    pair: TablePair<J>,
+    tail: Tail<J>,
+    book: Book<J>,
+    seats: u32,
+) -> Result<Opened<Shared<J>, Vec<Seat<J, G>>>, AllocError>
+    requires empty { tail ≡ [] }
+    requires seats { J.seats ≡ seats }
+    requires same { pair.writer.desk.shown.value ≡ ([], true) }
+    requires settled { drop pair.writer.behind pair.writer.log.items ≡ [] }
+    requires each { length pair.readers.items ≡ seats }
+    ensures many { IfOk result (λ opened. IfMany opened (λ _ all. AreNew J.seats all.items)) }
+    ensures several { IfOk result (λ opened. IfOneSeat opened (λ _. ⊥)) }
+{
+    let TablePair { writer, readers } = pair;
+    match seats_of(alloc, gate, &tail.seen(), readers, seats) {
+        Ok(all) => Ok(Opened::Many(Shared::over(writer, tail, book), all)),
+        Err(refused) => {
+            let _side = writer.take(rt);
+            Err(refused)
+        }
+    }
+}
+
+/// Shared tables as a gate opens them, or the tables for one seat where it refused.
+pub(crate) fn opened_by<J: Naming, G: Gate + Drop, R: Wait>(
+    rt: &R,
+    alloc: Global,
+    gate: &mut G,
+    copies: Copies<J>,
+    book: Book<J>,
+    seats: u32,
+) -> Result<Opened<Shared<J>, Vec<Seat<J, G>>>, AllocError>
+    requires some { 0 < seats }
+    requires seats { J.seats ≡ seats }
+    requires first { copies.first ≡ ([], true) }
+    requires second { copies.second ≡ ([], true) }
+    requires tail { copies.tail ≡ [] }
+    ensures many { IfOk result (λ opened. IfMany opened (λ _ all. AreNew J.seats all.items)) }
+    ensures tables { IfOk result (λ opened. IfOneSeat opened (λ tables.
+        AreOpening J.function tables)) }
+    ensures refused { IfOk result (λ opened. IfOneSeat opened (λ _.
+        Rose (G.refused gate.old) (G.refused gate.new))) }
+    ensures rises { G.refused gate.old ≤ G.refused gate.new }
+{
+    let Copies {
+        first,
+        second,
+        tail,
+    } = copies;
+    match gate.make(rt, alloc, first, second, seats) {
+        Ok(pair) => seated(rt, alloc, gate, pair, tail, book, seats),
+        Err(MakeFault::Refused) => Ok(Opened::OneSeat(tail.into_tables())),
+        Err(MakeFault::Memory) => Err(AllocError),
+    }
 }

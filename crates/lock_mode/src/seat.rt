@@ -4,8 +4,10 @@ ghost use Rattle.std.specs.Vec.{vec_len, vec_capacity};
 ghost use mathlib.Core.List.{IsPrefix};
 ghost use Rattle.lock_core.specs.declared.call.Way.TheVariants as way;
 ghost use Rattle.lock_core.specs.Events.{IsLook, IsQuietBehind};
+ghost use Rattle.lock_mode.specs.Alone.{IsAlone};
 ghost use Rattle.lock_mode.specs.Gates.{Rose};
 ghost use Rattle.lock_mode.specs.Looks.{IfDone, IfNeedsWrite, IfRefused};
+ghost use Rattle.lock_mode.specs.Seats.{AreMade};
 
 use crate::book::{Front, Naming};
 use crate::gate::Gate;
@@ -16,18 +18,39 @@ use core::mem::replace_with;
 use lock_core::{Call, Placed, Way, again};
 use nf_base::packet::Packet;
 use std::alloc::{AllocError, Global};
+use std::marker::Model;
 use std::sync::Wait;
 
 /// One of those who share the tables.
 ///
 /// It has a gate of its own, knows the beginning of the history that it has seen, and its calls in
-/// their order.
+/// their order. Contracts see it as these, its number, the count of its gate, and for how many more
+/// calls it has room.
 #[derive(Drop)]
 pub struct Seat<J: Naming, G: Gate + Drop> {
-    pub(crate) number: u32,
-    pub(crate) gate: G,
-    pub(crate) viewer: Viewer<J>,
-    pub(crate) calls: Vec<Call>,
+    number: u32,
+    gate: G,
+    viewer: Viewer<J>,
+    calls: Vec<Call>,
+}
+
+impl<J: Naming, G: Gate + Drop> Model for Seat<J, G> {
+    ghost use Rattle.std.specs.Prelude.{◌-◌};
+    ghost use Rattle.std.specs.Vec.{vec_len, vec_capacity};
+    ghost use Rattle.lock_mode.specs.Seats.{SeatState, IsSeat};
+
+    ghost Value = { SeatState };
+
+    ghost view = { λ s. record {
+      number = s.number;
+      seen = s.viewer.front;
+      calls = s.calls.items;
+      room = vec_capacity s.calls - vec_len s.calls;
+      refused = G.refused s.gate;
+    } };
+
+    ghost invariant = { λ s.
+        IsSeat J.function J.seats s.number s.viewer.front s.calls.items };
 }
 
 /// Appends a look that was done to the calls of a seat, which have room.
@@ -35,8 +58,8 @@ fn add_look(calls: &mut Vec<Call>, place: u64, packet: &Packet, looked: &Looked)
     requires room { vec_len calls.old < vec_capacity calls.old }
     ensures done { IfDone looked.now (λ done. calls.new.items ≡ calls.old.items
         ++ (record { way = way.Look; place = place; packet = packet.now; done = done }) ∷ []) }
-    ensures needs { IfNeedsWrite looked.now (calls.new.items ≡ calls.old.items) }
-    ensures refused { IfRefused looked.now (calls.new.items ≡ calls.old.items) }
+    ensures needs { IfNeedsWrite looked.now (calls.new ≡ calls.old) }
+    ensures refused { IfRefused looked.now (calls.new ≡ calls.old) }
     ensures capacity { vec_capacity calls.old ≤ vec_capacity calls.new }
     ensures len { vec_len calls.new ≤ vec_len calls.old + 1 }
 {
@@ -61,22 +84,20 @@ fn add_look(calls: &mut Vec<Call>, place: u64, packet: &Packet, looked: &Looked)
 /// A look by value.
 fn look_seat<J: Naming, G: Gate + Drop>(seat: Seat<J, G>, packet: &Packet) -> (Seat<J, G>, Looked)
     requires port { packet.now.id.port < length J.function.handlers }
-    requires room { vec_len seat.calls < vec_capacity seat.calls }
-    ensures seen { IsPrefix seat.viewer.front result.0.viewer.front }
-    ensures done { IfDone result.1 (λ done.
-        IsLook J.function result.0.viewer.front packet.now done) }
-    ensures called { IfDone result.1 (λ done. result.0.calls.items ≡ seat.calls.items
-        ++ (record { way = way.Look; place = length result.0.viewer.front; packet = packet.now; done = done }) ∷ []) }
+    requires room { 0 < seat.room }
+    ensures seen { IsPrefix seat.seen result.0.seen }
+    ensures done { IfDone result.1 (λ done. IsLook J.function result.0.seen packet.now done) }
+    ensures called { IfDone result.1 (λ done. result.0.calls ≡ seat.calls
+        ++ (record { way = way.Look; place = length result.0.seen; packet = packet.now; done = done }) ∷ []) }
     ensures needs { IfNeedsWrite result.1 (
-        IsQuietBehind J.function result.0.viewer.front packet.now → ⊥) }
-    ensures uncalled { IfNeedsWrite result.1 (result.0.calls.items ≡ seat.calls.items) }
-    ensures refused { IfRefused result.1 (Rose (G.refused seat.gate) (G.refused result.0.gate)) }
-    ensures unseen { IfRefused result.1 (result.0.viewer.front ≡ seat.viewer.front) }
-    ensures same { IfRefused result.1 (result.0.calls.items ≡ seat.calls.items) }
-    ensures rises { G.refused seat.gate ≤ G.refused result.0.gate }
+        IsQuietBehind J.function result.0.seen packet.now → ⊥) }
+    ensures uncalled { IfNeedsWrite result.1 (result.0.calls ≡ seat.calls) }
+    ensures refused { IfRefused result.1 (Rose seat.refused result.0.refused) }
+    ensures unseen { IfRefused result.1 (result.0.seen ≡ seat.seen) }
+    ensures same { IfRefused result.1 (result.0.calls ≡ seat.calls) }
+    ensures rises { seat.refused ≤ result.0.refused }
     ensures number { result.0.number ≡ seat.number }
-    ensures capacity { vec_capacity seat.calls ≤ vec_capacity result.0.calls }
-    ensures len { vec_len result.0.calls ≤ vec_len seat.calls + 1 }
+    ensures room { seat.room ≤ result.0.room + 1 }
 {
     let Seat {
         number,
@@ -97,23 +118,39 @@ fn look_seat<J: Naming, G: Gate + Drop>(seat: Seat<J, G>, packet: &Packet) -> (S
     )
 }
 
-/// A seat that has seen a history that was published.
-fn seen_by_seat<J: Naming, G: Gate + Drop, R: Wait>(
+/// A seat that has handled a packet alone, and seen the history behind it; it has room for one call.
+fn stand_seat<J: Naming, G: Gate + Drop, R: Wait>(
     rt: &R,
     seat: Seat<J, G>,
     front: Front<J>,
+    packet: &Packet,
+    placed: &Placed,
 ) -> (Seat<J, G>, ())
-    ensures seen { result.0.viewer.front ≡ front }
-    ensures calls { result.0.calls ≡ seat.calls }
+    requires room { 0 < seat.room }
+    requires stands { IsAlone J.function seat.seen seat.number packet.now placed.now front }
+    ensures seen { result.0.seen ≡ front }
+    ensures called { result.0.calls ≡ seat.calls
+        ++ (record { way = way.Alone; place = placed.now.place; packet = packet.now; done = placed.now.done }) ∷ [] }
     ensures number { result.0.number ≡ seat.number }
-    ensures gate { result.0.gate ≡ seat.gate }
+    ensures refused { result.0.refused ≡ seat.refused }
+    ensures room { seat.room ≤ result.0.room + 1 }
 {
     let Seat {
         number,
         gate,
         viewer,
-        calls,
+        mut calls,
     } = seat;
+    let call = Call {
+        way: Way::Alone,
+        place: placed.place,
+        packet: *packet,
+        done: again(&placed.done),
+    };
+    match calls.push(call) {
+        Ok(()) => {}
+        Err(_) => unreachable!(),
+    }
     let Viewer {
         front: _seen,
         reader,
@@ -130,36 +167,64 @@ fn seen_by_seat<J: Naming, G: Gate + Drop, R: Wait>(
     )
 }
 
-/// A seat that has done nothing, over one of the readers of the tables; its calls have no room yet.
-pub fn new_seat<J: Naming, G: Gate + Drop>(
-    alloc: Global,
-    number: u32,
-    gate: G,
-    front: Front<J>,
-    reader: TableReader<J>,
-) -> Seat<J, G>
-    requires empty { front ≡ [] }
-    ensures number { result.number ≡ number }
-    ensures gate { result.gate ≡ gate }
-    ensures seen { result.viewer.front ≡ [] }
-    ensures calls { result.calls.items ≡ [] }
-{
-    Seat {
-        number,
-        gate,
-        viewer: Viewer::new(front, reader),
-        calls: Vec::new(alloc),
-    }
-}
-
 impl<J: Naming, G: Gate + Drop> Seat<J, G> {
+    /// A seat that has done nothing, over one of the readers of the tables; its calls have no room
+    /// yet.
+    pub(crate) fn new(
+        alloc: Global,
+        number: u32,
+        gate: G,
+        front: Front<J>,
+        reader: TableReader<J>,
+    ) -> Seat<J, G>
+        requires below { number < J.seats }
+        requires empty { front ≡ [] }
+        ensures number { result.number ≡ number }
+        ensures refused { result.refused ≡ G.refused gate }
+        ensures seen { result.seen ≡ [] }
+        ensures calls { result.calls ≡ [] }
+    {
+        Seat {
+            number,
+            gate,
+            viewer: Viewer::new(front, reader),
+            calls: Vec::new(alloc),
+        }
+    }
+
+    /// Its number among the seats, from 0.
+    pub fn number(&self) -> u32
+        ensures number { result ≡ self.now.number }
+        ensures below { result < J.seats }
+    {
+        self.number
+    }
+
+    /// Its calls, in their order.
+    pub fn calls(&self) -> &[Call]
+        ensures calls { result.now ≡ self.now.calls }
+        ensures made { AreMade J.function self.now.number self.now.seen self.now.calls }
+    {
+        self.calls.as_slice()
+    }
+
+    /// The beginning of the history that it has seen.
+    pub(crate) fn seen(&self) -> &Front<J>
+        ensures { result.now ≡ self.now.seen }
+    {
+        &self.viewer.front
+    }
+
     /// Makes room for so many calls.
+    ///
+    /// `Err` is for want of memory.
     pub fn reserve(&mut self, count: usize) -> Result<(), AllocError>
-        ensures room { OnOk result (vec_len self.new.calls + count ≤ vec_capacity self.new.calls) }
+        ensures room { OnOk result (count ≤ self.new.room) }
+        ensures kept { self.old.room ≤ self.new.room }
         ensures number { self.new.number ≡ self.old.number }
-        ensures gate { self.new.gate ≡ self.old.gate }
-        ensures seen { self.new.viewer ≡ self.old.viewer }
-        ensures calls { self.new.calls.items ≡ self.old.calls.items }
+        ensures refused { self.new.refused ≡ self.old.refused }
+        ensures seen { self.new.seen ≡ self.old.seen }
+        ensures calls { self.new.calls ≡ self.old.calls }
     {
         self.calls.reserve(count)
     }
@@ -170,24 +235,21 @@ impl<J: Naming, G: Gate + Drop> Seat<J, G> {
     /// `Refused` comes only where the seat's gate refused.
     pub fn look(&mut self, packet: &Packet) -> Looked
         requires port { packet.now.id.port < length J.function.handlers }
-        requires room { vec_len self.old.calls < vec_capacity self.old.calls }
-        ensures seen { IsPrefix self.old.viewer.front self.new.viewer.front }
+        requires room { 0 < self.old.room }
+        ensures seen { IsPrefix self.old.seen self.new.seen }
         // The packet's quiet step, behind the history that is then seen.
-        ensures done { IfDone result (λ done.
-            IsLook J.function self.new.viewer.front packet.now done) }
-        ensures called { IfDone result (λ done. self.new.calls.items ≡ self.old.calls.items
-            ++ (record { way = way.Look; place = length self.new.viewer.front; packet = packet.now; done = done }) ∷ []) }
+        ensures done { IfDone result (λ done. IsLook J.function self.new.seen packet.now done) }
+        ensures called { IfDone result (λ done. self.new.calls ≡ self.old.calls
+            ++ (record { way = way.Look; place = length self.new.seen; packet = packet.now; done = done }) ∷ []) }
         ensures needs { IfNeedsWrite result (
-            IsQuietBehind J.function self.new.viewer.front packet.now → ⊥) }
-        ensures uncalled { IfNeedsWrite result (self.new.calls.items ≡ self.old.calls.items) }
-        ensures refused { IfRefused result (
-            Rose (G.refused self.old.gate) (G.refused self.new.gate)) }
-        ensures unseen { IfRefused result (self.new.viewer.front ≡ self.old.viewer.front) }
-        ensures same { IfRefused result (self.new.calls.items ≡ self.old.calls.items) }
-        ensures rises { G.refused self.old.gate ≤ G.refused self.new.gate }
+            IsQuietBehind J.function self.new.seen packet.now → ⊥) }
+        ensures uncalled { IfNeedsWrite result (self.new.calls ≡ self.old.calls) }
+        ensures refused { IfRefused result (Rose self.old.refused self.new.refused) }
+        ensures unseen { IfRefused result (self.new.seen ≡ self.old.seen) }
+        ensures same { IfRefused result (self.new.calls ≡ self.old.calls) }
+        ensures rises { self.old.refused ≤ self.new.refused }
         ensures number { self.new.number ≡ self.old.number }
-        ensures capacity { vec_capacity self.old.calls ≤ vec_capacity self.new.calls }
-        ensures len { vec_len self.new.calls ≤ vec_len self.old.calls + 1 }
+        ensures room { self.old.room ≤ self.new.room + 1 }
     {
         replace_with(self, packet, |seat, packet| look_seat(seat, packet))
     }
@@ -200,23 +262,20 @@ impl<J: Naming, G: Gate + Drop> Seat<J, G> {
         packet: &Packet,
         placed: &Placed,
     )
-        requires room { vec_len self.old.calls < vec_capacity self.old.calls }
-        ensures seen { self.new.viewer.front ≡ front }
-        ensures called { self.new.calls.items ≡ self.old.calls.items
+        requires room { 0 < self.old.room }
+        requires stands { IsAlone J.function self.old.seen self.old.number packet.now
+            placed.now front }
+        ensures seen { self.new.seen ≡ front }
+        ensures called { self.new.calls ≡ self.old.calls
             ++ (record { way = way.Alone; place = placed.now.place; packet = packet.now; done = placed.now.done }) ∷ [] }
         ensures number { self.new.number ≡ self.old.number }
-        ensures gate { self.new.gate ≡ self.old.gate }
+        ensures refused { self.new.refused ≡ self.old.refused }
+        ensures room { self.old.room ≤ self.new.room + 1 }
     {
-        let call = Call {
-            way: Way::Alone,
-            place: placed.place,
-            packet: *packet,
-            done: again(&placed.done),
-        };
-        match self.calls.push(call) {
-            Ok(()) => {}
-            Err(_) => unreachable!(),
-        }
-        replace_with(self, front, |seat, front| seen_by_seat(rt, seat, front));
+        replace_with(
+            self,
+            front,
+            |seat, front| stand_seat(rt, seat, front, packet, placed),
+        );
     }
 }

@@ -1,25 +1,32 @@
 //! The tables that seats share.
-ghost use Rattle.std.specs.Prelude.{◌≡◌, ◌<◌, ◌≤◌, ◌+◌, ◌++◌, ◌∷◌, [], length, drop, true, IfOk, OnErr};
-ghost use Rattle.std.specs.Vec.{vec_len, vec_capacity};
+ghost use Rattle.std.specs.Prelude.{◌≡◌, ◌<◌, ◌≤◌, ◌+◌, ◌++◌, ◌∷◌, [], length, drop, true, IfOk, IfErr, OnErr};
 ghost use mathlib.Core.List.{IsPrefix};
+ghost use Rattle.nf_base.specs.Functions.{function_of};
 ghost use Rattle.lock_core.specs.declared.call.Way.TheVariants as way;
 ghost use Rattle.lock_mode.specs.Alone.{IsAlone};
+ghost use Rattle.lock_mode.specs.Closing.{IsClosed};
+ghost use Rattle.lock_mode.specs.Gates.{Rose};
+ghost use Rattle.lock_mode.specs.Opening.{IfMany, IfOneSeat, AreNew, AreOpening};
+ghost use Rattle.lock_mode.specs.Seats.{AreAll};
 
-use crate::book::{Book, Front, Naming};
+use crate::book::{Blank, Book, Front, Naming};
 use crate::desk::Desk;
 use crate::gate::Gate;
+use crate::opening::{Opened, copies_of, opened_by};
 use crate::rule::{Rising, TableWriter};
 use crate::seat::Seat;
 use crate::side::{Op, Side};
 use crate::tail::Tail;
 use crossbeam_utils::rule::Protocol;
 use left_right::Absorb;
-use lock_core::Placed;
+use lock_core::{Ordered, Placed};
+use nf_base::func::Func;
 use nf_base::packet::Packet;
-use std::alloc::AllocError;
+use std::alloc::{AllocError, Global};
 use std::sync::{Mutex, MutexGuard, Wait};
+use vig_tables::Tables;
 
-/// The tables of a function that seats share. It is not `Drop`: it ends by `give_up`.
+/// The tables of a function that seats share. It is not `Drop`: it ends by `close` or `give_up`.
 pub struct Shared<J: Naming>
 where
     Side<J>: Absorb<Op<J>>,
@@ -28,9 +35,56 @@ where
     desk: Mutex<Desk<J>>,
 }
 
+/// What all seats did, as one order, and the tables that it leaves.
+#[derive(Drop)]
+pub struct Closed {
+    pub tables: Tables,
+    pub order: Vec<Ordered>,
+}
+
+/// Shared tables and their seats, which are not closed for want of memory. It is not `Drop`.
+pub struct CloseRefused<J: Naming, G: Gate + Drop>
+where
+    Side<J>: Absorb<Op<J>>,
+    Rising: Protocol<Side<J>, u64>,
+{
+    pub shared: Shared<J>,
+    pub seats: Vec<Seat<J, G>>,
+}
+
 impl<J: Naming> Shared<J> {
+    /// Opens the tables of a function for so many seats to share. It may wait.
+    ///
+    /// `OneSeat` comes only where the gate refused a reader, and `Err` for want of memory.
+    pub fn new<R: Wait, G: Gate + Drop>(
+        rt: &R,
+        alloc: Global,
+        func: &Func,
+        seats: u32,
+        book: Blank,
+        gate: &mut G,
+    ) -> Result<Opened<Shared<J>, Vec<Seat<J, G>>>, AllocError>
+        requires some { 0 < seats }
+        requires seats { J.seats ≡ seats }
+        requires function { function_of func.now ≡ J.function }
+        requires book { book.seen.book ≡ J.book }
+        // All seats, which have seen and done nothing.
+        ensures many { IfOk result (λ opened. IfMany opened (λ _ all. AreNew J.seats all.items)) }
+        ensures tables { IfOk result (λ opened. IfOneSeat opened (λ tables.
+            AreOpening J.function tables)) }
+        ensures refused { IfOk result (λ opened. IfOneSeat opened (λ _.
+            Rose (G.refused gate.old) (G.refused gate.new))) }
+        ensures rises { G.refused gate.old ≤ G.refused gate.new }
+    {
+        let (book, front) = book.named::<J>();
+        match copies_of(alloc, func, &front, seats) {
+            Ok(copies) => opened_by(rt, alloc, gate, copies, book, seats),
+            Err(refused) => Err(refused),
+        }
+    }
+
     /// Tables that were opened, for seats to share.
-    pub fn over(writer: TableWriter<J>, tail: Tail<J>, book: Book<J>) -> Shared<J>
+    pub(crate) fn over(writer: TableWriter<J>, tail: Tail<J>, book: Book<J>) -> Shared<J>
         requires settled { drop writer.behind writer.log.items ≡ [] }
         requires same { writer.desk.shown.value ≡ (tail, true) }
     {
@@ -66,20 +120,19 @@ impl<J: Naming> Shared<J> {
         seat: &mut Seat<J, G>,
         packet: &Packet,
     ) -> Result<Placed, AllocError>
-        // The seat is one of these.
-        requires mine { seat.old.number < J.seats }
         requires port { packet.now.id.port < length J.function.handlers }
-        ensures stands { IfOk result (λ placed. IsAlone J.function seat.old.viewer.front
-            seat.old.number packet.now placed seat.new.viewer.front) }
-        ensures called { IfOk result (λ placed. seat.new.calls.items ≡ seat.old.calls.items
+        ensures stands { IfOk result (λ placed. IsAlone J.function seat.old.seen
+            seat.old.number packet.now placed seat.new.seen) }
+        ensures called { IfOk result (λ placed. seat.new.calls ≡ seat.old.calls
             ++ (record { way = way.Alone; place = placed.place; packet = packet.now; done = placed.done }) ∷ []) }
-        ensures unseen { OnErr result (seat.new.viewer.front ≡ seat.old.viewer.front) }
-        ensures same { OnErr result (seat.new.calls.items ≡ seat.old.calls.items) }
+        ensures unseen { OnErr result (seat.new.seen ≡ seat.old.seen) }
+        ensures same { OnErr result (seat.new.calls ≡ seat.old.calls) }
         ensures number { seat.new.number ≡ seat.old.number }
-        ensures gate { seat.new.gate ≡ seat.old.gate }
+        ensures refused { seat.new.refused ≡ seat.old.refused }
+        ensures room { seat.old.room ≤ seat.new.room + 1 }
     {
         seat.reserve(1)?;
-        match self.place(rt, &seat.viewer.front, seat.number, packet) {
+        match self.place(rt, seat.seen(), seat.number(), packet) {
             Ok((placed, front)) => {
                 seat.stand(rt, front, packet, &placed);
                 Ok(placed)
@@ -88,9 +141,40 @@ impl<J: Naming> Shared<J> {
         }
     }
 
-    /// Ends the tables, and waits for those that are in them.
-    pub fn give_up<R: Wait>(self, rt: &R) {
+    /// Ends the tables, with all their seats, and gives what was done as one order. It may wait.
+    ///
+    /// `Err` is for want of memory.
+    pub fn close<R: Wait, G: Gate + Drop>(
+        self,
+        rt: &R,
+        alloc: Global,
+        seats: Vec<Seat<J, G>>,
+    ) -> Result<Closed, CloseRefused<J, G>>
+        requires all { AreAll J.seats seats.items }
+        ensures closed { IfOk result (λ closed.
+            IsClosed J.function seats.items closed.order.items closed.tables) }
+        ensures refused { IfErr result (λ refused. refused.seats ≡ seats) }
+    {
         let Shared { desk } = self;
-        desk.into_inner().end(rt);
+        let desk = desk.into_inner();
+        match desk.order(rt, alloc, seats.as_slice()) {
+            Ok(order) => Ok(Closed {
+                tables: desk.end(rt),
+                order,
+            }),
+            Err(_) => Err(CloseRefused {
+                shared: Shared {
+                    desk: Mutex::new(desk),
+                },
+                seats,
+            }),
+        }
+    }
+
+    /// Ends the tables, with all their seats, without an answer. It takes no memory, and may wait.
+    pub fn give_up<R: Wait, G: Gate + Drop>(self, rt: &R, seats: Vec<Seat<J, G>>) {
+        drop(seats);
+        let Shared { desk } = self;
+        let _tables = desk.into_inner().end(rt);
     }
 }

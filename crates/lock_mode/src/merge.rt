@@ -1,0 +1,247 @@
+// One order, put together of the calls of all seats.
+ghost use Rattle.std.specs.Prelude.{◌≡◌, ◌<◌, ◌≤◌, ◌++◌, ◌∷◌, [], length, replicate, IfOk, IfSome};
+ghost use Rattle.std.specs.Bool.{OnTrue};
+ghost use Rattle.std.specs.Vec.{vec_len, vec_capacity};
+ghost use Rattle.lock_mode.specs.Seats.{AreAll};
+ghost use Rattle.lock_mode.specs.Merging.{HaveSeen, IsMerged, AreTaken, IsBehind, AreMerged};
+
+use crate::book::Naming;
+use crate::gate::Gate;
+use crate::seat::Seat;
+use crate::tail::Tail;
+use lock_core::{Call, Ordered, Way, again};
+use std::alloc::{AllocError, Global};
+use std::sync::Wait;
+use std::thread;
+
+/// An order, how many calls of each seat stand in it, and how many entries of the history.
+#[derive(Drop)]
+struct Merge {
+    order: Vec<Ordered>,
+    taken: Vec<usize>,
+    entries: u64,
+}
+
+/// How many calls seats have.
+fn count_calls<J: Naming, G: Gate + Drop>(seats: &[Seat<J, G>]) -> usize {
+    let mut count: usize = 0;
+    for seat in seats {
+        count = count.saturating_add(seat.calls().len());
+    }
+    count
+}
+
+/// So many zeros.
+fn zeros(alloc: Global, count: usize) -> Result<Vec<usize>, AllocError>
+    ensures { IfOk result (λ zeros. zeros.items ≡ replicate count 0) }
+{
+    Ok(vec![in alloc; 0; count]?)
+}
+
+/// A call of a seat, as it stands in an order.
+fn ordered(seat: u32, call: &Call) -> Ordered
+    ensures { result ≡ record { seat = seat; way = call.now.way; packet = call.now.packet; done = call.now.done } }
+{
+    Ordered {
+        seat,
+        way: call.way,
+        packet: call.packet,
+        done: again(&call.done),
+    }
+}
+
+/// Appends to an order that has room.
+fn put_last(order: &mut Vec<Ordered>, x: Ordered)
+    requires room { vec_len order.old < vec_capacity order.old }
+    ensures { order.new.items ≡ order.old.items ++ x ∷ [] }
+{
+    match order.push(x) {
+        Ok(()) => {}
+        Err(_) => unreachable!(),
+    }
+}
+
+/// How many entries stand behind a call, of which there are no more than the last.
+fn behind(entries: u64, last: u64, way: Way) -> u64
+    requires { entries ≤ last }
+    ensures within { result ≤ last }
+    ensures behind { IsBehind way entries last result }
+{
+    match way {
+        Way::Look => entries,
+        Way::Alone => { if entries < last { entries + 1 } else { last } }
+    }
+}
+
+impl Merge {
+    /// An order in which no call stands yet, with room for all.
+    fn new<J: Naming, G: Gate + Drop>(
+        alloc: Global,
+        seats: &[Seat<J, G>],
+        tail: &Tail<J>,
+    ) -> Result<Merge, AllocError>
+        ensures { IfOk result (λ merge. IsMerged J.function tail.now seats.now
+            merge.order.items merge.taken.items merge.entries) }
+    {
+        let order = Vec::with_capacity(alloc, count_calls(seats))?;
+        let taken = zeros(alloc, seats.len())?;
+        Ok(Merge {
+            order,
+            taken,
+            entries: 0,
+        })
+    }
+
+    /// How the next call of a seat was made, where it stands behind so many entries.
+    fn due(&self, calls: &[Call], at: usize) -> Option<Way> {
+        let next = *self.taken.get(at)?;
+        let call = calls.get(next)?;
+        if call.place == self.entries {
+            Some(call.way)
+        } else {
+            None
+        }
+    }
+
+    /// A seat whose next call stands behind so many entries, a look before what was handled alone.
+    fn next<J: Naming, G: Gate + Drop>(&self, seats: &[Seat<J, G>]) -> Option<usize>
+        ensures { IfSome result (λ at. at < length seats.now) }
+    {
+        let mut found = None;
+        for at in 0..seats.len() {
+            let seat = &seats[at];
+            match self.due(seat.calls(), at) {
+                Some(Way::Look) => return Some(at),
+                Some(Way::Alone) => found = Some(at),
+                None => {}
+            }
+        }
+        found
+    }
+
+    /// Puts the next call of a seat behind the order, where it stands behind so many entries. It says
+    /// whether it did.
+    fn put<J: Naming, G: Gate + Drop>(
+        &mut self,
+        seats: &[Seat<J, G>],
+        tail: &Tail<J>,
+        at: usize,
+    ) -> Result<bool, AllocError>
+        requires within { at < length seats.now }
+        requires numbered { AreAll J.seats seats.now }
+        requires seen { HaveSeen seats.now tail.now (length seats.now) }
+        requires merged { IsMerged J.function tail.now seats.now
+            self.old.order.items self.old.taken.items self.old.entries }
+        ensures merged { IsMerged J.function tail.now seats.now
+            self.new.order.items self.new.taken.items self.new.entries }
+    {
+        let seat = &seats[at];
+        let calls = seat.calls();
+        let next = self.taken[at];
+        if next >= calls.len() {
+            return Ok(false);
+        }
+        let call = &calls[next];
+        if call.place != self.entries {
+            return Ok(false);
+        }
+        self.order.reserve(1)?;
+        put_last(&mut self.order, ordered(seat.number(), call));
+        self.taken[at] = next + 1;
+        self.entries = behind(self.entries, tail.len(), call.way);
+        Ok(true)
+    }
+
+    /// Puts calls behind the order as long as one stands behind so many entries.
+    fn put_all<J: Naming, G: Gate + Drop>(
+        &mut self,
+        seats: &[Seat<J, G>],
+        tail: &Tail<J>,
+    ) -> Result<(), AllocError>
+        requires numbered { AreAll J.seats seats.now }
+        requires seen { HaveSeen seats.now tail.now (length seats.now) }
+        requires merged { IsMerged J.function tail.now seats.now
+            self.old.order.items self.old.taken.items self.old.entries }
+        ensures merged { IsMerged J.function tail.now seats.now
+            self.new.order.items self.new.taken.items self.new.entries }
+    {
+        for _ in 0..u64::MAX {
+            let Some(at) = self.next(seats) else {
+                return Ok(());
+            };
+            if !self.put(seats, tail, at)? {
+                return Ok(());
+            }
+        }
+        Ok(())
+    }
+
+    /// Whether all calls of all seats stand in the order.
+    fn has_all<J: Naming, G: Gate + Drop>(&self, seats: &[Seat<J, G>]) -> bool
+        requires { length self.now.taken.items ≡ length seats.now }
+        ensures { OnTrue result (
+            AreTaken seats.now self.now.taken.items (length seats.now)) }
+    {
+        for at in 0..seats.len() {
+            let seat = &seats[at];
+            if self.taken[at] < seat.calls().len() {
+                return false;
+            }
+        }
+        true
+    }
+
+    /// Whether all calls of all seats and all entries of the history stand in the order.
+    fn is_whole<J: Naming, G: Gate + Drop>(&self, seats: &[Seat<J, G>], tail: &Tail<J>) -> bool
+        requires { length self.now.taken.items ≡ length seats.now }
+        ensures { OnTrue result ((self.now.entries ≡ length tail.now)
+            × AreTaken seats.now self.now.taken.items (length seats.now)) }
+    {
+        self.entries == tail.len() && self.has_all(seats)
+    }
+
+    /// The order, where all calls and all entries stand in it. Else it waits for ever.
+    fn into_order<J: Naming, G: Gate + Drop, R: Wait>(
+        self,
+        rt: &R,
+        seats: &[Seat<J, G>],
+        tail: &Tail<J>,
+    ) -> Vec<Ordered>
+        requires seen { HaveSeen seats.now tail.now (length seats.now) }
+        requires merged { IsMerged J.function tail.now seats.now
+            self.order.items self.taken.items self.entries }
+        ensures { AreMerged J.function tail.now seats.now result.items }
+    {
+        let whole = self.is_whole(seats, tail);
+        let Merge {
+            order,
+            taken: _taken,
+            entries: _entries,
+        } = self;
+        for _ in rt.forever() {
+            if whole {
+                return order;
+            }
+            thread::yield_now();
+        }
+        unreachable!()
+    }
+}
+
+/// All calls of all seats in one order.
+///
+/// It waits for ever where they are not the whole history. `Err` is for want of memory.
+pub(crate) fn merged<J: Naming, G: Gate + Drop, R: Wait>(
+    rt: &R,
+    alloc: Global,
+    seats: &[Seat<J, G>],
+    tail: &Tail<J>,
+) -> Result<Vec<Ordered>, AllocError>
+    requires numbered { AreAll J.seats seats.now }
+    requires seen { HaveSeen seats.now tail.now (length seats.now) }
+    ensures { IfOk result (λ order. AreMerged J.function tail.now seats.now order.items) }
+{
+    let mut merge = Merge::new(alloc, seats, tail)?;
+    merge.put_all(seats, tail)?;
+    Ok(merge.into_order(rt, seats, tail))
+}
