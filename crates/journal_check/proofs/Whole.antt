@@ -14,7 +14,7 @@ use Rattle.nf_engine.proofs.Finishing.{all_are_own}
 use Rattle.journal_check.specs.Judging.{Answered, handling_of}
 use Rattle.journal_check.specs.Laws.{WholeIsUndivided, UndividedIsWhole, FirewallLinesAreLawful, both_packets, both_lines}
 
-stops_nowhere : (share : Share) → share.of ≡ 1 → share_stops share ≡ never
+pub stops_nowhere : (share : Share) → share.of ≡ 1 → share_stops share ≡ never
 stops_nowhere share whole = λ i chain state. ap (λ (n : ℕ). nat_lt 1 n && none_vacant (owns share) state.slots) whole i
 
 whole_run : (share : Share) (f : Function) (s : State) (hs : List Handling) → share.of ≡ 1 → run_by (share_stops share) f s hs ≡ run f s hs

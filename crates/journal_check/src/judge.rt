@@ -5,7 +5,7 @@ ghost use Rattle.nf_base.specs.declared.packet.Packet.{Packet};
 ghost use Rattle.run_history.specs.declared.line.JournalLine.{JournalLine};
 ghost use Rattle.vig_tables.specs.TablesState.{opened_tables};
 ghost use Rattle.nf_engine.specs.View.{fixed_of};
-ghost use Rattle.journal_check.specs.Judging.{Judging, shares_of, line_of, Judged, Differs};
+ghost use Rattle.journal_check.specs.Judging.{Judging, Steps, shares_of, line_of, Judged, Differs};
 ghost use Rattle.journal_check.specs.Telling.{ComesTo};
 
 use crate::told::{is_same, told, worker_by};
@@ -14,6 +14,7 @@ use nf_base::func::Func;
 use nf_base::packet::Packet;
 use nf_base::picks::Picks;
 use nf_base::share::Share;
+use nf_base::state::State;
 use nf_engine::replay;
 use run_history::header::Header;
 use run_history::line::JournalLine;
@@ -96,6 +97,10 @@ impl Judge {
             Judged (function_of func.now) self.old packets lines →
             IfNone result (Differs (function_of func.now) self.old
             (packets ++ packet.now ∷ []) (lines ++ line.now ∷ [])) }
+        // It is the packet's step, from the state that the lines before left.
+        ensures steps { IfSome result (λ done. Steps (function_of func.now) self.old.tables.share
+            self.old.tables.state packet.now
+            (record { state = self.new.tables.state; done = done })) }
         ensures tells { IfSome result (λ done. line.now
             ≡ line_of self.old.heading self.old.tables.share (record { packet = packet.now; done = done })) }
         ensures same { fixed_of self.new.tables ≡ fixed_of self.old.tables }
@@ -106,5 +111,12 @@ impl Judge {
             return None;
         };
         replayed(&mut self.tables, func, packet, action, picks)
+    }
+
+    /// The state that the packets of all lines left.
+    pub fn state(&self, alloc: Global) -> Result<State, AllocError>
+        ensures { IfOk result (λ state. state ≡ self.now.tables.state) }
+    {
+        self.tables.state(alloc)
     }
 }

@@ -1,0 +1,5 @@
+pub mod Compared
+pub mod Kept
+pub mod Apart
+pub mod Runs
+pub mod Ends

@@ -1,0 +1,310 @@
+use Rattle.std.proofs.Common.{◌≡◌, ◌≢◌, ◌≤◌, ◌++◌, ◌∷◌, [], ℕ, List, Option, Bool, Err, length, Some, sym, ap, refl, subst, ◌∙◌, arith}
+use Rattle.std.specs.List.{All, slice_get}
+use Rattle.std.proofs.lemmas.List.Elements.{All-append}
+use Rattle.nf_base.specs.Functions.{function_of}
+use Rattle.nf_files.specs.Told.{Told}
+use Rattle.nf_files.specs.Reads.{Keeps}
+use Rattle.packet_feed.specs.Told.{KeepsOthers}
+use Rattle.packet_feed.specs.Sources.{files_in}
+use Rattle.packet_feed.proofs.Standing.{at_file}
+use Rattle.run_history.specs.declared.line.Mode.TheVariants.{One}
+use Rattle.run_history.specs.declared.line.JournalLine.{JournalLine}
+use Rattle.run_history.specs.Lines.{IsLine}
+use Rattle.journal_read.specs.Journals.{Reading, Stands, AreAllLines}
+use Rattle.journal_read.specs.Journals as journals
+use Rattle.stream_run.specs.declared.stop.Stop.{Stop}
+use Rattle.stream_run.specs.Writing.{StopsAmong}
+use Rattle.file_match.specs.Comparing.{Comparing}
+use Rattle.stream_run.specs.Texts.{bytes_of}
+use Rattle.replay_run.specs.Outputs.{files_of, AreFound}
+use Rattle.replay_run.specs.Turns.{IsEnd}
+use Rattle.replay_run.specs.declared.lines.End.{End}
+use Rattle.replay_run.proofs.Compared.{file_at, same_length}
+use Rattle.replay_run.proofs.Kept.{others_both, others_around, others_outputs, others_one, among_more, among_of}
+use Rattle.replay_run.proofs.Ends.{reached_none, reached_more, over_at, ends_at, wrong_at, wrong_turn}
+use Rattle.replay_run.proofs.lines.read_lines.Goals as goal
+
+-- a file that is another is not in a list
+apart_from : (files : List ℕ) (file k f : ℕ) → slice_get files k ≡ Some f → All (λ x. x ≢ file) files → f ≢ file
+apart_from files file k f e h = at_file (λ x. x ≢ file) files k f e h
+
+-- the outputs while the journal is read
+outputs_while : (all begun : List Comparing) (file : ℕ) (old new : Told) → files_of all ≡ files_of begun → All (λ x. x ≢ file) (files_of begun) → Keeps old new file → (k : ℕ) (c : Comparing) → slice_get all k ≡ Some c → new.rest c.file ≡ old.rest c.file
+outputs_while all begun file old new same others kept k c e = kept.rests c.file (apart_from (files_of begun) file k c.file (sym (ap (λ (fs : List ℕ). slice_get fs k) same) ∙ file_at all k c e) others)
+
+-- captures while the journal is read
+captures_while : (captures : List ℕ) (file : ℕ) (old new : Told) → All (λ x. x ≢ file) captures → Keeps old new file → (port f : ℕ) → slice_get captures port ≡ Some f → new.rest f ≡ old.rest f
+captures_while captures file old new others kept port f e = kept.rests f (apart_from captures file port f e others)
+
+-- what comes next of the journal, by another number of its file
+gives_at : (journal read : Reading) (old mid : Told) (n file : ℕ) (line : JournalLine) → n ≡ file
+    → ((at : Option (List ℕ)) (lines : List JournalLine) → Stands at lines journal (old.rest n) → IsLine line × Stands at (lines ++ line ∷ []) read (mid.rest n))
+    → (at : Option (List ℕ)) (lines : List JournalLine) → Stands at lines journal (old.rest file) → IsLine line × Stands at (lines ++ line ∷ []) read (mid.rest file)
+gives_at journal read old mid n file line same gives =
+    subst (λ (m : ℕ). (at : Option (List ℕ)) (lines : List JournalLine) → Stands at lines journal (old.rest m) → IsLine line × Stands at (lines ++ line ∷ []) read (mid.rest m)) same gives
+
+pub lines-init : goal.lines-init
+lines-init g c =
+    let told = g.F.Files.told in
+    let old = told c.args.files.now in
+    let now = told c.compare_headers.new.files in
+    let captures = c.args.captures.now in
+    let outputs = files_of c.args.outputs.now in
+    let j = c.args.judge.now in
+    let kept = c.compare_headers.ensures.kept in
+    record {
+      reached = reached_none (function_of c.args.func.now) j.heading (length captures) c.args.feed.now c.args.journal.now old now c.compare_headers.new.all j.tables.state c.requires.opens c.requires.new
+          (λ port f e. kept.rests f (c.requires.clear.behind port f (sym (ap (λ (fs : List ℕ). slice_get fs port) c.requires.captures) ∙ e)))
+          (kept.rests c.args.journal.now.file c.requires.no_output)
+          (subst (λ (n : ℕ). AreFound (λ k. bytes_of One j.heading.workers n k []) old.rest c.compare_headers.new.all now) c.requires.as_many (c.in-Ok.ensures.compares One j.heading.workers));
+      captures = c.requires.captures;
+      most = c.requires.most;
+      within = omega (arith, c.requires.new);
+      same = refl;
+      same_heading = refl;
+      same_file = refl;
+      same_outputs = c.compare_headers.ensures.same_files;
+      kept = others_outputs captures c.args.journal.now.file outputs old now kept;
+      reads = c.compare_headers.ensures.reads;
+      writes = c.compare_headers.ensures.writes;
+      count = c.in-Ok.ensures.cause;
+    }
+
+pub lines-preserved : goal.lines-preserved
+lines-preserved g c =
+    let told = g.F.Files.told in
+    let start = told c.args.files.now in
+    let old = told c.lines.files in
+    let mid = told c.next_line.new.files in
+    let new = told c.one_turn.new.files in
+    let captures = c.args.captures.now in
+    let begun = c.args.outputs.now in
+    let outputs = files_of begun in
+    let file = c.args.journal.now.file in
+    let inv = c.lines.invariant in
+    let j = c.args.judge.now in
+    let read : Keeps old mid file = subst (λ (n : ℕ). Keeps old mid n) inv.same_file c.next_line.ensures.kept in
+    let turned : KeepsOthers (captures ++ outputs) mid new = subst (λ (fs : List ℕ). KeepsOthers (captures ++ fs) mid new) inv.same_outputs c.one_turn.ensures.kept in
+    let gives = rw c.in-Ok-Line.field-0-is at c.in-Ok-Line.ensures.gives in
+    let turn = rw c.in-Ok-true.field-0-test at c.in-Ok-true.ensures.turns in
+    let counts = rw c.in-Ok-true.field-0-test at c.in-Ok-true.ensures.counts in
+    let few : length c.lines.outputs ≤ length captures = omega (arith, same_length c.lines.outputs begun inv.same_outputs, c.requires.as_many) in
+    record {
+      reached = reached_more (function_of c.args.func.now) j.heading (length captures) c.args.feed.now c.args.journal.now start old mid new c.lines.feed c.one_turn.new.feed c.lines.journal c.next_line.new.journal c.lines.outputs c.one_turn.new.outputs c.lines.judge.tables.state c.one_turn.new.judge.tables.state c.in-Ok-Line.line
+          inv.reached
+          (λ at lines stands. gives_at c.lines.journal c.next_line.new.journal old mid c.lines.journal.file file c.in-Ok-Line.line inv.same_file gives at lines stands)
+          turn
+          (λ port f e. captures_while captures file old mid c.requires.no_capture read port f (sym (ap (λ (fs : List ℕ). slice_get fs port) inv.captures) ∙ e))
+          (outputs_while c.lines.outputs begun file old mid inv.same_outputs c.requires.no_output read)
+          (turned.rests file (All-append (λ f. f ≢ file) captures outputs c.requires.no_capture c.requires.no_output))
+          few counts;
+      captures = c.one_turn.ensures.same_captures ∙ inv.captures;
+      most = c.one_turn.ensures.same_most ∙ inv.most;
+      within = omega (arith, counts, inv.within, c.if-given-most.false, c.given.ensures);
+      same = c.one_turn.ensures.same ∙ inv.same;
+      same_heading = c.one_turn.ensures.same_heading ∙ inv.same_heading;
+      same_file = c.next_line.ensures.same_file ∙ inv.same_file;
+      same_outputs = c.one_turn.ensures.same_outputs ∙ inv.same_outputs;
+      kept = others_both (captures ++ file ∷ outputs) start mid new (others_both (captures ++ file ∷ outputs) start old mid inv.kept (others_one captures file outputs old mid read)) (others_around captures file outputs mid new turned);
+      reads = λ n r. c.one_turn.ensures.reads n (c.next_line.ensures.reads n (inv.reads n r));
+      writes = λ n r. c.one_turn.ensures.writes n (c.next_line.ensures.writes n (inv.writes n r));
+      count = c.in-Ok-true.ensures.cause ∙ c.in-Ok-Line.ensures.cause ∙ inv.count;
+    }
+
+pub returns-in-Err-clause-kept : goal.returns-in-Err-clause-kept
+returns-in-Err-clause-kept g c =
+    let told = g.F.Files.told in
+    others_outputs c.args.captures.now c.args.journal.now.file (files_of c.args.outputs.now) (told c.args.files.now) (told c.compare_headers.new.files) c.compare_headers.ensures.kept
+
+pub returns-in-Err-clause-among : goal.returns-in-Err-clause-among
+returns-in-Err-clause-among g c =
+    among_more End End c.args.captures.now (files_of c.args.outputs.now) c.args.journal.now.file c.in-Err.stop (among_of End c.args.captures.now (files_of c.args.outputs.now) c.compare_headers.result c.in-Err.stop c.in-Err.is c.compare_headers.ensures.among)
+
+pub returns-then-given-most-clause-reads_all : goal.returns-then-given-most-clause-reads_all
+returns-then-given-most-clause-reads_all g c =
+    let told = g.F.Files.told in
+    let start = told c.args.files.now in
+    let old = told c.lines.files in
+    let captures = c.args.captures.now in
+    let begun = c.args.outputs.now in
+    let outputs = files_of begun in
+    let file = c.args.journal.now.file in
+    let inv = c.lines.invariant in
+    let f = function_of c.args.func.now in
+    let heading = c.args.judge.now.heading in
+    let same = inv.captures ∙ sym c.requires.captures in
+    let new = told c.end_of.new.files in
+    let read : Keeps old new file = subst (λ (n : ℕ). Keeps old new n) inv.same_file c.end_of.ensures.kept in
+    let ends = subst (λ (m : ℕ). (at : Option (List ℕ)) (lines : List JournalLine) → Stands at lines c.lines.journal (old.rest m) → IsEnd at lines c.end_of.result) inv.same_file c.end_of.ensures.ends in
+    ends_at Stop f heading (length captures) c.args.feed.now c.args.journal.now start old new c.lines.feed c.lines.journal c.lines.outputs c.lines.judge.tables.state c.end_of.result inv.reached same (omega (arith, inv.within, c.requires.most)) (omega (arith, c.if-given-most.true, c.given.ensures, c.requires.most))
+    ends c.end_of.ensures.right (outputs_while c.lines.outputs begun file old new inv.same_outputs c.requires.no_output read)
+
+pub returns-then-given-most-clause-kept : goal.returns-then-given-most-clause-kept
+returns-then-given-most-clause-kept g c =
+    let told = g.F.Files.told in
+    let start = told c.args.files.now in
+    let old = told c.lines.files in
+    let captures = c.args.captures.now in
+    let begun = c.args.outputs.now in
+    let outputs = files_of begun in
+    let file = c.args.journal.now.file in
+    let inv = c.lines.invariant in
+    let f = function_of c.args.func.now in
+    let heading = c.args.judge.now.heading in
+    let same = inv.captures ∙ sym c.requires.captures in
+    let new = told c.end_of.new.files in
+    let read : Keeps old new file = subst (λ (n : ℕ). Keeps old new n) inv.same_file c.end_of.ensures.kept in
+    others_both (captures ++ file ∷ outputs) start old new inv.kept (others_one captures file outputs old new read)
+
+pub returns-in-Ok-End-clause-reads_all : goal.returns-in-Ok-End-clause-reads_all
+returns-in-Ok-End-clause-reads_all g c =
+    let told = g.F.Files.told in
+    let start = told c.args.files.now in
+    let old = told c.lines.files in
+    let captures = c.args.captures.now in
+    let begun = c.args.outputs.now in
+    let outputs = files_of begun in
+    let file = c.args.journal.now.file in
+    let inv = c.lines.invariant in
+    let f = function_of c.args.func.now in
+    let heading = c.args.judge.now.heading in
+    let same = inv.captures ∙ sym c.requires.captures in
+    let mid = told c.next_line.new.files in
+    let read : Keeps old mid file = subst (λ (n : ℕ). Keeps old mid n) inv.same_file c.next_line.ensures.kept in
+    let gives = rw c.in-Ok-End.field-0-is at c.in-Ok-End.ensures.gives in
+    let all = subst (λ (m : ℕ). (at : Option (List ℕ)) (lines : List JournalLine) → Stands at lines c.lines.journal (old.rest m) → AreAllLines at lines) inv.same_file gives in
+    over_at f heading (length captures) c.args.feed.now c.args.journal.now start old mid c.lines.feed c.lines.journal c.lines.outputs c.lines.judge.tables.state inv.reached same (omega (arith, inv.within, c.requires.most)) all (outputs_while c.lines.outputs begun file old mid inv.same_outputs c.requires.no_output read)
+
+pub returns-in-Ok-Wrong-clause-reads_all : goal.returns-in-Ok-Wrong-clause-reads_all
+returns-in-Ok-Wrong-clause-reads_all g c =
+    let told = g.F.Files.told in
+    let start = told c.args.files.now in
+    let old = told c.lines.files in
+    let captures = c.args.captures.now in
+    let begun = c.args.outputs.now in
+    let outputs = files_of begun in
+    let file = c.args.journal.now.file in
+    let inv = c.lines.invariant in
+    let f = function_of c.args.func.now in
+    let heading = c.args.judge.now.heading in
+    let same = inv.captures ∙ sym c.requires.captures in
+    let gives = rw c.in-Ok-Wrong.field-0-is at c.in-Ok-Wrong.ensures.gives in
+    let wrong = subst (λ (m : ℕ). (at : Option (List ℕ)) (lines : List JournalLine) → Stands at lines c.lines.journal (old.rest m) → journals.IsWrong at lines) inv.same_file gives in
+    wrong_at f heading (length captures) c.args.feed.now c.args.journal.now start old c.lines.feed c.lines.journal c.lines.outputs c.lines.judge.tables.state _ inv.reached same (omega (arith, inv.within, c.requires.most, c.if-given-most.false, c.given.ensures)) (grind arith) wrong
+
+pub returns-in-Ok-false-clause-reads_all : goal.returns-in-Ok-false-clause-reads_all
+returns-in-Ok-false-clause-reads_all g c =
+    let told = g.F.Files.told in
+    let start = told c.args.files.now in
+    let old = told c.lines.files in
+    let captures = c.args.captures.now in
+    let begun = c.args.outputs.now in
+    let outputs = files_of begun in
+    let file = c.args.journal.now.file in
+    let inv = c.lines.invariant in
+    let f = function_of c.args.func.now in
+    let heading = c.args.judge.now.heading in
+    let same = inv.captures ∙ sym c.requires.captures in
+    let mid = told c.next_line.new.files in
+    let read : Keeps old mid file = subst (λ (n : ℕ). Keeps old mid n) inv.same_file c.next_line.ensures.kept in
+    let gives = rw c.in-Ok-Line.field-0-is at c.in-Ok-Line.ensures.gives in
+    let none = rw c.in-Ok-false.field-0-test at c.in-Ok-false.ensures.turns in
+    wrong_turn f heading (length captures) c.args.feed.now c.args.journal.now start old mid c.lines.feed c.lines.journal c.next_line.new.journal c.lines.outputs c.lines.judge.tables.state c.in-Ok-Line.line _ inv.reached same (omega (arith, inv.within, c.requires.most, c.if-given-most.false, c.given.ensures)) (grind arith)
+    (λ at lines stands. gives_at c.lines.journal c.next_line.new.journal old mid c.lines.journal.file file c.in-Ok-Line.line inv.same_file gives at lines stands)
+    (λ port n e. captures_while captures file old mid c.requires.no_capture read port n (sym (ap (λ (fs : List ℕ). slice_get fs port) inv.captures) ∙ e))
+    none
+
+pub returns-in-Err-one_turn-clause-among : goal.returns-in-Err-one_turn-clause-among
+returns-in-Err-one_turn-clause-among g c =
+    let inv = c.lines.invariant in
+    among_more Bool End c.args.captures.now (files_of c.args.outputs.now) c.args.journal.now.file c.in-Err-one_turn.stop
+    (subst (λ (fs : List ℕ). StopsAmong {T = Bool} c.args.captures.now fs (Err c.in-Err-one_turn.stop)) inv.same_outputs c.in-Err-one_turn.ensures.among)
+
+pub returns-in-Ok-End-clause-kept : goal.returns-in-Ok-End-clause-kept
+returns-in-Ok-End-clause-kept g c =
+    let told = g.F.Files.told in
+    let start = told c.args.files.now in
+    let old = told c.lines.files in
+    let captures = c.args.captures.now in
+    let begun = c.args.outputs.now in
+    let outputs = files_of begun in
+    let file = c.args.journal.now.file in
+    let inv = c.lines.invariant in
+    let f = function_of c.args.func.now in
+    let heading = c.args.judge.now.heading in
+    let same = inv.captures ∙ sym c.requires.captures in
+    let mid = told c.next_line.new.files in
+    let read : Keeps old mid file = subst (λ (n : ℕ). Keeps old mid n) inv.same_file c.next_line.ensures.kept in
+    others_both (captures ++ file ∷ outputs) start old mid inv.kept (others_one captures file outputs old mid read)
+
+pub returns-in-Ok-Wrong-clause-kept : goal.returns-in-Ok-Wrong-clause-kept
+returns-in-Ok-Wrong-clause-kept g c =
+    let told = g.F.Files.told in
+    let start = told c.args.files.now in
+    let old = told c.lines.files in
+    let captures = c.args.captures.now in
+    let begun = c.args.outputs.now in
+    let outputs = files_of begun in
+    let file = c.args.journal.now.file in
+    let inv = c.lines.invariant in
+    let f = function_of c.args.func.now in
+    let heading = c.args.judge.now.heading in
+    let same = inv.captures ∙ sym c.requires.captures in
+    let mid = told c.next_line.new.files in
+    let read : Keeps old mid file = subst (λ (n : ℕ). Keeps old mid n) inv.same_file c.next_line.ensures.kept in
+    others_both (captures ++ file ∷ outputs) start old mid inv.kept (others_one captures file outputs old mid read)
+
+pub returns-in-Err-next_line-clause-kept : goal.returns-in-Err-next_line-clause-kept
+returns-in-Err-next_line-clause-kept g c =
+    let told = g.F.Files.told in
+    let start = told c.args.files.now in
+    let old = told c.lines.files in
+    let captures = c.args.captures.now in
+    let begun = c.args.outputs.now in
+    let outputs = files_of begun in
+    let file = c.args.journal.now.file in
+    let inv = c.lines.invariant in
+    let f = function_of c.args.func.now in
+    let heading = c.args.judge.now.heading in
+    let same = inv.captures ∙ sym c.requires.captures in
+    let mid = told c.next_line.new.files in
+    let read : Keeps old mid file = subst (λ (n : ℕ). Keeps old mid n) inv.same_file c.next_line.ensures.kept in
+    others_both (captures ++ file ∷ outputs) start old mid inv.kept (others_one captures file outputs old mid read)
+
+pub returns-in-Ok-false-clause-kept : goal.returns-in-Ok-false-clause-kept
+returns-in-Ok-false-clause-kept g c =
+    let told = g.F.Files.told in
+    let start = told c.args.files.now in
+    let old = told c.lines.files in
+    let captures = c.args.captures.now in
+    let begun = c.args.outputs.now in
+    let outputs = files_of begun in
+    let file = c.args.journal.now.file in
+    let inv = c.lines.invariant in
+    let f = function_of c.args.func.now in
+    let heading = c.args.judge.now.heading in
+    let same = inv.captures ∙ sym c.requires.captures in
+    let mid = told c.next_line.new.files in
+    let read : Keeps old mid file = subst (λ (n : ℕ). Keeps old mid n) inv.same_file c.next_line.ensures.kept in
+    let new = told c.one_turn.new.files in
+    let turned : KeepsOthers (captures ++ outputs) mid new = subst (λ (fs : List ℕ). KeepsOthers (captures ++ fs) mid new) inv.same_outputs c.one_turn.ensures.kept in
+    others_both (captures ++ file ∷ outputs) start mid new (others_both (captures ++ file ∷ outputs) start old mid inv.kept (others_one captures file outputs old mid read)) (others_around captures file outputs mid new turned)
+
+pub returns-in-Err-one_turn-clause-kept : goal.returns-in-Err-one_turn-clause-kept
+returns-in-Err-one_turn-clause-kept g c =
+    let told = g.F.Files.told in
+    let start = told c.args.files.now in
+    let old = told c.lines.files in
+    let captures = c.args.captures.now in
+    let begun = c.args.outputs.now in
+    let outputs = files_of begun in
+    let file = c.args.journal.now.file in
+    let inv = c.lines.invariant in
+    let f = function_of c.args.func.now in
+    let heading = c.args.judge.now.heading in
+    let same = inv.captures ∙ sym c.requires.captures in
+    let mid = told c.next_line.new.files in
+    let read : Keeps old mid file = subst (λ (n : ℕ). Keeps old mid n) inv.same_file c.next_line.ensures.kept in
+    let new = told c.one_turn.new.files in
+    let turned : KeepsOthers (captures ++ outputs) mid new = subst (λ (fs : List ℕ). KeepsOthers (captures ++ fs) mid new) inv.same_outputs c.one_turn.ensures.kept in
+    others_both (captures ++ file ∷ outputs) start mid new (others_both (captures ++ file ∷ outputs) start old mid inv.kept (others_one captures file outputs old mid read)) (others_around captures file outputs mid new turned)

@@ -1,0 +1,30 @@
+use Rattle.std.proofs.Common.{◌≡◌, ◌≤◌, ◌-◌, ◌∷◌, ◌++◌, ℕ, length}
+use Rattle.nf_base.specs.Functions.{function_of}
+use Rattle.nf_engine.specs.View.{fixed_of}
+use Rattle.packet_feed.specs.Told.{KeepsOthers}
+use Rattle.packet_feed.specs.Sources.{files_in}
+use Rattle.replay_run.specs.Outputs.{files_of}
+use Rattle.replay_run.specs.Turns.{Reaches}
+use Rattle.replay_run.proofs.lines.read_lines.Given as goal
+
+-- the lines so far are right
+abbrev pub invariant-lines : goal.invariant-lines
+invariant-lines g l =
+    let told = g.F.Files.told in
+    record {
+      reached : Reaches (function_of l.func) l.fn.judge.heading (length l.captures) l.fn.feed l.fn.journal (told l.fn.files) l.feed l.journal (told l.files) l.outputs l.judge.tables.state;
+      captures : files_in l.feed.sources ≡ l.captures;
+      most : l.feed.most ≡ l.most;
+      within : l.feed.given ≤ l.most;
+      same : fixed_of l.judge.tables ≡ fixed_of l.fn.judge.tables;
+      same_heading : l.judge.heading ≡ l.fn.judge.heading;
+      same_file : l.journal.file ≡ l.fn.journal.file;
+      same_outputs : files_of l.outputs ≡ files_of l.fn.outputs;
+      kept : KeepsOthers (l.captures ++ l.fn.journal.file ∷ files_of l.fn.outputs) (told l.fn.files) (told l.files);
+      reads : (n : ℕ) → g.F.Files.is_read l.fn.files n → g.F.Files.is_read l.files n;
+      writes : (n : ℕ) → g.F.Files.is_written l.fn.files n → g.F.Files.is_written l.files n;
+      count : g.F.Files.counted l.files ≡ g.F.Files.counted l.fn.files;
+    }
+
+abbrev pub decreases-lines : goal.decreases-lines
+decreases-lines g l = l.most - l.feed.given

@@ -1,0 +1,12 @@
+//! Whether a journal and the outputs beside it are those of a run, as a stream: lines are judged as they
+//! are read, and what their packets leave is compared with the outputs.
+#![tactic(auto)]
+
+mod lines;
+mod outputs;
+mod replayed;
+mod replaying;
+mod turn;
+
+pub use replayed::Replayed;
+pub use replaying::replay_in_order;

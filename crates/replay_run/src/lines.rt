@@ -1,0 +1,155 @@
+//! The lines of a journal, one after another.
+ghost use Rattle.std.specs.Prelude.{◌≡◌, ◌^◌, ◌≢◌, ◌≤◌, ◌++◌, ◌∷◌, ℕ, List, Option, Some, true, length, slice_get};
+ghost use Rattle.std.specs.List.{All};
+ghost use Rattle.nf_base.specs.Functions.{function_of};
+ghost use Rattle.nf_base.specs.Step.{opening};
+ghost use Rattle.nf_files.specs.Reads.{Keeps};
+ghost use Rattle.packet_feed.specs.Told.{EachFile, IsApart, KeepsOthers};
+ghost use Rattle.packet_feed.specs.Sources.{files_in};
+ghost use Rattle.run_history.specs.declared.line.JournalLine.{JournalLine};
+ghost use Rattle.run_history.specs.declared.line.Mode.TheVariants.{One};
+ghost use Rattle.file_match.specs.Comparing.{Comparing};
+ghost use Rattle.journal_read.specs.Journals.{Stands, Gives};
+ghost use Rattle.stream_run.specs.Writing.{IsStopCause, StopsAt, StopsAmong};
+ghost use Rattle.replay_run.specs.Outputs.{files_of};
+ghost use Rattle.replay_run.specs.Turns.{AreClear, Reads, IsEnd, IsNotWrong};
+
+use crate::outputs::compare_headers;
+use crate::turn::one_turn;
+use file_match::Compared;
+use journal_check::Judge;
+use journal_read::{Journal, Next};
+use nf_base::func::Func;
+use nf_base::seq::Seq;
+use nf_files::Files;
+use packet_feed::Feed;
+use std::alloc::Global;
+use stream_run::Stop;
+
+/// How the lines of a journal end.
+#[derive(Clone, Copy, Debug, PartialEq, Eq)]
+pub(crate) enum End {
+    /// All are right.
+    Over,
+    /// As many as were asked for are right, and there is more.
+    TooMany,
+    /// The first that is wrong, counted from 1.
+    Wrong(u64),
+}
+
+// The next line.
+fn next_line<F: Files>(alloc: Global, files: &mut F, journal: &mut Journal) -> Result<Next, Stop>
+    requires opened { F.is_read files.old journal.old.file }
+    ensures gives { let file = journal.old.file in
+        (start : Option (List ℕ)) → (lines : List JournalLine) →
+        Stands start lines journal.old ((F.told files.old).rest file) →
+        Gives start lines journal.new ((F.told files.new).rest file) result }
+    ensures same_file { journal.new.file ≡ journal.old.file }
+    ensures kept { Keeps (F.told files.old) (F.told files.new) journal.old.file }
+    ensures cause { IsStopCause (F.counted files.old) (F.counted files.new) result }
+    ensures at { StopsAt journal.old.file result }
+    ensures reads { (g : ℕ) → F.is_read files.old g → F.is_read files.new g }
+    ensures writes { (g : ℕ) → F.is_written files.old g → F.is_written files.new g }
+{
+    match journal.next(alloc, files) {
+        Ok(next) => Ok(next),
+        Err(fault) => Err(Stop::of(journal.file(), fault)),
+    }
+}
+
+// Whether there is more behind the lines that were asked for.
+fn end_of<F: Files>(alloc: Global, files: &mut F, journal: &mut Journal) -> Result<End, Stop>
+    requires opened { F.is_read files.old journal.old.file }
+    ensures ends { let file = journal.old.file in
+        (start : Option (List ℕ)) → (lines : List JournalLine) →
+        Stands start lines journal.old ((F.told files.old).rest file) →
+        IsEnd start lines result }
+    ensures right { IsNotWrong result }
+    ensures same_file { journal.new.file ≡ journal.old.file }
+    ensures kept { Keeps (F.told files.old) (F.told files.new) journal.old.file }
+    ensures cause { IsStopCause (F.counted files.old) (F.counted files.new) result }
+    ensures at { StopsAt journal.old.file result }
+    ensures reads { (g : ℕ) → F.is_read files.old g → F.is_read files.new g }
+    ensures writes { (g : ℕ) → F.is_written files.old g → F.is_written files.new g }
+{
+    match journal.is_over(alloc, files) {
+        Ok(true) => Ok(End::Over),
+        Ok(false) => Ok(End::TooMany),
+        Err(fault) => Err(Stop::of(journal.file(), fault)),
+    }
+}
+
+/// Reads the lines behind the first, judges each beside the packet that comes next, and compares what
+/// packets leave with the outputs, of which nothing was read yet.
+pub(crate) fn read_lines<F: Files>(
+    alloc: Global,
+    files: &mut F,
+    func: &Func,
+    judge: &mut Judge,
+    feed: &mut Feed,
+    most: u32,
+    captures: &[u32],
+    journal: &mut Journal,
+    outputs: &mut Seq<Compared>,
+) -> Result<End, Stop>
+    requires of_func { judge.old.tables.decls ≡ func.now.chains }
+    requires mode { judge.old.heading.mode ≡ One }
+    requires whole { judge.old.tables.share.of ≡ 1 }
+    requires opens { judge.old.tables.state ≡ opening (function_of func.now) }
+    requires captures { files_in feed.old.sources ≡ captures.now }
+    requires ports { length captures.now ≡ length func.now.handlers }
+    requires new { feed.old.given ≡ 0 }
+    requires most { feed.old.most ≡ most }
+    requires read { EachFile (F.is_read files.old) captures.now }
+    requires opened { EachFile (F.is_read files.old) (files_of outputs.old) }
+    requires opened_journal { F.is_read files.old journal.old.file }
+    requires apart { IsApart (files_of outputs.old) }
+    requires clear { AreClear captures.now (files_of outputs.old) }
+    requires no_capture { All (λ f. f ≢ journal.old.file) captures.now }
+    requires no_output { All (λ f. f ≢ journal.old.file) (files_of outputs.old) }
+    requires as_many { length outputs.old ≡ length captures.now }
+    requires few { length outputs.old ≤ 2 ^ 32 }
+    requires fresh { (k : ℕ) → (c : Comparing) → slice_get outputs.old k ≡ Some c → c.same ≡ true }
+    ensures reads_all { let ports = length captures.now in
+        Reads (function_of func.now) judge.old.heading ports feed.old journal.old
+        (F.told files.old) (F.told files.new) outputs.new judge.new.tables.state result }
+    ensures same_outputs { files_of outputs.new ≡ files_of outputs.old }
+    ensures kept { let all = captures.now ++ journal.old.file ∷ files_of outputs.old in
+        KeepsOthers all (F.told files.old) (F.told files.new) }
+    ensures cause { IsStopCause (F.counted files.old) (F.counted files.new) result }
+    ensures among { let others = journal.old.file ∷ files_of outputs.old in
+        StopsAmong captures.now others result }
+    ensures reads { (g : ℕ) → F.is_read files.old g → F.is_read files.new g }
+    ensures writes { (g : ℕ) → F.is_written files.old g → F.is_written files.new g }
+{
+    let mut buffer = match compare_headers(alloc, files, outputs) {
+        Ok(buffer) => buffer,
+        Err(stop) => return Err(stop),
+    };
+    'lines: loop {
+        if feed.given() == most {
+            return end_of(alloc, files, journal);
+        }
+        let number = u64::from(feed.given()) + 2;
+        let line = match next_line(alloc, files, journal) {
+            Ok(Next::Line(line)) => line,
+            Ok(Next::End) => return Ok(End::Over),
+            Ok(Next::Wrong) => return Ok(End::Wrong(number)),
+            Err(stop) => return Err(stop),
+        };
+        match one_turn(
+            files,
+            func,
+            judge,
+            feed,
+            captures,
+            outputs,
+            &mut buffer,
+            &line,
+        ) {
+            Ok(true) => {}
+            Ok(false) => return Ok(End::Wrong(number)),
+            Err(stop) => return Err(stop),
+        }
+    }
+}

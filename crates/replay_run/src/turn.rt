@@ -1,0 +1,79 @@
+//! One line of a journal, and its packet.
+ghost use Rattle.std.specs.Prelude.{◌≡◌, ◌^◌, ◌<◌, ◌≤◌, ◌+◌, ◌++◌, ℕ, Ok, true, length};
+ghost use Rattle.nf_base.specs.Functions.{function_of};
+ghost use Rattle.nf_engine.specs.View.{fixed_of};
+ghost use Rattle.packet_feed.specs.Told.{EachFile, IsApart, KeepsOthers};
+ghost use Rattle.packet_feed.specs.Sources.{files_in};
+ghost use Rattle.run_history.specs.declared.line.Mode.TheVariants.{One};
+ghost use Rattle.stream_run.specs.Writing.{IsStopCause, StopsAmong};
+ghost use Rattle.replay_run.specs.Outputs.{files_of};
+ghost use Rattle.replay_run.specs.Turns.{AreClear, Turns, Counts};
+
+use crate::outputs::compare_all;
+use file_match::Compared;
+use journal_check::Judge;
+use nf_base::func::Func;
+use nf_base::seq::Seq;
+use nf_files::Files;
+use packet_feed::{Fed, Feed};
+use run_history::line::JournalLine;
+use stream_run::{Stop, stop_in};
+
+/// Handles the packet that comes next, where this is its line, and compares what it leaves with the
+/// outputs; false where it isn't, or no packet comes.
+pub(crate) fn one_turn<F: Files>(
+    files: &mut F,
+    func: &Func,
+    judge: &mut Judge,
+    feed: &mut Feed,
+    captures: &[u32],
+    outputs: &mut Seq<Compared>,
+    buffer: &mut Vec<u8>,
+    line: &JournalLine,
+) -> Result<bool, Stop>
+    requires of_func { judge.old.tables.decls ≡ func.now.chains }
+    requires mode { judge.old.heading.mode ≡ One }
+    requires whole { judge.old.tables.share.of ≡ 1 }
+    requires captures { files_in feed.old.sources ≡ captures.now }
+    requires ports { length captures.now ≡ length func.now.handlers }
+    requires room { feed.old.given < feed.old.most }
+    requires read { EachFile (F.is_read files.old) captures.now }
+    requires opened { EachFile (F.is_read files.old) (files_of outputs.old) }
+    requires apart { IsApart (files_of outputs.old) }
+    requires clear { AreClear captures.now (files_of outputs.old) }
+    requires few { length outputs.old ≤ 2 ^ 32 }
+    ensures turns { Turns (function_of func.now) line.now
+        judge.old.tables.state judge.new.tables.state feed.old feed.new
+        (F.told files.old) (F.told files.new) outputs.old outputs.new result }
+    ensures same { fixed_of judge.new.tables ≡ fixed_of judge.old.tables }
+    ensures same_heading { judge.new.heading ≡ judge.old.heading }
+    ensures same_outputs { files_of outputs.new ≡ files_of outputs.old }
+    ensures same_captures { files_in feed.new.sources ≡ files_in feed.old.sources }
+    ensures same_most { feed.new.most ≡ feed.old.most }
+    ensures counts { Counts feed.old feed.new result }
+    ensures kept { let all = captures.now ++ files_of outputs.old in
+        KeepsOthers all (F.told files.old) (F.told files.new) }
+    ensures cause { IsStopCause (F.counted files.old) (F.counted files.new) result }
+    ensures among { StopsAmong captures.now (files_of outputs.old) result }
+    ensures reads { (g : ℕ) → F.is_read files.old g → F.is_read files.new g }
+    ensures writes { (g : ℕ) → F.is_written files.old g → F.is_written files.new g }
+{
+    match feed.next(files) {
+        Ok(Fed::End) => Ok(false),
+        Ok(Fed::TooMany) => unreachable!(),
+        Err(fault) => Err(stop_in(captures, fault)),
+        Ok(Fed::Packet(packet)) => {
+            let original = feed.original();
+            let frame = feed.frame();
+            match judge.judge(func, &packet, line) {
+                None => Ok(false),
+                Some(done) => match compare_all(
+                    files, outputs, buffer, &packet, original, frame, &done,
+                ) {
+                    Ok(()) => Ok(true),
+                    Err(stop) => Err(stop),
+                },
+            }
+        }
+    }
+}
