@@ -5,14 +5,19 @@ use Rattle.std.specs.Str.{bytes_eq}
 use Rattle.clap.specs.Words.{Kinds, Row, Text, all_of, fault_of, first_of, subcommand_of}
 use Rattle.command_words.specs.declared.command.Description.{Description}
 use Rattle.command_words.specs.declared.command.Description.TheVariants.{Check, Explain, Keys}
+use Rattle.command_words.specs.declared.command.ModeChoice.{ModeChoice}
+use Rattle.command_words.specs.declared.command.ModeChoice.TheVariants.{Auto, Shard}
 use Rattle.command_words.specs.Grammar.{app}
 use Rattle.command_words.specs.Texts.{and_then, Endpoint, number_up_to, workers_in, endpoint_in, key_in}
 
--- a run: the names of the function's file and of each port's capture, the front of the names of what it leaves, and the most packets that it handles
+-- a run: the names of the function's file and of each port's capture, the front of the names of what
+-- it leaves, how many workers handle the packets, in which mode, and the most packets that are handled
 pub record Run : Type 0 where
   pub function : Text
   pub out : Text
   pub captures : List Text
+  pub workers : ℕ
+  pub mode : ModeChoice
   pub most : ℕ
 
 -- a hash: the packet's two ends, the key where one is given, and the number of workers
@@ -37,9 +42,16 @@ abbrev pub or_default : {A : Type 0} → A → (Text → Option A) → Option Te
 or_default default read None = Some default
 or_default default read (Some text) = read text
 
--- a run has one worker
-abbrev pub one_worker : Option Text → Option ℕ
-one_worker text = and_then (or_default 1 workers_in text) (λ n. if nat_le n 1 then Some n else None)
+-- the mode that a word asks for
+abbrev pub mode_named : Text → Option ModeChoice
+mode_named name =
+    if bytes_eq name (codes "auto") then Some Auto else
+    if bytes_eq name (codes "shard") then Some Shard else
+    None
+
+-- `auto` where none is given
+abbrev pub mode_in : Option Text → Option ModeChoice
+mode_in text = or_default Auto mode_named text
 
 -- one to four captures
 abbrev pub captures_in : Option (List Text) → Option (List Text)
@@ -54,8 +66,10 @@ run_in rows =
     and_then (first_of (codes "function") rows) (λ f.
     and_then (first_of (codes "out") rows) (λ o.
     and_then (captures_in (all_of (codes "capture") rows)) (λ cs.
-    and_then (one_worker (first_of (codes "workers") rows)) (λ w.
-    option_map (λ n. record { function = f; out = o; captures = cs; most = n }) (most_in (first_of (codes "max-packets") rows))))))
+    and_then (or_default 1 workers_in (first_of (codes "workers") rows)) (λ w.
+    and_then (mode_in (first_of (codes "mode") rows)) (λ m.
+    option_map (λ n. record { function = f; out = o; captures = cs; workers = w; mode = m; most = n })
+    (most_in (first_of (codes "max-packets") rows)))))))
 
 -- a key where one is given
 abbrev pub given_key : Option Text → Option (Option (List ℕ))

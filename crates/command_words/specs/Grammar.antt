@@ -19,9 +19,11 @@ option id = record (new_rule id) { long = Some id; action = Some Set }
 abbrev pub run_names : App
 run_names = with_rule (with_rule (with_rule (new_app (codes "run")) (word (codes "function"))) (word (codes "out"))) (words (codes "capture"))
 
--- run NF OUT CAPTURE.. [--workers W] [--max-packets N]
+-- run NF OUT CAPTURE.. [--workers W] [--mode M] [--max-packets N]
 abbrev pub run_app : App
-run_app = with_rule (with_rule run_names (option (codes "workers"))) (option (codes "max-packets"))
+run_app =
+    with_rule (with_rule (with_rule run_names
+    (option (codes "workers"))) (option (codes "mode"))) (option (codes "max-packets"))
 
 -- hash SRC:PORT DST:PORT [--key HEX80] [--workers W]
 abbrev pub hash_app : App

@@ -13,7 +13,14 @@ abbrev pub endpoint : declared_endpoint.Endpoint → Endpoint
 endpoint e = record { address = e.address; port = e.port }
 
 abbrev pub run : declared_run.RunCommand → Run
-run c = record { function = string_bytes c.function; out = string_bytes c.out; captures = map string_bytes c.captures.items; most = c.most }
+run c = record {
+  function = string_bytes c.function;
+  out = string_bytes c.out;
+  captures = map string_bytes c.captures.items;
+  workers = c.workers;
+  mode = c.mode;
+  most = c.most;
+}
 
 abbrev pub hash : declared_hash.HashCommand → Hash
 hash c = record { source = endpoint c.source; destination = endpoint c.destination; key = c.key; workers = c.workers }

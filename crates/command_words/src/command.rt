@@ -3,6 +3,15 @@
 use crate::endpoint::Endpoint;
 use nf_base::workers::Workers;
 
+/// Which mode is asked for, of a run by two workers or more. One worker runs in mode `one`.
+#[derive(Clone, Copy, Debug, PartialEq, Eq)]
+pub enum ModeChoice {
+    /// The mode that the function's verdict allows.
+    Auto,
+    /// Workers that share nothing.
+    Shard,
+}
+
 /// A run of a function over captures.
 #[derive(Drop)]
 pub struct RunCommand {
@@ -12,6 +21,9 @@ pub struct RunCommand {
     pub out: String,
     /// The name of a capture for each port, 1 to 4.
     pub captures: Vec<String>,
+    /// How many workers handle them.
+    pub workers: Workers,
+    pub mode: ModeChoice,
     /// The most packets that are handled.
     pub most: u32,
 }

@@ -43,13 +43,14 @@ fn run_names<'a>(alloc: Global) -> Result<Command<'a>, AllocError>
         .arg(words(alloc, "capture"))
 }
 
-/// `run NF OUT CAPTURE.. [--workers W] [--max-packets N]`
+/// `run NF OUT CAPTURE.. [--workers W] [--mode M] [--max-packets N]`
 fn run_words<'a>(alloc: Global) -> Result<Command<'a>, AllocError>
     ensures app { IfOk result (λ c. app_of c ≡ grammar.run_app) }
     ensures local { IfOk result (λ c. (out-Command c).has_globals ≡ false) }
 {
     run_names(alloc)?
         .arg(option(alloc, "workers"))?
+        .arg(option(alloc, "mode"))?
         .arg(option(alloc, "max-packets"))
 }
 

@@ -7,6 +7,6 @@ mod grammar;
 mod key;
 mod words;
 
-pub use command::{Command, DescribeCommand, Description, HashCommand, RunCommand};
+pub use command::{Command, DescribeCommand, Description, HashCommand, ModeChoice, RunCommand};
 pub use endpoint::Endpoint;
 pub use words::command_of;

@@ -1,12 +1,12 @@
 //! From a command line's words to the command that they ask for.
 
-ghost use Rattle.std.specs.Prelude.{◌≡◌, ◌≤◌, IfOk, IfSome, map, length, option_map, string_bytes, is_some};
+ghost use Rattle.std.specs.Prelude.{◌≡◌, ◌≤◌, IfOk, IfSome, map, length, option_map, string_bytes};
 ghost use Rattle.clap.specs.Words.{all_of, first_of, found_of, rows_of, subcommand_rows_of};
 ghost use Rattle.command_words.specs.Texts.{and_then, endpoint_in, workers_in};
 ghost use Rattle.command_words.specs.Commands as meant;
 ghost use Rattle.command_words.specs.View as view;
 
-use crate::command::{Command, DescribeCommand, Description, HashCommand, RunCommand};
+use crate::command::{Command, DescribeCommand, Description, HashCommand, ModeChoice, RunCommand};
 use crate::endpoint::{Endpoint, endpoint_in, number_up_to};
 use crate::grammar::all_words;
 use crate::key::key_in;
@@ -51,13 +51,24 @@ fn workers_or_one(text: Option<&str>) -> Option<Workers>
     }
 }
 
-/// Whether the option asks for one worker, or is left out.
-fn is_one_worker(text: Option<&str>) -> bool
-    ensures { result ≡ is_some (meant.one_worker (option_map (λ s. s.now) text.entry)) }
+/// The mode that a word asks for.
+fn mode_named(name: &str) -> Option<ModeChoice>
+    ensures { result ≡ meant.mode_named name.now }
 {
-    match workers_or_one(text) {
-        Some(workers) => workers.get() <= 1,
-        None => false,
+    match name {
+        "auto" => Some(ModeChoice::Auto),
+        "shard" => Some(ModeChoice::Shard),
+        _ => None,
+    }
+}
+
+/// `auto` where the option is left out.
+fn mode_in(text: Option<&str>) -> Option<ModeChoice>
+    ensures { result ≡ meant.mode_in (option_map (λ s. s.now) text.entry) }
+{
+    match text {
+        None => Some(ModeChoice::Auto),
+        Some(text) => mode_named(text),
     }
 }
 
@@ -108,12 +119,16 @@ fn run_command(alloc: Global, matches: &ArgMatches) -> Result<Option<RunCommand>
     let Some(captures) = captures_in(alloc, values(matches, "capture"))? else {
         return Ok(None);
     };
+    let workers = workers_or_one(value(matches, "workers"));
+    let mode = mode_in(value(matches, "mode"));
     let most = most_in(value(matches, "max-packets"));
-    match most {
-        Some(most) if is_one_worker(value(matches, "workers")) => Ok(Some(RunCommand {
+    match (workers, mode, most) {
+        (Some(workers), Some(mode), Some(most)) => Ok(Some(RunCommand {
             function: String::from_str(alloc, function)?,
             out: String::from_str(alloc, out)?,
             captures,
+            workers,
+            mode,
             most,
         })),
         _ => Ok(None),

@@ -4,7 +4,7 @@
 #[cfg(test)]
 mod tests;
 
-use maestro_cli::{Status, maestro};
+use maestro_cli::{Idle, Status, maestro};
 use nf_files::RealFiles;
 use std::process::ExitCode;
 use std::{env, io};
@@ -22,6 +22,6 @@ fn main(rt: HostRuntime) -> ExitCode {
         return ExitCode::from(Status::Memory.number());
     };
     let mut files = RealFiles::new(rt.alloc(), &rt, rt.stdout(), rt.stderr());
-    let status = maestro(rt.alloc(), words.as_slice(), &mut files);
+    let status = maestro(&rt, rt.alloc(), words.as_slice(), &mut files, &Idle);
     ExitCode::from(status.number())
 }

@@ -10,6 +10,7 @@ mod forms;
 mod functions;
 mod language;
 mod runs;
+mod shards;
 mod texts;
 mod verdicts;
 mod words;

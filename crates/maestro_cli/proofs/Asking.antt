@@ -3,15 +3,14 @@ use Rattle.std.proofs.Common.{◌≡◌, inl, inr, ℕ, zero, suc, ◌+◌, ◌<
 use Rattle.std.specs.List.{range_with_len}
 use Rattle.std.proofs.lemmas.List.{take_more, take-append-drop}
 use Rattle.std.proofs.lemmas.Option.{slice_get_within, get_or_from_slice_get}
-use Rattle.nf_files.specs.Causes.{Counted, Faulted, Asked, asking}
+use Rattle.nf_files.specs.Causes.{Counted, Faulted, FaultedAsking, Asked, asking, losing}
 use Rattle.stream_run.specs.declared.stop.Stop.{Stop}
 use Rattle.stream_run.specs.declared.stop.Stop.TheVariants.{File, Memory}
-use Rattle.stream_run.specs.Writing.{IsStopCause}
 use Rattle.maestro_cli.specs.Numbers.{IsFrontOf}
 use Rattle.maestro_cli.specs.Opened.{AsksNext, AsksSome}
 
 abbrev pub with_asked : Counted → List Asked → Counted
-with_asked c names = record { faults = c.faults; first = c.first; asked = names }
+with_asked c names = record { faults = c.faults; first = c.first; asked = names; missing = c.missing }
 
 pub asking_both : (xs ys : List Asked) (c : Counted) → asking ys (asking xs c) ≡ asking (xs ++ ys) c
 asking_both xs ys c = ap (with_asked c) (append_assoc c.asked xs ys)
@@ -31,16 +30,25 @@ front_taken names k = record { later = drop k names; whole = take-append-drop k 
 pub asked_more : (front : List Asked) (one : Asked) (old mid new : Counted) → mid ≡ asking front old → new ≡ asking (one ∷ []) mid → new ≡ asking (front ++ one ∷ []) old
 asked_more front one old mid new so_far more = more ∙ ap (asking (one ∷ [])) so_far ∙ asking_both front (one ∷ []) old
 
+-- the call that asks for one name more failed
+asks_fault : (names front : List Asked) (one : Asked) (old mid new : Counted) (file : ℕ) → IsFrontOf names front → IsFrontOf names (front ++ one ∷ []) → mid ≡ asking front old → FaultedAsking mid new (one ∷ []) file → AsksSome names old new (File file)
+asks_fault names front one old mid new file f g so_far (inl taken) = record {
+  front = front ++ one ∷ [];
+  is_front = g;
+  cause = inl (subst (λ (c : Counted). Faulted c new file) (ap (asking (one ∷ [])) so_far ∙ asking_both front (one ∷ []) old) taken);
+}
+asks_fault names front one old mid new file f g so_far (inr lost) = record {
+  front = front;
+  is_front = f;
+  cause = inr (subst (λ (c : Counted). Faulted (losing c) new file) so_far lost);
+}
+
 -- the call that asks for one name more was stopped
 pub asks_next : (names front : List Asked) (one : Asked) (number : ℕ) (old mid new : Counted) (stop : Stop) → IsFrontOf names front → IsFrontOf names (front ++ one ∷ []) → mid ≡ asking front old
     → AsksNext {T = ℕ} one number mid new (Err stop) → AsksSome names old new stop
 asks_next names front one number old mid new Memory f g so_far (inl same) = record { front = front; is_front = f; cause = same ∙ so_far }
 asks_next names front one number old mid new Memory f g so_far (inr more) = record { front = front ++ one ∷ []; is_front = g; cause = asked_more front one old mid new so_far more }
-asks_next names front one number old mid new (File file) f g so_far h = record {
-  front = front ++ one ∷ [];
-  is_front = g;
-  cause = subst (λ (c : Counted). Faulted c new file) (ap (asking (one ∷ [])) so_far ∙ asking_both front (one ∷ []) old) h.1;
-}
+asks_next names front one number old mid new (File file) f g so_far h = asks_fault names front one old mid new file f g so_far h.1
 
 -- memory ran out behind a name that was asked for
 pub asks_here : (names front : List Asked) (old new : Counted) → IsFrontOf names front → new ≡ asking front old → AsksSome names old new Memory

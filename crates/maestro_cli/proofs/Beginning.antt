@@ -4,7 +4,7 @@ use Rattle.std.proofs.lemmas.Option.{slice_get_within}
 use Rattle.nf_base.specs.Functions.{function_of}
 use Rattle.nf_base.specs.Text.{Function}
 use Rattle.nf_files.specs.Told.{Told}
-use Rattle.nf_files.specs.Causes.{Counted, Faulted, Asked, asking}
+use Rattle.nf_files.specs.Causes.{Counted, Faulted, FaultedAsking, Asked, asking, losing}
 use Rattle.packet_feed.specs.Told.{IsCapture, IsNoCapture, KeepsOthers}
 use Rattle.packet_feed.specs.Faults.{FaultedAt}
 use Rattle.packet_feed.specs.Faults as feeding
@@ -29,8 +29,11 @@ use Rattle.maestro_cli.specs.declared.status.Halt.TheVariants as halts
 use Rattle.maestro_cli.specs.declared.status.Refusal.TheVariants as refusals
 use Rattle.maestro_cli.specs.Outside.{Outside, IsUntouched, HasOnlyAsked}
 use Rattle.maestro_cli.specs.Names.{reading, inputs_of, asked_by}
-use Rattle.maestro_cli.specs.Numbers.{file_of, stop_named, Stops, IsFrontOf}
+use Rattle.maestro_cli.specs.Numbers.{file_of, number_of, stop_named, Faults, FailedAt, Stops, IsFrontOf}
 use Rattle.maestro_cli.specs.Opened.{AreOpened, AsksAll, AsksSome, StopsFrom}
+use Rattle.maestro_cli.specs.declared.course.Course.{Course}
+use Rattle.maestro_cli.specs.declared.course.Course.TheVariants as course
+use Rattle.maestro_cli.specs.Modes.{NeedsKeys, HasKeys, IsCourse, IsUnserved}
 use Rattle.maestro_cli.specs.Runs.{HasPorts, HasNoCapture, HasOtherPorts}
 use Rattle.maestro_cli.specs.Described.{IsTextCause}
 use Rattle.maestro_cli.specs.Loading.{FindsFunction, HasFoundCause}
@@ -39,8 +42,8 @@ use Rattle.maestro_cli.specs.Progress.{HasFound, IsJob, HasOpened, HasFed, asked
 use Rattle.maestro_cli.proofs.Asking.{asking_both, asking_none, front_all, front_before}
 use Rattle.maestro_cli.proofs.Creating.{untouched_both}
 use Rattle.maestro_cli.proofs.Leaving.{all_at}
-use Rattle.maestro_cli.proofs.Numbering.{file_first, file_behind, opened_capture}
-use Rattle.maestro_cli.proofs.Stopping.{stopped_behind, memory_behind, stopped_asking, captures_front}
+use Rattle.maestro_cli.proofs.Numbering.{file_first, file_behind, opened_capture, own_capture}
+use Rattle.maestro_cli.proofs.Stopping.{IsNumbered, stopped_behind, memory_behind, stopped_asking, captures_front}
 use Rattle.maestro_cli.proofs.Starting.{below_names, got_at}
 
 -- ---- the captures' headers
@@ -92,7 +95,9 @@ failed_at before a b job captures port (Some file) is h untouched e faulted =
     subst (λ (s : Stop). IsStopped (asked job) before b s) (sym named) (inl (record {
       known = known_capture (asked job) before.told (function_of job.func.now) before.told.next (ports_of job) file port is.has_ports (omega (arith, is.from_two, first)) (h.numbers port file e) (omega (arith, slice_get_within captures port file e, h.all));
       untouched = untouched;
-      stops = stopped_behind (inputs_of (asked job)) (inputs_of (asked job)) before.told.next (ports_of job) before.counted a.counted b.counted (numbered.File file) (front_all (inputs_of (asked job))) h.only.asked faulted;
+      stops = stopped_behind (inputs_of (asked job)) (inputs_of (asked job)) before.told.next (ports_of job) before.counted a.counted b.counted (numbered.File file)
+          (own_capture before.told.next (ports_of job) file port (omega (arith, is.from_two, first)) (h.numbers port file e) (omega (arith, slice_get_within captures port file e, h.all)))
+          (front_all (inputs_of (asked job))) h.only.asked faulted;
     }))
 
 -- captures could not be read
@@ -125,27 +130,51 @@ known_opening c told f first ports count numbered.Memory h two le from = tt
 known_opening c told f first ports count (numbered.File number) h two le from =
     known_capture c told f first ports number (number - (first + 1)) h two (omega (arith, from.0)) (omega (arith, from.0, from.1, le))
 
+own_opening : (first ports : ℕ) (stop : NumberStop) → 2 ≤ first → StopsFrom (first + 1) ports stop → IsNumbered first ports stop
+own_opening first ports numbered.Memory two from = tt
+own_opening first ports (numbered.File number) two from =
+    own_capture first ports number (number - (first + 1)) two (omega (arith, from.0)) (omega (arith, from.0, from.1))
+
 -- a capture could not be opened
 pub is_unopened : (before a b : Outside) (job : Job) (stop : NumberStop) → IsJob before.told job → HasOnlyAsked (reading (asked job).function ∷ []) before a → IsUntouched a.told b.told → StopsFrom (before.told.next + 1) (ports_of job) stop → AsksSome (map reading (asked job).captures) a.counted b.counted stop
     → IsStopped (asked job) before b (stop_named before.told.next (ports_of job) stop)
 is_unopened before a b job stop is only untouched from asks = inl (record {
   known = known_opening (asked job) before.told (function_of job.func.now) before.told.next (ports_of job) (ports_of job) stop is.has_ports (omega (arith, is.from_two, is.first)) (omega arith) from;
   untouched = untouched_both before.told a.told b.told only.untouched untouched;
-  stops = stopped_asking (inputs_of (asked job)) (reading (asked job).function ∷ []) (map reading (asked job).captures) before.told.next (ports_of job) before.counted a.counted b.counted stop (λ front g. captures_front (asked job) front g) only.asked asks;
+  stops = stopped_asking (inputs_of (asked job)) (reading (asked job).function ∷ []) (map reading (asked job).captures) before.told.next (ports_of job) before.counted a.counted b.counted stop
+      (own_opening before.told.next (ports_of job) stop (omega (arith, is.from_two, is.first)) from) (λ front g. captures_front (asked job) front g) only.asked asks;
 })
 
 -- ---- the function
+
+text_failed : (first ports : ℕ) (old new : Counted) (file : RunFile) → file ≡ Nf → Faults old new first → FailedAt first ports old new file
+text_failed first ports old new file is faulted = record {
+  number = first;
+  faulted = faulted;
+  file_is = is ∙ sym (file_first first ports);
+  number_is = subst (λ (f : RunFile). first ≡ number_of first ports f) (sym is) refl;
+}
+
+-- the text's file failed
+unread_stop : (c : RunAsked) (before b : Outside) (file : RunFile) → file ≡ Nf → FaultedAsking before.counted b.counted (reading c.function ∷ []) before.told.next → Stops before.told.next (length c.captures) (inputs_of c) before.counted b.counted (stops.File file)
+unread_stop c before b file is (inl taken) = record {
+  front = reading c.function ∷ [];
+  is_front = record { later = map reading c.captures; whole = refl };
+  cause = text_failed before.told.next (length c.captures) (asking (reading c.function ∷ []) before.counted) b.counted file is (inl taken);
+}
+unread_stop c before b file is (inr lost) = record {
+  front = [];
+  is_front = record { later = inputs_of c; whole = refl };
+  cause = text_failed before.told.next (length c.captures) (asking [] before.counted) b.counted file is
+      (inr (subst (λ (old : Counted). Faulted (losing old) b.counted before.told.next) (asking_none before.counted) lost));
+}
 
 -- the text could not be read
 unread_text : (c : RunAsked) (before b : Outside) (stop : Stop) → IsUntouched before.told b.told → IsTextCause c.function before.told.next before.counted b.counted stop → IsUnbegun c before b stop
 unread_text c before b (stops.File file) untouched cause = record {
   known = subst (KnownAt c before.told) (sym cause.0) tt;
   untouched = untouched;
-  stops = record {
-    front = reading c.function ∷ [];
-    is_front = record { later = map reading c.captures; whole = refl };
-    cause = record { number = before.told.next; faulted = cause.1; file_is = cause.0 ∙ sym (file_first before.told.next (length c.captures)) };
-  };
+  stops = unread_stop c before b file cause.0 cause.1;
 }
 unread_text c before b stops.Memory untouched (inl same) = record {
   known = tt;
@@ -162,3 +191,24 @@ unread_text c before b stops.Memory untouched (inr more) = record {
 pub is_unfound : (c : RunAsked) (before b : Outside) (why : NoFunction) → IsUntouched before.told b.told → FindsFunction before.told c.function (Err why) → HasFoundCause c.function before.told.next before.counted b.counted (Err why) → RunsTo c before b (Err (unfound why))
 is_unfound c before b (none.Text fault) untouched finds cause = (finds, record { untouched = untouched; asked = cause })
 is_unfound c before b (none.Stop stop) untouched finds cause = inl (unread_text c before b stop untouched cause)
+
+-- ---- who handles the packets
+
+-- a function has keys where they are needed
+pub keyed_by : (c : RunAsked) (f : Function) (course : Course) → IsCourse c f course → NeedsKeys c → HasKeys f
+keyed_by c f course.One is needs = is.1 needs
+keyed_by c f (course.Shards keys) is needs = record { keys = keys; given = is.1.0 }
+
+-- the function has no keys, and they are needed; or memory ran out
+pub is_unserved : (c : RunAsked) (before now : Outside) (found : Found) (halt : Halt) → HasFound c before now found → length c.captures ≡ length (function_of found.source.func).handlers → IsUnserved c (function_of found.source.func) halt → RunsTo c before now (Err halt)
+is_unserved c before now found (halts.Refusal (refusals.NoKeys why)) h as_many is =
+    (record { function = function_of found.source.func; is_function = h.is_function; as_many = as_many; needs = is.0; locked = is.1 }, h.only)
+is_unserved c before now found (halts.Refusal refusals.Usage) h as_many is = absurd is
+is_unserved c before now found (halts.Refusal (refusals.Text fault)) h as_many is = absurd is
+is_unserved c before now found (halts.Refusal (refusals.NotCapture port)) h as_many is = absurd is
+is_unserved c before now found (halts.Stop (stops.File file)) h as_many is = absurd is
+is_unserved c before now found (halts.Stop stops.Memory) h as_many is = inl (record {
+  known = tt;
+  untouched = h.only.untouched;
+  stops = memory_behind (inputs_of c) (reading c.function ∷ []) before.told.next (length c.captures) before.counted now.counted (captures_front c [] (record { later = map reading c.captures; whole = refl })) h.only.asked;
+})

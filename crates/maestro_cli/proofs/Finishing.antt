@@ -20,25 +20,32 @@ use Rattle.stream_run.specs.declared.stop.Stop.TheVariants as numbered
 use Rattle.stream_run.specs.Writing.{IsStopCause, StopsAt}
 use Rattle.maestro_cli.specs.declared.job.Job.{Job}
 use Rattle.maestro_cli.specs.declared.status.End.{End}
+use Rattle.maestro_cli.specs.declared.status.End.TheVariants as ends
 use Rattle.maestro_cli.specs.declared.status.Stop.{Stop}
 use Rattle.maestro_cli.specs.declared.status.Stop.TheVariants as stops
 use Rattle.maestro_cli.specs.declared.status.Halt.{Halt}
 use Rattle.maestro_cli.specs.declared.status.Halt.TheVariants as halts
 use Rattle.maestro_cli.specs.Outside.{Outside}
-use Rattle.maestro_cli.specs.Names.{name_at, writing, inputs_of, created_by, asked_by}
+use Rattle.maestro_cli.specs.Names.{name_at, writing, inputs_of, created_by, asked_by, asked_until}
 use Rattle.maestro_cli.specs.Numbers.{stop_named, Stops, IsFrontOf}
 use Rattle.maestro_cli.specs.Created.{Left, bytes_at, state_bytes, text_of}
 use Rattle.maestro_cli.specs.Opened.{AsksNext}
-use Rattle.maestro_cli.specs.Ending.{HasLeft, IsFinished, IsFar, IsStopped, IsCutShort, RunsTo}
+use Rattle.maestro_cli.specs.Ending.{HasLeft, IsFinished, IsFar, IsPrinting, IsStopped, IsCutShort, RunsTo}
+use Rattle.maestro_cli.specs.Modes.{IsCourse, mode_by}
+use Rattle.maestro_cli.specs.Runs.{IsByOne, IsByShards, left_by}
+use Rattle.maestro_cli.specs.declared.course.Course.{Course}
+use Rattle.maestro_cli.specs.declared.course.Course.TheVariants as course
+use Rattle.run_history.specs.declared.line.Mode.{Mode}
+use Rattle.command_words.specs.Commands.{Run as RunAsked}
 use Rattle.maestro_cli.specs.Printed.{Printed, PrintedFront}
-use Rattle.maestro_cli.specs.Progress.{IsJob, HasRun, asked, ports_of}
+use Rattle.maestro_cli.specs.Progress.{IsJob, HasRun, HasEnded, asked, ports_of}
 use Rattle.maestro_cli.specs.Texts.{ran_line}
 use Rattle.maestro_cli.proofs.Asking.{asking_both, front_all}
 use Rattle.maestro_cli.proofs.Printing.{printed_front}
 use Rattle.maestro_cli.proofs.Naming.{names_apart}
 use Rattle.maestro_cli.proofs.Leaving.{left_created, left_same, left_written, left_half, left_printed}
-use Rattle.maestro_cli.proofs.Numbering.{far_state, far_stdout}
-use Rattle.maestro_cli.proofs.Stopping.{stopped_behind, memory_behind, stopped_next, created_front}
+use Rattle.maestro_cli.proofs.Numbering.{far_state, far_stdout, own_stdout, own_state}
+use Rattle.maestro_cli.proofs.Stopping.{IsNumbered, stopped_behind, memory_behind, stopped_next, created_front}
 
 -- the files of a run have names of their own
 pub apart : (before : Told) (job : Job) → IsJob before job → (i j : ℕ) → i ≤ ports_of job + 1 → j ≤ ports_of job + 1 → i ≢ j → name_at (asked job).out (ports_of job) i ≢ name_at (asked job).out (ports_of job) j
@@ -52,48 +59,76 @@ last_bytes before now job packets state end made full h =
 
 -- ---- once all files are whole
 
-pub run_printed : (before a b : Outside) (job : Job) (packets : ℕ) (state : State) (end : End) (piece : List ℕ) → IsJob before.told job → HasRun before a job packets state end (ports_of job + 2) (ports_of job + 2) → a.told.name 0 ≡ None → piece ≡ ran_line packets → Writes a.told b.told 0 piece → b.counted ≡ a.counted → IsFinished (asked job) before b end
+left_within : (n : ℕ) (end : End) → left_by n end ≤ n + 2
+left_within n ends.Whole = omega arith
+left_within n (ends.Torn port offset) = omega arith
+left_within n (ends.TooMany most) = omega arith
+left_within n (ends.ShareFull full) = omega arith
+
+-- a run has the mode and the workers of its course
+course_told : (c : RunAsked) (told : Told) (f : Function) (course : Course) (r : Run) → IsCourse c f course → IsByOne c told r ⊎ IsByShards c told r → (r.mode ≡ mode_by course) × (r.workers ≡ c.workers)
+course_told c told f course.One r is (inl one) = (one.is_run.mode, one.is_run.workers ∙ sym is.0)
+course_told c told f course.One r is (inr shards) = absurd (omega (arith, is.0, shards.several))
+course_told c told f (course.Shards keys) r is (inl one) = absurd (omega (arith, is.0.0, one.alone))
+course_told c told f (course.Shards keys) r is (inr shards) = (shards.is_run.mode, shards.is_run.workers_are)
+
+-- the line on a run
+line_told : (before a : Outside) (job : Job) (packets : ℕ) (state : State) (end : End) (made full : ℕ) (piece : List ℕ) → IsJob before.told job → (h : HasRun before a job packets state end made full) → piece ≡ ran_line packets (mode_by job.course.now) (asked job).workers → piece ≡ ran_line (length h.run.turns) h.run.mode h.run.workers
+line_told before a job packets state end made full piece is h line =
+    let told = course_told (asked job) before.told (function_of job.func.now) job.course.now h.run is.course h.is_run.handled in
+    line ∙ ap (λ (n : ℕ). ran_line n (mode_by job.course.now) (asked job).workers) (sym h.count)
+    ∙ ap (λ (m : Mode). ran_line (length h.run.turns) m (asked job).workers) (sym told.0)
+    ∙ ap (ran_line (length h.run.turns) h.run.mode) (sym told.1)
+
+pub run_printed : (before a b : Outside) (job : Job) (packets : ℕ) (state : State) (end : End) (piece : List ℕ) → IsJob before.told job → HasRun before a job packets state end (left_by (ports_of job) end) (left_by (ports_of job) end) → a.told.name 0 ≡ None → piece ≡ ran_line packets (mode_by job.course.now) (asked job).workers → Writes a.told b.told 0 piece → b.counted ≡ a.counted → IsFinished (asked job) before b end
 run_printed before a b job packets state end piece is h unnamed line wrote counted =
     let n = ports_of job in
+    let all = left_by n end in
     record {
       run = h.run;
       is_run = h.is_run;
       ending = h.ending;
-      files = left_printed before.told a.told b.told (before.told.next + 1 + n) (name_at (asked job).out n) (bytes_at h.run) (n + 2) (n + 2) 0 piece h.files (omega arith) (omega (arith, is.from_two, is.first)) unnamed wrote;
-      stdout = subst (λ (p : List ℕ). Gains p (before.told.given 0) (b.told.given 0)) (line ∙ ap ran_line (sym h.count)) (subst (λ o. Gains piece o (b.told.given 0)) h.stdout wrote.gained);
+      files = left_printed before.told a.told b.told (before.told.next + 1 + n) (name_at (asked job).out n) (bytes_at h.run) all all 0 piece h.files (omega arith) (omega (arith, is.from_two, is.first)) unnamed wrote;
+      stdout = subst (λ (p : List ℕ). Gains p (before.told.given 0) (b.told.given 0)) (line_told before a job packets state end all all piece is h line) (subst (λ o. Gains piece o (b.told.given 0)) h.stdout wrote.gained);
       stderr = wrote.givens 1 (λ e. omega (arith, e)) ∙ h.stderr;
       asked = counted ∙ h.asked_for;
     }
 
-far_printed : (first ports : ℕ) (stop : NumberStop) (made full : ℕ) → 2 ≤ first → full ≡ ports + 2 → StopsAt {T = Unit {0}} 0 (Err stop) → IsFar ports (stop_named first ports stop) made full
-far_printed first ports numbered.Memory made full two whole at = tt
-far_printed first ports (numbered.File number) made full two whole at = subst (λ (g : ℕ). IsFar ports (stop_named first ports (numbered.File g)) made full) (sym at) (far_stdout first ports made full two whole)
+far_printed : (ended : Type 0) (first ports : ℕ) (stop : NumberStop) (made full : ℕ) → 2 ≤ first → ended → StopsAt {T = Unit {0}} 0 (Err stop) → IsFar ended ports (stop_named first ports stop) made full
+far_printed ended first ports numbered.Memory made full two whole at = tt
+far_printed ended first ports (numbered.File number) made full two whole at = subst (λ (g : ℕ). IsFar ended ports (stop_named first ports (numbered.File g)) made full) (sym at) (far_stdout ended first ports made full two whole)
 
-pub run_half_printed : (before a b : Outside) (job : Job) (packets : ℕ) (state : State) (end : End) (piece : List ℕ) (stop : NumberStop) → IsJob before.told job → HasRun before a job packets state end (ports_of job + 2) (ports_of job + 2) → a.told.name 0 ≡ None → piece ≡ ran_line packets → WritesFront a.told b.told 0 piece → StopsAt {T = Unit {0}} 0 (Err stop) → IsStopCause {T = Unit {0}} a.counted b.counted (Err stop)
+own_printed : (first ports : ℕ) (stop : NumberStop) → 2 ≤ first → StopsAt {T = Unit {0}} 0 (Err stop) → IsNumbered first ports stop
+own_printed first ports numbered.Memory two at = tt
+own_printed first ports (numbered.File number) two at = subst (λ (g : ℕ). IsNumbered first ports (numbered.File g)) (sym at) (own_stdout first ports two)
+
+pub run_half_printed : (before a b : Outside) (job : Job) (packets : ℕ) (state : State) (end : End) (piece : List ℕ) (stop : NumberStop) → IsJob before.told job → HasRun before a job packets state end (left_by (ports_of job) end) (left_by (ports_of job) end) → a.told.name 0 ≡ None → piece ≡ ran_line packets (mode_by job.course.now) (asked job).workers → WritesFront a.told b.told 0 piece → StopsAt {T = Unit {0}} 0 (Err stop) → IsStopCause {T = Unit {0}} a.counted b.counted (Err stop)
     → IsStopped (asked job) before b (stop_named before.told.next (ports_of job) stop)
 run_half_printed before a b job packets state end piece stop is h unnamed line wrote at cause =
     let n = ports_of job in
+    let all = left_by n end in
     let two : 2 ≤ before.told.next = omega (arith, is.from_two, is.first) in
     let front = printed_front a.told b.told 0 piece wrote in
+    let ended : IsPrinting (asked job) before h.run all all = record { end = end; ending = h.ending; all = refl; whole = refl } in
     inr (record {
       run = h.run;
       is_run = h.is_run;
-      made = n + 2;
-      full = n + 2;
-      within = omega arith;
-      files = left_printed before.told a.told b.told (before.told.next + 1 + n) (name_at (asked job).out n) (bytes_at h.run) (n + 2) (n + 2) 0 _ h.files (omega arith) (omega (arith, two)) unnamed wrote.wrote;
-      far = far_printed before.told.next n stop (n + 2) (n + 2) two refl at;
-      last = λ lt. omega arith;
+      made = all;
+      full = all;
+      within = left_within n end;
+      files = left_printed before.told a.told b.told (before.told.next + 1 + n) (name_at (asked job).out n) (bytes_at h.run) all all 0 _ h.files (omega arith) (omega (arith, two)) unnamed wrote.wrote;
+      far = far_printed _ before.told.next n stop all all two ended at;
+      last = λ lt. omega (arith, lt);
       stdout = inr (
-        refl,
+        ended,
         record {
           front = front.front;
-          is_front = subst (λ (p : List ℕ). IsBytesFront p front.front) (line ∙ ap ran_line (sym h.count)) front.is_front;
+          is_front = subst (λ (p : List ℕ). IsBytesFront p front.front) (line_told before a job packets state end all all piece is h line) front.is_front;
           printed = subst (λ o. Gains front.front o (b.told.given 0)) h.stdout front.printed;
         },
       );
       stderr = wrote.wrote.givens 1 (λ e. omega (arith, e)) ∙ h.stderr;
-      stops = stopped_behind (asked_by (asked job)) (inputs_of (asked job) ++ created_by (asked job).out n (n + 2)) before.told.next n before.counted a.counted b.counted stop (front_all (asked_by (asked job))) h.asked_for cause;
+      stops = stopped_behind (asked_by (asked job)) (asked_until (asked job) all) before.told.next n before.counted a.counted b.counted stop (own_printed before.told.next n stop two at) (created_front (asked job) all (left_within n end)) h.asked_for cause;
     })
 
 -- ---- the state
@@ -128,9 +163,20 @@ state_written before a b job packets state end file piece is h empty at text wro
       asked_for = counted ∙ h.asked_for;
     }
 
-far_at_state : (first ports number : ℕ) (stop : NumberStop) (made full : ℕ) → 2 ≤ first → number ≡ first + 1 + ports + (ports + 1) → ports + 1 ≤ full → StopsAt {T = Unit {0}} number (Err stop) → IsFar ports (stop_named first ports stop) made full
-far_at_state first ports number numbered.Memory made full two is whole at = tt
-far_at_state first ports number (numbered.File file) made full two is whole at = far_state first ports file made full two (at ∙ is) whole
+-- all files of a run that leaves a state are whole
+pub ended_behind : (before b : Outside) (job : Job) (packets : ℕ) (state : State) (end : End) → left_by (ports_of job) end ≡ ports_of job + 2 → HasRun before b job packets state end (ports_of job + 2) (ports_of job + 2) → HasEnded before b job packets end
+ended_behind before b job packets state end leaves h = record {
+  state = state;
+  ran = subst (λ (n : ℕ). HasRun before b job packets state end n n) (sym leaves) h;
+}
+
+far_at_state : (ended : Type 0) (first ports number : ℕ) (stop : NumberStop) (made full : ℕ) → 2 ≤ first → number ≡ first + 1 + ports + (ports + 1) → ports + 1 ≤ full → StopsAt {T = Unit {0}} number (Err stop) → IsFar ended ports (stop_named first ports stop) made full
+far_at_state ended first ports number numbered.Memory made full two is whole at = tt
+far_at_state ended first ports number (numbered.File file) made full two is whole at = far_state ended first ports file made full two (at ∙ is) whole
+
+own_at_state : (first ports number : ℕ) (stop : NumberStop) → 2 ≤ first → number ≡ first + 1 + ports + (ports + 1) → StopsAt {T = Unit {0}} number (Err stop) → IsNumbered first ports stop
+own_at_state first ports number numbered.Memory two is at = tt
+own_at_state first ports number (numbered.File file) two is at = own_state first ports file two (at ∙ is)
 
 -- a front of the state was given to its file
 pub state_half_written : (before a b : Outside) (job : Job) (packets : ℕ) (state : State) (end : End) (file : ℕ) (piece : List ℕ) (stop : NumberStop) → IsJob before.told job → (h : HasRun before a job packets state end (ports_of job + 2) (ports_of job + 1)) → IsEmptyIfTold (a.told.given file) → file ≡ before.told.next + 1 + ports_of job + (ports_of job + 1)
@@ -146,11 +192,11 @@ state_half_written before a b job packets state end file piece stop is h empty a
       full = n + 1;
       within = omega arith;
       files = one_less before.told b.told (before.told.next + 1 + n) (name_at (asked job).out n) (bytes_at h.run) n (left_half before.told a.told b.told (before.told.next + 1 + n) (name_at (asked job).out n) (bytes_at h.run) (n + 1) file (one_more before.told a.told (before.told.next + 1 + n) (name_at (asked job).out n) (bytes_at h.run) n h.files) empty at (λ k lt. apart before.told job is k (n + 1) (omega (arith, lt)) (omega arith) (λ e. omega (arith, e, lt))) (subst (λ (p : List ℕ). WritesFront a.told b.told file p) bytes wrote));
-      far = far_at_state before.told.next n file stop (n + 2) (n + 1) two at (omega arith) stops_at;
+      far = far_at_state _ before.told.next n file stop (n + 2) (n + 1) two at (omega arith) stops_at;
       last = λ lt. omega arith;
       stdout = inl (wrote.wrote.givens 0 (λ e. omega (arith, e, at)) ∙ h.stdout);
       stderr = wrote.wrote.givens 1 (λ e. omega (arith, e, at)) ∙ h.stderr;
-      stops = stopped_behind (asked_by (asked job)) (inputs_of (asked job) ++ created_by (asked job).out n (n + 2)) before.told.next n before.counted a.counted b.counted stop (front_all (asked_by (asked job))) h.asked_for cause;
+      stops = stopped_behind (asked_by (asked job)) (inputs_of (asked job) ++ created_by (asked job).out n (n + 2)) before.told.next n before.counted a.counted b.counted stop (own_at_state before.told.next n file stop two at stops_at) (front_all (asked_by (asked job))) h.asked_for cause;
     })
 
 -- memory ran out
@@ -202,9 +248,13 @@ state_created before a b job packets state end file is h created counted =
           ∙ ap (λ (t : List Asked). asking t before.counted) (asked_next (inputs_of (asked job)) (asked job).out n (n + 1) ∙ ap (λ (m : ℕ). inputs_of (asked job) ++ created_by (asked job).out n m) more);
     }
 
-far_creating : (first ports number : ℕ) (stop : NumberStop) (made full : ℕ) (old new : Counted) (one : Asked) → 2 ≤ first → number ≡ first + 1 + ports + (ports + 1) → ports + 1 ≤ full → AsksNext {T = ℕ} one number old new (Err stop) → IsFar ports (stop_named first ports stop) made full
-far_creating first ports number numbered.Memory made full old new one two is whole h = tt
-far_creating first ports number (numbered.File file) made full old new one two is whole h = far_state first ports file made full two (h.0 ∙ is) whole
+far_creating : (ended : Type 0) (first ports number : ℕ) (stop : NumberStop) (made full : ℕ) (old new : Counted) (one : Asked) → 2 ≤ first → number ≡ first + 1 + ports + (ports + 1) → ports + 1 ≤ full → AsksNext {T = ℕ} one number old new (Err stop) → IsFar ended ports (stop_named first ports stop) made full
+far_creating ended first ports number numbered.Memory made full old new one two is whole h = tt
+far_creating ended first ports number (numbered.File file) made full old new one two is whole h = far_state ended first ports file made full two (h.0 ∙ is) whole
+
+own_creating : (first ports number : ℕ) (stop : NumberStop) (old new : Counted) (one : Asked) → 2 ≤ first → number ≡ first + 1 + ports + (ports + 1) → AsksNext {T = ℕ} one number old new (Err stop) → IsNumbered first ports stop
+own_creating first ports number numbered.Memory old new one two is h = tt
+own_creating first ports number (numbered.File file) old new one two is h = own_state first ports file two (h.0 ∙ is)
 
 -- the state's file could not be created
 pub state_uncreated : (before a b : Outside) (job : Job) (packets : ℕ) (state : State) (end : End) (number : ℕ) (stop : NumberStop) → IsJob before.told job → HasRun before a job packets state end (ports_of job + 1) (ports_of job + 1) → Same a.told b.told → a.told.next ≡ number
@@ -220,12 +270,12 @@ state_uncreated before a b job packets state end number stop is h same at asks =
       full = n + 1;
       within = omega arith;
       files = left_same before.told a.told b.told (before.told.next + 1 + n) (name_at (asked job).out n) (bytes_at h.run) (n + 1) (n + 1) h.files same;
-      far = far_creating before.told.next n number stop (n + 1) (n + 1) a.counted b.counted _ two (sym at ∙ h.files.next) (omega arith) asks;
+      far = far_creating _ before.told.next n number stop (n + 1) (n + 1) a.counted b.counted _ two (sym at ∙ h.files.next) (omega arith) asks;
       last = λ lt. omega arith;
       stdout = inl (same.givens 0 ∙ h.stdout);
       stderr = same.givens 1 ∙ h.stderr;
       stops = stopped_next (asked_by (asked job)) (inputs_of (asked job) ++ created_by (asked job).out n (n + 1)) (writing (name_at (asked job).out n (n + 1))) number before.told.next n before.counted a.counted b.counted stop
-          (created_front (asked job) (n + 1) (omega arith))
+          (own_creating before.told.next n number stop a.counted b.counted _ two (sym at ∙ h.files.next) asks) (created_front (asked job) (n + 1) (omega arith))
           (subst (λ (t : List Asked). IsFrontOf (asked_by (asked job)) t) (sym (asked_next (inputs_of (asked job)) (asked job).out n (n + 1)))
           (subst (λ (m : ℕ). IsFrontOf (asked_by (asked job)) (inputs_of (asked job) ++ created_by (asked job).out n m)) (sym more) (front_all (asked_by (asked job)))))
           h.asked_for asks;

@@ -12,4 +12,6 @@ pub mod Numbering
 pub mod Stopping
 pub mod Finishing
 pub mod Starting
+pub mod Sharding
 pub mod Beginning
+pub mod Causing

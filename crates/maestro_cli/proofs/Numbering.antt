@@ -4,7 +4,7 @@ use Rattle.std.proofs.lemmas.Bool.{le-leb, lt-leb, ne_eqb, eq-eqb}
 use Rattle.std.proofs.Math.Nat.{eq-or-lt_of_le}
 use Rattle.maestro_cli.specs.declared.status.RunFile.{RunFile}
 use Rattle.maestro_cli.specs.declared.status.RunFile.TheVariants.{Nf, Capture, Output, OutJournal, State, Stdout, Stderr}
-use Rattle.maestro_cli.specs.Numbers.{file_of, opened_file}
+use Rattle.maestro_cli.specs.Numbers.{file_of, opened_file, number_of}
 use Rattle.maestro_cli.specs.Ending.{IsFarAt}
 
 pub file_first : (first ports : ℕ) → file_of first ports first ≡ Nf
@@ -46,26 +46,49 @@ opened_state ports place past =
 -- ---- how far a run came that a file stopped
 
 -- a capture, behind all others
-pub far_capture : (first ports number i full : ℕ) → 2 ≤ first → number ≡ first + 1 + i → i < ports → IsFarAt ports (file_of first ports number) (ports + 1) full
-far_capture first ports number i full two at lt =
-    subst (λ (f : RunFile). IsFarAt ports f (ports + 1) full) (sym (file_behind first ports number (1 + i) two (omega (arith, at)) (omega arith) ∙ opened_capture ports (1 + i) (omega (arith, lt)))) refl
+pub far_capture : (ended : Type 0) (first ports number i full : ℕ) → 2 ≤ first → number ≡ first + 1 + i → i < ports → IsFarAt ended ports (file_of first ports number) (ports + 1) full
+far_capture ended first ports number i full two at lt =
+    subst (λ (f : RunFile). IsFarAt ended ports f (ports + 1) full) (sym (file_behind first ports number (1 + i) two (omega (arith, at)) (omega arith) ∙ opened_capture ports (1 + i) (omega (arith, lt)))) refl
 
 -- an output or the journal
-pub far_created : (first ports number k made full : ℕ) → 2 ≤ first → number ≡ first + 1 + ports + k → k ≤ ports → k ≤ made → made ≤ ports + 1 → IsFarAt ports (file_of first ports number) made full
-far_created first ports number k made full two at le less within = at_place (cases k ports le)
+pub far_created : (ended : Type 0) (first ports number k made full : ℕ) → 2 ≤ first → number ≡ first + 1 + ports + k → k ≤ ports → k ≤ made → made ≤ ports + 1 → IsFarAt ended ports (file_of first ports number) made full
+far_created ended first ports number k made full two at le less within = at_place (cases k ports le)
   where
     cases : (k n : ℕ) → k ≤ n → (k ≡ n) ⊎ (k < n)
     cases k n le = eq-or-lt_of_le {n = k} {m = n} le
 
-    at_place : (k ≡ ports) ⊎ (k < ports) → IsFarAt ports (file_of first ports number) made full
-    at_place (inl same) = subst (λ (f : RunFile). IsFarAt ports f made full) (sym (file_behind first ports number (1 + ports + k) two (omega (arith, at)) (omega arith) ∙ opened_journal ports (1 + ports + k) (omega (arith, same)))) (omega (arith, same, less), within)
-    at_place (inr lt) = subst (λ (f : RunFile). IsFarAt ports f made full) (sym (file_behind first ports number (1 + ports + k) two (omega (arith, at)) (omega arith) ∙ opened_output ports (1 + ports + k) (omega arith) (omega (arith, lt)))) (omega (arith, less), within)
+    at_place : (k ≡ ports) ⊎ (k < ports) → IsFarAt ended ports (file_of first ports number) made full
+    at_place (inl same) = subst (λ (f : RunFile). IsFarAt ended ports f made full) (sym (file_behind first ports number (1 + ports + k) two (omega (arith, at)) (omega arith) ∙ opened_journal ports (1 + ports + k) (omega (arith, same)))) (omega (arith, same, less), within)
+    at_place (inr lt) = subst (λ (f : RunFile). IsFarAt ended ports f made full) (sym (file_behind first ports number (1 + ports + k) two (omega (arith, at)) (omega arith) ∙ opened_output ports (1 + ports + k) (omega arith) (omega (arith, lt)))) (omega (arith, less), within)
 
 -- the state
-pub far_state : (first ports number made full : ℕ) → 2 ≤ first → number ≡ first + 1 + ports + (ports + 1) → ports + 1 ≤ full → IsFarAt ports (file_of first ports number) made full
-far_state first ports number made full two at whole =
-    subst (λ (f : RunFile). IsFarAt ports f made full) (sym (file_behind first ports number (1 + ports + (ports + 1)) two (omega (arith, at)) (omega arith) ∙ opened_state ports (1 + ports + (ports + 1)) (omega arith))) whole
+pub far_state : (ended : Type 0) (first ports number made full : ℕ) → 2 ≤ first → number ≡ first + 1 + ports + (ports + 1) → ports + 1 ≤ full → IsFarAt ended ports (file_of first ports number) made full
+far_state ended first ports number made full two at whole =
+    subst (λ (f : RunFile). IsFarAt ended ports f made full) (sym (file_behind first ports number (1 + ports + (ports + 1)) two (omega (arith, at)) (omega arith) ∙ opened_state ports (1 + ports + (ports + 1)) (omega arith))) whole
 
 -- standard output
-pub far_stdout : (first ports made full : ℕ) → 2 ≤ first → full ≡ ports + 2 → IsFarAt ports (file_of first ports 0) made full
-far_stdout first ports made full two whole = subst (λ (f : RunFile). IsFarAt ports f made full) (sym (file_stdout first ports two)) whole
+pub far_stdout : (ended : Type 0) (first ports made full : ℕ) → 2 ≤ first → ended → IsFarAt ended ports (file_of first ports 0) made full
+far_stdout ended first ports made full two whole = subst (λ (f : RunFile). IsFarAt ended ports f made full) (sym (file_stdout first ports two)) whole
+
+-- ---- the number of the file that a number is of is this number
+
+pub own_capture : (first ports number i : ℕ) → 2 ≤ first → number ≡ first + 1 + i → i < ports → number_of first ports (file_of first ports number) ≡ number
+own_capture first ports number i two at lt =
+    subst (λ (f : RunFile). number_of first ports f ≡ number) (sym (file_behind first ports number (1 + i) two (omega (arith, at)) (omega arith) ∙ opened_capture ports (1 + i) (omega (arith, lt)))) (omega (arith, at))
+
+pub own_created : (first ports number k : ℕ) → 2 ≤ first → number ≡ first + 1 + ports + k → k ≤ ports → number_of first ports (file_of first ports number) ≡ number
+own_created first ports number k two at le = at_place (cases k ports le)
+  where
+    cases : (k n : ℕ) → k ≤ n → (k ≡ n) ⊎ (k < n)
+    cases k n le = eq-or-lt_of_le {n = k} {m = n} le
+
+    at_place : (k ≡ ports) ⊎ (k < ports) → number_of first ports (file_of first ports number) ≡ number
+    at_place (inl same) = subst (λ (f : RunFile). number_of first ports f ≡ number) (sym (file_behind first ports number (1 + ports + k) two (omega (arith, at)) (omega arith) ∙ opened_journal ports (1 + ports + k) (omega (arith, same)))) (omega (arith, same, at))
+    at_place (inr lt) = subst (λ (f : RunFile). number_of first ports f ≡ number) (sym (file_behind first ports number (1 + ports + k) two (omega (arith, at)) (omega arith) ∙ opened_output ports (1 + ports + k) (omega arith) (omega (arith, lt)))) (omega (arith, at))
+
+pub own_state : (first ports number : ℕ) → 2 ≤ first → number ≡ first + 1 + ports + (ports + 1) → number_of first ports (file_of first ports number) ≡ number
+own_state first ports number two at =
+    subst (λ (f : RunFile). number_of first ports f ≡ number) (sym (file_behind first ports number (1 + ports + (ports + 1)) two (omega (arith, at)) (omega arith) ∙ opened_state ports (1 + ports + (ports + 1)) (omega arith))) (omega (arith, at))
+
+pub own_stdout : (first ports : ℕ) → 2 ≤ first → number_of first ports (file_of first ports 0) ≡ 0
+own_stdout first ports two = subst (λ (f : RunFile). number_of first ports f ≡ 0) (sym (file_stdout first ports two)) refl

@@ -5,7 +5,7 @@ use Rattle.nf_files.specs.Told.{Told}
 use Rattle.nf_files.specs.Pieces.{Gains}
 use Rattle.nf_files.specs.Writes.{Writes, WritesFront}
 use Rattle.maestro_cli.specs.declared.status.Status.{Status}
-use Rattle.maestro_cli.specs.declared.status.Status.TheVariants.{Done, Usage, Refused, FileFault, NotCapture, Torn, TooMany, Memory}
+use Rattle.maestro_cli.specs.declared.status.Status.TheVariants.{Done, Usage, Refused, FileFault, NotCapture, Torn, ShareFull, TooMany, NoKeys, Memory}
 use Rattle.nf_files.specs.Causes.{Faulted}
 use Rattle.stream_run.specs.declared.stop.Stop.{Stop as NumberStop}
 use Rattle.stream_run.specs.declared.stop.Stop.TheVariants as numbered
@@ -77,7 +77,9 @@ said_is (Refused kind line column) some = refl
 said_is (FileFault file) some = refl
 said_is (NotCapture port) some = refl
 said_is (Torn port offset) some = refl
+said_is (ShareFull full) some = refl
 said_is (TooMany most) some = refl
+said_is (NoKeys why) some = refl
 said_is Memory some = refl
 
 -- standard output failed, or memory ran out there

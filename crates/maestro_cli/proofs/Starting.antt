@@ -1,9 +1,9 @@
 -- From the captures' headers to the run of their packets.
-use Rattle.std.proofs.Common.{◌≡◌, ◌≢◌, ◌⊎◌, inl, inr, ℕ, zero, suc, ◌+◌, ◌-◌, ◌<◌, ◌≤◌, Bool, List, [], ◌∷◌, ◌++◌, length, map, Option, Some, None, slice_get, Result, Ok, Err, option_map, nat_le, if◌then◌else◌, refl, ap, sym, subst, ◌∙◌, arith}
+use Rattle.std.proofs.Common.{◌≡◌, ◌≢◌, ◌⊎◌, inl, inr, ℕ, zero, suc, ◌+◌, ◌-◌, ◌<◌, ◌≤◌, Bool, List, [], ◌∷◌, ◌++◌, length, map, Option, Some, None, slice_get, get_or, Result, Ok, Err, option_map, nat_le, if◌then◌else◌, refl, ap, sym, subst, ◌∙◌, arith}
 use Rattle.std.specs.List.{All}
 use Rattle.std.proofs.lemmas.Bool.{le-leb}
 use Rattle.std.proofs.lemmas.List.{length-map}
-use Rattle.std.proofs.lemmas.Option.{slice_get_within}
+use Rattle.std.proofs.lemmas.Option.{slice_get_within, slice_get-get_or}
 use Rattle.nf_base.specs.Functions.{function_of}
 use Rattle.nf_base.specs.Text.{Function}
 use Rattle.nf_base.specs.declared.state.State.{State}
@@ -41,8 +41,8 @@ use Rattle.maestro_cli.specs.Ending.{IsFar, IsStopped}
 use Rattle.maestro_cli.specs.Progress.{IsJob, HasFed, HasReady, HasRun, asked, ports_of, end_of, torn_end}
 use Rattle.maestro_cli.proofs.Asking.{asking_both}
 use Rattle.maestro_cli.proofs.Leaving.{all_at, front_whole, left_run, left_begun}
-use Rattle.maestro_cli.proofs.Numbering.{far_capture, far_created}
-use Rattle.maestro_cli.proofs.Stopping.{stopped_behind, stopped_asking, created_front, targets_front}
+use Rattle.maestro_cli.proofs.Numbering.{far_capture, far_created, own_capture, own_created}
+use Rattle.maestro_cli.proofs.Stopping.{IsNumbered, stopped_behind, stopped_asking, created_front, targets_front}
 use Rattle.maestro_cli.proofs.Finishing.{apart}
 
 -- ---- captures by number and by name
@@ -107,25 +107,28 @@ stands_created before old now job captures feed h rests = record {
 same_count : (before old : Outside) (job : Job) (captures : List ℕ) (feed : Feeding) → HasFed before old job captures feed → length captures ≡ length (asked job).captures
 same_count before old job captures feed h = h.all
 
-under : (before old : Outside) (job : Job) (captures : List ℕ) (feed : Feeding) → (h : HasFed before old job captures feed) → packets_of (files_in feed.sources) h.start ≡ packets_under (asked job).captures before.told
+pub under : (before old : Outside) (job : Job) (captures : List ℕ) (feed : Feeding) → (h : HasFed before old job captures feed) → packets_of (files_in feed.sources) h.start ≡ packets_under (asked job).captures before.told
 under before old job captures feed h =
     ap (λ (fs : List ℕ). packets_of fs h.start) h.files ∙ same_packets h.start before.told 0 captures (asked job).captures h.all h.rests
 
 -- each capture is one
-all_captures : (before old : Outside) (job : Job) (captures : List ℕ) (feed : Feeding) → HasFed before old job captures feed → Below IsCapture before.told (asked job).captures (length (asked job).captures)
+pub all_captures : (before old : Outside) (job : Job) (captures : List ℕ) (feed : Feeding) → HasFed before old job captures feed → Below IsCapture before.told (asked job).captures (length (asked job).captures)
 all_captures before old job captures feed h =
     below_names IsCapture h.start before.told captures (asked job).captures (length (asked job).captures) h.all h.rests (λ p f lt e.
     let s = stream_at feed.sources p f (ap (λ (fs : List ℕ). slice_get fs p) h.files ∙ e) in
     subst (λ (g : ℕ). IsCapture (h.start.rest g)) s.2 (tear_capture (h.start.rest s.0.reading.file) _ (h.stands.sources.each p s.0 s.1).torn))
 
--- a run of the feed's packets is one that was asked for
-run_of : (before old : Outside) (job : Job) (captures : List ℕ) (feed : Feeding) (r : Run) → IsJob before.told job → (h : HasFed before old job captures feed) → IsOneRun (function_of job.func.now) feed.most (packets_of (files_in feed.sources) h.start) r → IsRunOf (asked job) before.told r
-run_of before old job captures feed r is h one = record {
+-- a run of the feed's packets by one worker is one that was asked for
+run_of : (before old : Outside) (job : Job) (captures : List ℕ) (feed : Feeding) (r : Run) → IsJob before.told job → (asked job).workers ≡ 1 → (h : HasFed before old job captures feed) → IsOneRun (function_of job.func.now) feed.most (packets_of (files_in feed.sources) h.start) r → IsRunOf (asked job) before.told r
+run_of before old job captures feed r is alone h one = record {
   has_ports = subst (HasPorts (asked job) before.told) (sym one.function) is.has_ports;
   captures = all_captures before old job captures feed h;
-  is_run = subst (λ (f : Function). IsOneRun f (asked job).most (packets_under (asked job).captures before.told) r) (sym one.function)
-      (subst (λ (m : ℕ). IsOneRun (function_of job.func.now) m (packets_under (asked job).captures before.told) r) h.most
-      (subst (λ (all : Option (List Arrival)). IsOneRun (function_of job.func.now) feed.most all r) (under before old job captures feed h) one));
+  handled = inl (record {
+    alone = alone;
+    is_run = subst (λ (f : Function). IsOneRun f (asked job).most (packets_under (asked job).captures before.told) r) (sym one.function)
+        (subst (λ (m : ℕ). IsOneRun (function_of job.func.now) m (packets_under (asked job).captures before.told) r) h.most
+        (subst (λ (all : Option (List Arrival)). IsOneRun (function_of job.func.now) feed.most all r) (under before old job captures feed h) one));
+  });
 }
 
 -- ---- how it ended
@@ -188,7 +191,7 @@ tears_told before old job captures feed next packets (Some t) run h files torn a
       },
     )
 
-ends_as : (before old : Outside) (job : Job) (captures : List ℕ) (feed next : Feeding) (e : Ending) (run : Run) → (h : HasFed before old job captures feed) → files_in next.sources ≡ files_in feed.sources → next.most ≡ feed.most → EndsSo e next h.start (map arrival_in run.turns) → IsEndOf (asked job) before.told run (end_of (asked job).most e (first_tear 0 (tears_in next.sources)))
+pub ends_as : (before old : Outside) (job : Job) (captures : List ℕ) (feed next : Feeding) (e : Ending) (run : Run) → (h : HasFed before old job captures feed) → files_in next.sources ≡ files_in feed.sources → next.most ≡ feed.most → EndsSo e next h.start (map arrival_in run.turns) → IsEndOf (asked job) before.told run (end_of (asked job).most e (first_tear 0 (tears_in next.sources)))
 ends_as before old job captures feed next ending.All run h files most ends =
     tears_told before old job captures feed next [] (first_tear 0 (tears_in next.sources)) run h (files ∙ h.files) ends.1 (tear_first 0 next.sources)
     (subst (λ (all : Option (List Arrival)). AreAll all (map arrival_in run.turns)) (ap (λ (fs : List ℕ). packets_of fs h.start) files ∙ under before old job captures feed h) ends.0)
@@ -210,7 +213,7 @@ target_at targets n next base k all at numbers lt =
     let f = got_at targets k (omega (arith, lt, all)) in f.1 ∙ ap Some (numbers k f.0 f.1 ∙ ap (λ (m : ℕ). m + k) at)
 
 -- all files but the state's, to which was given what a run leaves there, or fronts
-left_ready : (before a b : Outside) (job : Job) (captures targets : List ℕ) (feed : Feeding) (r : Run) (full : ℕ) → IsJob before.told job → (h : HasReady before a job captures targets feed) → IsRunOf (asked job) before.told r → KeepsBut targets a.told b.told
+pub left_ready : (before a b : Outside) (job : Job) (captures targets : List ℕ) (feed : Feeding) (r : Run) (full : ℕ) → IsJob before.told job → (h : HasReady before a job captures targets feed) → IsRunOf (asked job) before.told r → KeepsBut targets a.told b.told
     → ((k file : ℕ) → slice_get targets k ≡ Some file → IsFrontIfTold (file_bytes r k) (b.told.given file))
     → full ≤ ports_of job + 1 → ((k file : ℕ) → k < full → slice_get targets k ≡ Some file → IsToldAs (file_bytes r k) (b.told.given file))
     → Left before.told b.told (before.told.next + 1 + ports_of job) (name_at (asked job).out (ports_of job)) (bytes_at r) (ports_of job + 1) full
@@ -227,26 +230,32 @@ left_ready before a b job captures targets feed r full is h run kept fronts with
     (λ k lt. subst (λ (t : List ℕ). IsToldAs t (b.told.given (base + k))) (sym (leaves r n k as_many (omega (arith, lt, within)))) (wholes k (base + k) lt (got k (omega (arith, lt, within)))))
     within got
 
-ready_stands : (before a : Outside) (job : Job) (captures targets : List ℕ) (feed : Feeding) → (h : HasReady before a job captures targets feed) → StandsFor h.fed.start [] feed a.told
+pub ready_stands : (before a : Outside) (job : Job) (captures targets : List ℕ) (feed : Feeding) → (h : HasReady before a job captures targets feed) → StandsFor h.fed.start [] feed a.told
 ready_stands before a job captures targets feed h = stands_created before h.old a.told job captures feed h.fed h.created.created.rests
 
-ready_asked : (before a : Outside) (job : Job) (captures targets : List ℕ) (feed : Feeding) → HasReady before a job captures targets feed → a.counted ≡ asking (inputs_of (asked job) ++ created_by (asked job).out (ports_of job) (ports_of job + 1)) before.counted
+pub ready_asked : (before a : Outside) (job : Job) (captures targets : List ℕ) (feed : Feeding) → HasReady before a job captures targets feed → a.counted ≡ asking (inputs_of (asked job) ++ created_by (asked job).out (ports_of job) (ports_of job + 1)) before.counted
 ready_asked before a job captures targets feed h =
     h.asked_for ∙ ap (asking (created_by (asked job).out (ports_of job) (ports_of job + 1))) h.fed.only.asked ∙ asking_both (inputs_of (asked job)) (created_by (asked job).out (ports_of job) (ports_of job + 1)) before.counted
 
 -- a standard output is none of the targets
-standard_kept : (before a b : Outside) (job : Job) (captures targets : List ℕ) (feed : Feeding) (g : ℕ) → IsJob before.told job → (h : HasReady before a job captures targets feed) → KeepsBut targets a.told b.told → g < 2 → b.told.given g ≡ before.told.given g
+pub standard_kept : (before a b : Outside) (job : Job) (captures targets : List ℕ) (feed : Feeding) (g : ℕ) → IsJob before.told job → (h : HasReady before a job captures targets feed) → KeepsBut targets a.told b.told → g < 2 → b.told.given g ≡ before.told.given g
 standard_kept before a b job captures targets feed g is h kept lt =
     kept.givens g (all_at (λ (f : ℕ). f ≢ g) targets (λ k f e z. omega (arith, z, lt, h.created.numbers k f e, h.fed.next, is.from_two, is.first)))
     ∙ h.created.created.givens g (omega (arith, lt, h.fed.next, is.from_two, is.first)) ∙ h.fed.only.untouched.standard g lt
 
+-- the last target has the number before the next one
+pub behind_last : (targets : List ℕ) (ready now next n ports : ℕ) → now ≡ ready → ready ≡ next + (n + 1) → length targets ≡ n + 1 → ((i f : ℕ) → slice_get targets i ≡ Some f → f ≡ next + i) → ports ≡ n → now ≡ get_or targets ports 0 + 1
+behind_last targets ready now next n ports same made all numbers is =
+    let at : get_or targets ports 0 ≡ next + ports = numbers ports (get_or targets ports 0) (slice_get-get_or targets ports 0 (omega (arith, all, is))) in
+    omega (arith, same, made, at, is)
+
 -- all packets were handled
-pub run_finished : (before a b : Outside) (job : Job) (captures targets : List ℕ) (feed next : Feeding) (ran : Ran) → IsJob before.told job → HasReady before a job captures targets feed → lawful.IsFinished (function_of job.func.now) feed a.told next b.told targets ran → KeepsBut targets a.told b.told → b.counted ≡ a.counted
+pub run_finished : (before a b : Outside) (job : Job) (captures targets : List ℕ) (feed next : Feeding) (ran : Ran) → IsJob before.told job → (asked job).workers ≡ 1 → HasReady before a job captures targets feed → lawful.IsFinished (function_of job.func.now) feed a.told next b.told targets ran → KeepsBut targets a.told b.told → b.counted ≡ a.counted
     → HasRun before b job ran.packets ran.state (end_of (asked job).most ran.ending (first_tear 0 (tears_in next.sources))) (ports_of job + 1) (ports_of job + 1)
-run_finished before a b job captures targets feed next ran is h fin kept counted =
+run_finished before a b job captures targets feed next ran is alone h fin kept counted =
     let stands = ready_stands before a job captures targets feed h in
     let one = fin.lawful h.fed.start stands in
-    let run = run_of before h.old job captures feed fin.run is h.fed one in
+    let run = run_of before h.old job captures feed fin.run is alone h.fed one in
     record {
       run = fin.run;
       is_run = run;
@@ -262,21 +271,29 @@ run_finished before a b job captures targets feed next ran is h fin kept counted
       asked_for = counted ∙ ready_asked before a job captures targets feed h;
     }
 
-far_running : (before a : Outside) (job : Job) (captures targets : List ℕ) (feed : Feeding) (stop : NumberStop) → IsJob before.told job → HasReady before a job captures targets feed → StopsAmong {T = Unit {0}} captures targets (Err stop) → IsFar (ports_of job) (stop_named before.told.next (ports_of job) stop) (ports_of job + 1) 0
-far_running before a job captures targets feed numbered.Memory is h among = tt
-far_running before a job captures targets feed (numbered.File file) is h (inl one) =
-    far_capture before.told.next (ports_of job) file one.0 0 (omega (arith, is.from_two, is.first)) (h.fed.numbers one.0 file one.1) (omega (arith, slice_get_within captures one.0 file one.1, h.fed.all))
-far_running before a job captures targets feed (numbered.File file) is h (inr one) =
-    far_created before.told.next (ports_of job) file one.0 (ports_of job + 1) 0 (omega (arith, is.from_two, is.first)) (omega (arith, h.created.numbers one.0 file one.1, h.fed.next, h.fed.all))
+pub far_running : (ended : Type 0) (before a : Outside) (job : Job) (captures targets : List ℕ) (feed : Feeding) (stop : NumberStop) → IsJob before.told job → HasReady before a job captures targets feed → StopsAmong {T = Unit {0}} captures targets (Err stop) → IsFar ended (ports_of job) (stop_named before.told.next (ports_of job) stop) (ports_of job + 1) 0
+far_running ended before a job captures targets feed numbered.Memory is h among = tt
+far_running ended before a job captures targets feed (numbered.File file) is h (inl one) =
+    far_capture ended before.told.next (ports_of job) file one.0 0 (omega (arith, is.from_two, is.first)) (h.fed.numbers one.0 file one.1) (omega (arith, slice_get_within captures one.0 file one.1, h.fed.all))
+far_running ended before a job captures targets feed (numbered.File file) is h (inr one) =
+    far_created ended before.told.next (ports_of job) file one.0 (ports_of job + 1) 0 (omega (arith, is.from_two, is.first)) (omega (arith, h.created.numbers one.0 file one.1, h.fed.next, h.fed.all))
     (omega (arith, slice_get_within targets one.0 file one.1, h.created.all)) (omega (arith, slice_get_within targets one.0 file one.1, h.created.all)) (omega arith)
 
+pub own_running : (before a : Outside) (job : Job) (captures targets : List ℕ) (feed : Feeding) (stop : NumberStop) → IsJob before.told job → HasReady before a job captures targets feed → StopsAmong {T = Unit {0}} captures targets (Err stop) → IsNumbered before.told.next (ports_of job) stop
+own_running before a job captures targets feed numbered.Memory is h among = tt
+own_running before a job captures targets feed (numbered.File file) is h (inl one) =
+    own_capture before.told.next (ports_of job) file one.0 (omega (arith, is.from_two, is.first)) (h.fed.numbers one.0 file one.1) (omega (arith, slice_get_within captures one.0 file one.1, h.fed.all))
+own_running before a job captures targets feed (numbered.File file) is h (inr one) =
+    own_created before.told.next (ports_of job) file one.0 (omega (arith, is.from_two, is.first)) (omega (arith, h.created.numbers one.0 file one.1, h.fed.next, h.fed.all))
+    (omega (arith, slice_get_within targets one.0 file one.1, h.created.all))
+
 -- the run was stopped
-pub run_halted : (before a b : Outside) (job : Job) (captures targets : List ℕ) (feed : Feeding) (stop : NumberStop) → IsJob before.told job → HasReady before a job captures targets feed → lawful.IsCutShort (function_of job.func.now) feed a.told b.told targets → KeepsBut targets a.told b.told
+pub run_halted : (before a b : Outside) (job : Job) (captures targets : List ℕ) (feed : Feeding) (stop : NumberStop) → IsJob before.told job → (asked job).workers ≡ 1 → HasReady before a job captures targets feed → lawful.IsCutShort (function_of job.func.now) feed a.told b.told targets → KeepsBut targets a.told b.told
     → IsStopCause {T = Unit {0}} a.counted b.counted (Err stop) → StopsAmong {T = Unit {0}} captures targets (Err stop) → IsStopped (asked job) before b (stop_named before.told.next (ports_of job) stop)
-run_halted before a b job captures targets feed stop is h cut kept cause among =
+run_halted before a b job captures targets feed stop is alone h cut kept cause among =
     let n = ports_of job in
     let some = cut.lawful h.fed.start (ready_stands before a job captures targets feed h) in
-    let run = run_of before h.old job captures feed some.run is h.fed some.is_run in
+    let run = run_of before h.old job captures feed some.run is alone h.fed some.is_run in
     inr (record {
       run = some.run;
       is_run = run;
@@ -284,40 +301,51 @@ run_halted before a b job captures targets feed stop is h cut kept cause among =
       full = 0;
       within = omega arith;
       files = left_ready before a b job captures targets feed some.run 0 is h run kept some.fronts (omega arith) (λ k file lt e. absurd (omega (arith, lt)));
-      far = far_running before a job captures targets feed stop is h among;
+      far = far_running _ before a job captures targets feed stop is h among;
       last = λ lt. absurd (omega (arith, lt));
       stdout = inl (standard_kept before a b job captures targets feed 0 is h kept (omega arith));
       stderr = standard_kept before a b job captures targets feed 1 is h kept (omega arith);
-      stops = stopped_behind (asked_by (asked job)) (inputs_of (asked job) ++ created_by (asked job).out n (n + 1)) before.told.next n before.counted a.counted b.counted stop (created_front (asked job) (n + 1) (omega arith)) (ready_asked before a job captures targets feed h) cause;
+      stops = stopped_behind (asked_by (asked job)) (inputs_of (asked job) ++ created_by (asked job).out n (n + 1)) before.told.next n before.counted a.counted b.counted stop (own_running before a job captures targets feed stop is h among) (created_front (asked job) (n + 1) (omega arith)) (ready_asked before a job captures targets feed h) cause;
     })
 
-far_some : (first ports base : ℕ) (stop : NumberStop) (a b : Told) (name : ℕ → List ℕ) → 2 ≤ first → a.next ≡ first + 1 + ports → (s : AreSomeCreated a b name (ports + 1) stop) → IsFar ports (stop_named first ports stop) s.made 0
-far_some first ports base numbered.Memory a b name two at s = tt
-far_some first ports base (numbered.File file) a b name two at s =
+far_some : (ended : Type 0) (first ports base : ℕ) (stop : NumberStop) (a b : Told) (name : ℕ → List ℕ) → 2 ≤ first → a.next ≡ first + 1 + ports → (s : AreSomeCreated a b name (ports + 1) stop) → IsFar ended ports (stop_named first ports stop) s.made 0
+far_some ended first ports base numbered.Memory a b name two at s = tt
+far_some ended first ports base (numbered.File file) a b name two at s =
     let here = s.at file refl in
-    far_created first ports file s.made s.made 0 two (here.0 ∙ ap (λ (m : ℕ). m + s.made) at) (omega (arith, here.1)) (omega arith) (omega (arith, s.less))
+    far_created ended first ports file s.made s.made 0 two (here.0 ∙ ap (λ (m : ℕ). m + s.made) at) (omega (arith, here.1)) (omega arith) (omega (arith, s.less))
 
--- not all files could be created
-pub run_uncreated : (before a b : Outside) (job : Job) (captures : List ℕ) (feed : Feeding) (stop : NumberStop) → IsJob before.told job → HasFed before a job captures feed → AreSomeCreated a.told b.told (name_at (asked job).out (ports_of job)) (ports_of job + 1) stop
-    → AsksSome (created_by (asked job).out (ports_of job) (ports_of job + 1)) a.counted b.counted stop → IsStopped (asked job) before b (stop_named before.told.next (ports_of job) stop)
-run_uncreated before a b job captures feed stop is h s asks =
-    let n = ports_of job in
+own_some : (first ports : ℕ) (stop : NumberStop) (a b : Told) (name : ℕ → List ℕ) → 2 ≤ first → a.next ≡ first + 1 + ports → AreSomeCreated a b name (ports + 1) stop → IsNumbered first ports stop
+own_some first ports numbered.Memory a b name two at s = tt
+own_some first ports (numbered.File file) a b name two at s =
+    let here = s.at file refl in
+    own_created first ports file s.made two (here.0 ∙ ap (λ (m : ℕ). m + s.made) at) (omega (arith, here.1))
+
+-- one worker that handled nothing yet
+pub begun_one : (before a : Outside) (job : Job) (captures : List ℕ) (feed : Feeding) → IsJob before.told job → (asked job).workers ≡ 1 → HasFed before a job captures feed → (r : Run) × IsRunOf (asked job) before.told r
+begun_one before a job captures feed is alone h =
     let f = function_of job.func.now in
-    let at : a.told.next ≡ before.told.next + 1 + n = omega (arith, h.next, h.all) in
     let as_many : length (files_in feed.sources) ≡ length f.handlers = ap (λ (fs : List ℕ). length fs) h.files ∙ h.all ∙ is.has_ports.as_many in
     let cut = cut_short f feed a.told a.told [] as_many (halts_none f (length f.handlers) feed a.told [] (λ k file e. absurd (cc e))) in
     let some = cut.lawful h.start h.stands in
+    (some.run, run_of before a job captures feed some.run is alone h some.is_run)
+
+-- not all files could be created
+pub run_uncreated : (before a b : Outside) (job : Job) (captures : List ℕ) (feed : Feeding) (stop : NumberStop) (r : Run) → IsJob before.told job → HasFed before a job captures feed → IsRunOf (asked job) before.told r → AreSomeCreated a.told b.told (name_at (asked job).out (ports_of job)) (ports_of job + 1) stop
+    → AsksSome (created_by (asked job).out (ports_of job) (ports_of job + 1)) a.counted b.counted stop → IsStopped (asked job) before b (stop_named before.told.next (ports_of job) stop)
+run_uncreated before a b job captures feed stop r is h is_run s asks =
+    let n = ports_of job in
+    let at : a.told.next ≡ before.told.next + 1 + n = omega (arith, h.next, h.all) in
     let two : 2 ≤ before.told.next = omega (arith, is.from_two, is.first) in
     inr (record {
-      run = some.run;
-      is_run = run_of before a job captures feed some.run is h some.is_run;
+      run = r;
+      is_run = is_run;
       made = s.made;
       full = 0;
       within = omega (arith, s.less);
-      files = left_begun before.told a.told b.told (before.told.next + 1 + n) (name_at (asked job).out n) (bytes_at some.run) s.made h.only.untouched.contents at s.created;
-      far = far_some before.told.next n n stop a.told b.told (name_at (asked job).out n) two at s;
+      files = left_begun before.told a.told b.told (before.told.next + 1 + n) (name_at (asked job).out n) (bytes_at r) s.made h.only.untouched.contents at s.created;
+      far = far_some _ before.told.next n n stop a.told b.told (name_at (asked job).out n) two at s;
       last = λ lt. absurd (omega (arith, lt, s.less));
       stdout = inl (s.created.givens 0 (omega (arith, two, at)) ∙ h.only.untouched.standard 0 (omega arith));
       stderr = s.created.givens 1 (omega (arith, two, at)) ∙ h.only.untouched.standard 1 (omega arith);
-      stops = stopped_asking (asked_by (asked job)) (inputs_of (asked job)) (created_by (asked job).out n (n + 1)) before.told.next n before.counted a.counted b.counted stop (λ front g. targets_front (asked job) front g) h.only.asked asks;
+      stops = stopped_asking (asked_by (asked job)) (inputs_of (asked job)) (created_by (asked job).out n (n + 1)) before.told.next n before.counted a.counted b.counted stop (own_some before.told.next n stop a.told b.told (name_at (asked job).out n) two at s) (λ front g. targets_front (asked job) front g) h.only.asked asks;
     })

@@ -1,6 +1,6 @@
 -- Why a run was stopped, and what it had asked for then.
 use Rattle.std.proofs.Common.{◌≡◌, ◌⊎◌, inl, inr, ℕ, ◌+◌, ◌<◌, ◌≤◌, List, [], ◌∷◌, ◌++◌, length, map, Option, Some, slice_get, Ok, Err, refl, ap, sym, subst, ◌∙◌, append_assoc, arith}
-use Rattle.nf_files.specs.Causes.{Counted, Faulted, Asked, asking}
+use Rattle.nf_files.specs.Causes.{Counted, Asked, asking}
 use Rattle.nf_files.specs.declared.fault.FilesFault.{FilesFault}
 use Rattle.nf_files.specs.declared.fault.FilesFault.TheVariants as outside
 use Rattle.nf_files.specs.Causes.{HasCause}
@@ -12,22 +12,31 @@ use Rattle.command_words.specs.Commands.{Run as RunAsked}
 use Rattle.maestro_cli.specs.declared.status.Stop.{Stop}
 use Rattle.maestro_cli.specs.declared.status.Stop.TheVariants as stops
 use Rattle.maestro_cli.specs.Names.{reading, inputs_of, created_by, asked_by, writing, name_at}
-use Rattle.maestro_cli.specs.Numbers.{stop_named, IsCauseOf, IsFrontOf, Stops}
-use Rattle.maestro_cli.specs.Opened.{AsksNext, AsksSome}
+use Rattle.maestro_cli.specs.Numbers.{file_of, number_of, stop_named, IsCauseOf, IsFrontOf, Stops}
+use Rattle.maestro_cli.specs.Opened.{AsksNext, AsksSome, IsAskCause}
 use Rattle.maestro_cli.specs.Ending.{IsFar, IsFarAt}
-use Rattle.maestro_cli.proofs.Asking.{asking_both, front_behind, front_range, front_all, front_before}
+use Rattle.maestro_cli.proofs.Asking.{asking_both, asks_next, front_behind, front_range, front_all, front_before}
 
--- a fault at a number is one of the file of that number
-cause_named : (first ports : ℕ) (old new : Counted) (stop : NumberStop) → IsStopCause {T = Unit {0}} old new (Err stop) → IsCauseOf first ports old new (stop_named first ports stop)
-cause_named first ports old new (numbered.File number) h = record { number = number; faulted = h; file_is = refl }
-cause_named first ports old new numbered.Memory h = h
+-- a fault at a number is one of the file of that number, which is the number of that file
+abbrev pub IsNumbered : ℕ → ℕ → NumberStop → Type 0
+IsNumbered first ports (numbered.File number) = number_of first ports (file_of first ports number) ≡ number
+IsNumbered first ports numbered.Memory = Unit {0}
+
+cause_named : (first ports : ℕ) (old new : Counted) (stop : NumberStop) → IsNumbered first ports stop → IsAskCause old new stop → IsCauseOf first ports old new (stop_named first ports stop)
+cause_named first ports old new (numbered.File number) is h = record { number = number; faulted = h; file_is = refl; number_is = sym is }
+cause_named first ports old new numbered.Memory is h = h
+
+-- a cause of a call that asks for no name
+ask_cause : (old new : Counted) (stop : NumberStop) → IsStopCause {T = Unit {0}} old new (Err stop) → IsAskCause old new stop
+ask_cause old new (numbered.File number) h = inl h
+ask_cause old new numbered.Memory h = h
 
 -- these names had been asked for, and then a call was stopped
-pub stopped_behind : (names front : List Asked) (first ports : ℕ) (start old new : Counted) (stop : NumberStop) → IsFrontOf names front → old ≡ asking front start → IsStopCause {T = Unit {0}} old new (Err stop) → Stops first ports names start new (stop_named first ports stop)
-stopped_behind names front first ports start old new stop f so_far h = record {
+pub stopped_behind : (names front : List Asked) (first ports : ℕ) (start old new : Counted) (stop : NumberStop) → IsNumbered first ports stop → IsFrontOf names front → old ≡ asking front start → IsStopCause {T = Unit {0}} old new (Err stop) → Stops first ports names start new (stop_named first ports stop)
+stopped_behind names front first ports start old new stop is f so_far h = record {
   front = front;
   is_front = f;
-  cause = cause_named first ports (asking front start) new stop (subst (λ (c : Counted). IsStopCause {T = Unit {0}} c new (Err stop)) so_far h);
+  cause = cause_named first ports (asking front start) new stop is (ask_cause (asking front start) new stop (subst (λ (c : Counted). IsStopCause {T = Unit {0}} c new (Err stop)) so_far h));
 }
 
 -- the same, where memory ran out
@@ -35,27 +44,19 @@ pub memory_behind : (names front : List Asked) (first ports : ℕ) (start now : 
 memory_behind names front first ports start now f so_far = record { front = front; is_front = f; cause = so_far }
 
 -- these names had been asked for, and then some more, until a call was stopped
-pub stopped_asking : (names behind more : List Asked) (first ports : ℕ) (start old new : Counted) (stop : NumberStop) → ((front : List Asked) → IsFrontOf more front → IsFrontOf names (behind ++ front)) → old ≡ asking behind start → AsksSome more old new stop → Stops first ports names start new (stop_named first ports stop)
-stopped_asking names behind more first ports start old new stop fronts so_far s = record {
+pub stopped_asking : (names behind more : List Asked) (first ports : ℕ) (start old new : Counted) (stop : NumberStop) → IsNumbered first ports stop → ((front : List Asked) → IsFrontOf more front → IsFrontOf names (behind ++ front)) → old ≡ asking behind start → AsksSome more old new stop → Stops first ports names start new (stop_named first ports stop)
+stopped_asking names behind more first ports start old new stop is fronts so_far s = record {
   front = behind ++ s.front;
   is_front = fronts s.front s.is_front;
-  cause = cause_named first ports (asking (behind ++ s.front) start) new stop
-      (subst (λ (c : Counted). IsStopCause {T = Unit {0}} c new (Err stop)) (ap (asking s.front) so_far ∙ asking_both behind s.front start) s.cause);
+  cause = cause_named first ports (asking (behind ++ s.front) start) new stop is
+      (subst (λ (c : Counted). IsAskCause c new stop) (ap (asking s.front) so_far ∙ asking_both behind s.front start) s.cause);
 }
 
 -- one name more was asked for, and that was stopped
-pub stopped_next : (names behind : List Asked) (one : Asked) (number first ports : ℕ) (start old new : Counted) (stop : NumberStop) → IsFrontOf names behind → IsFrontOf names (behind ++ one ∷ []) → old ≡ asking behind start → AsksNext {T = ℕ} one number old new (Err stop) → Stops first ports names start new (stop_named first ports stop)
-stopped_next names behind one number first ports start old new numbered.Memory f g so_far (inl same) = record { front = behind; is_front = f; cause = same ∙ so_far }
-stopped_next names behind one number first ports start old new numbered.Memory f g so_far (inr more) = record { front = behind ++ one ∷ []; is_front = g; cause = more ∙ ap (asking (one ∷ [])) so_far ∙ asking_both behind (one ∷ []) start }
-stopped_next names behind one number first ports start old new (numbered.File file) f g so_far h = record {
-  front = behind ++ one ∷ [];
-  is_front = g;
-  cause = record {
-    number = file;
-    faulted = subst (λ (c : Counted). Faulted c new file) (ap (asking (one ∷ [])) so_far ∙ asking_both behind (one ∷ []) start) h.1;
-    file_is = refl;
-  };
-}
+pub stopped_next : (names behind : List Asked) (one : Asked) (number first ports : ℕ) (start old new : Counted) (stop : NumberStop) → IsNumbered first ports stop → IsFrontOf names behind → IsFrontOf names (behind ++ one ∷ []) → old ≡ asking behind start → AsksNext {T = ℕ} one number old new (Err stop) → Stops first ports names start new (stop_named first ports stop)
+stopped_next names behind one number first ports start old new stop is f g so_far h =
+    let s = asks_next names behind one number start old new stop f g so_far h in
+    record { front = s.front; is_front = s.is_front; cause = cause_named first ports (asking s.front start) new stop is s.cause }
 
 -- a fault of a call on the file of a number
 pub fault_stops : (T : Type 0) (old new : Counted) (file : ℕ) (fault : FilesFault) (stop : NumberStop) → stop ≡ stop_of file fault → HasCause {T = T} old new file (Err fault) → StopsAt {T = Unit {0}} file (Err stop) × IsStopCause {T = Unit {0}} old new (Err stop)

@@ -2,7 +2,7 @@
 use Rattle.std.specs.Prelude.{◌≡◌, ◌⊎◌, ℕ, List, [], ◌∷◌, Result, Ok, Err}
 use Rattle.nf_base.specs.Text.{Function}
 use Rattle.nf_files.specs.Told.{Told}
-use Rattle.nf_files.specs.Causes.{Counted, Faulted, asking}
+use Rattle.nf_files.specs.Causes.{Counted, Faulted, FaultedAsking, asking}
 use Rattle.command_words.specs.Commands.{Hash, Describe}
 use Rattle.stream_run.specs.declared.stop.Stop.{Stop as NumberStop}
 use Rattle.stream_run.specs.declared.stop.Stop.TheVariants as numbered
@@ -32,7 +32,7 @@ IsPrintCause old new Memory = new ≡ old
 
 -- the text's file failed, which is the first that is opened, or memory ran out
 abbrev pub IsTextCause : List ℕ → ℕ → Counted → Counted → Stop → Type 0
-IsTextCause name first old new (File file) = (file ≡ Nf) × Faulted (asking (reading name ∷ []) old) new first
+IsTextCause name first old new (File file) = (file ≡ Nf) × FaultedAsking old new (reading name ∷ []) first
 IsTextCause name first old new Memory = (new ≡ old) ⊎ (new ≡ asking (reading name ∷ []) old)
 
 -- The line of a hash was printed, and nothing else. No name was asked for.

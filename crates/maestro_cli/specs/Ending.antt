@@ -9,17 +9,17 @@ use Rattle.maestro_cli.specs.declared.status.RunFile.{RunFile}
 use Rattle.maestro_cli.specs.declared.status.RunFile.TheVariants.{Nf, Capture, Output, OutJournal, State, Stdout, Stderr}
 use Rattle.maestro_cli.specs.declared.status.End.{End}
 use Rattle.maestro_cli.specs.declared.status.Refusal.{Refusal}
-use Rattle.maestro_cli.specs.declared.status.Refusal.TheVariants.{Usage, Text, NotCapture}
+use Rattle.maestro_cli.specs.declared.status.Refusal.TheVariants.{Usage, Text, NoKeys, NotCapture}
 use Rattle.maestro_cli.specs.declared.status.Stop.{Stop}
 use Rattle.maestro_cli.specs.declared.status.Stop.TheVariants.{File, Memory}
 use Rattle.maestro_cli.specs.declared.status.Halt.{Halt}
 use Rattle.maestro_cli.specs.declared.status.Halt.TheVariants as halts
 use Rattle.maestro_cli.specs.Outside.{Outside, IsUntouched, HasOnlyAsked}
-use Rattle.maestro_cli.specs.Names.{reading, inputs_of, asked_by, name_at}
+use Rattle.maestro_cli.specs.Names.{reading, inputs_of, asked_by, asked_until, name_at}
 use Rattle.maestro_cli.specs.Numbers.{Stops}
 use Rattle.maestro_cli.specs.Created.{Left, bytes_at}
 use Rattle.maestro_cli.specs.Source.{IsNoFunctionUnder}
-use Rattle.maestro_cli.specs.Runs.{HasPorts, IsRunOf, IsEndOf, HasOtherPorts, HasNoCapture}
+use Rattle.maestro_cli.specs.Runs.{HasPorts, IsRunOf, IsEndOf, left_by, HasOtherPorts, HasNoKeys, HasNoCapture}
 use Rattle.maestro_cli.specs.Printed.{Printed, PrintedFront}
 use Rattle.maestro_cli.specs.Texts.{ran_line}
 
@@ -30,22 +30,24 @@ HasLeft c before now run made full =
     Left before.told now.told (before.told.next + 1 + ports) (name_at c.out ports) (bytes_at run) made full
 
 -- A finished run: its journal lists every packet of every capture once, in capture order, or the first
--- so many; the outputs and the text of the last state are those of one undivided run over that journal.
--- Each name was asked for once, and no file failed.
+-- so many, or those before the share stop; the outputs and the text of the last state are those of one
+-- undivided run over that journal. Each name was asked for once, and no file failed.
 pub record IsFinished (c : RunAsked) (before now : Outside) (end : End) : Type 0 where
   pub run : Run
   pub is_run : IsRunOf c before.told run
   pub ending : IsEndOf c before.told run end
-  pub files : HasLeft c before now run (length c.captures + 2) (length c.captures + 2)
-  pub stdout : Printed before.told now.told 0 (ran_line (length run.turns))
+  pub files : let count = left_by (length c.captures) end in HasLeft c before now run count count
+  pub stdout : Printed before.told now.told 0 (ran_line (length run.turns) run.mode run.workers)
   pub stderr : now.told.given 1 ≡ before.told.given 1
-  pub asked : now.counted ≡ asking (asked_by c) before.counted
+  pub asked : let count = left_by (length c.captures) end in
+      now.counted ≡ asking (asked_until c count) before.counted
 
 -- Nothing was begun: why, and which names were asked for.
 abbrev pub IsRefused : RunAsked → Outside → Outside → Refusal → Type 0
 IsRefused c before now Usage = HasOtherPorts c before.told × HasOnlyAsked (reading c.function ∷ []) before now
 IsRefused c before now (Text fault) =
     IsNoFunctionUnder before.told c.function fault × HasOnlyAsked (reading c.function ∷ []) before now
+IsRefused c before now (NoKeys why) = HasNoKeys c before.told why × HasOnlyAsked (reading c.function ∷ []) before now
 IsRefused c before now (NotCapture port) = HasNoCapture c before.told port × HasOnlyAsked (inputs_of c) before now
 
 -- what is known where a file failed before anything was created
@@ -68,20 +70,28 @@ pub record IsUnbegun (c : RunAsked) (before now : Outside) (stop : Stop) : Type 
   pub untouched : IsUntouched before.told now.told
   pub stops : Stops before.told.next (length c.captures) (inputs_of c) before.counted now.counted stop
 
--- How far a run of so many ports came that a file stopped: how many files were created, and how many of
--- these are whole. Captures are read once all but the state are created.
-abbrev pub IsFarAt : ℕ → RunFile → (made full : ℕ) → Type 0
-IsFarAt ports Nf made full = ⊥
-IsFarAt ports (Capture port) made full = made ≡ ports + 1
-IsFarAt ports (Output port) made full = (port ≤ made) × (made ≤ ports + 1)
-IsFarAt ports OutJournal made full = (ports ≤ made) × (made ≤ ports + 1)
-IsFarAt ports State made full = ports + 1 ≤ full
-IsFarAt ports Stdout made full = full ≡ ports + 2
-IsFarAt ports Stderr made full = ⊥
+-- The run has ended so, and all files that it leaves are whole: the line on it is printed.
+pub record IsPrinting (c : RunAsked) (before : Outside) (run : Run) (made full : ℕ) : Type 0 where
+  pub end : End
+  pub ending : IsEndOf c before.told run end
+  pub all : made ≡ left_by (length c.captures) end
+  pub whole : full ≡ made
 
-abbrev pub IsFar : ℕ → Stop → (made full : ℕ) → Type 0
-IsFar ports (File file) made full = IsFarAt ports file made full
-IsFar ports Memory made full = Unit {0}
+-- How far a run of so many ports came that a file stopped: how many files were created, and how many of
+-- these are whole. Captures are read once all but the state are created, and standard output is written
+-- once the run has ended.
+abbrev pub IsFarAt : Type 0 → ℕ → RunFile → (made full : ℕ) → Type 0
+IsFarAt ended ports Nf made full = ⊥
+IsFarAt ended ports (Capture port) made full = made ≡ ports + 1
+IsFarAt ended ports (Output port) made full = (port ≤ made) × (made ≤ ports + 1)
+IsFarAt ended ports OutJournal made full = (ports ≤ made) × (made ≤ ports + 1)
+IsFarAt ended ports State made full = ports + 1 ≤ full
+IsFarAt ended ports Stdout made full = ended
+IsFarAt ended ports Stderr made full = ⊥
+
+abbrev pub IsFar : Type 0 → ℕ → Stop → (made full : ℕ) → Type 0
+IsFar ended ports (File file) made full = IsFarAt ended ports file made full
+IsFar ended ports Memory made full = Unit {0}
 
 -- A run was stopped after it began to create files: each holds a front of what one run leaves there. The
 -- state is created behind whole others, and nothing is printed before all are whole.
@@ -92,10 +102,11 @@ pub record IsCutShort (c : RunAsked) (before now : Outside) (stop : Stop) : Type
   pub full : ℕ
   pub within : made ≤ length c.captures + 2
   pub files : HasLeft c before now run made full
-  pub far : IsFar (length c.captures) stop made full
+  pub far : IsFar (IsPrinting c before run made full) (length c.captures) stop made full
   pub last : length c.captures + 1 < made → length c.captures + 1 ≤ full
   pub stdout : (now.told.given 0 ≡ before.told.given 0)
-      ⊎ ((full ≡ length c.captures + 2) × PrintedFront before.told now.told 0 (ran_line (length run.turns)))
+      ⊎ (IsPrinting c before run made full
+      × PrintedFront before.told now.told 0 (ran_line (length run.turns) run.mode run.workers))
   pub stderr : now.told.given 1 ≡ before.told.given 1
   pub stops : Stops before.told.next (length c.captures) (asked_by c) before.counted now.counted stop
 

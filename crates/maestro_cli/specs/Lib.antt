@@ -7,6 +7,8 @@ pub mod Names
 pub mod Numbers
 pub mod Opened
 pub mod Created
+pub mod Named
+pub mod Modes
 pub mod Runs
 pub mod Texts
 pub mod Printed
@@ -17,3 +19,4 @@ pub mod Loading
 pub mod Ending
 pub mod Progress
 pub mod Answer
+pub mod Causes

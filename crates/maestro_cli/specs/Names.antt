@@ -40,6 +40,10 @@ inputs_of c = reading c.function ∷ map reading c.captures
 abbrev pub created_by : List ℕ → ℕ → ℕ → List Asked
 created_by out ports count = map (λ k. writing (name_at out ports k)) (range_with_len 0 count)
 
+-- the names that a run asks for which creates so many files
+abbrev pub asked_until : RunAsked → ℕ → List Asked
+asked_until c count = inputs_of c ++ created_by c.out (length c.captures) count
+
 -- all names that a run asks for
 abbrev pub asked_by : RunAsked → List Asked
-asked_by c = inputs_of c ++ created_by c.out (length c.captures) (length c.captures + 2)
+asked_by c = asked_until c (length c.captures + 2)

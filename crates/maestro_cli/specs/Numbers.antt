@@ -1,6 +1,6 @@
 -- Which file of a command a number is, and why a call could not go on.
-use Rattle.std.specs.Prelude.{◌≡◌, ℕ, ◌+◌, ◌-◌, List, ◌++◌, nat_lt, nat_le, nat_eq, if◌then◌else◌}
-use Rattle.nf_files.specs.Causes.{Counted, Faulted, Asked, asking}
+use Rattle.std.specs.Prelude.{◌≡◌, ◌⊎◌, ℕ, ◌+◌, ◌-◌, List, ◌++◌, nat_lt, nat_le, nat_eq, if◌then◌else◌}
+use Rattle.nf_files.specs.Causes.{Counted, Faulted, Asked, asking, losing}
 use Rattle.stream_run.specs.declared.stop.Stop.{Stop as NumberStop}
 use Rattle.stream_run.specs.declared.stop.Stop.TheVariants as numbered
 use Rattle.maestro_cli.specs.declared.status.RunFile.{RunFile}
@@ -26,16 +26,31 @@ file_of first ports number =
     else if nat_eq number 1 then Stderr
     else opened_file ports (number - first)
 
+-- the number of a file, where this is the number of the first to be opened
+abbrev pub number_of : ℕ → ℕ → RunFile → ℕ
+number_of first ports Nf = first
+number_of first ports (Capture port) = first + 1 + port
+number_of first ports (Output port) = first + 1 + ports + port
+number_of first ports OutJournal = first + 1 + ports + ports
+number_of first ports State = first + 1 + ports + (ports + 1)
+number_of first ports Stdout = 0
+number_of first ports Stderr = 1
+
 -- what a stop by the file of a number is
 abbrev pub stop_named : ℕ → ℕ → NumberStop → Stop
 stop_named first ports (numbered.File number) = stops.File (file_of first ports number)
 stop_named first ports numbered.Memory = stops.Memory
 
+-- one more fault was counted, on the file of a number; the name of the call may be missing
+abbrev pub Faults : Counted → Counted → ℕ → Type 0
+Faults old new number = Faulted old new number ⊎ Faulted (losing old) new number
+
 -- a file failed, or memory ran out: the count rose, at this file, or it is as before
 pub record FailedAt (first ports : ℕ) (old new : Counted) (file : RunFile) : Type 0 where
   pub number : ℕ
-  pub faulted : Faulted old new number
+  pub faulted : Faults old new number
   pub file_is : file ≡ file_of first ports number
+  pub number_is : number ≡ number_of first ports file
 
 abbrev pub IsCauseOf : ℕ → ℕ → Counted → Counted → Stop → Type 0
 IsCauseOf first ports old new (stops.File file) = FailedAt first ports old new file

@@ -1,25 +1,29 @@
 -- Names that are opened and created one after another.
 use Rattle.std.specs.Prelude.{◌≡◌, ◌≢◌, ◌⊎◌, ℕ, ◌+◌, ◌<◌, ◌≤◌, List, [], ◌∷◌, length, Some, slice_get, Result, Ok, Err}
 use Rattle.nf_files.specs.Told.{Told, IsToldAs, IsEmptyIfTold}
-use Rattle.nf_files.specs.Causes.{Counted, Faulted, Asked, asking}
+use Rattle.nf_files.specs.Causes.{Counted, FaultedAsking, Asked, asking}
 use Rattle.stream_run.specs.declared.stop.Stop.{Stop}
 use Rattle.stream_run.specs.declared.stop.Stop.TheVariants.{File, Memory}
-use Rattle.stream_run.specs.Writing.{IsStopCause}
 use Rattle.maestro_cli.specs.Outside.{IsUntouched}
-use Rattle.maestro_cli.specs.Numbers.{IsFrontOf}
+use Rattle.maestro_cli.specs.Numbers.{Faults, IsFrontOf}
 use Rattle.maestro_cli.specs.Created.{IsStanding}
 
 -- The count of a call that asks for a name under this number.
 abbrev pub AsksNext : {T : Type 0} → Asked → ℕ → Counted → Counted → Result T Stop → Type 0
 AsksNext name number old new (Ok x) = new ≡ asking (name ∷ []) old
 AsksNext name number old new (Err Memory) = (new ≡ old) ⊎ (new ≡ asking (name ∷ []) old)
-AsksNext name number old new (Err (File file)) = (file ≡ number) × Faulted (asking (name ∷ []) old) new file
+AsksNext name number old new (Err (File file)) = (file ≡ number) × FaultedAsking old new (name ∷ []) file
+
+-- The count of calls that were stopped: it changes where a file failed, and there alone.
+abbrev pub IsAskCause : Counted → Counted → Stop → Type 0
+IsAskCause old new Memory = new ≡ old
+IsAskCause old new (File file) = Faults old new file
 
 -- The first of some names were asked for, and then a call was stopped.
 pub record AsksSome (names : List Asked) (old new : Counted) (stop : Stop) : Type 0 where
   pub front : List Asked
   pub is_front : IsFrontOf names front
-  pub cause : IsStopCause {T = Unit {0}} (asking front old) new (Err stop)
+  pub cause : IsAskCause (asking front old) new stop
 
 -- all of some names were asked for, or some
 abbrev pub AsksAll : {T : Type 0} → List Asked → Counted → Counted → Result T Stop → Type 0

@@ -9,7 +9,7 @@ use Rattle.stream_run.specs.declared.stop.Stop.{Stop as NumberStop}
 use Rattle.stream_run.specs.declared.stop.Stop.TheVariants as numbered
 use Rattle.maestro_cli.specs.declared.status.RunFile.TheVariants.{Stderr}
 use Rattle.maestro_cli.specs.declared.status.Status.{Status}
-use Rattle.maestro_cli.specs.declared.status.Status.TheVariants.{Done, Usage, Refused, FileFault, NotCapture, Torn, TooMany, Memory}
+use Rattle.maestro_cli.specs.declared.status.Status.TheVariants.{Done, Usage, Refused, FileFault, NotCapture, Torn, ShareFull, TooMany, NoKeys, Memory}
 use Rattle.maestro_cli.specs.Outside.{Outside}
 use Rattle.maestro_cli.specs.Texts.{error_line, said_of}
 
@@ -41,7 +41,9 @@ after_stop Usage stop = stopped_at stop
 after_stop (Refused kind line column) stop = stopped_at stop
 after_stop (NotCapture port) stop = stopped_at stop
 after_stop (Torn port offset) stop = stopped_at stop
+after_stop (ShareFull full) stop = stopped_at stop
 after_stop (TooMany most) stop = stopped_at stop
+after_stop (NoKeys why) stop = stopped_at stop
 after_stop Memory stop = stopped_at stop
 
 -- A call's end was told on standard error, and nothing else was done.

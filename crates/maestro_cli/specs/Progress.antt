@@ -33,7 +33,8 @@ use Rattle.maestro_cli.specs.Outside.{Outside, IsUntouched, HasOnlyAsked}
 use Rattle.maestro_cli.specs.Names.{reading, inputs_of, created_by, name_at}
 use Rattle.maestro_cli.specs.Source.{IsFunctionUnder}
 use Rattle.maestro_cli.specs.Opened.{AreAllCreated}
-use Rattle.maestro_cli.specs.Runs.{HasPorts, IsRunOf, IsEndOf}
+use Rattle.maestro_cli.specs.Modes.{IsCourse}
+use Rattle.maestro_cli.specs.Runs.{HasPorts, IsRunOf, IsEndOf, left_by}
 use Rattle.maestro_cli.specs.Ending.{HasLeft}
 
 -- the function was read
@@ -47,6 +48,7 @@ pub record HasFound (c : RunAsked) (before now : Outside) (found : Found) : Type
 -- what a job is: the run that a command asks for, with its function and the numbers of its files
 pub record IsJob (before : Told) (job : Job) : Type 0 where
   pub has_ports : HasPorts (view.run job.command.now) before (function_of job.func.now)
+  pub course : IsCourse (view.run job.command.now) (function_of job.func.now) job.course.now
   pub handlers : length job.func.now.handlers ≡ job.numbers.ports
   pub first : job.numbers.first ≡ before.next
   pub from_two : 2 ≤ job.numbers.first
@@ -98,7 +100,7 @@ abbrev pub end_of : ℕ → Ending → Option (ℕ × ℕ) → End
 end_of most ending.All tear = torn_end tear
 end_of most ending.TooMany tear = TooMany most
 
--- All packets were handled; so many files were created, and so many of these are whole.
+-- The packets were handled; so many files were created, and so many of these are whole.
 pub record HasRun (before now : Outside) (job : Job) (packets : ℕ) (state : State) (end : End) (made full : ℕ) : Type 0 where
   pub run : Run
   pub is_run : IsRunOf (asked job) before.told run
@@ -111,6 +113,11 @@ pub record HasRun (before now : Outside) (job : Job) (packets : ℕ) (state : St
   pub stdout : now.told.given 0 ≡ before.told.given 0
   pub stderr : now.told.given 1 ≡ before.told.given 1
   pub asked_for : now.counted ≡ asking (inputs_of (asked job) ++ created_by (asked job).out (ports_of job) made) before.counted
+
+-- The run has ended so, and all files that it leaves are whole.
+pub record HasEnded (before now : Outside) (job : Job) (packets : ℕ) (end : End) : Type 0 where
+  pub state : State
+  pub ran : let all = left_by (ports_of job) end in HasRun before now job packets state end all all
 
 -- why captures can't be read, for a run
 abbrev pub stop_on : Numbers → Option ℕ → Halt

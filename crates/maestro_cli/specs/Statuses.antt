@@ -8,7 +8,7 @@ use Rattle.maestro_cli.specs.declared.status.Refusal.TheVariants as refusals
 use Rattle.maestro_cli.specs.declared.status.Stop.{Stop}
 use Rattle.maestro_cli.specs.declared.status.Stop.TheVariants as stops
 use Rattle.maestro_cli.specs.declared.status.Status.{Status}
-use Rattle.maestro_cli.specs.declared.status.Status.TheVariants.{Done, Usage, Refused, FileFault, NotCapture, Torn, TooMany, Memory}
+use Rattle.maestro_cli.specs.declared.status.Status.TheVariants.{Done, Usage, Refused, FileFault, NotCapture, Torn, ShareFull, TooMany, NoKeys, Memory}
 
 -- one number for each way to end
 abbrev pub number_of_status : Status → ℕ
@@ -18,7 +18,9 @@ number_of_status (Refused kind line column) = 2
 number_of_status (FileFault file) = 3
 number_of_status (NotCapture port) = 4
 number_of_status (Torn port offset) = 5
+number_of_status (ShareFull full) = 6
 number_of_status (TooMany most) = 7
+number_of_status (NoKeys why) = 8
 number_of_status Memory = 9
 
 -- the status of a run that ends so
@@ -26,11 +28,13 @@ abbrev pub end_status : End → Status
 end_status ends.Whole = Done
 end_status (ends.Torn port offset) = Torn port offset
 end_status (ends.TooMany most) = TooMany most
+end_status (ends.ShareFull full) = ShareFull full
 
 -- the status of a call that is refused so
 abbrev pub refusal_status : Refusal → Status
 refusal_status refusals.Usage = Usage
 refusal_status (refusals.Text fault) = Refused fault.kind fault.line fault.column
+refusal_status (refusals.NoKeys why) = NoKeys why
 refusal_status (refusals.NotCapture port) = NotCapture port
 
 -- the status of a call that is stopped so

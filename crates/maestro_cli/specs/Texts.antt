@@ -2,12 +2,20 @@
 use Rattle.std.specs.Prelude.{ℕ, List, [], ◌++◌, codes, decimal}
 use Rattle.nf_syntax.specs.declared.fault.SyntaxKind.TheVariants as syntax
 use Rattle.nf_types.specs.declared.fault.TypingKind.TheVariants as typing
+use Rattle.maestro_cli.specs.Named.{name_bytes}
 use Rattle.maestro_cli.specs.declared.status.Fault.{Fault}
 use Rattle.maestro_cli.specs.declared.status.Fault.TheVariants as kinds
 use Rattle.maestro_cli.specs.declared.status.RunFile.{RunFile}
 use Rattle.maestro_cli.specs.declared.status.RunFile.TheVariants.{Nf, Capture, Output, OutJournal, State, Stdout, Stderr}
+use Rattle.nf_base.specs.declared.packet.PacketId.{PacketId}
+use Rattle.run_history.specs.declared.line.Mode.{Mode}
+use Rattle.run_history.specs.Line.{mode_word}
+use Rattle.shard_rules.specs.Rules.{rule_word}
+use Rattle.maestro_cli.specs.declared.status.FullShare.{FullShare}
+use Rattle.maestro_cli.specs.declared.status.NoKeys.{NoKeys as Cause}
+use Rattle.maestro_cli.specs.declared.status.NoKeys.TheVariants as cause
 use Rattle.maestro_cli.specs.declared.status.Status.{Status}
-use Rattle.maestro_cli.specs.declared.status.Status.TheVariants.{Done, Usage, Refused, FileFault, NotCapture, Torn, TooMany, Memory}
+use Rattle.maestro_cli.specs.declared.status.Status.TheVariants.{Done, Usage, Refused, FileFault, NotCapture, Torn, ShareFull, TooMany, NoKeys, Memory}
 
 -- how a file of a run is called in a fault's line
 abbrev pub file_text : RunFile → List ℕ
@@ -40,6 +48,24 @@ kind_text (kinds.Typing typing.Limit) = codes "T07"
 kind_text (kinds.Typing typing.NoHandler) = codes "T08"
 kind_text kinds.TooManyPaths = codes "P1"
 
+-- a packet, by its port and its number there
+abbrev pub packet_text : PacketId → List ℕ
+packet_text id = decimal id.port ++ codes " " ++ decimal id.seq
+
+-- a packet of a queue
+abbrev pub queued_text : ℕ → PacketId → List ℕ
+queued_text queue id = codes ", queue " ++ decimal queue ++ codes ", packet " ++ packet_text id
+
+-- where a share of a chain is full
+abbrev pub full_text : FullShare → List ℕ
+full_text full =
+    codes "share full: chain " ++ name_bytes full.chain ++ queued_text full.queue full.packet
+
+-- why there are no keys
+abbrev pub cause_text : Cause → List ℕ
+cause_text (cause.Object name rule) = name_bytes name ++ codes " " ++ rule_word rule
+cause_text cause.Hash = codes "hash"
+
 -- what a status says
 abbrev pub status_words : Status → List ℕ
 status_words Done = []
@@ -48,7 +74,9 @@ status_words (Refused kind line column) = codes "refused " ++ kind_text kind ++ 
 status_words (FileFault file) = fault_title ++ file_text file
 status_words (NotCapture port) = codes "capture " ++ decimal port ++ codes " has no pcap header"
 status_words (Torn port offset) = codes "capture " ++ decimal port ++ codes " is torn at byte " ++ decimal offset
+status_words (ShareFull full) = full_text full
 status_words (TooMany most) = codes "more than " ++ decimal most ++ codes " packets"
+status_words (NoKeys why) = codes "no keys: " ++ cause_text why
 status_words Memory = codes "out of memory"
 
 -- the line on standard error of a status that is no success
@@ -60,6 +88,8 @@ abbrev pub said_of : Status → List ℕ
 said_of Done = []
 said_of status = error_line status
 
--- the line on standard output of a run of so many packets, by one worker
-abbrev pub ran_line : ℕ → List ℕ
-ran_line packets = codes "ran " ++ decimal packets ++ codes " one 1\n"
+-- the line on standard output of a run of so many packets, in a mode, by so many workers
+abbrev pub ran_line : ℕ → Mode → ℕ → List ℕ
+ran_line packets mode workers =
+    codes "ran " ++ decimal packets ++ codes " " ++ mode_word mode
+    ++ codes " " ++ decimal workers ++ codes "\n"

@@ -2,11 +2,12 @@
 ghost use Rattle.std.specs.Prelude.{◌≡◌, IfOk};
 ghost use Rattle.nf_base.specs.Functions.{function_of};
 ghost use Rattle.shard_rules.specs.Served.{own_sites, own_plan};
+ghost use Rattle.key_synth.specs.Verdicts.{IsVerdict, Separates};
 ghost use Rattle.maestro_cli.specs.Source.{HasFewPaths};
 ghost use Rattle.maestro_cli.specs.Describing.{IsVerdictText, IsExplanation};
 
 use access_keys::{Site, sites};
-use key_synth::synthesise;
+use key_synth::{Verdict, synthesise};
 use nf_base::func::Func;
 use shard_rules::{Plan, join};
 use std::alloc::{AllocError, Global};
@@ -30,6 +31,19 @@ fn own_plan(alloc: Global, func: &Func) -> Result<Plan, AllocError>
     }
 }
 
+/// The verdict on a function: the keys of its ports, under which packets that meet have equal
+/// hashes, or why there are none.
+pub fn verdict_of(alloc: Global, func: &Func) -> Result<Verdict, AllocError>
+    requires few { HasFewPaths (function_of func.now) }
+    ensures verdict { IfOk result (IsVerdict (function_of func.now)) }
+    ensures separates { IfOk result (Separates (function_of func.now)) }
+{
+    match own_plan(alloc, func) {
+        Ok(plan) => synthesise(alloc, func, &plan),
+        Err(error) => Err(error),
+    }
+}
+
 // The text of the verdict, by what the sites come to.
 fn planned_verdict(alloc: Global, func: &Func, plan: &Plan) -> Result<Vec<u8>, AllocError>
     requires plan { plan.now ≡ own_plan (function_of func.now) }
@@ -41,7 +55,7 @@ fn planned_verdict(alloc: Global, func: &Func, plan: &Plan) -> Result<Vec<u8>, A
     }
 }
 
-/// The verdict on a function: the keys of its ports, or why there are none.
+/// The text of the verdict on a function.
 pub fn verdict(alloc: Global, func: &Func) -> Result<Vec<u8>, AllocError>
     requires few { HasFewPaths (function_of func.now) }
     ensures { IfOk result (λ text. IsVerdictText (function_of func.now) text.items) }

@@ -2,6 +2,7 @@
 #![tactic(auto)]
 
 mod analysing;
+mod course;
 mod describing;
 mod function;
 mod hashing;
@@ -11,6 +12,7 @@ mod line;
 mod loading;
 mod names;
 mod numbers;
+mod object_name;
 mod opening;
 mod program;
 mod running;
@@ -18,5 +20,7 @@ mod say;
 mod status;
 mod text;
 
+pub use object_name::ObjectName;
 pub use program::maestro;
-pub use status::{Fault, RunFile, Status};
+pub use status::{Fault, FullShare, NoKeys, RunFile, Status};
+pub use worker_turns::{Idle, Turns};

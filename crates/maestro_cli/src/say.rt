@@ -62,7 +62,7 @@ fn complain<F: Files>(files: &mut F, due: Status) -> Status
     ensures { Tells (seen (F.told files.old) (F.counted files.old))
         (seen (F.told files.new) (F.counted files.new)) due result }
 {
-    match say(files, 1, error_line(due).as_str().as_bytes()) {
+    match say(files, 1, error_line(due).as_slice()) {
         Ok(()) => due,
         Err(stop) => after_stop(due, stop),
     }

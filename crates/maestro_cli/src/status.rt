@@ -2,8 +2,11 @@
 ghost use Rattle.std.specs.Prelude.{◌≡◌};
 ghost use Rattle.maestro_cli.specs.Statuses.{number_of_status, end_status, refusal_status, stop_status};
 
+use crate::object_name::ObjectName;
+use nf_base::packet::PacketId;
 use nf_syntax::SyntaxKind;
 use nf_types::TypingKind;
+use shard_rules::Rule;
 
 /// A file of a run.
 #[derive(Clone, Copy, Debug, PartialEq, Eq)]
@@ -40,6 +43,24 @@ pub struct TextFault {
     pub column: u32,
 }
 
+/// A packet at which its queue's share of a chain has no index left.
+#[derive(Clone, Copy, Debug, PartialEq, Eq)]
+pub struct FullShare {
+    /// The name of the chain.
+    pub chain: ObjectName,
+    pub queue: u32,
+    pub packet: PacketId,
+}
+
+/// Why a function has no keys.
+#[derive(Clone, Copy, Debug, PartialEq, Eq)]
+pub enum NoKeys {
+    /// The first written object that has sites and keeps no label, with its rule.
+    Object { name: ObjectName, rule: Rule },
+    /// Each object keeps a label: the hash itself can't serve all of them.
+    Hash,
+}
+
 /// How a run ends that nothing stops.
 #[derive(Clone, Copy, Debug, PartialEq, Eq)]
 pub enum End {
@@ -50,6 +71,8 @@ pub enum End {
     Torn { port: u32, offset: u64 },
     /// There are more packets than this; as many were handled.
     TooMany { most: u32 },
+    /// The packets before one were handled, at which its queue's share of a chain has no index left.
+    ShareFull(FullShare),
 }
 
 /// Why nothing was begun.
@@ -59,6 +82,8 @@ pub enum Refusal {
     Usage,
     /// The text is no network function.
     Text(TextFault),
+    /// Keys are asked for, and there are none.
+    NoKeys(NoKeys),
     /// This is the least port whose file is no capture.
     NotCapture { port: u32 },
 }
@@ -93,8 +118,12 @@ pub enum Status {
     /// All packets were handled, up to where captures are torn; this is the least port of a torn one, and the
     /// offset of the torn record in its capture, in bytes.
     Torn { port: u32, offset: u64 },
+    /// The packets before one were handled, at which its queue's share of a chain has no index left.
+    ShareFull(FullShare),
     /// There are more packets than this; as many were handled.
     TooMany { most: u32 },
+    /// Keys are asked for, and there are none.
+    NoKeys(NoKeys),
     Memory,
 }
 
@@ -110,7 +139,9 @@ impl Status {
             Status::FileFault(_) => 3,
             Status::NotCapture { .. } => 4,
             Status::Torn { .. } => 5,
+            Status::ShareFull(_) => 6,
             Status::TooMany { .. } => 7,
+            Status::NoKeys(_) => 8,
             Status::Memory => 9,
         }
     }
@@ -125,6 +156,7 @@ impl End {
             End::Whole => Status::Done,
             End::Torn { port, offset } => Status::Torn { port, offset },
             End::TooMany { most } => Status::TooMany { most },
+            End::ShareFull(full) => Status::ShareFull(full),
         }
     }
 }
@@ -139,6 +171,7 @@ impl Refusal {
             Refusal::Text(TextFault { kind, line, column }) => {
                 Status::Refused { kind, line, column }
             }
+            Refusal::NoKeys(why) => Status::NoKeys(why),
             Refusal::NotCapture { port } => Status::NotCapture { port },
         }
     }

@@ -1,59 +1,63 @@
 //! What is printed.
 ghost use Rattle.std.specs.Prelude.{◌≡◌, ◌+◌, ◌≤◌, ◌++◌, decimal, codes, length};
+ghost use Rattle.run_history.specs.Line.{mode_word};
 ghost use Rattle.maestro_cli.specs.Texts as meant;
 
-use crate::line::{Line, push_number};
-use crate::status::{Fault, RunFile, Status};
+use crate::line::{Line, push_bytes, push_number};
+use crate::status::{Fault, FullShare, NoKeys, RunFile, Status};
+use nf_base::packet::PacketId;
+use nf_base::workers::Workers;
 use nf_syntax::SyntaxKind;
 use nf_types::TypingKind;
+use run_history::line::Mode;
 
 fn push_file(line: &mut Line, file: RunFile)
-    requires { length line.old.bytes ≤ 80 }
-    ensures bytes { line.new.bytes ≡ line.old.bytes ++ meant.file_text file }
-    ensures len { length line.new.bytes ≤ length line.old.bytes + 60 }
+    requires { length line.old.items ≤ 80 }
+    ensures bytes { line.new.items ≡ line.old.items ++ meant.file_text file }
+    ensures len { length line.new.items ≤ length line.old.items + 60 }
 {
     match file {
-        RunFile::Nf => line.push_str("nf"),
+        RunFile::Nf => push_bytes(line, b"nf"),
         RunFile::Capture(port) => {
-            line.push_str("capture ");
+            push_bytes(line, b"capture ");
             push_number(line, u64::from(port));
         }
         RunFile::Output(port) => {
-            line.push_str("output ");
+            push_bytes(line, b"output ");
             push_number(line, u64::from(port));
         }
-        RunFile::OutJournal => line.push_str("out journal"),
-        RunFile::State => line.push_str("state"),
-        RunFile::Stdout => line.push_str("stdout"),
-        RunFile::Stderr => line.push_str("stderr"),
+        RunFile::OutJournal => push_bytes(line, b"out journal"),
+        RunFile::State => push_bytes(line, b"state"),
+        RunFile::Stdout => push_bytes(line, b"stdout"),
+        RunFile::Stderr => push_bytes(line, b"stderr"),
     }
 }
 
 #[tactic(auto, unfolding(crate::specs::Texts::fault_title))]
 fn push_fault_title(line: &mut Line)
-    requires { length line.old.bytes ≤ 20 }
-    ensures bytes { line.new.bytes ≡ line.old.bytes ++ meant.fault_title }
-    ensures len { length line.new.bytes ≡ length line.old.bytes + 12 }
+    requires { length line.old.items ≤ 20 }
+    ensures bytes { line.new.items ≡ line.old.items ++ meant.fault_title }
+    ensures len { length line.new.items ≡ length line.old.items + 12 }
 {
-    line.push_str("file fault: ");
+    push_bytes(line, b"file fault: ");
 }
 
 fn push_fault(line: &mut Line, file: RunFile)
-    requires { length line.old.bytes ≤ 20 }
-    ensures bytes { line.new.bytes ≡ line.old.bytes ++ (meant.fault_title ++ meant.file_text file) }
-    ensures len { length line.new.bytes ≤ length line.old.bytes + 140 }
+    requires { length line.old.items ≤ 20 }
+    ensures bytes { line.new.items ≡ line.old.items ++ (meant.fault_title ++ meant.file_text file) }
+    ensures len { length line.new.items ≤ length line.old.items + 140 }
 {
     push_fault_title(line);
     push_file(line, file);
 }
 
 fn push_place(line: &mut Line, row: u32, column: u32)
-    requires { length line.old.bytes ≤ 50 }
-    ensures bytes { line.new.bytes ≡ line.old.bytes ++ (decimal row ++ codes ":" ++ decimal column) }
-    ensures len { length line.new.bytes ≤ length line.old.bytes + 81 }
+    requires { length line.old.items ≤ 50 }
+    ensures bytes { line.new.items ≡ line.old.items ++ (decimal row ++ codes ":" ++ decimal column) }
+    ensures len { length line.new.items ≤ length line.old.items + 81 }
 {
     push_number(line, u64::from(row));
-    line.push_str(":");
+    push_bytes(line, b":");
     push_number(line, u64::from(column));
 }
 
@@ -80,66 +84,113 @@ fn kind_text(kind: Fault) -> &'static str
 }
 
 fn push_refusal(line: &mut Line, kind: Fault, row: u32, column: u32)
-    requires { length line.old.bytes ≤ 20 }
-    ensures bytes { line.new.bytes ≡ line.old.bytes ++
+    requires { length line.old.items ≤ 20 }
+    ensures bytes { line.new.items ≡ line.old.items ++
         (codes "refused " ++ meant.kind_text kind ++ codes " at " ++ decimal row ++ codes ":" ++ decimal column) }
-    ensures len { length line.new.bytes ≤ length line.old.bytes + 140 }
+    ensures len { length line.new.items ≤ length line.old.items + 140 }
 {
-    line.push_str("refused ");
-    line.push_str(kind_text(kind));
-    line.push_str(" at ");
+    push_bytes(line, b"refused ");
+    push_bytes(line, kind_text(kind).as_bytes());
+    push_bytes(line, b" at ");
     push_place(line, row, column);
 }
 
 fn push_capture(line: &mut Line, port: u32)
-    requires { length line.old.bytes ≤ 20 }
-    ensures bytes { line.new.bytes ≡ line.old.bytes ++ (codes "capture " ++ decimal port) }
-    ensures len { length line.new.bytes ≤ length line.old.bytes + 48 }
+    requires { length line.old.items ≤ 20 }
+    ensures bytes { line.new.items ≡ line.old.items ++ (codes "capture " ++ decimal port) }
+    ensures len { length line.new.items ≤ length line.old.items + 48 }
 {
-    line.push_str("capture ");
+    push_bytes(line, b"capture ");
     push_number(line, u64::from(port));
 }
 
 fn push_no_header(line: &mut Line, port: u32)
-    requires { length line.old.bytes ≤ 20 }
-    ensures bytes { line.new.bytes ≡ line.old.bytes ++
+    requires { length line.old.items ≤ 20 }
+    ensures bytes { line.new.items ≡ line.old.items ++
         (codes "capture " ++ decimal port ++ codes " has no pcap header") }
-    ensures len { length line.new.bytes ≤ length line.old.bytes + 140 }
+    ensures len { length line.new.items ≤ length line.old.items + 140 }
 {
     push_capture(line, port);
-    line.push_str(" has no pcap header");
+    push_bytes(line, b" has no pcap header");
 }
 
 fn push_tear(line: &mut Line, port: u32, offset: u64)
-    requires { length line.old.bytes ≤ 20 }
-    ensures bytes { line.new.bytes ≡ line.old.bytes ++
+    requires { length line.old.items ≤ 20 }
+    ensures bytes { line.new.items ≡ line.old.items ++
         (codes "capture " ++ decimal port ++ codes " is torn at byte " ++ decimal offset) }
-    ensures len { length line.new.bytes ≤ length line.old.bytes + 140 }
+    ensures len { length line.new.items ≤ length line.old.items + 140 }
 {
     push_capture(line, port);
-    line.push_str(" is torn at byte ");
+    push_bytes(line, b" is torn at byte ");
     push_number(line, offset);
 }
 
 fn push_too_many(line: &mut Line, most: u32)
-    requires { length line.old.bytes ≤ 20 }
-    ensures bytes { line.new.bytes ≡ line.old.bytes ++
+    requires { length line.old.items ≤ 20 }
+    ensures bytes { line.new.items ≡ line.old.items ++
         (codes "more than " ++ decimal most ++ codes " packets") }
-    ensures len { length line.new.bytes ≤ length line.old.bytes + 140 }
+    ensures len { length line.new.items ≤ length line.old.items + 140 }
 {
-    line.push_str("more than ");
+    push_bytes(line, b"more than ");
     push_number(line, u64::from(most));
-    line.push_str(" packets");
+    push_bytes(line, b" packets");
+}
+
+fn push_packet(line: &mut Line, id: PacketId)
+    requires { length line.old.items ≤ 150 }
+    ensures bytes { line.new.items ≡ line.old.items ++ meant.packet_text id }
+    ensures len { length line.new.items ≤ length line.old.items + 81 }
+{
+    push_number(line, u64::from(id.port));
+    push_bytes(line, b" ");
+    push_number(line, u64::from(id.seq));
+}
+
+fn push_queued(line: &mut Line, queue: u32, id: PacketId)
+    requires { length line.old.items ≤ 80 }
+    ensures bytes { line.new.items ≡ line.old.items ++ meant.queued_text queue id }
+    ensures len { length line.new.items ≤ length line.old.items + 138 }
+{
+    push_bytes(line, b", queue ");
+    push_number(line, u64::from(queue));
+    push_bytes(line, b", packet ");
+    push_packet(line, id);
+}
+
+fn push_full(line: &mut Line, full: FullShare)
+    requires { length line.old.items ≤ 20 }
+    ensures bytes { line.new.items ≡ line.old.items ++ meant.full_text full }
+    ensures len { length line.new.items ≤ length line.old.items + 190 }
+{
+    push_bytes(line, b"share full: chain ");
+    push_bytes(line, full.chain.as_slice());
+    push_queued(line, full.queue, full.packet);
+}
+
+fn push_no_keys(line: &mut Line, why: NoKeys)
+    requires { length line.old.items ≤ 20 }
+    ensures bytes { line.new.items ≡ line.old.items ++ (codes "no keys: " ++ meant.cause_text why) }
+    ensures len { length line.new.items ≤ length line.old.items + 140 }
+{
+    push_bytes(line, b"no keys: ");
+    match why {
+        NoKeys::Object { name, rule } => {
+            push_bytes(line, name.as_slice());
+            push_bytes(line, b" ");
+            push_bytes(line, rule.word().as_bytes());
+        }
+        NoKeys::Hash => push_bytes(line, b"hash"),
+    }
 }
 
 fn push_words(line: &mut Line, status: Status)
-    requires { length line.old.bytes ≤ 20 }
-    ensures bytes { line.new.bytes ≡ line.old.bytes ++ meant.status_words status }
-    ensures len { length line.new.bytes ≤ length line.old.bytes + 140 }
+    requires { length line.old.items ≤ 20 }
+    ensures bytes { line.new.items ≡ line.old.items ++ meant.status_words status }
+    ensures len { length line.new.items ≤ length line.old.items + 190 }
 {
     match status {
         Status::Done => {}
-        Status::Usage => line.push_str("bad command line"),
+        Status::Usage => push_bytes(line, b"bad command line"),
         Status::Refused {
             kind,
             line: row,
@@ -148,29 +199,46 @@ fn push_words(line: &mut Line, status: Status)
         Status::FileFault(file) => push_fault(line, file),
         Status::NotCapture { port } => push_no_header(line, port),
         Status::Torn { port, offset } => push_tear(line, port, offset),
+        Status::ShareFull(full) => push_full(line, full),
         Status::TooMany { most } => push_too_many(line, most),
-        Status::Memory => line.push_str("out of memory"),
+        Status::NoKeys(why) => push_no_keys(line, why),
+        Status::Memory => push_bytes(line, b"out of memory"),
     }
 }
 
 /// The line on standard error of a status that is no success.
 pub fn error_line(status: Status) -> Line
-    ensures { result.bytes ≡ meant.error_line status }
+    ensures { result.items ≡ meant.error_line status }
 {
     let mut line = Line::new();
-    line.push_str("maestro: ");
+    push_bytes(&mut line, b"maestro: ");
     push_words(&mut line, status);
-    line.push_str("\n");
+    push_bytes(&mut line, b"\n");
     line
 }
 
-/// The line on standard output of a run of so many packets.
-pub fn ran_line(packets: u32) -> Line
-    ensures { result.bytes ≡ meant.ran_line packets }
+fn mode_word(mode: Mode) -> &'static str
+    ensures text { result.now ≡ mode_word mode }
+    ensures len { length result.now ≤ 5 }
+{
+    match mode {
+        Mode::One => "one",
+        Mode::Shard => "shard",
+        Mode::Lock => "lock",
+    }
+}
+
+/// The line on standard output of a run of so many packets, in a mode, by so many workers.
+pub fn ran_line(packets: u32, mode: Mode, workers: Workers) -> Line
+    ensures { result.items ≡ meant.ran_line packets mode workers }
 {
     let mut line = Line::new();
-    line.push_str("ran ");
+    push_bytes(&mut line, b"ran ");
     push_number(&mut line, u64::from(packets));
-    line.push_str(" one 1\n");
+    push_bytes(&mut line, b" ");
+    push_bytes(&mut line, mode_word(mode).as_bytes());
+    push_bytes(&mut line, b" ");
+    push_number(&mut line, u64::from(workers.get()));
+    push_bytes(&mut line, b"\n");
     line
 }

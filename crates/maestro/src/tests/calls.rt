@@ -1,7 +1,8 @@
 // Calls of the program over files in memory, and what they come to.
-use maestro_cli::{Status, maestro};
+use maestro_cli::{Idle, Status, Turns, maestro};
 use nf_files::{Files, FilesFault, MemoryFiles};
 use std::alloc::{AllocError, Global};
+use std::thread::Threads;
 
 /// What a call came to: how it ended, and what stands in the files then.
 #[derive(Drop)]
@@ -152,14 +153,20 @@ fn outcome_of(
     })
 }
 
-fn status_of(alloc: Global, words: &[String], files: &mut MemoryFiles) -> Status {
-    maestro(alloc, words, files)
+fn status_of<R: Threads + Sync>(
+    rt: &R,
+    alloc: Global,
+    words: &[String],
+    files: &mut MemoryFiles,
+) -> Status {
+    maestro(rt, alloc, words, files, &Idle)
 }
 
 /// Calls the program with the words of a line, one space apart, over a function as `x.nf` and captures
 /// as `a.pcap` to `d.pcap`, in files whose calls of these numbers fail. `out` is the front of the names
 /// of what it leaves.
-pub fn call(
+pub fn call<R: Threads + Sync>(
+    rt: &R,
     alloc: Global,
     line: &str,
     out: &str,
@@ -169,13 +176,29 @@ pub fn call(
 ) -> Result<Outcome, AllocError> {
     let words = words_of(alloc, line)?;
     let mut files = files_of(alloc, text, captures, fails)?;
-    let status = status_of(alloc, words.as_slice(), &mut files);
+    let status = status_of(rt, alloc, words.as_slice(), &mut files);
     outcome_of(alloc, &mut files, out, status)
 }
 
+/// The same with `out` as the front of the names, where no call fails, and with what is told as workers go
+/// on.
+pub fn call_with<R: Threads + Sync, G: Turns + Sync>(
+    rt: &R,
+    alloc: Global,
+    line: &str,
+    text: &[u8],
+    captures: &[Vec<u8>],
+    turns: &G,
+) -> Result<Outcome, AllocError> {
+    let words = words_of(alloc, line)?;
+    let mut files = files_of(alloc, text, captures, &[])?;
+    let status = maestro(rt, alloc, words.as_slice(), &mut files, turns);
+    outcome_of(alloc, &mut files, "out", status)
+}
+
 /// Calls the program with no words at all.
-pub fn call_nothing(alloc: Global) -> Result<Outcome, AllocError> {
+pub fn call_nothing<R: Threads + Sync>(rt: &R, alloc: Global) -> Result<Outcome, AllocError> {
     let mut files = files_of(alloc, b"", &[], &[])?;
-    let status = status_of(alloc, &[], &mut files);
+    let status = status_of(rt, alloc, &[], &mut files);
     outcome_of(alloc, &mut files, "out", status)
 }

@@ -4,6 +4,7 @@ use super::firewall::firewall;
 use maestro_cli::{Fault, RunFile, Status};
 use std::alloc::{AllocError, Global};
 use std::test::Fail;
+use std::thread::Threads;
 
 const CHECK: &str = "maestro check x.nf";
 
@@ -131,15 +132,19 @@ fn prints(got: &Outcome, said: &str) -> bool {
         && got.left() == 0
 }
 
-fn is_checked(alloc: Global, checked: &Checked) -> Result<bool, AllocError> {
-    let got = call(alloc, CHECK, "out", checked.text.as_bytes(), &[], &[])?;
+fn is_checked<R: Threads + Sync>(
+    rt: &R,
+    alloc: Global,
+    checked: &Checked,
+) -> Result<bool, AllocError> {
+    let got = call(rt, alloc, CHECK, "out", checked.text.as_bytes(), &[], &[])?;
     Ok(prints(&got, checked.said))
 }
 
 #[test]
 fn a_function_is_told_with_its_paths(rt: HostRuntime) -> Result<(), Fail> {
     for checked in all_checked() {
-        let met = is_checked(rt.alloc(), checked)?;
+        let met = is_checked(&rt, rt.alloc(), checked)?;
         assert!(rt; met, "{}", checked.said);
     }
     Ok(())
@@ -155,9 +160,13 @@ fn tests(alloc: Global, front: &str, count: u64, end: &str) -> Result<String, Al
     Ok(text)
 }
 
-fn checks_tests(alloc: Global, count: u64) -> Result<Outcome, AllocError> {
+fn checks_tests<R: Threads + Sync>(
+    rt: &R,
+    alloc: Global,
+    count: u64,
+) -> Result<Outcome, AllocError> {
     let text = tests(alloc, "nf p { ports 1; on 0 { ", count, "} }")?;
-    call(alloc, CHECK, "out", text.as_str().as_bytes(), &[], &[])
+    call(rt, alloc, CHECK, "out", text.as_str().as_bytes(), &[], &[])
 }
 
 const TOO_MANY: Status = Status::Refused {
@@ -170,11 +179,11 @@ const P1: &str = "maestro: refused P1 at 1:17\n";
 
 #[test]
 fn a_handler_has_4096_paths_and_no_more(rt: HostRuntime) -> Result<(), Fail> {
-    let twelve = checks_tests(rt.alloc(), 12)?;
+    let twelve = checks_tests(&rt, rt.alloc(), 12)?;
     let most = prints(&twelve, "ok p: ports 1, chains 0, arrays 0, paths 4096\n");
     assert!(rt; most);
-    let thirteen = checks_tests(rt.alloc(), 13)?.is_stop(TOO_MANY, P1, 1, 0);
-    let forty = checks_tests(rt.alloc(), 40)?.is_stop(TOO_MANY, P1, 1, 0);
+    let thirteen = checks_tests(&rt, rt.alloc(), 13)?.is_stop(TOO_MANY, P1, 1, 0);
+    let forty = checks_tests(&rt, rt.alloc(), 40)?.is_stop(TOO_MANY, P1, 1, 0);
     assert!(rt; thirteen && forty);
     Ok(())
 }
@@ -219,53 +228,64 @@ fn around() -> &'static [(&'static str, &'static str, &'static str)] {
     &AROUND
 }
 
-fn is_refused_so(alloc: Global, front: &str, end: &str, said: &str) -> Result<bool, AllocError> {
+fn is_refused_so<R: Threads + Sync>(
+    rt: &R,
+    alloc: Global,
+    front: &str,
+    end: &str,
+    said: &str,
+) -> Result<bool, AllocError> {
     let text = tests(alloc, front, 13, end)?;
-    let got = call(alloc, CHECK, "out", text.as_str().as_bytes(), &[], &[])?;
+    let got = call(rt, alloc, CHECK, "out", text.as_str().as_bytes(), &[], &[])?;
     Ok(got.is_stop(got.status, said, 1, 0))
 }
 
 #[test]
 fn too_many_paths_are_told_last_and_of_the_least_port(rt: HostRuntime) -> Result<(), Fail> {
     for (front, end, said) in around() {
-        let met = is_refused_so(rt.alloc(), front, end, said)?;
+        let met = is_refused_so(&rt, rt.alloc(), front, end, said)?;
         assert!(rt; met, "{front} .. {end}: {said}");
     }
     Ok(())
 }
 
 // Both handlers have too many paths, and that of port 1 stands first.
-fn both_have_too_many(alloc: Global) -> Result<bool, AllocError> {
+fn both_have_too_many<R: Threads + Sync>(rt: &R, alloc: Global) -> Result<bool, AllocError> {
     let first = tests(alloc, "nf p { ports 2;\non 1 { ", 13, "}\non 0 { ")?;
     let text = tests(alloc, first.as_str(), 13, "} }")?;
-    let got = call(alloc, CHECK, "out", text.as_str().as_bytes(), &[], &[])?;
+    let got = call(rt, alloc, CHECK, "out", text.as_str().as_bytes(), &[], &[])?;
     Ok(got.is_stop(got.status, "maestro: refused P1 at 3:1\n", 1, 0))
 }
 
 // A run is refused too, before its captures are counted or opened.
-fn a_run_is_refused(alloc: Global, line: &str) -> Result<bool, AllocError> {
+fn a_run_is_refused<R: Threads + Sync>(
+    rt: &R,
+    alloc: Global,
+    line: &str,
+) -> Result<bool, AllocError> {
     let text = tests(alloc, "nf p { ports 1; on 0 { ", 13, "} }")?;
-    let got = call(alloc, line, "out", text.as_str().as_bytes(), &[], &[])?;
+    let got = call(rt, alloc, line, "out", text.as_str().as_bytes(), &[], &[])?;
     Ok(got.is_stop(TOO_MANY, P1, 1, 0))
 }
 
 #[test]
 fn too_many_paths_are_refused_by_each_command(rt: HostRuntime) -> Result<(), Fail> {
-    let both = both_have_too_many(rt.alloc())?;
-    let one = a_run_is_refused(rt.alloc(), "maestro run x.nf out gone.pcap")?;
-    let two = a_run_is_refused(rt.alloc(), "maestro run x.nf out gone.pcap gone.pcap")?;
+    let both = both_have_too_many(&rt, rt.alloc())?;
+    let one = a_run_is_refused(&rt, rt.alloc(), "maestro run x.nf out gone.pcap")?;
+    let two = a_run_is_refused(&rt, rt.alloc(), "maestro run x.nf out gone.pcap gone.pcap")?;
     assert!(rt; both && one && two);
     Ok(())
 }
 
 // The calls of a check: the text is opened and read in three, and the line is printed in one.
-fn stops_at(
+fn stops_at<R: Threads + Sync>(
+    rt: &R,
     alloc: Global,
     call_number: u64,
     file: RunFile,
     said: &str,
 ) -> Result<bool, AllocError> {
-    let got = call(alloc, CHECK, "out", firewall(), &[], &[call_number])?;
+    let got = call(rt, alloc, CHECK, "out", firewall(), &[], &[call_number])?;
     let opened = if call_number == 0 { 0 } else { 1 };
     Ok(got.is_stop(Status::FileFault(file), said, opened, 0))
 }
@@ -273,10 +293,11 @@ fn stops_at(
 #[test]
 fn a_check_whose_files_fail(rt: HostRuntime) -> Result<(), Fail> {
     let nf = "maestro: file fault: nf\n";
-    let opening = stops_at(rt.alloc(), 0, RunFile::Nf, nf)?;
-    let reading = stops_at(rt.alloc(), 1, RunFile::Nf, nf)?;
-    let ending = stops_at(rt.alloc(), 2, RunFile::Nf, nf)?;
+    let opening = stops_at(&rt, rt.alloc(), 0, RunFile::Nf, nf)?;
+    let reading = stops_at(&rt, rt.alloc(), 1, RunFile::Nf, nf)?;
+    let ending = stops_at(&rt, rt.alloc(), 2, RunFile::Nf, nf)?;
     let printing = stops_at(
+        &rt,
         rt.alloc(),
         3,
         RunFile::Stdout,
@@ -284,6 +305,7 @@ fn a_check_whose_files_fail(rt: HostRuntime) -> Result<(), Fail> {
     )?;
     assert!(rt; opening && reading && ending && printing);
     let gone = call(
+        &rt,
         rt.alloc(),
         "maestro check gone.nf",
         "out",

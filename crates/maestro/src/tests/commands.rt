@@ -1,6 +1,6 @@
 // The command that each line's words ask for, and lines that are none.
 use super::calls::words_of;
-use command_words::{Command, Description, Endpoint, command_of};
+use command_words::{Command, Description, Endpoint, ModeChoice, command_of};
 use std::alloc::{AllocError, Global};
 use std::test::Fail;
 
@@ -9,7 +9,15 @@ fn asked(alloc: Global, line: &str) -> Result<Option<Command>, AllocError> {
     command_of(alloc, words.as_slice())
 }
 
-/// What a run is asked of, one space apart: its function, its front, its captures, its most packets.
+fn mode_word(mode: ModeChoice) -> &'static str {
+    match mode {
+        ModeChoice::Auto => "auto",
+        ModeChoice::Shard => "shard",
+    }
+}
+
+/// What a run is asked of, one space apart: its function, its front, its captures, its most packets, its
+/// workers and its mode.
 fn run_line(alloc: Global, line: &str) -> Result<String, Fail> {
     let mut said = String::new(alloc);
     if let Some(Command::Run(run)) = asked(alloc, line)? {
@@ -20,7 +28,9 @@ fn run_line(alloc: Global, line: &str) -> Result<String, Fail> {
             said.push_str(" ")?;
             said.push_str(capture.as_str())?;
         }
-        said.push_str(format!(in alloc; " {}", run.most)?.as_str())?;
+        let workers = run.workers.get();
+        let mode = mode_word(run.mode);
+        said.push_str(format!(in alloc; " {} {workers} {mode}", run.most)?.as_str())?;
     }
     Ok(said)
 }
@@ -36,7 +46,7 @@ const NO_COMMANDS: [&str; 71] = [
     "maestro run x.nf out a b c d e",
     "maestro run x.nf out a b c d e --workers 1",
     "maestro run x.nf out a --workers 0",
-    "maestro run x.nf out a --workers 2",
+    "maestro run x.nf out a --workers 2x",
     "maestro run x.nf out a --workers 17",
     "maestro run x.nf out a --workers 01",
     "maestro run x.nf out a --workers +1",
@@ -53,7 +63,7 @@ const NO_COMMANDS: [&str; 71] = [
     "maestro run x.nf out a --max-packets 4294967296",
     "maestro run x.nf out a --max-packets 1e3",
     "maestro run x.nf out a --max-packets 0x10",
-    "maestro run x.nf out a --mode auto",
+    "maestro run x.nf out a --mode one",
     "maestro run x.nf out -a",
     "maestro run -x.nf out a",
     "maestro run x.nf out a --help",
@@ -113,34 +123,65 @@ fn lines_that_are_no_commands(rt: HostRuntime) -> Result<(), Fail> {
     Ok(())
 }
 
-const RUNS: [(&str, &str); 12] = [
-    ("maestro run x.nf out a", "x.nf out a 10000000"),
-    ("maestro run x.nf out a b c d", "x.nf out a b c d 10000000"),
+const RUNS: [(&str, &str); 16] = [
+    ("maestro run x.nf out a", "x.nf out a 10000000 1 auto"),
+    (
+        "maestro run x.nf out a b c d",
+        "x.nf out a b c d 10000000 1 auto",
+    ),
     (
         "maestro run x.nf out a b --workers 1",
-        "x.nf out a b 10000000",
+        "x.nf out a b 10000000 1 auto",
     ),
-    ("maestro run x.nf out a --workers=1", "x.nf out a 10000000"),
+    (
+        "maestro run x.nf out a --workers=1",
+        "x.nf out a 10000000 1 auto",
+    ),
     (
         "maestro run --workers 1 x.nf out a b",
-        "x.nf out a b 10000000",
+        "x.nf out a b 10000000 1 auto",
     ),
     (
         "maestro run x.nf --workers 1 out a b",
-        "x.nf out a b 10000000",
+        "x.nf out a b 10000000 1 auto",
     ),
     (
         "maestro run x.nf out a --workers 1 b",
-        "x.nf out a b 10000000",
+        "x.nf out a b 10000000 1 auto",
     ),
-    ("maestro run x.nf out a --max-packets 0", "x.nf out a 0"),
-    ("maestro run x.nf out a --max-packets=3 b", "x.nf out a b 3"),
+    (
+        "maestro run x.nf out a --max-packets 0",
+        "x.nf out a 0 1 auto",
+    ),
+    (
+        "maestro run x.nf out a --max-packets=3 b",
+        "x.nf out a b 3 1 auto",
+    ),
     (
         "maestro run x.nf out a --max-packets 4294967295 --workers 1",
-        "x.nf out a 4294967295",
+        "x.nf out a 4294967295 1 auto",
     ),
-    ("another run x.nf out a", "x.nf out a 10000000"),
-    ("maestro run -- -x.nf -out -a", "-x.nf -out -a 10000000"),
+    (
+        "maestro run x.nf out a --workers 16",
+        "x.nf out a 10000000 16 auto",
+    ),
+    (
+        "maestro run x.nf out a --mode auto --workers 2",
+        "x.nf out a 10000000 2 auto",
+    ),
+    (
+        "maestro run --mode=shard x.nf out a --workers=3",
+        "x.nf out a 10000000 3 shard",
+    ),
+    (
+        "maestro run x.nf out a --mode shard",
+        "x.nf out a 10000000 1 shard",
+    ),
+    ("another run x.nf out a", "x.nf out a 10000000 1 auto"),
+    (
+        "maestro run -- -x.nf -out -a",
+        "-x.nf -out -a 10000000 1 auto",
+    ),
 ];
 
 fn runs() -> &'static [(&'static str, &'static str)] {

@@ -5,6 +5,7 @@ use super::firewall::{firewall, mirror, run_one, run_two};
 use maestro_cli::Status;
 use std::alloc::{AllocError, Global};
 use std::test::Fail;
+use std::thread::Threads;
 
 // How a run ended, with all that it leaves: its lines on both standard outputs, its journal and its state.
 fn ends_so(
@@ -29,12 +30,12 @@ fn lengths() -> &'static [usize] {
     &LENGTHS
 }
 
-fn is_torn(alloc: Global, inside: usize) -> Result<bool, AllocError> {
+fn is_torn<R: Threads + Sync>(rt: &R, alloc: Global, inside: usize) -> Result<bool, AllocError> {
     let captures = [
         short_capture(alloc, Frame::Query, inside)?,
         short_capture(alloc, Frame::Reply, 82)?,
     ];
-    let got = call(alloc, run_two(), "out", firewall(), &captures, &[])?;
+    let got = call(rt, alloc, run_two(), "out", firewall(), &captures, &[])?;
     Ok(ends_so(
         &got,
         Status::Torn {
@@ -51,7 +52,7 @@ fn is_torn(alloc: Global, inside: usize) -> Result<bool, AllocError> {
 #[test]
 fn a_torn_capture_is_run_up_to_its_tear(rt: HostRuntime) -> Result<(), Fail> {
     for inside in lengths() {
-        let met = is_torn(rt.alloc(), *inside)?;
+        let met = is_torn(&rt, rt.alloc(), *inside)?;
         assert!(rt; met, "{inside} bytes");
     }
     Ok(())
@@ -68,7 +69,8 @@ fn tears() -> &'static [(usize, u8, u64, &'static str)] {
     &TEARS
 }
 
-fn is_torn_at(
+fn is_torn_at<R: Threads + Sync>(
+    rt: &R,
     alloc: Global,
     at: usize,
     byte: u8,
@@ -76,20 +78,20 @@ fn is_torn_at(
     said: &str,
 ) -> Result<bool, AllocError> {
     let captures = [changed_capture(alloc, at, byte)?];
-    let got = call(alloc, run_one(), "out", mirror(), &captures, &[])?;
+    let got = call(rt, alloc, run_one(), "out", mirror(), &captures, &[])?;
     Ok(got.status == Status::Torn { port: 0, offset } && is_text(got.stderr.as_slice(), said))
 }
 
 #[test]
 fn a_record_that_reaches_too_far_is_torn(rt: HostRuntime) -> Result<(), Fail> {
     for (at, byte, offset, said) in tears() {
-        let met = is_torn_at(rt.alloc(), *at, *byte, *offset, said)?;
+        let met = is_torn_at(&rt, rt.alloc(), *at, *byte, *offset, said)?;
         assert!(rt; met, "{byte} at {at}");
     }
     Ok(())
 }
 
-fn most_are_run(alloc: Global) -> Result<bool, AllocError> {
+fn most_are_run<R: Threads + Sync>(rt: &R, alloc: Global) -> Result<bool, AllocError> {
     let captures = [capture(
         alloc,
         &[
@@ -100,7 +102,7 @@ fn most_are_run(alloc: Global) -> Result<bool, AllocError> {
         ],
     )?];
     let line = "maestro run x.nf out a.pcap --max-packets 3";
-    let got = call(alloc, line, "out", mirror(), &captures, &[])?;
+    let got = call(rt, alloc, line, "out", mirror(), &captures, &[])?;
     Ok(ends_so(
         &got,
         Status::TooMany { most: 3 },
@@ -112,7 +114,12 @@ fn most_are_run(alloc: Global) -> Result<bool, AllocError> {
 }
 
 // A torn capture of just as many records as may be handled is torn, and one of more has too many.
-fn most_come_before_tears(alloc: Global, most: &str, status: Status) -> Result<bool, AllocError> {
+fn most_come_before_tears<R: Threads + Sync>(
+    rt: &R,
+    alloc: Global,
+    most: &str,
+    status: Status,
+) -> Result<bool, AllocError> {
     let mut bytes = capture(
         alloc,
         &[(1, Frame::Query), (2, Frame::Query), (3, Frame::Query)],
@@ -122,21 +129,21 @@ fn most_come_before_tears(alloc: Global, most: &str, status: Status) -> Result<b
     let mut line = String::from_str(alloc, "maestro run --max-packets ")?;
     line.push_str(most)?;
     line.push_str(" x.nf out a.pcap")?;
-    let got = call(alloc, line.as_str(), "out", mirror(), &captures, &[])?;
+    let got = call(rt, alloc, line.as_str(), "out", mirror(), &captures, &[])?;
     Ok(got.status == status)
 }
 
 #[test]
 fn more_packets_than_may_be_handled(rt: HostRuntime) -> Result<(), Fail> {
-    let met = most_are_run(rt.alloc())?;
+    let met = most_are_run(&rt, rt.alloc())?;
     assert!(rt; met);
     let torn = Status::Torn {
         port: 0,
         offset: 140,
     };
-    let exact = most_come_before_tears(rt.alloc(), "2", torn)?;
-    let fewer = most_come_before_tears(rt.alloc(), "1", Status::TooMany { most: 1 })?;
-    let none = most_come_before_tears(rt.alloc(), "0", Status::TooMany { most: 0 })?;
+    let exact = most_come_before_tears(&rt, rt.alloc(), "2", torn)?;
+    let fewer = most_come_before_tears(&rt, rt.alloc(), "1", Status::TooMany { most: 1 })?;
+    let none = most_come_before_tears(&rt, rt.alloc(), "0", Status::TooMany { most: 0 })?;
     assert!(rt; exact && fewer && none);
     Ok(())
 }
@@ -171,8 +178,13 @@ fn hashes() -> &'static [(&'static str, &'static str)] {
     &HASHES
 }
 
-fn is_printed(alloc: Global, line: &str, said: &str) -> Result<bool, AllocError> {
-    let got = call(alloc, line, "out", b"", &[], &[])?;
+fn is_printed<R: Threads + Sync>(
+    rt: &R,
+    alloc: Global,
+    line: &str,
+    said: &str,
+) -> Result<bool, AllocError> {
+    let got = call(rt, alloc, line, "out", b"", &[], &[])?;
     Ok(
         got.status == Status::Done
             && is_text(got.stdout.as_slice(), said)
@@ -184,7 +196,7 @@ fn is_printed(alloc: Global, line: &str, said: &str) -> Result<bool, AllocError>
 #[test]
 fn a_hash_is_printed(rt: HostRuntime) -> Result<(), Fail> {
     for (line, said) in hashes() {
-        let met = is_printed(rt.alloc(), line, said)?;
+        let met = is_printed(&rt, rt.alloc(), line, said)?;
         assert!(rt; met, "{line}");
     }
     Ok(())

@@ -4,11 +4,17 @@ use super::firewall::{firewall, query_and_reply, run_two};
 use maestro_cli::{RunFile, Status};
 use std::alloc::{AllocError, Global};
 use std::test::Fail;
+use std::thread::Threads;
 
 // The firewall with a query and its reply, in files whose calls of these numbers fail.
-fn call_firewall(alloc: Global, fails: &[u64]) -> Result<Outcome, AllocError> {
+fn call_firewall<R: Threads + Sync>(
+    rt: &R,
+    alloc: Global,
+    fails: &[u64],
+) -> Result<Outcome, AllocError> {
     let captures = query_and_reply(alloc)?;
     call(
+        rt,
         alloc,
         run_two(),
         "out",
@@ -83,14 +89,15 @@ fn are_fronts(got: &Outcome, whole: &Outcome) -> bool {
 }
 
 // What was created are the files that a run leaves, after the three that it reads.
-fn is_named(
+fn is_named<R: Threads + Sync>(
+    rt: &R,
     alloc: Global,
     whole: &Outcome,
     number: u64,
     file: RunFile,
     opened: u32,
 ) -> Result<bool, AllocError> {
-    let got = call_firewall(alloc, &[number])?;
+    let got = call_firewall(rt, alloc, &[number])?;
     let left = opened.saturating_sub(3);
     let status = Status::FileFault(file);
     Ok(got.is_stop(status, said(file), opened, left) && are_fronts(&got, whole))
@@ -98,10 +105,10 @@ fn is_named(
 
 #[test]
 fn every_call_that_fails_names_its_file(rt: HostRuntime) -> Result<(), Fail> {
-    let whole = call_firewall(rt.alloc(), &[])?;
+    let whole = call_firewall(&rt, rt.alloc(), &[])?;
     let mut number: u64 = 0;
     for (file, opened) in calls() {
-        let met = is_named(rt.alloc(), &whole, number, *file, *opened)?;
+        let met = is_named(&rt, rt.alloc(), &whole, number, *file, *opened)?;
         assert!(rt; met, "call {number}");
         number = number.saturating_add(1);
     }
@@ -109,28 +116,28 @@ fn every_call_that_fails_names_its_file(rt: HostRuntime) -> Result<(), Fail> {
 }
 
 // After the calls of the table there is no further one.
-fn is_all(alloc: Global) -> Result<bool, AllocError> {
-    let whole = call_firewall(alloc, &[])?;
-    let got = call_firewall(alloc, &[22])?;
+fn is_all<R: Threads + Sync>(rt: &R, alloc: Global) -> Result<bool, AllocError> {
+    let whole = call_firewall(rt, alloc, &[])?;
+    let got = call_firewall(rt, alloc, &[22])?;
     Ok(got.status == Status::Done && are_fronts(&got, &whole) && are_fronts(&whole, &got))
 }
 
 #[test]
 fn a_run_makes_22_calls(rt: HostRuntime) -> Result<(), Fail> {
-    let met = is_all(rt.alloc())?;
+    let met = is_all(&rt, rt.alloc())?;
     assert!(rt; met);
     Ok(())
 }
 
-fn is_empty_journal(alloc: Global) -> Result<bool, AllocError> {
-    let got = call_firewall(alloc, &[18])?;
+fn is_empty_journal<R: Threads + Sync>(rt: &R, alloc: Global) -> Result<bool, AllocError> {
+    let got = call_firewall(rt, alloc, &[18])?;
     let status = Status::FileFault(RunFile::OutJournal);
     Ok(got.status == status && has_bytes(&got.journal, b"") && got.state.is_none())
 }
 
 #[test]
 fn a_journal_that_takes_no_bytes_stays_empty(rt: HostRuntime) -> Result<(), Fail> {
-    let met = is_empty_journal(rt.alloc())?;
+    let met = is_empty_journal(&rt, rt.alloc())?;
     assert!(rt; met);
     Ok(())
 }
@@ -147,30 +154,41 @@ fn first() -> &'static [(u64, RunFile)] {
     &FIRST
 }
 
-fn is_first(alloc: Global, number: u64, file: RunFile) -> Result<bool, AllocError> {
-    let got = call_firewall(alloc, &[number, number.saturating_add(1)])?;
+fn is_first<R: Threads + Sync>(
+    rt: &R,
+    alloc: Global,
+    number: u64,
+    file: RunFile,
+) -> Result<bool, AllocError> {
+    let got = call_firewall(rt, alloc, &[number, number.saturating_add(1)])?;
     Ok(got.status == Status::FileFault(file) && got.stderr.is_empty())
 }
 
 #[test]
 fn the_first_fault_is_told(rt: HostRuntime) -> Result<(), Fail> {
     for (number, file) in first() {
-        let met = is_first(rt.alloc(), *number, *file)?;
+        let met = is_first(&rt, rt.alloc(), *number, *file)?;
         assert!(rt; met, "call {number}");
     }
     Ok(())
 }
 
-fn is_mute(alloc: Global, line: &str, text: &[u8], fails: u64) -> Result<bool, AllocError> {
-    let got = call(alloc, line, "out", text, &[], &[fails])?;
+fn is_mute<R: Threads + Sync>(
+    rt: &R,
+    alloc: Global,
+    line: &str,
+    text: &[u8],
+    fails: u64,
+) -> Result<bool, AllocError> {
+    let got = call(rt, alloc, line, "out", text, &[], &[fails])?;
     Ok(got.status == Status::FileFault(RunFile::Stderr) && got.stderr.is_empty())
 }
 
 #[test]
 fn a_message_that_can_not_be_written_is_a_fault(rt: HostRuntime) -> Result<(), Fail> {
-    let usage = is_mute(rt.alloc(), "maestro --help", b"", 0)?;
+    let usage = is_mute(&rt, rt.alloc(), "maestro --help", b"", 0)?;
     // The text is opened and read in three calls.
-    let refused = is_mute(rt.alloc(), run_two(), b"nf", 3)?;
+    let refused = is_mute(&rt, rt.alloc(), run_two(), b"nf", 3)?;
     assert!(rt; usage && refused);
     Ok(())
 }

@@ -5,6 +5,7 @@ use super::runs::{Ran, wrong_part};
 use maestro_cli::Status;
 use std::alloc::{AllocError, Global};
 use std::test::Fail;
+use std::thread::Threads;
 
 // Port 0 is inside, port 1 outside.
 const FIREWALL: &str = "nf fw {\n\
@@ -132,7 +133,7 @@ fn runs() -> &'static [Ran] {
 #[test]
 fn runs_leave_these_files(rt: HostRuntime) -> Result<(), Fail> {
     for ran in runs() {
-        let wrong = wrong_part(rt.alloc(), ran)?;
+        let wrong = wrong_part(&rt, rt.alloc(), ran)?;
         assert!(rt; wrong.is_empty(), "{}: {wrong}", ran.shows);
     }
     Ok(())
@@ -155,9 +156,10 @@ fn is_reply(content: Option<&Option<Vec<u8>>>) -> bool {
     }
 }
 
-fn reply_is_left(alloc: Global) -> Result<bool, AllocError> {
+fn reply_is_left<R: Threads + Sync>(rt: &R, alloc: Global) -> Result<bool, AllocError> {
     let captures = query_and_reply(alloc)?;
     let got = call(
+        rt,
         alloc,
         run_two(),
         "out",
@@ -170,7 +172,7 @@ fn reply_is_left(alloc: Global) -> Result<bool, AllocError> {
 
 #[test]
 fn an_output_byte_for_byte(rt: HostRuntime) -> Result<(), Fail> {
-    let met = reply_is_left(rt.alloc())?;
+    let met = reply_is_left(&rt, rt.alloc())?;
     assert!(rt; met);
     Ok(())
 }
@@ -217,16 +219,22 @@ fn journal_of(handled: bool) -> &'static [u8] {
     }
 }
 
-fn decides(alloc: Global, at: usize, byte: u8, handled: bool) -> Result<bool, AllocError> {
+fn decides<R: Threads + Sync>(
+    rt: &R,
+    alloc: Global,
+    at: usize,
+    byte: u8,
+    handled: bool,
+) -> Result<bool, AllocError> {
     let captures = [capture(alloc, &[(1, Frame::Changed(at, byte))])?];
-    let got = call(alloc, run_one(), "out", mirror(), &captures, &[])?;
+    let got = call(rt, alloc, run_one(), "out", mirror(), &captures, &[])?;
     Ok(got.status == Status::Done && has_bytes(&got.journal, journal_of(handled)))
 }
 
 #[test]
 fn bytes_of_the_headers_decide_what_is_skipped(rt: HostRuntime) -> Result<(), Fail> {
     for (at, byte, handled, why) in bytes() {
-        let met = decides(rt.alloc(), *at, *byte, *handled)?;
+        let met = decides(&rt, rt.alloc(), *at, *byte, *handled)?;
         assert!(rt; met, "{why}");
     }
     Ok(())

@@ -5,6 +5,7 @@ use super::firewall::{firewall, mirror, run_one, run_two};
 use maestro_cli::Status;
 use std::alloc::{AllocError, Global};
 use std::test::Fail;
+use std::thread::Threads;
 
 // A place in a capture of one record, the byte that stands there, whether it is a capture, and why.
 const FORMS: [(usize, u8, bool, &str); 9] = [
@@ -29,9 +30,15 @@ fn forms() -> &'static [(usize, u8, bool, &'static str)] {
 }
 
 // The text and the capture are read.
-fn is_told(alloc: Global, at: usize, byte: u8, read: bool) -> Result<bool, AllocError> {
+fn is_told<R: Threads + Sync>(
+    rt: &R,
+    alloc: Global,
+    at: usize,
+    byte: u8,
+    read: bool,
+) -> Result<bool, AllocError> {
     let captures = [changed_capture(alloc, at, byte)?];
-    let got = call(alloc, run_one(), "out", mirror(), &captures, &[])?;
+    let got = call(rt, alloc, run_one(), "out", mirror(), &captures, &[])?;
     Ok(if read {
         got.status == Status::Done && got.left() == 3
     } else {
@@ -42,7 +49,7 @@ fn is_told(alloc: Global, at: usize, byte: u8, read: bool) -> Result<bool, Alloc
 #[test]
 fn a_capture_has_one_form(rt: HostRuntime) -> Result<(), Fail> {
     for (at, byte, read, why) in forms() {
-        let met = is_told(rt.alloc(), *at, *byte, *read)?;
+        let met = is_told(&rt, rt.alloc(), *at, *byte, *read)?;
         assert!(rt; met, "{why}");
     }
     Ok(())
@@ -69,19 +76,25 @@ fn said(port: u32) -> &'static str {
 }
 
 // The text and both captures are read.
-fn is_named(alloc: Global, inside: usize, outside: usize, port: u32) -> Result<bool, AllocError> {
+fn is_named<R: Threads + Sync>(
+    rt: &R,
+    alloc: Global,
+    inside: usize,
+    outside: usize,
+    port: u32,
+) -> Result<bool, AllocError> {
     let captures = [
         short_capture(alloc, Frame::Query, inside)?,
         short_capture(alloc, Frame::Reply, outside)?,
     ];
-    let got = call(alloc, run_two(), "out", firewall(), &captures, &[])?;
+    let got = call(rt, alloc, run_two(), "out", firewall(), &captures, &[])?;
     Ok(got.is_stop(Status::NotCapture { port }, said(port), 3, 0))
 }
 
 #[test]
 fn a_short_header_is_none(rt: HostRuntime) -> Result<(), Fail> {
     for (inside, outside, port) in lengths() {
-        let met = is_named(rt.alloc(), *inside, *outside, *port)?;
+        let met = is_named(&rt, rt.alloc(), *inside, *outside, *port)?;
         assert!(rt; met, "{inside} and {outside} bytes");
     }
     Ok(())

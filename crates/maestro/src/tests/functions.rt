@@ -4,6 +4,7 @@ use super::firewall::RUN_ONE;
 use super::runs::{Ran, wrong_part};
 use std::alloc::{AllocError, Global};
 use std::test::Fail;
+use std::thread::Threads;
 
 // A source has an entry for 10 ns.
 const ONE_ENTRY: &str = "nf x { ports 1; chain c 1 lifetime 10 { map m(a: 8); } on 0 {
@@ -156,7 +157,7 @@ fn runs() -> &'static [Ran] {
 #[test]
 fn packets_meet_the_entries_of_earlier_ones(rt: HostRuntime) -> Result<(), Fail> {
     for ran in runs() {
-        let wrong = wrong_part(rt.alloc(), ran)?;
+        let wrong = wrong_part(&rt, rt.alloc(), ran)?;
         assert!(rt; wrong.is_empty(), "{}: {wrong}", ran.shows);
     }
     Ok(())
@@ -214,15 +215,15 @@ fn falling() -> &'static Ran {
     &FALLING
 }
 
-fn one_is_right(alloc: Global) -> Result<bool, AllocError> {
-    let rising = wrong_part(alloc, rising())?;
-    let falling = wrong_part(alloc, falling())?;
+fn one_is_right<R: Threads + Sync>(rt: &R, alloc: Global) -> Result<bool, AllocError> {
+    let rising = wrong_part(rt, alloc, rising())?;
+    let falling = wrong_part(rt, alloc, falling())?;
     Ok(rising.is_empty() || falling.is_empty())
 }
 
 #[test]
 fn two_entries_have_two_indices(rt: HostRuntime) -> Result<(), Fail> {
-    let met = one_is_right(rt.alloc())?;
+    let met = one_is_right(&rt, rt.alloc())?;
     assert!(rt; met);
     Ok(())
 }

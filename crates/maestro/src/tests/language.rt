@@ -6,6 +6,7 @@ use super::runs::{Ran, wrong_part};
 use maestro_cli::Status;
 use std::alloc::{AllocError, Global};
 use std::test::Fail;
+use std::thread::Threads;
 
 const COUNTER: &str = "nf count {\n\
   ports 1;\n\
@@ -223,7 +224,7 @@ fn runs() -> &'static [Ran] {
 #[test]
 fn runs_of_the_whole_language(rt: HostRuntime) -> Result<(), Fail> {
     for ran in runs() {
-        let wrong = wrong_part(rt.alloc(), ran)?;
+        let wrong = wrong_part(&rt, rt.alloc(), ran)?;
         assert!(rt; wrong.is_empty(), "{}: {wrong}", ran.shows);
     }
     Ok(())
@@ -292,15 +293,23 @@ fn policer() -> &'static [u8] {
     POLICER.as_bytes()
 }
 
-fn policer_fills(alloc: Global) -> Result<bool, AllocError> {
+fn policer_fills<R: Threads + Sync>(rt: &R, alloc: Global) -> Result<bool, AllocError> {
     let captures = captures(alloc, six())?;
-    let got = call(alloc, run_two(), "out", policer(), captures.as_slice(), &[])?;
+    let got = call(
+        rt,
+        alloc,
+        run_two(),
+        "out",
+        policer(),
+        captures.as_slice(),
+        &[],
+    )?;
     Ok(got.status == Status::Done && are_six_lines(alloc, got.journal)?)
 }
 
 #[test]
 fn a_chain_gives_each_index_once(rt: HostRuntime) -> Result<(), Fail> {
-    let met = policer_fills(rt.alloc())?;
+    let met = policer_fills(&rt, rt.alloc())?;
     assert!(rt; met);
     Ok(())
 }
@@ -350,15 +359,15 @@ fn falling() -> &'static Ran {
     &FALLING
 }
 
-fn bridge_learns(alloc: Global) -> Result<bool, AllocError> {
-    let rising = wrong_part(alloc, rising())?;
-    let falling = wrong_part(alloc, falling())?;
+fn bridge_learns<R: Threads + Sync>(rt: &R, alloc: Global) -> Result<bool, AllocError> {
+    let rising = wrong_part(rt, alloc, rising())?;
+    let falling = wrong_part(rt, alloc, falling())?;
     Ok(rising.is_empty() || falling.is_empty())
 }
 
 #[test]
 fn a_bridge_learns_where_hosts_are(rt: HostRuntime) -> Result<(), Fail> {
-    let met = bridge_learns(rt.alloc())?;
+    let met = bridge_learns(&rt, rt.alloc())?;
     assert!(rt; met);
     Ok(())
 }

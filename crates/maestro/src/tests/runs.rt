@@ -3,6 +3,7 @@ use super::calls::{Outcome, call, has_bytes, is_text};
 use super::captures::{Record, capture, captures};
 use maestro_cli::Status;
 use std::alloc::{AllocError, Global};
+use std::thread::Threads;
 
 /// A run, and what it has to leave.
 pub struct Ran {
@@ -73,9 +74,14 @@ fn counts_are(got: &Outcome, ports: usize) -> bool {
 }
 
 /// What is wrong with a run; empty where all is right.
-pub fn wrong_part(alloc: Global, ran: &Ran) -> Result<&'static str, AllocError> {
+pub fn wrong_part<R: Threads + Sync>(
+    rt: &R,
+    alloc: Global,
+    ran: &Ran,
+) -> Result<&'static str, AllocError> {
     let bytes = captures(alloc, ran.captures)?;
     let got = call(
+        rt,
         alloc,
         ran.line,
         ran.out,

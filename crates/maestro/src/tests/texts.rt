@@ -5,6 +5,7 @@ use super::firewall::run_one;
 use maestro_cli::Status;
 use std::alloc::{AllocError, Global};
 use std::test::Fail;
+use std::thread::Threads;
 
 // A text, and what is said of it; the places were counted by hand.
 const BAD_TEXTS: [(&[u8], &str); 14] = [
@@ -67,9 +68,14 @@ fn is_refusal(status: Status) -> bool {
 }
 
 // The text alone is read.
-fn is_refused(alloc: Global, text: &[u8], said: &str) -> Result<bool, AllocError> {
+fn is_refused<R: Threads + Sync>(
+    rt: &R,
+    alloc: Global,
+    text: &[u8],
+    said: &str,
+) -> Result<bool, AllocError> {
     let captures = [capture(alloc, &[(1, Frame::Query)])?];
-    let got = call(alloc, run_one(), "out", text, &captures, &[])?;
+    let got = call(rt, alloc, run_one(), "out", text, &captures, &[])?;
     let line = line_of(alloc, said)?;
     Ok(is_refusal(got.status) && got.is_stop(got.status, line.as_str(), 1, 0))
 }
@@ -77,7 +83,7 @@ fn is_refused(alloc: Global, text: &[u8], said: &str) -> Result<bool, AllocError
 #[test]
 fn texts_that_are_no_function(rt: HostRuntime) -> Result<(), Fail> {
     for (text, said) in bad_texts() {
-        let met = is_refused(rt.alloc(), text, said)?;
+        let met = is_refused(&rt, rt.alloc(), text, said)?;
         assert!(rt; met, "{said}");
     }
     Ok(())

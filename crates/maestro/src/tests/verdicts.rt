@@ -4,6 +4,7 @@ use super::firewall::firewall;
 use maestro_cli::{Fault, RunFile, Status};
 use std::alloc::{AllocError, Global};
 use std::test::Fail;
+use std::thread::Threads;
 
 const EXPLAIN: &str = "maestro explain x.nf";
 
@@ -244,20 +245,20 @@ fn prints(alloc: Global, got: &Outcome, front: &str, end: &str) -> Result<bool, 
     )
 }
 
-fn explains(alloc: Global, told: &Told) -> Result<bool, AllocError> {
-    let got = call(alloc, EXPLAIN, "out", told.text.as_bytes(), &[], &[])?;
+fn explains<R: Threads + Sync>(rt: &R, alloc: Global, told: &Told) -> Result<bool, AllocError> {
+    let got = call(rt, alloc, EXPLAIN, "out", told.text.as_bytes(), &[], &[])?;
     prints(alloc, &got, told.objects, told.verdict)
 }
 
-fn gives_keys(alloc: Global, told: &Told) -> Result<bool, AllocError> {
-    let got = call(alloc, KEYS, "out", told.text.as_bytes(), &[], &[])?;
+fn gives_keys<R: Threads + Sync>(rt: &R, alloc: Global, told: &Told) -> Result<bool, AllocError> {
+    let got = call(rt, alloc, KEYS, "out", told.text.as_bytes(), &[], &[])?;
     prints(alloc, &got, "", told.verdict)
 }
 
 #[test]
 fn a_function_is_explained(rt: HostRuntime) -> Result<(), Fail> {
     for told in all_told() {
-        let met = explains(rt.alloc(), told)?;
+        let met = explains(&rt, rt.alloc(), told)?;
         assert!(rt; met, "{}", told.shows);
     }
     Ok(())
@@ -266,16 +267,21 @@ fn a_function_is_explained(rt: HostRuntime) -> Result<(), Fail> {
 #[test]
 fn keys_are_the_end_of_what_is_explained(rt: HostRuntime) -> Result<(), Fail> {
     for told in all_told() {
-        let met = gives_keys(rt.alloc(), told)?;
+        let met = gives_keys(&rt, rt.alloc(), told)?;
         assert!(rt; met, "{}", told.shows);
     }
     Ok(())
 }
 
 // A text that is no function, and one with too many paths, are refused as by `check`.
-fn is_refused_so(alloc: Global, text: &str, said: &str) -> Result<bool, AllocError> {
-    let explained = call(alloc, EXPLAIN, "out", text.as_bytes(), &[], &[])?;
-    let keys = call(alloc, KEYS, "out", text.as_bytes(), &[], &[])?;
+fn is_refused_so<R: Threads + Sync>(
+    rt: &R,
+    alloc: Global,
+    text: &str,
+    said: &str,
+) -> Result<bool, AllocError> {
+    let explained = call(rt, alloc, EXPLAIN, "out", text.as_bytes(), &[], &[])?;
+    let keys = call(rt, alloc, KEYS, "out", text.as_bytes(), &[], &[])?;
     Ok(explained.is_stop(explained.status, said, 1, 0) && keys.is_stop(keys.status, said, 1, 0))
 }
 
@@ -291,16 +297,30 @@ fn many_paths(alloc: Global) -> Result<String, AllocError> {
 #[test]
 fn no_function_is_told_nothing_of(rt: HostRuntime) -> Result<(), Fail> {
     let alloc = rt.alloc();
-    let empty = is_refused_so(alloc, "", "maestro: refused S4 at 1:1\n")?;
+    let empty = is_refused_so(&rt, rt.alloc(), "", "maestro: refused S4 at 1:1\n")?;
     let typing = is_refused_so(
-        alloc,
+        &rt,
+        rt.alloc(),
         "nf x { ports 1; on 0 { touch e; } }",
         "maestro: refused T06 at 1:30\n",
     )?;
     let text = many_paths(alloc)?;
-    let paths = is_refused_so(alloc, text.as_str(), "maestro: refused P1 at 1:17\n")?;
+    let paths = is_refused_so(
+        &rt,
+        rt.alloc(),
+        text.as_str(),
+        "maestro: refused P1 at 1:17\n",
+    )?;
     assert!(rt; empty && typing && paths);
-    let got = call(alloc, KEYS, "out", text.as_str().as_bytes(), &[], &[])?;
+    let got = call(
+        &rt,
+        rt.alloc(),
+        KEYS,
+        "out",
+        text.as_str().as_bytes(),
+        &[],
+        &[],
+    )?;
     let refused = Status::Refused {
         kind: Fault::TooManyPaths,
         line: 1,
@@ -311,31 +331,32 @@ fn no_function_is_told_nothing_of(rt: HostRuntime) -> Result<(), Fail> {
 }
 
 // The text is opened and read in three calls, and what is told is printed in one.
-fn stops_at(
+fn stops_at<R: Threads + Sync>(
+    rt: &R,
     alloc: Global,
     line: &str,
     call_number: u64,
     file: RunFile,
     said: &str,
 ) -> Result<bool, AllocError> {
-    let got = call(alloc, line, "out", firewall(), &[], &[call_number])?;
+    let got = call(rt, alloc, line, "out", firewall(), &[], &[call_number])?;
     let opened = if call_number == 0 { 0 } else { 1 };
     Ok(got.is_stop(Status::FileFault(file), said, opened, 0))
 }
 
-fn stops_so(alloc: Global, line: &str) -> Result<bool, AllocError> {
+fn stops_so<R: Threads + Sync>(rt: &R, alloc: Global, line: &str) -> Result<bool, AllocError> {
     let nf = "maestro: file fault: nf\n";
     let stdout = "maestro: file fault: stdout\n";
-    let opening = stops_at(alloc, line, 0, RunFile::Nf, nf)?;
-    let reading = stops_at(alloc, line, 1, RunFile::Nf, nf)?;
-    let printing = stops_at(alloc, line, 3, RunFile::Stdout, stdout)?;
+    let opening = stops_at(rt, alloc, line, 0, RunFile::Nf, nf)?;
+    let reading = stops_at(rt, alloc, line, 1, RunFile::Nf, nf)?;
+    let printing = stops_at(rt, alloc, line, 3, RunFile::Stdout, stdout)?;
     Ok(opening && reading && printing)
 }
 
 #[test]
 fn an_analysis_whose_files_fail(rt: HostRuntime) -> Result<(), Fail> {
-    let explained = stops_so(rt.alloc(), EXPLAIN)?;
-    let keys = stops_so(rt.alloc(), KEYS)?;
+    let explained = stops_so(&rt, rt.alloc(), EXPLAIN)?;
+    let keys = stops_so(&rt, rt.alloc(), KEYS)?;
     assert!(rt; explained && keys);
     Ok(())
 }

@@ -6,6 +6,7 @@ use nf_syntax::SyntaxKind;
 use nf_types::TypingKind;
 use std::alloc::{AllocError, Global};
 use std::test::Fail;
+use std::thread::Threads;
 
 const BAD_LINES: [&str; 43] = [
     "",
@@ -17,7 +18,7 @@ const BAD_LINES: [&str; 43] = [
     "maestro run x.nf out a.pcap b.pcap --workers",
     "maestro run x.nf out a.pcap b.pcap a.pcap b.pcap a.pcap --workers 1",
     "maestro run x.nf out a.pcap b.pcap --workers 0",
-    "maestro run x.nf out a.pcap b.pcap --workers 2",
+    "maestro run x.nf out a.pcap b.pcap --workers 2x",
     "maestro run x.nf out a.pcap b.pcap --workers 17",
     "maestro run x.nf out a.pcap b.pcap --workers 01",
     "maestro run x.nf out a.pcap b.pcap --workers +1",
@@ -28,7 +29,7 @@ const BAD_LINES: [&str; 43] = [
     "maestro run x.nf out a.pcap b.pcap --Workers 1",
     "maestro run x.nf out a.pcap b.pcap -w 1",
     "maestro run x.nf out a.pcap b.pcap --workers 1 --workers 1",
-    "maestro run x.nf out a.pcap b.pcap --mode auto --workers 1",
+    "maestro run x.nf out a.pcap b.pcap --mode one --workers 1",
     "maestro --workers 1 run x.nf out a.pcap b.pcap",
     "maestro run -x.nf out a.pcap b.pcap --workers 1",
     "maestro run x.nf --out a.pcap b.pcap --workers 1",
@@ -58,9 +59,13 @@ fn bad_lines() -> &'static [&'static str] {
 }
 
 /// The firewall with a capture for each port, called with a line.
-fn call_firewall(alloc: Global, line: &str) -> Result<Outcome, AllocError> {
+fn call_firewall<R: Threads + Sync>(
+    rt: &R,
+    alloc: Global,
+    line: &str,
+) -> Result<Outcome, AllocError> {
     let captures = query_and_reply(alloc)?;
-    call(alloc, line, "out", firewall(), captures.as_slice(), &[])
+    call(rt, alloc, line, "out", firewall(), captures.as_slice(), &[])
 }
 
 fn is_bad_usage(got: &Outcome, opened: u32) -> bool {
@@ -70,7 +75,7 @@ fn is_bad_usage(got: &Outcome, opened: u32) -> bool {
 #[test]
 fn bad_words(rt: HostRuntime) -> Result<(), Fail> {
     for line in bad_lines() {
-        let met = is_bad_usage(&call_firewall(rt.alloc(), line)?, 0);
+        let met = is_bad_usage(&call_firewall(&rt, rt.alloc(), line)?, 0);
         assert!(rt; met, "{line}");
     }
     Ok(())
@@ -78,7 +83,7 @@ fn bad_words(rt: HostRuntime) -> Result<(), Fail> {
 
 #[test]
 fn no_words(rt: HostRuntime) -> Result<(), Fail> {
-    let met = is_bad_usage(&call_nothing(rt.alloc())?, 0);
+    let met = is_bad_usage(&call_nothing(&rt, rt.alloc())?, 0);
     assert!(rt; met);
     Ok(())
 }
@@ -101,7 +106,7 @@ fn other_counts() -> &'static [&'static str] {
 #[test]
 fn each_port_has_a_capture(rt: HostRuntime) -> Result<(), Fail> {
     for line in other_counts() {
-        let met = is_bad_usage(&call_firewall(rt.alloc(), line)?, 1);
+        let met = is_bad_usage(&call_firewall(&rt, rt.alloc(), line)?, 1);
         assert!(rt; met, "{line}");
     }
     Ok(())
@@ -147,15 +152,15 @@ fn missing_files() -> &'static [Missing] {
     &MISSING
 }
 
-fn is_named(alloc: Global, case: &Missing) -> Result<bool, AllocError> {
-    let got = call_firewall(alloc, case.line)?;
+fn is_named<R: Threads + Sync>(rt: &R, alloc: Global, case: &Missing) -> Result<bool, AllocError> {
+    let got = call_firewall(rt, alloc, case.line)?;
     Ok(got.is_stop(Status::FileFault(case.file), case.said, case.opened, 0))
 }
 
 #[test]
 fn a_missing_file_is_named(rt: HostRuntime) -> Result<(), Fail> {
     for case in missing_files() {
-        let met = is_named(rt.alloc(), case)?;
+        let met = is_named(&rt, rt.alloc(), case)?;
         assert!(rt; met, "{}", case.line);
     }
     Ok(())

@@ -31,14 +31,27 @@ none_since c a before now why halt same is untouched finds cause =
 pub run_found-requires : goal.run_found-requires
 run_found-requires g c κs within =
     let told = g.F.Files.told in
-    let counted = g.F.Files.counted in (
-      within,
+    let counted = g.F.Files.counted in
+    let requires = c.requires.1.1.1.1.1 in (
+      within.0,
       (
-        c.requires.1.1.0,
+        within.1.0,
         (
-          c.requires.1.1.1,
-          found_since (view.run c.args.command.now) (seen (told c.args.files.now) (counted c.args.files.now)) g.before (seen (told c.read_function.new.files) (counted c.read_function.new.files)) c.in-Ok.found c.requires.1.0
-              c.in-Ok.ensures.finds c.in-Ok.ensures.next c.read_function.ensures.untouched c.in-Ok.ensures.cause,
+          within.1.1,
+          (
+            c.requires.1.1.1.0,
+            (
+              c.requires.1.1.1.1.0,
+              (
+                requires.1.0,
+                (
+                  requires.1.1,
+                  found_since (view.run c.args.command.now) (seen (told c.args.files.now) (counted c.args.files.now)) g.before (seen (told c.read_function.new.files) (counted c.read_function.new.files)) c.in-Ok.found requires.0
+                      c.in-Ok.ensures.finds c.in-Ok.ensures.next c.read_function.ensures.untouched c.in-Ok.ensures.cause,
+                ),
+              ),
+            ),
+          ),
         ),
       ),
     )
@@ -48,6 +61,6 @@ returns-in-Err g c =
     let told = g.F.Files.told in
     let counted = g.F.Files.counted in
     record {
-      runs = none_since (view.run c.args.command.now) (seen (told c.args.files.now) (counted c.args.files.now)) g.before (seen (told c.read_function.new.files) (counted c.read_function.new.files)) c.in-Err.none c.unfound.result c.requires.1.0 c.unfound.ensures
+      runs = none_since (view.run c.args.command.now) (seen (told c.args.files.now) (counted c.args.files.now)) g.before (seen (told c.read_function.new.files) (counted c.read_function.new.files)) c.in-Err.none c.unfound.result c.requires.1.1.1.1.1.0 c.unfound.ensures
           c.read_function.ensures.untouched c.in-Err.ensures.finds c.in-Err.ensures.cause;
     }

@@ -1,4 +1,7 @@
 use Rattle.maestro_cli.proofs.running.run_ready.Given as goal
 
-abbrev pub ghost-leave_state : goal.ghost-leave_state
-ghost-leave_state g a = g.before
+abbrev pub ghost-run_one : goal.ghost-run_one
+ghost-run_one g a = g.before
+
+abbrev pub ghost-run_shards : goal.ghost-run_shards
+ghost-run_shards g a = g.before

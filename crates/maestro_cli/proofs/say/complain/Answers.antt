@@ -8,6 +8,6 @@ returns-in-Ok g c =
     let told = g.F.Files.told in
     inl (record {
       status_is = refl;
-      wrote = subst (λ (p : List ℕ). Writes (told c.args.files.now) (told c.say.new.files) 1 p) (c.as_bytes.ensures.value ∙ c.as_str.ensures.value ∙ c.error_line.ensures ∙ sym (said_is c.args.due c.requires)) c.in-Ok.ensures.wrote;
+      wrote = subst (λ (p : List ℕ). Writes (told c.args.files.now) (told c.say.new.files) 1 p) (c.as_slice.ensures.value ∙ c.error_line.ensures ∙ sym (said_is c.args.due c.requires)) c.in-Ok.ensures.wrote;
       counted = c.in-Ok.ensures.cause;
     })
