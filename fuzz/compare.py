@@ -22,12 +22,14 @@ class Case:
     counts_paths: bool = False
 
 
-def run(program, folder, case):
-    """What the program leaves. The folder has been empty, and holds all files of the run then."""
+def run(program, folder, case, options=()):
+    """What the program leaves, with these options beside its own. The folder has been empty, and holds all files of the
+    run then.
+    """
     inputs = {"x.nf": case.text, **{f"in.{port}.pcap": data for port, data in enumerate(case.captures)}}
     for name, data in inputs.items():
         (folder / name).write_bytes(data)
-    words = [program, "run", *inputs, "--max-packets", str(case.most)]
+    words = [program, "run", *inputs, "--max-packets", str(case.most), *options]
     words.insert(3, "out")
     try:
         took = subprocess.run(words, cwd=folder, stdin=subprocess.DEVNULL, capture_output=True, timeout=LIMIT)

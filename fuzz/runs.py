@@ -7,7 +7,7 @@ from captures import OUTPUT_HEADER, edited, fields_of, output_record, records_of
 from interpreter import IllegalChoice, State, handle
 
 MOST_PACKETS = 10_000_000
-LINE = re.compile(r"[0-9]+ [0-9]+ 0 \S+ (-|[0-9]+(?:,[0-9]+)*)")
+LINE = re.compile(r"[0-9]+ [0-9]+ [0-9]+ \S+ (-|[0-9]+(?:,[0-9]+)*)")
 
 
 @dataclass
@@ -25,11 +25,30 @@ def refused(fault):
     return Result(2, err=f"maestro: refused {kind} at {line}:{column}\n".encode())
 
 
+class OneWorker:
+    """A run by one worker."""
+    mode, workers = "one", 1
+
+    def worker(self, port, fields):
+        """Who handles a packet with these fields, None where it is skipped."""
+        return 0
+
+    def check(self, worker, function, state, port, fields, told):
+        """Raises IllegalChoice where the indices of a line may not be this worker's."""
+
+    def stop(self, worker, function, state, port, fields):
+        """The chain and the queue of a share that is full for a packet behind the journal's last line; else None."""
+        return None
+
+
 class Choices:
     """The choices that a journal tells. They are taken over, since any free index is right."""
 
     def __init__(self, journal):
         self.lines = journal.decode("latin-1").split("\n")[1:]
+
+    def __len__(self):
+        return len(self.lines) - 1
 
     def of(self, number):
         """The indices in a packet's line."""
@@ -52,20 +71,25 @@ def receivers(action, port, ports):
     return [int(action[3:])] if action.startswith("to:") else []
 
 
-def expected(function, captures, journal, most=MOST_PACKETS, events=None):
+def expected(function, captures, journal, most=MOST_PACKETS, events=None, course=None):
     """The result of a run of a function over captures, one for each of its ports, of which the first packets are
-    handled, `most` of them. The choices are those of the journal: where one isn't legal, IllegalChoice is raised.
+    handled, `most` of them, by one worker or as the course says. The choices are those of the journal: where one isn't
+    legal, IllegalChoice is raised.
     """
+    course = course or OneWorker()
     events = Counter() if events is None else events
     read = [records_of(data) for data in captures]
     if None in read:
         return Result(4, err=f"maestro: capture {read.index(None)} has no pcap header\n".encode())
     packets = capture_order([records for records, _ in read])
     state, handlers, choices = State(function), dict(function.handlers), Choices(journal)
-    lines, outputs, before = ["maestro journal 1 one 1"], [OUTPUT_HEADER] * function.ports, None
+    lines, outputs, before = [f"maestro journal 1 {course.mode} {course.workers}"], [OUTPUT_HEADER] * function.ports, None
     for position, (port, number, record) in enumerate(packets[:most]):
-        events["packets"] += 1
         fields, told, edits = fields_of(record), [], {}
+        worker = course.worker(port, fields)
+        if position == len(choices) and (why := course.stop(worker, function, state, port, fields)):
+            return stopped(position, course, why, port, number, outputs, lines)
+        events["packets"] += 1
         if fields is None:
             events["skipped"] += 1
             action = "skip"
@@ -73,22 +97,37 @@ def expected(function, captures, journal, most=MOST_PACKETS, events=None):
             events["at the time before"] += record.time == before
             before = record.time
             told = choices.of(position)
+            course.check(worker, function, state, port, fields, told)
             try:
                 action, edits = handle(state, handlers[port], port, fields, told, events)
             except IllegalChoice as fault:
                 raise IllegalChoice(f"line {position + 2} of the journal: {fault}") from None
         events[action.partition(":")[0]] += 1
-        lines.append(f"{port} {number} 0 {action} {','.join(map(str, told)) or '-'}")
+        lines.append(f"{port} {number} {worker} {action} {','.join(map(str, told)) or '-'}")
         sent = edited(record.frame, edits) if edits else record.frame
         for receiver in receivers(action, port, function.ports):
             outputs[receiver] += output_record(record.time, record.length, sent)
+    files = written(outputs, lines)
+    files[".state"] = state.text().encode()
+    return ended(packets, most, [torn for _, torn in read], files, course)
+
+
+def written(outputs, lines):
+    """The outputs and the journal, by what stands behind OUT."""
     files = {f".{port}.pcap": output for port, output in enumerate(outputs)}
     files[".journal"] = "".join(f"{line}\n" for line in lines).encode()
-    files[".state"] = state.text().encode()
-    return ended(packets, most, [torn for _, torn in read], files)
+    return files
 
 
-def ended(packets, most, tears, files):
+def stopped(handled, course, why, port, number, outputs, lines):
+    """The end of a run at a packet for which a share has no index left."""
+    chain, queue = why
+    said = f"maestro: share full: chain {chain}, queue {queue}, packet {port} {number}\n"
+    ran = f"ran {handled} {course.mode} {course.workers}\n"
+    return Result(6, ran.encode(), said.encode(), written(outputs, lines))
+
+
+def ended(packets, most, tears, files, course):
     """The end of a run that handled packets."""
     status, line = 0, ""
     if len(packets) > most:
@@ -96,4 +135,5 @@ def ended(packets, most, tears, files):
     elif any(at is not None for at in tears):
         port = next(port for port, at in enumerate(tears) if at is not None)
         status, line = 5, f"maestro: capture {port} is torn at byte {tears[port]}\n"
-    return Result(status, f"ran {min(len(packets), most)} one 1\n".encode(), line.encode(), files)
+    ran = f"ran {min(len(packets), most)} {course.mode} {course.workers}\n"
+    return Result(status, ran.encode(), line.encode(), files)
