@@ -9,6 +9,7 @@ mod firewall;
 mod forms;
 mod functions;
 mod language;
+mod long;
 mod runs;
 mod shards;
 mod texts;

@@ -211,6 +211,17 @@ pub fn captures(alloc: Global, ports: &[&[Record]]) -> Result<Vec<Vec<u8>>, Allo
     Ok(captures)
 }
 
+/// A capture of so many queries, all of one time.
+pub fn long_capture(alloc: Global, count: u32) -> Result<Vec<u8>, AllocError> {
+    let mut query = Vec::new(alloc);
+    push_frame(alloc, &mut query, 1, Frame::Query)?;
+    let mut out = Vec::from_slice(alloc, &HEADER)?;
+    for _ in 0..count {
+        out.extend_from_slice(query.as_slice())?;
+    }
+    Ok(out)
+}
+
 /// A capture of one query, with another byte at a place.
 pub fn changed_capture(alloc: Global, at: usize, byte: u8) -> Result<Vec<u8>, AllocError> {
     let bytes = capture(alloc, &[(1, Frame::Query)])?;
