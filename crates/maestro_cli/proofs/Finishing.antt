@@ -30,9 +30,9 @@ use Rattle.maestro_cli.specs.Names.{name_at, writing, inputs_of, created_by, ask
 use Rattle.maestro_cli.specs.Numbers.{stop_named, Stops, IsFrontOf}
 use Rattle.maestro_cli.specs.Created.{Left, bytes_at, state_bytes, text_of}
 use Rattle.maestro_cli.specs.Opened.{AsksNext}
-use Rattle.maestro_cli.specs.Ending.{HasLeft, IsFinished, IsFar, IsPrinting, IsStopped, IsCutShort, RunsTo}
+use Rattle.maestro_cli.specs.Ending.{HasLeft, IsFinished, IsFar, IsPrinting, LeavesState, IsStopped, IsCutShort, RunsTo}
 use Rattle.maestro_cli.specs.Modes.{IsCourse, mode_by}
-use Rattle.maestro_cli.specs.Runs.{IsByOne, IsByShards, left_by}
+use Rattle.maestro_cli.specs.Runs.{IsByOne, IsByShards, IsEndOf, left_by}
 use Rattle.maestro_cli.specs.declared.course.Course.{Course}
 use Rattle.maestro_cli.specs.declared.course.Course.TheVariants as course
 use Rattle.run_history.specs.declared.line.Mode.{Mode}
@@ -65,6 +65,16 @@ left_within n (ends.Torn port offset) = omega arith
 left_within n (ends.TooMany most) = omega arith
 left_within n (ends.ShareFull full) = omega arith
 
+leaves_both : (n : ℕ) (end : End) → n + 1 < left_by n end → left_by n end ≡ n + 2
+leaves_both n ends.Whole lt = refl
+leaves_both n (ends.Torn port offset) lt = refl
+leaves_both n (ends.TooMany most) lt = refl
+leaves_both n (ends.ShareFull full) lt = absurd (omega (arith, lt))
+
+-- a run that has ended so leaves a state
+leaving : (c : RunAsked) (before : Outside) (run : Run) (end : End) → IsEndOf c before.told run end → left_by (length c.captures) end ≡ length c.captures + 2 → LeavesState c before run
+leaving c before run end ending leaves = record { end = end; ending = ending; leaves = leaves }
+
 -- a run has the mode and the workers of its course
 course_told : (c : RunAsked) (told : Told) (f : Function) (course : Course) (r : Run) → IsCourse c f course → IsByOne c told r ⊎ IsByShards c told r → (r.mode ≡ mode_by course) × (r.workers ≡ c.workers)
 course_told c told f course.One r is (inl one) = (one.is_run.mode, one.is_run.workers ∙ sym is.0)
@@ -94,9 +104,9 @@ run_printed before a b job packets state end piece is h unnamed line wrote count
       asked = counted ∙ h.asked_for;
     }
 
-far_printed : (ended : Type 0) (first ports : ℕ) (stop : NumberStop) (made full : ℕ) → 2 ≤ first → ended → StopsAt {T = Unit {0}} 0 (Err stop) → IsFar ended ports (stop_named first ports stop) made full
-far_printed ended first ports numbered.Memory made full two whole at = tt
-far_printed ended first ports (numbered.File number) made full two whole at = subst (λ (g : ℕ). IsFar ended ports (stop_named first ports (numbered.File g)) made full) (sym at) (far_stdout ended first ports made full two whole)
+far_printed : (ended stated : Type 0) (first ports : ℕ) (stop : NumberStop) (made full : ℕ) → 2 ≤ first → ended → StopsAt {T = Unit {0}} 0 (Err stop) → IsFar ended stated ports (stop_named first ports stop) made full
+far_printed ended stated first ports numbered.Memory made full two whole at = tt
+far_printed ended stated first ports (numbered.File number) made full two whole at = subst (λ (g : ℕ). IsFar ended stated ports (stop_named first ports (numbered.File g)) made full) (sym at) (far_stdout ended stated first ports made full two whole)
 
 own_printed : (first ports : ℕ) (stop : NumberStop) → 2 ≤ first → StopsAt {T = Unit {0}} 0 (Err stop) → IsNumbered first ports stop
 own_printed first ports numbered.Memory two at = tt
@@ -117,8 +127,8 @@ run_half_printed before a b job packets state end piece stop is h unnamed line w
       full = all;
       within = left_within n end;
       files = left_printed before.told a.told b.told (before.told.next + 1 + n) (name_at (asked job).out n) (bytes_at h.run) all all 0 _ h.files (omega arith) (omega (arith, two)) unnamed wrote.wrote;
-      far = far_printed _ before.told.next n stop all all two ended at;
-      last = λ lt. omega (arith, lt);
+      far = far_printed _ _ before.told.next n stop all all two ended at;
+      last = λ lt. (omega (arith, lt), leaving (asked job) before h.run end h.ending (leaves_both n end lt));
       stdout = inr (
         ended,
         record {
@@ -170,9 +180,9 @@ ended_behind before b job packets state end leaves h = record {
   ran = subst (λ (n : ℕ). HasRun before b job packets state end n n) (sym leaves) h;
 }
 
-far_at_state : (ended : Type 0) (first ports number : ℕ) (stop : NumberStop) (made full : ℕ) → 2 ≤ first → number ≡ first + 1 + ports + (ports + 1) → ports + 1 ≤ full → StopsAt {T = Unit {0}} number (Err stop) → IsFar ended ports (stop_named first ports stop) made full
-far_at_state ended first ports number numbered.Memory made full two is whole at = tt
-far_at_state ended first ports number (numbered.File file) made full two is whole at = far_state ended first ports file made full two (at ∙ is) whole
+far_at_state : (ended stated : Type 0) (first ports number : ℕ) (stop : NumberStop) (made full : ℕ) → 2 ≤ first → number ≡ first + 1 + ports + (ports + 1) → ports + 1 ≤ full → stated → StopsAt {T = Unit {0}} number (Err stop) → IsFar ended stated ports (stop_named first ports stop) made full
+far_at_state ended stated first ports number numbered.Memory made full two is whole leaves at = tt
+far_at_state ended stated first ports number (numbered.File file) made full two is whole leaves at = far_state ended stated first ports file made full two (at ∙ is) whole leaves
 
 own_at_state : (first ports number : ℕ) (stop : NumberStop) → 2 ≤ first → number ≡ first + 1 + ports + (ports + 1) → StopsAt {T = Unit {0}} number (Err stop) → IsNumbered first ports stop
 own_at_state first ports number numbered.Memory two is at = tt
@@ -180,8 +190,9 @@ own_at_state first ports number (numbered.File file) two is at = own_state first
 
 -- a front of the state was given to its file
 pub state_half_written : (before a b : Outside) (job : Job) (packets : ℕ) (state : State) (end : End) (file : ℕ) (piece : List ℕ) (stop : NumberStop) → IsJob before.told job → (h : HasRun before a job packets state end (ports_of job + 2) (ports_of job + 1)) → IsEmptyIfTold (a.told.given file) → file ≡ before.told.next + 1 + ports_of job + (ports_of job + 1)
-    → piece ≡ state_text (function_of job.func.now) state → WritesFront a.told b.told file piece → StopsAt {T = Unit {0}} file (Err stop) → IsStopCause {T = Unit {0}} a.counted b.counted (Err stop) → IsStopped (asked job) before b (stop_named before.told.next (ports_of job) stop)
-state_half_written before a b job packets state end file piece stop is h empty at text wrote stops_at cause =
+    → piece ≡ state_text (function_of job.func.now) state → WritesFront a.told b.told file piece → StopsAt {T = Unit {0}} file (Err stop) → IsStopCause {T = Unit {0}} a.counted b.counted (Err stop) → left_by (ports_of job) end ≡ ports_of job + 2 → IsStopped (asked job) before b (stop_named before.told.next (ports_of job) stop)
+state_half_written before a b job packets state end file piece stop is h empty at text wrote stops_at cause leaves =
+    let has = leaving (asked job) before h.run end h.ending leaves in
     let n = ports_of job in
     let two : 2 ≤ before.told.next = omega (arith, is.from_two, is.first) in
     let bytes : piece ≡ bytes_at h.run (n + 1) = text ∙ ap (λ (f : Function). state_text f state) (sym h.of_function) ∙ sym (last_bytes before a job packets state end (n + 2) (n + 1) h) in
@@ -192,15 +203,15 @@ state_half_written before a b job packets state end file piece stop is h empty a
       full = n + 1;
       within = omega arith;
       files = one_less before.told b.told (before.told.next + 1 + n) (name_at (asked job).out n) (bytes_at h.run) n (left_half before.told a.told b.told (before.told.next + 1 + n) (name_at (asked job).out n) (bytes_at h.run) (n + 1) file (one_more before.told a.told (before.told.next + 1 + n) (name_at (asked job).out n) (bytes_at h.run) n h.files) empty at (λ k lt. apart before.told job is k (n + 1) (omega (arith, lt)) (omega arith) (λ e. omega (arith, e, lt))) (subst (λ (p : List ℕ). WritesFront a.told b.told file p) bytes wrote));
-      far = far_at_state _ before.told.next n file stop (n + 2) (n + 1) two at (omega arith) stops_at;
-      last = λ lt. omega arith;
+      far = far_at_state _ _ before.told.next n file stop (n + 2) (n + 1) two at (omega arith) has stops_at;
+      last = λ lt. (omega arith, has);
       stdout = inl (wrote.wrote.givens 0 (λ e. omega (arith, e, at)) ∙ h.stdout);
       stderr = wrote.wrote.givens 1 (λ e. omega (arith, e, at)) ∙ h.stderr;
       stops = stopped_behind (asked_by (asked job)) (inputs_of (asked job) ++ created_by (asked job).out n (n + 2)) before.told.next n before.counted a.counted b.counted stop (own_at_state before.told.next n file stop two at stops_at) (front_all (asked_by (asked job))) h.asked_for cause;
     })
 
 -- memory ran out
-pub run_starved : (before a : Outside) (job : Job) (packets : ℕ) (state : State) (end : End) (made full : ℕ) → made ≤ ports_of job + 2 → (ports_of job + 1 < made → ports_of job + 1 ≤ full) → HasRun before a job packets state end made full → IsStopped (asked job) before a stops.Memory
+pub run_starved : (before a : Outside) (job : Job) (packets : ℕ) (state : State) (end : End) (made full : ℕ) → made ≤ ports_of job + 2 → (ports_of job + 1 < made → (ports_of job + 1 ≤ full) × (left_by (ports_of job) end ≡ ports_of job + 2)) → HasRun before a job packets state end made full → IsStopped (asked job) before a stops.Memory
 run_starved before a job packets state end made full within last h =
     let n = ports_of job in
     inr (record {
@@ -211,7 +222,7 @@ run_starved before a job packets state end made full within last h =
       within = within;
       files = h.files;
       far = tt;
-      last = last;
+      last = λ lt. ((last lt).0, leaving (asked job) before h.run end h.ending (last lt).1);
       stdout = inl h.stdout;
       stderr = h.stderr;
       stops = memory_behind (asked_by (asked job)) (inputs_of (asked job) ++ created_by (asked job).out n made) before.told.next n before.counted a.counted (created_front (asked job) made within) h.asked_for;
@@ -248,9 +259,9 @@ state_created before a b job packets state end file is h created counted =
           ∙ ap (λ (t : List Asked). asking t before.counted) (asked_next (inputs_of (asked job)) (asked job).out n (n + 1) ∙ ap (λ (m : ℕ). inputs_of (asked job) ++ created_by (asked job).out n m) more);
     }
 
-far_creating : (ended : Type 0) (first ports number : ℕ) (stop : NumberStop) (made full : ℕ) (old new : Counted) (one : Asked) → 2 ≤ first → number ≡ first + 1 + ports + (ports + 1) → ports + 1 ≤ full → AsksNext {T = ℕ} one number old new (Err stop) → IsFar ended ports (stop_named first ports stop) made full
-far_creating ended first ports number numbered.Memory made full old new one two is whole h = tt
-far_creating ended first ports number (numbered.File file) made full old new one two is whole h = far_state ended first ports file made full two (h.0 ∙ is) whole
+far_creating : (ended stated : Type 0) (first ports number : ℕ) (stop : NumberStop) (made full : ℕ) (old new : Counted) (one : Asked) → 2 ≤ first → number ≡ first + 1 + ports + (ports + 1) → ports + 1 ≤ full → stated → AsksNext {T = ℕ} one number old new (Err stop) → IsFar ended stated ports (stop_named first ports stop) made full
+far_creating ended stated first ports number numbered.Memory made full old new one two is whole leaves h = tt
+far_creating ended stated first ports number (numbered.File file) made full old new one two is whole leaves h = far_state ended stated first ports file made full two (h.0 ∙ is) whole leaves
 
 own_creating : (first ports number : ℕ) (stop : NumberStop) (old new : Counted) (one : Asked) → 2 ≤ first → number ≡ first + 1 + ports + (ports + 1) → AsksNext {T = ℕ} one number old new (Err stop) → IsNumbered first ports stop
 own_creating first ports number numbered.Memory old new one two is h = tt
@@ -258,8 +269,9 @@ own_creating first ports number (numbered.File file) old new one two is h = own_
 
 -- the state's file could not be created
 pub state_uncreated : (before a b : Outside) (job : Job) (packets : ℕ) (state : State) (end : End) (number : ℕ) (stop : NumberStop) → IsJob before.told job → HasRun before a job packets state end (ports_of job + 1) (ports_of job + 1) → Same a.told b.told → a.told.next ≡ number
-    → AsksNext {T = ℕ} (writing (name_at (asked job).out (ports_of job) (ports_of job + 1))) number a.counted b.counted (Err stop) → IsStopped (asked job) before b (stop_named before.told.next (ports_of job) stop)
-state_uncreated before a b job packets state end number stop is h same at asks =
+    → AsksNext {T = ℕ} (writing (name_at (asked job).out (ports_of job) (ports_of job + 1))) number a.counted b.counted (Err stop) → left_by (ports_of job) end ≡ ports_of job + 2 → IsStopped (asked job) before b (stop_named before.told.next (ports_of job) stop)
+state_uncreated before a b job packets state end number stop is h same at asks leaves =
+    let has = leaving (asked job) before h.run end h.ending leaves in
     let n = ports_of job in
     let two : 2 ≤ before.told.next = omega (arith, is.from_two, is.first) in
     let more : n + 1 + 1 ≡ n + 2 = omega arith in
@@ -270,8 +282,8 @@ state_uncreated before a b job packets state end number stop is h same at asks =
       full = n + 1;
       within = omega arith;
       files = left_same before.told a.told b.told (before.told.next + 1 + n) (name_at (asked job).out n) (bytes_at h.run) (n + 1) (n + 1) h.files same;
-      far = far_creating _ before.told.next n number stop (n + 1) (n + 1) a.counted b.counted _ two (sym at ∙ h.files.next) (omega arith) asks;
-      last = λ lt. omega arith;
+      far = far_creating _ _ before.told.next n number stop (n + 1) (n + 1) a.counted b.counted _ two (sym at ∙ h.files.next) (omega arith) has asks;
+      last = λ lt. absurd (omega (arith, lt));
       stdout = inl (same.givens 0 ∙ h.stdout);
       stderr = same.givens 1 ∙ h.stderr;
       stops = stopped_next (asked_by (asked job)) (inputs_of (asked job) ++ created_by (asked job).out n (n + 1)) (writing (name_at (asked job).out n (n + 1))) number before.told.next n before.counted a.counted b.counted stop

@@ -46,29 +46,29 @@ opened_state ports place past =
 -- ---- how far a run came that a file stopped
 
 -- a capture, behind all others
-pub far_capture : (ended : Type 0) (first ports number i full : ℕ) → 2 ≤ first → number ≡ first + 1 + i → i < ports → IsFarAt ended ports (file_of first ports number) (ports + 1) full
-far_capture ended first ports number i full two at lt =
-    subst (λ (f : RunFile). IsFarAt ended ports f (ports + 1) full) (sym (file_behind first ports number (1 + i) two (omega (arith, at)) (omega arith) ∙ opened_capture ports (1 + i) (omega (arith, lt)))) refl
+pub far_capture : (ended stated : Type 0) (first ports number i full : ℕ) → 2 ≤ first → number ≡ first + 1 + i → i < ports → IsFarAt ended stated ports (file_of first ports number) (ports + 1) full
+far_capture ended stated first ports number i full two at lt =
+    subst (λ (f : RunFile). IsFarAt ended stated ports f (ports + 1) full) (sym (file_behind first ports number (1 + i) two (omega (arith, at)) (omega arith) ∙ opened_capture ports (1 + i) (omega (arith, lt)))) refl
 
 -- an output or the journal
-pub far_created : (ended : Type 0) (first ports number k made full : ℕ) → 2 ≤ first → number ≡ first + 1 + ports + k → k ≤ ports → k ≤ made → made ≤ ports + 1 → IsFarAt ended ports (file_of first ports number) made full
-far_created ended first ports number k made full two at le less within = at_place (cases k ports le)
+pub far_created : (ended stated : Type 0) (first ports number k made full : ℕ) → 2 ≤ first → number ≡ first + 1 + ports + k → k ≤ ports → k ≤ made → made ≤ ports + 1 → IsFarAt ended stated ports (file_of first ports number) made full
+far_created ended stated first ports number k made full two at le less within = at_place (cases k ports le)
   where
     cases : (k n : ℕ) → k ≤ n → (k ≡ n) ⊎ (k < n)
     cases k n le = eq-or-lt_of_le {n = k} {m = n} le
 
-    at_place : (k ≡ ports) ⊎ (k < ports) → IsFarAt ended ports (file_of first ports number) made full
-    at_place (inl same) = subst (λ (f : RunFile). IsFarAt ended ports f made full) (sym (file_behind first ports number (1 + ports + k) two (omega (arith, at)) (omega arith) ∙ opened_journal ports (1 + ports + k) (omega (arith, same)))) (omega (arith, same, less), within)
-    at_place (inr lt) = subst (λ (f : RunFile). IsFarAt ended ports f made full) (sym (file_behind first ports number (1 + ports + k) two (omega (arith, at)) (omega arith) ∙ opened_output ports (1 + ports + k) (omega arith) (omega (arith, lt)))) (omega (arith, less), within)
+    at_place : (k ≡ ports) ⊎ (k < ports) → IsFarAt ended stated ports (file_of first ports number) made full
+    at_place (inl same) = subst (λ (f : RunFile). IsFarAt ended stated ports f made full) (sym (file_behind first ports number (1 + ports + k) two (omega (arith, at)) (omega arith) ∙ opened_journal ports (1 + ports + k) (omega (arith, same)))) (omega (arith, same, less), within)
+    at_place (inr lt) = subst (λ (f : RunFile). IsFarAt ended stated ports f made full) (sym (file_behind first ports number (1 + ports + k) two (omega (arith, at)) (omega arith) ∙ opened_output ports (1 + ports + k) (omega arith) (omega (arith, lt)))) (omega (arith, less), within)
 
 -- the state
-pub far_state : (ended : Type 0) (first ports number made full : ℕ) → 2 ≤ first → number ≡ first + 1 + ports + (ports + 1) → ports + 1 ≤ full → IsFarAt ended ports (file_of first ports number) made full
-far_state ended first ports number made full two at whole =
-    subst (λ (f : RunFile). IsFarAt ended ports f made full) (sym (file_behind first ports number (1 + ports + (ports + 1)) two (omega (arith, at)) (omega arith) ∙ opened_state ports (1 + ports + (ports + 1)) (omega arith))) whole
+pub far_state : (ended stated : Type 0) (first ports number made full : ℕ) → 2 ≤ first → number ≡ first + 1 + ports + (ports + 1) → ports + 1 ≤ full → stated → IsFarAt ended stated ports (file_of first ports number) made full
+far_state ended stated first ports number made full two at whole leaves =
+    subst (λ (f : RunFile). IsFarAt ended stated ports f made full) (sym (file_behind first ports number (1 + ports + (ports + 1)) two (omega (arith, at)) (omega arith) ∙ opened_state ports (1 + ports + (ports + 1)) (omega arith))) (whole, leaves)
 
 -- standard output
-pub far_stdout : (ended : Type 0) (first ports made full : ℕ) → 2 ≤ first → ended → IsFarAt ended ports (file_of first ports 0) made full
-far_stdout ended first ports made full two whole = subst (λ (f : RunFile). IsFarAt ended ports f made full) (sym (file_stdout first ports two)) whole
+pub far_stdout : (ended stated : Type 0) (first ports made full : ℕ) → 2 ≤ first → ended → IsFarAt ended stated ports (file_of first ports 0) made full
+far_stdout ended stated first ports made full two whole = subst (λ (f : RunFile). IsFarAt ended stated ports f made full) (sym (file_stdout first ports two)) whole
 
 -- ---- the number of the file that a number is of is this number
 

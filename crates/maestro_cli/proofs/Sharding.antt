@@ -170,7 +170,7 @@ shards_halted before a b job captures targets feed keys stop is several h cut ke
       full = 0;
       within = omega arith;
       files = left_ready before a b job captures targets feed cut.run 0 is h run kept cut.fronts (omega arith) (λ k file lt e. absurd (omega (arith, lt)));
-      far = far_running _ before a job captures targets feed stop is h among;
+      far = far_running _ _ before a job captures targets feed stop is h among;
       last = λ lt. absurd (omega (arith, lt));
       stdout = inl (standard_kept before a b job captures targets feed 0 is h kept (omega arith));
       stderr = standard_kept before a b job captures targets feed 1 is h kept (omega arith);

@@ -271,12 +271,12 @@ run_finished before a b job captures targets feed next ran is alone h fin kept c
       asked_for = counted ∙ ready_asked before a job captures targets feed h;
     }
 
-pub far_running : (ended : Type 0) (before a : Outside) (job : Job) (captures targets : List ℕ) (feed : Feeding) (stop : NumberStop) → IsJob before.told job → HasReady before a job captures targets feed → StopsAmong {T = Unit {0}} captures targets (Err stop) → IsFar ended (ports_of job) (stop_named before.told.next (ports_of job) stop) (ports_of job + 1) 0
-far_running ended before a job captures targets feed numbered.Memory is h among = tt
-far_running ended before a job captures targets feed (numbered.File file) is h (inl one) =
-    far_capture ended before.told.next (ports_of job) file one.0 0 (omega (arith, is.from_two, is.first)) (h.fed.numbers one.0 file one.1) (omega (arith, slice_get_within captures one.0 file one.1, h.fed.all))
-far_running ended before a job captures targets feed (numbered.File file) is h (inr one) =
-    far_created ended before.told.next (ports_of job) file one.0 (ports_of job + 1) 0 (omega (arith, is.from_two, is.first)) (omega (arith, h.created.numbers one.0 file one.1, h.fed.next, h.fed.all))
+pub far_running : (ended stated : Type 0) (before a : Outside) (job : Job) (captures targets : List ℕ) (feed : Feeding) (stop : NumberStop) → IsJob before.told job → HasReady before a job captures targets feed → StopsAmong {T = Unit {0}} captures targets (Err stop) → IsFar ended stated (ports_of job) (stop_named before.told.next (ports_of job) stop) (ports_of job + 1) 0
+far_running ended stated before a job captures targets feed numbered.Memory is h among = tt
+far_running ended stated before a job captures targets feed (numbered.File file) is h (inl one) =
+    far_capture ended stated before.told.next (ports_of job) file one.0 0 (omega (arith, is.from_two, is.first)) (h.fed.numbers one.0 file one.1) (omega (arith, slice_get_within captures one.0 file one.1, h.fed.all))
+far_running ended stated before a job captures targets feed (numbered.File file) is h (inr one) =
+    far_created ended stated before.told.next (ports_of job) file one.0 (ports_of job + 1) 0 (omega (arith, is.from_two, is.first)) (omega (arith, h.created.numbers one.0 file one.1, h.fed.next, h.fed.all))
     (omega (arith, slice_get_within targets one.0 file one.1, h.created.all)) (omega (arith, slice_get_within targets one.0 file one.1, h.created.all)) (omega arith)
 
 pub own_running : (before a : Outside) (job : Job) (captures targets : List ℕ) (feed : Feeding) (stop : NumberStop) → IsJob before.told job → HasReady before a job captures targets feed → StopsAmong {T = Unit {0}} captures targets (Err stop) → IsNumbered before.told.next (ports_of job) stop
@@ -301,18 +301,18 @@ run_halted before a b job captures targets feed stop is alone h cut kept cause a
       full = 0;
       within = omega arith;
       files = left_ready before a b job captures targets feed some.run 0 is h run kept some.fronts (omega arith) (λ k file lt e. absurd (omega (arith, lt)));
-      far = far_running _ before a job captures targets feed stop is h among;
+      far = far_running _ _ before a job captures targets feed stop is h among;
       last = λ lt. absurd (omega (arith, lt));
       stdout = inl (standard_kept before a b job captures targets feed 0 is h kept (omega arith));
       stderr = standard_kept before a b job captures targets feed 1 is h kept (omega arith);
       stops = stopped_behind (asked_by (asked job)) (inputs_of (asked job) ++ created_by (asked job).out n (n + 1)) before.told.next n before.counted a.counted b.counted stop (own_running before a job captures targets feed stop is h among) (created_front (asked job) (n + 1) (omega arith)) (ready_asked before a job captures targets feed h) cause;
     })
 
-far_some : (ended : Type 0) (first ports base : ℕ) (stop : NumberStop) (a b : Told) (name : ℕ → List ℕ) → 2 ≤ first → a.next ≡ first + 1 + ports → (s : AreSomeCreated a b name (ports + 1) stop) → IsFar ended ports (stop_named first ports stop) s.made 0
-far_some ended first ports base numbered.Memory a b name two at s = tt
-far_some ended first ports base (numbered.File file) a b name two at s =
+far_some : (ended stated : Type 0) (first ports base : ℕ) (stop : NumberStop) (a b : Told) (name : ℕ → List ℕ) → 2 ≤ first → a.next ≡ first + 1 + ports → (s : AreSomeCreated a b name (ports + 1) stop) → IsFar ended stated ports (stop_named first ports stop) s.made 0
+far_some ended stated first ports base numbered.Memory a b name two at s = tt
+far_some ended stated first ports base (numbered.File file) a b name two at s =
     let here = s.at file refl in
-    far_created ended first ports file s.made s.made 0 two (here.0 ∙ ap (λ (m : ℕ). m + s.made) at) (omega (arith, here.1)) (omega arith) (omega (arith, s.less))
+    far_created ended stated first ports file s.made s.made 0 two (here.0 ∙ ap (λ (m : ℕ). m + s.made) at) (omega (arith, here.1)) (omega arith) (omega (arith, s.less))
 
 own_some : (first ports : ℕ) (stop : NumberStop) (a b : Told) (name : ℕ → List ℕ) → 2 ≤ first → a.next ≡ first + 1 + ports → AreSomeCreated a b name (ports + 1) stop → IsNumbered first ports stop
 own_some first ports numbered.Memory a b name two at s = tt
@@ -343,7 +343,7 @@ run_uncreated before a b job captures feed stop r is h is_run s asks =
       full = 0;
       within = omega (arith, s.less);
       files = left_begun before.told a.told b.told (before.told.next + 1 + n) (name_at (asked job).out n) (bytes_at r) s.made h.only.untouched.contents at s.created;
-      far = far_some _ before.told.next n n stop a.told b.told (name_at (asked job).out n) two at s;
+      far = far_some _ _ before.told.next n n stop a.told b.told (name_at (asked job).out n) two at s;
       last = λ lt. absurd (omega (arith, lt, s.less));
       stdout = inl (s.created.givens 0 (omega (arith, two, at)) ∙ h.only.untouched.standard 0 (omega arith));
       stderr = s.created.givens 1 (omega (arith, two, at)) ∙ h.only.untouched.standard 1 (omega arith);

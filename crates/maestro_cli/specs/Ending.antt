@@ -77,24 +77,31 @@ pub record IsPrinting (c : RunAsked) (before : Outside) (run : Run) (made full :
   pub all : made ≡ left_by (length c.captures) end
   pub whole : full ≡ made
 
--- How far a run of so many ports came that a file stopped: how many files were created, and how many of
--- these are whole. Captures are read once all but the state are created, and standard output is written
--- once the run has ended.
-abbrev pub IsFarAt : Type 0 → ℕ → RunFile → (made full : ℕ) → Type 0
-IsFarAt ended ports Nf made full = ⊥
-IsFarAt ended ports (Capture port) made full = made ≡ ports + 1
-IsFarAt ended ports (Output port) made full = (port ≤ made) × (made ≤ ports + 1)
-IsFarAt ended ports OutJournal made full = (ports ≤ made) × (made ≤ ports + 1)
-IsFarAt ended ports State made full = ports + 1 ≤ full
-IsFarAt ended ports Stdout made full = ended
-IsFarAt ended ports Stderr made full = ⊥
+-- The run has ended so that it leaves the text of its last state: no share stop was met.
+pub record LeavesState (c : RunAsked) (before : Outside) (run : Run) : Type 0 where
+  pub end : End
+  pub ending : IsEndOf c before.told run end
+  pub leaves : left_by (length c.captures) end ≡ length c.captures + 2
 
-abbrev pub IsFar : Type 0 → ℕ → Stop → (made full : ℕ) → Type 0
-IsFar ended ports (File file) made full = IsFarAt ended ports file made full
-IsFar ended ports Memory made full = Unit {0}
+-- How far a run of so many ports came that a file stopped: how many files were created, and how many of
+-- these are whole. Captures are read once all but the state are created, the state is left where the run
+-- has one, and standard output is written once the run has ended.
+abbrev pub IsFarAt : Type 0 → Type 0 → ℕ → RunFile → (made full : ℕ) → Type 0
+IsFarAt ended stated ports Nf made full = ⊥
+IsFarAt ended stated ports (Capture port) made full = made ≡ ports + 1
+IsFarAt ended stated ports (Output port) made full = (port ≤ made) × (made ≤ ports + 1)
+IsFarAt ended stated ports OutJournal made full = (ports ≤ made) × (made ≤ ports + 1)
+IsFarAt ended stated ports State made full = (ports + 1 ≤ full) × stated
+IsFarAt ended stated ports Stdout made full = ended
+IsFarAt ended stated ports Stderr made full = ⊥
+
+abbrev pub IsFar : Type 0 → Type 0 → ℕ → Stop → (made full : ℕ) → Type 0
+IsFar ended stated ports (File file) made full = IsFarAt ended stated ports file made full
+IsFar ended stated ports Memory made full = Unit {0}
 
 -- A run was stopped after it began to create files: each holds a front of what one run leaves there. The
--- state is created behind whole others, and nothing is printed before all are whole.
+-- state is created behind whole others, by a run that leaves one, and nothing is printed before all are
+-- whole.
 pub record IsCutShort (c : RunAsked) (before now : Outside) (stop : Stop) : Type 0 where
   pub run : Run
   pub is_run : IsRunOf c before.told run
@@ -102,8 +109,9 @@ pub record IsCutShort (c : RunAsked) (before now : Outside) (stop : Stop) : Type
   pub full : ℕ
   pub within : made ≤ length c.captures + 2
   pub files : HasLeft c before now run made full
-  pub far : IsFar (IsPrinting c before run made full) (length c.captures) stop made full
-  pub last : length c.captures + 1 < made → length c.captures + 1 ≤ full
+  pub far : IsFar (IsPrinting c before run made full) (LeavesState c before run) (length c.captures)
+      stop made full
+  pub last : length c.captures + 1 < made → (length c.captures + 1 ≤ full) × LeavesState c before run
   pub stdout : (now.told.given 0 ≡ before.told.given 0)
       ⊎ (IsPrinting c before run made full
       × PrintedFront before.told now.told 0 (ran_line (length run.turns) run.mode run.workers))

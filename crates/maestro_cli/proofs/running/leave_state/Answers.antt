@@ -31,10 +31,10 @@ returns-in-Ok g c =
     record {
       runs = halted g.before b job c.in-Err-create_next.stop c.halt.result c.requires.1.0 c.halt.ensures
           (state_uncreated g.before (seen (told c.args.files.now) (counted c.args.files.now)) b job c.args.ran.now.packets c.args.ran.now.state c.args.end (c.args.last + 1) c.in-Err-create_next.stop c.requires.1.0 c.requires.1.1.1.1 c.in-Err-create_next.ensures.err c.requires.1.1.0
-          (subst (λ (n : List ℕ). AsksNext {T = ℕ} (writing n) (c.args.last + 1) (counted c.args.files.now) (counted c.create_next.new.files) (Err c.in-Err-create_next.stop)) named c.in-Err-create_next.ensures.cause));
+          (subst (λ (n : List ℕ). AsksNext {T = ℕ} (writing n) (c.args.last + 1) (counted c.args.files.now) (counted c.create_next.new.files) (Err c.in-Err-create_next.stop)) named c.in-Err-create_next.ensures.cause) c.requires.1.1.1.0);
     }
 
 pub returns : goal.returns
 returns g c =
     let a = seen (g.F.Files.told c.args.files.now) (g.F.Files.counted c.args.files.now) in
-    record { runs = run_starved g.before a c.args.job.now c.args.ran.now.packets c.args.ran.now.state c.args.end (ports_of c.args.job.now + 1) (ports_of c.args.job.now + 1) (omega arith) (λ lt. omega arith) c.requires.1.1.1.1 }
+    record { runs = run_starved g.before a c.args.job.now c.args.ran.now.packets c.args.ran.now.state c.args.end (ports_of c.args.job.now + 1) (ports_of c.args.job.now + 1) (omega arith) (λ lt. absurd (omega (arith, lt))) c.requires.1.1.1.1 }
