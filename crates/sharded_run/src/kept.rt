@@ -1,11 +1,10 @@
-//! A packet that was read, with its frame.
-ghost use Rattle.std.specs.Prelude.{◌≡◌, ◌≤◌, ◌∷◌, [], ◌++◌, length, map, IfOk, OnOk, OnErr};
+//! Packets that were read, with their frames.
+ghost use Rattle.std.specs.Prelude.{◌≡◌, ◌≤◌, ◌<◌, ◌∷◌, ◌++◌, [], length, map, IfOk, OnOk, OnErr, slice_index_or};
 ghost use Rattle.nf_sites.specs.Separation.{HasInput};
 ghost use Rattle.pcap_file.specs.Record.{greatest_time};
 ghost use Rattle.packet_feed.specs.Arrivals.{Arrival, packet_of};
 
 use nf_base::packet::Packet;
-use nf_base::seq::Seq;
 use std::alloc::{AllocError, Global};
 use std::marker::Model;
 
@@ -49,6 +48,20 @@ impl Kept {
         })
     }
 
+    /// Another packet in the same room.
+    fn refill(&mut self, packet: &Packet, original: u32, frame: &[u8]) -> Result<(), AllocError>
+        requires time { packet.now.time ≤ greatest_time }
+        requires captured { length frame.now ≤ 262144 }
+        ensures { OnOk result (self.new
+            ≡ record { packet = packet.now; original = original; frame = frame.now }) }
+    {
+        self.frame.clear();
+        self.frame.extend_from_slice(frame)?;
+        self.packet = *packet;
+        self.original = original;
+        Ok(())
+    }
+
     pub(crate) fn packet(&self) -> &Packet
         ensures packet { result.now ≡ self.now.packet }
         ensures time { self.now.packet.time ≤ greatest_time }
@@ -70,6 +83,81 @@ impl Kept {
     }
 }
 
+/// Packets with their frames, in order. The room that they take is kept for others.
+#[derive(Drop)]
+pub(crate) struct Batch {
+    /// Those of the batch, and behind them those whose room is free.
+    kept: Vec<Kept>,
+    len: usize,
+}
+
+impl Model for Batch {
+    ghost use Rattle.std.specs.Prelude.{List, take, ◌≤◌, length};
+    ghost use Rattle.packet_feed.specs.Arrivals.{Arrival};
+
+    ghost Value = { List Arrival };
+
+    ghost view = { λ b. take b.len b.kept.items };
+
+    ghost invariant = { λ b. b.len ≤ length b.kept.items };
+}
+
+impl Batch {
+    /// No packet.
+    pub(crate) fn new(alloc: Global) -> Batch
+        ensures { result ≡ [] }
+    {
+        Batch {
+            kept: Vec::new(alloc),
+            len: 0,
+        }
+    }
+
+    pub(crate) fn len(&self) -> usize
+        ensures { result ≡ length self.now }
+    {
+        self.len
+    }
+
+    pub(crate) fn item(&self, i: usize) -> &Kept
+        requires { i < length self.now }
+        ensures { result.now ≡ slice_index_or self.now i result.now }
+    {
+        &self.kept[i]
+    }
+
+    /// Gives all packets up, and keeps their room.
+    pub(crate) fn clear(&mut self)
+        ensures { self.new ≡ [] }
+    {
+        self.len = 0;
+    }
+
+    /// Puts a packet with its frame behind the others.
+    fn push(
+        &mut self,
+        alloc: Global,
+        packet: &Packet,
+        original: u32,
+        frame: &[u8],
+    ) -> Result<(), AllocError>
+        requires time { packet.now.time ≤ greatest_time }
+        requires captured { length frame.now ≤ 262144 }
+        ensures ok { let one : Arrival
+            = record { packet = packet.now; original = original; frame = frame.now } in
+            OnOk result (self.new ≡ self.old ++ one ∷ []) }
+        ensures err { OnErr result (self.new ≡ self.old) }
+    {
+        if self.len < self.kept.len() {
+            self.kept[self.len].refill(packet, original, frame)?;
+        } else {
+            self.kept.push(Kept::new(alloc, packet, original, frame)?)?;
+        }
+        self.len += 1;
+        Ok(())
+    }
+}
+
 // The fields of any packet are within their widths.
 fn fits(packet: Packet)
     ensures { HasInput packet }
@@ -78,7 +166,7 @@ fn fits(packet: Packet)
 /// Puts a packet with its frame behind others.
 pub(crate) fn keep(
     alloc: Global,
-    batch: &mut Seq<Kept>,
+    batch: &mut Batch,
     packet: &Packet,
     original: u32,
     frame: &[u8],
@@ -92,18 +180,17 @@ pub(crate) fn keep(
     ensures input { HasInput packet.now }
 {
     fits(*packet);
-    let kept = Kept::new(alloc, packet, original, frame)?;
-    batch.push(kept)
+    batch.push(alloc, packet, original, frame)
 }
 
 /// The packets alone.
-pub(crate) fn packets_in(alloc: Global, batch: &Seq<Kept>) -> Result<Vec<Packet>, AllocError>
+pub(crate) fn packets_in(alloc: Global, batch: &Batch) -> Result<Vec<Packet>, AllocError>
     ensures { IfOk result (λ packets. packets.items ≡ map packet_of batch.now) }
 {
-    let mut packets = Vec::new(alloc);
+    let mut packets = Vec::with_capacity(alloc, batch.len())?;
     for k in 0..batch.len() {
         let Packet { id, time, fields } = *batch.item(k).packet();
-        packets.push(Packet { id, time, fields })?;
+        packets.push_reserved(Packet { id, time, fields });
     }
     Ok(packets)
 }

@@ -13,6 +13,7 @@ ghost use Rattle.sharded_run.specs.Rounds.{AreIdle};
 ghost use Rattle.sharded_run.specs.Going.{Reaches, ReachesOn, Comes, GivesMore, StaysFed, IfOn, ended_by};
 
 use crate::came::{Ended, ShareFull};
+use crate::kept::Batch;
 use crate::reading::read_round;
 use crate::work::work_kept;
 use crate::writing::write_round;
@@ -38,7 +39,8 @@ fn ended(ending: Option<Ending>, stop: Option<shard_core::Stop>, packets: u32) -
     }
 }
 
-// One round: packets are read and worked, and what they leave is put into the files.
+// One round: packets are read into the room of those before and worked, and what they leave is put
+// into the files.
 fn one_round<R: Threads + Sync, F: Files, G: Turns + Sync>(
     rt: &R,
     alloc: Global,
@@ -47,6 +49,7 @@ fn one_round<R: Threads + Sync, F: Files, G: Turns + Sync>(
     feed: &mut Feed,
     captures: &[u32],
     sinks: &mut Seq<Sink>,
+    batch: &mut Batch,
     turns: &G,
 ) -> Result<Option<Ended>, Stop>
     requires idle { AreIdle shards.old }
@@ -75,18 +78,18 @@ fn one_round<R: Threads + Sync, F: Files, G: Turns + Sync>(
     ensures reads { (g : ℕ) → F.is_read files.old g → F.is_read files.new g }
     ensures writes { (g : ℕ) → F.is_written files.old g → F.is_written files.new g }
 {
-    let mut batch = Seq::new(alloc);
-    let ending = match read_round(alloc, files, feed, captures, &mut batch) {
+    batch.clear();
+    let ending = match read_round(alloc, files, feed, captures, batch) {
         Ok(ending) => ending,
         Err(stop) => return Err(stop),
     };
-    let round = match work_kept(rt, alloc, shards, &batch, turns) {
+    let round = match work_kept(rt, alloc, shards, batch, turns) {
         Ok(round) => round,
         Err(_) => return Err(Stop::Memory),
     };
     let ports = shards.func().handlers.len();
     let handled = &round.handled;
-    match write_round(files, sinks, ports, &batch, handled) {
+    match write_round(files, sinks, ports, batch, handled) {
         Ok(()) => {}
         Err(stop) => return Err(stop),
     }
@@ -129,8 +132,11 @@ pub(crate) fn all_rounds<R: Threads + Sync, F: Files, G: Turns + Sync>(
     ensures reads { (g : ℕ) → F.is_read files.old g → F.is_read files.new g }
     ensures writes { (g : ℕ) → F.is_written files.old g → F.is_written files.new g }
 {
+    let mut batch = Batch::new(alloc);
     'rounds: loop {
-        match one_round(rt, alloc, files, shards, feed, captures, sinks, turns) {
+        match one_round(
+            rt, alloc, files, shards, feed, captures, sinks, &mut batch, turns,
+        ) {
             Ok(None) => {}
             Ok(Some(ended)) => return Ok(ended),
             Err(stop) => return Err(stop),

@@ -6,8 +6,7 @@ ghost use Rattle.shard_core.specs.Sharded.{StandsFor};
 ghost use Rattle.shard_core.specs.Plays.{SameSize};
 ghost use Rattle.sharded_run.specs.Rounds.{AreIdle, IsRound};
 
-use crate::kept::{Kept, packets_in};
-use nf_base::seq::Seq;
+use crate::kept::{Batch, packets_in};
 use shard_core::Shards;
 use shard_rounds::{Round, Turns, run_round};
 use std::alloc::{AllocError, Global};
@@ -18,7 +17,7 @@ pub(crate) fn work_kept<R: Threads + Sync, G: Turns + Sync>(
     rt: &R,
     alloc: Global,
     shards: &mut Shards,
-    batch: &Seq<Kept>,
+    batch: &Batch,
     turns: &G,
 ) -> Result<Round, AllocError>
     requires idle { AreIdle shards.old }

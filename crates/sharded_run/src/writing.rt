@@ -6,7 +6,7 @@ ghost use Rattle.stream_run.specs.Runs.{Handled};
 ghost use Rattle.stream_run.specs.Writing.{files_of, AreHeld, AllGoOn, KeepsBut, KeepsAllBut, IsStopCause, StopsAmong};
 ghost use Rattle.sharded_run.specs.Rounds.{answered};
 
-use crate::kept::Kept;
+use crate::kept::{Batch, Kept};
 use nf_base::seq::Seq;
 use nf_files::Files;
 use shard_core::Collected;
@@ -55,7 +55,7 @@ pub(crate) fn write_round<F: Files>(
     files: &mut F,
     sinks: &mut Seq<Sink>,
     ports: u32,
-    batch: &Seq<Kept>,
+    batch: &Batch,
     handled: &Seq<Collected>,
 ) -> Result<(), Stop>
     requires handled { length handled.now ≤ length batch.now }
