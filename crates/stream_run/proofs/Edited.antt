@@ -1,8 +1,13 @@
 -- A record whose frame is edited where it is gathered.
-use Rattle.std.proofs.Common.{◌≡◌, ℕ, ◌-◌, ◌/◌, ◌%◌, List, ◌++◌, length, take, drop, ap, sym, subst, ◌∙◌, append_assoc, append-nil, length-append, arith}
+use Rattle.std.proofs.Common.{◌≡◌, ℕ, ◌-◌, ◌/◌, ◌%◌, Bool, true, false, refl, List, ◌++◌, length, take, drop, ap, sym, subst, ◌∙◌, append_assoc, append-nil, length-append, arith}
+use Rattle.std.specs.Prelude.{if◌then◌else◌}
 use Rattle.std.proofs.lemmas.List.{take_at, drop_at, take_rest, drop_all, length-drop}
 use borrow.Rule.Slice.PartMut.{mid_of, put_mid}
 use Rattle.nf_base.specs.declared.done.Edits.{Edits}
+use Rattle.frame_ip.specs.Frame.{is_handled}
+use Rattle.frame_ip.specs.Edit.{IsUnedited, edited}
+use Rattle.frame_ip.proofs.Ones.{AreBytes}
+use Rattle.frame_ip.proofs.Unedited.{ip_none, transport_none, edited_none}
 use Rattle.pcap_file.specs.declared.form.Endian.TheVariants.{Little}
 use Rattle.pcap_file.specs.Form.{bytes_in}
 use Rattle.pcap_file.specs.Record.{record_at}
@@ -36,3 +41,12 @@ edited_last e old frame all new time original start is at put long =
 -- what a buffer holds when a loan of all its bytes is back
 pub bytes_back : (n : ℕ) (ys xs : List ℕ) → length ys ≡ n → take n (ys ++ drop (length ys) xs) ≡ ys
 bytes_back n ys xs e = take_at ys (drop (length ys) xs) n e
+
+-- a frame into which nothing is edited
+either_same : {A : Type 0} (b : Bool) (x y : A) → x ≡ y → (if b then x else y) ≡ y
+either_same true x y e = e
+either_same false x y e = refl
+
+pub unedited : (e : Edits) (f : List ℕ) → AreBytes f → IsUnedited e → with_edits e f ≡ f
+unfolding with_edits
+unedited e f bytes none = either_same (is_handled f) (edited e f) f (edited_none e f none (ip_none e f bytes none) (transport_none e f bytes none))

@@ -1,5 +1,6 @@
 //! What one packet leaves in a file.
-ghost use Rattle.std.specs.Prelude.{◌≡◌, ◌≤◌, ◌++◌, length, take, drop, OnOk};
+ghost use Rattle.std.specs.Prelude.{◌≡◌, ◌≤◌, ◌++◌, true, length, take, drop, OnOk};
+ghost use Rattle.frame_ip.specs.Edit.{IsUnedited};
 ghost use Rattle.pcap_file.specs.Record.{greatest_time, record_at};
 ghost use Rattle.pcap_file.specs.Spelled.{written_bytes};
 ghost use Rattle.stream_run.specs.Texts.{sends, with_edits, sent_bytes, piece};
@@ -24,12 +25,34 @@ fn sends(action: Action, from: u32, port: u32) -> bool
     }
 }
 
-// Writes a packet's edits into its frame, where it is handled.
+// Whether no field is given a value.
+fn are_none(edits: &Edits) -> bool
+    ensures { result ≡ true → IsUnedited edits.now }
+{
+    match edits {
+        Edits {
+            src_mac: None,
+            dst_mac: None,
+            src_ip: None,
+            dst_ip: None,
+            ttl: None,
+            src_port: None,
+            dst_port: None,
+        } => true,
+        _ => false,
+    }
+}
+
+// Writes a packet's edits into its frame, where it is handled. Where there are none its headers are not
+// even looked at.
 #[tactic(auto, unfolding(crate::specs::Texts::with_edits))]
 fn edit_handled(frame: &mut [u8], edits: &Edits)
     ensures edited { frame.new ≡ with_edits edits.now frame.old }
     ensures long { length (with_edits edits.now frame.old) ≡ length frame.old }
 {
+    if are_none(edits) {
+        return;
+    }
     if view(frame, 0).is_some() {
         edit(frame, edits);
     }
