@@ -1,2 +1,3 @@
 pub mod Tables
 pub mod Shares
+pub mod Hashers

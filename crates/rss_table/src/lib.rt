@@ -2,9 +2,11 @@
 //! of its queues owns.
 #![tactic(auto)]
 
+mod hasher;
 pub mod laws;
 mod shares;
 mod table;
 
+pub use hasher::Hasher;
 pub use shares::share;
 pub use table::{Table, table_index};

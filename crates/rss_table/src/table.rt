@@ -2,6 +2,7 @@
 ghost use Rattle.std.specs.Prelude.{◌≡◌, ℕ, ◌<◌, length, Some};
 ghost use Rattle.rss_table.specs.Tables.{AllBelow, table_index, even_table, queue_at, queue_of};
 
+use crate::hasher::Hasher;
 use nf_base::keys::Keys;
 use nf_base::packet::Packet;
 use nf_base::workers::Workers;
@@ -47,6 +48,18 @@ impl Table {
             Some(hash) => self.queue_of_hash(hash),
             None => 0,
         }
+    }
+
+    /// The same by the tables of keys.
+    pub fn queue_by(&self, hasher: &Hasher, packet: &Packet) -> u32
+        requires { packet.now.id.port < length hasher.now.ports }
+        ensures value { result ≡ queue_of self.now hasher.now packet.now }
+        ensures below { (count : ℕ) → AllBelow count self.now → result < count }
+    {
+        let Some(hash) = hasher.hash_packet(packet) else {
+            return 0;
+        };
+        self.queue_of_hash(hash)
     }
 
     /// The queue of a hash: the entry at its table index.

@@ -19,7 +19,7 @@ use nf_base::keys::Keys;
 use nf_base::packet::Packet;
 use nf_base::seq::Seq;
 use nf_base::workers::Workers;
-use rss_table::{Table, share};
+use rss_table::{Hasher, Table, share};
 use shard_machine::{Answer, Worked};
 use std::alloc::{AllocError, Global};
 use std::marker::Model;
@@ -31,7 +31,7 @@ use std::mem;
 pub struct Shards {
     alloc: Global,
     func: Func,
-    keys: Keys,
+    keys: Hasher,
     table: Table,
     /// How many queues there are.
     count: Workers,
@@ -134,7 +134,7 @@ impl Shards {
         ensures err { OnErr result (SameButRooms self.old self.new) }
         ensures room { (n : ℕ) → HasRoom (n + 1) self.old → IsOk result × HasRoom n self.new }
     {
-        let queue = self.table.queue(&self.keys, packet);
+        let queue = self.table.queue_by(&self.keys, packet);
         give_to(
             self.workers.item_mut(queue as usize),
             &mut self.queues,
@@ -302,6 +302,7 @@ fn make(alloc: Global, func: &Func, keys: Keys, workers: Workers) -> Result<Shar
     ensures { IfOk result (IsNewSharded (function_of func.now) keys workers) }
 {
     let func = func.copy(alloc)?;
+    let keys = Hasher::new(alloc, &keys)?;
     let made = make_workers(alloc, &func, workers)?;
     Ok(Shards {
         alloc,

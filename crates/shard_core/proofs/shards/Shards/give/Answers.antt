@@ -10,16 +10,16 @@ pub item_mut-requires : goal.item_mut-requires
 item_mut-requires c =
     let i = c.self.inside in
     let whole = subst (λ (v : Sharded). IsWhole v) (sym c.self.view_is) c.requires.whole in
-    subst (λ (n : ℕ). c.queue-queue.result < n) (sym whole) (queue_below i.func i.keys i.count i.workers i.queues.items i.table c.queue-queue.result c.self.invariant c.queue-queue.ensures.below)
+    subst (λ (n : ℕ). c.queue_by-queue.result < n) (sym whole) (queue_below i.func i.keys i.count i.workers i.queues.items i.table c.queue_by-queue.result c.self.invariant c.queue_by-queue.ensures.below)
 
 pub invariant_of-self : goal.invariant_of-self
 invariant_of-self c =
     let i = c.self.inside in
-    let q = c.queue-queue.result in
+    let q = c.queue_by-queue.result in
     let before = c.item_mut.result.now in
     let after = c.give_to.new.worker in
     let whole = subst (λ (v : Sharded). IsWhole v) (sym c.self.view_is) c.requires.whole in
-    let lt = queue_below i.func i.keys i.count i.workers i.queues.items i.table q c.self.invariant c.queue-queue.ensures.below in
+    let lt = queue_below i.func i.keys i.count i.workers i.queues.items i.table q c.self.invariant c.queue_by-queue.ensures.below in
     let at : slice_get i.workers q ≡ Some before = slice_get_read i.workers i.count q before (sym whole) lt c.item_mut.ensures.value in
     let port = subst (λ (v : Sharded). c.args.packet.now.id.port < length v.func.handlers) (sym c.self.view_is) c.requires.port in
     on_both c.give_to.result (GivenOne c.args.packet.now before after × (c.give_to.new.queues.items ≡ i.queues.items ++ q ∷ [])) (SameButRoom before after × (c.give_to.new.queues.items ≡ i.queues.items)) (IsSharded i.func i.keys i.count (slice_set i.workers q after) c.give_to.new.queues.items i.table)
@@ -31,26 +31,26 @@ invariant_of-self c =
 pub returns-clause-given : goal.returns-clause-given
 returns-clause-given c =
     let i = c.self.inside in
-    let q = c.queue-queue.result in
+    let q = c.queue_by-queue.result in
     let before = c.item_mut.result.now in
     let after = c.give_to.new.worker in
     let whole = subst (λ (v : Sharded). IsWhole v) (sym c.self.view_is) c.requires.whole in
-    let lt = queue_below i.func i.keys i.count i.workers i.queues.items i.table q c.self.invariant c.queue-queue.ensures.below in
+    let lt = queue_below i.func i.keys i.count i.workers i.queues.items i.table q c.self.invariant c.queue_by-queue.ensures.below in
     let at : slice_get i.workers q ≡ Some before = slice_get_read i.workers i.count q before (sym whole) lt c.item_mut.ensures.value in
     let more = c.give_to.new.queues in
     let new : Sharded = sharded_of i.func i.keys i.count (slice_set i.workers q after) more i.time in
-    let home = c.queue-queue.ensures.value ∙ ap (λ t. queue_of t i.keys c.args.packet.now) c.self.invariant.table_is in
+    let home = c.queue_by-queue.ensures.value ∙ ap (λ t. queue_of t i.keys c.args.packet.now) c.self.invariant.table_is in
     on_ok c.give_to.result (GivenOne c.args.packet.now before after) (more.items ≡ i.queues.items ++ q ∷ []) (GivenTo c.args.packet.now c.args.self.now new) c.give_to.ensures.given c.give_to.ensures.queued
     (λ n e. subst (λ (v : Sharded). GivenTo c.args.packet.now v new) c.self.view_is (given_to i.func i.keys i.count i.workers i.queues more i.time q c.args.packet.now before after at home n e))
 
 pub returns-clause-err : goal.returns-clause-err
 returns-clause-err c =
     let i = c.self.inside in
-    let q = c.queue-queue.result in
+    let q = c.queue_by-queue.result in
     let before = c.item_mut.result.now in
     let after = c.give_to.new.worker in
     let whole = subst (λ (v : Sharded). IsWhole v) (sym c.self.view_is) c.requires.whole in
-    let lt = queue_below i.func i.keys i.count i.workers i.queues.items i.table q c.self.invariant c.queue-queue.ensures.below in
+    let lt = queue_below i.func i.keys i.count i.workers i.queues.items i.table q c.self.invariant c.queue_by-queue.ensures.below in
     let at : slice_get i.workers q ≡ Some before = slice_get_read i.workers i.count q before (sym whole) lt c.item_mut.ensures.value in
     let more = c.give_to.new.queues in
     let new : Sharded = sharded_of i.func i.keys i.count (slice_set i.workers q after) more i.time in
@@ -60,11 +60,11 @@ returns-clause-err c =
 pub returns-clause-room : goal.returns-clause-room
 returns-clause-room c = λ n room.
     let i = c.self.inside in
-    let q = c.queue-queue.result in
+    let q = c.queue_by-queue.result in
     let before = c.item_mut.result.now in
     let after = c.give_to.new.worker in
     let whole = subst (λ (v : Sharded). IsWhole v) (sym c.self.view_is) c.requires.whole in
-    let lt = queue_below i.func i.keys i.count i.workers i.queues.items i.table q c.self.invariant c.queue-queue.ensures.below in
+    let lt = queue_below i.func i.keys i.count i.workers i.queues.items i.table q c.self.invariant c.queue_by-queue.ensures.below in
     let at : slice_get i.workers q ≡ Some before = slice_get_read i.workers i.count q before (sym whole) lt c.item_mut.ensures.value in
     let here = subst (HasRoom (n + 1)) (sym c.self.view_is) room in
     let got = c.give_to.ensures.room n (here.workers q before at) here.queues in
