@@ -1,5 +1,5 @@
 -- A share's course is the undivided one, up to where it stops.
-use Rattle.std.proofs.Common.{◌≡◌, ℕ, Bool, true, false, List, map, Option, Some, None, if◌then◌else◌, refl, ap, sym, ◌∙◌, ◌⊎◌, inl, inr, ◌&&◌, nat_lt, slice_get}
+use Rattle.std.proofs.Common.{◌≡◌, ℕ, Bool, true, false, List, map, Option, Some, None, IfNone, if◌then◌else◌, refl, ap, sym, ◌∙◌, ◌⊎◌, inl, inr, ◌&&◌, nat_lt, slice_get}
 use Rattle.std.proofs.lemmas.Bool.{true≢false}
 use Rattle.nf_base.specs.Text.{Block, End, Do, Ask, Make}
 use Rattle.nf_base.specs.Chains.{chain_at, is_taken, is_full, maps_of}
@@ -13,6 +13,8 @@ use Rattle.nf_base.specs.declared.state.Chain.{Chain}
 use Rattle.nf_base.specs.declared.state.State.{State}
 use Rattle.nf_base.specs.Text.{Function}
 use Rattle.nf_base.specs.Shares.{share_stops, none_vacant, owns}
+use Rattle.nf_engine.specs.Stops.{halts, full_stops}
+use Rattle.nf_engine.proofs.Vacant.{none_is_full, owns_all}
 use Rattle.nf_base.specs.Step.{StepResult, step_result, input, start_context, completes, step_of, step_by, step}
 
 -- whether a completion is a stop
@@ -104,3 +106,15 @@ pub whole_step : (share : Share) (f : Function) (s : State) (packet : Packet) (c
 whole_step share f s packet choices whole =
     let same : share_stops share ≡ never = λ i chain state. whole_stops_nowhere share whole chain state i in
     ap (λ (stops : Stops). step_by stops f s packet choices) same
+
+-- where the whole share is to stop, each `new` of a full chain does
+strict_same : (share : Share) → share.of ≡ 1 → (chain : ℕ) (state : Chain) → halts true share chain state ≡ full_stops chain state
+strict_same share whole chain state = none_is_full (owns share) state.slots (owns_all share whole)
+
+pub strict_whole : (share : Share) → share.of ≡ 1 → halts true share ≡ full_stops
+strict_whole share whole = λ i chain state. strict_same share whole chain state i
+
+-- what holds of no answer
+pub none_weaker : {A : Type 0} (o : Option A) (P Q : Type 0) → (P → Q) → IfNone o P → IfNone o Q
+none_weaker (Some a) P Q h p = tt
+none_weaker None P Q h p = h p

@@ -47,3 +47,9 @@ owns_all share whole i =
     let below = share.within.0 in
     let first : share.queue ≡ 0 = omega (arith, below, whole) in
     rw (whole, first, mod_one i) refl
+
+-- where each index is own, none that is own is vacant exactly where all are taken
+pub none_is_full : (own : ℕ → Bool) (slots : List (Option Entry)) → ((i : ℕ) → own i ≡ true) → none_vacant own slots ≡ is_full slots
+none_is_full own [] mine = refl
+none_is_full own (None ∷ slots) mine = rw (mine 0) refl
+none_is_full own (Some entry ∷ slots) mine = none_is_full (λ k. own (suc k)) slots (λ k. mine (suc k))

@@ -4,7 +4,6 @@ use Rattle.nf_base.specs.declared.decl.ChainDecl.{ChainDecl}
 use Rattle.nf_base.specs.Context as context
 use Rattle.nf_base.specs.Course.{NoStep, StoppedAt, exec}
 use Rattle.nf_base.specs.Limits.{QuestionFits, CreationFits}
-use Rattle.nf_base.specs.Shares.{share_stops}
 use Rattle.nf_base.specs.Text.{Block, End, Do, Ask, Make, Question, Get, Find, Test}
 use Rattle.vig_tables.specs.TablesState.{TablesState}
 use Rattle.nf_engine.specs.declared.context.Context.{Context}
@@ -13,6 +12,7 @@ use Rattle.nf_engine.specs.declared.context.Flow.{Flow}
 use Rattle.nf_engine.specs.declared.context.Halt.{Halt}
 use Rattle.nf_engine.specs.declared.context.Halt.TheVariants.{ShareFull, BadChoice}
 use Rattle.nf_engine.specs.View.{context_of, input_of, completion_of}
+use Rattle.nf_engine.specs.Stops.{may_halt, stops_of}
 use Rattle.nf_engine.specs.Choices.{MayBe, AreGiven, Consumes, are_own, context_by}
 
 -- how many variables a question binds
@@ -74,18 +74,18 @@ Goes (Ok flow) p b t old u new =
     (all : List ℕ)
     → MayBe p.choices new.picks all
     → Consumes p old.picks new.picks all
-    × (exec (share_stops p.share) (input_of p) b (context_by all t old)
+    × (exec (stops_of p) (input_of p) b (context_by all t old)
     ≡ completion_of flow (context_by all u new))
 Goes (Err (ShareFull chain)) p b t old u new =
-    (2 ≤ p.share.of)
+    IsTrue (may_halt p)
     × ((all : List ℕ)
     → MayBe p.choices new.picks all
     → Consumes p old.picks new.picks all
-    × (exec (share_stops p.share) (input_of p) b (context_by all t old)
+    × (exec (stops_of p) (input_of p) b (context_by all t old)
     ≡ StoppedAt chain (drop (length new.picks) all)))
 Goes (Err BadChoice) p b t old u new =
     AreGiven p.choices
     × ((all : List ℕ)
     → MayBe p.choices new.picks all
     → IsTrue (are_own p.share all)
-    → exec (share_stops p.share) (input_of p) b (context_by all t old) ≡ NoStep)
+    → exec (stops_of p) (input_of p) b (context_by all t old) ≡ NoStep)

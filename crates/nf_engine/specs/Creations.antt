@@ -1,12 +1,12 @@
 -- What a `new` finds and makes.
-use Rattle.std.specs.Prelude.{◌≡◌, ℕ, ◌==◌, ◌≤◌, IsTrue, true, false, List, [], ◌∷◌, ◌++◌, length, drop, Option, Some, None, if◌then◌else◌}
+use Rattle.std.specs.Prelude.{◌≡◌, ℕ, IsTrue, true, false, List, [], ◌∷◌, ◌++◌, length, drop, Option, Some, None, if◌then◌else◌}
 use Rattle.nf_base.specs.declared.share.Share.{Share}
 use Rattle.nf_base.specs.declared.state.Entry.{Entry}
 use Rattle.nf_base.specs.declared.state.Chain.{Chain}
 use Rattle.nf_base.specs.Context as context
 use Rattle.nf_base.specs.Operations as step
 use Rattle.nf_base.specs.Chains.{chain_at, maps_of, zeros_of, is_taken, is_full, stamped, fresh}
-use Rattle.nf_base.specs.Shares.{owns, none_vacant, share_stops}
+use Rattle.nf_base.specs.Shares.{owns, none_vacant}
 use Rattle.nf_base.specs.Text.{Creation}
 use Rattle.vig_tables.specs.Table.{is_open, FindsFull, FindsOpen}
 use Rattle.vig_tables.specs.TablesState.{TablesState, changed}
@@ -14,6 +14,7 @@ use Rattle.nf_engine.specs.declared.context.Context.{Context}
 use Rattle.nf_engine.specs.declared.context.Input.{Input}
 use Rattle.nf_engine.specs.declared.creation.NewResult.{NewResult}
 use Rattle.nf_engine.specs.declared.creation.NewResult.TheVariants.{Made, Taken, Full, Illegal, Stopped}
+use Rattle.nf_engine.specs.Stops.{may_halt, stops_of}
 use Rattle.nf_engine.specs.View.{context_of, input_of}
 use Rattle.nf_engine.specs.Choices.{MayBe, AreGiven, Consumes, are_own, context_by}
 
@@ -34,8 +35,8 @@ IfIllegal Illegal P = P
 IfIllegal Stopped P = Unit {0}
 
 -- what a `new` comes to with no own index vacant
-abbrev pub without_vacant : Share → NewResult
-without_vacant share = if share.of == 1 then Full else Stopped
+abbrev pub without_vacant : Input → NewResult
+without_vacant p = if may_halt p then Stopped else Full
 
 -- no key is taken, and an own index is vacant
 pub record FindsSome (p : Input) (k : ℕ) (labels : List ℕ) (slots : List (Option Entry))
@@ -48,10 +49,10 @@ abbrev pub Finds : NewResult → Input → ℕ → List ℕ → List (Option Ent
 Finds (Made i) p chain labels slots = FindsOpen (maps_of p.decls.now chain) labels p.share slots i
 Finds Taken p chain labels slots = is_taken (maps_of p.decls.now chain) labels slots ≡ true
 Finds Full p chain labels slots =
-    (p.share.of ≡ 1) × FindsFull (maps_of p.decls.now chain) labels p.share slots
+    (p.share.of ≡ 1) × (may_halt p ≡ false) × FindsFull (maps_of p.decls.now chain) labels p.share slots
 Finds Illegal p chain labels slots = FindsSome p chain labels slots
 Finds Stopped p chain labels slots =
-    (2 ≤ p.share.of) × FindsFull (maps_of p.decls.now chain) labels p.share slots
+    IsTrue (may_halt p) × FindsFull (maps_of p.decls.now chain) labels p.share slots
 
 -- an index that is not own or not vacant, or none
 abbrev pub IsClosed : Share → List (Option Entry) → Option ℕ → Type 0
@@ -72,7 +73,7 @@ abbrev pub result_with : Input → ℕ → List ℕ → List Chain → List ℕ 
 result_with p k labels chains left =
     let chain = chain_at chains k in
     if is_taken (maps_of p.decls.now k) labels chain.slots then step.Taken
-    else if share_stops p.share k chain then step.Stopped
+    else if stops_of p k chain then step.Stopped
     else if is_full chain.slots then step.Full
     else step.chosen chain.slots left
 
@@ -96,11 +97,11 @@ ComesTo Illegal p taken meant =
     → IsTrue (are_own p.share all)
     → meant (drop (length taken) all) ≡ step.Illegal)
 ComesTo Stopped p taken meant =
-    (2 ≤ p.share.of) × ((left : List ℕ) → meant left ≡ step.Stopped)
+    IsTrue (may_halt p) × ((left : List ℕ) → meant left ≡ step.Stopped)
 
 -- what a `new` of a handler comes to, for its share
 abbrev pub meant_result : Input → Creation → context.Context → step.NewResult
-meant_result p n c = step.new_result (share_stops p.share) (input_of p) c n
+meant_result p n c = step.new_result (stops_of p) (input_of p) c n
 
 -- what a `new` makes, by all the choices; where it makes no entry nothing changes
 abbrev pub Makes :
@@ -129,5 +130,5 @@ Makes Illegal p n t old u new =
     → meant_result p n (context_by all t old) ≡ step.Illegal)
 Makes Stopped p n t old u new =
     (new ≡ old)
-    × (2 ≤ p.share.of)
+    × IsTrue (may_halt p)
     × ((left : List ℕ) → meant_result p n (context_of t left old) ≡ step.Stopped)

@@ -1,18 +1,19 @@
 -- What is answered of a whole packet.
-use Rattle.std.specs.Prelude.{◌≡◌, ℕ, ◌≤◌, IsTrue, List, [], length, take, drop, Option, Result, Ok, Err, slice_get}
+use Rattle.std.specs.Prelude.{◌≡◌, ℕ, Bool, IsTrue, List, [], length, take, drop, Option, Result, Ok, Err, slice_get}
 use Rattle.nf_base.specs.declared.packet.Packet.{Packet}
 use Rattle.nf_base.specs.declared.packet.Fields.{Fields}
 use Rattle.nf_base.specs.declared.share.Share.{Share}
 use Rattle.nf_base.specs.declared.state.State.{State}
 use Rattle.nf_base.specs.declared.done.Done as answered
 use Rattle.nf_base.specs.Course.{Completion, NoStep, StoppedAt}
-use Rattle.nf_base.specs.Shares.{share_stops, IsShareStop}
+use Rattle.nf_base.specs.Shares.{IsShareStop}
 use Rattle.nf_base.specs.Step.{StepResult, step_result, if_none_left, completes}
 use Rattle.nf_base.specs.Text.{Function}
 use Rattle.nf_engine.specs.declared.context.Halt.{Halt}
 use Rattle.nf_engine.specs.declared.context.Halt.TheVariants as halt
 use Rattle.nf_engine.specs.declared.handling.Handled.{Handled}
 use Rattle.nf_engine.specs.declared.handling.Handled.TheVariants.{Done, ShareFull}
+use Rattle.nf_engine.specs.Stops.{may_stop, halts}
 use Rattle.nf_engine.specs.Choices.{Choices, MayBe, AreGiven, are_own}
 
 -- where a packet is done
@@ -33,9 +34,9 @@ pub record StopsAt (share : Share) (f : Function) (s : State) (packet : Packet) 
   pub stop : IsShareStop share f s packet fields choices chain
 
 -- how the handler of a packet completes for a share, by the choices
-abbrev pub completes_for : Share → Function → State → Packet → Fields → List ℕ → Completion
-completes_for share f s packet fields choices =
-    completes (share_stops share) f s packet.time fields choices
+abbrev pub completes_for : Bool → Share → Function → State → Packet → Fields → List ℕ → Completion
+completes_for strict share f s packet fields choices =
+    completes (halts strict share) f s packet.time fields choices
     (slice_get f.handlers packet.id.port)
 
 -- the step of a handler that came to this answer and this state, where these choices are left
@@ -59,14 +60,14 @@ pub record Stops (share : Share) (all taken : List ℕ) (chain : ℕ) (meant : C
 
 -- what the run of a packet's handler comes to, by all the choices that it may have
 abbrev pub Runs :
-    Result answered.Done Halt → Share → Choices → (List ℕ → Completion) → State → Type 0
-Runs (Ok done) share choices meant s =
+    Result answered.Done Halt → Bool → Share → Choices → (List ℕ → Completion) → State → Type 0
+Runs (Ok done) strict share choices meant s =
     (all : List ℕ) → MayBe choices done.picks all → Finishes share all done s (meant all)
-Runs (Err (halt.ShareFull chain)) share choices meant s =
-    (2 ≤ share.of)
+Runs (Err (halt.ShareFull chain)) strict share choices meant s =
+    IsTrue (may_stop strict share)
     × (taken : List ℕ)
     × ((all : List ℕ) → MayBe choices taken all → Stops share all taken chain (meant all))
-Runs (Err halt.BadChoice) share choices meant s =
+Runs (Err halt.BadChoice) strict share choices meant s =
     AreGiven choices
     × (taken : List ℕ)
     × ((all : List ℕ) → MayBe choices taken all → IsTrue (are_own share all) → meant all ≡ NoStep)

@@ -1,5 +1,6 @@
 pub mod View
 pub mod Choices
+pub mod Stops
 pub mod Creations
 pub mod Course
 pub mod Handlings

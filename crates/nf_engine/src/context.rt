@@ -42,6 +42,8 @@ pub struct Input<'a> {
     pub fields: Fields,
     /// Whose indices new entries get.
     pub share: Share,
+    /// Whether a `new` that finds no index vacant stops also where the share is the whole.
+    pub strict: bool,
     /// The indices of the entries to be made, in order. Where none are given, an entry gets any
     /// vacant index of the share.
     pub choices: Option<&'a Picks>,
@@ -60,7 +62,7 @@ pub enum Flow {
 #[derive(Clone, Copy)]
 pub enum Halt {
     /// A `new` of the chain of this number is to make an entry, and no index of the share is
-    /// vacant.
+    /// vacant: the share is one of several, or no `new` is to be told that its chain is full.
     ShareFull(u32),
     /// A `new` is to make an entry, and the next choice is not vacant, not own, or missing.
     BadChoice,

@@ -28,14 +28,15 @@ pub enum NewResult {
     Stopped,
 }
 
-/// What a `new` comes to that finds no own index vacant: the whole share is then full.
+/// What a `new` comes to that finds no own index vacant: the whole share is then full, unless that
+/// stops it too.
 fn without_vacant(p: &Input) -> NewResult
-    ensures { result ≡ without_vacant p.now.share }
+    ensures { result ≡ without_vacant p.now }
 {
-    if p.share.of == 1 {
-        NewResult::Full
-    } else {
+    if p.strict || p.share.of > 1 {
         NewResult::Stopped
+    } else {
+        NewResult::Full
     }
 }
 

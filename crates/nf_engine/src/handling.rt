@@ -4,6 +4,7 @@ ghost use Rattle.nf_base.specs.Functions.{function_of};
 ghost use Rattle.nf_base.specs.Shares.{AreOwn, share_stops};
 ghost use Rattle.nf_base.specs.Step.{step, step_by, no_edits};
 ghost use Rattle.nf_base.specs.declared.done.Action.TheVariants.{Skip};
+ghost use Rattle.nf_engine.specs.Stops.{full_stops, halts};
 ghost use Rattle.nf_engine.specs.Handlings.{IfDone, IfShareFull, StopsAt, Runs, completes_for};
 ghost use Rattle.nf_engine.specs.View.{action_of, fixed_of};
 
@@ -49,7 +50,7 @@ pub fn handle(tables: &mut Tables, func: &Func, packet: &Packet) -> Handled
     let Some(fields) = packet.fields else {
         return Handled::Done(skipped());
     };
-    match run(tables, func, packet, fields, None) {
+    match run(tables, func, packet, fields, false, None) {
         Ok(done) => Handled::Done(done),
         Err(Halt::ShareFull(chain)) => Handled::ShareFull(chain),
         // No choices are given.
@@ -80,6 +81,57 @@ pub fn replay(tables: &mut Tables, func: &Func, packet: &Packet, picks: &Picks) 
         → step (function_of func.now) tables.old.state packet.now picks.now ≡ None) }
     ensures stays { fixed_of tables.new ≡ fixed_of tables.old }
 {
+    replay_by(tables, func, packet, picks, false)
+}
+
+/// Handles a packet with given choices on tables with the whole share: None exactly where the
+/// choices are not legal, or some `new` with no key taken finds its chain full, and the tables are
+/// given up then. It takes no memory.
+pub fn replay_granted(
+    tables: &mut Tables,
+    func: &Func,
+    packet: &Packet,
+    picks: &Picks,
+) -> Option<Done>
+    requires of_func { tables.old.decls ≡ func.now.chains }
+    requires whole { tables.old.share.of ≡ 1 }
+    requires port { packet.now.id.port < length func.now.handlers }
+    ensures done { IfSome result (λ done.
+        step (function_of func.now) tables.old.state packet.now picks.now
+        ≡ Some (record { state = tables.new.state; done = done })) }
+    // So it is where each `new` of a full chain stops.
+    ensures granted { IfSome result (λ done.
+        step_by full_stops (function_of func.now) tables.old.state packet.now picks.now
+        ≡ Some (record { state = tables.new.state; done = done })) }
+    ensures none { IfNone result (
+        step_by full_stops (function_of func.now) tables.old.state packet.now picks.now ≡ None) }
+    ensures stays { fixed_of tables.new ≡ fixed_of tables.old }
+{
+    replay_by(tables, func, packet, picks, true)
+}
+
+/// Handles a packet with given choices, where a `new` may stop also for the whole share.
+fn replay_by(
+    tables: &mut Tables,
+    func: &Func,
+    packet: &Packet,
+    picks: &Picks,
+    strict: bool,
+) -> Option<Done>
+    requires of_func { tables.old.decls ≡ func.now.chains }
+    requires port { packet.now.id.port < length func.now.handlers }
+    ensures done { IfSome result (λ done.
+        step (function_of func.now) tables.old.state packet.now picks.now
+        ≡ Some (record { state = tables.new.state; done = done })) }
+    ensures by { let stops = halts strict tables.old.share in IfSome result (λ done.
+        step_by stops (function_of func.now) tables.old.state packet.now picks.now
+        ≡ Some (record { state = tables.new.state; done = done })) }
+    ensures own { IfSome result (λ _. AreOwn tables.old.share picks.now) }
+    ensures bad { let stops = halts strict tables.old.share in IfNone result (
+        AreOwn tables.old.share picks.now
+        → step_by stops (function_of func.now) tables.old.state packet.now picks.now ≡ None) }
+    ensures stays { fixed_of tables.new ≡ fixed_of tables.old }
+{
     let Some(fields) = packet.fields else {
         return if picks.len() == 0 {
             Some(skipped())
@@ -87,7 +139,7 @@ pub fn replay(tables: &mut Tables, func: &Func, packet: &Packet, picks: &Picks) 
             None
         };
     };
-    match run(tables, func, packet, fields, Some(picks)) {
+    match run(tables, func, packet, fields, strict, Some(picks)) {
         Ok(done) => if done.picks.len() < picks.len() {
             None
         } else {
@@ -107,13 +159,14 @@ fn run(
     func: &Func,
     packet: &Packet,
     fields: Fields,
+    strict: bool,
     choices: Option<&Picks>,
 ) -> Result<Done, Halt>
     requires of_func { tables.old.decls ≡ func.now.chains }
     requires port { packet.now.id.port < length func.now.handlers }
     ensures runs { let old = tables.old in
-        let meant = completes_for old.share (function_of func.now) old.state packet.now fields in
-        Runs result old.share choices.entry meant tables.new.state }
+        let meant = completes_for strict old.share (function_of func.now) old.state packet.now fields in
+        Runs result strict old.share choices.entry meant tables.new.state }
     ensures stays { fixed_of tables.new ≡ fixed_of tables.old }
 {
     let handler = func.handlers.item(packet.id.port);
@@ -123,6 +176,7 @@ fn run(
         time: packet.time,
         fields,
         share: tables.share(),
+        strict,
         choices,
     };
     let mut context = Context::new();

@@ -16,5 +16,5 @@ mod values;
 mod vars;
 
 pub use context::Look;
-pub use handling::{Handled, handle, replay};
+pub use handling::{Handled, handle, replay, replay_granted};
 pub use quiet_step::look;

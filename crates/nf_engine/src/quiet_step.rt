@@ -60,6 +60,7 @@ fn run(tables: &Tables, func: &Func, packet: &Packet, fields: Fields) -> Option<
         time: packet.time,
         fields,
         share: tables.share(),
+        strict: false,
         choices: None,
     };
     let mut context = Context::new();

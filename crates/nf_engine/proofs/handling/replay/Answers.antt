@@ -1,47 +1,16 @@
-use Rattle.std.proofs.Common.{◌∙◌, sym, arith}
+use Rattle.std.proofs.Common.{◌≡◌, ◌∙◌, sym, None}
 use Rattle.nf_base.specs.Functions.{function_of}
-use Rattle.nf_base.specs.Shares.{share_stops}
-use Rattle.nf_engine.specs.Handlings.{completes_for}
-use Rattle.nf_engine.proofs.Finishing.{runs_all, runs_short, runs_none, all_are_own}
-use Rattle.nf_engine.proofs.Undivided.{undivided_step, whole_step}
+use Rattle.nf_base.specs.Shares.{AreOwn, share_stops}
+use Rattle.nf_base.specs.Step.{step, step_by}
+use Rattle.nf_engine.proofs.Finishing.{all_are_own}
+use Rattle.nf_engine.proofs.Undivided.{whole_step, none_weaker}
 use Rattle.nf_engine.proofs.handling.replay.Goals as goal
 
-pub returns-then-len-clause-whole : goal.returns-then-len-clause-whole
-returns-then-len-clause-whole c = λ whole.
+pub returns-clause-whole : goal.returns-clause-whole
+returns-clause-whole c =
     let t = c.args.tables.now in
     let f = function_of c.args.func.now in
-    let a = c.len-in-Ok.ensures.value in
-    let b = c.len-in-Ok-2.ensures.value in
-    let less = c.if-len.true in
-    sym (whole_step t.share f t.state c.args.packet.now c.args.picks.now whole) ∙ rw c.in-Some.is (runs_short t.share c.args.picks c.in-Ok.done c.run.new.tables.state (completes_for t.share f t.state c.args.packet.now c.in-Some.fields) c.in-Ok.ensures.runs (omega (arith, a, b, less)))
-
-pub returns-else-len-clause-done : goal.returns-else-len-clause-done
-returns-else-len-clause-done c =
-    let t = c.args.tables.now in
-    let f = function_of c.args.func.now in
-    let a = c.len-in-Ok.ensures.value in
-    let b = c.len-in-Ok-2.ensures.value in
-    let more = c.if-len.false in
-    undivided_step (share_stops t.share) f t.state c.args.packet.now c.args.picks.now _ (rw (c.in-Some.is, c.again.ensures) (runs_all t.share c.args.picks c.in-Ok.done c.run.new.tables.state (completes_for t.share f t.state c.args.packet.now c.in-Some.fields) c.in-Ok.ensures.runs (omega (arith, a, b, more))).0)
-
-pub returns-else-len-clause-own : goal.returns-else-len-clause-own
-returns-else-len-clause-own c =
-    let t = c.args.tables.now in
-    let f = function_of c.args.func.now in
-    let a = c.len-in-Ok.ensures.value in
-    let b = c.len-in-Ok-2.ensures.value in
-    let more = c.if-len.false in
-    (runs_all t.share c.args.picks c.in-Ok.done c.run.new.tables.state (completes_for t.share f t.state c.args.packet.now c.in-Some.fields) c.in-Ok.ensures.runs (omega (arith, a, b, more))).1
-
-pub returns-in-Err-clause-bad : goal.returns-in-Err-clause-bad
-returns-in-Err-clause-bad c = λ own.
-    let t = c.args.tables.now in
-    let f = function_of c.args.func.now in
-    rw c.in-Some.is (runs_none t.share c.args.picks c.in-Err.field-0 c.run.new.tables.state (completes_for t.share f t.state c.args.packet.now c.in-Some.fields) c.in-Err.ensures.runs own)
-
-pub returns-in-Err-clause-whole : goal.returns-in-Err-clause-whole
-returns-in-Err-clause-whole c = λ whole.
-    let t = c.args.tables.now in
-    let f = function_of c.args.func.now in
-    let own = all_are_own t.share whole c.args.picks.now in
-    sym (whole_step t.share f t.state c.args.packet.now c.args.picks.now whole) ∙ rw c.in-Some.is (runs_none t.share c.args.picks c.in-Err.field-0 c.run.new.tables.state (completes_for t.share f t.state c.args.packet.now c.in-Some.fields) c.in-Err.ensures.runs own)
+    let p = c.args.packet.now in
+    let picks = c.args.picks.now in
+    none_weaker c.replay_by.result (AreOwn t.share picks → step_by (share_stops t.share) f t.state p picks ≡ None) (t.share.of ≡ 1 → step f t.state p picks ≡ None)
+    (λ h whole. sym (whole_step t.share f t.state p picks whole) ∙ h (all_are_own t.share whole picks)) c.replay_by.ensures.bad

@@ -24,7 +24,7 @@ returns-in-Ok-clause-runs c =
     let h = c.item-handler.result.now in
     let t = c.expire.new.self in
     let start = c.new-context.result in
-    let p : Input = record { decls = c.as_slice.result; ports = c.len.result; time = c.args.packet.now.time; fields = c.args.fields; share = c.share.result; choices = c.args.choices } in
+    let p : Input = record { decls = c.as_slice.result; ports = c.len.result; time = c.args.packet.now.time; fields = c.args.fields; share = c.share.result; strict = c.args.strict; choices = c.args.choices } in
     let chains = ap (λ (u : TablesState). u.state) c.expire.ensures in
     let begin = begins p f s c.args.packet.now c.args.fields h t start c.as_slice.ensures.value c.len.ensures.value refl refl c.requires.port c.item-handler.ensures c.new-context.ensures (rw c.requires.of_func at chains) in
     rw (c.ended.ensures, ← c.share.ensures) (runs_ok p (function_of f) s c.args.packet.now c.args.fields (block_of h.block) t c.exec.new.tables start c.exec.new.context c.in-Ok.flow begin c.in-Ok.ensures.goes)
@@ -36,7 +36,7 @@ returns-in-Err-clause-runs c =
     let h = c.item-handler.result.now in
     let t = c.expire.new.self in
     let start = c.new-context.result in
-    let p : Input = record { decls = c.as_slice.result; ports = c.len.result; time = c.args.packet.now.time; fields = c.args.fields; share = c.share.result; choices = c.args.choices } in
+    let p : Input = record { decls = c.as_slice.result; ports = c.len.result; time = c.args.packet.now.time; fields = c.args.fields; share = c.share.result; strict = c.args.strict; choices = c.args.choices } in
     let chains = ap (λ (u : TablesState). u.state) c.expire.ensures in
     let begin = begins p f s c.args.packet.now c.args.fields h t start c.as_slice.ensures.value c.len.ensures.value refl refl c.requires.port c.item-handler.ensures c.new-context.ensures (rw c.requires.of_func at chains) in
     rw (← c.share.ensures) (runs_err p (function_of f) s c.args.packet.now c.args.fields (block_of h.block) t c.exec.new.tables start c.exec.new.context c.in-Err.halt begin c.in-Err.ensures.goes)

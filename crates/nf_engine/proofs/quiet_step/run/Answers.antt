@@ -1,4 +1,4 @@
-use Rattle.std.proofs.Common.{ap, refl, sym, None}
+use Rattle.std.proofs.Common.{ap, refl, sym, None, false}
 use Rattle.nf_base.specs.Functions.{function_of}
 use Rattle.nf_base.specs.View.{block_of}
 use Rattle.nf_engine.specs.declared.context.Context.{Context}
@@ -23,7 +23,7 @@ returns-in_default-clause-needs c =
     let t = c.args.tables.now in
     let h = c.item-handler.result.now in
     let start = c.new-context.result in
-    let p : Input = record { decls = c.as_slice.result; ports = c.len.result; time = c.args.packet.now.time; fields = c.args.fields; share = c.share.result; choices = None } in
+    let p : Input = record { decls = c.as_slice.result; ports = c.len.result; time = c.args.packet.now.time; fields = c.args.fields; share = c.share.result; strict = false; choices = None } in
     let none = rw c.requires.of_func at c.requires.none_due in
     let begin = begins p f t.state c.args.packet.now c.args.fields h t start c.as_slice.ensures.value c.len.ensures.value refl refl c.requires.port c.item-handler.ensures c.new-context.ensures (sym (state_stays (function_of f) c.args.packet.now.time t.state none)) in
     looks_write p (function_of f) c.args.packet.now c.args.fields (block_of h.block) t start begin c.requires.handled none c.in_default.ensures.writes
@@ -34,7 +34,7 @@ returns-clause-done c =
     let t = c.args.tables.now in
     let h = c.item-handler.result.now in
     let start = c.new-context.result in
-    let p : Input = record { decls = c.as_slice.result; ports = c.len.result; time = c.args.packet.now.time; fields = c.args.fields; share = c.share.result; choices = None } in
+    let p : Input = record { decls = c.as_slice.result; ports = c.len.result; time = c.args.packet.now.time; fields = c.args.fields; share = c.share.result; strict = false; choices = None } in
     let none = rw c.requires.of_func at c.requires.none_due in
     let begin = begins p f t.state c.args.packet.now c.args.fields h t start c.as_slice.ensures.value c.len.ensures.value refl refl c.requires.port c.item-handler.ensures c.new-context.ensures (sym (state_stays (function_of f) c.args.packet.now.time t.state none)) in
     rw (c.action_of.ensures, c.new.ensures)
