@@ -7,7 +7,7 @@ use Rattle.nf_base.specs.declared.state.Chain.{Chain}
 use Rattle.nf_base.specs.Text.{FallsOff, Flood, Discard, Forward, Question, Get, Find, Test, Creation, Block, End, Do, Ask, Make}
 use Rattle.nf_base.specs.Chains.{chain_at, maps_of, is_taken, is_full}
 use Rattle.nf_base.specs.Context.{Context, Input, given}
-use Rattle.nf_base.specs.Operations.{NewResult, Made, Taken, Full, Illegal, Stopped, chosen, new_result, with_new, answer, after}
+use Rattle.nf_base.specs.Operations.{Stops, NewResult, Made, Taken, Full, Illegal, Stopped, chosen, new_result, with_new, answer, after}
 use Rattle.nf_base.specs.Events.{Event, AskedNew}
 use Rattle.nf_base.specs.Record.{is_full_answer, answers_full}
 use Rattle.nf_base.specs.Course.{if_hit, if_new, events}
@@ -46,16 +46,20 @@ tests_not_full true b c to f h = refl
 tests_not_full false true c to f h = refl
 tests_not_full false false c to f h = rw (f refl) h
 
-not_full : (share : Share) (p : Input) (c : Context) (n : Creation) → 1 < share.of → is_full_answer (new_result (share_stops share) p c n) ≡ false
-not_full share p c n many =
-    let chain = chain_at c.state.chains n.chain in
-    tests_not_full (is_taken (maps_of p.decls n.chain) (map (given p c) n.labels) chain.slots) (share_stops share n.chain chain) (is_full chain.slots) (chosen chain.slots c.left)
-    (room_left share n.chain chain many) (chosen_not_full chain.slots c.left)
+-- stops at each `new` that would answer full
+abbrev pub KeepRoom : Stops → Type 0
+KeepRoom stops = (k : ℕ) (now : Chain) → stops k now ≡ false → is_full now.slots ≡ false
 
-full_plain : IsPlain answers_full
+not_full : (stops : Stops) (p : Input) (c : Context) (n : Creation) → KeepRoom stops → is_full_answer (new_result stops p c n) ≡ false
+not_full stops p c n roomy =
+    let chain = chain_at c.state.chains n.chain in
+    tests_not_full (is_taken (maps_of p.decls n.chain) (map (given p c) n.labels) chain.slots) (stops n.chain chain) (is_full chain.slots) (chosen chain.slots c.left)
+    (roomy n.chain chain) (chosen_not_full chain.slots c.left)
+
+pub full_plain : IsPlain answers_full
 full_plain = record { reads_ = record { use_ = λ chain i es. refl; load_ = λ place array i es. refl }; touch_ = λ chain i es. refl; free_ = λ chain i es. refl; store_ = λ place array i changed es. refl }
 
-question_not_full : (p : Input) (c : Context) (q : Question) (rest : List Event) → answers_full (question_event p c q ∷ rest) ≡ answers_full rest
+pub question_not_full : (p : Input) (c : Context) (q : Question) (rest : List Event) → answers_full (question_event p c q ∷ rest) ≡ answers_full rest
 question_not_full p c (Get place chain m key var) rest = refl
 question_not_full p c (Find place chain at guards var) rest = refl
 question_not_full p c (Test place comparison a b) rest = refl
@@ -72,22 +76,25 @@ new_not_full Full place chain labels es fs hs n m t = cc
 new_not_full Illegal place chain labels es fs hs n m t = refl
 new_not_full Stopped place chain labels es fs hs n m t = refl
 
-pub share_grants : (share : Share) (p : Input) (b : Block) (c : Context) (k : Context → List Event) → 1 < share.of → ((d : Context) → answers_full (k d) ≡ false) → answers_full (events (share_stops share) p b c k) ≡ false
-share_grants share p (End FallsOff) c k many h = h c
-share_grants share p (End Flood) c k many h = refl
-share_grants share p (End Discard) c k many h = refl
-share_grants share p (End (Forward port)) c k many h = plain_reads answers_full full_plain.reads_ p c port []
-share_grants share p (Do op next) c k many h =
-    plain_did answers_full full_plain p c op (events (share_stops share) p next (after p c op) k) ∙ share_grants share p next (after p c op) k many h
-share_grants share p (Ask q hit miss next) c k many h =
-    let go = λ (d : Context). events (share_stops share) p next d k in
-    let follows : (d : Context) → answers_full (go d) ≡ false = λ d. share_grants share p next d k many h in
-    let es = if_hit (answer p c q) (λ d. events (share_stops share) p hit d go) (events (share_stops share) p miss c go) in
+pub grants : (stops : Stops) (p : Input) (b : Block) (c : Context) (k : Context → List Event) → KeepRoom stops → ((d : Context) → answers_full (k d) ≡ false) → answers_full (events stops p b c k) ≡ false
+grants stops p (End FallsOff) c k roomy h = h c
+grants stops p (End Flood) c k roomy h = refl
+grants stops p (End Discard) c k roomy h = refl
+grants stops p (End (Forward port)) c k roomy h = plain_reads answers_full full_plain.reads_ p c port []
+grants stops p (Do op next) c k roomy h =
+    plain_did answers_full full_plain p c op (events stops p next (after p c op) k) ∙ grants stops p next (after p c op) k roomy h
+grants stops p (Ask q hit miss next) c k roomy h =
+    let go = λ (d : Context). events stops p next d k in
+    let follows : (d : Context) → answers_full (go d) ≡ false = λ d. grants stops p next d k roomy h in
+    let es = if_hit (answer p c q) (λ d. events stops p hit d go) (events stops p miss c go) in
     plain_asked answers_full full_plain.reads_ p c q es ∙ question_not_full p c q es
-    ∙ hit_not_full (answer p c q) (λ d. events (share_stops share) p hit d go) (events (share_stops share) p miss c go) (λ d. share_grants share p hit d go many follows) (share_grants share p miss c go many follows)
-share_grants share p (Make n made taken full next) c k many h =
-    let go = λ (d : Context). events (share_stops share) p next d k in
-    let follows : (d : Context) → answers_full (go d) ≡ false = λ d. share_grants share p next d k many h in
+    ∙ hit_not_full (answer p c q) (λ d. events stops p hit d go) (events stops p miss c go) (λ d. grants stops p hit d go roomy follows) (grants stops p miss c go roomy follows)
+grants stops p (Make n made taken full next) c k roomy h =
+    let go = λ (d : Context). events stops p next d k in
+    let follows : (d : Context) → answers_full (go d) ≡ false = λ d. grants stops p next d k roomy h in
     plain_all answers_full full_plain.reads_ p c n.labels _
-    ∙ new_not_full (new_result (share_stops share) p c n) n.place n.chain (map (given p c) n.labels) (λ i. events (share_stops share) p made (with_new p c n i) go) (events (share_stops share) p taken c go) (events (share_stops share) p full c go)
-    (not_full share p c n many) (λ i. share_grants share p made (with_new p c n i) go many follows) (share_grants share p taken c go many follows)
+    ∙ new_not_full (new_result stops p c n) n.place n.chain (map (given p c) n.labels) (λ i. events stops p made (with_new p c n i) go) (events stops p taken c go) (events stops p full c go)
+    (not_full stops p c n roomy) (λ i. grants stops p made (with_new p c n i) go roomy follows) (grants stops p taken c go roomy follows)
+
+pub share_grants : (share : Share) (p : Input) (b : Block) (c : Context) (k : Context → List Event) → 1 < share.of → ((d : Context) → answers_full (k d) ≡ false) → answers_full (events (share_stops share) p b c k) ≡ false
+share_grants share p b c k many h = grants (share_stops share) p b c k (λ j now. room_left share j now many) h
