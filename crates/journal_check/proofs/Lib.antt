@@ -1,3 +1,2 @@
-pub mod Ends
-pub mod Lawful
-pub mod Whole
+mod Granted
+pub mod Judged

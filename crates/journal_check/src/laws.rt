@@ -1,25 +1,19 @@
-//! Laws of lawful lines.
+//! Laws of right lines.
 //!
 //! Each function's contract is a law; its body does nothing.
-ghost use Rattle.journal_check.specs.Laws.{WholeIsUndivided, UndividedIsWhole, LeavesOneState, FrontsAreLawful, FirewallLinesAreLawful};
+ghost use Rattle.journal_check.specs.Laws.{LinesTellSteps, QueuesAreShares, FirewallLines};
 
-/// With the whole share, the lines that are lawful are those of the undivided function's runs.
-pub fn whole_is_undivided()
-    ensures whole { WholeIsUndivided }
-    ensures undivided { UndividedIsWhole }
+/// A line and its packet determine the step.
+pub fn lines_tell_steps()
+    ensures { LinesTellSteps }
 {}
 
-/// Lines and their packets determine the state that is left.
-pub fn leaves_one_state()
-    ensures { LeavesOneState }
-{}
-
-/// Where a line more is lawful, those before it are: a journal may end early.
-pub fn fronts_are_lawful()
-    ensures { FrontsAreLawful }
+/// What a line of a queue's packet has to keep to is the rule of the queue's share.
+pub fn queues_are_shares()
+    ensures { QueuesAreShares }
 {}
 
 /// A firewall's two lines, worked out by hand.
-pub fn firewall_lines_are_lawful()
-    ensures { FirewallLinesAreLawful }
+pub fn firewall_lines_are_right()
+    ensures { FirewallLines }
 {}
