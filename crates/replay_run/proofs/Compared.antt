@@ -1,9 +1,9 @@
 -- Outputs that are compared side by side.
-use Rattle.std.proofs.Common.{◌≡◌, ◌≢◌, ℕ, zero, suc, ◌+◌, ◌<◌, ◌≤◌, List, [], ◌∷◌, ◌++◌, length, set, Bool, true, false, Option, Some, None, Ok, inl, inr, refl, sym, ap, ◌∙◌, subst, append-nil, cond, ltb, arith}
+use Rattle.std.proofs.Common.{◌≡◌, ◌≢◌, ℕ, zero, suc, ◌+◌, ◌<◌, ◌≤◌, List, [], ◌∷◌, ◌++◌, length, set, Bool, true, false, Option, Some, None, Ok, inl, inr, refl, sym, ap, ◌∙◌, subst, cond, arith}
 use Rattle.std.specs.List.{slice_get}
 use Rattle.std.specs.Option.{option_map}
 use Rattle.std.proofs.lemmas.List.{length-map}
-use Rattle.std.proofs.lemmas.Bool.{cases_eq, lt-ltb}
+use Rattle.std.proofs.lemmas.Bool.{lt-ltb}
 use Rattle.std.proofs.lemmas.Option.{slice_get-map, slice_get_within}
 use Rattle.nf_base.proofs.Mixes.{got_set}
 use Rattle.nf_files.specs.Told.{Told, IsToldAs}
@@ -13,7 +13,7 @@ use Rattle.packet_feed.specs.Told.{IsApart}
 use Rattle.run_history.specs.declared.line.Mode.{Mode}
 use Rattle.file_match.specs.Comparing.{Comparing, Found, FoundSo, IsWhole, IsOtherIfTold}
 use Rattle.stream_run.specs.Runs.{Handled}
-use Rattle.stream_run.specs.Texts.{piece, sent_bytes, line_of, bytes_of, head}
+use Rattle.stream_run.specs.Texts.{piece, sent_bytes, line_of, bytes_of}
 use Rattle.stream_run.proofs.Bytes.{bytes_more, bytes_none}
 use Rattle.pcap_file.specs.Spelled.{header_bytes}
 use Rattle.run_history.specs.Line.{header_line}

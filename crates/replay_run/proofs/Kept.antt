@@ -1,5 +1,5 @@
 -- Files that are read, and all else stays.
-use Rattle.std.proofs.Common.{◌≡◌, ◌≢◌, ℕ, suc, List, [], ◌∷◌, ◌++◌, length, take, drop, Option, Some, None, Result, Ok, Err, inl, inr, refl, sym, ap, ◌∙◌, subst}
+use Rattle.std.proofs.Common.{◌≡◌, ◌≢◌, ℕ, suc, List, [], ◌∷◌, ◌++◌, length, Some, Result, Ok, Err, inl, inr, sym, ap, ◌∙◌, subst}
 use Rattle.std.specs.List.{All, slice_get}
 use Rattle.std.proofs.Math.Seq.{take-append_seam, drop-append_seam}
 use Rattle.std.proofs.lemmas.List.Elements.{All-take, All-drop, All-append, All-head, All-tail}
@@ -14,7 +14,7 @@ use Rattle.packet_feed.proofs.Standing.{at_file, stands_among}
 use Rattle.packet_feed.proofs.Standing as standing
 use Rattle.stream_run.specs.declared.stop.Stop.{Stop}
 use Rattle.stream_run.specs.declared.stop.Stop.TheVariants.{File, Memory}
-use Rattle.stream_run.specs.Writing.{StopsAt, StopsAmong, IsOneOf}
+use Rattle.stream_run.specs.Writing.{StopsAt, StopsAmong}
 
 pub all_left : (P : ℕ → Type 0) (xs ys : List ℕ) → All P (xs ++ ys) → All P xs
 all_left P xs ys h = subst (All P) (take-append_seam xs ys) (All-take P (length xs) (xs ++ ys) h)

@@ -1,3 +1,5 @@
 pub mod Outputs
+pub mod Queues
 pub mod Replaying
 pub mod Turns
+pub mod Laws

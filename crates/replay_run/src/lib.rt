@@ -2,6 +2,7 @@
 //! are read, and what their packets leave is compared with the outputs.
 #![tactic(auto)]
 
+pub mod laws;
 mod lines;
 mod outputs;
 mod replayed;
@@ -9,4 +10,4 @@ mod replaying;
 mod turn;
 
 pub use replayed::Replayed;
-pub use replaying::replay_in_order;
+pub use replaying::{replay_in_order, replay_sharded};

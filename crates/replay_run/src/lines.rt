@@ -1,17 +1,18 @@
 //! The lines of a journal, one after another.
-ghost use Rattle.std.specs.Prelude.{◌≡◌, ◌^◌, ◌≢◌, ◌≤◌, ◌++◌, ◌∷◌, ℕ, List, Option, Some, true, length, slice_get};
+ghost use Rattle.std.specs.Prelude.{◌≡◌, ◌^◌, ◌≢◌, ◌≤◌, ◌++◌, ◌∷◌, [], ◌<◌, ℕ, List, Option, Some, true, length, slice_get, IfSome};
 ghost use Rattle.std.specs.List.{All};
 ghost use Rattle.nf_base.specs.Functions.{function_of};
-ghost use Rattle.nf_base.specs.Step.{opening};
 ghost use Rattle.nf_files.specs.Reads.{Keeps};
 ghost use Rattle.packet_feed.specs.Told.{EachFile, IsApart, KeepsOthers};
 ghost use Rattle.packet_feed.specs.Sources.{files_in};
 ghost use Rattle.run_history.specs.declared.line.JournalLine.{JournalLine};
-ghost use Rattle.run_history.specs.declared.line.Mode.TheVariants.{One};
+ghost use Rattle.rss_table.specs.Tables.{even_table};
 ghost use Rattle.file_match.specs.Comparing.{Comparing};
 ghost use Rattle.journal_read.specs.Journals.{Stands, Gives};
 ghost use Rattle.stream_run.specs.Writing.{IsStopCause, StopsAt, StopsAmong};
 ghost use Rattle.replay_run.specs.Outputs.{files_of};
+ghost use Rattle.replay_run.specs.Queues.{keys_in, IsKeyed};
+ghost use Rattle.replay_run.specs.Replaying.{IsRun};
 ghost use Rattle.replay_run.specs.Turns.{AreClear, Reads, IsEnd, IsNotWrong};
 
 use crate::outputs::compare_headers;
@@ -20,9 +21,11 @@ use file_match::Compared;
 use journal_check::Judge;
 use journal_read::{Journal, Next};
 use nf_base::func::Func;
+use nf_base::keys::Keys;
 use nf_base::seq::Seq;
 use nf_files::Files;
 use packet_feed::Feed;
+use rss_table::Table;
 use std::alloc::Global;
 use stream_run::Stop;
 
@@ -85,6 +88,8 @@ pub(crate) fn read_lines<F: Files>(
     alloc: Global,
     files: &mut F,
     func: &Func,
+    keys: Option<&Keys>,
+    table: &Table,
     judge: &mut Judge,
     feed: &mut Feed,
     most: u32,
@@ -93,9 +98,13 @@ pub(crate) fn read_lines<F: Files>(
     outputs: &mut Seq<Compared>,
 ) -> Result<End, Stop>
     requires of_func { judge.old.tables.decls ≡ func.now.chains }
-    requires mode { judge.old.heading.mode ≡ One }
-    requires whole { judge.old.tables.share.of ≡ 1 }
-    requires opens { judge.old.tables.state ≡ opening (function_of func.now) }
+    requires keyed { IsKeyed judge.old.heading.mode keys }
+    requires keys { IfSome keys (λ k. length func.now.handlers ≤ length k.now.ports) }
+    requires table { table.now ≡ even_table judge.old.heading.workers }
+    requires some { 0 < judge.old.heading.workers }
+    // No line was judged yet.
+    requires opens { let heading = judge.old.heading in
+        IsRun (function_of func.now) (keys_in keys) heading [] judge.old.tables.state }
     requires captures { files_in feed.old.sources ≡ captures.now }
     requires ports { length captures.now ≡ length func.now.handlers }
     requires new { feed.old.given ≡ 0 }
@@ -111,7 +120,9 @@ pub(crate) fn read_lines<F: Files>(
     requires few { length outputs.old ≤ 2 ^ 32 }
     requires fresh { (k : ℕ) → (c : Comparing) → slice_get outputs.old k ≡ Some c → c.same ≡ true }
     ensures reads_all { let ports = length captures.now in
-        Reads (function_of func.now) judge.old.heading ports feed.old journal.old
+        let heading = judge.old.heading in
+        Reads (IsRun (function_of func.now) (keys_in keys.entry) heading) heading ports
+        feed.old journal.old
         (F.told files.old) (F.told files.new) outputs.new judge.new.tables.state result }
     ensures same_outputs { files_of outputs.new ≡ files_of outputs.old }
     ensures kept { let all = captures.now ++ journal.old.file ∷ files_of outputs.old in
@@ -140,6 +151,8 @@ pub(crate) fn read_lines<F: Files>(
         match one_turn(
             files,
             func,
+            keys,
+            table,
             judge,
             feed,
             captures,

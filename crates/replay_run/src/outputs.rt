@@ -154,7 +154,8 @@ pub(crate) fn compare_all<F: Files>(
     requires few { length all.old ≤ 2 ^ 32 }
     requires time { packet.now.time ≤ greatest_time }
     requires captured { length frame.now ≤ 262144 }
-    ensures compares { let h = came_to 0 packet.now original frame.now done.now in
+    // Whoever handled it.
+    ensures compares { (worker : ℕ) → let h = came_to worker packet.now original frame.now done.now in
         (start : ℕ → Option (List ℕ)) → (mode : Mode) → (workers : ℕ) → (ports : ℕ) →
         (hs : List Handled) → length all.old ≤ ports →
         AreFound (λ k. bytes_of mode workers ports k hs) start all.old (F.told files.old) →

@@ -1,29 +1,48 @@
 //! One line of a journal, and its packet.
-ghost use Rattle.std.specs.Prelude.{◌≡◌, ◌^◌, ◌<◌, ◌≤◌, ◌+◌, ◌++◌, ℕ, Ok, true, length};
+ghost use Rattle.std.specs.Prelude.{◌≡◌, ◌^◌, ◌<◌, ◌≤◌, ◌+◌, ◌++◌, ℕ, Ok, true, length, IfSome};
 ghost use Rattle.nf_base.specs.Functions.{function_of};
 ghost use Rattle.nf_engine.specs.View.{fixed_of};
 ghost use Rattle.packet_feed.specs.Told.{EachFile, IsApart, KeepsOthers};
 ghost use Rattle.packet_feed.specs.Sources.{files_in};
-ghost use Rattle.run_history.specs.declared.line.Mode.TheVariants.{One};
+ghost use Rattle.rss_table.specs.Tables.{even_table};
 ghost use Rattle.stream_run.specs.Writing.{IsStopCause, StopsAmong};
 ghost use Rattle.replay_run.specs.Outputs.{files_of};
+ghost use Rattle.replay_run.specs.Queues.{queue_in, keys_in, IsKeyed};
+ghost use Rattle.replay_run.specs.Replaying.{IsRun};
 ghost use Rattle.replay_run.specs.Turns.{AreClear, Turns, Counts};
 
 use crate::outputs::compare_all;
 use file_match::Compared;
 use journal_check::Judge;
 use nf_base::func::Func;
+use nf_base::keys::Keys;
+use nf_base::packet::Packet;
 use nf_base::seq::Seq;
 use nf_files::Files;
 use packet_feed::{Fed, Feed};
+use rss_table::Table;
 use run_history::line::JournalLine;
 use stream_run::{Stop, stop_in};
+
+// The queue of a packet, of so many workers; 0 where no keys are given.
+fn queue_of(keys: Option<&Keys>, table: &Table, packet: &Packet) -> u32
+    requires port { IfSome keys (λ k. packet.now.id.port < length k.now.ports) }
+    ensures { (workers : ℕ) → table.now ≡ even_table workers →
+        result ≡ queue_in keys.entry workers packet.now }
+{
+    match keys {
+        Some(keys) => table.queue(keys, packet),
+        None => 0,
+    }
+}
 
 /// Handles the packet that comes next, where this is its line, and compares what it leaves with the
 /// outputs; false where it isn't, or no packet comes.
 pub(crate) fn one_turn<F: Files>(
     files: &mut F,
     func: &Func,
+    keys: Option<&Keys>,
+    table: &Table,
     judge: &mut Judge,
     feed: &mut Feed,
     captures: &[u32],
@@ -32,8 +51,10 @@ pub(crate) fn one_turn<F: Files>(
     line: &JournalLine,
 ) -> Result<bool, Stop>
     requires of_func { judge.old.tables.decls ≡ func.now.chains }
-    requires mode { judge.old.heading.mode ≡ One }
-    requires whole { judge.old.tables.share.of ≡ 1 }
+    requires keyed { IsKeyed judge.old.heading.mode keys }
+    requires keys { IfSome keys (λ k. length func.now.handlers ≤ length k.now.ports) }
+    requires table { table.now ≡ even_table judge.old.heading.workers }
+    requires some { 0 < judge.old.heading.workers }
     requires captures { files_in feed.old.sources ≡ captures.now }
     requires ports { length captures.now ≡ length func.now.handlers }
     requires room { feed.old.given < feed.old.most }
@@ -42,7 +63,8 @@ pub(crate) fn one_turn<F: Files>(
     requires apart { IsApart (files_of outputs.old) }
     requires clear { AreClear captures.now (files_of outputs.old) }
     requires few { length outputs.old ≤ 2 ^ 32 }
-    ensures turns { Turns (function_of func.now) line.now
+    ensures turns { let heading = judge.old.heading in
+        Turns (IsRun (function_of func.now) (keys_in keys.entry) heading) line.now
         judge.old.tables.state judge.new.tables.state feed.old feed.new
         (F.told files.old) (F.told files.new) outputs.old outputs.new result }
     ensures same { fixed_of judge.new.tables ≡ fixed_of judge.old.tables }
@@ -65,7 +87,8 @@ pub(crate) fn one_turn<F: Files>(
         Ok(Fed::Packet(packet)) => {
             let original = feed.original();
             let frame = feed.frame();
-            match judge.judge(func, &packet, line) {
+            let queue = queue_of(keys, table, &packet);
+            match judge.judge(func, &packet, queue, line) {
                 None => Ok(false),
                 Some(done) => match compare_all(
                     files, outputs, buffer, &packet, original, frame, &done,

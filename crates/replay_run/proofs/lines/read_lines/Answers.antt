@@ -1,13 +1,12 @@
-use Rattle.std.proofs.Common.{◌≡◌, ◌≢◌, ◌≤◌, ◌++◌, ◌∷◌, [], ℕ, List, Option, Bool, Err, length, Some, sym, ap, refl, subst, ◌∙◌, arith}
+use Rattle.std.proofs.Common.{◌≡◌, ◌≢◌, ◌≤◌, ◌++◌, ◌∷◌, [], ℕ, List, Option, Bool, Err, length, map, Some, sym, ap, refl, subst, ◌∙◌, arith}
 use Rattle.std.specs.List.{All, slice_get}
 use Rattle.std.proofs.lemmas.List.Elements.{All-append}
 use Rattle.nf_base.specs.Functions.{function_of}
 use Rattle.nf_files.specs.Told.{Told}
 use Rattle.nf_files.specs.Reads.{Keeps}
 use Rattle.packet_feed.specs.Told.{KeepsOthers}
-use Rattle.packet_feed.specs.Sources.{files_in}
 use Rattle.packet_feed.proofs.Standing.{at_file}
-use Rattle.run_history.specs.declared.line.Mode.TheVariants.{One}
+use Rattle.run_history.specs.Headings.{Heading}
 use Rattle.run_history.specs.declared.line.JournalLine.{JournalLine}
 use Rattle.run_history.specs.Lines.{IsLine}
 use Rattle.journal_read.specs.Journals.{Reading, Stands, AreAllLines}
@@ -15,9 +14,14 @@ use Rattle.journal_read.specs.Journals as journals
 use Rattle.stream_run.specs.declared.stop.Stop.{Stop}
 use Rattle.stream_run.specs.Writing.{StopsAmong}
 use Rattle.file_match.specs.Comparing.{Comparing}
+use Rattle.packet_feed.specs.Feeding.{StandsFor}
+use Rattle.stream_run.specs.Runs.{Handled}
+use Rattle.stream_run.specs.Streaming.{arrival_of}
 use Rattle.stream_run.specs.Texts.{bytes_of}
 use Rattle.replay_run.specs.Outputs.{files_of, AreFound}
-use Rattle.replay_run.specs.Turns.{IsEnd}
+use Rattle.replay_run.specs.Queues.{keys_in}
+use Rattle.replay_run.specs.Replaying.{IsRun, NoneGoesOn, packets_at}
+use Rattle.replay_run.specs.Turns.{IsTurn, IsEnd}
 use Rattle.replay_run.specs.declared.lines.End.{End}
 use Rattle.replay_run.proofs.Compared.{file_at, same_length}
 use Rattle.replay_run.proofs.Kept.{others_both, others_around, others_outputs, others_one, among_more, among_of}
@@ -53,10 +57,10 @@ lines-init g c =
     let j = c.args.judge.now in
     let kept = c.compare_headers.ensures.kept in
     record {
-      reached = reached_none (function_of c.args.func.now) j.heading (length captures) c.args.feed.now c.args.journal.now old now c.compare_headers.new.all j.tables.state c.requires.opens c.requires.new
+      reached = reached_none (IsRun (function_of c.args.func.now) (keys_in c.args.keys) j.heading) j.heading (length captures) c.args.feed.now c.args.journal.now old now c.compare_headers.new.all j.tables.state c.requires.opens c.requires.new
           (λ port f e. kept.rests f (c.requires.clear.behind port f (sym (ap (λ (fs : List ℕ). slice_get fs port) c.requires.captures) ∙ e)))
           (kept.rests c.args.journal.now.file c.requires.no_output)
-          (subst (λ (n : ℕ). AreFound (λ k. bytes_of One j.heading.workers n k []) old.rest c.compare_headers.new.all now) c.requires.as_many (c.in-Ok.ensures.compares One j.heading.workers));
+          (subst (λ (n : ℕ). AreFound (λ k. bytes_of j.heading.mode j.heading.workers n k []) old.rest c.compare_headers.new.all now) c.requires.as_many (c.in-Ok.ensures.compares j.heading.mode j.heading.workers));
       captures = c.requires.captures;
       most = c.requires.most;
       within = omega (arith, c.requires.new);
@@ -86,11 +90,11 @@ lines-preserved g c =
     let read : Keeps old mid file = subst (λ (n : ℕ). Keeps old mid n) inv.same_file c.next_line.ensures.kept in
     let turned : KeepsOthers (captures ++ outputs) mid new = subst (λ (fs : List ℕ). KeepsOthers (captures ++ fs) mid new) inv.same_outputs c.one_turn.ensures.kept in
     let gives = rw c.in-Ok-Line.field-0-is at c.in-Ok-Line.ensures.gives in
-    let turn = rw c.in-Ok-true.field-0-test at c.in-Ok-true.ensures.turns in
+    let turn = subst (λ (h : Heading). IsTurn (IsRun (function_of c.args.func.now) (keys_in c.args.keys) h) c.in-Ok-Line.line c.lines.judge.tables.state c.one_turn.new.judge.tables.state c.lines.feed c.one_turn.new.feed mid new c.lines.outputs c.one_turn.new.outputs) inv.same_heading (rw c.in-Ok-true.field-0-test at c.in-Ok-true.ensures.turns) in
     let counts = rw c.in-Ok-true.field-0-test at c.in-Ok-true.ensures.counts in
     let few : length c.lines.outputs ≤ length captures = omega (arith, same_length c.lines.outputs begun inv.same_outputs, c.requires.as_many) in
     record {
-      reached = reached_more (function_of c.args.func.now) j.heading (length captures) c.args.feed.now c.args.journal.now start old mid new c.lines.feed c.one_turn.new.feed c.lines.journal c.next_line.new.journal c.lines.outputs c.one_turn.new.outputs c.lines.judge.tables.state c.one_turn.new.judge.tables.state c.in-Ok-Line.line
+      reached = reached_more (IsRun (function_of c.args.func.now) (keys_in c.args.keys) j.heading) j.heading (length captures) c.args.feed.now c.args.journal.now start old mid new c.lines.feed c.one_turn.new.feed c.lines.journal c.next_line.new.journal c.lines.outputs c.one_turn.new.outputs c.lines.judge.tables.state c.one_turn.new.judge.tables.state c.in-Ok-Line.line
           inv.reached
           (λ at lines stands. gives_at c.lines.journal c.next_line.new.journal old mid c.lines.journal.file file c.in-Ok-Line.line inv.same_file gives at lines stands)
           turn
@@ -130,8 +134,8 @@ returns-then-given-most-clause-reads_all g c =
     let outputs = files_of begun in
     let file = c.args.journal.now.file in
     let inv = c.lines.invariant in
-    let f = function_of c.args.func.now in
     let heading = c.args.judge.now.heading in
+    let f = IsRun (function_of c.args.func.now) (keys_in c.args.keys) heading in
     let same = inv.captures ∙ sym c.requires.captures in
     let new = told c.end_of.new.files in
     let read : Keeps old new file = subst (λ (n : ℕ). Keeps old new n) inv.same_file c.end_of.ensures.kept in
@@ -149,8 +153,8 @@ returns-then-given-most-clause-kept g c =
     let outputs = files_of begun in
     let file = c.args.journal.now.file in
     let inv = c.lines.invariant in
-    let f = function_of c.args.func.now in
     let heading = c.args.judge.now.heading in
+    let f = IsRun (function_of c.args.func.now) (keys_in c.args.keys) heading in
     let same = inv.captures ∙ sym c.requires.captures in
     let new = told c.end_of.new.files in
     let read : Keeps old new file = subst (λ (n : ℕ). Keeps old new n) inv.same_file c.end_of.ensures.kept in
@@ -166,8 +170,8 @@ returns-in-Ok-End-clause-reads_all g c =
     let outputs = files_of begun in
     let file = c.args.journal.now.file in
     let inv = c.lines.invariant in
-    let f = function_of c.args.func.now in
     let heading = c.args.judge.now.heading in
+    let f = IsRun (function_of c.args.func.now) (keys_in c.args.keys) heading in
     let same = inv.captures ∙ sym c.requires.captures in
     let mid = told c.next_line.new.files in
     let read : Keeps old mid file = subst (λ (n : ℕ). Keeps old mid n) inv.same_file c.next_line.ensures.kept in
@@ -185,8 +189,8 @@ returns-in-Ok-Wrong-clause-reads_all g c =
     let outputs = files_of begun in
     let file = c.args.journal.now.file in
     let inv = c.lines.invariant in
-    let f = function_of c.args.func.now in
     let heading = c.args.judge.now.heading in
+    let f = IsRun (function_of c.args.func.now) (keys_in c.args.keys) heading in
     let same = inv.captures ∙ sym c.requires.captures in
     let gives = rw c.in-Ok-Wrong.field-0-is at c.in-Ok-Wrong.ensures.gives in
     let wrong = subst (λ (m : ℕ). (at : Option (List ℕ)) (lines : List JournalLine) → Stands at lines c.lines.journal (old.rest m) → journals.IsWrong at lines) inv.same_file gives in
@@ -202,13 +206,13 @@ returns-in-Ok-false-clause-reads_all g c =
     let outputs = files_of begun in
     let file = c.args.journal.now.file in
     let inv = c.lines.invariant in
-    let f = function_of c.args.func.now in
     let heading = c.args.judge.now.heading in
+    let f = IsRun (function_of c.args.func.now) (keys_in c.args.keys) heading in
     let same = inv.captures ∙ sym c.requires.captures in
     let mid = told c.next_line.new.files in
     let read : Keeps old mid file = subst (λ (n : ℕ). Keeps old mid n) inv.same_file c.next_line.ensures.kept in
     let gives = rw c.in-Ok-Line.field-0-is at c.in-Ok-Line.ensures.gives in
-    let none = rw c.in-Ok-false.field-0-test at c.in-Ok-false.ensures.turns in
+    let none = subst (λ (h : Heading). (before : Told) (hs : List Handled) → IsRun (function_of c.args.func.now) (keys_in c.args.keys) h hs c.lines.judge.tables.state → StandsFor before (map arrival_of hs) c.lines.feed mid → NoneGoesOn (IsRun (function_of c.args.func.now) (keys_in c.args.keys) h) (packets_at c.lines.feed before) hs (λ l. l ≡ c.in-Ok-Line.line)) inv.same_heading (rw c.in-Ok-false.field-0-test at c.in-Ok-false.ensures.turns) in
     wrong_turn f heading (length captures) c.args.feed.now c.args.journal.now start old mid c.lines.feed c.lines.journal c.next_line.new.journal c.lines.outputs c.lines.judge.tables.state c.in-Ok-Line.line _ inv.reached same (omega (arith, inv.within, c.requires.most, c.if-given-most.false, c.given.ensures)) (grind arith)
     (λ at lines stands. gives_at c.lines.journal c.next_line.new.journal old mid c.lines.journal.file file c.in-Ok-Line.line inv.same_file gives at lines stands)
     (λ port n e. captures_while captures file old mid c.requires.no_capture read port n (sym (ap (λ (fs : List ℕ). slice_get fs port) inv.captures) ∙ e))
@@ -230,8 +234,8 @@ returns-in-Ok-End-clause-kept g c =
     let outputs = files_of begun in
     let file = c.args.journal.now.file in
     let inv = c.lines.invariant in
-    let f = function_of c.args.func.now in
     let heading = c.args.judge.now.heading in
+    let f = IsRun (function_of c.args.func.now) (keys_in c.args.keys) heading in
     let same = inv.captures ∙ sym c.requires.captures in
     let mid = told c.next_line.new.files in
     let read : Keeps old mid file = subst (λ (n : ℕ). Keeps old mid n) inv.same_file c.next_line.ensures.kept in
@@ -247,8 +251,8 @@ returns-in-Ok-Wrong-clause-kept g c =
     let outputs = files_of begun in
     let file = c.args.journal.now.file in
     let inv = c.lines.invariant in
-    let f = function_of c.args.func.now in
     let heading = c.args.judge.now.heading in
+    let f = IsRun (function_of c.args.func.now) (keys_in c.args.keys) heading in
     let same = inv.captures ∙ sym c.requires.captures in
     let mid = told c.next_line.new.files in
     let read : Keeps old mid file = subst (λ (n : ℕ). Keeps old mid n) inv.same_file c.next_line.ensures.kept in
@@ -264,8 +268,8 @@ returns-in-Err-next_line-clause-kept g c =
     let outputs = files_of begun in
     let file = c.args.journal.now.file in
     let inv = c.lines.invariant in
-    let f = function_of c.args.func.now in
     let heading = c.args.judge.now.heading in
+    let f = IsRun (function_of c.args.func.now) (keys_in c.args.keys) heading in
     let same = inv.captures ∙ sym c.requires.captures in
     let mid = told c.next_line.new.files in
     let read : Keeps old mid file = subst (λ (n : ℕ). Keeps old mid n) inv.same_file c.next_line.ensures.kept in
@@ -281,8 +285,8 @@ returns-in-Ok-false-clause-kept g c =
     let outputs = files_of begun in
     let file = c.args.journal.now.file in
     let inv = c.lines.invariant in
-    let f = function_of c.args.func.now in
     let heading = c.args.judge.now.heading in
+    let f = IsRun (function_of c.args.func.now) (keys_in c.args.keys) heading in
     let same = inv.captures ∙ sym c.requires.captures in
     let mid = told c.next_line.new.files in
     let read : Keeps old mid file = subst (λ (n : ℕ). Keeps old mid n) inv.same_file c.next_line.ensures.kept in
@@ -300,8 +304,8 @@ returns-in-Err-one_turn-clause-kept g c =
     let outputs = files_of begun in
     let file = c.args.journal.now.file in
     let inv = c.lines.invariant in
-    let f = function_of c.args.func.now in
     let heading = c.args.judge.now.heading in
+    let f = IsRun (function_of c.args.func.now) (keys_in c.args.keys) heading in
     let same = inv.captures ∙ sym c.requires.captures in
     let mid = told c.next_line.new.files in
     let read : Keeps old mid file = subst (λ (n : ℕ). Keeps old mid n) inv.same_file c.next_line.ensures.kept in

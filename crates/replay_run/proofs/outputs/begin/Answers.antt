@@ -1,6 +1,6 @@
 use Rattle.std.proofs.Common.{◌≡◌, ◌<◌, ◌∙◌, ◌++◌, ◌∷◌, [], ℕ, List, length, take, get_or, inl, inr, sym, ap, subst, true, arith}
 use Rattle.std.specs.List.{slice_get}
-use Rattle.std.proofs.lemmas.List.{map_push, take_more, length-map, length-take-le}
+use Rattle.std.proofs.lemmas.List.{map_push, take_more}
 use Rattle.file_match.specs.Comparing.{Comparing}
 use Rattle.stream_run.proofs.Complete.{got_end}
 use Rattle.replay_run.specs.Outputs.{files_of}

@@ -12,11 +12,10 @@ use Rattle.replay_run.proofs.outputs.compare_all.Given as goal
 abbrev pub invariant-loop-k : goal.invariant-loop-k
 invariant-loop-k g l =
     let told = g.F.Files.told in
-    let h = came_to 0 l.packet l.original l.frame l.done in
     record {
-      partly : (start : ℕ → Option (List ℕ)) (mode : Mode) (workers ports : ℕ) (hs : List Handled) → length l.fn.all ≤ ports
+      partly : (worker : ℕ) (start : ℕ → Option (List ℕ)) (mode : Mode) (workers ports : ℕ) (hs : List Handled) → length l.fn.all ≤ ports
           → AreFound (λ k. bytes_of mode workers ports k hs) start l.fn.all (told l.fn.files)
-          → IsPartly (FoundAt (λ k. bytes_of mode workers ports k (hs ++ h ∷ [])) start) (FoundAt (λ k. bytes_of mode workers ports k hs) start) l.k (told l.files) l.all;
+          → IsPartly (FoundAt (λ k. bytes_of mode workers ports k (hs ++ came_to worker l.packet l.original l.frame l.done ∷ [])) start) (FoundAt (λ k. bytes_of mode workers ports k hs) start) l.k (told l.files) l.all;
       same_files : files_of l.all ≡ files_of l.fn.all;
       kept : KeepsOthers (files_of l.fn.all) (told l.fn.files) (told l.files);
       reads : (n : ℕ) → g.F.Files.is_read l.fn.files n → g.F.Files.is_read l.files n;

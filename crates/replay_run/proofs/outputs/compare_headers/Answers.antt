@@ -1,7 +1,7 @@
 use Rattle.std.proofs.Common.{◌≡◌, ◌<◌, ◌∙◌, ◌++◌, ℕ, List, length, ap, subst, arith}
 use Rattle.std.proofs.lemmas.Option.{slice_get_within}
 use Rattle.pcap_file.specs.Spelled.{header_bytes}
-use Rattle.file_match.specs.Comparing.{Comparing, Found}
+use Rattle.file_match.specs.Comparing.{Found}
 use Rattle.replay_run.proofs.Compared.{same_length, found_none, sent_none}
 use Rattle.replay_run.proofs.outputs.compare_headers.Goals as goal
 

@@ -1,16 +1,13 @@
-use Rattle.std.proofs.Common.{◌≡◌, ◌<◌, ◌∙◌, ◌++◌, ◌∷◌, [], ℕ, List, length, sym, ap, refl, subst, arith}
+use Rattle.std.proofs.Common.{◌<◌, ◌∙◌, [], ℕ, List, length, sym, ap, refl, subst, arith}
 use Rattle.std.specs.List.{slice_get}
 use Rattle.std.proofs.lemmas.Option.{slice_get_read}
 use Rattle.packet_feed.specs.Told.{IsApart}
 use Rattle.packet_feed.proofs.Gathering.{map_kept}
 use Rattle.packet_feed.proofs.Standing.{kept_more}
-use Rattle.file_match.specs.Comparing.{Comparing, Found}
-use Rattle.stream_run.specs.Texts.{bytes_of, sent_bytes}
-use Rattle.stream_run.specs.Writing.{came_to}
-use Rattle.stream_run.specs.declared.stop.Stop.{Stop}
+use Rattle.file_match.specs.Comparing.{Comparing}
 use Rattle.stream_run.proofs.Held.{stops_here}
 use Rattle.replay_run.specs.Outputs.{files_of}
-use Rattle.replay_run.proofs.Compared.{file_at, same_length, partly_more, all_partly, none_partly, FoundAt, WholeAt, found_decides, whole_decides, found_step, sent_more, told_whole, told_other, told_below, told_all}
+use Rattle.replay_run.proofs.Compared.{file_at, same_length, partly_more, all_partly, FoundAt, found_decides, found_step}
 use Rattle.replay_run.proofs.outputs.compare_heads.Goals as goal
 
 pub compare_next-requires : goal.compare_next-requires

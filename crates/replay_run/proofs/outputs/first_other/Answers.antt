@@ -1,17 +1,15 @@
-use Rattle.std.proofs.Common.{◌≡◌, ◌<◌, ◌∙◌, ◌++◌, ◌∷◌, [], ℕ, Bool, Option, List, length, sym, ap, refl, subst, arith}
+use Rattle.std.proofs.Common.{◌<◌, ◌∙◌, ℕ, Bool, Option, List, length, sym, ap, refl, subst, arith}
 use Rattle.std.specs.List.{slice_get}
 use Rattle.std.proofs.lemmas.Option.{slice_get_read}
 use Rattle.nf_files.specs.Told.{IsToldAs}
 use Rattle.packet_feed.specs.Told.{IsApart}
 use Rattle.packet_feed.proofs.Gathering.{map_kept}
 use Rattle.packet_feed.proofs.Standing.{kept_more}
-use Rattle.file_match.specs.Comparing.{Comparing, Found}
-use Rattle.stream_run.specs.Texts.{bytes_of, sent_bytes}
-use Rattle.stream_run.specs.Writing.{came_to}
+use Rattle.file_match.specs.Comparing.{Comparing}
 use Rattle.stream_run.specs.declared.stop.Stop.{Stop}
 use Rattle.stream_run.proofs.Held.{stops_here}
 use Rattle.replay_run.specs.Outputs.{files_of, AreTold, AreToldBelow}
-use Rattle.replay_run.proofs.Compared.{file_at, same_length, partly_more, all_partly, none_partly, FoundAt, WholeAt, found_decides, whole_decides, found_step, sent_more, told_whole, told_other, told_below, told_all}
+use Rattle.replay_run.proofs.Compared.{file_at, same_length, partly_more, FoundAt, WholeAt, found_decides, whole_decides, told_whole, told_other, told_below, told_all}
 use Rattle.replay_run.proofs.outputs.first_other.Goals as goal
 
 pub is_whole-requires : goal.is_whole-requires

@@ -1,59 +1,11 @@
-use Rattle.std.proofs.Common.{◌≡◌, ◌≢◌, ◌++◌, ◌∷◌, [], ℕ, List, sym, subst, ◌∙◌}
-use Rattle.std.specs.List.{All}
-use Rattle.packet_feed.specs.Told.{IsApart, KeepsOthers}
-use Rattle.stream_run.specs.Writing.{StopsAmong}
-use Rattle.replay_run.specs.Outputs.{files_of}
-use Rattle.replay_run.specs.Turns.{AreClear}
-use Rattle.replay_run.specs.declared.replayed.Replayed.{Replayed}
-use Rattle.replay_run.proofs.Apart.{apart_right, clear_of, without, not_left, not_right, tail_apart}
-use Rattle.replay_run.proofs.Kept.{others_both, others_outputs, among_any}
+use Rattle.std.proofs.Common.{length, subst, None}
+use Rattle.nf_base.specs.Functions.{function_of}
+use Rattle.run_history.specs.declared.line.Mode.{Mode}
+use Rattle.replay_run.specs.Queues.{keys_in}
+use Rattle.replay_run.specs.Replaying.{IsRunBy, Replays}
 use Rattle.replay_run.proofs.replaying.replay_in_order.Goals as goal
 
-pub read_lines-requires-clause-apart : goal.read_lines-requires-clause-apart
-read_lines-requires-clause-apart g c =
-    let outputs = c.args.outputs.now in
-    let j = c.args.journal.now.file in
-    subst (λ (fs : List ℕ). IsApart fs) (sym c.in-Ok-begin.ensures.files) (tail_apart j outputs (apart_right c.args.captures.now (j ∷ outputs) c.requires.apart))
-
-pub read_lines-requires-clause-clear : goal.read_lines-requires-clause-clear
-read_lines-requires-clause-clear g c =
-    let outputs = c.args.outputs.now in
-    let j = c.args.journal.now.file in
-    subst (λ (fs : List ℕ). AreClear c.args.captures.now fs) (sym c.in-Ok-begin.ensures.files) (without c.args.captures.now j outputs (clear_of c.args.captures.now (j ∷ outputs) c.requires.apart))
-
-pub read_lines-requires-clause-no_capture : goal.read_lines-requires-clause-no_capture
-read_lines-requires-clause-no_capture g c =
-    let outputs = c.args.outputs.now in
-    let j = c.args.journal.now.file in
-    not_left c.args.captures.now j outputs (clear_of c.args.captures.now (j ∷ outputs) c.requires.apart)
-
-pub read_lines-requires-clause-no_output : goal.read_lines-requires-clause-no_output
-read_lines-requires-clause-no_output g c =
-    let outputs = c.args.outputs.now in
-    let j = c.args.journal.now.file in
-    subst (λ (fs : List ℕ). All (λ f. f ≢ j) fs) (sym c.in-Ok-begin.ensures.files) (not_right j outputs (apart_right c.args.captures.now (j ∷ outputs) c.requires.apart))
-
-pub finish-requires-clause-apart : goal.finish-requires-clause-apart
-finish-requires-clause-apart g c =
-    let outputs = c.args.outputs.now in
-    let j = c.args.journal.now.file in
-    subst (λ (fs : List ℕ). IsApart fs) (sym (c.read_lines.ensures.same_outputs ∙ c.in-Ok-begin.ensures.files)) (tail_apart j outputs (apart_right c.args.captures.now (j ∷ outputs) c.requires.apart))
-
-pub returns-clause-kept : goal.returns-clause-kept
-returns-clause-kept g c =
-    let told = g.F.Files.told in
-    let start = told c.args.files.now in
-    let mid = told c.read_lines.new.files in
-    let new = told c.finish.new.files in
-    let captures = c.args.captures.now in
-    let outputs = c.args.outputs.now in
-    let j = c.args.journal.now.file in
-    let one = subst (λ (fs : List ℕ). KeepsOthers (captures ++ j ∷ fs) start mid) c.in-Ok-begin.ensures.files c.read_lines.ensures.kept in
-    let two = subst (λ (fs : List ℕ). KeepsOthers fs mid new) (c.read_lines.ensures.same_outputs ∙ c.in-Ok-begin.ensures.files) c.finish.ensures.kept in
-    others_both (captures ++ j ∷ outputs) start mid new one (others_outputs captures j outputs mid new two)
-
-pub returns-clause-among : goal.returns-clause-among
-returns-clause-among g c =
-    let outputs = c.args.outputs.now in
-    among_any Replayed c.args.captures.now outputs c.args.journal.now.file c.finish.result
-    (subst (λ (fs : List ℕ). StopsAmong [] fs c.finish.result) (c.read_lines.ensures.same_outputs ∙ c.in-Ok-begin.ensures.files) c.finish.ensures.among)
+pub returns-clause-replays : goal.returns-clause-replays
+returns-clause-replays g c =
+    let h = c.args.header in
+    subst (λ (m : Mode). Replays (IsRunBy m h.workers (function_of c.args.func.now) (keys_in None)) h (length c.args.captures.now) c.args.feed.now c.args.journal.now c.args.outputs.now (g.F.Files.told c.args.files.now) c.replay_with.result) c.requires.mode c.replay_with.ensures.replays

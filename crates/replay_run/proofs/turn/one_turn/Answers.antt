@@ -1,21 +1,20 @@
-use Rattle.std.proofs.Common.{◌≡◌, ◌++◌, ◌∷◌, [], ℕ, List, map, sym, ap, refl, subst, ◌∙◌}
+use Rattle.std.proofs.Common.{◌≡◌, ◌≢◌, ◌++◌, ◌∷◌, [], ℕ, List, map, sym, ap, subst, ◌∙◌}
 use Rattle.std.specs.List.{slice_get}
 use Rattle.nf_base.specs.Functions.{function_of}
-use Rattle.nf_base.specs.Operations.{Stops}
-use Rattle.nf_base.specs.Step.{step_by}
+use Rattle.nf_base.specs.Step.{StepResult}
 use Rattle.packet_feed.specs.Arrivals.{Arrival}
 use Rattle.packet_feed.specs.Told.{KeepsOthers}
 use Rattle.packet_feed.specs.Sources.{files_in}
 use Rattle.packet_feed.specs.Feeding.{StandsFor, shown}
-use Rattle.journal_check.proofs.Whole.{stops_nowhere}
+use Rattle.journal_check.specs.Judging.{Steps, line_of}
 use Rattle.stream_run.specs.Streaming.{arrival_of}
-use Rattle.stream_run.specs.Writing.{came_to}
 use Rattle.stream_run.proofs.Reached.{first_given}
 use Rattle.replay_run.specs.Outputs.{files_of}
-use Rattle.replay_run.specs.Replaying.{packets_at}
+use Rattle.replay_run.specs.Queues.{keys_in}
+use Rattle.replay_run.specs.Replaying.{IsRun, packets_at}
 use Rattle.replay_run.proofs.Compared.{file_at}
 use Rattle.replay_run.proofs.Kept.{others_both, others_left, others_right, stands_while}
-use Rattle.replay_run.proofs.Runs.{by_one}
+use Rattle.replay_run.proofs.Runs.{handled_so, goes_on, no_next}
 use Rattle.replay_run.proofs.Ends.{other_line, shown_is, compares_after}
 use Rattle.replay_run.proofs.turn.one_turn.Goals as goal
 
@@ -29,10 +28,14 @@ pub returns-in-None-clause-turns : goal.returns-in-None-clause-turns
 returns-in-None-clause-turns g c = λ start hs run stands.
     let f = function_of c.args.func.now in
     let j = c.args.judge.now in
-    let a = shown c.in-Ok-Packet.packet c.next.new.self in
+    let p = c.in-Ok-Packet.packet in
+    let keys = c.args.keys in
+    let a = shown p c.next.new.self in
+    let queue = c.queue_of-queue.ensures j.heading.workers c.requires.table in
+    let none = subst (λ (q : ℕ). (next : StepResult) → Steps f j.heading q j.tables.state p next → c.args.line.now ≢ line_of j.heading q (record { packet = p; done = next.done })) queue c.in-None.ensures.none in
     let feeds = (rw c.in-Ok-Packet.field-0-is at c.in-Ok-Packet.ensures.feeds) start (map arrival_of hs) stands in
-    other_line f j.heading j.tables.share (packets_at c.args.feed.now start) hs j.tables.state a c.args.line.now c.requires.mode c.requires.whole run
-    c.in-None.ensures.differs
+    other_line (IsRun f (keys_in keys) j.heading) (packets_at c.args.feed.now start) hs a c.args.line.now
+    (no_next f keys j.heading hs j.tables.state p c.args.line.now c.requires.some c.requires.keyed run none)
     (first_given start (map arrival_of hs ++ a ∷ []) c.next.new.self c.args.feed.now (g.F.Files.told c.next.new.files) c.next.ensures.same_files feeds)
 
 pub returns-in-None-clause-kept : goal.returns-in-None-clause-kept
@@ -50,7 +53,12 @@ returns-in-Ok-clause-turns g c =
     let original = c.original-original.result in
     let frame = c.frame-frame.result.now in
     let done = c.in-Some.done in
-    let h = came_to 0 p original frame done in
+    let keys = c.args.keys in
+    let queue = c.queue_of-queue.ensures j.heading.workers c.requires.table in
+    let after = c.judge.new.self.tables.state in
+    let steps = subst (λ (q : ℕ). Steps f j.heading q j.tables.state p (record { state = after; done = done })) queue c.in-Some.ensures.steps in
+    let tells = subst (λ (q : ℕ). c.args.line.now ≡ line_of j.heading q (record { packet = p; done = done })) queue c.in-Some.ensures.tells in
+    let h = handled_so j.heading keys p original frame done in
     let all = c.args.captures.now in
     let old = told c.args.files.now in
     let read = told c.next.new.files in
@@ -63,8 +71,9 @@ returns-in-Ok-clause-turns g c =
       original = original;
       frame = frame;
       done = done;
-      is_line = sym (c.in-Some.ensures.tells ∙ by_one f j.heading j.tables.share c.requires.mode c.requires.whole h refl);
-      steps = ap (λ (stops : Stops). step_by stops f j.tables.state p done.picks) (sym (stops_nowhere j.tables.share c.requires.whole)) ∙ c.in-Some.ensures.steps.steps;
+      worker = h.worker;
+      is_line = sym tells;
+      runs = λ hs run. goes_on f keys j.heading hs j.tables.state after p original frame done c.requires.some c.requires.keyed steps run;
       feeds = λ start given b.
           stands_while start (given ++ arrival_of h ∷ []) c.next.new.self read new
           (λ port n e. c.compare_all.ensures.kept.rests n (c.requires.clear.behind port n (sym (ap (λ (fs : List ℕ). slice_get fs port) files) ∙ e)))
@@ -72,7 +81,7 @@ returns-in-Ok-clause-turns g c =
       compares =
           compares_after h c.args.outputs.now c.compare_all.new.all old read new
           (λ k o e. kept.rests o.file (c.requires.clear.ahead k o.file (file_at c.args.outputs.now k o e)))
-          c.in-Ok.ensures.compares;
+          (c.in-Ok.ensures.compares h.worker);
     }
 
 pub returns-in-Ok-clause-kept : goal.returns-in-Ok-clause-kept

@@ -1,0 +1,284 @@
+-- What is right is taken for right, and for nothing else.
+use Rattle.std.proofs.Common.{◌≡◌, ◌≢◌, ℕ, List, [], ◌∷◌, ◌++◌, length, map, Option, Some, None, Ok, option_and_then, refl, sym, ap, ◌∙◌, subst, append_assoc, append-nil, arith}
+use Rattle.std.specs.List.{AllByRecursion}
+use Rattle.std.proofs.lemmas.List.{map-append, length-map, length-append, append_cancel_left}
+use Rattle.std.proofs.lemmas.Option.{same_Some}
+use Rattle.nf_base.specs.declared.keys.Keys.{Keys}
+use Rattle.nf_base.specs.declared.done.Done.{Done}
+use Rattle.nf_base.specs.declared.state.State.{State}
+use Rattle.nf_base.specs.Text.{Function}
+use Rattle.nf_base.specs.Operations.{never}
+use Rattle.nf_base.specs.Step.{opening}
+use Rattle.nf_base.specs.Runs.{Handling, RunResult, run}
+use Rattle.nf_laws.specs.Runs.{with_answers}
+use Rattle.nf_laws.proofs.Parted.{runs_part, answer_each}
+use Rattle.nf_files.specs.Told.{Told}
+use Rattle.packet_feed.specs.Arrivals.{Arrival}
+use Rattle.packet_feed.specs.Order.{in_order}
+use Rattle.packet_feed.specs.Feeding.{Feeding}
+use Rattle.run_history.specs.Headings.{Heading}
+use Rattle.run_history.specs.Line.{line_bytes}
+use Rattle.run_history.specs.Lines.{IsLine}
+use Rattle.run_history.specs.declared.line.Mode.{Mode}
+use Rattle.run_history.specs.declared.line.Mode.TheVariants.{One, Shard, Lock}
+use Rattle.run_history.specs.declared.line.JournalLine.{JournalLine}
+use Rattle.run_history.specs.declared.line.JournalLine.TheVariants.{Header}
+use Rattle.run_history.specs.declared.line.JournalLine.TheVariants as line
+use Rattle.file_match.specs.Comparing.{IsOtherIfTold}
+use Rattle.journal_read.specs.Journals.{Reading, lines_bytes, AreAllLines, AreMoreLines}
+use Rattle.journal_read.proofs.Firsts.{same_line, line_some}
+use Rattle.shard_laws.specs.Queues.{Throughout}
+use Rattle.shard_laws.specs.Rule.{KeepsRule, KeepShareRule}
+use Rattle.sharded_run.specs.Setups.{queue_by}
+use Rattle.stream_run.specs.Runs.{Handled}
+use Rattle.stream_run.specs.Streaming.{arrival_of, handling_in, result_in, IsUndivided, AreFirst}
+use Rattle.stream_run.specs.declared.stop.Stop.{Stop}
+use Rattle.replay_run.specs.Replaying.{line_in, journal_lines, packets_at, sent, IsRun, IsRunBy, NoneGoesOn, BeginsWith, IsWrong, IsRight, IsJournal, Replays}
+use Rattle.replay_run.specs.Laws.{IsThere, RightIsAccepted}
+use Rattle.replay_run.specs.declared.replayed.Replayed.{Replayed}
+use Rattle.replay_run.specs.declared.replayed.Replayed.TheVariants.{Same, TooMany, Line, Output}
+
+-- ---- lines of bytes
+
+record Longer (xs ys : List JournalLine) (rest : List ℕ) : Type 0 where
+  pub more : List JournalLine
+  pub is : xs ≡ ys ++ more
+  pub bytes : lines_bytes more ≡ rest
+
+longer : (xs ys : List JournalLine) (rest : List ℕ) → AllByRecursion IsLine xs → AllByRecursion IsLine ys → lines_bytes xs ≡ lines_bytes ys ++ rest → Longer xs ys rest
+longer xs [] rest h k e = record { more = xs; is = refl; bytes = e }
+longer [] (y ∷ ys) rest h k e = absurd (line_some y (lines_bytes ys ++ rest) k.0 (sym (append_assoc (line_bytes y) (lines_bytes ys) rest) ∙ sym e))
+longer (x ∷ xs) (y ∷ ys) rest h k e =
+    let whole : line_bytes x ++ lines_bytes xs ≡ line_bytes y ++ (lines_bytes ys ++ rest) = e ∙ append_assoc (line_bytes y) (lines_bytes ys) rest in
+    let same : x ≡ y = same_line x y (lines_bytes xs) (lines_bytes ys ++ rest) h.0 k.0 whole in
+    let left : lines_bytes xs ≡ lines_bytes ys ++ rest = append_cancel_left (line_bytes y) (lines_bytes xs) (lines_bytes ys ++ rest) (ap (λ (l : JournalLine). line_bytes l ++ lines_bytes xs) (sym same) ∙ whole) in
+    let rest_of = longer xs ys rest h.1 k.1 left in
+    record { more = rest_of.more; is = ap (λ (l : JournalLine). l ∷ xs) same ∙ ap (λ (t : List JournalLine). y ∷ t) rest_of.is; bytes = rest_of.bytes }
+
+-- ---- packets of lines
+
+record Divided (hs ks : List Handled) (more : List JournalLine) : Type 0 where
+  pub front : List Handled
+  pub later : List Handled
+  pub is : hs ≡ front ++ later
+  pub fronts : map line_in front ≡ map line_in ks
+  pub laters : map line_in later ≡ more
+
+divided : (hs ks : List Handled) (more : List JournalLine) → map line_in hs ≡ map line_in ks ++ more → Divided hs ks more
+divided hs [] more e = record { front = []; later = hs; is = refl; fronts = refl; laters = e }
+divided [] (k ∷ ks) more e = absurd cc
+divided (h ∷ hs) (k ∷ ks) more e =
+    let first : line_in h ≡ line_in k = cc in
+    let rest : map line_in hs ≡ map line_in ks ++ more = cc in
+    let d = divided hs ks more rest in
+    record {
+      front = h ∷ d.front;
+      later = d.later;
+      is = ap (λ (t : List Handled). h ∷ t) d.is;
+      fronts = ap (λ (l : JournalLine). l ∷ map line_in d.front) first ∙ ap (λ (t : List JournalLine). line_in k ∷ t) d.fronts;
+      laters = d.laters;
+    }
+
+same_front : {A : Type 0} (xs ys vs ws : List A) → length xs ≡ length ys → xs ++ vs ≡ ys ++ ws → xs ≡ ys
+same_front [] [] vs ws n e = refl
+same_front [] (y ∷ ys) vs ws n e = absurd (omega (arith, n))
+same_front (x ∷ xs) [] vs ws n e = absurd (omega (arith, n))
+same_front {A = A} (x ∷ xs) (y ∷ ys) vs ws n e =
+    let first : x ≡ y = cc in
+    let rest : xs ++ vs ≡ ys ++ ws = cc in
+    ap (λ (z : A). z ∷ xs) first ∙ ap (λ (t : List A). y ∷ t) (same_front xs ys vs ws (omega (arith, n)) rest)
+
+-- ---- one list of packets
+
+abbrev picks_in : JournalLine → List ℕ
+picks_in (line.Header heading) = []
+picks_in (line.Packet id worker action picks) = picks
+
+abbrev worker_in : JournalLine → ℕ
+worker_in (line.Header heading) = 0
+worker_in (line.Packet id worker action picks) = worker
+
+abbrev handled : Arrival → ℕ → Done → Handled
+handled a w d = record { arrival = a; worker = w; done = d }
+
+abbrev handling : Arrival → List ℕ → Handling
+handling a choices = record { packet = a.packet; choices = choices }
+
+same_handlings : (xs ys : List Handled) → map arrival_of xs ≡ map arrival_of ys → map line_in xs ≡ map line_in ys → map handling_in xs ≡ map handling_in ys
+same_handlings [] [] a l = refl
+same_handlings [] (y ∷ ys) a l = absurd cc
+same_handlings (x ∷ xs) [] a l = absurd cc
+same_handlings (x ∷ xs) (y ∷ ys) a l =
+    let arrival : x.arrival ≡ y.arrival = cc in
+    let arrivals : map arrival_of xs ≡ map arrival_of ys = cc in
+    let told : line_in x ≡ line_in y = cc in
+    let ls : map line_in xs ≡ map line_in ys = cc in
+    ap (λ (b : Arrival). handling b x.done.picks ∷ map handling_in xs) arrival
+    ∙ ap (λ (cs : List ℕ). handling y.arrival cs ∷ map handling_in xs) (ap picks_in told)
+    ∙ ap (λ (t : List Handling). handling_in y ∷ t) (same_handlings xs ys arrivals ls)
+
+same_lists : (xs ys : List Handled) → map arrival_of xs ≡ map arrival_of ys → map line_in xs ≡ map line_in ys → map (λ (h : Handled). h.done) xs ≡ map (λ (h : Handled). h.done) ys → xs ≡ ys
+same_lists [] [] a l d = refl
+same_lists [] (y ∷ ys) a l d = absurd cc
+same_lists (x ∷ xs) [] a l d = absurd cc
+same_lists (x ∷ xs) (y ∷ ys) a l d =
+    let arrival : x.arrival ≡ y.arrival = cc in
+    let arrivals : map arrival_of xs ≡ map arrival_of ys = cc in
+    let told : line_in x ≡ line_in y = cc in
+    let ls : map line_in xs ≡ map line_in ys = cc in
+    let done : x.done ≡ y.done = cc in
+    let ds : map (λ (h : Handled). h.done) xs ≡ map (λ (h : Handled). h.done) ys = cc in
+    ap (λ (b : Arrival). handled b x.worker x.done ∷ xs) arrival
+    ∙ ap (λ (w : ℕ). handled y.arrival w x.done ∷ xs) (ap worker_in told)
+    ∙ ap (λ (e : Done). handled y.arrival y.worker e ∷ xs) done
+    ∙ ap (λ (t : List Handled). y ∷ t) (same_lists xs ys arrivals ls ds)
+
+record SameRuns (xs ys : List Handled) (s t : State) : Type 0 where
+  pub list : xs ≡ ys
+  pub state : s ≡ t
+
+same_runs : (f : Function) (xs ys : List Handled) (s t : State) → IsUndivided f xs s → IsUndivided f ys t → map arrival_of xs ≡ map arrival_of ys → map line_in xs ≡ map line_in ys → SameRuns xs ys s t
+same_runs f xs ys s t u v a l =
+    let both : result_in xs s ≡ result_in ys t = same_Some _ _ (sym u ∙ ap (run f (opening f)) (same_handlings xs ys a l) ∙ v) in
+    record { list = same_lists xs ys a l (ap (λ (r : RunResult). r.answers) both); state = ap (λ (r : RunResult). r.state) both }
+
+-- ---- the first packets of a run
+
+all_front : (P : Handled → Type 0) (xs ys : List Handled) → AllByRecursion P (xs ++ ys) → AllByRecursion P xs
+all_front P [] ys h = tt
+all_front P (x ∷ xs) ys h = (h.0, all_front P xs ys h.1)
+
+throughout_front : (P : State → Handling → Type 0) (f : Function) (s : State) (xs ys : List Handling) → Throughout P f s (xs ++ ys) → Throughout P f s xs
+throughout_front P f s [] ys t = tt
+throughout_front P f s (x ∷ xs) ys t = (t.0, λ next q. throughout_front P f next.state xs ys (t.1 next q))
+
+front_of : (f : Function) (xs ys : List Handled) (s : State) (o : Option RunResult) → run f (opening f) (map handling_in xs) ≡ o
+    → option_and_then (λ (a : RunResult). with_answers a.answers (run f a.state (map handling_in ys))) o ≡ Some (record { state = s; answers = map (λ (h : Handled). h.done) xs ++ map (λ (h : Handled). h.done) ys }) → (t : State) × IsUndivided f xs t
+front_of f xs ys s None e q = absurd cc
+front_of f xs ys s (Some a) e q = of_rest (run f a.state (map handling_in ys)) q
+  where
+    of_rest : (o : Option RunResult) → with_answers a.answers o ≡ Some (record { state = s; answers = map (λ (h : Handled). h.done) xs ++ map (λ (h : Handled). h.done) ys }) → (t : State) × IsUndivided f xs t
+    of_rest None p = absurd cc
+    of_rest (Some r) p =
+        let each : length a.answers ≡ length xs = answer_each never f (opening f) (map handling_in xs) a e ∙ length-map xs handling_in in
+        let both : a.answers ++ r.answers ≡ map (λ (h : Handled). h.done) xs ++ map (λ (h : Handled). h.done) ys = ap (λ (x : RunResult). x.answers) (same_Some _ _ p) in
+        let same = same_front a.answers (map (λ (h : Handled). h.done) xs) r.answers (map (λ (h : Handled). h.done) ys) (each ∙ sym (length-map xs (λ (h : Handled). h.done))) both in
+        (a.state, e ∙ ap (λ (ds : List Done). Some (record { state = a.state; answers = ds })) same)
+
+undivided_front : (f : Function) (xs ys : List Handled) (s : State) → IsUndivided f (xs ++ ys) s → (t : State) × IsUndivided f xs t
+undivided_front f xs ys s u =
+    front_of f xs ys s (run f (opening f) (map handling_in xs)) refl
+    (sym (ap (run f (opening f)) (map-append handling_in xs ys) ∙ runs_part never f (opening f) (map handling_in xs) (map handling_in ys)) ∙ u
+    ∙ ap (λ (ds : List Done). Some (record { state = s; answers = ds })) (map-append (λ (h : Handled). h.done) xs ys))
+
+pub run_front : (f : Function) (keys : Keys) (heading : Heading) (xs ys : List Handled) (s : State) → IsRun f keys heading (xs ++ ys) s → (t : State) × IsRun f keys heading xs t
+run_front f keys heading xs ys s r = of_mode heading.mode r
+  where
+    of_mode : (mode : Mode) → IsRunBy mode heading.workers f keys (xs ++ ys) s → (t : State) × IsRunBy mode heading.workers f keys xs t
+    of_mode One r = let u = undivided_front f xs ys s r.undivided in (u.0, record { undivided = u.1; alone = all_front (λ (h : Handled). h.worker ≡ 0) xs ys r.alone })
+    of_mode Shard r =
+        let u = undivided_front f xs ys s r.undivided in (
+          u.0,
+          record {
+            undivided = u.1;
+            queues = all_front (λ (h : Handled). h.worker ≡ queue_by keys heading.workers h.arrival.packet) xs ys r.queues;
+            share = r.share;
+            shares = r.shares;
+            rule = throughout_front (λ t h. KeepsRule (r.share (queue_by keys heading.workers h.packet)) f t h) f (opening f) (map handling_in xs) (map handling_in ys)
+                (subst (KeepShareRule r.share (queue_by keys heading.workers) f (opening f)) (map-append handling_in xs ys) r.rule);
+          },
+        )
+    of_mode Lock r = absurd r
+
+pub run_undivided : (f : Function) (keys : Keys) (heading : Heading) (hs : List Handled) (s : State) → IsRun f keys heading hs s → IsUndivided f hs s
+run_undivided f keys heading hs s r = of_mode heading.mode r
+  where
+    of_mode : (mode : Mode) → IsRunBy mode heading.workers f keys hs s → IsUndivided f hs s
+    of_mode One r = r.undivided
+    of_mode Shard r = r.undivided
+    of_mode Lock r = absurd r
+
+-- ---- what stands behind right lines
+
+record Behind (hs ks : List Handled) (rest : List ℕ) : Type 0 where
+  pub later : List Handled
+  pub is : hs ≡ ks ++ later
+  pub bytes : lines_bytes (map line_in later) ≡ rest
+  pub lines : AllByRecursion IsLine (map line_in later)
+
+lines_behind : (xs ys : List JournalLine) → AllByRecursion IsLine (xs ++ ys) → AllByRecursion IsLine ys
+lines_behind [] ys h = h
+lines_behind (x ∷ xs) ys h = lines_behind xs ys h.1
+
+module _ (f : Function) (keys : Keys) (heading : Heading) (ports : ℕ) (feed : Feeding) (journal : Reading) (outputs : List ℕ) (now : Told) (hs : List Handled) (state : State) (there : IsThere (IsRun f keys heading) heading ports feed journal outputs now hs state) where
+  abbrev whole_bytes : List Handled → List ℕ
+  whole_bytes xs = lines_bytes (journal_lines heading xs)
+
+  behind : (ks : List Handled) (t : State) (rest : List ℕ) → IsRight (IsRun f keys heading) heading feed journal now ks t → whole_bytes hs ≡ whole_bytes ks ++ rest → Behind hs ks rest
+  behind ks t rest right e =
+      let b = there.begins in
+      let more = longer (journal_lines heading hs) (journal_lines heading ks) rest (there.header, there.lines) (there.header, right.lines there.start b) e in
+      let told : map line_in hs ≡ map line_in ks ++ more.more = cc in
+      let d = divided hs ks more.more told in
+      let ran = run_front f keys heading d.front d.later state (subst (λ (xs : List Handled). IsRun f keys heading xs state) d.is there.run) in
+      let long : length d.front ≡ length ks = sym (length-map d.front line_in) ∙ ap (λ (ls : List JournalLine). length ls) d.fronts ∙ length-map ks line_in in
+      let first = there.first in
+      let others : AreFirst (Some there.all) (map arrival_of ks) = subst (λ (o : Option (List Arrival)). AreFirst o (map arrival_of ks)) there.captures (right.first there.start b) in
+      let both : map arrival_of d.front ++ (map arrival_of d.later ++ first.0) ≡ map arrival_of ks ++ others.0 =
+      sym (append_assoc (map arrival_of d.front) (map arrival_of d.later) first.0) ∙ ap (λ (xs : List Arrival). xs ++ first.0) (sym (map-append arrival_of d.front d.later) ∙ ap (map arrival_of) (sym d.is)) ∙ sym first.1 ∙ others.1 in
+      let arrivals = same_front (map arrival_of d.front) (map arrival_of ks) (map arrival_of d.later ++ first.0) others.0 (length-map d.front arrival_of ∙ long ∙ sym (length-map ks arrival_of)) both in
+      let one = same_runs f d.front ks ran.0 t (run_undivided f keys heading d.front ran.0 ran.1) (run_undivided f keys heading ks t right.run) arrivals d.fronts in
+      record {
+        later = d.later;
+        is = d.is ∙ ap (λ (xs : List Handled). xs ++ d.later) one.list;
+        bytes = ap lines_bytes d.laters ∙ more.bytes;
+        lines = subst (AllByRecursion IsLine) (sym d.laters) (lines_behind (map line_in ks) more.more (subst (AllByRecursion IsLine) told there.lines));
+      }
+
+  -- where nothing stands behind them
+  none_behind : (ks later : List Handled) → hs ≡ ks ++ later → lines_bytes (map line_in later) ≡ [] → AllByRecursion IsLine (map line_in later) → hs ≡ ks
+  none_behind ks [] e none lines = e ∙ append-nil ks
+  none_behind ks (h ∷ later) e none lines = absurd (line_some (line_in h) (lines_bytes (map line_in later)) lines.0 none)
+
+  all_of : (ks : List Handled) (t : State) → IsJournal (IsRun f keys heading) heading feed journal now ks t → hs ≡ ks
+  all_of ks t j =
+      let told = subst (λ (o : Option (List ℕ)). AreAllLines o (journal_lines heading ks)) there.journal_is (j.whole there.start there.begins) in
+      let b = behind ks t [] j.right (told ∙ sym (append-nil (whole_bytes ks))) in
+      none_behind ks b.later b.is b.bytes b.lines
+
+  not_more : (ks later : List Handled) (rest : List ℕ) → hs ≡ ks ++ later → lines_bytes (map line_in later) ≡ rest → rest ≢ [] → length ks ≡ feed.most → ⊥
+  not_more ks [] rest e bytes some count = some (sym bytes)
+  not_more ks (h ∷ later) rest e bytes some count = absurd (omega (arith, there.within, count, ap (λ (xs : List Handled). length xs) e, length-append ks (h ∷ later)))
+
+  goes_on : (ks later : List Handled) (rest : List ℕ) → hs ≡ ks ++ later → lines_bytes (map line_in later) ≡ rest → rest ≢ [] → AllByRecursion IsLine (map line_in later) → NoneGoesOn (IsRun f keys heading) (Some there.all) ks (BeginsWith rest) → ⊥
+  goes_on ks [] rest e bytes some lines none = some (sym bytes)
+  goes_on ks (h ∷ later) rest e bytes some lines none =
+      let on : hs ≡ (ks ++ h ∷ []) ++ later = e ∙ sym (append_assoc ks (h ∷ []) later) in
+      let ran = run_front f keys heading (ks ++ h ∷ []) later state (subst (λ (xs : List Handled). IsRun f keys heading xs state) on there.run) in
+      let first = there.first in
+      let next : in_order there.all ≡ map arrival_of (ks ++ h ∷ []) ++ (map arrival_of later ++ first.0) =
+      first.1 ∙ ap (λ (xs : List Arrival). xs ++ first.0) (ap (map arrival_of) on ∙ map-append arrival_of (ks ++ h ∷ []) later) ∙ append_assoc (map arrival_of (ks ++ h ∷ [])) (map arrival_of later) first.0 in
+      none h ran.0 (lines.0, (lines_bytes (map line_in later), bytes)) (map arrival_of later ++ first.0, next) ran.1
+
+  pub accepted : (came : Replayed) → Replays {E = Stop} (IsRun f keys heading) heading ports feed journal outputs now (Ok came) → came ≡ Same state
+  accepted (Same s) r =
+      let all = all_of r.hs s r.journal_is in
+      let one = same_runs f hs r.hs state s (run_undivided f keys heading hs state there.run) (run_undivided f keys heading r.hs s r.journal_is.right.run) (ap (map arrival_of) all) (ap (map line_in) all) in
+      ap Same (sym one.state)
+  accepted TooMany r =
+      let more = subst (λ (o : Option (List ℕ)). AreMoreLines o (journal_lines heading r.hs)) there.journal_is (r.more there.start there.begins) in
+      let b = behind r.hs r.state more.rest r.right more.behind in
+      absurd (not_more r.hs b.later more.rest b.is b.bytes more.some r.count)
+  accepted (Line n) r =
+      let wrong = subst (λ (o : Option (List Arrival)). IsWrong (IsRun f keys heading) heading o r.hs (Some (whole_bytes hs))) there.captures
+      (subst (λ (o : Option (List ℕ)). IsWrong (IsRun f keys heading) heading (packets_at feed there.start) r.hs o) there.journal_is (r.wrong there.start there.begins)) in
+      let b = behind r.hs r.state wrong.rest r.right wrong.behind in
+      absurd (goes_on r.hs b.later wrong.rest b.is b.bytes wrong.some b.lines wrong.none)
+  accepted (Output port) r =
+      let all = all_of r.hs r.state r.journal_is in
+      let file = r.other.file in
+      let other = subst (λ (o : Option (List ℕ)). IsOtherIfTold (sent heading ports r.hs port) o) (there.outputs_are port file r.other.at) r.other.other in
+      absurd (other (ap (λ (xs : List Handled). sent heading ports xs port) all))
+
+pub right_accepted : RightIsAccepted
+right_accepted f keys heading ports feed journal outputs now hs state came there r = accepted f keys heading ports feed journal outputs now hs state there came r
