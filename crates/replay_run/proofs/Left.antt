@@ -1,4 +1,4 @@
--- What a run leaves is right.
+-- What a run leaves is right, and what is taken for a run is one.
 use Rattle.std.proofs.Common.{◌≡◌, ℕ, List, [], ◌∷◌, ◌++◌, length, map, Some, refl, sym, ap, ◌∙◌, subst, arith}
 use Rattle.std.specs.List.{AllByRecursion, flat_map}
 use Rattle.std.proofs.lemmas.List.{length-map}
@@ -14,13 +14,16 @@ use Rattle.run_history.specs.declared.line.JournalLine.TheVariants.{Header}
 use Rattle.journal_read.specs.Journals.{lines_bytes}
 use Rattle.shard_laws.specs.Rule.{KeepShareRule}
 use Rattle.sharded_run.specs.Setups.{queue_by}
-use Rattle.stream_run.specs.Runs.{Turn, Run, Handled, IsLegal, course_of, handling_of, handled_in, paired, turn_of}
+use Rattle.stream_run.specs.Runs.{Turn, Run, Handled, IsLegal, course_of, handling_of, handled_in, paired, turn_of, run_of}
 use Rattle.stream_run.specs.Streaming.{handling_in, result_in, IsUndivided}
 use Rattle.stream_run.specs.Texts.{line_of, file_bytes}
 use Rattle.stream_run.proofs.Going.{handled_is, are_turns}
-use Rattle.stream_run.proofs.Complete.{same_handlings}
+use Rattle.stream_run.proofs.Complete.{same_handlings, same_arrivals, ran_of}
+use Rattle.stream_run.specs.Lawful.{AreTheFirst}
+use Rattle.run_history.specs.declared.line.Mode.{Mode}
+use Rattle.run_history.specs.declared.line.Mode.TheVariants.{One, Shard}
 use Rattle.stream_run.proofs.Bytes.{are_lines}
-use Rattle.replay_run.specs.Laws.{heading_of, OneRunsAreRight, ShardRunsAreRight}
+use Rattle.replay_run.specs.Laws.{heading_of, OneRunsAreRight, ShardRunsAreRight, TakenAreOneRuns, TakenAreShardRuns}
 use Rattle.replay_run.specs.Replaying.{line_in, journal_lines}
 
 dones_of : (ts : List Turn) (ds : List Done) → length ds ≡ length ts → map (λ (h : Handled). h.done) (paired ts ds) ≡ ds
@@ -82,3 +85,45 @@ shard_right f keys workers r state answers is e =
       journal = journal_is r;
       outputs = λ port. refl;
     }
+
+-- ---- and the other way
+
+paired_again : (hs : List Handled) → paired (map turn_of hs) (map (λ (h : Handled). h.done) hs) ≡ hs
+paired_again [] = refl
+paired_again (h ∷ hs) = ap (λ (t : List Handled). h ∷ t) (paired_again hs)
+
+handled_of : (f : Function) (mode : Mode) (workers : ℕ) (hs : List Handled) (state : State) → IsUndivided f hs state → handled_in (run_of f mode workers hs) ≡ hs
+handled_of f mode workers hs state u = handled_is (run_of f mode workers hs) (result_in hs state) (ran_of f mode workers hs state u) ∙ paired_again hs
+
+turns_of : (P : Turn → Type 0) (hs : List Handled) → AllByRecursion (λ (h : Handled). P (turn_of h)) hs → AllByRecursion P (map turn_of hs)
+turns_of P [] h = tt
+turns_of P (x ∷ hs) h = (h.0, turns_of P hs h.1)
+
+pub taken_one : TakenAreOneRuns
+taken_one f most all hs state r within first = (
+  record {
+    function = refl;
+    mode = refl;
+    workers = refl;
+    alone = turns_of (λ (t : Turn). t.worker ≡ 0) hs r.alone;
+    legal = record { result = result_in hs state; ran = ran_of f One 1 hs state r.undivided };
+    within = omega (arith, length-map hs turn_of, within);
+    packets = subst (AreTheFirst most all) (sym (same_arrivals hs)) first;
+  },
+  handled_of f One 1 hs state r.undivided,
+)
+
+pub taken_shard : TakenAreShardRuns
+taken_shard f keys workers hs state s = (
+  record {
+    function = refl;
+    mode = refl;
+    workers_are = refl;
+    queues = turns_of (λ (t : Turn). t.worker ≡ queue_by keys workers t.arrival.packet) hs s.queues;
+    legal = record { result = result_in hs state; ran = ran_of f Shard workers hs state s.undivided };
+    share = s.share;
+    shares = s.shares;
+    rule = subst (KeepShareRule s.share (queue_by keys workers) f (opening f)) (sym (same_handlings hs)) s.rule;
+  },
+  handled_of f Shard workers hs state s.undivided,
+)

@@ -10,10 +10,11 @@ use Rattle.packet_feed.specs.Arrivals.{Arrival}
 use Rattle.packet_feed.specs.Feeding.{Feeding}
 use Rattle.run_history.specs.Headings.{Heading, IsHeading}
 use Rattle.run_history.specs.Lines.{IsLine}
+use Rattle.run_history.specs.declared.line.Mode.TheVariants.{One, Shard}
 use Rattle.journal_read.specs.Journals.{Reading, lines_bytes}
 use Rattle.sharded_run.specs.Sharded.{IsShardRun}
 use Rattle.sharded_run.specs.Going.{AreSharded}
-use Rattle.stream_run.specs.Runs.{Run, Handled, course_of, handled_in}
+use Rattle.stream_run.specs.Runs.{Run, Handled, course_of, handled_in, run_of}
 use Rattle.stream_run.specs.Streaming.{arrival_of, AreFirst}
 use Rattle.stream_run.specs.declared.stop.Stop.{Stop}
 use Rattle.stream_run.specs.Texts.{file_bytes}
@@ -64,3 +65,15 @@ OneRunsAreRight = (f : Function) (most : ℕ) (all : Option (List Arrival)) (r :
 abbrev pub ShardRunsAreRight : Type 0
 ShardRunsAreRight = (f : Function) (keys : Keys) (workers : ℕ) (r : Run) (state : State) (answers : List Done) →
     IsShardRun f keys workers r → course_of r ≡ Some (record { state = state; answers = answers }) → IsRightRun (AreSharded f keys workers) r state
+
+-- The other way: what is taken for a run of one worker is one, with these packets ..
+abbrev pub TakenAreOneRuns : Type 0
+TakenAreOneRuns = (f : Function) (most : ℕ) (all : Option (List Arrival)) (hs : List Handled) (state : State) →
+    IsOneRun f hs state → length hs ≤ most → lawful.AreTheFirst most all (map arrival_of hs) →
+    lawful.IsOneRun f most all (run_of f One 1 hs) × (handled_in (run_of f One 1 hs) ≡ hs)
+
+-- .. and so is what is taken for a run of workers with shares
+abbrev pub TakenAreShardRuns : Type 0
+TakenAreShardRuns = (f : Function) (keys : Keys) (workers : ℕ) (hs : List Handled) (state : State) →
+    AreSharded f keys workers hs state →
+    IsShardRun f keys workers (run_of f Shard workers hs) × (handled_in (run_of f Shard workers hs) ≡ hs)
