@@ -1,0 +1,4 @@
+pub mod Dealt
+pub mod Placed
+pub mod Joined
+pub mod Crossing

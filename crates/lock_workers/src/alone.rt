@@ -1,0 +1,62 @@
+// One worker handles all packets, in their order.
+ghost use Rattle.std.specs.Prelude.{◌≡◌, ◌<◌, ◌++◌, ◌∷◌, [], length, map, All, Some, IfOk, OnOk};
+ghost use Rattle.nf_base.specs.Functions.{function_of};
+ghost use Rattle.nf_base.specs.Step.{step, opening};
+ghost use Rattle.nf_engine.specs.View.{fixed_of};
+ghost use Rattle.lock_core.specs.Histories.{Runs};
+ghost use Rattle.lock_workers.specs.Worked.{AreInOrder};
+
+use lock_core::{Ordered, Way};
+use nf_base::done::Done;
+use nf_base::func::Func;
+use nf_base::packet::Packet;
+use nf_engine::{Handled, handle};
+use std::alloc::{AllocError, Global};
+use vig_tables::Tables;
+
+// Handles a packet in tables with the whole share, which is never full: a handler goes on in its
+// `full` block there.
+fn handle_whole(tables: &mut Tables, func: &Func, packet: &Packet) -> Done
+    requires of_func { tables.old.decls ≡ func.now.chains }
+    requires whole { tables.old.share.of ≡ 1 }
+    requires port { packet.now.id.port < length func.now.handlers }
+    ensures steps { step (function_of func.now) tables.old.state packet.now result.picks
+        ≡ Some (record { state = tables.new.state; done = result }) }
+    ensures same { fixed_of tables.new ≡ fixed_of tables.old }
+{
+    match handle(tables, func, packet) {
+        Handled::Done(done) => done,
+        Handled::ShareFull(_) => unreachable!(),
+    }
+}
+
+/// All packets as one worker handles them, in their order.
+///
+/// `Err` is for want of memory.
+pub(crate) fn handle_all(
+    alloc: Global,
+    func: &Func,
+    tables: &mut Tables,
+    packets: &[Packet],
+) -> Result<Vec<Ordered>, AllocError>
+    requires of_func { tables.old.decls ≡ func.now.chains }
+    requires whole { tables.old.share.of ≡ 1 }
+    requires opens { tables.old.state ≡ opening (function_of func.now) }
+    requires ports { All (λ p. p.id.port < length func.now.handlers) packets.now }
+    ensures runs { IfOk result (λ order.
+        Runs (function_of func.now) order.items tables.new.state) }
+    ensures all { IfOk result (λ order. AreInOrder packets.now order.items) }
+{
+    let mut order = Vec::with_capacity(alloc, packets.len())?;
+    for i in 0..packets.len() {
+        let packet = &packets[i];
+        let done = handle_whole(tables, func, packet);
+        order.push(Ordered {
+            seat: 0,
+            way: Way::Alone,
+            packet: *packet,
+            done,
+        })?;
+    }
+    Ok(order)
+}
