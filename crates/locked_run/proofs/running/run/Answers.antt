@@ -1,0 +1,61 @@
+use Rattle.std.proofs.Common.{[], length, arith}
+use Rattle.nf_base.specs.Functions.{function_of}
+use Rattle.stream_run.proofs.Held.{but_both}
+use Rattle.stream_run.specs.declared.ending.Ending.{Ending}
+use Rattle.sharded_run.proofs.Complete.{counted}
+use Rattle.lock_mode.specs.Gates.{Rose}
+use Rattle.locked_run.specs.declared.came.Came.{Came}
+use Rattle.locked_run.proofs.Finishing.{cut_none, cut_short_of, finished_of, still_empty, stops_as}
+use Rattle.locked_run.proofs.running.run.Goals as goal
+
+pub returns-in-Err-clause-runs : goal.returns-in-Err-clause-runs
+returns-in-Err-clause-runs g c =
+    let told = g.F.Files.told in
+    let Refused = Rose (g.G.Gate.refused c.args.gate.now) (g.G.Gate.refused c.args.gate.now) in
+    cut_none (function_of c.args.func.now) c.args.workers Refused (length c.args.func.now.handlers) c.args.feed.now (told c.args.files.now) (told c.read_all.new.files) c.args.targets.now (counted c.args.func.now)
+    (still_empty (told c.args.files.now) (told c.read_all.new.files) c.args.targets.now (c.read_all.ensures.kept []) c.requires.empty)
+
+pub returns-in-Err-clause-kept : goal.returns-in-Err-clause-kept
+returns-in-Err-clause-kept g c = c.read_all.ensures.kept c.args.targets.now
+
+pub returns-in-Err-clause-among : goal.returns-in-Err-clause-among
+returns-in-Err-clause-among g c = stops_as Ending Came c.args.captures.now c.args.targets.now c.in-Err.stop (c.in-Err.ensures.among c.args.targets.now)
+
+pub settle-requires-clause-empty : goal.settle-requires-clause-empty
+settle-requires-clause-empty g c κs within =
+    let told = g.F.Files.told in
+    still_empty (told c.args.files.now) (told c.read_all.new.files) c.args.targets.now (c.read_all.ensures.kept []) c.requires.empty
+
+pub settle-requires-clause-few_packets : goal.settle-requires-clause-few_packets
+settle-requires-clause-few_packets g c κs within =
+    let count = c.in-Ok.ensures.reads_all.0.count in
+    let given = c.given-packets.ensures in
+    let few = c.given-packets.type_inv in
+    let none = c.requires.new in
+    omega (arith, count, given, few, none)
+
+pub returns-in-Ok-settle-clause-runs : goal.returns-in-Ok-settle-clause-runs
+returns-in-Ok-settle-clause-runs g c =
+    let told = g.F.Files.told in
+    let Refused = Rose (g.G.Gate.refused c.args.gate.now) (g.G.Gate.refused c.settle.new.gate) in
+    let read = c.in-Ok.ensures.reads_all in
+    finished_of (function_of c.args.func.now) c.args.workers Refused (length c.args.func.now.handlers) (length c.args.captures.now) c.args.feed.now c.read_all.new.feed (told c.args.files.now) (told c.read_all.new.files) (told c.settle.new.files) c.args.targets.now c.read_all.new.batch c.in-Ok.ending c.in-Ok-settle.settled c.given-packets.result
+    (counted c.args.func.now) c.requires.new read.0 read.1 c.in-Ok-settle.ensures.settles c.given-packets.ensures
+
+pub returns-in-Ok-settle-clause-kept : goal.returns-in-Ok-settle-clause-kept
+returns-in-Ok-settle-clause-kept g c =
+    let told = g.F.Files.told in
+    but_both c.args.targets.now (told c.args.files.now) (told c.read_all.new.files) (told c.settle.new.files) (c.read_all.ensures.kept c.args.targets.now) c.settle.ensures.kept
+
+pub returns-clause-runs : goal.returns-clause-runs
+returns-clause-runs g c =
+    let told = g.F.Files.told in
+    let Refused = Rose (g.G.Gate.refused c.args.gate.now) (g.G.Gate.refused c.settle.new.gate) in
+    let read = c.in-Ok.ensures.reads_all in
+    cut_short_of (function_of c.args.func.now) c.args.workers Refused (length c.args.func.now.handlers) (length c.args.captures.now) c.args.feed.now c.read_all.new.feed (told c.args.files.now) (told c.read_all.new.files) (told c.settle.new.files) c.args.targets.now c.read_all.new.batch
+    (counted c.args.func.now) c.requires.new read.0 c.in-Err-settle.ensures.settles
+
+pub returns-clause-kept : goal.returns-clause-kept
+returns-clause-kept g c =
+    let told = g.F.Files.told in
+    but_both c.args.targets.now (told c.args.files.now) (told c.read_all.new.files) (told c.settle.new.files) (c.read_all.ensures.kept c.args.targets.now) c.settle.ensures.kept

@@ -1,0 +1,68 @@
+use Rattle.std.proofs.Common.{◌≤◌, ◌∙◌, ◌++◌, ◌+◌, List, length, map, take, subst, arith}
+use Rattle.std.proofs.lemmas.List.{take_all}
+use Rattle.packet_feed.specs.Arrivals.{packet_of}
+use Rattle.stream_run.specs.Runs.{Handled}
+use Rattle.stream_run.specs.Writing.{files_of, AreHeld, AreFronts}
+use Rattle.stream_run.proofs.Held.{but_both, but_written}
+use Rattle.sharded_run.proofs.Written.{fronts_longer}
+use Rattle.locked_run.specs.Handled.{joined}
+use Rattle.locked_run.proofs.Joining.{places_long, joined_long, place_within, so_far}
+use Rattle.locked_run.proofs.writing.write_all.Goals as goal
+
+pub bounds-places-k : goal.bounds-places-k
+bounds-places-k g c = let long = places_long (map packet_of c.args.batch.now) c.args.order.now c.args.places.now c.requires.at in omega (arith, long)
+
+pub item-requires : goal.item-requires
+item-requires g c =
+    let long = places_long (map packet_of c.args.batch.now) c.args.order.now c.args.places.now c.requires.at in
+    place_within c.args.batch.now c.args.order.now c.args.places.now c.loop-k.k 0 c.requires.at (omega arith)
+
+pub returns-in-Err-clause-goes_on : goal.returns-in-Err-clause-goes_on
+returns-in-Err-clause-goes_on g c = λ mode workers hs held.
+    let told = g.F.Files.told in
+    let batch = c.args.batch.now in
+    let order = c.args.order.now in
+    let places = c.args.places.now in
+    let k = c.loop-k.k in
+    let all = joined batch order places in
+    let files = files_of c.write_one.new.sinks in
+    let now = told c.write_one.new.files in
+    fronts_longer mode workers c.args.ports hs all (k + 1) now files
+    (subst (λ (t : List Handled). AreFronts mode workers c.args.ports t now files) (so_far hs batch order places k c.item.result.now c.index-order-k.result 0 c.requires.at (omega arith) c.item.ensures c.index-order-k.is)
+    (c.in-Err.ensures.goes_on mode workers (hs ++ take k all) (c.loop-k.invariant.held mode workers hs held)))
+
+pub returns-in-Err-clause-kept : goal.returns-in-Err-clause-kept
+returns-in-Err-clause-kept g c =
+    let told = g.F.Files.told in
+    let inv = c.loop-k.invariant in
+    but_both (files_of c.args.sinks.now) (told c.args.files.now) (told c.loop-k.files) (told c.write_one.new.files) inv.kept
+    (but_written (files_of c.args.sinks.now) (files_of c.loop-k.sinks) (told c.loop-k.files) (told c.write_one.new.files) inv.same_files c.write_one.ensures.kept)
+
+pub loop-k-preserved : goal.loop-k-preserved
+loop-k-preserved g c =
+    let told = g.F.Files.told in
+    let inv = c.loop-k.invariant in
+    let batch = c.args.batch.now in
+    let order = c.args.order.now in
+    let places = c.args.places.now in
+    let k = c.loop-k.k in
+    let all = joined batch order places in
+    record {
+      held = λ mode workers hs held.
+          subst (λ (t : List Handled). AreHeld mode workers c.args.ports t (told c.write_one.new.files) c.write_one.new.sinks) (so_far hs batch order places k c.item.result.now c.index-order-k.result 0 c.requires.at (omega arith) c.item.ensures c.index-order-k.is)
+          (c.in-Ok.ensures.goes_on mode workers (hs ++ take k all) (inv.held mode workers hs held));
+      same_files = c.write_one.ensures.same_files ∙ inv.same_files;
+      kept = but_both (files_of c.args.sinks.now) (told c.args.files.now) (told c.loop-k.files) (told c.write_one.new.files) inv.kept
+          (but_written (files_of c.args.sinks.now) (files_of c.loop-k.sinks) (told c.loop-k.files) (told c.write_one.new.files) inv.same_files c.write_one.ensures.kept);
+      writes = λ n r. c.write_one.ensures.writes n (inv.writes n r);
+      count = c.in-Ok.ensures.cause ∙ inv.count;
+    }
+
+pub returns-clause-goes_on : goal.returns-clause-goes_on
+returns-clause-goes_on g c = λ mode workers hs held.
+    let told = g.F.Files.told in
+    let all = joined c.args.batch.now c.args.order.now c.args.places.now in
+    let k = c.loop-k.k in
+    let long = joined_long c.args.batch.now c.args.order.now c.args.places.now c.requires.at in
+    let past : length all ≤ k = omega (arith, long) in
+    subst (λ (t : List Handled). AreHeld mode workers c.args.ports (hs ++ t) (told c.loop-k.files) c.loop-k.sinks) (take_all k all past) (c.loop-k.invariant.held mode workers hs held)

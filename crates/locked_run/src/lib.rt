@@ -1,0 +1,13 @@
+//! A run in mode `lock`: packets are read, workers that share the tables handle them, and what they
+//! leave is written in the order in which they did.
+#![tactic(auto)]
+
+mod came;
+mod kept;
+pub mod laws;
+mod reading;
+mod running;
+mod writing;
+
+pub use came::Came;
+pub use running::run;

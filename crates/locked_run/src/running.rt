@@ -1,0 +1,220 @@
+//! A whole run in mode `lock`.
+ghost use Rattle.std.specs.Prelude.{◌≡◌, ◌^◌, ◌+◌, ◌<◌, ◌≤◌, ◌⊎◌, ℕ, List, [], Some, length, map, slice_get, All, IfOk};
+ghost use Rattle.nf_base.specs.Functions.{function_of};
+ghost use Rattle.nf_files.specs.Told.{Told, IsEmptyIfTold};
+ghost use Rattle.packet_feed.specs.Arrivals.{Arrival, packet_of};
+ghost use Rattle.packet_feed.specs.Told.{EachFile, IsApart};
+ghost use Rattle.packet_feed.specs.Sources.{files_in};
+ghost use Rattle.stream_run.specs.Writing.{KeepsBut, IsStopCause, StopsAmong};
+ghost use Rattle.lock_mode.specs.Gates.{Rose};
+ghost use Rattle.run_history.specs.Headings.{IsHeading};
+ghost use Rattle.lock_workers.specs.Worked.{AreAt, AreHandled};
+ghost use Rattle.locked_run.specs.Handled.{joined};
+ghost use Rattle.locked_run.specs.Going.{mode_of, Writes, Settles};
+ghost use Rattle.locked_run.specs.Lawful.{Runs};
+
+use crate::came::{Came, Settled};
+use crate::kept::{Kept, packets_in};
+use crate::reading::read_all;
+use crate::writing::write_all;
+use lock_mode::Gate;
+use lock_workers::{Turns, Worked};
+use nf_base::func::Func;
+use nf_base::seq::Seq;
+use nf_base::workers::Workers;
+use nf_files::Files;
+use packet_feed::Feed;
+use run_history::line::Mode;
+use std::alloc::{AllocError, Global};
+use std::sync::Wait;
+use std::thread::Threads;
+use stream_run::{Ran, Stop, begin_sinks, flush_all};
+
+// How packets were handled: by all workers, or by one where the gate refused.
+fn mode_of(handled_by: u32, workers: u32) -> Mode
+    ensures { result ≡ mode_of handled_by workers }
+{
+    if handled_by == workers {
+        Mode::Lock
+    } else {
+        Mode::One
+    }
+}
+
+// The workers handle the packets that were read.
+fn work<R: Threads + Wait + Sync, T: Turns + Sync, G: Gate + Drop + Send>(
+    rt: &R,
+    alloc: Global,
+    func: &Func,
+    workers: Workers,
+    batch: &Seq<Kept>,
+    turns: &T,
+    gate: &mut G,
+) -> Result<Worked, AllocError>
+    requires few { length batch.now ≤ 2 ^ 32 }
+    requires ports { let ports = length func.now.handlers in
+        All (λ p. p.id.port < ports) (map packet_of batch.now) }
+    ensures handled { IfOk result (λ all. AreHandled (function_of func.now) all.workers
+        (map packet_of batch.now) all.order.items all.places.items all.state) }
+    ensures as_many { IfOk result (λ all. (all.workers ≡ workers)
+        ⊎ ((all.workers ≡ 1) × Rose (G.refused gate.old) (G.refused gate.new))) }
+    ensures rises { G.refused gate.old ≤ G.refused gate.new }
+{
+    let packets = packets_in(alloc, batch)?;
+    lock_workers::run(
+        rt,
+        alloc,
+        func,
+        workers.get(),
+        packets.as_slice(),
+        turns,
+        gate,
+    )
+}
+
+// Writes what packets leave, from what files begin with on.
+fn write<F: Files>(
+    alloc: Global,
+    files: &mut F,
+    mode: Mode,
+    workers: Workers,
+    ports: u32,
+    batch: &Seq<Kept>,
+    worked: &Worked,
+    targets: &[u32],
+) -> Result<(), Stop>
+    requires heading { IsHeading (record { mode = mode; workers = workers }) }
+    requires at { AreAt (map packet_of batch.now) worked.now.order.items worked.now.places.items }
+    requires created { EachFile (F.is_written files.old) targets.now }
+    requires apart { IsApart targets.now }
+    requires few { length targets.now ≤ 2 ^ 32 }
+    requires empty { (k : ℕ) → (file : ℕ) → slice_get targets.now k ≡ Some file →
+        IsEmptyIfTold ((F.told files.old).given file) }
+    ensures written { let hs = joined batch.now worked.now.order.items worked.now.places.items in
+        Writes mode workers ports hs (F.told files.new) targets.now result }
+    ensures kept { KeepsBut targets.now (F.told files.old) (F.told files.new) }
+    ensures cause { IsStopCause (F.counted files.old) (F.counted files.new) result }
+    ensures among { StopsAmong [] targets.now result }
+{
+    let mut sinks = match begin_sinks(alloc, mode, workers, ports, targets) {
+        Ok(sinks) => sinks,
+        Err(_) => return Err(Stop::Memory),
+    };
+    let (order, places) = (worked.order.as_slice(), worked.places.as_slice());
+    match write_all(files, &mut sinks, ports, batch, order, places) {
+        Ok(()) => flush_all(&mut sinks, files),
+        Err(stop) => Err(stop),
+    }
+}
+
+// Packets that were read are handled, and what they leave is written.
+fn settle<R: Threads + Wait + Sync, F: Files, T: Turns + Sync, G: Gate + Drop + Send>(
+    rt: &R,
+    alloc: Global,
+    files: &mut F,
+    func: &Func,
+    workers: Workers,
+    batch: &Seq<Kept>,
+    targets: &[u32],
+    turns: &T,
+    gate: &mut G,
+) -> Result<Settled, Stop>
+    requires several { 1 < workers }
+    requires few_packets { length batch.now ≤ 2 ^ 32 }
+    requires ports { let ports = length func.now.handlers in
+        All (λ p. p.id.port < ports) (map packet_of batch.now) }
+    requires created { EachFile (F.is_written files.old) targets.now }
+    requires apart { IsApart targets.now }
+    requires few { length targets.now ≤ 2 ^ 32 }
+    requires empty { (k : ℕ) → (file : ℕ) → slice_get targets.now k ≡ Some file →
+        IsEmptyIfTold ((F.told files.old).given file) }
+    ensures settles { let Refused = Rose (G.refused gate.old) (G.refused gate.new) in
+        Settles (function_of func.now) workers Refused (length func.now.handlers)
+        batch.now (F.told files.new) targets.now result }
+    ensures rises { G.refused gate.old ≤ G.refused gate.new }
+    ensures kept { KeepsBut targets.now (F.told files.old) (F.told files.new) }
+    ensures cause { IsStopCause (F.counted files.old) (F.counted files.new) result }
+    ensures among { StopsAmong [] targets.now result }
+{
+    let worked = match work(rt, alloc, func, workers, batch, turns, gate) {
+        Ok(worked) => worked,
+        Err(_) => return Err(Stop::Memory),
+    };
+    let mode = mode_of(worked.workers, workers.get());
+    let ports = func.handlers.len();
+    match write(alloc, files, mode, workers, ports, batch, &worked, targets) {
+        Ok(()) => Ok(Settled {
+            mode,
+            state: worked.state,
+        }),
+        Err(stop) => Err(stop),
+    }
+}
+
+/// Reads the packets of captures, handles them by workers that share the tables, and writes the outputs
+/// and the journal in the order in which they were handled.
+///
+/// A worker has the packets whose port is its number modulo theirs, and handles them in capture order,
+/// in a thread of its own; `turns` is told when a worker comes to a packet and when it has handled it,
+/// and nothing depends on it. All packets and their frames are held in memory until the end, beside
+/// three copies of the tables and what each packet came to. Where the gate refuses a reader one worker
+/// handles them in capture order, in mode `one`.
+///
+/// The captures are those of the feed, which gave no packet yet. The targets are the outputs in the
+/// order of their ports, and the journal behind them; nothing was given to them yet. After an `Err` each
+/// of them holds a front of what a run over some first packets leaves there.
+pub fn run<R: Threads + Wait + Sync, F: Files, T: Turns + Sync, G: Gate + Drop + Send>(
+    rt: &R,
+    alloc: Global,
+    files: &mut F,
+    func: &Func,
+    workers: Workers,
+    feed: &mut Feed,
+    captures: &[u32],
+    targets: &[u32],
+    turns: &T,
+    gate: &mut G,
+) -> Result<Came, Stop>
+    requires several { 1 < workers }
+    requires captures { files_in feed.old.sources ≡ captures.now }
+    requires ports { length captures.now ≡ length func.now.handlers }
+    requires new { feed.old.given ≡ 0 }
+    requires opened { EachFile (F.is_read files.old) captures.now }
+    requires created { EachFile (F.is_written files.old) targets.now }
+    requires apart { IsApart targets.now }
+    requires as_many { length targets.now ≡ length func.now.handlers + 1 }
+    requires few { length targets.now ≤ 2 ^ 32 }
+    requires empty { (k : ℕ) → (file : ℕ) → slice_get targets.now k ≡ Some file →
+        IsEmptyIfTold ((F.told files.old).given file) }
+    // One run's files are whole, and it handled the first packets of the captures, each port's in their
+    // order; or each file holds a front of what such a run leaves there. It is in mode `one`, and in
+    // capture order, only where the gate's count rose.
+    ensures runs { let Refused = Rose (G.refused gate.old) (G.refused gate.new) in
+        Runs (function_of func.now) workers Refused feed.old (F.told files.old)
+        feed.new (F.told files.new) targets.now result }
+    ensures rises { G.refused gate.old ≤ G.refused gate.new }
+    ensures kept { KeepsBut targets.now (F.told files.old) (F.told files.new) }
+    ensures cause { IsStopCause (F.counted files.old) (F.counted files.new) result }
+    // The file that failed is one of the captures or of the targets.
+    ensures among { StopsAmong captures.now targets.now result }
+{
+    let mut batch = Seq::new(alloc);
+    let ending = match read_all(alloc, files, feed, captures, &mut batch) {
+        Ok(ending) => ending,
+        Err(stop) => return Err(stop),
+    };
+    let packets = feed.given();
+    match settle(
+        rt, alloc, files, func, workers, &batch, targets, turns, gate,
+    ) {
+        Ok(settled) => Ok(Came {
+            mode: settled.mode,
+            ran: Ran {
+                ending,
+                packets,
+                state: settled.state,
+            },
+        }),
+        Err(stop) => Err(stop),
+    }
+}

@@ -1,0 +1,91 @@
+//! What packets leave is written, in the order in which they were handled.
+ghost use Rattle.std.specs.Prelude.{◌≡◌, ◌^◌, ◌≤◌, ◌∷◌, ◌++◌, [], ℕ, List, length, map};
+ghost use Rattle.packet_feed.specs.Arrivals.{packet_of};
+ghost use Rattle.packet_feed.specs.Told.{EachFile, IsApart};
+ghost use Rattle.run_history.specs.declared.line.Mode.{Mode};
+ghost use Rattle.stream_run.specs.Runs.{Handled};
+ghost use Rattle.stream_run.specs.Writing.{files_of, AreHeld, AllGoOn, KeepsBut, KeepsAllBut, IsStopCause, StopsAmong};
+ghost use Rattle.lock_workers.specs.Worked.{AreAt};
+ghost use Rattle.locked_run.specs.Handled.{joined};
+
+use crate::kept::Kept;
+use lock_core::Ordered;
+use nf_base::seq::Seq;
+use nf_files::Files;
+use stream_run::{Sink, Stop, put_all};
+
+// Puts what one packet leaves into all files.
+fn write_one<F: Files>(
+    files: &mut F,
+    sinks: &mut Seq<Sink>,
+    ports: u32,
+    kept: &Kept,
+    ordered: &Ordered,
+) -> Result<(), Stop>
+    requires created { EachFile (F.is_written files.old) (files_of sinks.old) }
+    requires apart { IsApart (files_of sinks.old) }
+    requires few { length sinks.old ≤ 2 ^ 32 }
+    ensures goes_on { let x = ordered.now in
+        let h : Handled = record { arrival = kept.now; worker = x.seat; done = x.done } in
+        (mode : Mode) → (workers : ℕ) → (hs : List Handled) →
+        AreHeld mode workers ports hs (F.told files.old) sinks.old →
+        AllGoOn mode workers ports (hs ++ h ∷ []) (F.told files.new) sinks.new result }
+    ensures same_files { files_of sinks.new ≡ files_of sinks.old }
+    ensures kept { KeepsAllBut (files_of sinks.old) (F.told files.old) (F.told files.new) }
+    ensures cause { IsStopCause (F.counted files.old) (F.counted files.new) result }
+    ensures among { StopsAmong [] (files_of sinks.old) result }
+    ensures reads { (g : ℕ) → F.is_read files.old g → F.is_read files.new g }
+    ensures writes { (g : ℕ) → F.is_written files.old g → F.is_written files.new g }
+{
+    let packet = kept.packet();
+    let original = kept.original();
+    let frame = kept.frame();
+    put_all(
+        sinks,
+        files,
+        ports,
+        ordered.seat,
+        packet,
+        original,
+        frame,
+        &ordered.done,
+    )
+}
+
+/// Puts what packets leave into all files, in an order of them, each of which stands at its place.
+pub(crate) fn write_all<F: Files>(
+    files: &mut F,
+    sinks: &mut Seq<Sink>,
+    ports: u32,
+    batch: &Seq<Kept>,
+    order: &[Ordered],
+    places: &[u32],
+) -> Result<(), Stop>
+    requires at { AreAt (map packet_of batch.now) order.now places.now }
+    requires created { EachFile (F.is_written files.old) (files_of sinks.old) }
+    requires apart { IsApart (files_of sinks.old) }
+    requires few { length sinks.old ≤ 2 ^ 32 }
+    ensures goes_on { let more = joined batch.now order.now places.now in
+        (mode : Mode) → (workers : ℕ) → (hs : List Handled) →
+        AreHeld mode workers ports hs (F.told files.old) sinks.old →
+        AllGoOn mode workers ports (hs ++ more) (F.told files.new) sinks.new result }
+    ensures same_files { files_of sinks.new ≡ files_of sinks.old }
+    ensures kept { KeepsBut (files_of sinks.old) (F.told files.old) (F.told files.new) }
+    ensures cause { IsStopCause (F.counted files.old) (F.counted files.new) result }
+    ensures among { StopsAmong [] (files_of sinks.old) result }
+    ensures writes { (g : ℕ) → F.is_written files.old g → F.is_written files.new g }
+{
+    for k in 0..order.len() {
+        match write_one(
+            files,
+            sinks,
+            ports,
+            batch.item(places[k] as usize),
+            &order[k],
+        ) {
+            Ok(()) => {}
+            Err(stop) => return Err(stop),
+        }
+    }
+    Ok(())
+}
