@@ -1,0 +1,6 @@
+mod Walks
+mod Reading
+mod Turns
+mod Merged
+mod Wholes
+mod Placing

@@ -1,0 +1,139 @@
+-- Reads of made captures beside files.
+use Rattle.std.proofs.Common.{◌≡◌, ◌≢◌, ℕ, ◌-◌, ◌≤◌, ◌⊎◌, inl, inr, Bool, true, false, cond, leb, List, [], ◌++◌, length, take, refl, ap, ◌∙◌, arith}
+use Rattle.std.specs.Prelude.{Option, Some, None, slice_get, slice_set, option_and_then}
+use Rattle.std.proofs.lemmas.Bool.{cases_eq, leb-true}
+use Rattle.std.proofs.lemmas.List.{length-set}
+use Rattle.nf_laws.proofs.Indexed.{set_here, set_other}
+use Rattle.nf_files.specs.Told.{Told, IsEmptyIfTold}
+use Rattle.nf_files.specs.Pieces.{Takes}
+use Rattle.nf_files.specs.Reads.{Reads}
+use Rattle.made_captures.specs.Captures.{first_number, port_of, left_at, IsMade, IsGiven}
+use Rattle.made_captures.specs.Told.{first_of, with_made}
+
+-- ---- what is left of each capture
+
+-- one capture is another list, and all others are as they were
+same_elsewhere : (captures : List (List ℕ)) (port place : ℕ) (later : List ℕ) → ((place ≡ port) ⊎ (place ≡ port → ⊥)) → (place ≡ port → ⊥) → slice_get (slice_set captures port later) place ≡ slice_get captures place
+same_elsewhere captures port place later (inl e) ne = absurd (ne e)
+same_elsewhere captures port place later (inr n) ne = set_other captures port place later ne
+
+same_place : (file number first port : ℕ) (b : Bool) → leb first file ≡ b → cond b (Some (file - first)) None ≡ Some port → leb first number ≡ true → number - first ≡ port → number ≡ file
+same_place file number first port true p e q f = omega (arith, leb-true first file p, leb-true first number q, f, of_some (file - first) port e)
+  where
+    of_some : (x y : ℕ) → Some x ≡ Some y → x ≡ y
+    of_some x y e = cc
+same_place file number first port false p e q f = absurd (no_some port e)
+  where
+    no_some : (y : ℕ) → None ≡ Some y → ⊥
+    no_some y e = cc
+
+other_left : (captures : List (List ℕ)) (later : List ℕ) (file port number first : ℕ) (b : Bool) → leb first number ≡ b → cond (leb first file) (Some (file - first)) None ≡ Some port → number ≢ file
+    → option_and_then (λ (p : ℕ). slice_get (slice_set captures port later) p) (cond b (Some (number - first)) None) ≡ option_and_then (λ (p : ℕ). slice_get captures p) (cond b (Some (number - first)) None)
+other_left captures later file port number first true q e ne =
+    same_elsewhere captures port (number - first) later (cases_eq (number - first) port) (λ f. ne (same_place file number first port (leb first file) refl e q f))
+other_left captures later file port number first false q e ne = refl
+
+-- what is left of the captures of other numbers
+pub left_other : (captures : List (List ℕ)) (later : List ℕ) (file port number : ℕ) → port_of (length captures) file ≡ Some port → number ≢ file → left_at (slice_set captures port later) number ≡ left_at captures number
+left_other captures later file port number e ne =
+    ap (λ (n : ℕ). option_and_then (λ (p : ℕ). slice_get (slice_set captures port later) p) (port_of n number)) (length-set captures port later)
+    ∙ other_left captures later file port number (first_number (length captures)) (leb (first_number (length captures)) number) refl e ne
+
+-- what is left of that of this number
+pub left_this : (captures : List (List ℕ)) (file port : ℕ) → port_of (length captures) file ≡ Some port → left_at captures file ≡ slice_get captures port
+left_this captures file port e = ap (option_and_then (λ (p : ℕ). slice_get captures p)) e
+
+pub left_set : (captures : List (List ℕ)) (before later : List ℕ) (file port : ℕ) → port_of (length captures) file ≡ Some port → slice_get captures port ≡ Some before → left_at (slice_set captures port later) file ≡ Some later
+left_set captures before later file port e at =
+    ap (λ (n : ℕ). option_and_then (λ (p : ℕ). slice_get (slice_set captures port later) p) (port_of n file)) (length-set captures port later)
+    ∙ left_this' (slice_set captures port later) (length captures) file port e
+    ∙ set_here captures port before later at
+  where
+    left_this' : (captures : List (List ℕ)) (n file port : ℕ) → port_of n file ≡ Some port → option_and_then (λ (p : ℕ). slice_get captures p) (port_of n file) ≡ slice_get captures port
+    left_this' captures n file port e = ap (option_and_then (λ (p : ℕ). slice_get captures p)) e
+
+-- ---- one read
+
+taken_so : (front later : List ℕ) (x y o p : Option (List ℕ)) → x ≡ Some (front ++ later) → y ≡ Some later → Takes front (first_of x o) (first_of y p)
+taken_so front later x y o p e f = rw (e, f) refl
+
+ended_so : (front : List ℕ) (x o : Option (List ℕ)) → x ≡ Some front → front ≡ [] → IsEmptyIfTold (first_of x o)
+ended_so front x o e f = rw e f
+
+none_taken : (count : ℕ) (buffer later : List ℕ) → count ≡ 0 → later ≡ [] → take count buffer ++ later ≡ []
+none_taken count buffer later e f = rw (e, f) refl
+
+pub reads_made : (captures new : List (List ℕ)) (told : Told) (file port count : ℕ) (buffer : List ℕ) → port_of (length captures) file ≡ Some port → count ≤ length buffer → IsGiven port count buffer captures new
+    → Reads (with_made captures told) (with_made new told) file count buffer
+reads_made captures new told file port count buffer e le g =
+    let before = left_this captures file port e ∙ g.given in
+    let after : left_at new file ≡ Some g.later = ap (λ (all : List (List ℕ)). left_at all file) g.kept ∙ left_set captures (take count buffer ++ g.later) g.later file port e g.given in
+    record {
+      within = le;
+      taken = taken_so (take count buffer) g.later (left_at captures file) (left_at new file) (told.rest file) (told.rest file) before after;
+      at_end = λ none room. ended_so (take count buffer ++ g.later) (left_at captures file) (told.rest file) before (none_taken count buffer g.later none (g.at_end none room));
+      kept = record {
+        rests = λ n ne. ap (λ (left : Option (List ℕ)). first_of left (told.rest n)) (ap (λ (all : List (List ℕ)). left_at all n) g.kept ∙ left_other captures g.later file port n e ne);
+        givens = λ n. refl;
+        names = λ n. refl;
+        contents = λ n. refl;
+        latest_same = λ n. refl;
+        next_same = refl;
+      };
+    }
+
+-- the numbers of made captures stay theirs
+still_made : (captures new : List (List ℕ)) (later : List ℕ) (file port number : ℕ) (before : List ℕ) → port_of (length captures) file ≡ Some port → slice_get captures port ≡ Some before → new ≡ slice_set captures port later
+    → ((number ≡ file) ⊎ (number ≡ file → ⊥)) → IsMade captures number → IsMade new number
+still_made captures new later file port number before e at kept (inl same) made =
+    (later, ap (λ (all : List (List ℕ)). left_at all number) kept ∙ ap (left_at (slice_set captures port later)) same ∙ left_set captures before later file port e at)
+still_made captures new later file port number before e at kept (inr ne) made =
+    (made.0, ap (λ (all : List (List ℕ)). left_at all number) kept ∙ left_other captures later file port number e ne ∙ made.1)
+
+either_read : (P Q R : Type 0) → (P → Q) → P ⊎ R → Q ⊎ R
+either_read P Q R go (inl p) = inl (go p)
+either_read P Q R go (inr r) = inr r
+
+pub reads_on : (captures new : List (List ℕ)) (file port count number : ℕ) (buffer : List ℕ) (P : Type 0) → port_of (length captures) file ≡ Some port → IsGiven port count buffer captures new
+    → (IsMade captures number ⊎ P) → (IsMade new number ⊎ P)
+reads_on captures new file port count number buffer P e g =
+    either_read (IsMade captures number) (IsMade new number) P
+    (still_made captures new g.later file port number (take count buffer ++ g.later) e g.given g.kept (cases_eq number file))
+
+-- ---- reads of other files
+
+no_left : (captures : List (List ℕ)) (x : Option ℕ) (left : List ℕ) → x ≡ None → option_and_then (λ (p : ℕ). slice_get captures p) x ≡ Some left → ⊥
+no_left captures (Some port) left e f = absurd cc
+no_left captures None left e f = absurd cc
+
+-- a number that is no capture's is that of a file that is read
+pub is_others : (captures : List (List ℕ)) (file : ℕ) (P : Type 0) → port_of (length captures) file ≡ None → (IsMade captures file ⊎ P) → P
+is_others captures file P e (inl made) = absurd (no_left captures (port_of (length captures) file) made.0 e made.1)
+is_others captures file P e (inr p) = p
+
+none_left : (captures : List (List ℕ)) (x : Option ℕ) → x ≡ None → option_and_then (λ (p : ℕ). slice_get captures p) x ≡ None
+none_left captures x e = ap (option_and_then (λ (p : ℕ). slice_get captures p)) e
+
+taken_others : (front : List ℕ) (x o p : Option (List ℕ)) → x ≡ None → Takes front o p → Takes front (first_of x o) (first_of x p)
+taken_others front x o p e t = rw e t
+
+ended_others : (x o : Option (List ℕ)) → x ≡ None → IsEmptyIfTold o → IsEmptyIfTold (first_of x o)
+ended_others x o e t = rw e t
+
+pub reads_others : (captures : List (List ℕ)) (old new : Told) (file count : ℕ) (buffer : List ℕ) → port_of (length captures) file ≡ None → Reads old new file count buffer
+    → Reads (with_made captures old) (with_made captures new) file count buffer
+reads_others captures old new file count buffer e r =
+    let none = none_left captures (port_of (length captures) file) e in
+    record {
+      within = r.within;
+      taken = taken_others (take count buffer) (left_at captures file) (old.rest file) (new.rest file) none r.taken;
+      at_end = λ zero room. ended_others (left_at captures file) (old.rest file) none (r.at_end zero room);
+      kept = record {
+        rests = λ n ne. ap (first_of (left_at captures n)) (r.kept.rests n ne);
+        givens = r.kept.givens;
+        names = r.kept.names;
+        contents = r.kept.contents;
+        latest_same = r.kept.latest_same;
+        next_same = r.kept.next_same;
+      };
+    }

@@ -1,0 +1,4 @@
+pub mod Records
+pub mod Captures
+pub mod Told
+pub mod Laws
