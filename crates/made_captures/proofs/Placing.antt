@@ -1,14 +1,16 @@
 -- Reads of made captures beside files.
-use Rattle.std.proofs.Common.{◌≡◌, ◌≢◌, ℕ, ◌-◌, ◌≤◌, ◌⊎◌, inl, inr, Bool, true, false, cond, leb, List, [], ◌++◌, length, take, refl, ap, ◌∙◌, arith}
+use Rattle.std.proofs.Common.{◌≡◌, ◌≢◌, ℕ, zero, suc, ◌+◌, ◌-◌, ◌^◌, ◌<◌, ◌≤◌, ◌⊎◌, inl, inr, Bool, true, false, cond, leb, ltb, List, [], ◌++◌, length, take, refl, sym, ap, subst, ◌∙◌, arith}
 use Rattle.std.specs.Prelude.{Option, Some, None, slice_get, slice_set, option_and_then}
-use Rattle.std.proofs.lemmas.Bool.{cases_eq, leb-true}
+use Rattle.std.proofs.lemmas.Bool.{cases_eq, leb-true, ltb-true, lt-ltb}
 use Rattle.std.proofs.lemmas.List.{length-set}
 use Rattle.nf_laws.proofs.Indexed.{set_here, set_other}
-use Rattle.nf_files.specs.Told.{Told, IsEmptyIfTold}
+use Rattle.nf_files.specs.Told.{Told, IsToldAs, IsEmptyIfTold, Same}
+use Rattle.nf_files.specs.Openings.{Creates}
 use Rattle.nf_files.specs.Pieces.{Takes}
 use Rattle.nf_files.specs.Reads.{Reads}
+use Rattle.nf_files.specs.Writes.{Writes}
 use Rattle.made_captures.specs.Captures.{first_number, port_of, left_at, IsMade, IsGiven}
-use Rattle.made_captures.specs.Told.{first_of, with_made}
+use Rattle.made_captures.specs.Told.{first_of, names_beyond, names_of, with_made}
 
 -- ---- what is left of each capture
 
@@ -52,6 +54,66 @@ left_set captures before later file port e at =
     left_this' : (captures : List (List ℕ)) (n file port : ℕ) → port_of n file ≡ Some port → option_and_then (λ (p : ℕ). slice_get captures p) (port_of n file) ≡ slice_get captures port
     left_this' captures n file port e = ap (option_and_then (λ (p : ℕ). slice_get captures p)) e
 
+-- ---- names
+
+beyond_on : (which : ℕ) (old new : ℕ → Option (List ℕ)) (k : ℕ) → ((n : ℕ) → 2 ^ 32 ≤ n → new n ≡ old n) → names_beyond which new k ≡ names_beyond which old k
+beyond_on which old new zero same = refl
+beyond_on which old new (suc k) same = same (2 ^ 32 + k) (omega arith)
+
+either_on : (which : ℕ) (old new : ℕ → Option (List ℕ)) (g : ℕ) (b : Bool) → new g ≡ old g ⊎ (2 ^ 32 ≤ g) → ((n : ℕ) → 2 ^ 32 ≤ n → new n ≡ old n) → ltb g (2 ^ 32) ≡ b → cond b (new g) (names_beyond which new (g - 2 ^ 32)) ≡ cond b (old g) (names_beyond which old (g - 2 ^ 32))
+either_on which old new g true (inl e) same t = e
+either_on which old new g true (inr le) same t = absurd (omega (arith, le, ltb-true g (2 ^ 32) t))
+either_on which old new g false e same t = beyond_on which old new (g - 2 ^ 32) same
+
+pub names_on : (which : ℕ) (old new : ℕ → Option (List ℕ)) → ((g : ℕ) → new g ≡ old g) → (g : ℕ) → names_of which new g ≡ names_of which old g
+names_on which old new same g = either_on which old new g (ltb g (2 ^ 32)) (inl (same g)) (λ n le. same n) refl
+
+names_but : (which file : ℕ) (old new : ℕ → Option (List ℕ)) → file < 2 ^ 32 → ((g : ℕ) → g ≢ file → new g ≡ old g) → (g : ℕ) → g ≢ file → names_of which new g ≡ names_of which old g
+names_but which file old new lt same g ne = either_on which old new g (ltb g (2 ^ 32)) (inl (same g ne)) (λ n le. same n (λ e. omega (arith, lt, le, e))) refl
+
+pub name_low : (which : ℕ) (name : ℕ → Option (List ℕ)) (g : ℕ) → g < 2 ^ 32 → names_of which name g ≡ name g
+name_low which name g lt = ap (λ (b : Bool). cond b (name g) (names_beyond which name (g - 2 ^ 32))) (lt-ltb g (2 ^ 32) lt)
+
+-- ---- files that are created and written
+
+pub creates_on : (captures : List (List ℕ)) (which : ℕ) (old new : Told) (created : List ℕ) (file : ℕ) → file < 2 ^ 32 → Creates old new created file → Creates (with_made captures which old) (with_made captures which new) created file
+creates_on captures which old new created file lt c = record {
+  number = c.number;
+  from_two = c.from_two;
+  then = c.then;
+  empty = c.empty;
+  named = subst (IsToldAs created) (sym (name_low which new.name file lt)) c.named;
+  last = c.last;
+  follows = c.follows;
+  rests = λ g ne. ap (first_of (left_at captures g)) (c.rests g ne);
+  givens = c.givens;
+  names = names_but which file old.name new.name lt c.names;
+  contents = c.contents;
+  latest_other = c.latest_other;
+}
+
+pub writes_on : (captures : List (List ℕ)) (which : ℕ) (old new : Told) (file : ℕ) (piece : List ℕ) → file < 2 ^ 32 → Writes old new file piece → Writes (with_made captures which old) (with_made captures which new) file piece
+writes_on captures which old new file piece lt w = record {
+  gained = w.gained;
+  current = λ n now. let later = w.current n (record { last = now.last; follows = now.follows }) in record { last = later.last; follows = later.follows };
+  contents = λ n ne. w.contents n (λ e. ne (name_low which old.name file lt ∙ e));
+  rests = λ g. ap (first_of (left_at captures g)) (w.rests g);
+  givens = w.givens;
+  names = names_on which old.name new.name w.names;
+  latest_same = w.latest_same;
+  next_same = w.next_same;
+}
+
+pub same_on : (captures : List (List ℕ)) (which : ℕ) (old new : Told) → Same old new → Same (with_made captures which old) (with_made captures which new)
+same_on captures which old new s = record {
+  contents = s.contents;
+  rests = λ g. ap (first_of (left_at captures g)) (s.rests g);
+  givens = s.givens;
+  names = names_on which old.name new.name s.names;
+  latest_same = s.latest_same;
+  next_same = s.next_same;
+}
+
 -- ---- one read
 
 taken_so : (front later : List ℕ) (x y o p : Option (List ℕ)) → x ≡ Some (front ++ later) → y ≡ Some later → Takes front (first_of x o) (first_of y p)
@@ -63,9 +125,9 @@ ended_so front x o e f = rw e f
 none_taken : (count : ℕ) (buffer later : List ℕ) → count ≡ 0 → later ≡ [] → take count buffer ++ later ≡ []
 none_taken count buffer later e f = rw (e, f) refl
 
-pub reads_made : (captures new : List (List ℕ)) (told : Told) (file port count : ℕ) (buffer : List ℕ) → port_of (length captures) file ≡ Some port → count ≤ length buffer → IsGiven port count buffer captures new
-    → Reads (with_made captures told) (with_made new told) file count buffer
-reads_made captures new told file port count buffer e le g =
+pub reads_made : (captures new : List (List ℕ)) (which : ℕ) (told : Told) (file port count : ℕ) (buffer : List ℕ) → port_of (length captures) file ≡ Some port → count ≤ length buffer → IsGiven port count buffer captures new
+    → Reads (with_made captures which told) (with_made new which told) file count buffer
+reads_made captures new which told file port count buffer e le g =
     let before = left_this captures file port e ∙ g.given in
     let after : left_at new file ≡ Some g.later = ap (λ (all : List (List ℕ)). left_at all file) g.kept ∙ left_set captures (take count buffer ++ g.later) g.later file port e g.given in
     record {
@@ -120,9 +182,9 @@ taken_others front x o p e t = rw e t
 ended_others : (x o : Option (List ℕ)) → x ≡ None → IsEmptyIfTold o → IsEmptyIfTold (first_of x o)
 ended_others x o e t = rw e t
 
-pub reads_others : (captures : List (List ℕ)) (old new : Told) (file count : ℕ) (buffer : List ℕ) → port_of (length captures) file ≡ None → Reads old new file count buffer
-    → Reads (with_made captures old) (with_made captures new) file count buffer
-reads_others captures old new file count buffer e r =
+pub reads_others : (captures : List (List ℕ)) (which : ℕ) (old new : Told) (file count : ℕ) (buffer : List ℕ) → port_of (length captures) file ≡ None → Reads old new file count buffer
+    → Reads (with_made captures which old) (with_made captures which new) file count buffer
+reads_others captures which old new file count buffer e r =
     let none = none_left captures (port_of (length captures) file) e in
     record {
       within = r.within;
@@ -131,7 +193,7 @@ reads_others captures old new file count buffer e r =
       kept = record {
         rests = λ n ne. ap (first_of (left_at captures n)) (r.kept.rests n ne);
         givens = r.kept.givens;
-        names = r.kept.names;
+        names = names_on which old.name new.name r.kept.names;
         contents = r.kept.contents;
         latest_same = r.kept.latest_same;
         next_same = r.kept.next_same;
