@@ -2,5 +2,6 @@ mod Walks
 mod Reading
 mod Turns
 mod Merged
-mod Wholes
-mod Placing
+pub mod Wholes
+pub mod Placing
+mod Numbering

@@ -110,7 +110,7 @@ capture_at r port zero j lt = absurd (omega (arith, lt))
 capture_at r port (suc n) zero lt = let e : port ≡ port + 0 = omega arith in ap (λ (p : ℕ). Some (made_bytes r p)) e
 capture_at r port (suc n) (suc j) lt = let e : (port + 1) + j ≡ port + suc j = omega arith in capture_at r (port + 1) n j (omega (arith, lt)) ∙ ap (λ (p : ℕ). Some (made_bytes r p)) e
 
-left_here : (captures : List (List ℕ)) (n port number : ℕ) → length captures ≡ n → number ≡ first_number n + port → left_at captures number ≡ slice_get captures port
+pub left_here : (captures : List (List ℕ)) (n port number : ℕ) → length captures ≡ n → number ≡ first_number n + port → left_at captures number ≡ slice_get captures port
 left_here captures n port number long e =
     let le : first_number (length captures) ≤ number = omega (arith, long, e) in
     let place : number - first_number (length captures) ≡ port = omega (arith, long, e) in

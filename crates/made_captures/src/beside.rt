@@ -15,26 +15,26 @@ use std::alloc::AllocError;
 #[derive(Drop)]
 pub struct MadeCaptures<'a, F: Files> {
     files: &'a mut F,
-    captures: Captures,
+    captures: &'a mut Captures,
 }
 
 impl<'a, F: Files> MadeCaptures<'a, F> {
     /// Files, and captures beside them.
-    pub fn beside(files: &'a mut F, captures: Captures) -> MadeCaptures<'a, F>
+    pub fn beside(files: &'a mut F, captures: &'a mut Captures) -> MadeCaptures<'a, F>
         ensures same_files { result.files.ghost_name ≡ files.entry.ghost_name }
         ensures files { result.files.now ≡ files.old }
-        ensures captures { result.captures ≡ captures }
+        ensures captures { result.captures.now ≡ captures.old }
     {
         MadeCaptures { files, captures }
     }
 }
 
 impl<'a, F: Files> Files for MadeCaptures<'a, F> {
-    ghost told = { λ m. with_made m.captures m.files.ghost_name (F.told m.files.now) };
+    ghost told = { λ m. with_made m.captures.now m.files.ghost_name (F.told m.files.now) };
 
     ghost counted = { λ m. F.counted m.files.now };
 
-    ghost is_read = { λ m g. IsMade m.captures g ⊎ F.is_read m.files.now g };
+    ghost is_read = { λ m g. IsMade m.captures.now g ⊎ F.is_read m.files.now g };
 
     ghost is_written = { λ m. F.is_written m.files.now };
 

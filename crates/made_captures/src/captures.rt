@@ -1,7 +1,8 @@
 //! The captures of made-up traffic at all ports.
 ghost use Rattle.std.specs.Prelude.{◌≡◌, ◌≤◌, ◌<◌, IfOk, IfSome, length};
+ghost use Rattle.packet_feed.specs.Told.{EachFile, IsApart};
 ghost use Rattle.gen_traffic.specs.Traffic.{Recipe};
-ghost use Rattle.made_captures.specs.Captures.{captures_of, first_number, numbers_of, port_of, IsGiven};
+ghost use Rattle.made_captures.specs.Captures.{captures_of, first_number, numbers_of, port_of, IsGiven, IsMade};
 
 use crate::capture::Capture;
 use nf_base::seq::Seq;
@@ -61,9 +62,9 @@ impl Captures {
         (0x1_0000_0000 - count) as u32
     }
 
-    /// The numbers of their files, in the order of the ports.
+    // The numbers of their files, one after another.
     #[tactic(auto, using(crate::proofs::Wholes::numbers_more))]
-    pub fn numbers(&self, alloc: Global) -> Result<Vec<u32>, AllocError>
+    fn listed(&self, alloc: Global) -> Result<Vec<u32>, AllocError>
         ensures { IfOk result (λ numbers. numbers.items ≡ numbers_of (length self.now)) }
     {
         let first = self.first();
@@ -71,6 +72,17 @@ impl Captures {
         for port in 0..self.captures.len() as u32 {
             numbers.push(first + port)?;
         }
+        Ok(numbers)
+    }
+
+    /// The numbers of their files, in the order of the ports.
+    pub fn numbers(&self, alloc: Global) -> Result<Vec<u32>, AllocError>
+        ensures value { IfOk result (λ numbers. numbers.items ≡ numbers_of (length self.now)) }
+        ensures made { IfOk result (λ numbers. EachFile (IsMade self.now) numbers.items) }
+        ensures apart { IfOk result (λ numbers. IsApart numbers.items) }
+        ensures count { IfOk result (λ numbers. length numbers.items ≡ length self.now) }
+    {
+        let numbers = self.listed(alloc)?;
         Ok(numbers)
     }
 

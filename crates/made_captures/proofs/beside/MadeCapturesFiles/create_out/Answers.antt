@@ -6,4 +6,4 @@ pub returns-in-Ok-clause-ok : goal.returns-in-Ok-clause-ok
 returns-in-Ok-clause-ok g c =
     let told = g.F.Files.told in
     let s = c.args.self.now in
-    creates_on s.captures s.files.ghost_name (told s.files.now) (told c.create_out.new.self) c.args.name.now c.in-Ok.file (omega (arith, rw c.in-Ok.is at c.create_out.type_inv)) c.in-Ok.ensures.ok
+    creates_on s.captures.now s.files.ghost_name (told s.files.now) (told c.create_out.new.self) c.args.name.now c.in-Ok.file (omega (arith, rw c.in-Ok.is at c.create_out.type_inv)) c.in-Ok.ensures.ok

@@ -1,6 +1,6 @@
 use Rattle.std.proofs.Common.{◌≡◌, ◌≤◌}
 use Rattle.made_captures.specs.Captures.{numbers_from}
-use Rattle.made_captures.proofs.captures.Captures.numbers.Given as goal
+use Rattle.made_captures.proofs.captures.Captures.listed.Given as goal
 
 abbrev pub invariant-loop-port : goal.invariant-loop-port
 invariant-loop-port l = record {

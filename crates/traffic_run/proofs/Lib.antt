@@ -1,0 +1,3 @@
+mod Over
+mod Back
+mod Making
