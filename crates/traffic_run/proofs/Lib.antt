@@ -1,3 +1,4 @@
 mod Over
 mod Back
 mod Making
+mod Sharded

@@ -78,7 +78,7 @@ put_long : (a : Arrival) (bs : List Arrival) → length (put_in a bs) ≡ length
 put_long a [] = refl
 put_long a (b ∷ bs) = either_long a b bs (comes_before a.packet b.packet) (put_long a bs)
 
-ordered_long : (all : List Arrival) → length (in_order all) ≡ length all
+pub ordered_long : (all : List Arrival) → length (in_order all) ≡ length all
 ordered_long [] = refl
 ordered_long (a ∷ all) = omega (arith, put_long a (in_order all), ordered_long all)
 
@@ -103,7 +103,7 @@ told_so f most begun captures before arrivals r files same p count one =
 no_more : (o : Option (List Arrival)) (all : List Arrival) (n : ℕ) → o ≡ Some all → length all ≤ n → HasMore o n → ⊥
 no_more o all n e le more = omega (arith, le, subst (λ (x : Option (List Arrival)). HasMore x n) e more)
 
-ended_all : (e : Ending) (feed : Feeding) (before : Told) (all given : List Arrival) (most : ℕ) → packets_of (files_in feed.sources) before ≡ Some all → length all ≡ most → feed.most ≡ most → EndsSo e feed before given → e ≡ All
+pub ended_all : (e : Ending) (feed : Feeding) (before : Told) (all given : List Arrival) (most : ℕ) → packets_of (files_in feed.sources) before ≡ Some all → length all ≡ most → feed.most ≡ most → EndsSo e feed before given → e ≡ All
 ended_all All feed before all given most told long same h = refl
 ended_all TooMany feed before all given most told long same h = absurd (no_more (packets_of (files_in feed.sources) before) all (length given) told (omega (arith, h.0, long, same)) h.1)
 

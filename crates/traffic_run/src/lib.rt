@@ -3,6 +3,8 @@
 
 mod asked;
 mod one;
+mod shards;
 
 pub use asked::Asked;
 pub use one::run_one;
+pub use shards::run_shards;
