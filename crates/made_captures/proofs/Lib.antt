@@ -1,6 +1,6 @@
-mod Walks
+pub mod Walks
 mod Reading
-mod Turns
+pub mod Turns
 mod Merged
 pub mod Wholes
 pub mod Placing

@@ -48,7 +48,7 @@ next ports k some =
           (ap (λ (n : ℕ). n / ports) (sym e) ∙ div-mul-add (q + 1) ports 0 some, ap (λ (n : ℕ). n % ports) (sym e) ∙ mod-mul-add (q + 1) ports 0 some);
     }
 
-came_here : (ports port k seq : ℕ) → 1 ≤ ports → port < ports → Came ports port k seq → k % ports ≡ port → (k % ports + 1 < ports) ⊎ (ports ≤ k % ports + 1) → Came ports port (suc k) (seq + 1)
+pub came_here : (ports port k seq : ℕ) → 1 ≤ ports → port < ports → Came ports port k seq → k % ports ≡ port → (k % ports + 1 < ports) ⊎ (ports ≤ k % ports + 1) → Came ports port (suc k) (seq + 1)
 came_here ports port k seq some lt c e (inl more) =
     let n = (next ports k some).goes more in
     record { not_yet = λ le. absurd (omega (arith, n.1, le, e)); this_turn = λ past. omega (arith, n.0, c.not_yet (omega (arith, e))) }
@@ -59,7 +59,7 @@ came_here ports port k seq some lt c e (inr last) =
 apart : (a b : ℕ) → (a ≡ b → ⊥) → b ≤ a → b < a
 apart a b ne le = omega (arith, ne)
 
-came_elsewhere : (ports port k seq : ℕ) → 1 ≤ ports → port < ports → Came ports port k seq → (k % ports ≡ port → ⊥) → (k % ports + 1 < ports) ⊎ (ports ≤ k % ports + 1) → Came ports port (suc k) seq
+pub came_elsewhere : (ports port k seq : ℕ) → 1 ≤ ports → port < ports → Came ports port k seq → (k % ports ≡ port → ⊥) → (k % ports + 1 < ports) ⊎ (ports ≤ k % ports + 1) → Came ports port (suc k) seq
 came_elsewhere ports port k seq some lt c ne (inl more) =
     let n = (next ports k some).goes more in
     record {

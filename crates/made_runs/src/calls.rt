@@ -1,0 +1,118 @@
+//! Calls on files, feeds and runs. They promise what further calls ask for and no more: what the answers are is
+//! compared, and not proved.
+ghost use Rattle.std.specs.Prelude.{◌≡◌, ◌+◌, ◌≤◌, ◌<◌, ◌^◌, ℕ, length, IfOk};
+ghost use Rattle.nf_base.specs.Functions.{function_of};
+ghost use Rattle.key_synth.specs.Laws.{HashAlikeWhereTheyMeet};
+ghost use Rattle.nf_files.specs.Told.{IsEmptyIfTold};
+ghost use Rattle.packet_feed.specs.Told.{EachFile, IsApart};
+ghost use Rattle.packet_feed.specs.Sources.{files_in};
+
+use made_captures::Captures;
+use nf_base::func::Func;
+use nf_base::keys::Keys;
+use nf_base::workers::Workers;
+use nf_files::{Files, FilesFault};
+use packet_feed::{Fed, Feed, FeedFault};
+use sharded_run::Came;
+use std::alloc::{AllocError, Global};
+use std::thread::Threads;
+use stream_run::{Ran, Stop};
+use traffic_run::{Asked, run_one, run_shards};
+use worker_turns::Idle;
+
+/// The captures of a line's numbers.
+pub fn captures_of(alloc: Global, numbers: [u32; 4]) -> Result<Captures, AllocError> {
+    let [seed, count, flows, ports] = numbers;
+    Captures::new(alloc, seed, count, flows.max(1), ports.max(1).min(65_536))
+}
+
+/// Reads the headers of captures.
+pub fn start<F: Files>(
+    alloc: Global,
+    files: &mut F,
+    captures: &[u32],
+    most: u32,
+) -> Result<Feed, FeedFault>
+    requires readable { EachFile (F.is_read files.old) captures.now }
+    requires apart { IsApart captures.now }
+    requires ports { length captures.now ≤ 2 ^ 32 }
+    ensures readable { IfOk result (λ feed. EachFile (F.is_read files.new) (files_in feed.sources)) }
+{
+    Feed::start(alloc, files, captures, most)
+}
+
+pub fn next<F: Files>(feed: &mut Feed, files: &mut F) -> Result<Fed, FeedFault>
+    requires { EachFile (F.is_read files.old) (files_in feed.old.sources) }
+    ensures readable { EachFile (F.is_read files.new) (files_in feed.new.sources) }
+{
+    feed.next(files)
+}
+
+/// The captured bytes of the packet that was given last.
+pub fn shown(feed: &Feed) -> &[u8] {
+    feed.frame()
+}
+
+/// Creates names to be written.
+pub fn create_all<F: Files>(
+    alloc: Global,
+    files: &mut F,
+    names: &[&str],
+) -> Result<Vec<u32>, FilesFault>
+    ensures writable { IfOk result (λ made. EachFile (F.is_written files.new) made.items) }
+    ensures apart { IfOk result (λ made. IsApart made.items) }
+    ensures count { IfOk result (λ made. length made.items ≡ length names.now) }
+    ensures empty { IfOk result (λ made.
+        EachFile (λ file. IsEmptyIfTold ((F.told files.new).given file)) made.items) }
+    ensures reads { (g : ℕ) → F.is_read files.old g → F.is_read files.new g }
+{
+    let mut made = Vec::new(alloc);
+    for name in names {
+        let file = files.create_out(name)?;
+        made.push(file)?;
+    }
+    Ok(made)
+}
+
+/// Handles traffic by one worker.
+pub fn run_alone<F: Files>(
+    alloc: Global,
+    files: &mut F,
+    func: &Func,
+    asked: Asked,
+    made: &[u32],
+) -> Result<Ran, Stop>
+    requires flows { 1 ≤ asked.flows }
+    requires some_port { 1 ≤ length func.now.handlers }
+    requires few_ports { length func.now.handlers ≤ 4 }
+    requires writable { EachFile (F.is_written files.old) made.now }
+    requires apart { IsApart made.now }
+    requires as_many { length made.now ≡ length func.now.handlers + 1 }
+    requires empty { EachFile (λ file. IsEmptyIfTold ((F.told files.old).given file)) made.now }
+{
+    run_one(alloc, files, func, asked, made)
+}
+
+/// Handles traffic by two workers.
+pub fn run_both<R: Threads + Sync, F: Files>(
+    rt: &R,
+    alloc: Global,
+    files: &mut F,
+    func: &Func,
+    keys: &Keys,
+    asked: Asked,
+    made: &[u32],
+) -> Result<Came, Stop>
+    requires keyed { length func.now.handlers ≤ length keys.now.ports }
+    requires alike { HashAlikeWhereTheyMeet (function_of func.now) keys.now }
+    requires flows { 1 ≤ asked.flows }
+    requires some_port { 1 ≤ length func.now.handlers }
+    requires few_ports { length func.now.handlers ≤ 4 }
+    requires writable { EachFile (F.is_written files.old) made.now }
+    requires apart { IsApart made.now }
+    requires as_many { length made.now ≡ length func.now.handlers + 1 }
+    requires empty { EachFile (λ file. IsEmptyIfTold ((F.told files.old).given file)) made.now }
+{
+    let two = Workers::new(2);
+    run_shards(rt, alloc, files, func, keys, two, asked, made, &Idle)
+}

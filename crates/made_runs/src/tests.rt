@@ -1,0 +1,112 @@
+//! A firewall under made-up traffic.
+use crate::functions::{FIREWALL, WIDE};
+use crate::outcome::{End, Outcome, outcome_of};
+use std::test::Fail;
+use stream_run::{Ending, Stop};
+use traffic_run::Asked;
+
+/// A run of four packets from seed 0, and what it leaves: the journal behind its first line, the last state, and
+/// how many records in each output.
+struct Case {
+    shows: &'static str,
+    flows: u32,
+    journal: &'static str,
+    state: &'static str,
+    records: [usize; 2],
+}
+
+static CASES: [Case; 2] = [
+    Case {
+        shows: "all four packets of one flow are sent",
+        flows: 1,
+        journal: "maestro journal 1 one 1\n0 0 0 to:1 0\n1 0 0 to:0 -\n0 1 0 to:1 -\n1 1 0 to:0 -\n",
+        state: "chain flows greatest 3000\n0 3000 a=167772160 b=3232235520 c=1024 d=80\n",
+        records: [2, 2],
+    },
+    Case {
+        shows: "the reply of a flow that sent nothing is dropped",
+        flows: 2,
+        journal: "maestro journal 1 one 1\n0 0 0 to:1 0\n1 0 0 to:0 -\n0 1 0 to:1 -\n1 1 0 drop -\n",
+        state: "chain flows greatest 2000\n0 2000 a=167772160 b=3232235520 c=1024 d=80\n",
+        records: [1, 2],
+    },
+];
+
+fn cases() -> &'static [Case] {
+    &CASES
+}
+
+fn four_of(flows: u32) -> Asked {
+    Asked {
+        seed: 0,
+        count: 4,
+        flows,
+    }
+}
+
+/// The bytes of a file, and none where there is no such file.
+fn file(outcome: &Outcome, number: usize) -> &[u8] {
+    match outcome.files.get(number) {
+        Some(file) => file.as_slice(),
+        None => &[],
+    }
+}
+
+/// How many bytes so many records of this traffic have, behind the header.
+fn bytes_of(records: usize) -> usize {
+    records.min(1000) * 58 + 24
+}
+
+#[test]
+fn a_firewall_lets_flows_through(rt: HostRuntime) -> Result<(), Fail> {
+    for case in cases() {
+        let got = outcome_of(&rt, rt.alloc(), FIREWALL, four_of(case.flows), false, &[])?;
+        assert_eq!(rt; got.end, End::Ran(Ending::All, 4), "{}", case.shows);
+        assert!(rt; file(&got, 2) == case.journal.as_bytes(), "{}", case.shows);
+        assert!(rt; got.state.as_slice() == case.state.as_bytes(), "{}", case.shows);
+        for port in 0..2 {
+            assert_eq!(rt; file(&got, port).len(), bytes_of(case.records[port]), "{}", case.shows);
+        }
+    }
+    Ok(())
+}
+
+/// The outputs don't depend on which index an entry has.
+#[test]
+fn two_workers_leave_the_same_outputs(rt: HostRuntime) -> Result<(), Fail> {
+    let asked = Asked {
+        seed: 7,
+        count: 300,
+        flows: 9,
+    };
+    let one = outcome_of(&rt, rt.alloc(), WIDE, asked, false, &[])?;
+    let two = outcome_of(&rt, rt.alloc(), WIDE, asked, true, &[])?;
+    assert_eq!(rt; one.end, End::Ran(Ending::All, 300));
+    assert_eq!(rt; two.end, End::Ran(Ending::All, 300));
+    for port in 0..2 {
+        assert!(rt; file(&one, port).len() > bytes_of(100), "port {port}");
+        assert!(rt; file(&one, port) == file(&two, port), "port {port}");
+    }
+    assert!(rt; file(&two, 2).starts_with(b"maestro journal 1 shard 2\n"));
+    Ok(())
+}
+
+/// Calls are counted from 0: three creations, and a write to each file. Nothing is opened, and no call reads.
+#[test]
+fn each_call_that_fails_stops_the_run(rt: HostRuntime) -> Result<(), Fail> {
+    let cases = [
+        End::Uncreated,
+        End::Uncreated,
+        End::Uncreated,
+        End::Stopped(Stop::File(2)),
+        End::Stopped(Stop::File(3)),
+        End::Stopped(Stop::File(4)),
+        End::Ran(Ending::All, 4),
+    ];
+    for (call, end) in cases.iter().enumerate() {
+        let fails = [call as u64];
+        let got = outcome_of(&rt, rt.alloc(), FIREWALL, four_of(1), false, &fails)?;
+        assert_eq!(rt; got.end, *end, "call {call}");
+    }
+    Ok(())
+}
