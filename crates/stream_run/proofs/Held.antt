@@ -1,5 +1,5 @@
 -- Bytes that were given to a file, and those that are still held.
-use Rattle.std.proofs.Common.{◌≡◌, ◌≢◌, ℕ, zero, suc, ◌+◌, ◌<◌, ◌≤◌, List, [], ◌∷◌, ◌++◌, length, set, take, drop, Option, Some, None, Err, inl, inr, refl, sym, ap, ◌∙◌, subst, append_assoc, append-nil, arith}
+use Rattle.std.proofs.Common.{◌≡◌, ◌≢◌, ℕ, zero, suc, ◌+◌, ◌<◌, ◌≤◌, List, [], ◌∷◌, ◌++◌, length, set, take, drop, Option, Some, None, Result, Ok, Err, OnOk, inl, inr, refl, sym, ap, ◌∙◌, subst, append_assoc, append-nil, arith}
 use Rattle.std.specs.List.{All, slice_get}
 use Rattle.std.specs.Option.{option_map}
 use Rattle.std.proofs.lemmas.List.{take-append-drop, length-map}
@@ -19,7 +19,7 @@ use Rattle.stream_run.specs.declared.stop.Stop.TheVariants.{File, Memory}
 use Rattle.stream_run.specs.Streaming.{stop_on, stop_in}
 use Rattle.stream_run.specs.Runs.{Handled}
 use Rattle.stream_run.specs.Texts.{bytes_of, piece, IsFrontOf}
-use Rattle.stream_run.specs.Writing.{Holding, Holds, IsFrontIfTold, KeepsOther, KeepsAllBut, KeepsBut, IsSameOrOther, StopsAt, StopsAmong, files_of}
+use Rattle.stream_run.specs.Writing.{Holding, Holds, IsLittle, IsFrontIfTold, KeepsOther, KeepsAllBut, KeepsBut, IsSameOrOther, StopsAt, StopsAmong, files_of}
 use Rattle.stream_run.proofs.Bytes.{bytes_more}
 
 -- ---- one file
@@ -155,6 +155,17 @@ all_partly before after sinks k told past h j s e = let inside : j < length sink
 
 pub none_partly : (before after : ℕ → List ℕ) (sinks : List Holding) (told : Told) → ((j : ℕ) (s : Holding) → slice_get sinks j ≡ Some s → Holds (before j) (told.given s.file) s.held) → IsPartly before after 0 told sinks
 none_partly before after sinks told h j s e = (λ lt. absurd (omega arith), λ le. h j s e)
+
+pub little_more : (sinks : List Holding) (k : ℕ) (new_s : Holding) → IsLittle new_s → ((j : ℕ) (s : Holding) → j < k → slice_get sinks j ≡ Some s → IsLittle s)
+    → (j : ℕ) (s : Holding) → j < k + 1 → slice_get (set sinks k new_s) j ≡ Some s → IsLittle s
+little_more sinks k new_s little h j s lt e = elim (got_set sinks k j new_s s e) [
+  | inl here ↦ subst IsLittle here.1 little
+  | inr there ↦ h j s (omega (arith, there.0)) there.1
+]
+
+pub little_of : {T E : Type 0} (result : Result T E) (s : Holding) → OnOk result (length s.held ≡ 0) → OnOk result (IsLittle s)
+little_of (Ok x) s none = omega (arith, none)
+little_of (Err e) s none = tt
 
 pub empty_more : (sinks : List Holding) (k : ℕ) (new_s : Holding) → length new_s.held ≡ 0 → ((j : ℕ) (s : Holding) → j < k → slice_get sinks j ≡ Some s → length s.held ≡ 0)
     → (j : ℕ) (s : Holding) → j < k + 1 → slice_get (set sinks k new_s) j ≡ Some s → length s.held ≡ 0

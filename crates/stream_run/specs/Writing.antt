@@ -1,5 +1,5 @@
 -- Files that are written side by side, each by its own buffer.
-use Rattle.std.specs.Prelude.{◌≡◌, ◌≢◌, ◌⊎◌, ℕ, List, ◌++◌, length, map, slice_get, Option, Some, None, Result, Ok, Err}
+use Rattle.std.specs.Prelude.{◌<◌, ◌≡◌, ◌≢◌, ◌⊎◌, ℕ, List, ◌++◌, length, map, slice_get, Option, Some, None, Result, Ok, Err}
 use Rattle.std.specs.List.{All}
 use Rattle.nf_base.specs.declared.packet.Packet.{Packet}
 use Rattle.nf_base.specs.declared.done.Done.{Done}
@@ -103,6 +103,14 @@ pub record KeepsAllBut (files : List ℕ) (old new : Told) : Type 0 where
 abbrev pub AllGoOn : {T E : Type 0} → Mode → ℕ → ℕ → List Handled → Told → List Holding → Result T E → Type 0
 AllGoOn mode workers ports hs told sinks (Ok x) = AreHeld mode workers ports hs told sinks
 AllGoOn mode workers ports hs told sinks (Err e) = AreFronts mode workers ports hs told (files_of sinks)
+
+-- less than 65,536 bytes are held
+abbrev pub IsLittle : Holding → Type 0
+IsLittle sink = length sink.held < 65536
+
+-- so it is of each file
+abbrev pub HoldLittle : List Holding → Type 0
+HoldLittle sinks = (k : ℕ) (s : Holding) → slice_get sinks k ≡ Some s → IsLittle s
 
 -- nothing is held
 abbrev pub AreEmpty : List Holding → Type 0

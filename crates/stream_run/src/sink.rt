@@ -2,7 +2,7 @@
 ghost use Rattle.std.specs.Prelude.{◌≡◌, ◌<◌, ◌≤◌, ◌++◌, ◌⊎◌, ℕ, List, length, OnOk, vec_len};
 ghost use Rattle.pcap_file.specs.Record.{greatest_time};
 ghost use Rattle.stream_run.specs.Texts.{piece};
-ghost use Rattle.stream_run.specs.Writing.{came_to, Holds, GoesOn, KeepsOther, IsStopCause, StopsAt};
+ghost use Rattle.stream_run.specs.Writing.{came_to, Holds, GoesOn, IsLittle, KeepsOther, IsStopCause, StopsAt};
 
 use crate::piece::push_piece;
 use crate::stop::Stop;
@@ -80,6 +80,8 @@ impl Sink {
             let more = piece ports number h in
             (bytes : List ℕ) → Holds bytes ((F.told files.old).given self.old.file) self.old.held →
             GoesOn (bytes ++ more) ((F.told files.new).given self.old.file) self.new.held result }
+        // The memory of a run doesn't grow with what it writes.
+        ensures little { OnOk result (IsLittle self.new) }
         ensures same_file { self.new.file ≡ self.old.file }
         ensures kept { KeepsOther self.old.file (F.told files.old) (F.told files.new) }
         ensures cause { IsStopCause (F.counted files.old) (F.counted files.new) result }

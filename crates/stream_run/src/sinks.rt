@@ -5,7 +5,7 @@ ghost use Rattle.pcap_file.specs.Record.{greatest_time};
 ghost use Rattle.packet_feed.specs.Told.{EachFile, IsApart};
 ghost use Rattle.run_history.specs.declared.line.Mode.{Mode};
 ghost use Rattle.stream_run.specs.Runs.{Handled};
-ghost use Rattle.stream_run.specs.Writing.{came_to, files_of, AreHeld, AllGoOn, AreEmpty, KeepsAllBut, IsStopCause, StopsAmong};
+ghost use Rattle.stream_run.specs.Writing.{came_to, files_of, AreHeld, AllGoOn, AreEmpty, HoldLittle, KeepsAllBut, IsStopCause, StopsAmong};
 
 use crate::sink::Sink;
 use crate::stop::Stop;
@@ -34,6 +34,8 @@ pub fn put_all<F: Files>(
         (mode : Mode) → (workers : ℕ) → (hs : List Handled) →
         AreHeld mode workers ports hs (F.told files.old) sinks.old →
         AllGoOn mode workers ports (hs ++ h ∷ []) (F.told files.new) sinks.new result }
+    // Each file was given what it is to hold but for less than 65,536 bytes.
+    ensures little { OnOk result (HoldLittle sinks.new) }
     ensures same_files { files_of sinks.new ≡ files_of sinks.old }
     ensures kept { KeepsAllBut (files_of sinks.old) (F.told files.old) (F.told files.new) }
     ensures cause { IsStopCause (F.counted files.old) (F.counted files.new) result }

@@ -1,12 +1,12 @@
 use Rattle.std.proofs.Common.{◌<◌, ◌∙◌, ◌++◌, ◌∷◌, [], ℕ, List, length, sym, ap, refl, subst, arith}
 use Rattle.std.specs.List.{slice_get}
-use Rattle.std.proofs.lemmas.Option.{slice_get_read}
+use Rattle.std.proofs.lemmas.Option.{slice_get_read, slice_get_within}
 use Rattle.packet_feed.specs.Told.{IsApart}
 use Rattle.packet_feed.proofs.Gathering.{map_kept}
 use Rattle.stream_run.specs.Texts.{bytes_of}
 use Rattle.stream_run.specs.Writing.{Holding, Holds, IsFrontIfTold, files_of, came_to}
 use Rattle.stream_run.proofs.Bytes.{bytes_more}
-use Rattle.stream_run.proofs.Held.{file_at, same_length, partly_more, partly_fronts, all_partly, grows, kept_more, stops_here}
+use Rattle.stream_run.proofs.Held.{file_at, same_length, partly_more, partly_fronts, all_partly, grows, little_more, kept_more, stops_here}
 use Rattle.stream_run.proofs.sinks.put_all.Goals as goal
 
 pub put-requires-clause-created : goal.put-requires-clause-created
@@ -77,6 +77,7 @@ loop-k-preserved g c =
     let h = came_to c.args.worker c.args.packet.now c.args.original c.args.frame.now c.args.done.now in
     record {
       partly = λ mode workers hs held. partly_more (λ j. bytes_of mode workers c.args.ports j hs) (λ j. bytes_of mode workers c.args.ports j (hs ++ h ∷ [])) now k s c.put.new.self (told c.loop-k.files) (told c.put.new.files) apart at c.put.ensures.same_file c.put.ensures.kept (λ x. subst (λ (xs : List ℕ). Holds xs ((told c.put.new.files).given s.file) c.put.new.self.held) (sym (bytes_more mode workers c.args.ports k hs h)) (c.in-Ok.ensures.goes_on (bytes_of mode workers c.args.ports k hs) x)) (inv.partly mode workers hs held);
+      little = little_more now k c.put.new.self c.in-Ok.ensures.little inv.little;
       same_files = map_kept (λ (x : Holding). x.file) now k s c.put.new.self at c.put.ensures.same_file ∙ inv.same_files;
       kept = kept_more (files_of c.args.sinks.now) k s.file (told c.args.files.now) (told c.loop-k.files) (told c.put.new.files) file inv.kept c.put.ensures.kept;
       reads = λ n r. c.put.ensures.reads n (inv.reads n r);
@@ -88,6 +89,11 @@ pub returns-clause-goes_on : goal.returns-clause-goes_on
 returns-clause-goes_on g c = λ mode workers hs held.
     let h = came_to c.args.worker c.args.packet.now c.args.original c.args.frame.now c.args.done.now in
     all_partly (λ j. bytes_of mode workers c.args.ports j hs) (λ j. bytes_of mode workers c.args.ports j (hs ++ h ∷ [])) c.loop-k.sinks c.loop-k.k (g.F.Files.told c.loop-k.files) (omega (arith, c.len-k-end.ensures, c.loop-k-test.false, same_length c.loop-k.sinks c.args.sinks.now c.loop-k.invariant.same_files)) (c.loop-k.invariant.partly mode workers hs held)
+
+pub returns-clause-little : goal.returns-clause-little
+returns-clause-little g c = λ k s e.
+    let inside : k < length c.loop-k.sinks = slice_get_within c.loop-k.sinks k s e in
+    c.loop-k.invariant.little k s (omega (arith, c.len-k-end.ensures, c.loop-k-test.false, same_length c.loop-k.sinks c.args.sinks.now c.loop-k.invariant.same_files)) e
 
 pub returns-in-Err-clause-among : goal.returns-in-Err-clause-among
 returns-in-Err-clause-among g c =

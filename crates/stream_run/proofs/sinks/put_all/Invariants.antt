@@ -1,8 +1,9 @@
-use Rattle.std.proofs.Common.{◌≡◌, ◌∷◌, ◌++◌, [], ℕ, List}
+use Rattle.std.proofs.Common.{◌≡◌, ◌<◌, ◌∷◌, ◌++◌, [], ℕ, List, Some}
+use Rattle.std.specs.List.{slice_get}
 use Rattle.run_history.specs.declared.line.Mode.{Mode}
 use Rattle.stream_run.specs.Runs.{Handled}
 use Rattle.stream_run.specs.Texts.{bytes_of}
-use Rattle.stream_run.specs.Writing.{came_to, files_of, AreHeld, KeepsAllBut}
+use Rattle.stream_run.specs.Writing.{Holding, came_to, files_of, AreHeld, IsLittle, KeepsAllBut}
 use Rattle.stream_run.proofs.Held.{IsPartly}
 use Rattle.stream_run.proofs.sinks.put_all.Given as goal
 
@@ -14,6 +15,7 @@ invariant-loop-k g l =
     record {
       partly : (mode : Mode) (workers : ℕ) (hs : List Handled) → AreHeld mode workers l.ports hs (told l.fn.files) l.fn.sinks
           → IsPartly (λ j. bytes_of mode workers l.ports j hs) (λ j. bytes_of mode workers l.ports j (hs ++ h ∷ [])) l.k (told l.files) l.sinks;
+      little : (j : ℕ) (s : Holding) → j < l.k → slice_get l.sinks j ≡ Some s → IsLittle s;
       same_files : files_of l.sinks ≡ files_of l.fn.sinks;
       kept : KeepsAllBut (files_of l.fn.sinks) (told l.fn.files) (told l.files);
       reads : (n : ℕ) → g.F.Files.is_read l.fn.files n → g.F.Files.is_read l.files n;

@@ -1,7 +1,7 @@
 use Rattle.std.proofs.Common.{ℕ, List, ◌≡◌, ◌++◌, ◌∙◌, ap, sym, subst}
 use Rattle.stream_run.specs.Texts.{piece}
 use Rattle.stream_run.specs.Writing.{Holding, Holds, GoesOn, came_to}
-use Rattle.stream_run.proofs.Held.{front_held, held_more}
+use Rattle.stream_run.proofs.Held.{front_held, held_more, little_of}
 use Rattle.stream_run.proofs.sink.Sink.put.Goals as goal
 
 pub returns-in-Err-clause-goes_on : goal.returns-in-Err-clause-goes_on
@@ -27,3 +27,6 @@ returns-else-len-lt-PIECE-clause-goes_on g c = λ bytes h.
     subst (λ (xs : List ℕ). Holds (bytes ++ more) (old.given c.args.self.now.file) xs) (sym grown) (held_more bytes more (old.given c.args.self.now.file) c.args.self.now.held h) in
     subst (λ (f : ℕ). GoesOn (bytes ++ more) (new.given f) c.flush.new.self.held c.flush.result) file
     (c.flush.ensures.goes_on (bytes ++ more) (subst (λ (f : ℕ). Holds (bytes ++ more) (old.given f) c.push_piece.new.buffer.items) (sym file) all))
+
+pub returns-else-len-lt-PIECE-clause-little : goal.returns-else-len-lt-PIECE-clause-little
+returns-else-len-lt-PIECE-clause-little g c = little_of c.flush.result c.flush.new.self c.flush.ensures.empty
