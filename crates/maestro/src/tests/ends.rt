@@ -149,7 +149,7 @@ fn more_packets_than_may_be_handled(rt: HostRuntime) -> Result<(), Fail> {
 }
 
 // The words of a hash, and what is printed. The first two are of Microsoft's verification suite.
-const HASHES: [(&str, &str); 6] = [
+const HASHES: [(&str, &str); 8] = [
     (
         "maestro hash 66.9.149.187:2794 161.142.100.80:1766",
         "51ccc178 120 0\n",
@@ -171,6 +171,17 @@ const HASHES: [(&str, &str); 6] = [
         "maestro hash 9.9.9.9:1 10.0.0.1:2 --workers 3 --key \
          00000000000000010000000000000000000000000000000000000000000000000000000000000000",
         "80000050 80 2\n",
+    ),
+    // A key by the source alone: its table index is even, so of two queues one gets all packets.
+    (
+        "maestro hash 10.0.0.1:1 9.9.9.9:2 --workers 3 --key \
+         6d5a56da000000000000000000000000000000000000000000000000000000000000000000000000",
+        "8330db20 32 2\n",
+    ),
+    (
+        "maestro hash 10.0.0.1:1000 8.8.8.8:53 --workers 2 --key \
+         6d5a56da000000000000000000000000000000000000000000000000000000000000000000000000",
+        "8330db20 32 0\n",
     ),
 ];
 
