@@ -4,6 +4,7 @@
 //! Of each of the first eight packets in capture order it prints the port, the number there, the time in
 //! nanoseconds and the frame; and last a digest of all packets. `fuzz/traffic.py` prints the same.
 #![tactic(auto)]
+
 ghost use Rattle.std.specs.Prelude.{◌≤◌, length};
 ghost use Rattle.packet_feed.specs.Told.{EachFile, IsApart};
 ghost use Rattle.packet_feed.specs.Sources.{files_in};
@@ -47,12 +48,7 @@ fn show(rt: &HostRuntime, id: PacketId, time: u64, frame: &[u8]) -> io::Result<(
 }
 
 // Prints the packets of captures.
-fn tell<F: Files>(
-    rt: &HostRuntime,
-    feed: &mut Feed,
-    files: &mut F,
-    count: u32,
-) -> io::Result<()>
+fn tell<F: Files>(rt: &HostRuntime, feed: &mut Feed, files: &mut F, count: u32) -> io::Result<()>
     requires { EachFile (F.is_read files.old) (files_in feed.old.sources) }
 {
     let mut digest = Digest::new();

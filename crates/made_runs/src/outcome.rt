@@ -6,15 +6,18 @@ ghost use Rattle.packet_feed.specs.Told.{EachFile, IsApart};
 use crate::calls::{create_all, run_alone, run_both};
 use crate::verdict::keys_of;
 use nf_base::func::Func;
+use nf_base::workers::Workers;
 use nf_files::{Files, MemoryFiles};
 use nf_syntax::parse;
 use nf_types::check;
+use run_history::line::Mode;
 use run_history::state_text::state_text;
 use sharded_run::Came;
 use std::alloc::{AllocError, Global};
 use std::thread::Threads;
-use stream_run::{Ending, Stop};
+use stream_run::{Ending, Ran, Stop};
 use traffic_run::Asked;
+use traffic_summary::summary;
 
 /// How a run ended.
 #[derive(Clone, Copy, Debug, PartialEq, Eq)]
@@ -38,6 +41,8 @@ pub struct Outcome {
     pub end: End,
     /// The text of the last state.
     pub state: Vec<u8>,
+    /// The lines that sum it up, where it left so many records.
+    pub summary: Vec<u8>,
     /// What stands in the outputs, by port, and behind them in the journal.
     pub files: Vec<Vec<u8>>,
 }
@@ -51,7 +56,22 @@ fn function(alloc: Global, text: &[u8]) -> Option<Func> {
     check(alloc, &tree).ok()
 }
 
-/// Runs a function of two ports over traffic, by one worker or by two; the calls on files that are listed fail.
+/// The lines that sum a run up.
+fn sum_up(
+    alloc: Global,
+    func: &Func,
+    ran: &Ran,
+    mode: Mode,
+    workers: Workers,
+    sent: u64,
+) -> Result<Vec<u8>, AllocError>
+    requires { 1 ≤ length func.now.handlers }
+{
+    summary(alloc, func, ran.packets, mode, workers, sent, &ran.state)
+}
+
+/// Runs a function of two ports over traffic, by one worker or by two; the calls on files that are listed fail. It is
+/// summed up as if it left so many records.
 pub fn outcome_of<R: Threads + Sync>(
     rt: &R,
     alloc: Global,
@@ -59,16 +79,27 @@ pub fn outcome_of<R: Threads + Sync>(
     asked: Asked,
     both: bool,
     fails: &[u64],
+    sent: u64,
 ) -> Result<Outcome, AllocError> {
     let mut files = MemoryFiles::new(alloc, Vec::from_slice(alloc, fails)?);
     let mut outcome = Outcome {
         end: End::NoFunction,
         state: Vec::new(alloc),
+        summary: Vec::new(alloc),
         files: Vec::new(alloc),
     };
     if let Some(func) = function(alloc, text.as_bytes()) {
         if func.handlers.len() == 2 && asked.flows > 0 {
-            run_over(rt, alloc, &mut files, &func, asked, both, &mut outcome)?;
+            run_over(
+                rt,
+                alloc,
+                &mut files,
+                &func,
+                asked,
+                both,
+                sent,
+                &mut outcome,
+            )?;
         }
     }
     for name in &NAMES {
@@ -86,6 +117,7 @@ fn run_over<R: Threads + Sync, F: Files>(
     func: &Func,
     asked: Asked,
     both: bool,
+    sent: u64,
     outcome: &mut Outcome,
 ) -> Result<(), AllocError>
     requires ports { length func.now.handlers ≡ 2 }
@@ -93,8 +125,17 @@ fn run_over<R: Threads + Sync, F: Files>(
 {
     match create_all(alloc, files, &NAMES) {
         Err(_) => outcome.end = End::Uncreated,
-        Ok(made) if both => run_two(rt, alloc, files, func, asked, made.as_slice(), outcome)?,
-        Ok(made) => run_single(alloc, files, func, asked, made.as_slice(), outcome)?,
+        Ok(made) if both => run_two(
+            rt,
+            alloc,
+            files,
+            func,
+            asked,
+            made.as_slice(),
+            sent,
+            outcome,
+        )?,
+        Ok(made) => run_single(alloc, files, func, asked, made.as_slice(), sent, outcome)?,
     }
     Ok(())
 }
@@ -105,6 +146,7 @@ fn run_single<F: Files>(
     func: &Func,
     asked: Asked,
     made: &[u32],
+    sent: u64,
     outcome: &mut Outcome,
 ) -> Result<(), AllocError>
     requires ports { length func.now.handlers ≡ 2 }
@@ -119,6 +161,7 @@ fn run_single<F: Files>(
         Ok(ran) => {
             outcome.end = End::Ran(ran.ending, ran.packets);
             outcome.state = state_text(alloc, func, &ran.state)?;
+            outcome.summary = sum_up(alloc, func, &ran, Mode::One, Workers::new(1), sent)?;
         }
     }
     Ok(())
@@ -131,6 +174,7 @@ fn run_two<R: Threads + Sync, F: Files>(
     func: &Func,
     asked: Asked,
     made: &[u32],
+    sent: u64,
     outcome: &mut Outcome,
 ) -> Result<(), AllocError>
     requires ports { length func.now.handlers ≡ 2 }
@@ -149,6 +193,7 @@ fn run_two<R: Threads + Sync, F: Files>(
         Ok(Came::Ran(ran)) => {
             outcome.end = End::Ran(ran.ending, ran.packets);
             outcome.state = state_text(alloc, func, &ran.state)?;
+            outcome.summary = sum_up(alloc, func, &ran, Mode::Shard, Workers::new(2), sent)?;
         }
         Ok(Came::Full(full)) => outcome.end = End::Full(full.packets),
     }

@@ -5,14 +5,16 @@ use std::test::Fail;
 use stream_run::{Ending, Stop};
 use traffic_run::Asked;
 
-/// A run of four packets from seed 0, and what it leaves: the journal behind its first line, the last state, and
-/// how many records in each output.
+/// A run of four packets from seed 0, and what it leaves: the journal, the last state, how many records in each
+/// output, and the lines that sum it up.
 struct Case {
     shows: &'static str,
     flows: u32,
     journal: &'static str,
     state: &'static str,
     records: [usize; 2],
+    sent: u64,
+    summary: &'static str,
 }
 
 static CASES: [Case; 2] = [
@@ -22,6 +24,8 @@ static CASES: [Case; 2] = [
         journal: "maestro journal 1 one 1\n0 0 0 to:1 0\n1 0 0 to:0 -\n0 1 0 to:1 -\n1 1 0 to:0 -\n",
         state: "chain flows greatest 3000\n0 3000 a=167772160 b=3232235520 c=1024 d=80\n",
         records: [2, 2],
+        sent: 4,
+        summary: "packets 4\nport 0 2\nport 1 2\nmode one 1\nsent 4\nentries flows 1\n",
     },
     Case {
         shows: "the reply of a flow that sent nothing is dropped",
@@ -29,6 +33,8 @@ static CASES: [Case; 2] = [
         journal: "maestro journal 1 one 1\n0 0 0 to:1 0\n1 0 0 to:0 -\n0 1 0 to:1 -\n1 1 0 drop -\n",
         state: "chain flows greatest 2000\n0 2000 a=167772160 b=3232235520 c=1024 d=80\n",
         records: [1, 2],
+        sent: 3,
+        summary: "packets 4\nport 0 2\nport 1 2\nmode one 1\nsent 3\nentries flows 1\n",
     },
 ];
 
@@ -60,12 +66,34 @@ fn bytes_of(records: usize) -> usize {
 #[test]
 fn a_firewall_lets_flows_through(rt: HostRuntime) -> Result<(), Fail> {
     for case in cases() {
-        let got = outcome_of(&rt, rt.alloc(), FIREWALL, four_of(case.flows), false, &[])?;
+        let got = outcome_of(
+            &rt,
+            rt.alloc(),
+            FIREWALL,
+            four_of(case.flows),
+            false,
+            &[],
+            case.sent,
+        )?;
         assert_eq!(rt; got.end, End::Ran(Ending::All, 4), "{}", case.shows);
         assert!(rt; file(&got, 2) == case.journal.as_bytes(), "{}", case.shows);
-        assert!(rt; got.state.as_slice() == case.state.as_bytes(), "{}", case.shows);
+        assert!(rt;
+            got.state.as_slice() == case.state.as_bytes(),
+            "{}",
+            case.shows
+        );
+        assert!(rt;
+            got.summary.as_slice() == case.summary.as_bytes(),
+            "{}",
+            case.shows
+        );
         for port in 0..2 {
-            assert_eq!(rt; file(&got, port).len(), bytes_of(case.records[port]), "{}", case.shows);
+            assert_eq!(rt;
+                file(&got, port).len(),
+                bytes_of(case.records[port]),
+                "{}",
+                case.shows
+            );
         }
     }
     Ok(())
@@ -79,14 +107,17 @@ fn two_workers_leave_the_same_outputs(rt: HostRuntime) -> Result<(), Fail> {
         count: 300,
         flows: 9,
     };
-    let one = outcome_of(&rt, rt.alloc(), WIDE, asked, false, &[])?;
-    let two = outcome_of(&rt, rt.alloc(), WIDE, asked, true, &[])?;
+    let one = outcome_of(&rt, rt.alloc(), WIDE, asked, false, &[], 0)?;
+    let two = outcome_of(&rt, rt.alloc(), WIDE, asked, true, &[], 0)?;
     assert_eq!(rt; one.end, End::Ran(Ending::All, 300));
     assert_eq!(rt; two.end, End::Ran(Ending::All, 300));
     for port in 0..2 {
         assert!(rt; file(&one, port).len() > bytes_of(100), "port {port}");
         assert!(rt; file(&one, port) == file(&two, port), "port {port}");
     }
+    let lines: &[u8] =
+        b"packets 300\nport 0 150\nport 1 150\nmode shard 2\nsent 0\nentries flows 9\n";
+    assert!(rt; two.summary.as_slice() == lines);
     assert!(rt; file(&two, 2).starts_with(b"maestro journal 1 shard 2\n"));
     Ok(())
 }
@@ -105,7 +136,7 @@ fn each_call_that_fails_stops_the_run(rt: HostRuntime) -> Result<(), Fail> {
     ];
     for (call, end) in cases.iter().enumerate() {
         let fails = [call as u64];
-        let got = outcome_of(&rt, rt.alloc(), FIREWALL, four_of(1), false, &fails)?;
+        let got = outcome_of(&rt, rt.alloc(), FIREWALL, four_of(1), false, &fails, 0)?;
         assert_eq!(rt; got.end, *end, "call {call}");
     }
     Ok(())
