@@ -19,7 +19,9 @@ use Rattle.path_walk.specs.Known.{Marks, mark_at, excludes, told_mark}
 use Rattle.path_walk.specs.Alive.{into_first, into_second, into_third, those, is_any, past, alive, past_one, alive_one, next_of, past_rest, alive_rest}
 use Rattle.path_walk.specs.Ahead.{number_in, ahead_of, all_ahead, behind_way, behind_test, rest_tree}
 use Rattle.path_walk.proofs.Walking.{some_leaves}
-use Rattle.path_walk.proofs.Splits.{marks_more, past_more}
+use Rattle.path_walk.specs.Alike.{HaveSame}
+use Rattle.path_walk.proofs.Splits.{marks_more, past_split}
+use Rattle.path_walk.proofs.Alike.{same, onward, both_same, alive_rest_same, past_rest_same}
 use Rattle.path_walk.proofs.Ahead.{number_is, all-agree, asked_of, free_ways_first, free_ways_second, test_ways_first, test_ways_second}
 
 -- where paths come, they go on
@@ -96,48 +98,74 @@ ask_marks m a b c any hit miss live f s e p q u x y =
 
 -- and the paths that go on behind it
 pub ask_past : (texts : List TestText) (next : Tree TestText) (hits misses all : List Marks) (hit miss : Block) (live f s : List (List Branch)) →
-    all ≡ hits ++ misses → all_ahead texts next hits ≡ past hit f → all_ahead texts next misses ≡ past miss s → f ≡ those into_first live → s ≡ those into_second live →
-    all_ahead texts next all ≡ past hit (those into_first live) ++ past miss (those into_second live)
+    all ≡ hits ++ misses → HaveSame (all_ahead texts next hits) (past hit f) → HaveSame (all_ahead texts next misses) (past miss s) → f ≡ those into_first live → s ≡ those into_second live →
+    HaveSame (all_ahead texts next all) (past hit (those into_first live) ++ past miss (those into_second live))
 ask_past texts next hits misses all hit miss live f s e p q x y =
-    ap (all_ahead texts next) e ∙ flat_map-append (ahead_of texts next) hits misses
-    ∙ ap₂ (λ i j. i ++ j) (p ∙ ap (past hit) x) (q ∙ ap (past miss) y)
+    let us = all_ahead texts next hits in
+    let vs = all_ahead texts next misses in
+    let ws = past hit (those into_first live) ++ past miss (those into_second live) in
+    onward (all_ahead texts next all) (us ++ vs) ws
+    (same (all_ahead texts next all) (us ++ vs) (ap (all_ahead texts next) e ∙ flat_map-append (ahead_of texts next) hits misses))
+    (onward (us ++ vs) (past hit f ++ past miss s) ws (both_same us vs (past hit f) (past miss s) p q)
+    (same (past hit f ++ past miss s) ws (ap₂ (λ i j. i ++ j) (ap (past hit) x) (ap (past miss) y))))
 
 pub make_past : (texts : List TestText) (next : Tree TestText) (makes takes fills both all : List Marks) (made taken full : Block) (live f s t : List (List Branch)) →
-    both ≡ takes ++ fills → all ≡ makes ++ both → all_ahead texts next makes ≡ past made f → all_ahead texts next takes ≡ past taken s → all_ahead texts next fills ≡ past full t →
+    both ≡ takes ++ fills → all ≡ makes ++ both → HaveSame (all_ahead texts next makes) (past made f) → HaveSame (all_ahead texts next takes) (past taken s) → HaveSame (all_ahead texts next fills) (past full t) →
     f ≡ those into_first live → s ≡ those into_second live → t ≡ those into_third live →
-    all_ahead texts next all ≡ past made (those into_first live) ++ (past taken (those into_second live) ++ past full (those into_third live))
+    HaveSame (all_ahead texts next all) (past made (those into_first live) ++ (past taken (those into_second live) ++ past full (those into_third live)))
 make_past texts next makes takes fills both all made taken full live f s t e k p q r x y z =
-    ap (all_ahead texts next) k ∙ flat_map-append (ahead_of texts next) makes both
-    ∙ ap₂ (λ i j. i ++ j) (p ∙ ap (past made) x)
-    (ap (all_ahead texts next) e ∙ flat_map-append (ahead_of texts next) takes fills
-    ∙ ap₂ (λ i j. i ++ j) (q ∙ ap (past taken) y) (r ∙ ap (past full) z))
+    let us = all_ahead texts next makes in
+    let vs = all_ahead texts next takes in
+    let ws = all_ahead texts next fills in
+    let olds = past made f ++ (past taken s ++ past full t) in
+    let news = past made (those into_first live) ++ (past taken (those into_second live) ++ past full (those into_third live)) in
+    onward (all_ahead texts next all) (us ++ (vs ++ ws)) news
+    (same (all_ahead texts next all) (us ++ (vs ++ ws))
+    (ap (all_ahead texts next) (k ∙ ap (λ i. makes ++ i) e) ∙ flat_map-append (ahead_of texts next) makes (takes ++ fills)
+    ∙ ap (λ i. us ++ i) (flat_map-append (ahead_of texts next) takes fills)))
+    (onward (us ++ (vs ++ ws)) olds news
+    (both_same us (vs ++ ws) (past made f) (past taken s ++ past full t) p (both_same vs ws (past taken s) (past full t) q r))
+    (same olds news (ap₂ (λ i j. i ++ j) (ap (past made) x) (ap₂ (λ i j. i ++ j) (ap (past taken) y) (ap (past full) z)))))
 
 -- a statement of a block further
+abbrev behind_one : List TestText → Tree TestText → Block → List Marks → List (List Branch)
+behind_one texts exit one old = past_one one (all_ahead texts (unfolded one exit) old)
+
+behind : (texts : List TestText) (exit : Tree TestText) (one : Block) (old new : List Marks) →
+    ((next : Tree TestText) → HaveSame (all_ahead texts next new) (past_one one (all_ahead texts (statement_tree one next next) old))) →
+    HaveSame (all_ahead texts (rest_tree (next_of one) exit) new) (behind_one texts exit one old)
+behind texts exit one old new k =
+    subst (λ (t : Tree TestText). HaveSame (all_ahead texts (rest_tree (next_of one) exit) new) (past_one one (all_ahead texts t old))) (one_tree one exit) (k (rest_tree (next_of one) exit))
+
 pub marks_on : (texts : List TestText) (exit : Tree TestText) (b c whole : List Bool) (one : Block) (old new : List Marks) (rest : Option Block) →
     ((next : Tree TestText) → c ≡ b ++ alive_one one (all_ahead texts (statement_tree one next next) old)) →
-    ((next : Tree TestText) → all_ahead texts next new ≡ past_one one (all_ahead texts (statement_tree one next next) old)) →
+    ((next : Tree TestText) → HaveSame (all_ahead texts next new) (past_one one (all_ahead texts (statement_tree one next next) old))) →
     (was : Option Block) → was ≡ Some one → b ++ alive_rest was (all_ahead texts (rest_tree was exit) old) ≡ whole → rest ≡ next_of one →
     c ++ alive_rest rest (all_ahead texts (rest_tree rest exit) new) ≡ whole
 marks_on texts exit b c whole one old new rest h k was q j e =
     let i : b ++ alive one (all_ahead texts (unfolded one exit) old) ≡ whole =
     subst (λ (r : Option Block). b ++ alive_rest r (all_ahead texts (rest_tree r exit) old) ≡ whole) q j in
-    let next = rest_tree (next_of one) exit in
-    let tree = one_tree one exit in
-    let on : all_ahead texts (rest_tree rest exit) new ≡ past_one one (all_ahead texts (unfolded one exit) old) =
-    ap (λ r. all_ahead texts (rest_tree r exit) new) e ∙ k next ∙ ap (λ t. past_one one (all_ahead texts t old)) tree in
-    marks_more b b c whole one (all_ahead texts (unfolded one exit) old) (all_ahead texts (rest_tree rest exit) new) rest i
-    (h next ∙ ap (λ t. b ++ alive_one one (all_ahead texts t old)) tree) on e
+    let on = behind_one texts exit one old in
+    let alike : alive_rest rest (all_ahead texts (rest_tree rest exit) new) ≡ alive_rest rest on =
+    subst (λ (r : Option Block). alive_rest r (all_ahead texts (rest_tree r exit) new) ≡ alive_rest r on) (sym e)
+    (alive_rest_same (next_of one) (all_ahead texts (rest_tree (next_of one) exit) new) on (behind texts exit one old new k)) in
+    ap (λ z. c ++ z) alike
+    ∙ marks_more b b c whole one (all_ahead texts (unfolded one exit) old) on rest i
+    (h (rest_tree (next_of one) exit) ∙ ap (λ t. b ++ alive_one one (all_ahead texts t old)) (one_tree one exit)) refl e
 
 pub past_on : (texts : List TestText) (exit : Tree TestText) (whole : List (List Branch)) (one : Block) (old new : List Marks) (rest : Option Block) →
-    ((next : Tree TestText) → all_ahead texts next new ≡ past_one one (all_ahead texts (statement_tree one next next) old)) →
-    (was : Option Block) → was ≡ Some one → past_rest was (all_ahead texts (rest_tree was exit) old) ≡ whole → rest ≡ next_of one →
-    past_rest rest (all_ahead texts (rest_tree rest exit) new) ≡ whole
+    ((next : Tree TestText) → HaveSame (all_ahead texts next new) (past_one one (all_ahead texts (statement_tree one next next) old))) →
+    (was : Option Block) → was ≡ Some one → HaveSame (past_rest was (all_ahead texts (rest_tree was exit) old)) whole → rest ≡ next_of one →
+    HaveSame (past_rest rest (all_ahead texts (rest_tree rest exit) new)) whole
 past_on texts exit whole one old new rest k was q j e =
-    let i : past one (all_ahead texts (unfolded one exit) old) ≡ whole =
-    subst (λ (r : Option Block). past_rest r (all_ahead texts (rest_tree r exit) old) ≡ whole) q j in
-    let next = rest_tree (next_of one) exit in
-    past_more whole one (all_ahead texts (unfolded one exit) old) (all_ahead texts (rest_tree rest exit) new) rest i
-    (ap (λ r. all_ahead texts (rest_tree r exit) new) e ∙ k next ∙ ap (λ t. past_one one (all_ahead texts t old)) (one_tree one exit)) e
+    let live = all_ahead texts (unfolded one exit) old in
+    let i : HaveSame (past one live) whole =
+    subst (λ (r : Option Block). HaveSame (past_rest r (all_ahead texts (rest_tree r exit) old)) whole) q j in
+    let on = all_ahead texts (rest_tree (next_of one) exit) new in
+    subst (λ (r : Option Block). HaveSame (past_rest r (all_ahead texts (rest_tree r exit) new)) whole) (sym e)
+    (onward (past_rest (next_of one) on) (past_rest (next_of one) (past_one one live)) whole
+    (past_rest_same (next_of one) on (past_one one live) (behind texts exit one old new k))
+    (onward (past_rest (next_of one) (past_one one live)) (past one live) whole (same (past_rest (next_of one) (past_one one live)) (past one live) (sym (past_split one live))) i))
 
 -- what holds of any answer
 pub on_ok_always : {T E : Type 0} (r : Result T E) (P : Type 0) → P → OnOk r P

@@ -13,7 +13,12 @@ pub mod Bridge
 pub mod Apart
 pub mod Handled
 pub mod Splits
+pub mod Alike
+pub mod Numbered
+pub mod Untold
+pub mod EitherWay
 pub mod Ahead
 pub mod AskedTexts
 pub mod GoneThrough
+pub mod InVain
 pub mod Settled

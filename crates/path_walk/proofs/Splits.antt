@@ -48,12 +48,6 @@ marks_more a b c whole block live on rest p q r s =
     ∙ ap (λ x. b ++ (alive_one block live ++ alive_rest (next_of block) x)) r
     ∙ ap (λ x. b ++ x) (sym (alive_split block live)) ∙ p
 
-pub past_more :
-    (whole : List (List Branch)) (block : Block) (live on : List (List Branch)) (rest : Option Block) →
-    past block live ≡ whole → on ≡ past_one block live → rest ≡ next_of block → past_rest rest on ≡ whole
-past_more whole block live on rest p r s =
-    ap (λ x. past_rest x on) s ∙ ap (past_rest (next_of block)) r ∙ sym (past_split block live) ∙ p
-
 waiting-push : (bs : List Block) (b : Block) → waiting (bs ++ b ∷ []) ≡ statements b ++ waiting bs
 waiting-push [] b = sym (append-nil (statements b))
 waiting-push (x ∷ bs) b =

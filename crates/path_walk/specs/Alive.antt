@@ -1,10 +1,10 @@
 -- Which statements of a block stand on one of some paths, by how the paths branch.
-use Rattle.std.specs.Prelude.{Bool, true, false, List, [], ◌∷◌, ◌++◌, Option, Some, None}
+use Rattle.std.specs.Prelude.{◌≡◌, Bool, true, false, List, [], ◌∷◌, ◌++◌, Option, Some, None}
 use Rattle.std.specs.List.{filter_map}
 use denote.Ref.{Bor}
 use Rattle.nf_base.specs.declared.block.Block as block
 use Rattle.nf_base.specs.View.{block_of}
-use Rattle.nf_base.specs.Text.{Ending, FallsOff, Flood, Discard, Forward, Block, End, Do, Ask, Make}
+use Rattle.nf_base.specs.Text.{Question, Ending, FallsOff, Flood, Discard, Forward, Block, End, Do, Ask, Make}
 use Rattle.nf_base.specs.Paths.{Branch, Hits, Misses, Makes, IsTaken, IsFull}
 
 -- what follows a branch into the first block of its statement
@@ -125,3 +125,12 @@ past_rest (Some b) live = past b live
 abbrev pub alive_rest : Option Block → List (List Branch) → List Bool
 alive_rest None live = []
 alive_rest (Some b) live = alive b live
+
+-- a question whose blocks do nothing
+pub record AsksInVain (b : Block) (q : Question) : Type 0 where
+  pub next : Block
+  pub is : b ≡ Ask q (End FallsOff) (End FallsOff) next
+
+-- whether paths come to it, and to its blocks
+abbrev pub alive_in_vain : List (List Branch) → List Bool
+alive_in_vain live = is_any live ∷ is_any (those into_first live) ∷ is_any (those into_second live) ∷ []

@@ -16,3 +16,4 @@ pub mod Counts
 pub mod Order
 pub mod Alive
 pub mod Ahead
+pub mod Alike

@@ -6,6 +6,7 @@ mod block_texts;
 mod branch;
 mod counting;
 mod fault;
+mod going;
 mod known;
 pub mod laws;
 mod laying;

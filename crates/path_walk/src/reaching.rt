@@ -1,11 +1,13 @@
 //! Which statements of a block stand on a feasible path: the paths go side by side through the
 //! text, each with what its tests say, so that each statement is come to once.
-ghost use Rattle.std.specs.Prelude.{◌≡◌, ◌≤◌, ◌∷◌, ◌++◌, [], List, length, IfOk, OnOk};
+ghost use Rattle.std.specs.Prelude.{◌≡◌, ◌≤◌, ◌∷◌, ◌++◌, [], List, length, IfOk, OnOk, IfSome, true};
 ghost use Rattle.nf_base.specs.View.{block_of, ending_of, question_of};
+ghost use Rattle.nf_base.specs.Text.{End, FallsOff};
 ghost use Rattle.nf_base.specs.Laid.{rest_size};
 ghost use Rattle.nf_base.specs.Statements.{statements};
 ghost use Rattle.nf_base.specs.declared.block.Block.{size-Block};
-ghost use Rattle.path_walk.specs.Alive.{into_first, into_second, those, past_ending, past, alive, past_one, alive_one, next_of, rest_seen};
+ghost use Rattle.path_walk.specs.Alive.{into_first, into_second, those, is_any, past_ending, past, alive, past_one, alive_one, next_of, rest_seen, AsksInVain, alive_in_vain};
+ghost use Rattle.path_walk.specs.Alike.{HaveSame};
 ghost use Rattle.path_walk.specs.Numbering.{texts_seen, FindsAll};
 ghost use Rattle.path_walk.specs.Trees.{Tree, Tested, asking, ending_tree, unfolded};
 ghost use Rattle.path_walk.specs.Tests.{TestText};
@@ -16,6 +18,7 @@ ghost use Rattle.path_walk.specs.Seen.{text_seen};
 ghost use Rattle.path_walk.specs.Ahead.{all_known, all_ahead, text_asked, HasText, IsIn, AreIn};
 
 use crate::block_texts::{number_of, texts_of};
+use crate::going::{Going, going_both, going_on};
 use crate::known::Known;
 use crate::listing::all_statements;
 use crate::numbering::Texts;
@@ -132,6 +135,155 @@ fn joined(
     Ok(some)
 }
 
+/// Whether an end is where paths fall off.
+fn falls_off(ending: &Ending) -> bool
+    ensures { result ≡ true → ending_of ending.now ≡ FallsOff }
+{
+    match ending {
+        Ending::FallsOff => true,
+        Ending::Flood => false,
+        Ending::Discard => false,
+        Ending::Forward(_) => false,
+    }
+}
+
+/// Whether a block does nothing, and falls off its end.
+fn does_nothing(block: &Block) -> bool
+    ensures { result ≡ true → block_of block.now ≡ End FallsOff }
+{
+    match block {
+        Block::End(ending) => falls_off(ending),
+        Block::Do { .. } => false,
+        Block::Ask { .. } => false,
+        Block::Make { .. } => false,
+    }
+}
+
+/// Whether some paths go either way at a test of the packet alone.
+fn going_at_test(
+    alloc: Global,
+    text: &Text<'_>,
+    exchanged: bool,
+    texts: &Texts<'_>,
+    live: &[Box<Known>],
+) -> Result<Going, AllocError>
+    requires { FindsAll texts.now }
+    ensures first { IfOk result (λ going. (hit miss : Tree TestText) →
+        HasText (texts_seen texts.now) (text_seen text.now) →
+        going.hits ≡ is_any (those into_first (all_ahead (texts_seen texts.now)
+        (Tested (text_seen text.now) exchanged hit miss) (all_known live.now)))) }
+    ensures second { IfOk result (λ going. (hit miss : Tree TestText) →
+        HasText (texts_seen texts.now) (text_seen text.now) →
+        going.misses ≡ is_any (those into_second (all_ahead (texts_seen texts.now)
+        (Tested (text_seen text.now) exchanged hit miss) (all_known live.now)))) }
+{
+    let number = number_of(alloc, texts, text)?;
+    let equals = equals(text);
+    let test = Asked {
+        number,
+        equals,
+        exchanged,
+    };
+    Ok(going_on(test, live))
+}
+
+/// Whether some paths go either way at a question.
+fn going_at(
+    alloc: Global,
+    question: &Question,
+    texts: &Texts<'_>,
+    live: &[Box<Known>],
+) -> Result<Going, AllocError>
+    requires { FindsAll texts.now }
+    ensures first { IfOk result (λ going. (hit miss : Tree TestText) →
+        IsIn (texts_seen texts.now) (text_asked (question_of question.now)) →
+        going.hits ≡ is_any (those into_first (all_ahead (texts_seen texts.now)
+        (asking (question_of question.now) hit miss) (all_known live.now)))) }
+    ensures second { IfOk result (λ going. (hit miss : Tree TestText) →
+        IsIn (texts_seen texts.now) (text_asked (question_of question.now)) →
+        going.misses ≡ is_any (those into_second (all_ahead (texts_seen texts.now)
+        (asking (question_of question.now) hit miss) (all_known live.now)))) }
+{
+    match question {
+        Question::Get { .. } => Ok(going_both(live)),
+        Question::Find { .. } => Ok(going_both(live)),
+        Question::Test {
+            comparison,
+            left,
+            right,
+            ..
+        } => {
+            if are_of_packet(left, right) {
+                let sign = sign_of_comparison(*comparison);
+                let text = Text { sign, left, right };
+                going_at_test(alloc, &text, exchanges(*comparison), texts, live)
+            } else {
+                Ok(going_both(live))
+            }
+        }
+    }
+}
+
+/// The question of a block's first statement, where both its blocks do nothing.
+#[tactic(auto, using(crate::proofs::InVain::asks_in_vain))]
+fn empty_question(block: &Block) -> Option<&Question>
+    ensures { IfSome result (λ question. AsksInVain (block_of block.now) (question_of question.now)) }
+{
+    match block {
+        Block::End(_) => None,
+        Block::Do { .. } => None,
+        Block::Ask {
+            question,
+            hit,
+            miss,
+            ..
+        } => {
+            if does_nothing(hit) && does_nothing(miss) {
+                Some(question)
+            } else {
+                None
+            }
+        }
+        Block::Make { .. } => None,
+    }
+}
+
+/// Three marks behind others.
+fn push_three(
+    marks: &mut Vec<bool>,
+    first: bool,
+    second: bool,
+    third: bool,
+) -> Result<(), AllocError>
+    ensures { OnOk result (marks.new.items ≡ marks.old.items ++ first ∷ second ∷ third ∷ []) }
+{
+    marks.push(first)?;
+    marks.push(second)?;
+    marks.push(third)?;
+    Ok(())
+}
+
+/// Marks a question whose blocks do nothing, and these.
+fn mark_empty(
+    alloc: Global,
+    question: &Question,
+    texts: &Texts<'_>,
+    live: &[Box<Known>],
+    marks: &mut Vec<bool>,
+) -> Result<(), AllocError>
+    requires { FindsAll texts.now }
+    ensures { OnOk result ((next : Tree TestText) →
+        IsIn (texts_seen texts.now) (text_asked (question_of question.now)) →
+        marks.new.items ≡ marks.old.items
+        ++ alive_in_vain (all_ahead (texts_seen texts.now)
+        (asking (question_of question.now) next next) (all_known live.now))) }
+{
+    let going = going_at(alloc, question, texts, live)?;
+    let comes = !live.is_empty();
+    push_three(marks, comes, going.hits, going.misses)?;
+    Ok(())
+}
+
 /// Marks a statement and those in its blocks, in text order, each by whether one of the paths
 /// comes to it. The paths that go on behind it.
 #[cycle(reaching)]
@@ -150,9 +302,9 @@ fn mark_statement(
         (statement_tree (block_of block.now) next next) (all_known live.items))) }
     ensures past { IfOk result (λ on. (next : Tree TestText) →
         AreIn (texts_seen texts.now) (statements (block_of block.now)) →
-        all_ahead (texts_seen texts.now) next (all_known on.items) ≡ past_one (block_of block.now)
-        (all_ahead (texts_seen texts.now) (statement_tree (block_of block.now) next next)
-        (all_known live.items))) }
+        HaveSame (all_ahead (texts_seen texts.now) next (all_known on.items))
+        (past_one (block_of block.now) (all_ahead (texts_seen texts.now)
+        (statement_tree (block_of block.now) next next) (all_known live.items)))) }
 {
     marks.push(!live.is_empty())?;
     match block {
@@ -188,6 +340,39 @@ fn mark_statement(
     }
 }
 
+/// Marks a statement as `mark_statement` does.
+///
+/// What a test says whose blocks do nothing is told to no path: those behind it go the same ways,
+/// and are not made two.
+#[cycle(reaching)]
+fn mark_one(
+    alloc: Global,
+    block: &Block,
+    texts: &Texts<'_>,
+    live: Vec<Box<Known>>,
+    marks: &mut Vec<bool>,
+) -> Result<Vec<Box<Known>>, AllocError>
+    requires { FindsAll texts.now }
+    // Where each test's text has a number.
+    ensures marks { OnOk result ((next : Tree TestText) →
+        AreIn (texts_seen texts.now) (statements (block_of block.now)) →
+        marks.new.items ≡ marks.old.items ++ alive_one (block_of block.now) (all_ahead (texts_seen texts.now)
+        (statement_tree (block_of block.now) next next) (all_known live.items))) }
+    ensures past { IfOk result (λ on. (next : Tree TestText) →
+        AreIn (texts_seen texts.now) (statements (block_of block.now)) →
+        HaveSame (all_ahead (texts_seen texts.now) next (all_known on.items))
+        (past_one (block_of block.now) (all_ahead (texts_seen texts.now)
+        (statement_tree (block_of block.now) next next) (all_known live.items)))) }
+{
+    match empty_question(block) {
+        Some(question) => {
+            mark_empty(alloc, question, texts, live.as_slice(), marks)?;
+            Ok(live)
+        }
+        None => mark_statement(alloc, block, texts, live, marks),
+    }
+}
+
 /// Marks the statements of a block, in text order, each by whether one of the paths comes to it.
 /// The paths that fall off its end.
 #[cycle(reaching)]
@@ -206,14 +391,14 @@ fn mark_block(
         (unfolded (block_of block.now) exit) (all_known live.items))) }
     ensures past { IfOk result (λ on. (exit : Tree TestText) →
         AreIn (texts_seen texts.now) (statements (block_of block.now)) →
-        all_ahead (texts_seen texts.now) exit (all_known on.items) ≡ past (block_of block.now)
-        (all_ahead (texts_seen texts.now) (unfolded (block_of block.now) exit)
-        (all_known live.items))) }
+        HaveSame (all_ahead (texts_seen texts.now) exit (all_known on.items))
+        (past (block_of block.now) (all_ahead (texts_seen texts.now)
+        (unfolded (block_of block.now) exit) (all_known live.items)))) }
 {
     let mut on = live;
     let mut rest = Some(block);
     while let Some(one) = rest {
-        on = mark_statement(alloc, one, texts, on, marks)?;
+        on = mark_one(alloc, one, texts, on, marks)?;
         rest = next_behind(one);
     }
     Ok(on)

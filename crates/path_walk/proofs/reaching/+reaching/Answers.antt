@@ -1,17 +1,24 @@
-use Rattle.std.proofs.Common.{◌≡◌, ◌∙◌, ◌++◌, not, List, Option, Some, length, vec_len, ap, sym, subst, arith}
+use Rattle.std.specs.Global.{Box}
+use Rattle.std.specs.Prelude.{IfSome}
+use Rattle.std.proofs.Common.{refl, ◌≡◌, ◌∙◌, ◌++◌, not, List, Option, Some, length, vec_len, ap, sym, subst, arith}
 use Rattle.std.proofs.lemmas.Result.{IfOk-weaker}
+use Rattle.nf_base.specs.Text as text
 use Rattle.nf_base.specs.Text.{Block}
+use Rattle.path_walk.specs.declared.known.Known.{Known}
 use Rattle.nf_base.specs.Statements.{statements}
 use Rattle.nf_base.specs.View.{block_of, ending_of, question_of, creation_of}
 use Rattle.nf_base.specs.Laid.{rest_size}
 use Rattle.nf_base.specs.declared.block.Block as block
-use Rattle.path_walk.specs.Alive.{is_any, rest_seen, past_one, alive_one}
+use Rattle.path_walk.specs.Alive.{is_any, rest_seen, past_ending, past_one, alive_one, AsksInVain, alive_in_vain}
 use Rattle.path_walk.specs.Numbering.{texts_seen}
 use Rattle.path_walk.specs.Trees.{Tree, Made, ending_tree, asking, unfolded}
 use Rattle.path_walk.specs.Layout.{statement_tree}
 use Rattle.path_walk.specs.Tests.{TestText}
+use Rattle.path_walk.specs.Alike.{HaveSame}
 use Rattle.path_walk.specs.Ahead.{known_in, all_known, all_ahead, AreIn, rest_statements}
 use Rattle.path_walk.proofs.Splits.{any_some, make_marks}
+use Rattle.path_walk.proofs.Alike.{same}
+use Rattle.path_walk.proofs.InVain.{untold}
 use Rattle.path_walk.proofs.Ahead.{made_ways_first, made_ways_second, made_ways_third}
 use Rattle.path_walk.proofs.AskedTexts.{next_in, asked_in, hit_in, miss_in, made_in, taken_in, full_in}
 use Rattle.path_walk.proofs.GoneThrough.{any_ahead, on_ok_always, one_mark, ask_marks, ask_past, make_past, marks_on, past_on}
@@ -28,7 +35,7 @@ mark_block-loop-rest-preserved t c =
     let has : whole → AreIn texts (statements one) = λ h. subst (λ (r : Option Block). AreIn texts (rest_statements r)) is (c.loop-rest.invariant.has h) in
     record {
       marks = λ exit h.
-          marks_on texts exit c.loop-rest.marks.items c.mark_statement.new.marks.items _ one (all_known c.loop-rest.on.items) (all_known c.in_ok-on.on.items) rest
+          marks_on texts exit c.loop-rest.marks.items c.mark_one.new.marks.items _ one (all_known c.loop-rest.on.items) (all_known c.in_ok-on.on.items) rest
           (λ next. c.in_ok-on.ensures.marks next (has h)) (λ next. c.in_ok-on.ensures.past next (has h)) was is (c.loop-rest.invariant.marks exit h) c.next_behind-rest.ensures.next;
       past = λ exit h.
           past_on texts exit _ one (all_known c.loop-rest.on.items) (all_known c.in_ok-on.on.items) rest
@@ -44,6 +51,18 @@ mark_statement-returns-in-End-clause-marks t c = λ next _.
     rw c.in-End.is
     (one_mark (texts_seen c.args.texts.now) (ending_tree (ending_of c.in-End.ending) next) (all_known live) (not c.is_empty.result) c.args.marks.now.items c.push.new.self.items
     (ap not c.is_empty.ensures ∙ any_some known_in live (vec_len c.args.live) n) c.in_ok-push.ensures.items)
+
+pub mark_statement-returns-in-End-clause-past : goal.mark_statement-returns-in-End-clause-past
+mark_statement-returns-in-End-clause-past t c = λ next _.
+    let texts = texts_seen c.args.texts.now in
+    let ending = ending_of c.in-End.ending in
+    rw c.in-End.is
+    (same (all_ahead texts next (all_known c.past_ending.result.items)) (past_ending ending (all_ahead texts (ending_tree ending next) (all_known c.args.live.items))) (c.past_ending.ensures texts next))
+
+pub mark_statement-returns-in-Do-clause-past : goal.mark_statement-returns-in-Do-clause-past
+mark_statement-returns-in-Do-clause-past t c = λ next _.
+    let on = all_ahead (texts_seen c.args.texts.now) next (all_known c.args.live.items) in
+    rw c.in-Do.is (same on on refl)
 
 pub mark_statement-returns-in-Do-clause-marks : goal.mark_statement-returns-in-Do-clause-marks
 mark_statement-returns-in-Do-clause-marks t c = λ next _.
@@ -102,7 +121,7 @@ mark_statement-returns-in_ok-misses-in-Ask-clause-past t c =
     let some = all_known c.in_ok-hits-in-Ask.hits.items in
     let others = all_known c.in_ok-misses-in-Ask.misses.items in
     IfOk-weaker c.joined.result (λ all. all_known all.items ≡ some ++ others)
-    (λ all. (next : Tree TestText) → AreIn texts (statements one) → all_ahead texts next (all_known all.items) ≡ past_one one (all_ahead texts (statement_tree one next next) ms))
+    (λ all. (next : Tree TestText) → AreIn texts (statements one) → HaveSame (all_ahead texts next (all_known all.items)) (past_one one (all_ahead texts (statement_tree one next next) ms)))
     (λ all e next has.
     let h = unfolded hit next in
     let m = unfolded miss next in
@@ -162,7 +181,7 @@ mark_statement-returns-in_ok-joined-in-Make-clause-past t c =
     let some = all_known c.in_ok-makes-in-Make.makes.items in
     let others = all_known c.in_ok-joined-in-Make.field-0.items in
     IfOk-weaker c.joined-in-Make-2.result (λ all. all_known all.items ≡ some ++ others)
-    (λ all. (next : Tree TestText) → AreIn texts (statements one) → all_ahead texts next (all_known all.items) ≡ past_one one (all_ahead texts (statement_tree one next next) ms))
+    (λ all. (next : Tree TestText) → AreIn texts (statements one) → HaveSame (all_ahead texts next (all_known all.items)) (past_one one (all_ahead texts (statement_tree one next next) ms)))
     (λ all e next has.
     let x = unfolded made next in
     let y = unfolded taken next in
@@ -176,3 +195,23 @@ mark_statement-returns-in_ok-joined-in-Make-clause-past t c =
     (ap (all_ahead texts y) ways.ensures.second ∙ sym (made_ways_second texts x y z ms))
     (ap (all_ahead texts z) ways.ensures.third ∙ sym (made_ways_third texts x y z ms))))
     c.joined-in-Make-2.ensures
+
+pub mark_one-returns-in_ok-mark_empty-in-Some-clause-marks : goal.mark_one-returns-in_ok-mark_empty-in-Some-clause-marks
+mark_one-returns-in_ok-mark_empty-in-Some-clause-marks t c = λ next has.
+    let texts = texts_seen c.args.texts.now in
+    let one = block_of c.args.block.now in
+    let q = question_of c.in-Some.question.now in
+    let vain = subst (λ o. IfSome o (λ x. AsksInVain one (question_of x.now))) c.in-Some.is c.empty_question.ensures in
+    let asked = asked_in texts one q (text.End text.FallsOff) (text.End text.FallsOff) vain.next vain.is has in
+    c.in_ok-mark_empty-in-Some.ensures next asked
+    ∙ ap (λ (xs : List (Box Known)). c.args.marks.now.items ++ alive_in_vain (all_ahead texts (asking q next next) (all_known xs))) c.as_slice.ensures.value
+    ∙ ap (λ (b : Block). c.args.marks.now.items ++ alive_one b (all_ahead texts (statement_tree b next next) (all_known c.args.live.items))) (sym vain.is)
+
+pub mark_one-returns-in_ok-mark_empty-in-Some-clause-past : goal.mark_one-returns-in_ok-mark_empty-in-Some-clause-past
+mark_one-returns-in_ok-mark_empty-in-Some-clause-past t c = λ next has.
+    let texts = texts_seen c.args.texts.now in
+    let one = block_of c.args.block.now in
+    let ms = all_known c.args.live.items in
+    let q = question_of c.in-Some.question.now in
+    let vain = subst (λ o. IfSome o (λ x. AsksInVain one (question_of x.now))) c.in-Some.is c.empty_question.ensures in
+    subst (λ (b : Block). HaveSame (all_ahead texts next ms) (past_one b (all_ahead texts (statement_tree b next next) ms))) (sym vain.is) (untold texts q next ms)

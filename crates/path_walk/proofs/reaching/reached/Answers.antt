@@ -1,5 +1,5 @@
-use Rattle.std.proofs.Common.{◌∙◌, ◌++◌, Bool, List, map, ap, sym, subst}
-use Rattle.nf_base.specs.Statements.{Statement, statements}
+use Rattle.std.proofs.Common.{◌∙◌, ◌++◌, Bool, List, map, ap, subst}
+use Rattle.nf_base.specs.Statements.{Statement}
 use Rattle.nf_base.specs.View.{block_of}
 use Rattle.path_walk.specs.Alive.{alive}
 use Rattle.path_walk.specs.Numbering.{texts_seen}

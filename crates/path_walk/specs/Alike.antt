@@ -1,0 +1,7 @@
+-- Lists of the same elements.
+use Rattle.std.specs.Prelude.{List, Contains}
+
+-- two lists have the same elements, in whatever order and however often
+pub record HaveSame {A : Type 0} (xs ys : List A) : Type 0 where
+  pub forth : (x : A) → Contains xs x → Contains ys x
+  pub back : (x : A) → Contains ys x → Contains xs x
