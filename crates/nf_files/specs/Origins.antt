@@ -1,11 +1,16 @@
 -- Which file of the system an input is.
-use Rattle.std.specs.Prelude.{ℕ, Bool, false, ◌&&◌, List, Option, Some, None, nat_eq}
+use Rattle.std.specs.Prelude.{ℕ, zero, suc, Bool, false, ◌&&◌, List, Option, Some, None, nat_eq}
 use Rattle.std.specs.Str.{bytes_eq}
 use Rattle.std.specs.List.{list_any}
 use Rattle.nf_files.specs.declared.origin.Node.{Node}
 use Rattle.nf_files.specs.declared.origin.Origin.{Origin}
 use Rattle.nf_files.specs.declared.system_file.SystemFile.{SystemFile}
 use Rattle.nf_files.specs.declared.system_file.SystemFile.TheVariants.{Input, Output}
+
+-- the file of a device and a number there: the number 0 says that none is told
+abbrev pub node_of : ℕ → ℕ → Option Node
+node_of device zero = None
+node_of device (suc n) = Some (record { device = device; number = suc n })
 
 -- files with the same device and the same number there are one; where either isn't told, those of one
 -- name are

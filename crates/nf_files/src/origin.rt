@@ -1,6 +1,6 @@
 // Which file of the system was opened.
 ghost use Rattle.std.specs.Prelude.{◌≡◌};
-ghost use Rattle.nf_files.specs.Origins.{is_same};
+ghost use Rattle.nf_files.specs.Origins.{is_same, node_of};
 
 use std::fs::Metadata;
 use std::os::unix::fs::MetadataExt;
@@ -13,13 +13,20 @@ pub(crate) struct Node {
 }
 
 impl Node {
+    // The file of a device and a number there. No file has the number 0: it says that none is told.
+    fn numbered(device: u64, number: u64) -> Option<Node>
+        ensures { result ≡ node_of device number }
+    {
+        if number == 0 {
+            None
+        } else {
+            Some(Node { device, number })
+        }
+    }
+
     /// The file that the system tells of, if it tells which it is.
     pub(crate) fn of(told: &Metadata) -> Option<Node> {
-        let node = Node {
-            device: told.dev(),
-            number: told.ino(),
-        };
-        if node.number == 0 { None } else { Some(node) }
+        Node::numbered(told.dev(), told.ino())
     }
 }
 

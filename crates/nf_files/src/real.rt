@@ -1,5 +1,5 @@
 // The files of the system.
-ghost use Rattle.std.specs.Prelude.{◌≡◌, ◌<◌, ◌≤◌, ◌+◌, ◌-◌, ◌⊎◌, ℕ, List, Option, Ok, IfOk, length, None};
+ghost use Rattle.std.specs.Prelude.{◌≡◌, ◌≢◌, ◌<◌, ◌≤◌, ◌+◌, ◌-◌, ◌⊎◌, ℕ, List, Option, Ok, IfOk, length, None};
 ghost use Rattle.std.specs.Io.{ReadsAtMost, WritesAtMost};
 ghost use Rattle.std.specs.Io.KnownBytes.{ReadConsumes, WriteAppends};
 ghost use Rattle.nf_files.specs.Causes.{counted_of, HasCause};
@@ -17,7 +17,7 @@ use crate::standard::Standard;
 use crate::system_file::{SystemFile, create_file, open_file};
 use crate::{FaultCount, Files, FilesFault};
 use std::alloc::Global;
-use std::io::{Read, Stderr, Stdout, Write};
+use std::io::{Read, Write};
 use std::{io, rt};
 
 // Where none is taken of a piece that isn't empty, that is an error.
@@ -42,17 +42,18 @@ fn some_taken(piece: &[u8], answer: io::Result<usize>) -> io::Result<usize>
 /// be read, by this name or another: it stays as it is. Memory never runs out once the system was
 /// asked.
 #[derive(Drop)]
-pub struct RealFiles<'a, R: rt::Files> {
+pub struct RealFiles<'a, R: rt::Files, O, E> {
     alloc: Global,
     system: &'a R,
-    standard: Standard,
+    standard: Standard<O, E>,
     opened: Vec<SystemFile<R::File>>,
     count: FaultCount,
 }
 
-impl<'a, R: rt::Files> RealFiles<'a, R> {
-    /// No opened file, and no fault.
-    pub fn new(alloc: Global, system: &'a R, output: Stdout, errors: Stderr) -> Self
+impl<'a, R: rt::Files, O: Write, E: Write> RealFiles<'a, R, O, E> {
+    /// No opened file, and no fault. What is written to standard output goes to `output`, and what is
+    /// written to standard error to `errors`.
+    pub fn new(alloc: Global, system: &'a R, output: O, errors: E) -> Self
         ensures none { length result.opened.items ≡ 0 }
         ensures no_fault { (result.count.faults ≡ 0) × (result.count.first ≡ None) }
     {
@@ -90,6 +91,14 @@ impl<'a, R: rt::Files> RealFiles<'a, R> {
     fn write_once(&mut self, file: u32, piece: &[u8]) -> io::Result<usize>
         requires opened { (file < 2) ⊎ IsOf Output self.old.opened.items file }
         ensures within { WritesAtMost result piece.now }
+        ensures output { let held = O.contents in file ≡ 0 →
+            WriteAppends (held self.old.standard.output) (held self.new.standard.output)
+            result piece.now }
+        ensures errors { let held = E.contents in file ≡ 1 →
+            WriteAppends (held self.old.standard.errors) (held self.new.standard.errors)
+            result piece.now }
+        ensures no_output { file ≢ 0 → self.new.standard.output ≡ self.old.standard.output }
+        ensures no_errors { file ≢ 1 → self.new.standard.errors ≡ self.old.standard.errors }
         ensures bytes { let held = held_at R.File.contents in 2 ≤ file →
             WriteAppends (held self.old.opened.items file) (held self.new.opened.items file)
             result piece.now }
@@ -98,8 +107,8 @@ impl<'a, R: rt::Files> RealFiles<'a, R> {
         ensures kinds { (k : Kind) (g : ℕ) →
             IsOf k self.old.opened.items g → IsOf k self.new.opened.items g }
     {
-        if let Some(stream) = self.standard.stream(file) {
-            return stream.write(piece);
+        if file < 2 {
+            return self.standard.write(file, piece);
         }
         match &mut self.opened[file as usize - 2] {
             SystemFile::Output(output) => output.write(piece),
@@ -112,6 +121,14 @@ impl<'a, R: rt::Files> RealFiles<'a, R> {
         requires opened { (file < 2) ⊎ IsOf Output self.old.opened.items file }
         ensures within { WritesAtMost result piece.now }
         ensures some { IfOk result (λ count. 0 < length piece.now → 0 < count) }
+        ensures output { let held = O.contents in file ≡ 0 →
+            WriteAppends (held self.old.standard.output) (held self.new.standard.output)
+            result piece.now }
+        ensures errors { let held = E.contents in file ≡ 1 →
+            WriteAppends (held self.old.standard.errors) (held self.new.standard.errors)
+            result piece.now }
+        ensures no_output { file ≢ 0 → self.new.standard.output ≡ self.old.standard.output }
+        ensures no_errors { file ≢ 1 → self.new.standard.errors ≡ self.old.standard.errors }
         ensures bytes { let held = held_at R.File.contents in 2 ≤ file →
             WriteAppends (held self.old.opened.items file) (held self.new.opened.items file)
             result piece.now }
@@ -126,7 +143,7 @@ impl<'a, R: rt::Files> RealFiles<'a, R> {
     }
 }
 
-impl<'a, R: rt::Files> Files for RealFiles<'a, R> {
+impl<'a, R: rt::Files, O: Write, E: Write> Files for RealFiles<'a, R, O, E> {
     ghost told = { λ r. untold (length r.opened.items) };
 
     ghost counted = { λ r. counted_of r.count };

@@ -1,49 +1,39 @@
-// The two standard outputs of the system.
-ghost use Rattle.std.specs.Prelude.{◌≡◌, ◌≤◌, IfOk, length, Some, None};
+// The two standard outputs.
+ghost use Rattle.std.specs.Prelude.{◌≡◌, ◌≢◌};
+ghost use Rattle.std.specs.Io.{WritesAtMost};
+ghost use Rattle.std.specs.Io.KnownBytes.{WriteAppends};
 
-use std::io::{self, Stderr, Stdout, Write};
+use std::io::{self, Write};
 
-/// One of the two: what is written to it can reach no other.
-#[derive(Clone, Copy)]
-pub(crate) enum Stream {
-    Output(Stdout),
-    Errors(Stderr),
+/// Both: 0 is the number of standard output, and 1 that of standard error.
+#[derive(Drop)]
+pub(crate) struct Standard<O, E> {
+    output: O,
+    errors: E,
 }
 
-impl Stream {
-    /// Writes once.
-    pub(crate) fn write(self, piece: &[u8]) -> io::Result<usize>
-        ensures within { IfOk result (λ count. count ≤ length piece.now) }
+impl<O, E> Standard<O, E> {
+    pub(crate) fn new(output: O, errors: E) -> Self
+        ensures { result ≡ record { output = output; errors = errors } }
     {
-        match self {
-            Stream::Output(mut output) => output.write(piece),
-            Stream::Errors(mut errors) => errors.write(piece),
-        }
-    }
-}
-
-/// Both, of which a number picks one.
-#[derive(Clone, Copy)]
-pub(crate) struct Standard {
-    output: Stdout,
-    errors: Stderr,
-}
-
-impl Standard {
-    pub(crate) fn new(output: Stdout, errors: Stderr) -> Self {
         Standard { output, errors }
     }
+}
 
-    /// The one of a number: 0 is standard output and 1 standard error.
-    pub(crate) fn stream(&self, file: u32) -> Option<Stream>
-        ensures output { file ≡ 0 → result ≡ Some (Stream.Output self.now.output) }
-        ensures errors { file ≡ 1 → result ≡ Some (Stream.Errors self.now.errors) }
-        ensures opened { 2 ≤ file → result ≡ None }
+impl<O: Write, E: Write> Standard<O, E> {
+    /// Writes once: what is told as written to one was written there, and nothing to the other.
+    pub(crate) fn write(&mut self, file: u32, piece: &[u8]) -> io::Result<usize>
+        ensures within { WritesAtMost result piece.now }
+        ensures output { file ≡ 0 → let held = O.contents in
+            WriteAppends (held self.old.output) (held self.new.output) result piece.now }
+        ensures errors { file ≢ 0 → let held = E.contents in
+            WriteAppends (held self.old.errors) (held self.new.errors) result piece.now }
+        ensures no_output { file ≢ 0 → self.new.output ≡ self.old.output }
+        ensures no_errors { file ≡ 0 → self.new.errors ≡ self.old.errors }
     {
         match file {
-            0 => Some(Stream::Output(self.output)),
-            1 => Some(Stream::Errors(self.errors)),
-            _ => None,
+            0 => self.output.write(piece),
+            _ => self.errors.write(piece),
         }
     }
 }
