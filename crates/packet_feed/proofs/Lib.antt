@@ -7,3 +7,4 @@ pub mod Starting
 pub mod Firsts
 pub mod Nexts
 pub mod Times
+pub mod ByPort

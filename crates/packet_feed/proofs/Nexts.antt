@@ -48,7 +48,7 @@ seen k packet sources new h =
     let at : slice_get new k ≡ Some (given_away h.source) = ap (λ (xs : List Stream). slice_get xs k) h.new_is ∙ got_same sources k (given_away h.source) (slice_get_within sources k h.source h.at) in
     record { at = at; frame = ap frame_in at; original = ap original_in at }
 
-shown_is : (k count most : ℕ) (packet : Packet) (sources new : List Stream) (h : IsGiven k packet sources new) → shown packet (record { sources = new; shown = k; given = count; most = most }) ≡ last_read k h.source
+pub shown_is : (k count most : ℕ) (packet : Packet) (sources new : List Stream) (h : IsGiven k packet sources new) → shown packet (record { sources = new; shown = k; given = count; most = most }) ≡ last_read k h.source
 shown_is k count most packet sources new h =
     let s = h.source in
     let see = seen k packet sources new h in

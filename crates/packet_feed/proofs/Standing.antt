@@ -41,17 +41,17 @@ follows_on (Some all) given None y h k = absurd h
 follows_on (Some all) given (Some x) None h k = absurd k
 follows_on (Some all) given (Some x) (Some y) h k = h ∙ ap (λ (t : List Arrival). given ++ in_order t) (sym k)
 
-tear_on : (start : Option (List ℕ)) (x y : Option (Option ℕ)) → IsTear start x → Carries x y → IsTear start y
+pub tear_on : (start : Option (List ℕ)) (x y : Option (Option ℕ)) → IsTear start x → Carries x y → IsTear start y
 tear_on None x y h k = tt
 tear_on (Some bytes) None y h k = absurd h
 tear_on (Some bytes) (Some x) None h k = absurd k
 tear_on (Some bytes) (Some x) (Some y) h k = subst (λ (t : Option ℕ). IsTear (Some bytes) (Some t)) (sym k) h
 
 -- the rest of another capture's file stays
-rest_other : (sources : List Stream) (k j : ℕ) (s x : Stream) (old new : Told) → IsApart (files_in sources) → slice_get sources k ≡ Some s → slice_get sources j ≡ Some x → j ≢ k → Keeps old new s.reading.file → new.rest x.reading.file ≡ old.rest x.reading.file
+pub rest_other : (sources : List Stream) (k j : ℕ) (s x : Stream) (old new : Told) → IsApart (files_in sources) → slice_get sources k ≡ Some s → slice_get sources j ≡ Some x → j ≢ k → Keeps old new s.reading.file → new.rest x.reading.file ≡ old.rest x.reading.file
 rest_other sources k j s x old new apart e p ne kept = kept.rests x.reading.file (apart j k x.reading.file s.reading.file (file_at sources j x p) (file_at sources k s e) ne)
 
-one_is : {A : Type 0} (x y : A) → Some x ≡ Some y → x ≡ y
+pub one_is : {A : Type 0} (x y : A) → Some x ≡ Some y → x ≡ y
 one_is x y e = cc
 
 filled_left : (sources : List Stream) (k : ℕ) (s new_s : Stream) (old new : Told) → IsApart (files_in sources) → slice_get sources k ≡ Some s → new_s.reading.file ≡ s.reading.file
@@ -71,14 +71,14 @@ filled_left sources k s new_s old new apart e same filled kept =
     ])
 
 -- what stands of a capture, by the number of its file
-source_stands : (start : Told) (given : List Arrival) (now : Told) (port : ℕ) (s : Stream) (f : ℕ) → s.reading.file ≡ f → IsTear (start.rest f) (tear_left s (now.rest f)) → IsTaken port given s (start.rest f) (now.rest f) → SourceStands start given now port s
+pub source_stands : (start : Told) (given : List Arrival) (now : Told) (port : ℕ) (s : Stream) (f : ℕ) → s.reading.file ≡ f → IsTear (start.rest f) (tear_left s (now.rest f)) → IsTaken port given s (start.rest f) (now.rest f) → SourceStands start given now port s
 source_stands start given now port s f same torn taken = record {
   torn = subst (λ (n : ℕ). IsTear (start.rest n) (tear_left s (now.rest n))) (sym same) torn;
   taken = subst (λ (n : ℕ). IsTaken port given s (start.rest n) (now.rest n)) (sym same) taken;
 }
 
 -- a capture of which nothing was read
-source_stays : (start : Told) (given : List Arrival) (old new : Told) (port : ℕ) (s : Stream) → new.rest s.reading.file ≡ old.rest s.reading.file → SourceStands start given old port s → SourceStands start given new port s
+pub source_stays : (start : Told) (given : List Arrival) (old new : Told) (port : ℕ) (s : Stream) → new.rest s.reading.file ≡ old.rest s.reading.file → SourceStands start given old port s → SourceStands start given new port s
 source_stays start given old new port s same h = record {
   torn = subst (λ (r : Option (List ℕ)). IsTear (start.rest s.reading.file) (tear_left s r)) (sym same) h.torn;
   taken = subst (λ (r : Option (List ℕ)). IsTaken port given s (start.rest s.reading.file) r) (sym same) h.taken;

@@ -148,7 +148,7 @@ least_bad captures port f start old sources e none h = record {
 pub opens_bad : (captures : List ℕ) (port f : ℕ) (start old new : Told) (sources : List Stream) (fault : CapFault) (is : FeedFault) (now : Option (List ℕ)) → is ≡ fault_at port fault → slice_get captures port ≡ Some f
     → Opens f (old.rest f) now (Err fault) → AreOpenedSoFar captures port start sources old → AreOpened captures start new (Err is)
 opens_bad captures port f start old new sources NotCapture is now at e opens h = subst (λ (x : FeedFault). AreOpened captures start new (Err x)) (sym at) (least_bad captures port f start old sources e opens h)
-opens_bad captures port f start old new sources File is now at e opens h = subst (λ (x : FeedFault). AreOpened captures start new (Err x)) (sym at) tt
+opens_bad captures port f start old new sources File is now at e opens h = subst (λ (x : FeedFault). AreOpened captures start new (Err x)) (sym at) (lesser_are captures port f start old sources e h)
 opens_bad captures port f start old new sources Memory is now at e opens h = subst (λ (x : FeedFault). AreOpened captures start new (Err x)) (sym at) tt
 
 -- ---- a feed that gave nothing

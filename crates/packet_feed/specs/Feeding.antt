@@ -13,7 +13,7 @@ use Rattle.packet_feed.specs.Arrivals.{Arrival}
 use Rattle.packet_feed.specs.Order.{in_order}
 use Rattle.packet_feed.specs.Told.{IsTear, IsApart, packets_of}
 use Rattle.packet_feed.specs.Streams.{Stream, tear_in}
-use Rattle.packet_feed.specs.Sources.{files_in, counts_in, SourcesStand, AreFrom, IsLeastBad}
+use Rattle.packet_feed.specs.Sources.{files_in, counts_in, SourcesStand, AreFrom, AreLesserCaptures, IsLeastBad}
 
 -- The captures, the port of the packet that was given last, how many were given, and how many are
 -- asked for at most.
@@ -111,7 +111,7 @@ abbrev pub Starts : List ℕ → ℕ → Told → Told → Result Feeding FeedFa
 Starts files most start now (Ok v) =
     StandsFor start [] v now × (files_in v.sources ≡ files) × (v.most ≡ most)
 Starts files most start now (Err (NotCapture port)) = IsLeastBad files start port
-Starts files most start now (Err (File port)) = Unit {0}
+Starts files most start now (Err (File port)) = AreLesserCaptures files start port
 Starts files most start now (Err Memory) = Unit {0}
 
 -- the first port from one on whose capture is torn, and the offset

@@ -6,3 +6,4 @@ pub mod Streams
 pub mod Taken
 pub mod Sources
 pub mod Feeding
+pub mod Ports

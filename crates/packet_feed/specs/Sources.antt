@@ -93,19 +93,25 @@ sooner first port None = first
 sooner None port (Some time) = Some (record { port = port; time = time })
 sooner (Some f) port (Some time) = if nat_le f.time time then Some f else Some (record { port = port; time = time })
 
+-- the files of all lesser ports are captures
+abbrev pub AreLesserCaptures : List ℕ → Told → ℕ → Type 0
+AreLesserCaptures files start port =
+    (p f : ℕ) → p < port → slice_get files p ≡ Some f → IsCapture (start.rest f)
+
 -- what the port of a wrong header is: its file is no capture, and those of all lesser ports are
 pub record IsLeastBad (files : List ℕ) (start : Told) (port : ℕ) : Type 0 where
   pub file : ℕ
   pub at : slice_get files port ≡ Some file
   pub none : IsNoCapture (start.rest file)
-  pub lesser : (p f : ℕ) → p < port → slice_get files p ≡ Some f → IsCapture (start.rest f)
+  pub lesser : AreLesserCaptures files start port
 
--- The headers of captures were read, and nothing was given; or one is wrong.
+-- The headers of captures were read, and nothing was given; or one is wrong, or could not be read
+-- behind those of all lesser ports.
 abbrev pub AreOpened : List ℕ → Told → Told → Result (List Stream) FeedFault → Type 0
 AreOpened files start now (Ok sources) =
     SourcesStand start [] sources now × (files_in sources ≡ files) × (counts_in sources ≡ map (λ file. 0) files)
 AreOpened files start now (Err (feed.NotCapture port)) = IsLeastBad files start port
-AreOpened files start now (Err (feed.File port)) = Unit {0}
+AreOpened files start now (Err (feed.File port)) = AreLesserCaptures files start port
 AreOpened files start now (Err feed.Memory) = Unit {0}
 
 -- a stream whose record that was read ahead was given

@@ -1,5 +1,5 @@
 -- A capture that is read as a stream: what was given of it, what was read ahead, and what is left.
-use Rattle.std.specs.Prelude.{ℕ, ◌+◌, ◌≤◌, List, [], ◌∷◌, Option, Some, None, option_map}
+use Rattle.std.specs.Prelude.{ℕ, ◌+◌, ◌≤◌, Bool, true, false, List, [], ◌∷◌, Option, Some, None, option_map}
 use Rattle.pcap_file.specs.declared.form.Form.{Form}
 use Rattle.pcap_file.specs.Capture.{Capture}
 use Rattle.pcap_file.specs.Reading.{Reading, left_in}
@@ -67,6 +67,13 @@ time_in Unread latest = None
 time_in Held latest = Some latest
 time_in Ended latest = None
 time_in (Torn offset) latest = None
+
+-- whether a record was read ahead
+abbrev pub is_held : Ahead → Bool
+is_held Unread = false
+is_held Held = true
+is_held Ended = false
+is_held (Torn offset) = false
 
 -- What a capture still gives doesn't come before a time: so it is of the latest record that was read,
 -- unless no more are read.

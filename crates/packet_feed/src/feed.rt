@@ -1,5 +1,5 @@
 //! The packets of captures in capture order.
-ghost use Rattle.std.specs.Prelude.{◌≡◌, ◌^◌, ◌<◌, ◌≤◌, ◌+◌, ℕ, List, [], length, OnErr};
+ghost use Rattle.std.specs.Prelude.{◌≡◌, ◌^◌, ◌<◌, ◌≤◌, ◌+◌, ℕ, List, [], length, IfOk, OnErr};
 ghost use Rattle.nf_files.specs.Told.{Told};
 ghost use Rattle.pcap_file.specs.Record.{greatest_time};
 ghost use Rattle.packet_feed.specs.Arrivals.{Arrival};
@@ -9,12 +9,14 @@ ghost use Rattle.packet_feed.specs.Told.{EachFile, IsApart, KeepsOthers};
 ghost use Rattle.packet_feed.specs.Streams.{last_read};
 ghost use Rattle.packet_feed.specs.Sources.{files_in, AreFrom};
 ghost use Rattle.packet_feed.specs.Feeding.{StandsFor, Starts, Feeds, GoesFrom, Counts, frame_of, original_of, first_tear, tears_in};
+ghost use Rattle.packet_feed.specs.Ports.{StandsByPort, FeedsAt, CountsAt};
 
 use crate::fault::FeedFault;
 use crate::fed::Fed;
 use crate::first::earliest;
 use crate::source::Source;
-use crate::sources::{fill_all, give, open_all, torn};
+use crate::sources::{fill_all, fill_at, give, give_at, open_all, torn};
+use nf_base::packet::Packet;
 use nf_base::seq::Seq;
 use nf_files::Files;
 use std::alloc::Global;
@@ -66,8 +68,11 @@ impl Feed {
         requires apart { IsApart captures.now }
         requires ports { length captures.now ≤ 2 ^ 32 }
         // The feed stands for what the files hold, and for no packet; or this header is the first
-        // that is short or wrong.
+        // that is short or wrong, or could not be read behind those of all lesser ports.
         ensures starts { Starts captures.now most (F.told files.old) (F.told files.new) result }
+        // So it does where each port's packets are asked for by themselves.
+        ensures by_port { IfOk result (λ feed.
+            StandsByPort (F.told files.old) [] feed (F.told files.new)) }
         ensures kept { KeepsOthers captures.now (F.told files.old) (F.told files.new) }
         ensures cause { IsCause (F.counted files.old) (F.counted files.new) captures.now result }
         ensures reads { (g : ℕ) → F.is_read files.old g → F.is_read files.new g }
@@ -122,6 +127,47 @@ impl Feed {
                 self.shown = first.port;
                 self.given += 1;
                 Ok(Fed::Packet(packet))
+            }
+        }
+    }
+
+    /// The next packet of a port's capture, whatever comes before it in capture order; None exactly
+    /// where no whole record is left there.
+    ///
+    /// Of the other captures nothing is read. After an `Err` this feed may have moved, and no call is to
+    /// be made on it; a feed of which packets were given so is not asked for the next one of all.
+    pub fn next_at<F: Files>(
+        &mut self,
+        files: &mut F,
+        port: u32,
+    ) -> Result<Option<Packet>, FeedFault>
+        requires opened { EachFile (F.is_read files.old) (files_in self.old.sources) }
+        requires inside { port < length self.old.sources }
+        requires room { self.old.given < self.old.most }
+        // Whatever bytes and packets the feed stood for, it stands for the same bytes, and for this
+        // packet behind them; or they are all of this port.
+        ensures feeds { (start : Told) → (given : List Arrival) →
+            StandsByPort start given self.old (F.told files.old) →
+            FeedsAt port start given self.new (F.told files.new) result }
+        ensures counts { CountsAt port self.old self.new result }
+        ensures same_files { files_in self.new.sources ≡ files_in self.old.sources }
+        ensures same_most { self.new.most ≡ self.old.most }
+        ensures kept { let all = files_in self.old.sources in
+            KeepsOthers all (F.told files.old) (F.told files.new) }
+        ensures cause { let all = files_in self.old.sources in
+            IsCause (F.counted files.old) (F.counted files.new) all result }
+        ensures never { IsNoHeaderFault result }
+        ensures reads { (g : ℕ) → F.is_read files.old g → F.is_read files.new g }
+        ensures writes { (g : ℕ) → F.is_written files.old g → F.is_written files.new g }
+    {
+        let place = port as usize;
+        fill_at(&mut self.sources, files, place)?;
+        match give_at(&mut self.sources, place) {
+            None => Ok(None),
+            Some(packet) => {
+                self.shown = place;
+                self.given += 1;
+                Ok(Some(packet))
             }
         }
     }

@@ -5,7 +5,7 @@ ghost use Rattle.pcap_file.specs.Causes.{IsCause, IsNoHeaderFault};
 ghost use Rattle.pcap_file.specs.Record.{greatest_time};
 ghost use Rattle.packet_feed.specs.declared.ahead.Ahead.TheVariants.{Unread, Held};
 ghost use Rattle.packet_feed.specs.Arrivals.{arrival_of};
-ghost use Rattle.packet_feed.specs.Streams.{tear_in, time_in, last_read, IsFrom};
+ghost use Rattle.packet_feed.specs.Streams.{tear_in, time_in, is_held, last_read, IsFrom};
 ghost use Rattle.packet_feed.specs.Sources.{Opens, IsFilled};
 
 use crate::ahead::Ahead;
@@ -94,6 +94,16 @@ impl Source {
         match self.ahead {
             Ahead::Held => Some(self.latest),
             _ => None,
+        }
+    }
+
+    /// Whether a record was read ahead.
+    pub(crate) fn is_held(&self) -> bool
+        ensures { result ≡ is_held self.now.ahead }
+    {
+        match self.ahead {
+            Ahead::Held => true,
+            _ => false,
         }
     }
 

@@ -1,5 +1,5 @@
 //! Captures that are read side by side.
-ghost use Rattle.std.specs.Prelude.{◌≡◌, ◌-◌, ◌^◌, ◌<◌, ◌≤◌, ℕ, List, length, OnOk, Some};
+ghost use Rattle.std.specs.Prelude.{◌≡◌, ◌-◌, ◌^◌, ◌<◌, ◌≤◌, ℕ, List, length, OnOk, IfOk, Some, []};
 ghost use Rattle.std.specs.List.{All};
 ghost use Rattle.nf_files.specs.Told.{Told};
 ghost use Rattle.packet_feed.specs.Arrivals.{Arrival};
@@ -7,6 +7,7 @@ ghost use Rattle.packet_feed.specs.Faults.{IsCause, IsNoHeaderFault};
 ghost use Rattle.packet_feed.specs.Told.{EachFile, IsApart, KeepsOthers};
 ghost use Rattle.packet_feed.specs.Sources.{files_in, counts_in, SourcesStand, AreSettled, AreFrom, AreOpened, IsFirst, IsGiven};
 ghost use Rattle.packet_feed.specs.Feeding.{first_tear, tears_in};
+ghost use Rattle.packet_feed.specs.Ports.{SourcesStandByPort, IsSettledAt, IsGivenAt};
 
 use crate::fault::FeedFault;
 use crate::first::First;
@@ -26,6 +27,8 @@ pub(crate) fn open_all<F: Files>(
     requires apart { IsApart captures.now }
     requires ports { length captures.now ≤ 2 ^ 32 }
     ensures opens { AreOpened captures.now (F.told files.old) (F.told files.new) result }
+    ensures by_port { IfOk result (λ sources.
+        SourcesStandByPort (F.told files.old) [] sources (F.told files.new)) }
     ensures kept { KeepsOthers captures.now (F.told files.old) (F.told files.new) }
     ensures cause { IsCause (F.counted files.old) (F.counted files.new) captures.now result }
     ensures reads { (g : ℕ) → F.is_read files.old g → F.is_read files.new g }
@@ -80,6 +83,49 @@ pub(crate) fn give(sources: &mut Seq<Source>, first: First) -> Packet
     ensures { IsGiven first.port result sources.old sources.new }
 {
     sources.item_mut(first.port).give(first.port as u32)
+}
+
+/// Reads the next record of a port's capture, where it isn't known yet what comes next.
+pub(crate) fn fill_at<F: Files>(
+    sources: &mut Seq<Source>,
+    files: &mut F,
+    port: usize,
+) -> Result<(), FeedFault>
+    requires opened { EachFile (F.is_read files.old) (files_in sources.old) }
+    requires apart { IsApart (files_in sources.old) }
+    requires ports { length sources.old ≤ 2 ^ 32 }
+    requires inside { port < length sources.old }
+    ensures stand { (start : Told) → (given : List Arrival) →
+        SourcesStandByPort start given sources.old (F.told files.old) →
+        OnOk result (SourcesStandByPort start given sources.new (F.told files.new)) }
+    ensures settled { OnOk result (IsSettledAt port sources.new) }
+    ensures same_files { files_in sources.new ≡ files_in sources.old }
+    ensures same_counts { counts_in sources.new ≡ counts_in sources.old }
+    ensures kept { KeepsOthers (files_in sources.old) (F.told files.old) (F.told files.new) }
+    ensures cause { let all = files_in sources.old in
+        IsCause (F.counted files.old) (F.counted files.new) all result }
+    ensures never { IsNoHeaderFault result }
+    ensures reads { (g : ℕ) → F.is_read files.old g → F.is_read files.new g }
+    ensures writes { (g : ℕ) → F.is_written files.old g → F.is_written files.new g }
+{
+    match sources.item_mut(port).fill(files) {
+        Ok(()) => Ok(()),
+        Err(fault) => Err(FeedFault::at(port as u32, fault)),
+    }
+}
+
+/// Gives the packet that was read ahead of a port's capture; None where none was.
+pub(crate) fn give_at(sources: &mut Seq<Source>, port: usize) -> Option<Packet>
+    requires inside { port < length sources.old }
+    requires room { All (λ count. count < 2 ^ 32 - 1) (counts_in sources.old) }
+    requires ports { length sources.old ≤ 2 ^ 32 }
+    ensures { IsGivenAt port sources.old sources.new result }
+{
+    if sources.item(port).is_held() {
+        Some(sources.item_mut(port).give(port as u32))
+    } else {
+        None
+    }
 }
 
 /// The least port whose capture was found to be torn, and the offset of the torn record there.

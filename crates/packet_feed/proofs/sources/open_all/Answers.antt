@@ -4,6 +4,7 @@ use Rattle.std.proofs.lemmas.Option.{slice_get-get_or}
 use Rattle.packet_feed.specs.Streams.{Stream}
 use Rattle.packet_feed.proofs.Standing.{faulted_at}
 use Rattle.packet_feed.proofs.Starting.{AreOpenedSoFar, opened_more, opened_all, opens_bad}
+use Rattle.packet_feed.proofs.ByPort.{opened_by_port}
 use Rattle.packet_feed.proofs.sources.open_all.Goals as goal
 
 pub open-requires : goal.open-requires
@@ -55,3 +56,8 @@ returns-clause-opens g c =
       h.files ∙ take_all port all past,
       h.counts ∙ ap (map (λ (file : ℕ). 0)) (take_all port all past),
     )
+
+pub returns-clause-by_port : goal.returns-clause-by_port
+returns-clause-by_port g c =
+    let told = g.F.Files.told in
+    opened_by_port c.args.captures.now c.loop-port.port (told c.args.files.now) c.loop-port.sources (told c.loop-port.files) (omega arith) c.loop-port.invariant.opened
