@@ -1,6 +1,7 @@
 // Workers that work what waits for them, each in a thread of its own.
 ghost use Rattle.std.specs.Prelude.{◌≡◌, ◌≤◌, ◌<◌, ℕ, true, false, List, suc, length, Some, slice_get};
 ghost use Rattle.std.specs.Vec.{vec_len};
+ghost use denote.Param.Send.{IsSync};
 ghost use Rattle.nf_base.specs.Functions.{function_of};
 ghost use Rattle.shard_machine.specs.Machine.{Setup, Machine};
 ghost use Rattle.shard_core.specs.Held.{Held, WorkedTimes, first_id};
@@ -13,10 +14,10 @@ use nf_base::packet::PacketId;
 use shard_core::{Shards, Worker};
 use shard_machine::Worked;
 use std::thread;
-use std::thread::Threads;
+use std::thread::{Threads, join_mut};
 use worker_turns::Turns;
 
-/// Lets each worker work all that waits for it.
+/// Lets each worker work all that waits for it, in a thread of its own where one can be made.
 pub fn work_apart<R: Threads + Sync, G: Turns + Sync>(rt: &R, shards: &mut Shards, turns: &G)
     requires { IsWhole shards.old }
     ensures worked { (x : Setup) → (m : Machine) → StandsFor x m shards.old →
@@ -29,7 +30,49 @@ pub fn work_apart<R: Threads + Sync, G: Turns + Sync>(rt: &R, shards: &mut Shard
     shards.together(workers);
 }
 
-/// The same of workers alone, each in a thread of its own where one can be made. The others' work
+/// The same in other threads, where one can be made, while this one calls something else.
+pub fn work_beside<R: Threads + Sync, G: Turns + Sync, H: FnMut() -> B, B>(
+    rt: &R,
+    shards: &mut Shards,
+    turns: &G,
+    other: &mut H,
+) -> B
+    requires whole { IsWhole shards.old }
+    requires other { H.pre other.old }
+    ensures worked { (x : Setup) → (m : Machine) → StandsFor x m shards.old →
+        WorkedAll x m shards.new }
+    ensures left { length shards.new.queues.items ≡ length shards.old.queues.items }
+    ensures size { SameSize shards.old shards.new }
+    ensures other { H.step other.old result other.new }
+{
+    let mut workers = shards.apart();
+    let came = each_beside(rt, &mut workers, shards.func(), turns, other);
+    shards.together(workers);
+    came
+}
+
+/// The same of workers alone.
+fn each_beside<R: Threads + Sync, G: Turns + Sync, H: FnMut() -> B, B>(
+    rt: &R,
+    workers: &mut Vec<Worker>,
+    func: &Func,
+    turns: &G,
+    other: &mut H,
+) -> B
+    requires workers { AreWorkers func.now workers.old.items }
+    requires other { H.pre other.old }
+    ensures worked { AllWorkedThrough (function_of func.now) workers.old.items workers.new.items }
+    ensures other { H.step other.old result other.new }
+{
+    let mut work = ||
+        requires { IsSync R.row × IsSync G.row × AreWorkers func.now workers.now.items }
+        ensures { AllWorkedThrough (function_of func.entry.now) workers.entry.now.items workers.exit.now.items }
+    { work_each(rt, workers, func, turns) };
+    let (_, came) = join_mut(rt, &mut work, other);
+    came
+}
+
+/// Lets workers alone work all that waits for them, each in a thread of its own where one can be made. The others' work
 /// is done by the caller's thread.
 fn work_each<R: Threads + Sync, G: Turns + Sync>(
     rt: &R,

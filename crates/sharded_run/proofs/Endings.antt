@@ -17,20 +17,32 @@ use Rattle.stream_run.specs.Runs.{Handled}
 use Rattle.stream_run.specs.Writing.{Holding, AreFronts}
 use Rattle.stream_run.specs.Streaming.{arrival_of, AreFirst}
 use Rattle.sharded_run.specs.declared.came.Ended as ended
+use Rattle.sharded_run.specs.declared.came.Went as went
+use Rattle.stream_run.specs.declared.ending.Ending.{Ending}
 use Rattle.sharded_run.specs.declared.came.Ended.TheVariants.{Over, Full}
 use Rattle.sharded_run.specs.Sharded.{AreBefore}
-use Rattle.sharded_run.specs.Going.{Reaches, ReachesOn, Halts, EndsSo}
+use Rattle.sharded_run.specs.Going.{Awaits, GoesOn, Comes, Halts, EndsSo}
 use Rattle.sharded_run.proofs.Lined.{ran_of, worked_stand}
 
 -- what a round comes to, whatever was reached before it
-abbrev pub OnOf : (E : Type 0) → Func → ℕ → Feeding → Told → List Holding → Sharded → Feeding → Told → List Holding → Sharded → Result (Option ended.Ended) E → Type 0
-OnOf E func ports feed old sinks v next now left new result =
-    (keys : Keys) (workers : ℕ) (begun : Feeding) (start : Told) → 1 < workers → HashAlikeWhereTheyMeet (function_of func) keys → Reaches (function_of func) keys workers ports begun start feed old sinks v
-    → ReachesOn {E = E} (function_of func) keys workers ports begun start next now left new result
+abbrev pub WentOf : (E : Type 0) → Func → ℕ → Feeding → Told → List Holding → Sharded → List Arrival → Feeding → Told → List Holding → Sharded → List Arrival → Result went.Went E → Type 0
+WentOf E func ports feed old sinks v batch next now left new more result =
+    (keys : Keys) (workers : ℕ) (begun : Feeding) (start : Told) → 1 < workers → HashAlikeWhereTheyMeet (function_of func) keys → Awaits (function_of func) keys workers ports begun start feed old sinks v batch None
+    → GoesOn {E = E} (function_of func) keys workers ports begun start next now left new more result
 
-pub on_as : (E : Type 0) (func other : Func) (ports : ℕ) (feed : Feeding) (old : Told) (sinks : List Holding) (v : Sharded) (next : Feeding) (now : Told) (left : List Holding) (new : Sharded) (result : Result (Option ended.Ended) E) → func ≡ other
-    → OnOf E func ports feed old sinks v next now left new result → OnOf E other ports feed old sinks v next now left new result
-on_as E func other ports feed old sinks v next now left new result same h = subst (λ (fn : Func). OnOf E fn ports feed old sinks v next now left new result) same h
+pub went_as : (E : Type 0) (func other : Func) (ports : ℕ) (feed : Feeding) (old : Told) (sinks : List Holding) (v : Sharded) (batch : List Arrival) (next : Feeding) (now : Told) (left : List Holding) (new : Sharded) (more : List Arrival) (result : Result went.Went E) → func ≡ other
+    → WentOf E func ports feed old sinks v batch next now left new more result → WentOf E other ports feed old sinks v batch next now left new more result
+went_as E func other ports feed old sinks v batch next now left new more result same h = subst (λ (fn : Func). WentOf E fn ports feed old sinks v batch next now left new more result) same h
+
+-- what the last round comes to
+abbrev pub LastOf : (E : Type 0) → Func → ℕ → Feeding → Told → List Holding → Sharded → List Arrival → Ending → Told → List Holding → Sharded → Result ended.Ended E → Type 0
+LastOf E func ports feed old sinks v batch ending now left new result =
+    (keys : Keys) (workers : ℕ) (begun : Feeding) (start : Told) → 1 < workers → HashAlikeWhereTheyMeet (function_of func) keys → Awaits (function_of func) keys workers ports begun start feed old sinks v batch (Some ending)
+    → Comes {E = E} (function_of func) keys workers ports begun start feed now left new result
+
+pub last_as : (E : Type 0) (func other : Func) (ports : ℕ) (feed : Feeding) (old : Told) (sinks : List Holding) (v : Sharded) (batch : List Arrival) (ending : Ending) (now : Told) (left : List Holding) (new : Sharded) (result : Result ended.Ended E) → func ≡ other
+    → LastOf E func ports feed old sinks v batch ending now left new result → LastOf E other ports feed old sinks v batch ending now left new result
+last_as E func other ports feed old sinks v batch ending now left new result same h = subst (λ (fn : Func). LastOf E fn ports feed old sinks v batch ending now left new result) same h
 
 pub left_as : (f : Function) (keys : Keys) (workers : ℕ) (begun : Feeding) (start : Told) (feed : Feeding) (v : Sharded) (e : ended.Ended) (P Q : List Handled → Type 0) → ((hs : List Handled) → P hs → Q hs) → EndsSo f keys workers begun start feed v e P → EndsSo f keys workers begun start feed v e Q
 left_as f keys workers begun start feed v (Over ending) P Q more h = record {

@@ -1,5 +1,5 @@
 -- A run in mode `shard` that goes on round by round.
-use Rattle.std.specs.Prelude.{◌≡◌, ◌≤◌, ◌<◌, ℕ, List, [], length, map, slice_get, Option, Some, None, Result, Ok, Err}
+use Rattle.std.specs.Prelude.{◌≡◌, ◌+◌, ◌≤◌, ◌<◌, ℕ, List, [], length, map, slice_get, Option, Some, None, Result, Ok, Err}
 use Rattle.std.specs.List.{AllByRecursion}
 use Rattle.nf_base.specs.declared.keys.Keys.{Keys}
 use Rattle.nf_base.specs.declared.packet.Fields.{Fields}
@@ -10,6 +10,7 @@ use Rattle.nf_base.specs.Shares.{IsShareStop}
 use Rattle.nf_base.specs.Step.{opening}
 use Rattle.nf_files.specs.Told.{Told, IsToldAs}
 use Rattle.nf_sites.specs.Separation.{HasInput}
+use Rattle.packet_feed.specs.Arrivals.{Arrival, packet_of}
 use Rattle.packet_feed.specs.Told.{packets_of}
 use Rattle.packet_feed.specs.Sources.{files_in, AreFrom}
 use Rattle.packet_feed.specs.Feeding.{Feeding, StandsFor}
@@ -28,10 +29,12 @@ use Rattle.stream_run.specs.Writing.{Holding, files_of, AreHeld, AreFronts}
 use Rattle.stream_run.specs.Streaming.{IsUndivided, arrival_of, handling_in, AreFirst, IsEnding}
 use Rattle.sharded_run.specs.Setups.{queue_by, setup_of}
 use Rattle.sharded_run.specs.Sharded.{AreBefore}
-use Rattle.sharded_run.specs.Reading.{Rises}
+use Rattle.sharded_run.specs.Reading.{Rises, Fits, Gathers, IsOver}
 use Rattle.stream_run.specs.declared.ran.Ran.{Ran}
 use Rattle.sharded_run.specs.declared.came.Ended.{Ended}
 use Rattle.sharded_run.specs.declared.came.Ended.TheVariants.{Over, Full}
+use Rattle.sharded_run.specs.declared.came.Went.{Went}
+use Rattle.sharded_run.specs.declared.came.Went.TheVariants.{On, Met}
 
 -- a packet that was handled, as its worker answered
 abbrev pub answer_in : Handled → Answer
@@ -113,11 +116,29 @@ abbrev pub EndsSo : Function → Keys → ℕ → Feeding → Told → Feeding �
 EndsSo f keys workers begun start feed v (Over ending) Left = EndsWith f keys workers begun start feed v ending Left
 EndsSo f keys workers begun start feed v (Full full) Left = StopsWith f keys workers begun start full.stop full.packets Left
 
--- what a round comes to
-abbrev pub ReachesOn : {E : Type 0} → Function → Keys → ℕ → ℕ → Feeding → Told → Feeding → Told → List Holding → Sharded → Result (Option Ended) E → Type 0
-ReachesOn f keys workers ports begun start feed now sinks v (Ok None) = Reaches f keys workers ports begun start feed now sinks v
-ReachesOn f keys workers ports begun start feed now sinks v (Ok (Some ended)) = EndsSo f keys workers begun start feed v ended (λ hs. AreHeld Shard workers ports hs now sinks)
-ReachesOn f keys workers ports begun start feed now sinks v (Err stop) = Halts f keys workers ports begun start now (files_of sinks)
+-- behind the packets of a batch none is left, or as many were given as may be and one is left, where that
+-- is known
+abbrev pub IsOverIf : Option Ending → Feeding → Told → Feeding → List Arrival → Type 0
+IsOverIf None begun start feed batch = Unit {0}
+IsOverIf (Some ending) begun start feed batch = IsOver ending begun start feed batch
+
+-- What packets leave was given to the files but for what is held. Those of a batch were read behind them
+-- and are to be worked.
+pub record Awaits (f : Function) (keys : Keys) (workers ports : ℕ) (begun : Feeding) (start : Told) (feed : Feeding) (now : Told) (sinks : List Holding) (v : Sharded) (batch : List Arrival) (ending : Option Ending) : Type 0 where
+  pub before : Feeding
+  pub old : Told
+  pub read : Told
+  pub reached : Reaches f keys workers ports begun start before old sinks v
+  pub gathers : Gathers ports before feed old read batch
+  pub over : IsOverIf ending before old feed batch
+  pub rests : (g : ℕ) → now.rest g ≡ read.rest g
+  pub givens : (g : ℕ) → now.given g ≡ old.given g
+
+-- what a round comes to behind which packets are left
+abbrev pub GoesOn : {E : Type 0} → Function → Keys → ℕ → ℕ → Feeding → Told → Feeding → Told → List Holding → Sharded → List Arrival → Result Went E → Type 0
+GoesOn f keys workers ports begun start feed now sinks v next (Ok (On ending)) = Awaits f keys workers ports begun start feed now sinks v next ending
+GoesOn f keys workers ports begun start feed now sinks v next (Ok (Met full)) = StopsWith f keys workers begun start full.stop full.packets (λ hs. AreHeld Shard workers ports hs now sinks)
+GoesOn f keys workers ports begun start feed now sinks v next (Err stop) = Halts f keys workers ports begun start now (files_of sinks)
 
 -- what all rounds come to
 abbrev pub Comes : {E : Type 0} → Function → Keys → ℕ → ℕ → Feeding → Told → Feeding → Told → List Holding → Sharded → Result Ended E → Type 0
@@ -134,29 +155,34 @@ abbrev pub Flows : {E : Type 0} → Function → Keys → ℕ → ℕ → Feedin
 Flows f keys workers ports begun start feed now files v (Ok ended) = EndsSo f keys workers begun start feed v ended (AreWhole workers ports now files)
 Flows f keys workers ports begun start feed now files v (Err stop) = Halts f keys workers ports begun start now files
 
--- the rounds go on, and more packets were given than before
-abbrev pub GivesMore : {E : Type 0} → ℕ → ℕ → Result (Option Ended) E → Type 0
-GivesMore before now (Ok None) = before < now
-GivesMore before now (Ok (Some ended)) = Unit {0}
-GivesMore before now (Err stop) = Unit {0}
-
 -- the captures are the same, and no more packets were given than may be
 pub record StaysFed (old new : Feeding) : Type 0 where
   pub same_files : files_in new.sources ≡ files_in old.sources
   pub same_most : new.most ≡ old.most
   pub within : new.given ≤ new.most
 
+-- 1 where it isn't known that the captures end, else 0
+abbrev pub open_end : Option Ending → ℕ
+open_end None = 1
+open_end (Some ending) = 0
+
+-- These packets were read for the next round: more were given than before, or the captures end.
+pub record HasRead (ports : ℕ) (old new : Feeding) (batch : List Arrival) (ending : Option Ending) : Type 0 where
+  pub fed : StaysFed old new
+  pub fit : AllByRecursion (Fits ports) (map packet_of batch)
+  pub enough : length batch ≤ new.given
+  pub on : old.given + open_end ending ≤ new.given
+
 -- the rounds go on, and a fact holds
-abbrev pub IfOn : {E : Type 0} → Result (Option Ended) E → Type 0 → Type 0
-IfOn (Ok None) P = P
-IfOn (Ok (Some ended)) P = Unit {0}
+abbrev pub IfOn : {E : Type 0} → Result Went E → (Option Ending → Type 0) → Type 0
+IfOn (Ok (On ending)) P = P ending
+IfOn (Ok (Met full)) P = Unit {0}
 IfOn (Err stop) P = Unit {0}
 
--- how the rounds end behind one that met this stop or none, and in which captures ended so or not
-abbrev pub ended_by : Option Ending → Option Stop → ℕ → Option Ended
-ended_by ending (Some stop) packets = Some (Full (record { stop = stop; packets = packets }))
-ended_by (Some ending) None packets = Some (Over ending)
-ended_by None None packets = None
+-- how the rounds end with one that met this stop or none
+abbrev pub end_by : Ending → Option Stop → ℕ → Ended
+end_by ending (Some stop) packets = Full (record { stop = stop; packets = packets })
+end_by ending None packets = Over ending
 
 -- how a run ended whose last state is told
 pub record IsLast (f : Function) (keys : Keys) (workers : ℕ) (hs : List Handled) (ending : Ending) (packets : ℕ) (ran : Ran) : Type 0 where

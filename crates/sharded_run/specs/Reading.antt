@@ -9,6 +9,7 @@ use Rattle.packet_feed.specs.Arrivals.{Arrival, packet_of}
 use Rattle.packet_feed.specs.Told.{packets_of}
 use Rattle.packet_feed.specs.Sources.{files_in, AreFrom}
 use Rattle.packet_feed.specs.Feeding.{Feeding, StandsFor, AreAll, AreTorn, HasMore}
+use Rattle.stream_run.specs.Writing.{KeepsBut}
 use Rattle.stream_run.specs.declared.ending.Ending.{Ending}
 use Rattle.stream_run.specs.declared.ending.Ending.TheVariants.{All, TooMany}
 
@@ -16,6 +17,10 @@ use Rattle.stream_run.specs.declared.ending.Ending.TheVariants.{All, TooMany}
 abbrev pub Rises : ℕ → List Packet → ℕ → Type 0
 Rises time [] last = time ≤ last
 Rises time (p ∷ ps) last = (time ≤ p.time) × Rises p.time ps last
+
+-- nothing changed that is told of files, but how much of captures is read
+pub record OnlyRead (old new : Told) : Type 0 where
+  pub but : (targets : List ℕ) → KeepsBut targets old new
 
 -- a packet of one of so many ports, with fields within their widths
 pub record Fits (ports : ℕ) (packet : Packet) : Type 0 where

@@ -20,6 +20,16 @@ pub enum Ended {
     Full(ShareFull),
 }
 
+/// What a round came to behind which packets are left.
+#[derive(Clone, Copy, Debug, PartialEq, Eq)]
+pub(crate) enum Went {
+    /// All its packets were handled. Those of the next round were read, and so the captures end behind
+    /// them, if they do.
+    On(Option<Ending>),
+    /// A share has no index left at a packet, and those before it were handled.
+    Met(ShareFull),
+}
+
 /// What a run came to that no fault stopped.
 #[derive(Drop)]
 pub enum Came {

@@ -2,6 +2,7 @@
 //! queue, and what they leave is written round by round.
 #![tactic(auto)]
 
+mod beside;
 mod came;
 mod kept;
 pub mod laws;

@@ -1,75 +1,74 @@
 //! Round after round.
-ghost use Rattle.std.specs.Prelude.{◌≡◌, ◌^◌, ◌<◌, ◌≤◌, ℕ, length};
+ghost use Rattle.std.specs.Prelude.{◌≡◌, ◌^◌, ◌<◌, ◌≤◌, ℕ, [], Some, None, length, map};
+ghost use Rattle.std.specs.List.{AllByRecursion};
 ghost use Rattle.nf_base.specs.declared.keys.Keys as keys;
 ghost use Rattle.nf_base.specs.Functions.{function_of};
 ghost use Rattle.key_synth.specs.Laws.{HashAlikeWhereTheyMeet};
 ghost use Rattle.nf_files.specs.Told.{Told};
+ghost use Rattle.packet_feed.specs.Arrivals.{packet_of};
 ghost use Rattle.packet_feed.specs.Told.{EachFile, IsApart};
 ghost use Rattle.packet_feed.specs.Sources.{files_in};
 ghost use Rattle.packet_feed.specs.Feeding.{Feeding};
 ghost use Rattle.shard_core.specs.Plays.{SameSize};
 ghost use Rattle.stream_run.specs.Writing.{files_of, KeepsBut, IsStopCause, StopsAmong};
 ghost use Rattle.sharded_run.specs.Rounds.{AreIdle};
-ghost use Rattle.sharded_run.specs.Going.{Reaches, ReachesOn, Comes, GivesMore, StaysFed, IfOn, ended_by};
+ghost use Rattle.sharded_run.specs.Reading.{Fits};
+ghost use Rattle.sharded_run.specs.Going.{Reaches, Awaits, GoesOn, Comes, HasRead, IfOn, end_by};
 
-use crate::came::{Ended, ShareFull};
+use crate::beside::work_and_read;
+use crate::came::{Ended, ShareFull, Went};
 use crate::kept::Batch;
 use crate::reading::read_round;
-use crate::work::work_kept;
+use crate::work::{begin_kept, work_kept};
 use crate::writing::write_round;
 use nf_base::seq::Seq;
 use nf_files::Files;
 use packet_feed::Feed;
 use shard_core::Shards;
-use shard_rounds::Turns;
+use shard_rounds::{Turns, end_round};
 use std::alloc::Global;
+use std::mem;
 use std::thread::Threads;
 use stream_run::{Ending, Sink, Stop};
 
-// How the rounds end behind this one, if they do: a share stop comes before the end of the captures.
-fn ended(ending: Option<Ending>, stop: Option<shard_core::Stop>, packets: u32) -> Option<Ended>
-    ensures { result ≡ ended_by ending stop packets }
+// How the rounds end with one behind which no packet is left to be read: a share stop comes before the
+// end of the captures.
+fn ended(ending: Ending, stop: Option<shard_core::Stop>, packets: u32) -> Ended
+    ensures { result ≡ end_by ending stop packets }
 {
     match stop {
-        Some(stop) => Some(Ended::Full(ShareFull { stop, packets })),
-        None => match ending {
-            Some(ending) => Some(Ended::Over(ending)),
-            None => None,
-        },
+        Some(stop) => Ended::Full(ShareFull { stop, packets }),
+        None => Ended::Over(ending),
     }
 }
 
-// One round: packets are read into the room of those before and worked, and what they leave is put
-// into the files.
-fn one_round<R: Threads + Sync, F: Files, G: Turns + Sync>(
+// The last round: what was read is worked, and what it leaves is put into the files.
+fn last_round<R: Threads + Sync, F: Files, G: Turns + Sync>(
     rt: &R,
     alloc: Global,
     files: &mut F,
     shards: &mut Shards,
-    feed: &mut Feed,
+    feed: &Feed,
     captures: &[u32],
     sinks: &mut Seq<Sink>,
-    batch: &mut Batch,
+    batch: &Batch,
+    ending: Ending,
     turns: &G,
-) -> Result<Option<Ended>, Stop>
+) -> Result<Ended, Stop>
     requires idle { AreIdle shards.old }
-    requires within { feed.old.given ≤ feed.old.most }
-    requires captures { files_in feed.old.sources ≡ captures.now }
     requires ports { length captures.now ≡ length shards.old.func.handlers }
-    requires opened { EachFile (F.is_read files.old) captures.now }
     requires created { EachFile (F.is_written files.old) (files_of sinks.old) }
     requires apart { IsApart (files_of sinks.old) }
     requires few { length sinks.old ≤ 2 ^ 32 }
-    ensures on { let f = function_of shards.old.func in let ports = length captures.now in
+    requires fit { AllByRecursion (Fits (length captures.now)) (map packet_of batch.now) }
+    requires enough { length batch.now ≤ feed.now.given }
+    ensures comes { let f = function_of shards.old.func in let ports = length captures.now in
         (keys : keys.Keys) → (workers : ℕ) → (begun : Feeding) → (start : Told) →
         1 < workers → HashAlikeWhereTheyMeet f keys →
-        Reaches f keys workers ports begun start
-        feed.old (F.told files.old) sinks.old shards.old →
-        ReachesOn f keys workers ports begun start
-        feed.new (F.told files.new) sinks.new shards.new result }
-    ensures more { GivesMore feed.old.given feed.new.given result }
-    ensures idle { IfOn result (AreIdle shards.new) }
-    ensures fed { IfOn result (StaysFed feed.old feed.new) }
+        Awaits f keys workers ports begun start
+        feed.now (F.told files.old) sinks.old shards.old batch.now (Some ending) →
+        Comes f keys workers ports begun start
+        feed.now (F.told files.new) sinks.new shards.new result }
     ensures same { SameSize shards.old shards.new }
     ensures same_files { files_of sinks.new ≡ files_of sinks.old }
     ensures kept { KeepsBut (files_of sinks.old) (F.told files.old) (F.told files.new) }
@@ -78,11 +77,6 @@ fn one_round<R: Threads + Sync, F: Files, G: Turns + Sync>(
     ensures reads { (g : ℕ) → F.is_read files.old g → F.is_read files.new g }
     ensures writes { (g : ℕ) → F.is_written files.old g → F.is_written files.new g }
 {
-    batch.clear();
-    let ending = match read_round(alloc, files, feed, captures, batch) {
-        Ok(ending) => ending,
-        Err(stop) => return Err(stop),
-    };
     let round = match work_kept(rt, alloc, shards, batch, turns) {
         Ok(round) => round,
         Err(_) => return Err(Stop::Memory),
@@ -95,6 +89,136 @@ fn one_round<R: Threads + Sync, F: Files, G: Turns + Sync>(
     }
     let packets = feed.given() - (batch.len() - handled.len()) as u32;
     Ok(ended(ending, round.stop, packets))
+}
+
+// One round: what was read is worked while the packets of the next round are read, and what it leaves
+// is put into the files.
+fn one_round<R: Threads + Sync, F: Files, G: Turns + Sync>(
+    rt: &R,
+    alloc: Global,
+    files: &mut F,
+    shards: &mut Shards,
+    feed: &mut Feed,
+    captures: &[u32],
+    sinks: &mut Seq<Sink>,
+    batch: &Batch,
+    next: &mut Batch,
+    turns: &G,
+) -> Result<Went, Stop>
+    requires idle { AreIdle shards.old }
+    requires within { feed.old.given ≤ feed.old.most }
+    requires captures { files_in feed.old.sources ≡ captures.now }
+    requires ports { length captures.now ≡ length shards.old.func.handlers }
+    requires opened { EachFile (F.is_read files.old) captures.now }
+    requires created { EachFile (F.is_written files.old) (files_of sinks.old) }
+    requires apart { IsApart (files_of sinks.old) }
+    requires few { length sinks.old ≤ 2 ^ 32 }
+    requires fit { AllByRecursion (Fits (length captures.now)) (map packet_of batch.now) }
+    requires enough { length batch.now ≤ feed.old.given }
+    ensures on { let f = function_of shards.old.func in let ports = length captures.now in
+        (keys : keys.Keys) → (workers : ℕ) → (begun : Feeding) → (start : Told) →
+        1 < workers → HashAlikeWhereTheyMeet f keys →
+        Awaits f keys workers ports begun start
+        feed.old (F.told files.old) sinks.old shards.old batch.now None →
+        GoesOn f keys workers ports begun start
+        feed.new (F.told files.new) sinks.new shards.new next.new result }
+    ensures idle { IfOn result (λ _. AreIdle shards.new) }
+    ensures read { IfOn result (HasRead (length captures.now) feed.old feed.new next.new) }
+    ensures same { SameSize shards.old shards.new }
+    ensures same_files { files_of sinks.new ≡ files_of sinks.old }
+    ensures kept { KeepsBut (files_of sinks.old) (F.told files.old) (F.told files.new) }
+    ensures cause { IsStopCause (F.counted files.old) (F.counted files.new) result }
+    ensures among { StopsAmong captures.now (files_of sinks.old) result }
+    ensures reads { (g : ℕ) → F.is_read files.old g → F.is_read files.new g }
+    ensures writes { (g : ℕ) → F.is_written files.old g → F.is_written files.new g }
+{
+    let given = feed.given();
+    let got = match begin_kept(alloc, shards, batch) {
+        Ok(got) => got,
+        Err(_) => return Err(Stop::Memory),
+    };
+    next.clear();
+    let read = work_and_read(rt, alloc, shards, files, feed, captures, next, turns);
+    let round = end_round(shards, got);
+    let ending = match read {
+        Ok(ending) => ending,
+        Err(stop) => return Err(stop),
+    };
+    let ports = shards.func().handlers.len();
+    let handled = &round.handled;
+    match write_round(files, sinks, ports, batch, handled) {
+        Ok(()) => {}
+        Err(stop) => return Err(stop),
+    }
+    let stop = round.stop;
+    match stop {
+        Some(stop) => {
+            let packets = given - (batch.len() - handled.len()) as u32;
+            Ok(Went::Met(ShareFull { stop, packets }))
+        }
+        None => Ok(Went::On(ending)),
+    }
+}
+
+// Round after round, in the room of two batches.
+fn rounds_in<R: Threads + Sync, F: Files, G: Turns + Sync>(
+    rt: &R,
+    alloc: Global,
+    files: &mut F,
+    shards: &mut Shards,
+    feed: &mut Feed,
+    captures: &[u32],
+    sinks: &mut Seq<Sink>,
+    batch: &mut Batch,
+    next: &mut Batch,
+    turns: &G,
+) -> Result<Ended, Stop>
+    requires idle { AreIdle shards.old }
+    requires within { feed.old.given ≤ feed.old.most }
+    requires captures { files_in feed.old.sources ≡ captures.now }
+    requires ports { length captures.now ≡ length shards.old.func.handlers }
+    requires opened { EachFile (F.is_read files.old) captures.now }
+    requires created { EachFile (F.is_written files.old) (files_of sinks.old) }
+    requires apart { IsApart (files_of sinks.old) }
+    requires few { length sinks.old ≤ 2 ^ 32 }
+    requires empty { batch.old ≡ [] }
+    ensures comes { let f = function_of shards.old.func in let ports = length captures.now in
+        (keys : keys.Keys) → (workers : ℕ) → (begun : Feeding) → (start : Told) →
+        1 < workers → HashAlikeWhereTheyMeet f keys →
+        Reaches f keys workers ports begun start
+        feed.old (F.told files.old) sinks.old shards.old →
+        Comes f keys workers ports begun start
+        feed.new (F.told files.new) sinks.new shards.new result }
+    ensures same { SameSize shards.old shards.new }
+    ensures same_files { files_of sinks.new ≡ files_of sinks.old }
+    ensures kept { KeepsBut (files_of sinks.old) (F.told files.old) (F.told files.new) }
+    ensures cause { IsStopCause (F.counted files.old) (F.counted files.new) result }
+    ensures among { StopsAmong captures.now (files_of sinks.old) result }
+    ensures reads { (g : ℕ) → F.is_read files.old g → F.is_read files.new g }
+    ensures writes { (g : ℕ) → F.is_written files.old g → F.is_written files.new g }
+{
+    let mut ending = match read_round(alloc, files, feed, captures, batch) {
+        Ok(ending) => ending,
+        Err(stop) => return Err(stop),
+    };
+    'rounds: loop {
+        match ending {
+            Some(end) => return last_round(
+                rt, alloc, files, shards, feed, captures, sinks, batch, end, turns,
+            ),
+            None => {}
+        }
+        match one_round(
+            rt, alloc, files, shards, feed, captures, sinks, batch, next, turns,
+        ) {
+            Ok(Went::On(then)) => {
+                mem::swap(batch, next);
+                ending = then;
+            }
+            Ok(Went::Met(full)) => return Ok(Ended::Full(full)),
+            Err(stop) => return Err(stop),
+        }
+    }
 }
 
 /// Round after round, until no packet is left, as many were handled as may be, or a share has no index
@@ -133,13 +257,8 @@ pub(crate) fn all_rounds<R: Threads + Sync, F: Files, G: Turns + Sync>(
     ensures writes { (g : ℕ) → F.is_written files.old g → F.is_written files.new g }
 {
     let mut batch = Batch::new(alloc);
-    'rounds: loop {
-        match one_round(
-            rt, alloc, files, shards, feed, captures, sinks, &mut batch, turns,
-        ) {
-            Ok(None) => {}
-            Ok(Some(ended)) => return Ok(ended),
-            Err(stop) => return Err(stop),
-        }
-    }
+    let mut next = Batch::new(alloc);
+    rounds_in(
+        rt, alloc, files, shards, feed, captures, sinks, &mut batch, &mut next, turns,
+    )
 }

@@ -1,4 +1,5 @@
-use Rattle.std.proofs.Common.{◌≡◌, ◌<◌, ◌-◌, ◌+◌, ◌∙◌, ◌++◌, [], ℕ, length, map, Option, Ok, sym, ap, subst, arith}
+use Rattle.std.proofs.Common.{◌≡◌, ◌<◌, ◌-◌, ◌+◌, ◌∙◌, ◌++◌, [], ℕ, length, map, Option, None, sym, ap, subst, refl, arith}
+use Rattle.std.proofs.lemmas.List.{length-map}
 use Rattle.std.proofs.lemmas.List.Elements.{All-from_recursion, All-weaker}
 use Rattle.nf_base.specs.declared.func.Func.{Func}
 use Rattle.nf_base.specs.declared.packet.Packet.{Packet}
@@ -9,108 +10,171 @@ use Rattle.stream_run.specs.declared.ending.Ending.{Ending}
 use Rattle.stream_run.specs.declared.stop.Stop.{Stop}
 use Rattle.stream_run.specs.Writing.{files_of, AreHeld, AreFronts}
 use Rattle.stream_run.proofs.Held.{but_both}
-use Rattle.sharded_run.specs.declared.came.Ended.{Ended}
+use Rattle.sharded_run.specs.declared.came.Went.{Went}
 use Rattle.sharded_run.specs.Setups.{setup_of}
 use Rattle.sharded_run.specs.Reading.{Fits}
-use Rattle.sharded_run.specs.Rounds.{AreIdle, answered}
-use Rattle.sharded_run.specs.Going.{ReachesOn, IfOn}
-use Rattle.sharded_run.proofs.Reached.{rounded, halts_before, halts_writing}
-use Rattle.sharded_run.proofs.Rounding.{gathers_of, among_as, none_other, held_on, idle_on, on_again}
+use Rattle.sharded_run.specs.Rounds.{answered}
+use Rattle.shard_core.specs.declared.collected.Stop as stopping
+use Rattle.sharded_run.proofs.Reached.{Rounded, halts_writing, stops_with, fewer_got}
+use Rattle.sharded_run.proofs.Rounding.{among_as, none_other, idle_on, is_round, has_read, awaits_on, halts_waiting, rounded_of, held_waiting}
 use Rattle.sharded_run.proofs.rounds.one_round.Goals as goal
 
-pub returns-in-Err-clause-on : goal.returns-in-Err-clause-on
-returns-in-Err-clause-on g c = λ keys workers begun start several alike r.
-    let told = g.F.Files.told in
-    halts_before (function_of c.args.shards.now.func) keys workers (length c.args.captures.now) begun start c.args.feed.now (told c.args.files.now) (told c.read_round.new.files) c.args.sinks.now c.args.shards.now several alike r
-    (λ n. (c.read_round.ensures.kept []).givens n (none_other n))
-
-pub returns-in-Err-clause-kept : goal.returns-in-Err-clause-kept
-returns-in-Err-clause-kept g c = c.read_round.ensures.kept (files_of c.args.sinks.now)
-
-pub returns-in-Err-clause-among : goal.returns-in-Err-clause-among
-returns-in-Err-clause-among g c = among_as (Option Ending) (Option Ended) c.args.captures.now (files_of c.args.sinks.now) c.in-Err.stop (c.in-Err.ensures.among (files_of c.args.sinks.now))
-
-pub work_kept-requires-clause-ports : goal.work_kept-requires-clause-ports
-work_kept-requires-clause-ports g c = λ κs lives.
-    let told = g.F.Files.told in
+pub begin_kept-requires-clause-ports : goal.begin_kept-requires-clause-ports
+begin_kept-requires-clause-ports g c =
     let ports = length c.args.captures.now in
-    let batch = c.read_round.new.batch in
-    let gathers = gathers_of Stop 1024 ports c.args.feed.now (told c.args.files.now) c.read_round.new.feed (told c.read_round.new.files) batch c.in-Ok.ending c.in-Ok.ensures.reads_on in
-    All-weaker (Fits ports) (λ (p : Packet). p.id.port < length c.args.shards.now.func.handlers) (λ p h. omega (arith, h.port, c.requires.ports)) (map packet_of batch) (All-from_recursion (Fits ports) (map packet_of batch) gathers.fit)
+    let batch = c.args.batch.now in
+    All-weaker (Fits ports) (λ (p : Packet). p.id.port < length c.args.shards.now.func.handlers) (λ p h. omega (arith, h.port, c.requires.ports)) (map packet_of batch) (All-from_recursion (Fits ports) (map packet_of batch) c.requires.fit)
 
-pub returns-in-Err-work_kept-clause-on : goal.returns-in-Err-work_kept-clause-on
-returns-in-Err-work_kept-clause-on g c = λ keys workers begun start several alike r.
+pub returns-in-Err-clause-on : goal.returns-in-Err-clause-on
+returns-in-Err-clause-on g c = λ keys workers begun start several alike a.
     let told = g.F.Files.told in
-    halts_before (function_of c.args.shards.now.func) keys workers (length c.args.captures.now) begun start c.args.feed.now (told c.args.files.now) (told c.read_round.new.files) c.args.sinks.now c.args.shards.now several alike r
-    (λ n. (c.read_round.ensures.kept []).givens n (none_other n))
+    halts_waiting (function_of c.args.shards.now.func) keys workers (length c.args.captures.now) begun start c.args.feed.now (told c.args.files.now) (told c.args.files.now) c.args.sinks.now c.args.shards.now c.args.batch.now None several alike a (λ n. refl)
 
-pub returns-in-Err-work_kept-clause-kept : goal.returns-in-Err-work_kept-clause-kept
-returns-in-Err-work_kept-clause-kept g c = c.read_round.ensures.kept (files_of c.args.sinks.now)
+pub returns-in-Err-read-clause-on : goal.returns-in-Err-read-clause-on
+returns-in-Err-read-clause-on g c = λ keys workers begun start several alike a.
+    let told = g.F.Files.told in
+    halts_waiting (function_of c.args.shards.now.func) keys workers (length c.args.captures.now) begun start c.args.feed.now (told c.args.files.now) (told c.work_and_read-read.new.files) c.args.sinks.now c.args.shards.now c.args.batch.now None several alike a
+    (λ n. (c.work_and_read-read.ensures.kept.but []).givens n (none_other n))
+
+pub returns-in-Err-read-clause-kept : goal.returns-in-Err-read-clause-kept
+returns-in-Err-read-clause-kept g c = c.work_and_read-read.ensures.kept.but (files_of c.args.sinks.now)
+
+pub returns-in-Err-read-clause-among : goal.returns-in-Err-read-clause-among
+returns-in-Err-read-clause-among g c = among_as (Option Ending) Went c.args.captures.now (files_of c.args.sinks.now) c.in-Err-read.stop (c.in-Err-read.ensures.among (files_of c.args.sinks.now))
+
+pub write_round-requires-clause-handled : goal.write_round-requires-clause-handled
+write_round-requires-clause-handled g c =
+    let i = c.requires.idle in
+    let batch = c.args.batch.now in
+    let v = c.args.shards.now in
+    let round = c.end_round-round.result in
+    let new = c.end_round-round.new.shards in
+    let ran = c.end_round-round.ensures.ran i.setup i.at (map packet_of batch) v i.stands (c.work_and_read-read.ensures.worked i.setup _ (c.in-Ok.ensures.given i.setup i.at i.stands)) in
+    omega (arith, fewer_got i.setup i.at (map packet_of batch) round.handled round.stop new i.sent (is_round i.setup i.at (map packet_of batch) round new ran), length-map batch packet_of)
 
 pub returns-in-Err-write_round-clause-on : goal.returns-in-Err-write_round-clause-on
-returns-in-Err-write_round-clause-on g c = λ keys workers begun start several alike r.
+returns-in-Err-write_round-clause-on g c = λ keys workers begun start several alike a.
     let told = g.F.Files.told in
     let f = function_of c.args.shards.now.func in
     let ports = length c.args.captures.now in
     let feed = c.args.feed.now in
-    let next = c.read_round.new.feed in
+    let next = c.work_and_read-read.new.feed in
     let old = told c.args.files.now in
-    let read = told c.read_round.new.files in
+    let mid = told c.work_and_read-read.new.files in
     let now = told c.write_round.new.files in
-    let batch = c.read_round.new.batch in
-    let round = c.in-Ok-work_kept.round in
+    let batch = c.args.batch.now in
+    let round = c.end_round-round.result in
     let sinks = c.args.sinks.now in
     let v = c.args.shards.now in
-    let new = c.work_kept.new.shards in
-    let gathers = gathers_of Stop 1024 ports feed old next read batch c.in-Ok.ending c.in-Ok.ensures.reads_on in
-    let rd = rounded f keys workers ports begun start feed next old read sinks batch round.handled round.stop v new r gathers (c.in-Ok-work_kept.ensures.round (setup_of f keys workers r.worked.share) r.worked.at r.worked.stands) in
-    let held = held_on workers ports r.hs old read sinks (λ n. (c.read_round.ensures.kept []).givens n (none_other n)) r.held in
-    let same : ports ≡ c.len-ports.result = c.requires.ports ∙ sym (c.len-ports.ensures.value ∙ ap (λ (fn : Func). length fn.handlers) (c.func.ensures ∙ c.work_kept.ensures.same.func)) in
+    let new = c.end_round-round.new.shards in
+    let hs = a.reached.hs in
+    let x = setup_of f keys workers a.reached.worked.share in
+    let m = a.reached.worked.at in
+    let stands = a.reached.worked.stands in
+    let ran = c.end_round-round.ensures.ran x m (map packet_of batch) v stands (c.work_and_read-read.ensures.worked x _ (c.in-Ok.ensures.given x m stands)) in
+    let rd = rounded_of f keys workers ports begun start feed old sinks batch None round.handled round.stop v new a (is_round x m (map packet_of batch) round new ran) in
+    let held = held_waiting f keys workers ports begun start feed old mid sinks batch None v a (λ n. (c.work_and_read-read.ensures.kept.but []).givens n (none_other n)) in
+    let same : ports ≡ c.len-ports.result = c.requires.ports ∙ sym (c.len-ports.ensures.value ∙ ap (λ (fn : Func). length fn.handlers) (c.func.ensures ∙ (c.end_round-round.ensures.size.func ∙ c.work_and_read-read.ensures.size.func ∙ c.begin_kept.ensures.same.func))) in
     let files = files_of c.write_round.new.sinks in
-    halts_writing f keys workers ports begun start next read now batch round.handled round.stop files new r.hs several alike rd
-    (subst (λ (n : ℕ). AreFronts Shard workers n (r.hs ++ answered batch round.handled) now files) (sym same)
-    (c.in-Err-write_round.ensures.goes_on Shard workers r.hs (subst (λ (n : ℕ). AreHeld Shard workers n r.hs read sinks) same held)))
+    halts_writing f keys workers ports begun start feed a.read now batch round.handled round.stop files new hs several alike rd
+    (subst (λ (n : ℕ). AreFronts Shard workers n (hs ++ answered batch round.handled) now files) (sym same)
+    (c.in-Err-write_round.ensures.goes_on Shard workers hs (subst (λ (n : ℕ). AreHeld Shard workers n hs mid sinks) same held)))
 
 pub returns-in-Err-write_round-clause-kept : goal.returns-in-Err-write_round-clause-kept
 returns-in-Err-write_round-clause-kept g c =
     let told = g.F.Files.told in
-    but_both (files_of c.args.sinks.now) (told c.args.files.now) (told c.read_round.new.files) (told c.write_round.new.files) (c.read_round.ensures.kept (files_of c.args.sinks.now)) c.write_round.ensures.kept
+    but_both (files_of c.args.sinks.now) (told c.args.files.now) (told c.work_and_read-read.new.files) (told c.write_round.new.files) (c.work_and_read-read.ensures.kept.but (files_of c.args.sinks.now)) c.write_round.ensures.kept
+
+pub returns-in-Some-clause-kept : goal.returns-in-Some-clause-kept
+returns-in-Some-clause-kept g c =
+    let told = g.F.Files.told in
+    but_both (files_of c.args.sinks.now) (told c.args.files.now) (told c.work_and_read-read.new.files) (told c.write_round.new.files) (c.work_and_read-read.ensures.kept.but (files_of c.args.sinks.now)) c.write_round.ensures.kept
 
 pub returns-clause-kept : goal.returns-clause-kept
 returns-clause-kept g c =
     let told = g.F.Files.told in
-    but_both (files_of c.args.sinks.now) (told c.args.files.now) (told c.read_round.new.files) (told c.write_round.new.files) (c.read_round.ensures.kept (files_of c.args.sinks.now)) c.write_round.ensures.kept
+    but_both (files_of c.args.sinks.now) (told c.args.files.now) (told c.work_and_read-read.new.files) (told c.write_round.new.files) (c.work_and_read-read.ensures.kept.but (files_of c.args.sinks.now)) c.write_round.ensures.kept
 
 pub returns-clause-idle : goal.returns-clause-idle
 returns-clause-idle g c =
     let i = c.requires.idle in
-    let round = c.in-Ok-work_kept.round in
-    let packets = c.given.result - (c.len.result - c.len-2.result) in
-    subst (λ (o : Option Ended). IfOn {E = Stop} (Ok o) (AreIdle c.work_kept.new.shards)) (sym c.ended.ensures)
-    (idle_on Stop c.args.shards.now c.work_kept.new.shards i c.read_round.new.batch round.handled c.in-Ok.ending round.stop packets (c.in-Ok-work_kept.ensures.round i.setup i.at i.stands))
+    let batch = c.args.batch.now in
+    let v = c.args.shards.now in
+    let round = c.end_round-round.result in
+    let new = c.end_round-round.new.shards in
+    let ran = c.end_round-round.ensures.ran i.setup i.at (map packet_of batch) v i.stands (c.work_and_read-read.ensures.worked i.setup _ (c.in-Ok.ensures.given i.setup i.at i.stands)) in
+    idle_on v new i batch round.handled round.stop (is_round i.setup i.at (map packet_of batch) round new ran) c.in-None.is
+
+pub returns-clause-read : goal.returns-clause-read
+returns-clause-read g c =
+    let told = g.F.Files.told in
+    has_read Stop (length c.args.captures.now) c.args.feed.now (told c.args.files.now) c.work_and_read-read.new.feed (told c.work_and_read-read.new.files) c.work_and_read-read.new.batch c.in-Ok-read.ending c.requires.within c.in-Ok-read.ensures.reads_on
 
 pub returns-clause-on : goal.returns-clause-on
-returns-clause-on g c = λ keys workers begun start several alike r.
+returns-clause-on g c = λ keys workers begun start several alike a.
     let told = g.F.Files.told in
     let f = function_of c.args.shards.now.func in
     let ports = length c.args.captures.now in
     let feed = c.args.feed.now in
-    let next = c.read_round.new.feed in
+    let next = c.work_and_read-read.new.feed in
     let old = told c.args.files.now in
-    let read = told c.read_round.new.files in
+    let mid = told c.work_and_read-read.new.files in
     let now = told c.write_round.new.files in
-    let batch = c.read_round.new.batch in
-    let round = c.in-Ok-work_kept.round in
+    let batch = c.args.batch.now in
+    let round = c.end_round-round.result in
     let sinks = c.args.sinks.now in
     let v = c.args.shards.now in
-    let new = c.work_kept.new.shards in
-    let packets = c.given.result - (c.len.result - c.len-2.result) in
-    let gathers = gathers_of Stop 1024 ports feed old next read batch c.in-Ok.ending c.in-Ok.ensures.reads_on in
-    let rd = rounded f keys workers ports begun start feed next old read sinks batch round.handled round.stop v new r gathers (c.in-Ok-work_kept.ensures.round (setup_of f keys workers r.worked.share) r.worked.at r.worked.stands) in
-    let held = held_on workers ports r.hs old read sinks (λ n. (c.read_round.ensures.kept []).givens n (none_other n)) r.held in
-    let same : ports ≡ c.len-ports.result = c.requires.ports ∙ sym (c.len-ports.ensures.value ∙ ap (λ (fn : Func). length fn.handlers) (c.func.ensures ∙ c.work_kept.ensures.same.func)) in
-    let counted : packets + length batch ≡ next.given + length round.handled = omega (arith, c.given.ensures, c.len.ensures, c.len-2.ensures, c.in-Ok-work_kept.ensures.fewer, gathers.count) in
-    subst (λ (o : Option Ended). ReachesOn {E = Stop} f keys workers ports begun start next now c.write_round.new.sinks new (Ok o)) (sym c.ended.ensures)
-    (on_again Stop f keys workers ports begun start feed next old read now batch round.handled c.in-Ok.ending round.stop packets c.write_round.new.sinks new r.hs several alike rd c.in-Ok.ensures.reads_on r.given c.write_round.ensures.rests counted
-    (subst (λ (n : ℕ). AreHeld Shard workers n (r.hs ++ answered batch round.handled) now c.write_round.new.sinks) (sym same)
-    (c.in-Ok-write_round.ensures.goes_on Shard workers r.hs (subst (λ (n : ℕ). AreHeld Shard workers n r.hs read sinks) same held))))
+    let new = c.end_round-round.new.shards in
+    let hs = a.reached.hs in
+    let x = setup_of f keys workers a.reached.worked.share in
+    let m = a.reached.worked.at in
+    let stands = a.reached.worked.stands in
+    let ran = c.end_round-round.ensures.ran x m (map packet_of batch) v stands (c.work_and_read-read.ensures.worked x _ (c.in-Ok.ensures.given x m stands)) in
+    let rd = rounded_of f keys workers ports begun start feed old sinks batch None round.handled round.stop v new a (is_round x m (map packet_of batch) round new ran) in
+    let held = held_waiting f keys workers ports begun start feed old mid sinks batch None v a (λ n. (c.work_and_read-read.ensures.kept.but []).givens n (none_other n)) in
+    let same : ports ≡ c.len-ports.result = c.requires.ports ∙ sym (c.len-ports.ensures.value ∙ ap (λ (fn : Func). length fn.handlers) (c.func.ensures ∙ (c.end_round-round.ensures.size.func ∙ c.work_and_read-read.ensures.size.func ∙ c.begin_kept.ensures.same.func))) in
+    awaits_on Stop f keys workers ports begun start feed next a.read old mid now batch c.work_and_read-read.new.batch round.handled c.in-Ok-read.ending c.write_round.new.sinks new hs
+    (subst (λ (s : Option stopping.Stop). Rounded f keys workers ports begun start feed a.read batch round.handled s new hs) c.in-None.is rd) a.rests c.in-Ok-read.ensures.reads_on c.write_round.ensures.rests
+    (subst (λ (n : ℕ). AreHeld Shard workers n (hs ++ answered batch round.handled) now c.write_round.new.sinks) (sym same)
+    (c.in-Ok-write_round.ensures.goes_on Shard workers hs (subst (λ (n : ℕ). AreHeld Shard workers n hs mid sinks) same held)))
+
+pub overflow_sub-packets : goal.overflow_sub-packets
+overflow_sub-packets g c =
+    let i = c.requires.idle in
+    let batch = c.args.batch.now in
+    let v = c.args.shards.now in
+    let round = c.end_round-round.result in
+    let new = c.end_round-round.new.shards in
+    let ran = c.end_round-round.ensures.ran i.setup i.at (map packet_of batch) v i.stands (c.work_and_read-read.ensures.worked i.setup _ (c.in-Ok.ensures.given i.setup i.at i.stands)) in
+    omega (arith, c.len.ensures, c.len-in-Some.ensures, fewer_got i.setup i.at (map packet_of batch) round.handled round.stop new i.sent (is_round i.setup i.at (map packet_of batch) round new ran), length-map batch packet_of)
+
+pub returns-in-Some-clause-on : goal.returns-in-Some-clause-on
+returns-in-Some-clause-on g c = λ keys workers begun start several alike a.
+    let told = g.F.Files.told in
+    let f = function_of c.args.shards.now.func in
+    let ports = length c.args.captures.now in
+    let feed = c.args.feed.now in
+    let next = c.work_and_read-read.new.feed in
+    let old = told c.args.files.now in
+    let mid = told c.work_and_read-read.new.files in
+    let now = told c.write_round.new.files in
+    let batch = c.args.batch.now in
+    let round = c.end_round-round.result in
+    let sinks = c.args.sinks.now in
+    let v = c.args.shards.now in
+    let new = c.end_round-round.new.shards in
+    let hs = a.reached.hs in
+    let x = setup_of f keys workers a.reached.worked.share in
+    let m = a.reached.worked.at in
+    let stands = a.reached.worked.stands in
+    let ran = c.end_round-round.ensures.ran x m (map packet_of batch) v stands (c.work_and_read-read.ensures.worked x _ (c.in-Ok.ensures.given x m stands)) in
+    let rd = rounded_of f keys workers ports begun start feed old sinks batch None round.handled round.stop v new a (is_round x m (map packet_of batch) round new ran) in
+    let held = held_waiting f keys workers ports begun start feed old mid sinks batch None v a (λ n. (c.work_and_read-read.ensures.kept.but []).givens n (none_other n)) in
+    let same : ports ≡ c.len-ports.result = c.requires.ports ∙ sym (c.len-ports.ensures.value ∙ ap (λ (fn : Func). length fn.handlers) (c.func.ensures ∙ (c.end_round-round.ensures.size.func ∙ c.work_and_read-read.ensures.size.func ∙ c.begin_kept.ensures.same.func))) in
+    let packets = c.given-given.result - (c.len.result - c.len-in-Some.result) in
+    let i = c.requires.idle in
+    let counted : packets + length batch ≡ feed.given + length round.handled = omega (arith, c.given-given.ensures, c.len.ensures, c.len-in-Some.ensures, c.requires.enough, fewer_got x m (map packet_of batch) round.handled round.stop new a.reached.worked.sent (is_round x m (map packet_of batch) round new ran), length-map batch packet_of) in
+    stops_with f keys workers ports begun start feed a.read now batch round.handled c.in-Some.stop packets c.write_round.new.sinks new hs several alike
+    (subst (λ (s : Option stopping.Stop). Rounded f keys workers ports begun start feed a.read batch round.handled s new hs) c.in-Some.is rd) counted
+    (subst (λ (n : ℕ). AreHeld Shard workers n (hs ++ answered batch round.handled) now c.write_round.new.sinks) (sym same)
+    (c.in-Ok-write_round.ensures.goes_on Shard workers hs (subst (λ (n : ℕ). AreHeld Shard workers n hs mid sinks) same held)))

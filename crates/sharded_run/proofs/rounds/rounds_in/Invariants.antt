@@ -1,17 +1,20 @@
-use Rattle.std.proofs.Common.{◌≡◌, ◌<◌, ◌≤◌, ◌-◌, ℕ, length}
+use Rattle.std.proofs.Common.{◌≡◌, ◌<◌, ◌≤◌, ◌-◌, ◌+◌, ℕ, length, map}
+use Rattle.std.specs.List.{AllByRecursion}
 use Rattle.nf_base.specs.declared.keys.Keys.{Keys}
 use Rattle.nf_base.specs.Functions.{function_of}
 use Rattle.nf_files.specs.Told.{Told}
 use Rattle.key_synth.specs.Laws.{HashAlikeWhereTheyMeet}
+use Rattle.packet_feed.specs.Arrivals.{packet_of}
 use Rattle.packet_feed.specs.Sources.{files_in}
 use Rattle.packet_feed.specs.Feeding.{Feeding}
 use Rattle.shard_core.specs.Plays.{SameSize}
 use Rattle.stream_run.specs.Writing.{files_of, KeepsBut}
+use Rattle.sharded_run.specs.Reading.{Fits}
 use Rattle.sharded_run.specs.Rounds.{AreIdle}
-use Rattle.sharded_run.specs.Going.{Reaches}
-use Rattle.sharded_run.proofs.rounds.all_rounds.Given as goal
+use Rattle.sharded_run.specs.Going.{Reaches, Awaits, open_end}
+use Rattle.sharded_run.proofs.rounds.rounds_in.Given as goal
 
--- whatever was reached before the rounds, more is reached by those so far
+-- whatever was reached before the rounds, more is reached by those so far, and a batch was read behind it
 abbrev pub invariant-rounds : goal.invariant-rounds
 invariant-rounds g l =
     let told = g.F.Files.told in
@@ -19,11 +22,12 @@ invariant-rounds g l =
     let ports = length l.captures in
     record {
       on : (keys : Keys) (workers : ℕ) (begun : Feeding) (start : Told) → 1 < workers → HashAlikeWhereTheyMeet f keys
-          → Reaches f keys workers ports begun start l.fn.feed (told l.fn.files) l.fn.sinks l.fn.shards → Reaches f keys workers ports begun start l.feed (told l.files) l.sinks l.shards;
+          → Reaches f keys workers ports begun start l.fn.feed (told l.fn.files) l.fn.sinks l.fn.shards → Awaits f keys workers ports begun start l.feed (told l.files) l.sinks l.shards l.batch l.ending;
       idle : AreIdle l.shards;
       captures : files_in l.feed.sources ≡ l.captures;
       within : l.feed.given ≤ l.feed.most;
-      most : l.feed.most ≡ l.fn.feed.most;
+      fit : AllByRecursion (Fits ports) (map packet_of l.batch);
+      enough : length l.batch ≤ l.feed.given;
       same : SameSize l.fn.shards l.shards;
       same_files : files_of l.sinks ≡ files_of l.fn.sinks;
       kept : KeepsBut (files_of l.fn.sinks) (told l.fn.files) (told l.files);
@@ -33,4 +37,4 @@ invariant-rounds g l =
     }
 
 abbrev pub decreases-rounds : goal.decreases-rounds
-decreases-rounds g l = l.feed.most - l.feed.given
+decreases-rounds g l = l.feed.most - l.feed.given + open_end l.ending
