@@ -1,5 +1,5 @@
 -- What is right is taken for right, and for nothing else.
-use Rattle.std.proofs.Common.{◌≡◌, ◌≢◌, ℕ, List, [], ◌∷◌, ◌++◌, length, map, Option, Some, None, Ok, option_and_then, refl, sym, ap, ◌∙◌, subst, append_assoc, append-nil, arith}
+use Rattle.std.proofs.Common.{◌≡◌, ◌≢◌, ℕ, ◌%◌, inl, inr, List, [], ◌∷◌, ◌++◌, length, map, Option, Some, None, Ok, option_and_then, refl, sym, ap, ◌∙◌, subst, append_assoc, append-nil, arith}
 use Rattle.std.specs.List.{AllByRecursion}
 use Rattle.std.proofs.lemmas.List.{map-append, length-map, length-append, append_cancel_left}
 use Rattle.std.proofs.lemmas.Option.{same_Some}
@@ -12,11 +12,8 @@ use Rattle.nf_base.specs.Step.{opening}
 use Rattle.nf_base.specs.Runs.{Handling, RunResult, run}
 use Rattle.nf_laws.specs.Runs.{with_answers}
 use Rattle.nf_laws.proofs.Parted.{runs_part, answer_each}
-use Rattle.nf_files.specs.Told.{Told}
 use Rattle.packet_feed.specs.Arrivals.{Arrival}
-use Rattle.packet_feed.specs.Order.{in_order}
-use Rattle.packet_feed.specs.Feeding.{Feeding}
-use Rattle.run_history.specs.Headings.{Heading}
+use Rattle.run_history.specs.Headings.{Heading, IsHeading}
 use Rattle.run_history.specs.Line.{line_bytes}
 use Rattle.run_history.specs.Lines.{IsLine}
 use Rattle.run_history.specs.declared.line.Mode.{Mode}
@@ -25,15 +22,18 @@ use Rattle.run_history.specs.declared.line.JournalLine.{JournalLine}
 use Rattle.run_history.specs.declared.line.JournalLine.TheVariants.{Header}
 use Rattle.run_history.specs.declared.line.JournalLine.TheVariants as line
 use Rattle.file_match.specs.Comparing.{IsOtherIfTold}
-use Rattle.journal_read.specs.Journals.{Reading, lines_bytes, AreAllLines, AreMoreLines}
+use Rattle.journal_read.specs.Journals.{lines_bytes, AreAllLines, AreMoreLines}
 use Rattle.journal_read.proofs.Firsts.{same_line, line_some}
 use Rattle.shard_laws.specs.Queues.{Throughout}
 use Rattle.shard_laws.specs.Rule.{KeepsRule, KeepShareRule}
 use Rattle.sharded_run.specs.Setups.{queue_by}
 use Rattle.stream_run.specs.Runs.{Handled}
-use Rattle.stream_run.specs.Streaming.{arrival_of, handling_in, result_in, IsUndivided, AreFirst}
+use Rattle.stream_run.specs.Streaming.{arrival_of, handling_in, result_in, IsUndivided}
 use Rattle.stream_run.specs.declared.stop.Stop.{Stop}
-use Rattle.replay_run.specs.Replaying.{line_in, journal_lines, packets_at, sent, IsRun, IsRunBy, NoneGoesOn, BeginsWith, IsWrong, IsRight, IsJournal, Replays}
+use Rattle.replay_run.specs.Replaying.{RunKind, Beside, line_in, journal_lines, sent, IsRun, IsRunBy, AreFirstIn, NoneGoesOn, BeginsWith, IsWrong, IsRight, IsJournal, Replays}
+use Rattle.replay_run.specs.Queues.{keys_or_none}
+use Rattle.replay_run.specs.Heads.{HasNoHeaderFor, IsHeaded, Comes}
+use Rattle.replay_run.proofs.Ports.{same_front, first_front, same_packets}
 use Rattle.replay_run.specs.Laws.{IsThere, RightIsAccepted}
 use Rattle.replay_run.specs.declared.replayed.Replayed.{Replayed}
 use Rattle.replay_run.specs.declared.replayed.Replayed.TheVariants.{Same, TooMany, Line, Output}
@@ -78,15 +78,6 @@ divided (h ∷ hs) (k ∷ ks) more e =
       fronts = ap (λ (l : JournalLine). l ∷ map line_in d.front) first ∙ ap (λ (t : List JournalLine). line_in k ∷ t) d.fronts;
       laters = d.laters;
     }
-
-same_front : {A : Type 0} (xs ys vs ws : List A) → length xs ≡ length ys → xs ++ vs ≡ ys ++ ws → xs ≡ ys
-same_front [] [] vs ws n e = refl
-same_front [] (y ∷ ys) vs ws n e = absurd (omega (arith, n))
-same_front (x ∷ xs) [] vs ws n e = absurd (omega (arith, n))
-same_front {A = A} (x ∷ xs) (y ∷ ys) vs ws n e =
-    let first : x ≡ y = cc in
-    let rest : xs ++ vs ≡ ys ++ ws = cc in
-    ap (λ (z : A). z ∷ xs) first ∙ ap (λ (t : List A). y ∷ t) (same_front xs ys vs ws (omega (arith, n)) rest)
 
 -- ---- one list of packets
 
@@ -188,7 +179,7 @@ run_front f keys heading xs ys s r = of_mode heading.mode r
                 (subst (KeepShareRule r.share (queue_by keys heading.workers) f (opening f)) (map-append handling_in xs ys) r.rule);
           },
         )
-    of_mode Lock r = absurd r
+    of_mode Lock r = let u = undivided_front f xs ys s r.undivided in (u.0, record { undivided = u.1; own = all_front (λ (h : Handled). h.worker ≡ h.arrival.packet.id.port % heading.workers) xs ys r.own })
 
 pub run_undivided : (f : Function) (keys : Keys) (heading : Heading) (hs : List Handled) (s : State) → IsRun f keys heading hs s → IsUndivided f hs s
 run_undivided f keys heading hs s r = of_mode heading.mode r
@@ -196,7 +187,7 @@ run_undivided f keys heading hs s r = of_mode heading.mode r
     of_mode : (mode : Mode) → IsRunBy mode heading.workers f keys hs s → IsUndivided f hs s
     of_mode One r = r.undivided
     of_mode Shard r = r.undivided
-    of_mode Lock r = absurd r
+    of_mode Lock r = r.undivided
 
 -- ---- what stands behind right lines
 
@@ -210,24 +201,25 @@ lines_behind : (xs ys : List JournalLine) → AllByRecursion IsLine (xs ++ ys) �
 lines_behind [] ys h = h
 lines_behind (x ∷ xs) ys h = lines_behind xs ys h.1
 
-module _ (f : Function) (keys : Keys) (heading : Heading) (ports : ℕ) (feed : Feeding) (journal : Reading) (outputs : List ℕ) (now : Told) (hs : List Handled) (state : State) (there : IsThere (IsRun f keys heading) heading ports feed journal outputs now hs state) where
+module _ (f : Function) (keys : Option Keys) (heading : Heading) (ports : ℕ) (beside : Beside) (hs : List Handled) (state : State) (there : IsThere (IsRun f (keys_or_none keys) heading) keys heading ports beside hs state) where
+  abbrev Kind : RunKind
+  Kind = IsRun f (keys_or_none keys) heading
+
   abbrev whole_bytes : List Handled → List ℕ
   whole_bytes xs = lines_bytes (journal_lines heading xs)
 
-  behind : (ks : List Handled) (t : State) (rest : List ℕ) → IsRight (IsRun f keys heading) heading feed journal now ks t → whole_bytes hs ≡ whole_bytes ks ++ rest → Behind hs ks rest
+  behind : (ks : List Handled) (t : State) (rest : List ℕ) → IsRight Kind heading beside ks t → whole_bytes hs ≡ whole_bytes ks ++ rest → Behind hs ks rest
   behind ks t rest right e =
-      let b = there.begins in
-      let more = longer (journal_lines heading hs) (journal_lines heading ks) rest (there.header, there.lines) (there.header, right.lines there.start b) e in
+      let more = longer (journal_lines heading hs) (journal_lines heading ks) rest (there.header, there.lines) (there.header, right.lines) e in
       let told : map line_in hs ≡ map line_in ks ++ more.more = cc in
       let d = divided hs ks more.more told in
-      let ran = run_front f keys heading d.front d.later state (subst (λ (xs : List Handled). IsRun f keys heading xs state) d.is there.run) in
-      let long : length d.front ≡ length ks = sym (length-map d.front line_in) ∙ ap (λ (ls : List JournalLine). length ls) d.fronts ∙ length-map ks line_in in
-      let first = there.first in
-      let others : AreFirst (Some there.all) (map arrival_of ks) = subst (λ (o : Option (List Arrival)). AreFirst o (map arrival_of ks)) there.captures (right.first there.start b) in
-      let both : map arrival_of d.front ++ (map arrival_of d.later ++ first.0) ≡ map arrival_of ks ++ others.0 =
-      sym (append_assoc (map arrival_of d.front) (map arrival_of d.later) first.0) ∙ ap (λ (xs : List Arrival). xs ++ first.0) (sym (map-append arrival_of d.front d.later) ∙ ap (map arrival_of) (sym d.is)) ∙ sym first.1 ∙ others.1 in
-      let arrivals = same_front (map arrival_of d.front) (map arrival_of ks) (map arrival_of d.later ++ first.0) others.0 (length-map d.front arrival_of ∙ long ∙ sym (length-map ks arrival_of)) both in
-      let one = same_runs f d.front ks ran.0 t (run_undivided f keys heading d.front ran.0 ran.1) (run_undivided f keys heading ks t right.run) arrivals d.fronts in
+      let ran = run_front f (keys_or_none keys) heading d.front d.later state (subst (λ (xs : List Handled). Kind xs state) d.is there.run) in
+      let others : AreFirstIn heading.mode (Some there.all) (map arrival_of ks) = subst (λ (o : Option (List Arrival)). AreFirstIn heading.mode o (map arrival_of ks)) there.captures right.first in
+      let mine : AreFirstIn heading.mode (Some there.all) (map arrival_of d.front) =
+      first_front heading.mode there.all (map arrival_of d.front) (map arrival_of d.later)
+      (subst (AreFirstIn heading.mode (Some there.all)) (ap (map arrival_of) d.is ∙ map-append arrival_of d.front d.later) there.first) in
+      let arrivals = same_packets heading.mode there.all d.front ks d.fronts mine others in
+      let one = same_runs f d.front ks ran.0 t (run_undivided f (keys_or_none keys) heading d.front ran.0 ran.1) (run_undivided f (keys_or_none keys) heading ks t right.run) arrivals d.fronts in
       record {
         later = d.later;
         is = d.is ∙ ap (λ (xs : List Handled). xs ++ d.later) one.list;
@@ -240,45 +232,78 @@ module _ (f : Function) (keys : Keys) (heading : Heading) (ports : ℕ) (feed : 
   none_behind ks [] e none lines = e ∙ append-nil ks
   none_behind ks (h ∷ later) e none lines = absurd (line_some (line_in h) (lines_bytes (map line_in later)) lines.0 none)
 
-  all_of : (ks : List Handled) (t : State) → IsJournal (IsRun f keys heading) heading feed journal now ks t → hs ≡ ks
+  all_of : (ks : List Handled) (t : State) → IsJournal Kind heading beside ks t → hs ≡ ks
   all_of ks t j =
-      let told = subst (λ (o : Option (List ℕ)). AreAllLines o (journal_lines heading ks)) there.journal_is (j.whole there.start there.begins) in
+      let told = subst (λ (o : Option (List ℕ)). AreAllLines o (journal_lines heading ks)) there.journal_is j.whole in
       let b = behind ks t [] j.right (told ∙ sym (append-nil (whole_bytes ks))) in
       none_behind ks b.later b.is b.bytes b.lines
 
-  not_more : (ks later : List Handled) (rest : List ℕ) → hs ≡ ks ++ later → lines_bytes (map line_in later) ≡ rest → rest ≢ [] → length ks ≡ feed.most → ⊥
+  not_more : (ks later : List Handled) (rest : List ℕ) → hs ≡ ks ++ later → lines_bytes (map line_in later) ≡ rest → rest ≢ [] → length ks ≡ beside.most → ⊥
   not_more ks [] rest e bytes some count = some (sym bytes)
   not_more ks (h ∷ later) rest e bytes some count = absurd (omega (arith, there.within, count, ap (λ (xs : List Handled). length xs) e, length-append ks (h ∷ later)))
 
-  goes_on : (ks later : List Handled) (rest : List ℕ) → hs ≡ ks ++ later → lines_bytes (map line_in later) ≡ rest → rest ≢ [] → AllByRecursion IsLine (map line_in later) → NoneGoesOn (IsRun f keys heading) (Some there.all) ks (BeginsWith rest) → ⊥
+  goes_on : (ks later : List Handled) (rest : List ℕ) → hs ≡ ks ++ later → lines_bytes (map line_in later) ≡ rest → rest ≢ [] → AllByRecursion IsLine (map line_in later) → NoneGoesOn Kind heading.mode (Some there.all) ks (BeginsWith rest) → ⊥
   goes_on ks [] rest e bytes some lines none = some (sym bytes)
   goes_on ks (h ∷ later) rest e bytes some lines none =
       let on : hs ≡ (ks ++ h ∷ []) ++ later = e ∙ sym (append_assoc ks (h ∷ []) later) in
-      let ran = run_front f keys heading (ks ++ h ∷ []) later state (subst (λ (xs : List Handled). IsRun f keys heading xs state) on there.run) in
-      let first = there.first in
-      let next : in_order there.all ≡ map arrival_of (ks ++ h ∷ []) ++ (map arrival_of later ++ first.0) =
-      first.1 ∙ ap (λ (xs : List Arrival). xs ++ first.0) (ap (map arrival_of) on ∙ map-append arrival_of (ks ++ h ∷ []) later) ∙ append_assoc (map arrival_of (ks ++ h ∷ [])) (map arrival_of later) first.0 in
-      none h ran.0 (lines.0, (lines_bytes (map line_in later), bytes)) (map arrival_of later ++ first.0, next) ran.1
+      let ran = run_front f (keys_or_none keys) heading (ks ++ h ∷ []) later state (subst (λ (xs : List Handled). Kind xs state) on there.run) in
+      let first : AreFirstIn heading.mode (Some there.all) (map arrival_of (ks ++ h ∷ [])) =
+      first_front heading.mode there.all (map arrival_of (ks ++ h ∷ [])) (map arrival_of later)
+      (subst (AreFirstIn heading.mode (Some there.all)) (ap (map arrival_of) on ∙ map-append arrival_of (ks ++ h ∷ []) later) there.first) in
+      none h ran.0 (lines.0, (lines_bytes (map line_in later), bytes)) first ran.1
 
-  pub accepted : (came : Replayed) → Replays {E = Stop} (IsRun f keys heading) heading ports feed journal outputs now (Ok came) → came ≡ Same state
+  pub accepted : (came : Replayed) → Replays {E = Stop} Kind heading ports beside (Ok came) → came ≡ Same state
   accepted (Same s) r =
       let all = all_of r.hs s r.journal_is in
-      let one = same_runs f hs r.hs state s (run_undivided f keys heading hs state there.run) (run_undivided f keys heading r.hs s r.journal_is.right.run) (ap (map arrival_of) all) (ap (map line_in) all) in
+      let one = same_runs f hs r.hs state s (run_undivided f (keys_or_none keys) heading hs state there.run) (run_undivided f (keys_or_none keys) heading r.hs s r.journal_is.right.run) (ap (map arrival_of) all) (ap (map line_in) all) in
       ap Same (sym one.state)
   accepted TooMany r =
-      let more = subst (λ (o : Option (List ℕ)). AreMoreLines o (journal_lines heading r.hs)) there.journal_is (r.more there.start there.begins) in
+      let more = subst (λ (o : Option (List ℕ)). AreMoreLines o (journal_lines heading r.hs)) there.journal_is r.more in
       let b = behind r.hs r.state more.rest r.right more.behind in
       absurd (not_more r.hs b.later more.rest b.is b.bytes more.some r.count)
   accepted (Line n) r =
-      let wrong = subst (λ (o : Option (List Arrival)). IsWrong (IsRun f keys heading) heading o r.hs (Some (whole_bytes hs))) there.captures
-      (subst (λ (o : Option (List ℕ)). IsWrong (IsRun f keys heading) heading (packets_at feed there.start) r.hs o) there.journal_is (r.wrong there.start there.begins)) in
+      let wrong = subst (λ (o : Option (List Arrival)). IsWrong Kind heading o r.hs (Some (whole_bytes hs))) there.captures
+      (subst (λ (o : Option (List ℕ)). IsWrong Kind heading beside.packets r.hs o) there.journal_is r.wrong) in
       let b = behind r.hs r.state wrong.rest r.right wrong.behind in
       absurd (goes_on r.hs b.later wrong.rest b.is b.bytes wrong.some b.lines wrong.none)
   accepted (Output port) r =
       let all = all_of r.hs r.state r.journal_is in
-      let file = r.other.file in
-      let other = subst (λ (o : Option (List ℕ)). IsOtherIfTold (sent heading ports r.hs port) o) (there.outputs_are port file r.other.at) r.other.other in
+      let other = subst (λ (o : Option (List ℕ)). IsOtherIfTold (sent heading ports r.hs port) o) (there.outputs_are port r.other.inside) r.other.other in
       absurd (other (ap (λ (xs : List Handled). sent heading ports xs port) all))
 
+  -- the first line is the one that stands there
+  same_first : (other : Heading) (rest : List ℕ) → IsHeading other → whole_bytes hs ≡ line_bytes (Header other) ++ rest → other ≡ heading
+  same_first other rest is e =
+      let same : Header other ≡ Header heading = same_line (Header other) (Header heading) rest (lines_bytes (map line_in hs)) is there.header (sym e) in
+      cc
+
+  first_of : (other : Heading) (came : Replayed) → IsHeading other → Replays {E = Stop} (IsRun f (keys_or_none keys) other) other ports beside (Ok came) → other ≡ heading
+  first_of other (Same s) is r =
+      let told = subst (λ (o : Option (List ℕ)). AreAllLines o (journal_lines other r.hs)) there.journal_is r.journal_is.whole in
+      same_first other (lines_bytes (map line_in r.hs)) is told
+  first_of other TooMany is r =
+      let more = subst (λ (o : Option (List ℕ)). AreMoreLines o (journal_lines other r.hs)) there.journal_is r.more in
+      same_first other (lines_bytes (map line_in r.hs) ++ more.rest) is (more.behind ∙ append_assoc (line_bytes (Header other)) (lines_bytes (map line_in r.hs)) more.rest)
+  first_of other (Line n) is r =
+      let wrong = subst (λ (o : Option (List ℕ)). IsWrong (IsRun f (keys_or_none keys) other) other beside.packets r.hs o) there.journal_is r.wrong in
+      same_first other (lines_bytes (map line_in r.hs) ++ wrong.rest) is (wrong.behind ∙ append_assoc (line_bytes (Header other)) (lines_bytes (map line_in r.hs)) wrong.rest)
+  first_of other (Output port) is r =
+      let told = subst (λ (o : Option (List ℕ)). AreAllLines o (journal_lines other r.hs)) there.journal_is r.journal_is.whole in
+      same_first other (lines_bytes (map line_in r.hs)) is told
+
+  headed_accepted : (came : Replayed) → IsHeaded f keys ports beside came → came ≡ Same state
+  headed_accepted came h =
+      let same : h.heading ≡ heading = first_of h.heading came h.is_heading h.replays in
+      accepted came (subst (λ (x : Heading). Replays {E = Stop} (IsRun f (keys_or_none keys) x) x ports beside (Ok came)) same h.replays)
+
+  pub all_accepted : (came : Replayed) → Comes {E = Stop} f keys ports beside (Ok came) → came ≡ Same state
+  all_accepted (Same s) h = headed_accepted (Same s) h
+  all_accepted TooMany h = headed_accepted TooMany h
+  all_accepted (Output port) h = headed_accepted (Output port) h
+  all_accepted (Line n) (inr h) = headed_accepted (Line n) h
+  all_accepted (Line n) (inl h) =
+      let none = subst (HasNoHeaderFor keys) there.journal_is h.none in
+      absurd (none heading (lines_bytes (map line_in hs)) there.header there.keyed refl)
+
 pub right_accepted : RightIsAccepted
-right_accepted f keys heading ports feed journal outputs now hs state came there r = accepted f keys heading ports feed journal outputs now hs state there came r
+right_accepted f keys heading ports beside hs state came there r = all_accepted f keys heading ports beside hs state there came r

@@ -7,6 +7,8 @@ use Rattle.nf_files.specs.Told.{Told}
 use Rattle.nf_files.specs.Reads.{Keeps}
 use Rattle.packet_feed.specs.Told.{KeepsOthers}
 use Rattle.packet_feed.specs.Feeding.{Feeding, StandsFor}
+use Rattle.packet_feed.specs.Ports.{StandsByPort}
+use Rattle.packet_feed.proofs.ByPort.{by_port_among}
 use Rattle.packet_feed.specs.Arrivals.{Arrival}
 use Rattle.packet_feed.specs.Streams.{Stream}
 use Rattle.packet_feed.specs.Sources.{files_in}
@@ -70,6 +72,12 @@ pub stands_while : (start : Told) (given : List Arrival) (feed : Feeding) (old n
 stands_while start given feed old new same h = record {
   count = h.count;
   sources = stands_among start given feed.sources old new (λ (port : ℕ) (s : Stream) e. same port s.reading.file (standing.file_at feed.sources port s e)) h.sources;
+}
+
+pub by_port_while : (start : Told) (given : List Arrival) (feed : Feeding) (old new : Told) → ((port f : ℕ) → slice_get (files_in feed.sources) port ≡ Some f → new.rest f ≡ old.rest f) → StandsByPort start given feed old → StandsByPort start given feed new
+by_port_while start given feed old new same h = record {
+  count = h.count;
+  sources = by_port_among start given feed.sources old new (λ (port : ℕ) (s : Stream) e. same port s.reading.file (standing.file_at feed.sources port s e)) h.sources;
 }
 
 -- ---- which file failed

@@ -1,5 +1,5 @@
 -- What a run leaves is right, and what is taken for a run is one.
-use Rattle.std.proofs.Common.{◌≡◌, ℕ, List, [], ◌∷◌, ◌++◌, length, map, Some, refl, sym, ap, ◌∙◌, subst, arith}
+use Rattle.std.proofs.Common.{◌≡◌, ℕ, ◌%◌, List, [], ◌∷◌, ◌++◌, length, map, Some, refl, sym, ap, ◌∙◌, subst, arith}
 use Rattle.std.specs.List.{AllByRecursion, flat_map}
 use Rattle.std.proofs.lemmas.List.{length-map}
 use Rattle.nf_base.specs.declared.done.Done.{Done}
@@ -21,9 +21,9 @@ use Rattle.stream_run.proofs.Going.{handled_is, are_turns}
 use Rattle.stream_run.proofs.Complete.{same_handlings, same_arrivals, ran_of}
 use Rattle.stream_run.specs.Lawful.{AreTheFirst}
 use Rattle.run_history.specs.declared.line.Mode.{Mode}
-use Rattle.run_history.specs.declared.line.Mode.TheVariants.{One, Shard}
+use Rattle.run_history.specs.declared.line.Mode.TheVariants.{One, Shard, Lock}
 use Rattle.stream_run.proofs.Bytes.{are_lines}
-use Rattle.replay_run.specs.Laws.{heading_of, OneRunsAreRight, ShardRunsAreRight, TakenAreOneRuns, TakenAreShardRuns}
+use Rattle.replay_run.specs.Laws.{heading_of, OneRunsAreRight, ShardRunsAreRight, LockRunsAreRight, TakenAreOneRuns, TakenAreShardRuns, TakenAreLockRuns}
 use Rattle.replay_run.specs.Replaying.{line_in, journal_lines}
 
 dones_of : (ts : List Turn) (ds : List Done) → length ds ≡ length ts → map (λ (h : Handled). h.done) (paired ts ds) ≡ ds
@@ -86,6 +86,18 @@ shard_right f keys workers r state answers is e =
       outputs = λ port. refl;
     }
 
+pub lock_right : LockRunsAreRight
+lock_right f workers r state answers is e =
+    let legal : IsLegal r = record { result = record { state = state; answers = answers }; ran = e } in
+    record {
+      is_run = record {
+        undivided = undivided_of f r state answers is.function e;
+        own = each_of (λ (t : Turn). t.worker ≡ t.arrival.packet.id.port % workers) r legal is.own;
+      };
+      journal = journal_is r;
+      outputs = λ port. refl;
+    }
+
 -- ---- and the other way
 
 paired_again : (hs : List Handled) → paired (map turn_of hs) (map (λ (h : Handled). h.done) hs) ≡ hs
@@ -126,4 +138,15 @@ taken_shard f keys workers hs state s = (
     rule = subst (KeepShareRule s.share (queue_by keys workers) f (opening f)) (sym (same_handlings hs)) s.rule;
   },
   handled_of f Shard workers hs state s.undivided,
+)
+
+pub taken_lock : TakenAreLockRuns
+taken_lock f workers hs state s = (
+  record {
+    function = refl;
+    mode = refl;
+    workers_are = refl;
+    own = turns_of (λ (t : Turn). t.worker ≡ t.arrival.packet.id.port % workers) hs s.own;
+  },
+  handled_of f Lock workers hs state s.undivided,
 )

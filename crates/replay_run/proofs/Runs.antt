@@ -33,7 +33,7 @@ use Rattle.sharded_run.specs.Setups.{queue_by}
 use Rattle.sharded_run.specs.Going.{AreSharded}
 use Rattle.sharded_run.proofs.Begun.{queue_below}
 use Rattle.replay_run.specs.Queues.{queue_in, keys_in, IsKeyed}
-use Rattle.replay_run.specs.Replaying.{line_in, journal_lines, IsOneRun, IsRun, IsRunBy}
+use Rattle.replay_run.specs.Replaying.{line_in, journal_lines, IsOneRun, AreShared, IsRun, IsRunBy}
 use Rattle.std.proofs.Common.{Bor}
 
 -- ---- a run and one packet more
@@ -141,6 +141,17 @@ one_none f state opens = record { undivided = ap (λ (s : State). Some (result_i
 one_more : (f : Function) (hs : List Handled) (h : Handled) (old new : State) → h.worker ≡ 0 → IsOneRun f hs old → step f old h.arrival.packet h.done.picks ≡ Some (record { state = new; done = h.done }) → IsOneRun f (hs ++ h ∷ []) new
 one_more f hs h old new worker r steps = record { undivided = undivided_more f hs h old new r.undivided steps; alone = all_more (λ (x : Handled). x.worker ≡ 0) hs h r.alone worker }
 
+-- ---- runs of workers that share the tables
+
+pub shared_none : (f : Function) (workers : ℕ) (state : State) → state ≡ opening f → AreShared f workers [] state
+shared_none f workers state opens = record { undivided = ap (λ (s : State). Some (result_in [] s)) (sym opens); own = tt }
+
+pub shared_more : (f : Function) (workers : ℕ) (hs : List Handled) (h : Handled) (old new : State) → h.worker ≡ h.arrival.packet.id.port % workers → AreShared f workers hs old → step f old h.arrival.packet h.done.picks ≡ Some (record { state = new; done = h.done }) → AreShared f workers (hs ++ h ∷ []) new
+shared_more f workers hs h old new worker r steps = record {
+  undivided = undivided_more f hs h old new r.undivided steps;
+  own = all_more (λ (x : Handled). x.worker ≡ x.arrival.packet.id.port % workers) hs h r.own worker;
+}
+
 -- ---- runs of workers with shares
 
 pub sharded_none : (f : Function) (keys : Keys) (workers : ℕ) (state : State) → 0 < workers → workers ≤ 16 → state ≡ opening f → AreSharded f keys workers [] state
@@ -192,7 +203,7 @@ goes_on f keys heading hs old new p original frame done some keyed steps r = of_
     of_mode One ks keyed ruled run = one_more f hs (by One ks) old new refl run steps.steps
     of_mode Shard None keyed ruled run = absurd keyed
     of_mode Shard (Some ks) keyed ruled run = sharded_more f ks.now heading.workers some hs (by Shard (Some ks)) old new refl run ruled steps.steps
-    of_mode Lock ks keyed ruled run = absurd run
+    of_mode Lock ks keyed ruled run = shared_more f heading.workers hs (by Lock ks) old new refl run steps.steps
 
 -- what one packet more of a run is: it has its step, and its line is told by that
 pub record IsLastOf (f : Function) (heading : Heading) (queue : ℕ) (old : State) (h : Handled) : Type 0 where
@@ -223,7 +234,11 @@ last_goes f keys heading hs h old s some keyed r more = of_mode heading.mode key
       steps = record { ruled = sharded_last f ks.now heading.workers some hs h old s run longer; steps = undivided_last f hs h old s run.undivided longer.undivided };
       told = told Shard (queue_by ks.now heading.workers p) (last_of (λ (x : Handled). x.worker ≡ queue_by ks.now heading.workers x.arrival.packet) hs h longer.queues);
     }
-    of_mode Lock ks keyed run longer = absurd run
+    of_mode Lock ks keyed run longer = record {
+      next = record { state = s; done = h.done };
+      steps = record { ruled = tt; steps = undivided_last f hs h old s run.undivided longer.undivided };
+      told = told Lock (queue_in ks heading.workers p) (last_of (λ (x : Handled). x.worker ≡ x.arrival.packet.id.port % heading.workers) hs h longer.own);
+    }
 
 -- the packet that comes next has no such line
 pub no_next : (f : Function) (keys : Option (Bor Keys)) (heading : Heading) (hs : List Handled) (old : State) (p : Packet) (l : JournalLine) → 0 < heading.workers → IsKeyed heading.mode keys → IsRun f (keys_in keys) heading hs old
@@ -243,11 +258,7 @@ begins_so f keys heading state is some keyed opens = of_mode heading.mode keys k
     of_mode One ks keyed = one_none f state opens
     of_mode Shard None keyed = absurd keyed
     of_mode Shard (Some ks) keyed = sharded_none f ks.now heading.workers state some is.most opens
-    of_mode Lock ks keyed = absurd (no_lock ks keyed)
-      where
-        no_lock : (ks : Option (Bor Keys)) → IsKeyed Lock ks → ⊥
-        no_lock None keyed = keyed
-        no_lock (Some ks) keyed = keyed
+    of_mode Lock ks keyed = shared_none f heading.workers state opens
 
 -- ---- which packet comes next
 

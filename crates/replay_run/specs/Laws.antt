@@ -1,5 +1,5 @@
 -- What a run leaves is what a replay takes for right.
-use Rattle.std.specs.Prelude.{◌≡◌, ◌≤◌, ℕ, List, length, map, slice_get, Option, Some, Ok}
+use Rattle.std.specs.Prelude.{◌≡◌, ◌≢◌, ◌%◌, ◌<◌, ◌≤◌, ℕ, List, [], ◌∷◌, length, map, Option, Some, Ok}
 use Rattle.std.specs.List.{AllByRecursion}
 use Rattle.nf_base.specs.declared.keys.Keys.{Keys}
 use Rattle.nf_base.specs.declared.done.Done.{Done}
@@ -7,19 +7,22 @@ use Rattle.nf_base.specs.declared.state.State.{State}
 use Rattle.nf_base.specs.Text.{Function}
 use Rattle.nf_files.specs.Told.{Told}
 use Rattle.packet_feed.specs.Arrivals.{Arrival}
-use Rattle.packet_feed.specs.Feeding.{Feeding}
+use Rattle.packet_feed.specs.Told.{packets_of}
+use Rattle.packet_feed.specs.Ports.{AreFirstOfPorts}
 use Rattle.run_history.specs.Headings.{Heading, IsHeading}
 use Rattle.run_history.specs.Lines.{IsLine}
-use Rattle.run_history.specs.declared.line.Mode.TheVariants.{One, Shard}
-use Rattle.journal_read.specs.Journals.{Reading, lines_bytes}
+use Rattle.run_history.specs.declared.line.Mode.TheVariants.{One, Shard, Lock}
+use Rattle.journal_read.specs.Journals.{lines_bytes}
 use Rattle.sharded_run.specs.Sharded.{IsShardRun}
 use Rattle.sharded_run.specs.Going.{AreSharded}
-use Rattle.stream_run.specs.Runs.{Run, Handled, course_of, handled_in, run_of}
+use Rattle.stream_run.specs.Runs.{Run, Turn, Handled, course_of, handled_in, run_of}
 use Rattle.stream_run.specs.Streaming.{arrival_of, AreFirst}
 use Rattle.stream_run.specs.declared.stop.Stop.{Stop}
 use Rattle.stream_run.specs.Texts.{file_bytes}
 use Rattle.stream_run.specs.Lawful as lawful
-use Rattle.replay_run.specs.Replaying.{RunKind, IsOneRun, IsRun, Begins, Replays, packets_at, line_in, journal_lines, sent}
+use Rattle.replay_run.specs.Replaying.{RunKind, Beside, IsOneRun, AreShared, IsRun, AreFirstIn, line_in, journal_lines, sent}
+use Rattle.replay_run.specs.Queues.{keys_or_none, IsKeyedBy}
+use Rattle.replay_run.specs.Heads.{Comes}
 use Rattle.replay_run.specs.declared.replayed.Replayed.{Replayed}
 use Rattle.replay_run.specs.declared.replayed.Replayed.TheVariants.{Same}
 
@@ -34,27 +37,24 @@ pub record IsRightRun (Kind : RunKind) (r : Run) (state : State) : Type 0 where
   pub journal : file_bytes r (length r.function.handlers) ≡ lines_bytes (journal_lines (heading_of r) (handled_in r))
   pub outputs : (port : ℕ) → file_bytes r port ≡ sent (heading_of r) (length r.function.handlers) (handled_in r) port
 
--- Of captures of which nothing was read, and a journal of which the first line was, all is told. These
--- packets are the first ones, and such a run; their lines are the journal's, and what they send is
--- what the outputs hold.
-pub record IsThere (Kind : RunKind) (heading : Heading) (ports : ℕ) (feed : Feeding) (journal : Reading) (outputs : List ℕ) (now : Told) (hs : List Handled) (state : State) : Type 0 where
-  pub start : Told
-  pub begins : Begins heading feed journal start now
+-- All is told. These packets are ones that a journal may begin with, and such a run; their lines are the
+-- journal's, and what they send is what the outputs hold.
+pub record IsThere (Kind : RunKind) (keys : Option Keys) (heading : Heading) (ports : ℕ) (beside : Beside) (hs : List Handled) (state : State) : Type 0 where
   pub all : List Arrival
-  pub captures : packets_at feed start ≡ Some all
-  pub first : AreFirst (Some all) (map arrival_of hs)
-  pub within : length hs ≤ feed.most
+  pub captures : beside.packets ≡ Some all
+  pub first : AreFirstIn heading.mode (Some all) (map arrival_of hs)
+  pub within : length hs ≤ beside.most
   pub run : Kind hs state
   pub header : IsHeading heading
+  pub keyed : IsKeyedBy heading.mode keys
   pub lines : AllByRecursion IsLine (map line_in hs)
-  pub journal_is : start.rest journal.file ≡ Some (lines_bytes (journal_lines heading hs))
-  pub outputs_are : (k file : ℕ) → slice_get outputs k ≡ Some file → now.rest file ≡ Some (sent heading ports hs k)
+  pub journal_is : beside.journal ≡ Some (lines_bytes (journal_lines heading hs))
+  pub outputs_are : (port : ℕ) → port < ports → beside.outputs port ≡ Some (sent heading ports hs port)
 
 -- Where a run's journal and outputs are there, they are taken for right, and nothing else is said.
 abbrev pub RightIsAccepted : Type 0
-RightIsAccepted = (f : Function) (keys : Keys) (heading : Heading) (ports : ℕ) (feed : Feeding) (journal : Reading) (outputs : List ℕ) (now : Told) (hs : List Handled) (state : State) (came : Replayed) →
-    IsThere (IsRun f keys heading) heading ports feed journal outputs now hs state →
-    Replays {E = Stop} (IsRun f keys heading) heading ports feed journal outputs now (Ok came) → came ≡ Same state
+RightIsAccepted = (f : Function) (keys : Option Keys) (heading : Heading) (ports : ℕ) (beside : Beside) (hs : List Handled) (state : State) (came : Replayed) →
+    IsThere (IsRun f (keys_or_none keys) heading) keys heading ports beside hs state → Comes {E = Stop} f keys ports beside (Ok came) → came ≡ Same state
 
 -- so it is of each run of one worker
 abbrev pub OneRunsAreRight : Type 0
@@ -66,14 +66,46 @@ abbrev pub ShardRunsAreRight : Type 0
 ShardRunsAreRight = (f : Function) (keys : Keys) (workers : ℕ) (r : Run) (state : State) (answers : List Done) →
     IsShardRun f keys workers r → course_of r ≡ Some (record { state = state; answers = answers }) → IsRightRun (AreSharded f keys workers) r state
 
+-- In mode `lock` workers that share the tables handle a run's packets, each those of its ports.
+pub record IsByPorts (f : Function) (workers : ℕ) (r : Run) : Type 0 where
+  pub function : r.function ≡ f
+  pub mode : r.mode ≡ Lock
+  pub workers_are : r.workers ≡ workers
+  pub own : AllByRecursion (λ (t : Turn). t.worker ≡ t.arrival.packet.id.port % workers) r.turns
+
+-- and of each run of such workers
+abbrev pub LockRunsAreRight : Type 0
+LockRunsAreRight = (f : Function) (workers : ℕ) (r : Run) (state : State) (answers : List Done) →
+    IsByPorts f workers r → course_of r ≡ Some (record { state = state; answers = answers }) → IsRightRun (AreShared f workers) r state
+
 -- The other way: what is taken for a run of one worker is one, with these packets ..
 abbrev pub TakenAreOneRuns : Type 0
 TakenAreOneRuns = (f : Function) (most : ℕ) (all : Option (List Arrival)) (hs : List Handled) (state : State) →
     IsOneRun f hs state → length hs ≤ most → lawful.AreTheFirst most all (map arrival_of hs) →
     lawful.IsOneRun f most all (run_of f One 1 hs) × (handled_in (run_of f One 1 hs) ≡ hs)
 
--- .. and so is what is taken for a run of workers with shares
+-- .. so is what is taken for a run of workers that share the tables ..
+abbrev pub TakenAreLockRuns : Type 0
+TakenAreLockRuns = (f : Function) (workers : ℕ) (hs : List Handled) (state : State) → AreShared f workers hs state →
+    IsByPorts f workers (run_of f Lock workers hs) × (handled_in (run_of f Lock workers hs) ≡ hs)
+
+-- .. and what is taken for a run of workers with shares
 abbrev pub TakenAreShardRuns : Type 0
 TakenAreShardRuns = (f : Function) (keys : Keys) (workers : ℕ) (hs : List Handled) (state : State) →
     AreSharded f keys workers hs state →
     IsShardRun f keys workers (run_of f Shard workers hs) × (handled_in (run_of f Shard workers hs) ≡ hs)
+
+-- ---- the packets that a journal may begin with
+
+-- The first packets of captures in capture order are the first ones of each port.
+abbrev pub FirstAreOfPorts : Type 0
+FirstAreOfPorts = (files : List ℕ) (told : Told) (all given : List Arrival) →
+    packets_of files told ≡ Some all → AreFirst (Some all) given → AreFirstOfPorts (Some all) given
+
+-- A packet of another port may come before it in capture order, ..
+abbrev pub OthersMayBeFirst : Type 0
+OthersMayBeFirst = (a b : Arrival) → a.packet.id.port ≢ b.packet.id.port → AreFirstOfPorts (Some (a ∷ b ∷ [])) (b ∷ [])
+
+-- .. and none of its own port
+abbrev pub NoneIsPassedOver : Type 0
+NoneIsPassedOver = (a b : Arrival) → a.packet.id.port ≡ b.packet.id.port → AreFirstOfPorts (Some (a ∷ b ∷ [])) (b ∷ []) → a ≡ b

@@ -2,4 +2,5 @@ pub mod Outputs
 pub mod Queues
 pub mod Replaying
 pub mod Turns
+pub mod Heads
 pub mod Laws

@@ -1,13 +1,11 @@
--- A journal in capture order that is read beside captures and outputs: the packets that its lines are of.
-use Rattle.std.specs.Prelude.{◌≡◌, ◌≢◌, ℕ, ◌+◌, ◌<◌, ◌≤◌, List, [], ◌∷◌, ◌++◌, length, map, Option, Some, None, Result, Ok, Err}
+-- A journal that is read beside captures and outputs: the packets that its lines are of.
+use Rattle.std.specs.Prelude.{◌≡◌, ◌≢◌, ℕ, ◌+◌, ◌%◌, ◌<◌, ◌≤◌, List, [], ◌∷◌, ◌++◌, length, map, Option, Some, None, Result, Ok, Err}
 use Rattle.std.specs.List.{AllByRecursion}
 use Rattle.nf_base.specs.Text.{Function}
 use Rattle.nf_base.specs.declared.state.State.{State}
-use Rattle.nf_files.specs.Told.{Told}
+use Rattle.nf_files.specs.Told.{IsToldAs}
 use Rattle.packet_feed.specs.Arrivals.{Arrival}
-use Rattle.packet_feed.specs.Told.{packets_of}
-use Rattle.packet_feed.specs.Sources.{files_in}
-use Rattle.packet_feed.specs.Feeding.{Feeding, StandsFor}
+use Rattle.packet_feed.specs.Ports.{AreFirstOfPorts}
 use Rattle.run_history.specs.Headings.{Heading}
 use Rattle.run_history.specs.declared.line.Mode.{Mode}
 use Rattle.run_history.specs.declared.line.Mode.TheVariants.{One, Shard, Lock}
@@ -15,7 +13,8 @@ use Rattle.run_history.specs.declared.line.JournalLine.{JournalLine}
 use Rattle.run_history.specs.declared.line.JournalLine.TheVariants.{Header, Packet}
 use Rattle.run_history.specs.Line.{line_bytes}
 use Rattle.run_history.specs.Lines.{IsLine}
-use Rattle.journal_read.specs.Journals.{Reading, Stands, lines_bytes, AreAllLines, AreMoreLines}
+use Rattle.file_match.specs.Comparing.{IsOtherIfTold}
+use Rattle.journal_read.specs.Journals.{lines_bytes, AreAllLines, AreMoreLines}
 use Rattle.nf_base.specs.declared.keys.Keys.{Keys}
 use Rattle.sharded_run.specs.Going.{AreSharded}
 use Rattle.stream_run.specs.Runs.{Handled}
@@ -42,28 +41,36 @@ pub record IsOneRun (f : Function) (hs : List Handled) (state : State) : Type 0 
   pub undivided : IsUndivided f hs state
   pub alone : AllByRecursion (λ (h : Handled). h.worker ≡ 0) hs
 
--- The runs that a journal in capture order may be of, by what its first line tells: in mode `one` worker
--- 0 handles all packets; in mode `shard` each is handled by the worker of its queue under keys, within
--- that queue's share.
+-- Workers that share the tables handle these packets, each the one of its port.
+pub record AreShared (f : Function) (workers : ℕ) (hs : List Handled) (state : State) : Type 0 where
+  pub undivided : IsUndivided f hs state
+  pub own : AllByRecursion (λ (h : Handled). h.worker ≡ h.arrival.packet.id.port % workers) hs
+
+-- The runs that a journal may be of, by what its first line tells: in mode `one` worker 0 handles all
+-- packets; in mode `shard` each is handled by the worker of its queue under keys, within that queue's
+-- share; in mode `lock` by the worker of its port.
 abbrev pub IsRunBy : Mode → ℕ → Function → Keys → List Handled → State → Type 0
 IsRunBy One workers f keys hs state = IsOneRun f hs state
 IsRunBy Shard workers f keys hs state = AreSharded f keys workers hs state
-IsRunBy Lock workers f keys hs state = ⊥
+IsRunBy Lock workers f keys hs state = AreShared f workers hs state
 
 abbrev pub IsRun : Function → Keys → Heading → List Handled → State → Type 0
 IsRun f keys heading hs state = IsRunBy heading.mode heading.workers f keys hs state
 
--- Captures and a journal at a start, of which no packet and the first line alone were read.
-pub record Begins (heading : Heading) (feed : Feeding) (journal : Reading) (start now : Told) : Type 0 where
-  pub captures : StandsFor start [] feed now
-  pub lines : Stands (start.rest journal.file) (Header heading ∷ []) journal (now.rest journal.file)
+-- Which packets a journal may begin with, of all that captures hold: the first ones in capture order; in
+-- mode `lock`, whose journals are in the order in which workers came to their packets, the first ones of
+-- each port.
+abbrev pub AreFirstIn : Mode → Option (List Arrival) → List Arrival → Type 0
+AreFirstIn One all given = AreFirst all given
+AreFirstIn Shard all given = AreFirst all given
+AreFirstIn Lock all given = AreFirstOfPorts all given
 
--- With one packet more these are no run of the first packets, where all are told: the packet that
--- would come next has no such line.
-abbrev pub NoneGoesOn : RunKind → Option (List Arrival) → List Handled → (JournalLine → Type 0) → Type 0
-NoneGoesOn Run None hs IsNext = Unit {0}
-NoneGoesOn Run (Some all) hs IsNext =
-    (h : Handled) (s : State) → IsNext (line_in h) → AreFirst (Some all) (map arrival_of (hs ++ h ∷ [])) → Run (hs ++ h ∷ []) s → ⊥
+-- With one packet more these are not the packets that a run begins with, where all are told: the packet
+-- that would come next has no such line.
+abbrev pub NoneGoesOn : RunKind → Mode → Option (List Arrival) → List Handled → (JournalLine → Type 0) → Type 0
+NoneGoesOn Run mode None hs IsNext = Unit {0}
+NoneGoesOn Run mode (Some all) hs IsNext =
+    (h : Handled) (s : State) → IsNext (line_in h) → AreFirstIn mode (Some all) (map arrival_of (hs ++ h ∷ [])) → Run (hs ++ h ∷ []) s → ⊥
 
 -- a line that bytes begin with
 abbrev pub BeginsWith : List ℕ → JournalLine → Type 0
@@ -74,71 +81,85 @@ pub record IsWrongBehind (Run : RunKind) (heading : Heading) (packets : Option (
   pub rest : List ℕ
   pub behind : all ≡ lines_bytes (journal_lines heading hs) ++ rest
   pub some : rest ≢ []
-  pub none : NoneGoesOn Run packets hs (BeginsWith rest)
+  pub none : NoneGoesOn Run heading.mode packets hs (BeginsWith rest)
 
 -- the same, where the journal is told
 abbrev pub IsWrong : RunKind → Heading → Option (List Arrival) → List Handled → Option (List ℕ) → Type 0
 IsWrong Run heading packets hs None = Unit {0}
 IsWrong Run heading packets hs (Some all) = IsWrongBehind Run heading packets hs all
 
--- what was left of the captures at a start, in the order of their ports
-abbrev pub packets_at : Feeding → Told → Option (List Arrival)
-packets_at feed start = packets_of (files_in feed.sources) start
+-- What a journal is read beside, where it is told: the packets of the captures, the journal's own bytes,
+-- and the bytes of the outputs by port; and how many lines of packets are judged at most.
+pub record Beside : Type 0 where
+  pub packets : Option (List Arrival)
+  pub journal : Option (List ℕ)
+  pub outputs : ℕ → Option (List ℕ)
+  pub most : ℕ
 
--- The lines so far are right: those of a run of the first packets in capture order, and each is one
--- that a journal may have.
-pub record IsRight (Run : RunKind) (heading : Heading) (feed : Feeding) (journal : Reading) (now : Told) (hs : List Handled) (state : State) : Type 0 where
+-- Lines are right: those of a run of the packets that a journal may begin with, and each is one that a
+-- journal may have.
+pub record IsRight (Run : RunKind) (heading : Heading) (beside : Beside) (hs : List Handled) (state : State) : Type 0 where
   pub run : Run hs state
-  pub within : length hs ≤ feed.most
-  pub first : (start : Told) → Begins heading feed journal start now → AreFirst (packets_at feed start) (map arrival_of hs)
-  pub lines : (start : Told) → Begins heading feed journal start now → AllByRecursion IsLine (map line_in hs)
+  pub within : length hs ≤ beside.most
+  pub first : AreFirstIn heading.mode beside.packets (map arrival_of hs)
+  pub lines : AllByRecursion IsLine (map line_in hs)
 
 -- what outputs hold, by port
 abbrev pub sent : Heading → ℕ → List Handled → ℕ → List ℕ
 sent heading ports hs port = bytes_of heading.mode heading.workers ports port hs
 
+-- the outputs of these ports hold these bytes, where they are told
+abbrev pub AreSent : (ℕ → List ℕ) → (ℕ → Option (List ℕ)) → ℕ → Type 0
+AreSent bytes outputs ports = (port : ℕ) → port < ports → IsToldAs (bytes port) (outputs port)
+
+-- The output of a port doesn't, and those of all lesser ports do.
+pub record IsLeastUnsent (bytes : ℕ → List ℕ) (outputs : ℕ → Option (List ℕ)) (ports port : ℕ) : Type 0 where
+  pub inside : port < ports
+  pub other : IsOtherIfTold (bytes port) (outputs port)
+  pub lesser : AreSent bytes outputs port
+
 -- The whole journal is right.
-pub record IsJournal (Run : RunKind) (heading : Heading) (feed : Feeding) (journal : Reading) (now : Told) (hs : List Handled) (state : State) : Type 0 where
-  pub right : IsRight Run heading feed journal now hs state
-  pub whole : (start : Told) → Begins heading feed journal start now → AreAllLines (start.rest journal.file) (journal_lines heading hs)
+pub record IsJournal (Run : RunKind) (heading : Heading) (beside : Beside) (hs : List Handled) (state : State) : Type 0 where
+  pub right : IsRight Run heading beside hs state
+  pub whole : AreAllLines beside.journal (journal_lines heading hs)
 
 -- and the outputs are those of its run
-pub record IsSame (Run : RunKind) (heading : Heading) (ports : ℕ) (feed : Feeding) (journal : Reading) (outputs : List ℕ) (now : Told) (state : State) : Type 0 where
+pub record IsSame (Run : RunKind) (heading : Heading) (ports : ℕ) (beside : Beside) (state : State) : Type 0 where
   pub hs : List Handled
-  pub journal_is : IsJournal Run heading feed journal now hs state
-  pub outputs_are : AreTold (sent heading ports hs) now.rest outputs
+  pub journal_is : IsJournal Run heading beside hs state
+  pub outputs_are : AreSent (sent heading ports hs) beside.outputs ports
 
 -- and the output of a port isn't
-pub record IsOther (Run : RunKind) (heading : Heading) (ports : ℕ) (feed : Feeding) (journal : Reading) (outputs : List ℕ) (now : Told) (port : ℕ) : Type 0 where
+pub record IsOther (Run : RunKind) (heading : Heading) (ports : ℕ) (beside : Beside) (port : ℕ) : Type 0 where
   pub hs : List Handled
   pub state : State
-  pub journal_is : IsJournal Run heading feed journal now hs state
-  pub other : IsLeastOther (sent heading ports hs) now.rest outputs port
+  pub journal_is : IsJournal Run heading beside hs state
+  pub other : IsLeastUnsent (sent heading ports hs) beside.outputs ports port
 
 -- As many lines as were asked for are right, and there is more.
-pub record IsTooMany (Run : RunKind) (heading : Heading) (feed : Feeding) (journal : Reading) (now : Told) : Type 0 where
+pub record IsTooMany (Run : RunKind) (heading : Heading) (beside : Beside) : Type 0 where
   pub hs : List Handled
   pub state : State
-  pub right : IsRight Run heading feed journal now hs state
-  pub count : length hs ≡ feed.most
-  pub more : (start : Told) → Begins heading feed journal start now → AreMoreLines (start.rest journal.file) (journal_lines heading hs)
+  pub right : IsRight Run heading beside hs state
+  pub count : length hs ≡ beside.most
+  pub more : AreMoreLines beside.journal (journal_lines heading hs)
 
 -- The lines before this one are right, and this one isn't, the first line being number 1.
-pub record IsFirstWrong (Run : RunKind) (heading : Heading) (feed : Feeding) (journal : Reading) (now : Told) (line : ℕ) : Type 0 where
+pub record IsFirstWrong (Run : RunKind) (heading : Heading) (beside : Beside) (line : ℕ) : Type 0 where
   pub hs : List Handled
   pub state : State
-  pub right : IsRight Run heading feed journal now hs state
-  pub fewer : length hs < feed.most
+  pub right : IsRight Run heading beside hs state
+  pub fewer : length hs < beside.most
   pub number : line ≡ length hs + 2
-  pub wrong : (start : Told) → Begins heading feed journal start now → IsWrong Run heading (packets_at feed start) hs (start.rest journal.file)
+  pub wrong : IsWrong Run heading beside.packets hs beside.journal
 
--- what a replay comes to
-abbrev pub Replays : {E : Type 0} → RunKind → Heading → ℕ → Feeding → Reading → List ℕ → Told → Result Replayed E → Type 0
-Replays Run heading ports feed journal outputs now (Ok (Same state)) = IsSame Run heading ports feed journal outputs now state
-Replays Run heading ports feed journal outputs now (Ok TooMany) = IsTooMany Run heading feed journal now
-Replays Run heading ports feed journal outputs now (Ok (Line line)) = IsFirstWrong Run heading feed journal now line
-Replays Run heading ports feed journal outputs now (Ok (Output port)) = IsOther Run heading ports feed journal outputs now port
-Replays Run heading ports feed journal outputs now (Err e) = Unit {0}
+-- what a replay comes to, of a journal whose first line is right
+abbrev pub Replays : {E : Type 0} → RunKind → Heading → ℕ → Beside → Result Replayed E → Type 0
+Replays Run heading ports beside (Ok (Same state)) = IsSame Run heading ports beside state
+Replays Run heading ports beside (Ok TooMany) = IsTooMany Run heading beside
+Replays Run heading ports beside (Ok (Line line)) = IsFirstWrong Run heading beside line
+Replays Run heading ports beside (Ok (Output port)) = IsOther Run heading ports beside port
+Replays Run heading ports beside (Err e) = Unit {0}
 
 -- what comparing the outputs to their ends comes to, where all lines are right and left this state
 abbrev pub Finishes : {E : Type 0} → (ℕ → List ℕ) → (ℕ → Option (List ℕ)) → List ℕ → State → Result Replayed E → Type 0

@@ -1,23 +1,33 @@
 //! Laws of replays.
 //!
 //! Each function's contract is a law; its body does nothing.
-ghost use Rattle.replay_run.specs.Laws.{OneRunsAreRight, ShardRunsAreRight, RightIsAccepted, TakenAreOneRuns, TakenAreShardRuns};
+ghost use Rattle.replay_run.specs.Laws.{OneRunsAreRight, ShardRunsAreRight, LockRunsAreRight, RightIsAccepted, TakenAreOneRuns, TakenAreShardRuns, TakenAreLockRuns, FirstAreOfPorts, OthersMayBeFirst, NoneIsPassedOver};
 
 /// What a run leaves is right: its packets are a run that a replay takes, and its journal and outputs
 /// hold what a replay asks for.
 pub fn runs_are_right()
     ensures one { OneRunsAreRight }
     ensures shard { ShardRunsAreRight }
+    ensures lock { LockRunsAreRight }
 {}
 
 /// What a replay takes for a run is one, as those that run packets call it.
 pub fn taken_are_runs()
     ensures one { TakenAreOneRuns }
     ensures shard { TakenAreShardRuns }
+    ensures lock { TakenAreLockRuns }
 {}
 
 /// Where all files are told, and a run's journal and outputs are there, a replay takes them for right
 /// and tells the state that the run left, and nothing else.
 pub fn right_is_accepted()
     ensures { RightIsAccepted }
+{}
+
+/// Where each port's packets stand in their order: so they do in capture order; a packet of another port
+/// may come first, and one of the same port may not.
+pub fn ports_keep_their_order()
+    ensures first { FirstAreOfPorts }
+    ensures others { OthersMayBeFirst }
+    ensures never { NoneIsPassedOver }
 {}

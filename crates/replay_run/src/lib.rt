@@ -5,9 +5,10 @@
 pub mod laws;
 mod lines;
 mod outputs;
+mod packets;
 mod replayed;
 mod replaying;
 mod turn;
 
 pub use replayed::Replayed;
-pub use replaying::{replay_in_order, replay_sharded};
+pub use replaying::replay;

@@ -2,6 +2,7 @@
 ghost use Rattle.std.specs.Prelude.{◌≡◌, ◌^◌, ◌≢◌, ◌≤◌, ◌++◌, ◌∷◌, [], ◌<◌, ℕ, List, Option, Some, true, length, slice_get, IfSome};
 ghost use Rattle.std.specs.List.{All};
 ghost use Rattle.nf_base.specs.Functions.{function_of};
+ghost use Rattle.nf_files.specs.Told.{Told};
 ghost use Rattle.nf_files.specs.Reads.{Keeps};
 ghost use Rattle.packet_feed.specs.Told.{EachFile, IsApart, KeepsOthers};
 ghost use Rattle.packet_feed.specs.Sources.{files_in};
@@ -13,7 +14,7 @@ ghost use Rattle.stream_run.specs.Writing.{IsStopCause, StopsAt, StopsAmong};
 ghost use Rattle.replay_run.specs.Outputs.{files_of};
 ghost use Rattle.replay_run.specs.Queues.{keys_in, IsKeyed};
 ghost use Rattle.replay_run.specs.Replaying.{IsRun};
-ghost use Rattle.replay_run.specs.Turns.{AreClear, Reads, IsEnd, IsNotWrong};
+ghost use Rattle.replay_run.specs.Turns.{AreClear, Begins, Reads, IsEnd, IsNotWrong, beside_of};
 
 use crate::outputs::compare_headers;
 use crate::turn::one_turn;
@@ -26,6 +27,7 @@ use nf_base::seq::Seq;
 use nf_files::Files;
 use packet_feed::Feed;
 use rss_table::Table;
+use run_history::line::Mode;
 use std::alloc::Global;
 use stream_run::Stop;
 
@@ -92,12 +94,14 @@ pub(crate) fn read_lines<F: Files>(
     table: &Table,
     judge: &mut Judge,
     feed: &mut Feed,
+    mode: Mode,
     most: u32,
     captures: &[u32],
     journal: &mut Journal,
     outputs: &mut Seq<Compared>,
 ) -> Result<End, Stop>
     requires of_func { judge.old.tables.decls ≡ func.now.chains }
+    requires mode { judge.old.heading.mode ≡ mode }
     requires keyed { IsKeyed judge.old.heading.mode keys }
     requires keys { IfSome keys (λ k. length func.now.handlers ≤ length k.now.ports) }
     requires table { table.now ≡ even_table judge.old.heading.workers }
@@ -121,9 +125,11 @@ pub(crate) fn read_lines<F: Files>(
     requires fresh { (k : ℕ) → (c : Comparing) → slice_get outputs.old k ≡ Some c → c.same ≡ true }
     ensures reads_all { let ports = length captures.now in
         let heading = judge.old.heading in
+        (start : Told) → (bytes : Option (List ℕ)) →
+        Begins heading feed.old journal.old start bytes (F.told files.old) →
         Reads (IsRun (function_of func.now) (keys_in keys.entry) heading) heading ports
-        feed.old journal.old
-        (F.told files.old) (F.told files.new) outputs.new judge.new.tables.state result }
+        (beside_of feed.old start bytes (files_of outputs.old) (F.told files.old) most)
+        (F.told files.old).rest (F.told files.new) outputs.new judge.new.tables.state result }
     ensures same_outputs { files_of outputs.new ≡ files_of outputs.old }
     ensures kept { let all = captures.now ++ journal.old.file ∷ files_of outputs.old in
         KeepsOthers all (F.told files.old) (F.told files.new) }
@@ -155,6 +161,7 @@ pub(crate) fn read_lines<F: Files>(
             table,
             judge,
             feed,
+            mode,
             captures,
             outputs,
             &mut buffer,

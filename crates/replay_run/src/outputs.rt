@@ -211,6 +211,8 @@ pub(crate) fn first_other<F: Files>(
     ensures kept { KeepsOthers (files_of all.old) (F.told files.old) (F.told files.new) }
     ensures cause { IsStopCause (F.counted files.old) (F.counted files.new) result }
     ensures among { StopsAmong [] (files_of all.old) result }
+    ensures reads { (g : ℕ) → F.is_read files.old g → F.is_read files.new g }
+    ensures writes { (g : ℕ) → F.is_written files.old g → F.is_written files.new g }
 {
     for k in 0..all.len() {
         match is_whole(files, all.item_mut(k)) {

@@ -1,16 +1,19 @@
 //! A journal and outputs, replayed.
-ghost use Rattle.std.specs.Prelude.{◌≡◌, ◌^◌, ◌<◌, ◌≤◌, ◌++◌, ◌∷◌, [], ℕ, List, Option, length, IfSome};
+ghost use Rattle.std.specs.Prelude.{◌≡◌, ◌↔◌, ◌^◌, ◌<◌, ◌≤◌, ◌++◌, ◌∷◌, [], ℕ, List, Option, IsTrue, length, IfOk, IfSome};
 ghost use Rattle.nf_base.specs.Functions.{function_of};
+ghost use Rattle.nf_files.specs.Told.{Told};
+ghost use Rattle.nf_files.specs.Reads.{Keeps};
 ghost use Rattle.packet_feed.specs.Told.{EachFile, IsApart, KeepsOthers};
 ghost use Rattle.packet_feed.specs.Sources.{files_in};
 ghost use Rattle.run_history.specs.Headings.{IsHeading};
-ghost use Rattle.run_history.specs.declared.line.Mode.TheVariants.{One, Shard};
 ghost use Rattle.rss_table.specs.Tables.{even_table};
-ghost use Rattle.sharded_run.specs.Going.{AreSharded};
-ghost use Rattle.stream_run.specs.Writing.{IsStopCause, StopsAmong};
+ghost use Rattle.journal_read.specs.Journals.{Stands};
+ghost use Rattle.stream_run.specs.Writing.{IsStopCause, StopsAt, StopsAmong};
 ghost use Rattle.replay_run.specs.Outputs.{files_of, AreFound};
-ghost use Rattle.replay_run.specs.Queues.{keys_in, IsKeyed};
-ghost use Rattle.replay_run.specs.Replaying.{IsOneRun, IsRun, Replays, Finishes};
+ghost use Rattle.replay_run.specs.Queues.{lent, keys_in, IsKeyed};
+ghost use Rattle.replay_run.specs.Replaying.{IsRun, Replays, Finishes};
+ghost use Rattle.replay_run.specs.Turns.{IsStarted, Begins, beside_of};
+ghost use Rattle.replay_run.specs.Heads.{HeadsFor, Comes};
 
 use crate::lines::{End, read_lines};
 use crate::outputs::{begin, first_other};
@@ -25,6 +28,7 @@ use nf_files::Files;
 use packet_feed::Feed;
 use rss_table::Table;
 use run_history::header::Header;
+use run_history::line::Mode;
 use std::alloc::Global;
 use stream_run::Stop;
 
@@ -44,6 +48,8 @@ fn finish<F: Files>(
     ensures kept { KeepsOthers (files_of compared.old) (F.told files.old) (F.told files.new) }
     ensures cause { IsStopCause (F.counted files.old) (F.counted files.new) result }
     ensures among { StopsAmong [] (files_of compared.old) result }
+    ensures reads { (g : ℕ) → F.is_read files.old g → F.is_read files.new g }
+    ensures writes { (g : ℕ) → F.is_written files.old g → F.is_written files.new g }
 {
     match first_other(files, compared) {
         Ok(Some(port)) => Ok(Replayed::Output(port)),
@@ -65,7 +71,7 @@ fn table_of(header: &Header) -> Table
     Table::even(header.workers())
 }
 
-// Checks a journal in capture order, of which the header was read, and the outputs beside it.
+// Checks a journal, of which the header was read, and the outputs beside it.
 fn replay_with<F: Files>(
     alloc: Global,
     files: &mut F,
@@ -90,16 +96,21 @@ fn replay_with<F: Files>(
     requires apart { IsApart (captures.now ++ journal.old.file ∷ outputs.now) }
     requires as_many { length outputs.now ≡ length captures.now }
     requires few { length outputs.now ≤ 2 ^ 32 }
-    ensures replays { Replays (IsRun (function_of func.now) (keys_in keys.entry) header)
+    ensures replays { (start : Told) → (bytes : Option (List ℕ)) →
+        Begins header feed.old journal.old start bytes (F.told files.old) →
+        Replays (IsRun (function_of func.now) (keys_in keys.entry) header)
         header (length captures.now)
-        feed.old journal.old outputs.now (F.told files.old) result }
+        (beside_of feed.old start bytes outputs.now (F.told files.old) most) result }
     ensures kept { let all = captures.now ++ journal.old.file ∷ outputs.now in
         KeepsOthers all (F.told files.old) (F.told files.new) }
     ensures cause { IsStopCause (F.counted files.old) (F.counted files.new) result }
     ensures among { let others = journal.old.file ∷ outputs.now in
         StopsAmong captures.now others result }
+    ensures reads { (g : ℕ) → F.is_read files.old g → F.is_read files.new g }
+    ensures writes { (g : ℕ) → F.is_written files.old g → F.is_written files.new g }
 {
     let table = table_of(&header);
+    let mode = header.mode();
     let mut judge = match Judge::new(alloc, func, header) {
         Ok(judge) => judge,
         Err(_) => return Err(Stop::Memory),
@@ -116,6 +127,7 @@ fn replay_with<F: Files>(
         &table,
         &mut judge,
         feed,
+        mode,
         most,
         captures,
         journal,
@@ -131,100 +143,112 @@ fn replay_with<F: Files>(
     }
 }
 
-/// Checks a journal in mode `one`, of which the header was read, and the outputs beside it: whether
-/// they are those of one run of the first packets in capture order.
+// Whether a journal in this mode may be there: workers with shares have keys.
+fn is_keyed(mode: Mode, keys: Option<&Keys>) -> bool
+    ensures { IsTrue result ↔ IsKeyed mode keys.entry }
+{
+    match mode {
+        Mode::One => true,
+        Mode::Shard => match keys {
+            Some(_) => true,
+            None => false,
+        },
+        Mode::Lock => true,
+    }
+}
+
+// The first line, of a journal of which nothing was read yet; None where it is no header, or one of
+// mode `shard` where no keys are given.
+fn first_line<F: Files>(
+    alloc: Global,
+    files: &mut F,
+    keys: Option<&Keys>,
+    journal: &mut Journal,
+) -> Result<Option<Header>, Stop>
+    requires opened { F.is_read files.old journal.old.file }
+    ensures heads { let file = journal.old.file in
+        (start : Option (List ℕ)) → Stands start [] journal.old ((F.told files.old).rest file) →
+        HeadsFor (lent keys.entry) start journal.new ((F.told files.new).rest file) result }
+    ensures keyed { IfOk result (λ found. IfSome found (λ header. IsKeyed header.mode keys.entry)) }
+    ensures same_file { journal.new.file ≡ journal.old.file }
+    ensures kept { Keeps (F.told files.old) (F.told files.new) journal.old.file }
+    ensures cause { IsStopCause (F.counted files.old) (F.counted files.new) result }
+    ensures at { StopsAt journal.old.file result }
+    ensures reads { (g : ℕ) → F.is_read files.old g → F.is_read files.new g }
+    ensures writes { (g : ℕ) → F.is_written files.old g → F.is_written files.new g }
+{
+    match journal.header(alloc, files) {
+        Ok(Some(header)) => if is_keyed(header.mode(), keys) {
+            Ok(Some(header))
+        } else {
+            Ok(None)
+        },
+        Ok(None) => Ok(None),
+        Err(fault) => Err(Stop::of(journal.file(), fault)),
+    }
+}
+
+/// Checks a journal and the outputs beside it: whether they are those of one run over the captures, as
+/// the journal's first line tells it.
+///
+/// In mode `one` worker 0 handles the packets in capture order. In mode `shard`, where keys are given,
+/// each is handled by the worker of its queue under these keys within its share: a line's choices have to
+/// be the queue's own, and no `new` may have answered that its chain is full; where a run might have
+/// stopped as well, a line that keeps to this is right. In mode `lock` the packets of each port stand in
+/// their order, each handled by the worker whose number is its port modulo theirs.
 ///
 /// The captures are those of the feed, which gave no packet yet, and `most` is how many it gives at
-/// most. The outputs are in the order of their ports; nothing was read of them yet. The journal may end
-/// early. Of as many lines of packets as `most` each is judged; what stands behind them is not. The
-/// feed, the journal and the outputs are not to be used on.
-pub fn replay_in_order<F: Files>(
+/// most. The outputs are in the order of their ports; nothing was read of them and of the journal yet.
+/// The journal may end early. Of as many lines of packets as `most` each is judged; what stands behind
+/// them is not. Of no file more is held than what was read at once and a record. The feed and the files
+/// are not to be used on.
+pub fn replay<F: Files>(
     alloc: Global,
     files: &mut F,
     func: &Func,
+    keys: Option<&Keys>,
     feed: &mut Feed,
     most: u32,
     captures: &[u32],
-    journal: &mut Journal,
-    header: Header,
+    journal: u32,
     outputs: &[u32],
 ) -> Result<Replayed, Stop>
-    requires mode { header.mode ≡ One }
+    requires keys { IfSome keys (λ k. length func.now.handlers ≤ length k.now.ports) }
     requires captures { files_in feed.old.sources ≡ captures.now }
     requires ports { length captures.now ≡ length func.now.handlers }
     requires new { feed.old.given ≡ 0 }
     requires most { feed.old.most ≡ most }
     requires read { EachFile (F.is_read files.old) captures.now }
     requires opened { EachFile (F.is_read files.old) outputs.now }
-    requires opened_journal { F.is_read files.old journal.old.file }
+    requires opened_journal { F.is_read files.old journal }
     // No file stands there twice.
-    requires apart { IsApart (captures.now ++ journal.old.file ∷ outputs.now) }
+    requires apart { IsApart (captures.now ++ journal ∷ outputs.now) }
     requires as_many { length outputs.now ≡ length captures.now }
     requires few { length outputs.now ≤ 2 ^ 32 }
     // All lines are those of a run and the outputs are its, or the first line or the least output
     // that isn't is told, or there are more lines than were asked for.
-    ensures replays { Replays (IsOneRun (function_of func.now)) header (length captures.now)
-        feed.old journal.old outputs.now (F.told files.old) result }
-    ensures kept { let all = captures.now ++ journal.old.file ∷ outputs.now in
+    ensures comes { let told = F.told files.old in
+        (start : Told) → IsStarted start feed.old told →
+        Comes (function_of func.now) (lent keys.entry) (length captures.now)
+        (beside_of feed.old start (told.rest journal) outputs.now told most) result }
+    ensures kept { let all = captures.now ++ journal ∷ outputs.now in
         KeepsOthers all (F.told files.old) (F.told files.new) }
     ensures cause { IsStopCause (F.counted files.old) (F.counted files.new) result }
     // The file that failed is one of the captures, the journal or one of the outputs.
-    ensures among { let others = journal.old.file ∷ outputs.now in
-        StopsAmong captures.now others result }
+    ensures among { StopsAmong captures.now (journal ∷ outputs.now) result }
+    ensures reads { (g : ℕ) → F.is_read files.old g → F.is_read files.new g }
+    ensures writes { (g : ℕ) → F.is_written files.old g → F.is_written files.new g }
 {
+    let mut lines = match Journal::new(alloc, journal) {
+        Ok(lines) => lines,
+        Err(_) => return Err(Stop::Memory),
+    };
+    let header = match first_line(alloc, files, keys, &mut lines) {
+        Ok(Some(header)) => header,
+        Ok(None) => return Ok(Replayed::Line(1)),
+        Err(stop) => return Err(stop),
+    };
     replay_with(
-        alloc, files, func, None, feed, most, captures, journal, header, outputs,
-    )
-}
-
-/// Checks a journal in mode `shard` so: whether it is that of a run of the first packets in capture
-/// order, each of which the worker of its queue under these keys handled within its share.
-///
-/// A line's choices have to be the queue's own, and no `new` may have answered that its chain is full.
-/// Where a run might have stopped as well, a line that keeps to this is right.
-pub fn replay_sharded<F: Files>(
-    alloc: Global,
-    files: &mut F,
-    func: &Func,
-    keys: &Keys,
-    feed: &mut Feed,
-    most: u32,
-    captures: &[u32],
-    journal: &mut Journal,
-    header: Header,
-    outputs: &[u32],
-) -> Result<Replayed, Stop>
-    requires mode { header.mode ≡ Shard }
-    requires keys { length func.now.handlers ≤ length keys.now.ports }
-    requires captures { files_in feed.old.sources ≡ captures.now }
-    requires ports { length captures.now ≡ length func.now.handlers }
-    requires new { feed.old.given ≡ 0 }
-    requires most { feed.old.most ≡ most }
-    requires read { EachFile (F.is_read files.old) captures.now }
-    requires opened { EachFile (F.is_read files.old) outputs.now }
-    requires opened_journal { F.is_read files.old journal.old.file }
-    requires apart { IsApart (captures.now ++ journal.old.file ∷ outputs.now) }
-    requires as_many { length outputs.now ≡ length captures.now }
-    requires few { length outputs.now ≤ 2 ^ 32 }
-    ensures replays { let workers = header.workers in
-        Replays (AreSharded (function_of func.now) keys.now workers) header (length captures.now)
-        feed.old journal.old outputs.now (F.told files.old) result }
-    ensures kept { let all = captures.now ++ journal.old.file ∷ outputs.now in
-        KeepsOthers all (F.told files.old) (F.told files.new) }
-    ensures cause { IsStopCause (F.counted files.old) (F.counted files.new) result }
-    ensures among { let others = journal.old.file ∷ outputs.now in
-        StopsAmong captures.now others result }
-{
-    replay_with(
-        alloc,
-        files,
-        func,
-        Some(keys),
-        feed,
-        most,
-        captures,
-        journal,
-        header,
-        outputs,
+        alloc, files, func, keys, feed, most, captures, &mut lines, header, outputs,
     )
 }

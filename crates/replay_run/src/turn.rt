@@ -12,6 +12,7 @@ ghost use Rattle.replay_run.specs.Replaying.{IsRun};
 ghost use Rattle.replay_run.specs.Turns.{AreClear, Turns, Counts};
 
 use crate::outputs::compare_all;
+use crate::packets::packet_for;
 use file_match::Compared;
 use journal_check::Judge;
 use nf_base::func::Func;
@@ -19,10 +20,10 @@ use nf_base::keys::Keys;
 use nf_base::packet::Packet;
 use nf_base::seq::Seq;
 use nf_files::Files;
-use packet_feed::{Fed, Feed};
+use packet_feed::Feed;
 use rss_table::Table;
-use run_history::line::JournalLine;
-use stream_run::{Stop, stop_in};
+use run_history::line::{JournalLine, Mode};
+use stream_run::Stop;
 
 // The queue of a packet, of so many workers; 0 where no keys are given.
 fn queue_of(keys: Option<&Keys>, table: &Table, packet: &Packet) -> u32
@@ -45,12 +46,14 @@ pub(crate) fn one_turn<F: Files>(
     table: &Table,
     judge: &mut Judge,
     feed: &mut Feed,
+    mode: Mode,
     captures: &[u32],
     outputs: &mut Seq<Compared>,
     buffer: &mut Vec<u8>,
     line: &JournalLine,
 ) -> Result<bool, Stop>
     requires of_func { judge.old.tables.decls ≡ func.now.chains }
+    requires mode { judge.old.heading.mode ≡ mode }
     requires keyed { IsKeyed judge.old.heading.mode keys }
     requires keys { IfSome keys (λ k. length func.now.handlers ≤ length k.now.ports) }
     requires table { table.now ≡ even_table judge.old.heading.workers }
@@ -64,7 +67,7 @@ pub(crate) fn one_turn<F: Files>(
     requires clear { AreClear captures.now (files_of outputs.old) }
     requires few { length outputs.old ≤ 2 ^ 32 }
     ensures turns { let heading = judge.old.heading in
-        Turns (IsRun (function_of func.now) (keys_in keys.entry) heading) line.now
+        Turns (IsRun (function_of func.now) (keys_in keys.entry) heading) heading.mode line.now
         judge.old.tables.state judge.new.tables.state feed.old feed.new
         (F.told files.old) (F.told files.new) outputs.old outputs.new result }
     ensures same { fixed_of judge.new.tables ≡ fixed_of judge.old.tables }
@@ -80,11 +83,8 @@ pub(crate) fn one_turn<F: Files>(
     ensures reads { (g : ℕ) → F.is_read files.old g → F.is_read files.new g }
     ensures writes { (g : ℕ) → F.is_written files.old g → F.is_written files.new g }
 {
-    match feed.next(files) {
-        Ok(Fed::End) => Ok(false),
-        Ok(Fed::TooMany) => unreachable!(),
-        Err(fault) => Err(stop_in(captures, fault)),
-        Ok(Fed::Packet(packet)) => {
+    match packet_for(files, feed, mode, captures, line) {
+        Ok(Some(packet)) => {
             let original = feed.original();
             let frame = feed.frame();
             let queue = queue_of(keys, table, &packet);
@@ -98,5 +98,7 @@ pub(crate) fn one_turn<F: Files>(
                 },
             }
         }
+        Ok(None) => Ok(false),
+        Err(stop) => Err(stop),
     }
 }

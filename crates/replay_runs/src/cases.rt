@@ -23,6 +23,7 @@ pub const SENT: Record = Record {
     time: 1,
     from: CLIENT,
     to: SERVER,
+    macs: None,
 };
 
 /// One of another flow.
@@ -30,12 +31,14 @@ const OTHER: Record = Record {
     time: 2,
     from: CLIENT,
     to: ([10, 0, 0, 3], 80),
+    macs: None,
 };
 
 const ANSWER: Record = Record {
     time: 5,
     from: SERVER,
     to: CLIENT,
+    macs: None,
 };
 
 /// A firewall's packet and its answer.
@@ -150,18 +153,21 @@ const FAR_1: Record = Record {
     time: 1,
     from: OUTSIDE,
     to: ([128, 0, 0, 1], 2),
+    macs: None,
 };
 
 const FAR_2: Record = Record {
     time: 2,
     from: OUTSIDE,
     to: ([128, 0, 0, 2], 2),
+    macs: None,
 };
 
 const FAR_3: Record = Record {
     time: 3,
     from: OUTSIDE,
     to: ([128, 0, 0, 3], 2),
+    macs: None,
 };
 
 /// The first handles what goes to 10.0.0.0.
@@ -169,24 +175,28 @@ const NEAR_4: Record = Record {
     time: 4,
     from: OUTSIDE,
     to: ([10, 0, 0, 4], 2),
+    macs: None,
 };
 
 const NEAR_5: Record = Record {
     time: 5,
     from: OUTSIDE,
     to: ([10, 0, 0, 5], 2),
+    macs: None,
 };
 
 const NEAR_6: Record = Record {
     time: 6,
     from: OUTSIDE,
     to: ([10, 0, 0, 6], 2),
+    macs: None,
 };
 
 const NEAR_7: Record = Record {
     time: 7,
     from: OUTSIDE,
     to: ([10, 0, 0, 7], 2),
+    macs: None,
 };
 
 /// Three packets to a policer's hosts far away, of which two were sent on.
@@ -288,5 +298,134 @@ pub static SIX_JOURNALS: [Journal; 3] = [
     (
         "a full chain, by one worker",
         "maestro journal 1 one 1\n1 0 0 to:0 3\n1 1 0 to:0 1\n1 2 0 to:0 0\n1 3 0 to:0 4\n1 4 0 to:0 2\n1 5 0 drop -\n",
+    ),
+];
+
+const HERE: End = ([1, 1, 1, 1], 1);
+
+const THERE: End = ([2, 2, 2, 2], 2);
+
+/// From the host 10 to the host 11.
+const HELLO: Record = Record {
+    time: 5,
+    from: HERE,
+    to: THERE,
+    macs: Some((10, 11)),
+};
+
+/// And back.
+const REPLY: Record = Record {
+    time: 9,
+    from: HERE,
+    to: THERE,
+    macs: Some((11, 10)),
+};
+
+/// Two hosts at a bridge, one at each port.
+pub static HOSTS_MEET: Beside = Beside {
+    captures: &[&[HELLO], &[REPLY]],
+    outputs: &[&[REPLY], &[HELLO]],
+    longer: None,
+    most: 9,
+};
+
+pub static MEETING_JOURNALS: [Journal; 15] = [
+    (
+        "the later packet first",
+        "maestro journal 1 lock 2\n1 0 1 flood 0\n0 0 0 to:1 1\n",
+    ),
+    (
+        "the earlier packet first",
+        "maestro journal 1 lock 2\n0 0 0 flood 2\n1 0 1 to:0 1\n",
+    ),
+    (
+        "three workers",
+        "maestro journal 1 lock 3\n1 0 1 flood 0\n0 0 0 to:1 1\n",
+    ),
+    (
+        "another port",
+        "maestro journal 1 lock 2\n1 0 1 flood 0\n0 0 0 to:0 1\n",
+    ),
+    (
+        "another worker",
+        "maestro journal 1 lock 2\n1 0 0 flood 0\n0 0 0 to:1 1\n",
+    ),
+    (
+        "an index twice",
+        "maestro journal 1 lock 2\n0 0 0 flood 1\n1 0 1 to:0 1\n",
+    ),
+    (
+        "an index that is none",
+        "maestro journal 1 lock 2\n1 0 1 flood 4\n0 0 0 to:1 1\n",
+    ),
+    (
+        "a port that is none",
+        "maestro journal 1 lock 2\n2 0 0 flood 0\n",
+    ),
+    (
+        "the packet behind the first",
+        "maestro journal 1 lock 2\n1 1 1 flood 0\n0 0 0 to:1 1\n",
+    ),
+    (
+        "a packet twice",
+        "maestro journal 1 lock 2\n1 0 1 flood 0\n1 0 1 flood -\n",
+    ),
+    (
+        "a packet that never came",
+        "maestro journal 1 lock 2\n1 0 1 flood 0\n0 0 0 to:1 1\n0 1 0 to:1 -\n",
+    ),
+    (
+        "a first line twice",
+        "maestro journal 1 lock 2\nmaestro journal 1 lock 2\n",
+    ),
+    (
+        "one worker",
+        "maestro journal 1 lock 1\n1 0 0 flood 0\n0 0 0 to:1 1\n",
+    ),
+    (
+        "the later packet first in mode one",
+        "maestro journal 1 one 2\n1 0 0 flood 0\n0 0 0 to:1 1\n",
+    ),
+    (
+        "cut behind a line",
+        "maestro journal 1 lock 2\n1 0 1 flood 0\n",
+    ),
+];
+
+/// The same, where one packet is judged at most: the later one may be it.
+pub static ONE_HOST: Beside = Beside {
+    captures: &[&[HELLO], &[REPLY]],
+    outputs: &[&[REPLY], &[]],
+    longer: None,
+    most: 1,
+};
+
+pub static ONE_HOST_JOURNALS: [Journal; 2] = [
+    (
+        "as many lines as are asked for",
+        "maestro journal 1 lock 2\n1 0 1 flood 0\n",
+    ),
+    (
+        "more than are asked for",
+        "maestro journal 1 lock 2\n1 0 1 flood 0\n?",
+    ),
+];
+
+/// A firewall's packet and its answer, handled in the order in which they came or not.
+pub static UNANSWERED: Beside = Beside {
+    captures: &[&[SENT], &[ANSWER]],
+    outputs: &[&[], &[SENT]],
+    longer: None,
+    most: 9,
+};
+
+pub static UNANSWERED_JOURNALS: [Journal; 2] = [
+    (
+        "an answer that came first",
+        "maestro journal 1 lock 2\n1 0 1 drop -\n0 0 0 to:1 0\n",
+    ),
+    (
+        "the same in mode shard",
+        "maestro journal 1 shard 2\n1 0 1 drop -\n0 0 0 to:1 0\n",
     ),
 ];

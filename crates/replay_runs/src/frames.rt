@@ -18,12 +18,14 @@ pub struct Record {
     pub time: u64,
     pub from: End,
     pub to: End,
+    /// The lowest bytes of its MAC addresses, of the sender's and of the receiver's; all others are 0.
+    pub macs: Option<(u8, u8)>,
 }
 
-fn frame(from: End, to: End) -> [u8; 42] {
+fn frame(record: &Record) -> [u8; 42] {
     let mut bytes = FRAME;
-    let ([a, b, c, d], source) = from;
-    let ([e, f, g, h], target) = to;
+    let ([a, b, c, d], source) = record.from;
+    let ([e, f, g, h], target) = record.to;
     let places = [
         (26, a),
         (27, b),
@@ -41,6 +43,12 @@ fn frame(from: End, to: End) -> [u8; 42] {
             bytes[at as usize] = byte;
         }
     }
+    if let Some((sender, receiver)) = record.macs {
+        bytes[0] = 0;
+        bytes[5] = receiver;
+        bytes[6] = 0;
+        bytes[11] = sender;
+    }
     bytes
 }
 
@@ -50,7 +58,7 @@ pub fn capture(alloc: Global, records: &[Record]) -> Result<Vec<u8>, AllocError>
     push_header(&mut out)?;
     for record in records {
         let time = record.time.min(4_294_967_295_999_999_999);
-        push_record(&mut out, time, 42, &frame(record.from, record.to))?;
+        push_record(&mut out, time, 42, &frame(record))?;
     }
     Ok(out)
 }

@@ -11,8 +11,9 @@ mod verdict;
 
 use cases::{
     Beside, CUT_JOURNALS, FEWER, FEWER_JOURNALS, FIRST, FIRST_JOURNALS, FLOW, FLOW_JOURNALS, FULL,
-    FULL_JOURNALS, HOSTS, HOSTS_JOURNALS, Journal, LONGER, LONGER_JOURNALS, NOTHING_SENT, SENT,
-    SIX, SIX_JOURNALS,
+    FULL_JOURNALS, HOSTS, HOSTS_JOURNALS, HOSTS_MEET, Journal, LONGER, LONGER_JOURNALS,
+    MEETING_JOURNALS, NOTHING_SENT, ONE_HOST, ONE_HOST_JOURNALS, SENT, SIX, SIX_JOURNALS,
+    UNANSWERED, UNANSWERED_JOURNALS,
 };
 use frames::{capture, captures};
 use functions::{BRIDGE, FIREWALL, POLICER};
@@ -116,6 +117,9 @@ fn main(rt: HostRuntime) -> io::Result<()> {
     tell(&rt, POLICER, &SIX, &SIX_JOURNALS)?;
     println!(&rt; "a bridge, without keys")?;
     tell(&rt, BRIDGE, &HOSTS, &HOSTS_JOURNALS[..1])?;
+    tell(&rt, BRIDGE, &HOSTS_MEET, &MEETING_JOURNALS)?;
+    tell(&rt, BRIDGE, &ONE_HOST, &ONE_HOST_JOURNALS)?;
+    tell(&rt, FIREWALL, &UNANSWERED, &UNANSWERED_JOURNALS)?;
     long(&rt, 6000, true)?;
     long(&rt, 6000, false)?;
     failing(&rt)

@@ -3,18 +3,13 @@ ghost use Rattle.std.specs.Prelude.{◌≡◌, ◌≤◌, ◌+◌, ◌∷◌, �
 ghost use Rattle.packet_feed.specs.Told.{EachFile, IsApart};
 ghost use Rattle.packet_feed.specs.Sources.{files_in};
 
-use crate::calls::{header, journal, open_all, replay_one, replay_two, start};
+use crate::calls::{check, open_all, start};
 use crate::verdict::keys_of;
-use journal_read::Journal;
 use nf_base::func::Func;
-use nf_base::keys::Keys;
-use nf_files::{Files, FilesFault, MemoryFiles};
+use nf_files::{Files, MemoryFiles};
 use nf_syntax::parse;
-use nf_types::check;
 use packet_feed::{Feed, FeedFault};
 use replay_run::Replayed;
-use run_history::header::Header;
-use run_history::line::Mode;
 use run_history::state_text::state_text;
 use std::alloc::{AllocError, Global};
 use stream_run::Stop;
@@ -27,8 +22,6 @@ pub enum End {
     /// A file could not be opened.
     Unopened,
     Unstarted(FeedFault),
-    /// The first line could not be read.
-    Unread(FilesFault),
     Stopped(Stop),
     /// The journal and the outputs are those of a run.
     Same,
@@ -59,7 +52,7 @@ const NAMES: [&str; 5] = ["a", "b", "journal", "0", "1"];
 /// The function that a text is.
 fn function(alloc: Global, text: &[u8]) -> Option<Func> {
     let tree = parse(alloc, text).ok()?;
-    check(alloc, &tree).ok()
+    nf_types::check(alloc, &tree).ok()
 }
 
 /// Replays a journal of a function with two ports, of at most so many packets; the calls on files that are listed fail.
@@ -117,13 +110,12 @@ fn replay_over<F: Files>(
             return Ok(());
         }
     };
-    let mut lines = journal(alloc, *file)?;
     replay_opened(
-        alloc, files, func, &mut feed, most, &captures, &mut lines, &outputs, outcome,
+        alloc, files, func, &mut feed, most, &captures, *file, &outputs, outcome,
     )
 }
 
-/// Reads the first line, and replays the others.
+/// Finds the function's keys, and replays.
 fn replay_opened<F: Files>(
     alloc: Global,
     files: &mut F,
@@ -131,7 +123,7 @@ fn replay_opened<F: Files>(
     feed: &mut Feed,
     most: u32,
     captures: &[u32],
-    lines: &mut Journal,
+    journal: u32,
     outputs: &[u32],
     outcome: &mut Outcome,
 ) -> Result<(), AllocError>
@@ -142,30 +134,25 @@ fn replay_opened<F: Files>(
     requires most { feed.old.most ≡ most }
     requires read { EachFile (F.is_read files.old) captures.now }
     requires opened { EachFile (F.is_read files.old) outputs.now }
-    requires opened_journal { F.is_read files.old lines.old.file }
-    requires apart { IsApart (captures.now ++ lines.old.file ∷ outputs.now) }
+    requires opened_journal { F.is_read files.old journal }
+    requires apart { IsApart (captures.now ++ journal ∷ outputs.now) }
     requires as_many { length outputs.now ≡ 2 }
 {
-    let first = match header(alloc, files, lines) {
-        Ok(Some(first)) => first,
-        Ok(None) => {
-            outcome.end = End::Line(1);
-            return Ok(());
-        }
-        Err(fault) => {
-            outcome.end = End::Unread(fault);
-            return Ok(());
-        }
-    };
-    let keys = keys_of(alloc, func)?;
-    let replayed = match (first.mode(), keys) {
-        (Mode::One, _) => replay_one(
-            alloc, files, func, feed, most, captures, lines, first, outputs,
+    let replayed = match keys_of(alloc, func)? {
+        Some(keys) => check(
+            alloc,
+            files,
+            func,
+            Some(&keys),
+            feed,
+            most,
+            captures,
+            journal,
+            outputs,
         ),
-        (Mode::Shard, Some(keys)) => replay_two(
-            alloc, files, func, &keys, feed, most, captures, lines, first, outputs,
+        None => check(
+            alloc, files, func, None, feed, most, captures, journal, outputs,
         ),
-        _ => Ok(Replayed::Line(1)),
     };
     put(alloc, func, replayed, outcome)
 }

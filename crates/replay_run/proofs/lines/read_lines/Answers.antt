@@ -14,14 +14,13 @@ use Rattle.journal_read.specs.Journals as journals
 use Rattle.stream_run.specs.declared.stop.Stop.{Stop}
 use Rattle.stream_run.specs.Writing.{StopsAmong}
 use Rattle.file_match.specs.Comparing.{Comparing}
-use Rattle.packet_feed.specs.Feeding.{StandsFor}
 use Rattle.stream_run.specs.Runs.{Handled}
 use Rattle.stream_run.specs.Streaming.{arrival_of}
 use Rattle.stream_run.specs.Texts.{bytes_of}
 use Rattle.replay_run.specs.Outputs.{files_of, AreFound}
 use Rattle.replay_run.specs.Queues.{keys_in}
-use Rattle.replay_run.specs.Replaying.{IsRun, NoneGoesOn, packets_at}
-use Rattle.replay_run.specs.Turns.{IsTurn, IsEnd}
+use Rattle.replay_run.specs.Replaying.{IsRun, NoneGoesOn}
+use Rattle.replay_run.specs.Turns.{StandsIn, packets_at, IsTurn, IsEnd}
 use Rattle.replay_run.specs.declared.lines.End.{End}
 use Rattle.replay_run.proofs.Compared.{file_at, same_length}
 use Rattle.replay_run.proofs.Kept.{others_both, others_around, others_outputs, others_one, among_more, among_of}
@@ -57,10 +56,11 @@ lines-init g c =
     let j = c.args.judge.now in
     let kept = c.compare_headers.ensures.kept in
     record {
-      reached = reached_none (IsRun (function_of c.args.func.now) (keys_in c.args.keys) j.heading) j.heading (length captures) c.args.feed.now c.args.journal.now old now c.compare_headers.new.all j.tables.state c.requires.opens c.requires.new
+      reached = λ start bytes b. reached_none (IsRun (function_of c.args.func.now) (keys_in c.args.keys) j.heading) j.heading (length captures) start bytes c.args.feed.now c.args.journal.now old now c.compare_headers.new.all j.tables.state c.requires.opens c.requires.new
           (λ port f e. kept.rests f (c.requires.clear.behind port f (sym (ap (λ (fs : List ℕ). slice_get fs port) c.requires.captures) ∙ e)))
           (kept.rests c.args.journal.now.file c.requires.no_output)
-          (subst (λ (n : ℕ). AreFound (λ k. bytes_of j.heading.mode j.heading.workers n k []) old.rest c.compare_headers.new.all now) c.requires.as_many (c.in-Ok.ensures.compares j.heading.mode j.heading.workers));
+          (subst (λ (n : ℕ). AreFound (λ k. bytes_of j.heading.mode j.heading.workers n k []) old.rest c.compare_headers.new.all now) c.requires.as_many (c.in-Ok.ensures.compares j.heading.mode j.heading.workers))
+          b;
       captures = c.requires.captures;
       most = c.requires.most;
       within = omega (arith, c.requires.new);
@@ -77,7 +77,7 @@ lines-init g c =
 pub lines-preserved : goal.lines-preserved
 lines-preserved g c =
     let told = g.F.Files.told in
-    let start = told c.args.files.now in
+    let first = told c.args.files.now in
     let old = told c.lines.files in
     let mid = told c.next_line.new.files in
     let new = told c.one_turn.new.files in
@@ -90,12 +90,12 @@ lines-preserved g c =
     let read : Keeps old mid file = subst (λ (n : ℕ). Keeps old mid n) inv.same_file c.next_line.ensures.kept in
     let turned : KeepsOthers (captures ++ outputs) mid new = subst (λ (fs : List ℕ). KeepsOthers (captures ++ fs) mid new) inv.same_outputs c.one_turn.ensures.kept in
     let gives = rw c.in-Ok-Line.field-0-is at c.in-Ok-Line.ensures.gives in
-    let turn = subst (λ (h : Heading). IsTurn (IsRun (function_of c.args.func.now) (keys_in c.args.keys) h) c.in-Ok-Line.line c.lines.judge.tables.state c.one_turn.new.judge.tables.state c.lines.feed c.one_turn.new.feed mid new c.lines.outputs c.one_turn.new.outputs) inv.same_heading (rw c.in-Ok-true.field-0-test at c.in-Ok-true.ensures.turns) in
+    let turn = subst (λ (h : Heading). IsTurn (IsRun (function_of c.args.func.now) (keys_in c.args.keys) h) h.mode c.in-Ok-Line.line c.lines.judge.tables.state c.one_turn.new.judge.tables.state c.lines.feed c.one_turn.new.feed mid new c.lines.outputs c.one_turn.new.outputs) inv.same_heading (rw c.in-Ok-true.field-0-test at c.in-Ok-true.ensures.turns) in
     let counts = rw c.in-Ok-true.field-0-test at c.in-Ok-true.ensures.counts in
     let few : length c.lines.outputs ≤ length captures = omega (arith, same_length c.lines.outputs begun inv.same_outputs, c.requires.as_many) in
     record {
-      reached = reached_more (IsRun (function_of c.args.func.now) (keys_in c.args.keys) j.heading) j.heading (length captures) c.args.feed.now c.args.journal.now start old mid new c.lines.feed c.one_turn.new.feed c.lines.journal c.next_line.new.journal c.lines.outputs c.one_turn.new.outputs c.lines.judge.tables.state c.one_turn.new.judge.tables.state c.in-Ok-Line.line
-          inv.reached
+      reached = λ start bytes b. reached_more (IsRun (function_of c.args.func.now) (keys_in c.args.keys) j.heading) j.heading (length captures) start bytes first.rest file old mid new c.lines.feed c.one_turn.new.feed c.lines.journal c.next_line.new.journal c.lines.outputs c.one_turn.new.outputs c.lines.judge.tables.state c.one_turn.new.judge.tables.state c.in-Ok-Line.line
+          (inv.reached start bytes b)
           (λ at lines stands. gives_at c.lines.journal c.next_line.new.journal old mid c.lines.journal.file file c.in-Ok-Line.line inv.same_file gives at lines stands)
           turn
           (λ port f e. captures_while captures file old mid c.requires.no_capture read port f (sym (ap (λ (fs : List ℕ). slice_get fs port) inv.captures) ∙ e))
@@ -109,7 +109,7 @@ lines-preserved g c =
       same_heading = c.one_turn.ensures.same_heading ∙ inv.same_heading;
       same_file = c.next_line.ensures.same_file ∙ inv.same_file;
       same_outputs = c.one_turn.ensures.same_outputs ∙ inv.same_outputs;
-      kept = others_both (captures ++ file ∷ outputs) start mid new (others_both (captures ++ file ∷ outputs) start old mid inv.kept (others_one captures file outputs old mid read)) (others_around captures file outputs mid new turned);
+      kept = others_both (captures ++ file ∷ outputs) first mid new (others_both (captures ++ file ∷ outputs) first old mid inv.kept (others_one captures file outputs old mid read)) (others_around captures file outputs mid new turned);
       reads = λ n r. c.one_turn.ensures.reads n (c.next_line.ensures.reads n (inv.reads n r));
       writes = λ n r. c.one_turn.ensures.writes n (c.next_line.ensures.writes n (inv.writes n r));
       count = c.in-Ok-true.ensures.cause ∙ c.in-Ok-Line.ensures.cause ∙ inv.count;
@@ -127,7 +127,7 @@ returns-in-Err-clause-among g c =
 pub returns-then-given-most-clause-reads_all : goal.returns-then-given-most-clause-reads_all
 returns-then-given-most-clause-reads_all g c =
     let told = g.F.Files.told in
-    let start = told c.args.files.now in
+    let first = told c.args.files.now in
     let old = told c.lines.files in
     let captures = c.args.captures.now in
     let begun = c.args.outputs.now in
@@ -140,13 +140,14 @@ returns-then-given-most-clause-reads_all g c =
     let new = told c.end_of.new.files in
     let read : Keeps old new file = subst (λ (n : ℕ). Keeps old new n) inv.same_file c.end_of.ensures.kept in
     let ends = subst (λ (m : ℕ). (at : Option (List ℕ)) (lines : List JournalLine) → Stands at lines c.lines.journal (old.rest m) → IsEnd at lines c.end_of.result) inv.same_file c.end_of.ensures.ends in
-    ends_at Stop f heading (length captures) c.args.feed.now c.args.journal.now start old new c.lines.feed c.lines.journal c.lines.outputs c.lines.judge.tables.state c.end_of.result inv.reached same (omega (arith, inv.within, c.requires.most)) (omega (arith, c.if-given-most.true, c.given.ensures, c.requires.most))
+    λ start bytes b.
+    ends_at f heading (length captures) start bytes c.args.feed.now outputs first c.args.most Stop old new c.lines.feed c.lines.journal file c.lines.outputs c.lines.judge.tables.state c.end_of.result (inv.reached start bytes b) same (omega (arith, c.if-given-most.true, c.given.ensures))
     ends c.end_of.ensures.right (outputs_while c.lines.outputs begun file old new inv.same_outputs c.requires.no_output read)
 
 pub returns-then-given-most-clause-kept : goal.returns-then-given-most-clause-kept
 returns-then-given-most-clause-kept g c =
     let told = g.F.Files.told in
-    let start = told c.args.files.now in
+    let first = told c.args.files.now in
     let old = told c.lines.files in
     let captures = c.args.captures.now in
     let begun = c.args.outputs.now in
@@ -158,12 +159,12 @@ returns-then-given-most-clause-kept g c =
     let same = inv.captures ∙ sym c.requires.captures in
     let new = told c.end_of.new.files in
     let read : Keeps old new file = subst (λ (n : ℕ). Keeps old new n) inv.same_file c.end_of.ensures.kept in
-    others_both (captures ++ file ∷ outputs) start old new inv.kept (others_one captures file outputs old new read)
+    others_both (captures ++ file ∷ outputs) first old new inv.kept (others_one captures file outputs old new read)
 
 pub returns-in-Ok-End-clause-reads_all : goal.returns-in-Ok-End-clause-reads_all
 returns-in-Ok-End-clause-reads_all g c =
     let told = g.F.Files.told in
-    let start = told c.args.files.now in
+    let first = told c.args.files.now in
     let old = told c.lines.files in
     let captures = c.args.captures.now in
     let begun = c.args.outputs.now in
@@ -177,12 +178,13 @@ returns-in-Ok-End-clause-reads_all g c =
     let read : Keeps old mid file = subst (λ (n : ℕ). Keeps old mid n) inv.same_file c.next_line.ensures.kept in
     let gives = rw c.in-Ok-End.field-0-is at c.in-Ok-End.ensures.gives in
     let all = subst (λ (m : ℕ). (at : Option (List ℕ)) (lines : List JournalLine) → Stands at lines c.lines.journal (old.rest m) → AreAllLines at lines) inv.same_file gives in
-    over_at f heading (length captures) c.args.feed.now c.args.journal.now start old mid c.lines.feed c.lines.journal c.lines.outputs c.lines.judge.tables.state inv.reached same (omega (arith, inv.within, c.requires.most)) all (outputs_while c.lines.outputs begun file old mid inv.same_outputs c.requires.no_output read)
+    λ start bytes b.
+    over_at f heading (length captures) start bytes c.args.feed.now outputs first c.args.most old mid c.lines.feed c.lines.journal file c.lines.outputs c.lines.judge.tables.state (inv.reached start bytes b) same inv.within all (outputs_while c.lines.outputs begun file old mid inv.same_outputs c.requires.no_output read)
 
 pub returns-in-Ok-Wrong-clause-reads_all : goal.returns-in-Ok-Wrong-clause-reads_all
 returns-in-Ok-Wrong-clause-reads_all g c =
     let told = g.F.Files.told in
-    let start = told c.args.files.now in
+    let first = told c.args.files.now in
     let old = told c.lines.files in
     let captures = c.args.captures.now in
     let begun = c.args.outputs.now in
@@ -194,12 +196,13 @@ returns-in-Ok-Wrong-clause-reads_all g c =
     let same = inv.captures ∙ sym c.requires.captures in
     let gives = rw c.in-Ok-Wrong.field-0-is at c.in-Ok-Wrong.ensures.gives in
     let wrong = subst (λ (m : ℕ). (at : Option (List ℕ)) (lines : List JournalLine) → Stands at lines c.lines.journal (old.rest m) → journals.IsWrong at lines) inv.same_file gives in
-    wrong_at f heading (length captures) c.args.feed.now c.args.journal.now start old c.lines.feed c.lines.journal c.lines.outputs c.lines.judge.tables.state _ inv.reached same (omega (arith, inv.within, c.requires.most, c.if-given-most.false, c.given.ensures)) (grind arith) wrong
+    λ start bytes b.
+    wrong_at f heading (length captures) start bytes c.args.feed.now outputs first c.args.most old c.lines.feed c.lines.journal file c.lines.outputs c.lines.judge.tables.state _ (inv.reached start bytes b) same (omega (arith, inv.within, c.if-given-most.false, c.given.ensures)) (grind arith) wrong
 
 pub returns-in-Ok-false-clause-reads_all : goal.returns-in-Ok-false-clause-reads_all
 returns-in-Ok-false-clause-reads_all g c =
     let told = g.F.Files.told in
-    let start = told c.args.files.now in
+    let first = told c.args.files.now in
     let old = told c.lines.files in
     let captures = c.args.captures.now in
     let begun = c.args.outputs.now in
@@ -212,8 +215,9 @@ returns-in-Ok-false-clause-reads_all g c =
     let mid = told c.next_line.new.files in
     let read : Keeps old mid file = subst (λ (n : ℕ). Keeps old mid n) inv.same_file c.next_line.ensures.kept in
     let gives = rw c.in-Ok-Line.field-0-is at c.in-Ok-Line.ensures.gives in
-    let none = subst (λ (h : Heading). (before : Told) (hs : List Handled) → IsRun (function_of c.args.func.now) (keys_in c.args.keys) h hs c.lines.judge.tables.state → StandsFor before (map arrival_of hs) c.lines.feed mid → NoneGoesOn (IsRun (function_of c.args.func.now) (keys_in c.args.keys) h) (packets_at c.lines.feed before) hs (λ l. l ≡ c.in-Ok-Line.line)) inv.same_heading (rw c.in-Ok-false.field-0-test at c.in-Ok-false.ensures.turns) in
-    wrong_turn f heading (length captures) c.args.feed.now c.args.journal.now start old mid c.lines.feed c.lines.journal c.next_line.new.journal c.lines.outputs c.lines.judge.tables.state c.in-Ok-Line.line _ inv.reached same (omega (arith, inv.within, c.requires.most, c.if-given-most.false, c.given.ensures)) (grind arith)
+    let none = subst (λ (h : Heading). (before : Told) (hs : List Handled) → IsRun (function_of c.args.func.now) (keys_in c.args.keys) h hs c.lines.judge.tables.state → StandsIn h.mode before (map arrival_of hs) c.lines.feed mid → NoneGoesOn (IsRun (function_of c.args.func.now) (keys_in c.args.keys) h) h.mode (packets_at c.lines.feed before) hs (λ l. l ≡ c.in-Ok-Line.line)) inv.same_heading (rw c.in-Ok-false.field-0-test at c.in-Ok-false.ensures.turns) in
+    λ start bytes b.
+    wrong_turn f heading (length captures) start bytes c.args.feed.now outputs first c.args.most old mid c.lines.feed c.lines.journal c.next_line.new.journal file c.lines.outputs c.lines.judge.tables.state c.in-Ok-Line.line _ (inv.reached start bytes b) same (omega (arith, inv.within, c.if-given-most.false, c.given.ensures)) (grind arith)
     (λ at lines stands. gives_at c.lines.journal c.next_line.new.journal old mid c.lines.journal.file file c.in-Ok-Line.line inv.same_file gives at lines stands)
     (λ port n e. captures_while captures file old mid c.requires.no_capture read port n (sym (ap (λ (fs : List ℕ). slice_get fs port) inv.captures) ∙ e))
     none
@@ -227,7 +231,7 @@ returns-in-Err-one_turn-clause-among g c =
 pub returns-in-Ok-End-clause-kept : goal.returns-in-Ok-End-clause-kept
 returns-in-Ok-End-clause-kept g c =
     let told = g.F.Files.told in
-    let start = told c.args.files.now in
+    let first = told c.args.files.now in
     let old = told c.lines.files in
     let captures = c.args.captures.now in
     let begun = c.args.outputs.now in
@@ -239,12 +243,12 @@ returns-in-Ok-End-clause-kept g c =
     let same = inv.captures ∙ sym c.requires.captures in
     let mid = told c.next_line.new.files in
     let read : Keeps old mid file = subst (λ (n : ℕ). Keeps old mid n) inv.same_file c.next_line.ensures.kept in
-    others_both (captures ++ file ∷ outputs) start old mid inv.kept (others_one captures file outputs old mid read)
+    others_both (captures ++ file ∷ outputs) first old mid inv.kept (others_one captures file outputs old mid read)
 
 pub returns-in-Ok-Wrong-clause-kept : goal.returns-in-Ok-Wrong-clause-kept
 returns-in-Ok-Wrong-clause-kept g c =
     let told = g.F.Files.told in
-    let start = told c.args.files.now in
+    let first = told c.args.files.now in
     let old = told c.lines.files in
     let captures = c.args.captures.now in
     let begun = c.args.outputs.now in
@@ -256,12 +260,12 @@ returns-in-Ok-Wrong-clause-kept g c =
     let same = inv.captures ∙ sym c.requires.captures in
     let mid = told c.next_line.new.files in
     let read : Keeps old mid file = subst (λ (n : ℕ). Keeps old mid n) inv.same_file c.next_line.ensures.kept in
-    others_both (captures ++ file ∷ outputs) start old mid inv.kept (others_one captures file outputs old mid read)
+    others_both (captures ++ file ∷ outputs) first old mid inv.kept (others_one captures file outputs old mid read)
 
 pub returns-in-Err-next_line-clause-kept : goal.returns-in-Err-next_line-clause-kept
 returns-in-Err-next_line-clause-kept g c =
     let told = g.F.Files.told in
-    let start = told c.args.files.now in
+    let first = told c.args.files.now in
     let old = told c.lines.files in
     let captures = c.args.captures.now in
     let begun = c.args.outputs.now in
@@ -273,12 +277,12 @@ returns-in-Err-next_line-clause-kept g c =
     let same = inv.captures ∙ sym c.requires.captures in
     let mid = told c.next_line.new.files in
     let read : Keeps old mid file = subst (λ (n : ℕ). Keeps old mid n) inv.same_file c.next_line.ensures.kept in
-    others_both (captures ++ file ∷ outputs) start old mid inv.kept (others_one captures file outputs old mid read)
+    others_both (captures ++ file ∷ outputs) first old mid inv.kept (others_one captures file outputs old mid read)
 
 pub returns-in-Ok-false-clause-kept : goal.returns-in-Ok-false-clause-kept
 returns-in-Ok-false-clause-kept g c =
     let told = g.F.Files.told in
-    let start = told c.args.files.now in
+    let first = told c.args.files.now in
     let old = told c.lines.files in
     let captures = c.args.captures.now in
     let begun = c.args.outputs.now in
@@ -292,12 +296,12 @@ returns-in-Ok-false-clause-kept g c =
     let read : Keeps old mid file = subst (λ (n : ℕ). Keeps old mid n) inv.same_file c.next_line.ensures.kept in
     let new = told c.one_turn.new.files in
     let turned : KeepsOthers (captures ++ outputs) mid new = subst (λ (fs : List ℕ). KeepsOthers (captures ++ fs) mid new) inv.same_outputs c.one_turn.ensures.kept in
-    others_both (captures ++ file ∷ outputs) start mid new (others_both (captures ++ file ∷ outputs) start old mid inv.kept (others_one captures file outputs old mid read)) (others_around captures file outputs mid new turned)
+    others_both (captures ++ file ∷ outputs) first mid new (others_both (captures ++ file ∷ outputs) first old mid inv.kept (others_one captures file outputs old mid read)) (others_around captures file outputs mid new turned)
 
 pub returns-in-Err-one_turn-clause-kept : goal.returns-in-Err-one_turn-clause-kept
 returns-in-Err-one_turn-clause-kept g c =
     let told = g.F.Files.told in
-    let start = told c.args.files.now in
+    let first = told c.args.files.now in
     let old = told c.lines.files in
     let captures = c.args.captures.now in
     let begun = c.args.outputs.now in
@@ -311,4 +315,4 @@ returns-in-Err-one_turn-clause-kept g c =
     let read : Keeps old mid file = subst (λ (n : ℕ). Keeps old mid n) inv.same_file c.next_line.ensures.kept in
     let new = told c.one_turn.new.files in
     let turned : KeepsOthers (captures ++ outputs) mid new = subst (λ (fs : List ℕ). KeepsOthers (captures ++ fs) mid new) inv.same_outputs c.one_turn.ensures.kept in
-    others_both (captures ++ file ∷ outputs) start mid new (others_both (captures ++ file ∷ outputs) start old mid inv.kept (others_one captures file outputs old mid read)) (others_around captures file outputs mid new turned)
+    others_both (captures ++ file ∷ outputs) first mid new (others_both (captures ++ file ∷ outputs) first old mid inv.kept (others_one captures file outputs old mid read)) (others_around captures file outputs mid new turned)

@@ -1,12 +1,13 @@
-use Rattle.std.proofs.Common.{◌≡◌, ◌≤◌, ◌-◌, ◌∷◌, ◌++◌, ℕ, length}
+use Rattle.std.proofs.Common.{◌≡◌, ◌≤◌, ◌-◌, ◌∷◌, ◌++◌, ℕ, List, Option, length}
 use Rattle.nf_base.specs.Functions.{function_of}
 use Rattle.nf_engine.specs.View.{fixed_of}
+use Rattle.nf_files.specs.Told.{Told}
 use Rattle.packet_feed.specs.Told.{KeepsOthers}
 use Rattle.packet_feed.specs.Sources.{files_in}
 use Rattle.replay_run.specs.Outputs.{files_of}
 use Rattle.replay_run.specs.Queues.{keys_in}
 use Rattle.replay_run.specs.Replaying.{IsRun}
-use Rattle.replay_run.specs.Turns.{Reaches}
+use Rattle.replay_run.specs.Turns.{Begins, Reaches}
 use Rattle.replay_run.proofs.lines.read_lines.Given as goal
 
 -- the lines so far are right
@@ -14,7 +15,8 @@ abbrev pub invariant-lines : goal.invariant-lines
 invariant-lines g l =
     let told = g.F.Files.told in
     record {
-      reached : Reaches (IsRun (function_of l.func) (keys_in l.keys) l.fn.judge.heading) l.fn.judge.heading (length l.captures) l.fn.feed l.fn.journal (told l.fn.files) l.feed l.journal (told l.files) l.outputs l.judge.tables.state;
+      reached : (start : Told) (bytes : Option (List ℕ)) → Begins l.fn.judge.heading l.fn.feed l.fn.journal start bytes (told l.fn.files)
+          → Reaches (IsRun (function_of l.func) (keys_in l.keys) l.fn.judge.heading) l.fn.judge.heading (length l.captures) start bytes (told l.fn.files).rest l.feed l.journal l.fn.journal.file (told l.files) l.outputs l.judge.tables.state;
       captures : files_in l.feed.sources ≡ l.captures;
       most : l.feed.most ≡ l.most;
       within : l.feed.given ≤ l.most;

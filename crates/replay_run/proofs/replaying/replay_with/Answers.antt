@@ -1,13 +1,16 @@
-use Rattle.std.proofs.Common.{◌≢◌, ◌++◌, ◌∷◌, [], ℕ, List, sym, ap, subst, ◌∙◌}
+use Rattle.std.proofs.Common.{◌≢◌, ◌++◌, ◌∷◌, [], ℕ, List, Ok, length, sym, ap, subst, ◌∙◌}
 use Rattle.std.specs.List.{All}
 use Rattle.packet_feed.specs.Told.{IsApart, KeepsOthers}
 use Rattle.stream_run.specs.Writing.{StopsAmong}
 use Rattle.nf_base.specs.Functions.{function_of}
 use Rattle.run_history.specs.Headings.{Heading}
 use Rattle.vig_tables.specs.TablesState.{TablesState}
+use Rattle.replay_run.specs.Outputs.{files_of}
 use Rattle.replay_run.specs.Queues.{keys_in}
-use Rattle.replay_run.specs.Replaying.{IsRun}
+use Rattle.replay_run.specs.Replaying.{IsRun, Finishes, sent}
 use Rattle.replay_run.specs.Turns.{AreClear}
+use Rattle.replay_run.specs.declared.lines.End.TheVariants as end
+use Rattle.replay_run.proofs.Finishing.{read_as, finished}
 use Rattle.replay_run.specs.declared.replayed.Replayed.{Replayed}
 use Rattle.replay_run.proofs.Apart.{apart_right, clear_of, without, not_left, not_right, tail_apart}
 use Rattle.replay_run.proofs.Runs.{begins_so}
@@ -70,3 +73,31 @@ returns-clause-among g c =
     let outputs = c.args.outputs.now in
     among_any Replayed c.args.captures.now outputs c.args.journal.now.file c.finish.result
     (subst (λ (fs : List ℕ). StopsAmong [] fs c.finish.result) (c.read_lines.ensures.same_outputs ∙ c.in-Ok-begin.ensures.files) c.finish.ensures.among)
+
+pub returns-in-Wrong-clause-replays : goal.returns-in-Wrong-clause-replays
+returns-in-Wrong-clause-replays g c = λ start bytes b.
+    let told = g.F.Files.told in
+    let reads = rw c.in-Wrong.is at c.in-Ok-read_lines.ensures.reads_all in
+    read_as (function_of c.args.func.now) (keys_in c.args.keys) c.in-Ok.judge.heading c.args.header (length c.args.captures.now) c.args.feed.now c.args.journal.now (files_of c.in-Ok-begin.compared) c.args.outputs.now (told c.args.files.now) (told c.read_lines.new.files) c.args.most
+    c.read_lines.new.outputs c.read_lines.new.judge.tables.state (Ok (end.Wrong c.in-Wrong.line)) c.in-Ok.ensures.heading c.in-Ok-begin.ensures.files reads start bytes b
+
+pub returns-in-TooMany-clause-replays : goal.returns-in-TooMany-clause-replays
+returns-in-TooMany-clause-replays g c = λ start bytes b.
+    let told = g.F.Files.told in
+    let reads = rw c.in-TooMany.is at c.in-Ok-read_lines.ensures.reads_all in
+    read_as (function_of c.args.func.now) (keys_in c.args.keys) c.in-Ok.judge.heading c.args.header (length c.args.captures.now) c.args.feed.now c.args.journal.now (files_of c.in-Ok-begin.compared) c.args.outputs.now (told c.args.files.now) (told c.read_lines.new.files) c.args.most
+    c.read_lines.new.outputs c.read_lines.new.judge.tables.state (Ok end.TooMany) c.in-Ok.ensures.heading c.in-Ok-begin.ensures.files reads start bytes b
+
+pub returns-clause-replays : goal.returns-clause-replays
+returns-clause-replays g c = λ start bytes b.
+    let told = g.F.Files.told in
+    let old = told c.args.files.now in
+    let f = IsRun (function_of c.args.func.now) (keys_in c.args.keys) c.args.header in
+    let ports = length c.args.captures.now in
+    let reads = rw c.in-Over.is at c.in-Ok-read_lines.ensures.reads_all in
+    let files = c.read_lines.ensures.same_outputs ∙ c.in-Ok-begin.ensures.files in
+    let over = read_as (function_of c.args.func.now) (keys_in c.args.keys) c.in-Ok.judge.heading c.args.header ports c.args.feed.now c.args.journal.now (files_of c.in-Ok-begin.compared) c.args.outputs.now old (told c.read_lines.new.files) c.args.most
+    c.read_lines.new.outputs c.read_lines.new.judge.tables.state (Ok end.Over) c.in-Ok.ensures.heading c.in-Ok-begin.ensures.files reads start bytes b in
+    let r = c.finish.result in
+    let finishes = subst (λ (fs : List ℕ). Finishes (sent c.args.header ports over.hs) old.rest fs c.read_lines.new.judge.tables.state r) files (c.finish.ensures.finishes old.rest (sent c.args.header ports over.hs) over.compared) in
+    finished f c.args.header ports c.args.feed.now start bytes c.args.outputs.now old c.args.most (told c.read_lines.new.files) c.read_lines.new.outputs c.read_lines.new.judge.tables.state r (sym c.requires.as_many) over finishes

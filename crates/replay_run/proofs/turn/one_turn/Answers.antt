@@ -1,71 +1,88 @@
-use Rattle.std.proofs.Common.{◌≡◌, ◌≢◌, ◌++◌, ◌∷◌, [], ℕ, List, map, sym, ap, subst, ◌∙◌}
+use Rattle.std.proofs.Common.{◌≡◌, ◌≢◌, ◌++◌, ◌∷◌, [], ℕ, List, map, Some, None, Ok, sym, ap, subst, ◌∙◌}
 use Rattle.std.specs.List.{slice_get}
 use Rattle.nf_base.specs.Functions.{function_of}
 use Rattle.nf_base.specs.Step.{StepResult}
 use Rattle.packet_feed.specs.Arrivals.{Arrival}
 use Rattle.packet_feed.specs.Told.{KeepsOthers}
 use Rattle.packet_feed.specs.Sources.{files_in}
-use Rattle.packet_feed.specs.Feeding.{StandsFor, shown}
+use Rattle.packet_feed.specs.Feeding.{shown}
+use Rattle.run_history.specs.declared.line.Mode.{Mode}
 use Rattle.journal_check.specs.Judging.{Steps, line_of}
 use Rattle.stream_run.specs.Streaming.{arrival_of}
-use Rattle.stream_run.proofs.Reached.{first_given}
+use Rattle.stream_run.specs.declared.stop.Stop.{Stop}
 use Rattle.replay_run.specs.Outputs.{files_of}
 use Rattle.replay_run.specs.Queues.{keys_in}
-use Rattle.replay_run.specs.Replaying.{IsRun, packets_at}
+use Rattle.replay_run.specs.Replaying.{IsRun}
+use Rattle.replay_run.specs.Turns.{StandsIn, packets_at, Fetches}
 use Rattle.replay_run.proofs.Compared.{file_at}
-use Rattle.replay_run.proofs.Kept.{others_both, others_left, others_right, stands_while}
+use Rattle.replay_run.proofs.Kept.{others_both, others_left, others_right}
 use Rattle.replay_run.proofs.Runs.{handled_so, goes_on, no_next}
-use Rattle.replay_run.proofs.Ends.{other_line, shown_is, compares_after}
+use Rattle.replay_run.proofs.Ends.{other_line, none_left, shown_is, compares_after, stands_in_while, first_in}
 use Rattle.replay_run.proofs.turn.one_turn.Goals as goal
 
 pub returns-in-Err-clause-kept : goal.returns-in-Err-clause-kept
 returns-in-Err-clause-kept g c =
     let told = g.F.Files.told in
-    others_left c.args.captures.now (files_of c.args.outputs.now) (told c.args.files.now) (told c.next.new.files)
-    (subst (λ (fs : List ℕ). KeepsOthers fs (told c.args.files.now) (told c.next.new.files)) c.requires.captures c.next.ensures.kept)
+    others_left c.args.captures.now (files_of c.args.outputs.now) (told c.args.files.now) (told c.packet_for.new.files) c.packet_for.ensures.kept
+
+pub returns-in-Ok-None-clause-turns : goal.returns-in-Ok-None-clause-turns
+returns-in-Ok-None-clause-turns g c = λ start hs run stands.
+    let told = g.F.Files.told in
+    let j = c.args.judge.now in
+    let line = c.args.line.now in
+    let fetches = subst (λ (m : Mode). Fetches {E = Stop} m line c.args.feed.now c.packet_for.new.feed (told c.args.files.now) (told c.packet_for.new.files) (Ok None)) (sym c.requires.mode) (rw c.in-Ok-None.field-0-is at c.in-Ok-None.ensures.fetches) in
+    none_left (IsRun (function_of c.args.func.now) (keys_in c.args.keys) j.heading) j.heading.mode (packets_at c.args.feed.now start) hs line (fetches start (map arrival_of hs) stands)
+
+pub returns-in-Ok-None-clause-kept : goal.returns-in-Ok-None-clause-kept
+returns-in-Ok-None-clause-kept g c =
+    let told = g.F.Files.told in
+    others_left c.args.captures.now (files_of c.args.outputs.now) (told c.args.files.now) (told c.packet_for.new.files) c.packet_for.ensures.kept
 
 pub returns-in-None-clause-turns : goal.returns-in-None-clause-turns
 returns-in-None-clause-turns g c = λ start hs run stands.
+    let told = g.F.Files.told in
     let f = function_of c.args.func.now in
     let j = c.args.judge.now in
-    let p = c.in-Ok-Packet.packet in
+    let p = c.in-Ok-Some.packet in
     let keys = c.args.keys in
-    let a = shown p c.next.new.self in
+    let line = c.args.line.now in
+    let a = shown p c.packet_for.new.feed in
     let queue = c.queue_of-queue.ensures j.heading.workers c.requires.table in
-    let none = subst (λ (q : ℕ). (next : StepResult) → Steps f j.heading q j.tables.state p next → c.args.line.now ≢ line_of j.heading q (record { packet = p; done = next.done })) queue c.in-None.ensures.none in
-    let feeds = (rw c.in-Ok-Packet.field-0-is at c.in-Ok-Packet.ensures.feeds) start (map arrival_of hs) stands in
-    other_line (IsRun f (keys_in keys) j.heading) (packets_at c.args.feed.now start) hs a c.args.line.now
-    (no_next f keys j.heading hs j.tables.state p c.args.line.now c.requires.some c.requires.keyed run none)
-    (first_given start (map arrival_of hs ++ a ∷ []) c.next.new.self c.args.feed.now (g.F.Files.told c.next.new.files) c.next.ensures.same_files feeds)
+    let none = subst (λ (q : ℕ). (next : StepResult) → Steps f j.heading q j.tables.state p next → line ≢ line_of j.heading q (record { packet = p; done = next.done })) queue c.in-None.ensures.none in
+    let fetches = subst (λ (m : Mode). Fetches {E = Stop} m line c.args.feed.now c.packet_for.new.feed (told c.args.files.now) (told c.packet_for.new.files) (Ok (Some p))) (sym c.requires.mode) (rw c.in-Ok-Some.field-0-is at c.in-Ok-Some.ensures.fetches) in
+    other_line (IsRun f (keys_in keys) j.heading) j.heading.mode (packets_at c.args.feed.now start) hs a line
+    (no_next f keys j.heading hs j.tables.state p line c.requires.some c.requires.keyed run none)
+    fetches.0
+    (first_in j.heading.mode start (map arrival_of hs ++ a ∷ []) c.packet_for.new.feed c.args.feed.now (told c.packet_for.new.files) c.packet_for.ensures.same_captures (fetches.1 start (map arrival_of hs) stands))
 
 pub returns-in-None-clause-kept : goal.returns-in-None-clause-kept
 returns-in-None-clause-kept g c =
     let told = g.F.Files.told in
-    others_left c.args.captures.now (files_of c.args.outputs.now) (told c.args.files.now) (told c.next.new.files)
-    (subst (λ (fs : List ℕ). KeepsOthers fs (told c.args.files.now) (told c.next.new.files)) c.requires.captures c.next.ensures.kept)
+    others_left c.args.captures.now (files_of c.args.outputs.now) (told c.args.files.now) (told c.packet_for.new.files) c.packet_for.ensures.kept
 
 pub returns-in-Ok-clause-turns : goal.returns-in-Ok-clause-turns
 returns-in-Ok-clause-turns g c =
     let told = g.F.Files.told in
     let f = function_of c.args.func.now in
     let j = c.args.judge.now in
-    let p = c.in-Ok-Packet.packet in
+    let p = c.in-Ok-Some.packet in
     let original = c.original-original.result in
     let frame = c.frame-frame.result.now in
     let done = c.in-Some.done in
     let keys = c.args.keys in
+    let line = c.args.line.now in
     let queue = c.queue_of-queue.ensures j.heading.workers c.requires.table in
     let after = c.judge.new.self.tables.state in
     let steps = subst (λ (q : ℕ). Steps f j.heading q j.tables.state p (record { state = after; done = done })) queue c.in-Some.ensures.steps in
-    let tells = subst (λ (q : ℕ). c.args.line.now ≡ line_of j.heading q (record { packet = p; done = done })) queue c.in-Some.ensures.tells in
+    let tells = subst (λ (q : ℕ). line ≡ line_of j.heading q (record { packet = p; done = done })) queue c.in-Some.ensures.tells in
     let h = handled_so j.heading keys p original frame done in
     let all = c.args.captures.now in
     let old = told c.args.files.now in
-    let read = told c.next.new.files in
+    let read = told c.packet_for.new.files in
     let new = told c.compare_all.new.files in
-    let feeds = rw c.in-Ok-Packet.field-0-is at c.in-Ok-Packet.ensures.feeds in
-    let kept = subst (λ (fs : List ℕ). KeepsOthers fs old read) c.requires.captures c.next.ensures.kept in
-    let files : files_in c.next.new.self.sources ≡ all = c.next.ensures.same_files ∙ c.requires.captures in
+    let next = c.packet_for.new.feed in
+    let fetches = subst (λ (m : Mode). Fetches {E = Stop} m line c.args.feed.now next old read (Ok (Some p))) (sym c.requires.mode) (rw c.in-Ok-Some.field-0-is at c.in-Ok-Some.ensures.fetches) in
+    let files : files_in next.sources ≡ all = c.packet_for.ensures.same_captures ∙ c.requires.captures in
     record {
       packet = p;
       original = original;
@@ -75,12 +92,12 @@ returns-in-Ok-clause-turns g c =
       is_line = sym tells;
       runs = λ hs run. goes_on f keys j.heading hs j.tables.state after p original frame done c.requires.some c.requires.keyed steps run;
       feeds = λ start given b.
-          stands_while start (given ++ arrival_of h ∷ []) c.next.new.self read new
+          stands_in_while j.heading.mode start (given ++ arrival_of h ∷ []) next read new
           (λ port n e. c.compare_all.ensures.kept.rests n (c.requires.clear.behind port n (sym (ap (λ (fs : List ℕ). slice_get fs port) files) ∙ e)))
-          (subst (λ (a : Arrival). StandsFor start (given ++ a ∷ []) c.next.new.self read) (sym (shown_is p original frame c.next.new.self c.original-original.ensures c.frame-frame.ensures)) (feeds start given b));
+          (subst (λ (a : Arrival). StandsIn j.heading.mode start (given ++ a ∷ []) next read) (sym (shown_is p original frame next c.original-original.ensures c.frame-frame.ensures)) (fetches.1 start given b));
       compares =
           compares_after h c.args.outputs.now c.compare_all.new.all old read new
-          (λ k o e. kept.rests o.file (c.requires.clear.ahead k o.file (file_at c.args.outputs.now k o e)))
+          (λ k o e. c.packet_for.ensures.kept.rests o.file (c.requires.clear.ahead k o.file (file_at c.args.outputs.now k o e)))
           (c.in-Ok.ensures.compares h.worker);
     }
 
@@ -88,12 +105,10 @@ pub returns-in-Ok-clause-kept : goal.returns-in-Ok-clause-kept
 returns-in-Ok-clause-kept g c =
     let told = g.F.Files.told in
     let outputs = files_of c.args.outputs.now in
-    let kept = subst (λ (fs : List ℕ). KeepsOthers fs (told c.args.files.now) (told c.next.new.files)) c.requires.captures c.next.ensures.kept in
-    others_both (c.args.captures.now ++ outputs) (told c.args.files.now) (told c.next.new.files) (told c.compare_all.new.files) (others_left c.args.captures.now outputs (told c.args.files.now) (told c.next.new.files) kept) (others_right c.args.captures.now outputs (told c.next.new.files) (told c.compare_all.new.files) c.compare_all.ensures.kept)
+    others_both (c.args.captures.now ++ outputs) (told c.args.files.now) (told c.packet_for.new.files) (told c.compare_all.new.files) (others_left c.args.captures.now outputs (told c.args.files.now) (told c.packet_for.new.files) c.packet_for.ensures.kept) (others_right c.args.captures.now outputs (told c.packet_for.new.files) (told c.compare_all.new.files) c.compare_all.ensures.kept)
 
 pub returns-in-Err-compare_all-clause-kept : goal.returns-in-Err-compare_all-clause-kept
 returns-in-Err-compare_all-clause-kept g c =
     let told = g.F.Files.told in
     let outputs = files_of c.args.outputs.now in
-    let kept = subst (λ (fs : List ℕ). KeepsOthers fs (told c.args.files.now) (told c.next.new.files)) c.requires.captures c.next.ensures.kept in
-    others_both (c.args.captures.now ++ outputs) (told c.args.files.now) (told c.next.new.files) (told c.compare_all.new.files) (others_left c.args.captures.now outputs (told c.args.files.now) (told c.next.new.files) kept) (others_right c.args.captures.now outputs (told c.next.new.files) (told c.compare_all.new.files) c.compare_all.ensures.kept)
+    others_both (c.args.captures.now ++ outputs) (told c.args.files.now) (told c.packet_for.new.files) (told c.compare_all.new.files) (others_left c.args.captures.now outputs (told c.args.files.now) (told c.packet_for.new.files) c.packet_for.ensures.kept) (others_right c.args.captures.now outputs (told c.packet_for.new.files) (told c.compare_all.new.files) c.compare_all.ensures.kept)

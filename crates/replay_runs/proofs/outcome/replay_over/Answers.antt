@@ -17,11 +17,10 @@ replay_opened-requires-clause-opened_journal g c =
     let count : length all ≡ 5 = omega (arith, c.in-len5.len_at_least, c.in-len5.len_below) in
     let P = g.F.Files.is_read c.open_all.new.files in
     let read : EachFile P (five_of all) = subst (EachFile P) (are_five all count) (subst (EachFile P) (sym c.as_slice-all.ensures.value) c.in-Ok.ensures.readable) in
-    subst (g.F.Files.is_read c.start.new.files) (sym c.in_ok-lines.ensures.file) (c.start.ensures.reads (slice_index_or all 2 0) (read 2 (slice_index_or all 2 0) refl))
+    c.start.ensures.reads (slice_index_or all 2 0) (read 2 (slice_index_or all 2 0) refl)
 
 pub replay_opened-requires-clause-apart : goal.replay_opened-requires-clause-apart
 replay_opened-requires-clause-apart g c =
     let all = c.as_slice-all.result.now in
     let count : length all ≡ 5 = omega (arith, c.in-len5.len_at_least, c.in-len5.len_below) in
-    let apart : IsApart (five_of all) = subst IsApart (are_five all count) (subst IsApart (sym c.as_slice-all.ensures.value) c.in-Ok.ensures.apart) in
-    subst (λ (j : ℕ). IsApart (slice_index_or all 0 0 ∷ slice_index_or all 1 0 ∷ j ∷ slice_index_or all 3 0 ∷ slice_index_or all 4 0 ∷ [])) (sym c.in_ok-lines.ensures.file) apart
+    subst IsApart (are_five all count) (subst IsApart (sym c.as_slice-all.ensures.value) c.in-Ok.ensures.apart)

@@ -1,0 +1,17 @@
+use Rattle.std.proofs.Common.{ℕ, List, subst}
+use Rattle.packet_feed.specs.Told.{packets_of}
+use Rattle.packet_feed.specs.Feeding.{AreAll}
+use Rattle.replay_run.proofs.packets.next_of_all.Goals as goal
+
+pub returns-in-Ok-Packet-clause-fetches : goal.returns-in-Ok-Packet-clause-fetches
+returns-in-Ok-Packet-clause-fetches g c = (tt, λ start given h. (rw c.in-Ok-Packet.field-0-is at c.in-Ok-Packet.ensures.feeds) start given h)
+
+pub returns-in-Ok-Packet-clause-counts : goal.returns-in-Ok-Packet-clause-counts
+returns-in-Ok-Packet-clause-counts g c =
+    let counts = rw c.in-Ok-Packet.field-0-is at c.in-Ok-Packet.ensures.counts in
+    (counts.0, counts.2)
+
+pub returns-in-Ok-End-clause-fetches : goal.returns-in-Ok-End-clause-fetches
+returns-in-Ok-End-clause-fetches g c = λ start given h.
+    let feeds = (rw c.in-Ok-End.field-0-is at c.in-Ok-End.ensures.feeds) start given h in
+    subst (λ (fs : List ℕ). AreAll (packets_of fs start) given) c.next.ensures.same_files feeds.1
