@@ -4,4 +4,5 @@ pub mod Turns
 mod Merged
 pub mod Wholes
 pub mod Placing
-mod Numbering
+pub mod Counting
+pub mod Numbering

@@ -13,7 +13,8 @@ numbers_long number (suc n) = ap suc (numbers_long (number + 1) n)
 same_number : (x y : ℕ) → Some x ≡ Some y → x ≡ y
 same_number x y e = cc
 
-number_at : (number n i x : ℕ) → slice_get (numbers_from number n) i ≡ Some x → x ≡ number + i
+-- what stands there
+pub number_at : (number n i x : ℕ) → slice_get (numbers_from number n) i ≡ Some x → x ≡ number + i
 number_at number zero i x e = absurd cc
 number_at number (suc n) zero x e = omega (arith, same_number number x e)
 number_at number (suc n) (suc i) x e = omega (arith, number_at (number + 1) n i x e)

@@ -56,60 +56,60 @@ left_set captures before later file port e at =
 
 -- ---- names
 
-beyond_on : (which : ℕ) (old new : ℕ → Option (List ℕ)) (k : ℕ) → ((n : ℕ) → 2 ^ 32 ≤ n → new n ≡ old n) → names_beyond which new k ≡ names_beyond which old k
-beyond_on which old new zero same = refl
-beyond_on which old new (suc k) same = same (2 ^ 32 + k) (omega arith)
+beyond_on : (mark : List ℕ) (old new : ℕ → Option (List ℕ)) (k : ℕ) → ((n : ℕ) → 2 ^ 32 ≤ n → new n ≡ old n) → names_beyond mark new k ≡ names_beyond mark old k
+beyond_on mark old new zero same = refl
+beyond_on mark old new (suc k) same = same (2 ^ 32 + k) (omega arith)
 
-either_on : (which : ℕ) (old new : ℕ → Option (List ℕ)) (g : ℕ) (b : Bool) → new g ≡ old g ⊎ (2 ^ 32 ≤ g) → ((n : ℕ) → 2 ^ 32 ≤ n → new n ≡ old n) → ltb g (2 ^ 32) ≡ b → cond b (new g) (names_beyond which new (g - 2 ^ 32)) ≡ cond b (old g) (names_beyond which old (g - 2 ^ 32))
-either_on which old new g true (inl e) same t = e
-either_on which old new g true (inr le) same t = absurd (omega (arith, le, ltb-true g (2 ^ 32) t))
-either_on which old new g false e same t = beyond_on which old new (g - 2 ^ 32) same
+either_on : (mark : List ℕ) (old new : ℕ → Option (List ℕ)) (g : ℕ) (b : Bool) → new g ≡ old g ⊎ (2 ^ 32 ≤ g) → ((n : ℕ) → 2 ^ 32 ≤ n → new n ≡ old n) → ltb g (2 ^ 32) ≡ b → cond b (new g) (names_beyond mark new (g - 2 ^ 32)) ≡ cond b (old g) (names_beyond mark old (g - 2 ^ 32))
+either_on mark old new g true (inl e) same t = e
+either_on mark old new g true (inr le) same t = absurd (omega (arith, le, ltb-true g (2 ^ 32) t))
+either_on mark old new g false e same t = beyond_on mark old new (g - 2 ^ 32) same
 
-pub names_on : (which : ℕ) (old new : ℕ → Option (List ℕ)) → ((g : ℕ) → new g ≡ old g) → (g : ℕ) → names_of which new g ≡ names_of which old g
-names_on which old new same g = either_on which old new g (ltb g (2 ^ 32)) (inl (same g)) (λ n le. same n) refl
+pub names_on : (mark : List ℕ) (old new : ℕ → Option (List ℕ)) → ((g : ℕ) → new g ≡ old g) → (g : ℕ) → names_of mark new g ≡ names_of mark old g
+names_on mark old new same g = either_on mark old new g (ltb g (2 ^ 32)) (inl (same g)) (λ n le. same n) refl
 
-names_but : (which file : ℕ) (old new : ℕ → Option (List ℕ)) → file < 2 ^ 32 → ((g : ℕ) → g ≢ file → new g ≡ old g) → (g : ℕ) → g ≢ file → names_of which new g ≡ names_of which old g
-names_but which file old new lt same g ne = either_on which old new g (ltb g (2 ^ 32)) (inl (same g ne)) (λ n le. same n (λ e. omega (arith, lt, le, e))) refl
+names_but : (mark : List ℕ) (file : ℕ) (old new : ℕ → Option (List ℕ)) → file < 2 ^ 32 → ((g : ℕ) → g ≢ file → new g ≡ old g) → (g : ℕ) → g ≢ file → names_of mark new g ≡ names_of mark old g
+names_but mark file old new lt same g ne = either_on mark old new g (ltb g (2 ^ 32)) (inl (same g ne)) (λ n le. same n (λ e. omega (arith, lt, le, e))) refl
 
-pub name_low : (which : ℕ) (name : ℕ → Option (List ℕ)) (g : ℕ) → g < 2 ^ 32 → names_of which name g ≡ name g
-name_low which name g lt = ap (λ (b : Bool). cond b (name g) (names_beyond which name (g - 2 ^ 32))) (lt-ltb g (2 ^ 32) lt)
+pub name_low : (mark : List ℕ) (name : ℕ → Option (List ℕ)) (g : ℕ) → g < 2 ^ 32 → names_of mark name g ≡ name g
+name_low mark name g lt = ap (λ (b : Bool). cond b (name g) (names_beyond mark name (g - 2 ^ 32))) (lt-ltb g (2 ^ 32) lt)
 
 -- ---- files that are created and written
 
-pub creates_on : (captures : List (List ℕ)) (which : ℕ) (old new : Told) (created : List ℕ) (file : ℕ) → file < 2 ^ 32 → Creates old new created file → Creates (with_made captures which old) (with_made captures which new) created file
-creates_on captures which old new created file lt c = record {
+pub creates_on : (captures : List (List ℕ)) (mark : List ℕ) (old new : Told) (created : List ℕ) (file : ℕ) → file < 2 ^ 32 → Creates old new created file → Creates (with_made captures mark old) (with_made captures mark new) created file
+creates_on captures mark old new created file lt c = record {
   number = c.number;
   from_two = c.from_two;
   then = c.then;
   empty = c.empty;
-  named = subst (IsToldAs created) (sym (name_low which new.name file lt)) c.named;
+  named = subst (IsToldAs created) (sym (name_low mark new.name file lt)) c.named;
   last = c.last;
   follows = c.follows;
   rests = λ g ne. ap (first_of (left_at captures g)) (c.rests g ne);
   givens = c.givens;
-  names = names_but which file old.name new.name lt c.names;
+  names = names_but mark file old.name new.name lt c.names;
   contents = c.contents;
   latest_other = c.latest_other;
 }
 
-pub writes_on : (captures : List (List ℕ)) (which : ℕ) (old new : Told) (file : ℕ) (piece : List ℕ) → file < 2 ^ 32 → Writes old new file piece → Writes (with_made captures which old) (with_made captures which new) file piece
-writes_on captures which old new file piece lt w = record {
+pub writes_on : (captures : List (List ℕ)) (mark : List ℕ) (old new : Told) (file : ℕ) (piece : List ℕ) → file < 2 ^ 32 → Writes old new file piece → Writes (with_made captures mark old) (with_made captures mark new) file piece
+writes_on captures mark old new file piece lt w = record {
   gained = w.gained;
   current = λ n now. let later = w.current n (record { last = now.last; follows = now.follows }) in record { last = later.last; follows = later.follows };
-  contents = λ n ne. w.contents n (λ e. ne (name_low which old.name file lt ∙ e));
+  contents = λ n ne. w.contents n (λ e. ne (name_low mark old.name file lt ∙ e));
   rests = λ g. ap (first_of (left_at captures g)) (w.rests g);
   givens = w.givens;
-  names = names_on which old.name new.name w.names;
+  names = names_on mark old.name new.name w.names;
   latest_same = w.latest_same;
   next_same = w.next_same;
 }
 
-pub same_on : (captures : List (List ℕ)) (which : ℕ) (old new : Told) → Same old new → Same (with_made captures which old) (with_made captures which new)
-same_on captures which old new s = record {
+pub same_on : (captures : List (List ℕ)) (mark : List ℕ) (old new : Told) → Same old new → Same (with_made captures mark old) (with_made captures mark new)
+same_on captures mark old new s = record {
   contents = s.contents;
   rests = λ g. ap (first_of (left_at captures g)) (s.rests g);
   givens = s.givens;
-  names = names_on which old.name new.name s.names;
+  names = names_on mark old.name new.name s.names;
   latest_same = s.latest_same;
   next_same = s.next_same;
 }
@@ -125,9 +125,9 @@ ended_so front x o e f = rw e f
 none_taken : (count : ℕ) (buffer later : List ℕ) → count ≡ 0 → later ≡ [] → take count buffer ++ later ≡ []
 none_taken count buffer later e f = rw (e, f) refl
 
-pub reads_made : (captures new : List (List ℕ)) (which : ℕ) (told : Told) (file port count : ℕ) (buffer : List ℕ) → port_of (length captures) file ≡ Some port → count ≤ length buffer → IsGiven port count buffer captures new
-    → Reads (with_made captures which told) (with_made new which told) file count buffer
-reads_made captures new which told file port count buffer e le g =
+pub reads_made : (captures new : List (List ℕ)) (mark : List ℕ) (told : Told) (file port count : ℕ) (buffer : List ℕ) → port_of (length captures) file ≡ Some port → count ≤ length buffer → IsGiven port count buffer captures new
+    → Reads (with_made captures mark told) (with_made new mark told) file count buffer
+reads_made captures new mark told file port count buffer e le g =
     let before = left_this captures file port e ∙ g.given in
     let after : left_at new file ≡ Some g.later = ap (λ (all : List (List ℕ)). left_at all file) g.kept ∙ left_set captures (take count buffer ++ g.later) g.later file port e g.given in
     record {
@@ -152,50 +152,15 @@ still_made captures new later file port number before e at kept (inl same) made 
 still_made captures new later file port number before e at kept (inr ne) made =
     (made.0, ap (λ (all : List (List ℕ)). left_at all number) kept ∙ left_other captures later file port number e ne ∙ made.1)
 
-either_read : (P Q R : Type 0) → (P → Q) → P ⊎ R → Q ⊎ R
-either_read P Q R go (inl p) = inl (go p)
-either_read P Q R go (inr r) = inr r
-
-pub reads_on : (captures new : List (List ℕ)) (file port count number : ℕ) (buffer : List ℕ) (P : Type 0) → port_of (length captures) file ≡ Some port → IsGiven port count buffer captures new
-    → (IsMade captures number ⊎ P) → (IsMade new number ⊎ P)
-reads_on captures new file port count number buffer P e g =
-    either_read (IsMade captures number) (IsMade new number) P
-    (still_made captures new g.later file port number (take count buffer ++ g.later) e g.given g.kept (cases_eq number file))
-
--- ---- reads of other files
+pub made_on : (captures new : List (List ℕ)) (file port count number : ℕ) (buffer : List ℕ) → port_of (length captures) file ≡ Some port → IsGiven port count buffer captures new
+    → IsMade captures number → IsMade new number
+made_on captures new file port count number buffer e g =
+    still_made captures new g.later file port number (take count buffer ++ g.later) e g.given g.kept (cases_eq number file)
 
 no_left : (captures : List (List ℕ)) (x : Option ℕ) (left : List ℕ) → x ≡ None → option_and_then (λ (p : ℕ). slice_get captures p) x ≡ Some left → ⊥
 no_left captures (Some port) left e f = absurd cc
 no_left captures None left e f = absurd cc
 
--- a number that is no capture's is that of a file that is read
-pub is_others : (captures : List (List ℕ)) (file : ℕ) (P : Type 0) → port_of (length captures) file ≡ None → (IsMade captures file ⊎ P) → P
-is_others captures file P e (inl made) = absurd (no_left captures (port_of (length captures) file) made.0 e made.1)
-is_others captures file P e (inr p) = p
-
-none_left : (captures : List (List ℕ)) (x : Option ℕ) → x ≡ None → option_and_then (λ (p : ℕ). slice_get captures p) x ≡ None
-none_left captures x e = ap (option_and_then (λ (p : ℕ). slice_get captures p)) e
-
-taken_others : (front : List ℕ) (x o p : Option (List ℕ)) → x ≡ None → Takes front o p → Takes front (first_of x o) (first_of x p)
-taken_others front x o p e t = rw e t
-
-ended_others : (x o : Option (List ℕ)) → x ≡ None → IsEmptyIfTold o → IsEmptyIfTold (first_of x o)
-ended_others x o e t = rw e t
-
-pub reads_others : (captures : List (List ℕ)) (which : ℕ) (old new : Told) (file count : ℕ) (buffer : List ℕ) → port_of (length captures) file ≡ None → Reads old new file count buffer
-    → Reads (with_made captures which old) (with_made captures which new) file count buffer
-reads_others captures which old new file count buffer e r =
-    let none = none_left captures (port_of (length captures) file) e in
-    record {
-      within = r.within;
-      taken = taken_others (take count buffer) (left_at captures file) (old.rest file) (new.rest file) none r.taken;
-      at_end = λ zero room. ended_others (left_at captures file) (old.rest file) none (r.at_end zero room);
-      kept = record {
-        rests = λ n ne. ap (first_of (left_at captures n)) (r.kept.rests n ne);
-        givens = r.kept.givens;
-        names = names_on which old.name new.name r.kept.names;
-        contents = r.kept.contents;
-        latest_same = r.kept.latest_same;
-        next_same = r.kept.next_same;
-      };
-    }
+-- a made capture has a port
+pub is_some_port : (captures : List (List ℕ)) (file : ℕ) → port_of (length captures) file ≡ None → IsMade captures file → ⊥
+is_some_port captures file e made = no_left captures (port_of (length captures) file) made.0 e made.1

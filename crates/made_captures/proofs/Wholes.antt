@@ -117,25 +117,25 @@ left_here captures n port number long e =
     ap (λ (b : Bool). option_and_then (λ (p : ℕ). slice_get captures p) (cond b (Some (number - first_number (length captures))) None)) (le-leb (first_number (length captures)) number le)
     ∙ ap (slice_get captures) place
 
-rest_is : (r : Recipe) (which : ℕ) (told : Told) (port number : ℕ) → port < r.ports → number ≡ first_number r.ports + port → (with_made (captures_of r) which told).rest number ≡ Some (made_bytes r port)
-rest_is r which told port number lt e =
+rest_is : (r : Recipe) (mark : List ℕ) (told : Told) (port number : ℕ) → port < r.ports → number ≡ first_number r.ports + port → (with_made (captures_of r) mark told).rest number ≡ Some (made_bytes r port)
+rest_is r mark told port number lt e =
     let here : 0 + port ≡ port = omega arith in
     ap (λ (left : Option (List ℕ)). first_of left (told.rest number)) (left_here (captures_of r) r.ports port number (captures_long r 0 r.ports) e ∙ capture_at r 0 r.ports port lt ∙ ap (λ (p : ℕ). Some (made_bytes r p)) here)
 
-gathered_are : (r : Recipe) (which : ℕ) (told : Told) (port n number : ℕ) → EachIsHandled → IsRecipe r → port + n ≡ r.ports → number ≡ first_number r.ports + port
-    → gathered (λ (p file : ℕ). packets_in p ((with_made (captures_of r) which told).rest file)) port (numbers_from number n) ≡ Some (of_ports r port n 0 r.count)
-gathered_are r which told port zero number handled is e f = refl
-gathered_are r which told port (suc n) number handled is e f =
+gathered_are : (r : Recipe) (mark : List ℕ) (told : Told) (port n number : ℕ) → EachIsHandled → IsRecipe r → port + n ≡ r.ports → number ≡ first_number r.ports + port
+    → gathered (λ (p file : ℕ). packets_in p ((with_made (captures_of r) mark told).rest file)) port (numbers_from number n) ≡ Some (of_ports r port n 0 r.count)
+gathered_are r mark told port zero number handled is e f = refl
+gathered_are r mark told port (suc n) number handled is e f =
     let lt : port < r.ports = omega (arith, e) in
     let others : List Arrival = of_ports r (port + 1) n 0 r.count in
-    let here : packets_in port ((with_made (captures_of r) which told).rest number) ≡ Some (of_port r port 0 r.count) = ap (packets_in port) (rest_is r which told port number lt f) ∙ packets_are r port handled is lt in
-    let more = gathered_are r which told (port + 1) n (number + 1) handled is (omega (arith, e)) (omega (arith, f)) in
-    ap (both (packets_in port ((with_made (captures_of r) which told).rest number))) more
+    let here : packets_in port ((with_made (captures_of r) mark told).rest number) ≡ Some (of_port r port 0 r.count) = ap (packets_in port) (rest_is r mark told port number lt f) ∙ packets_are r port handled is lt in
+    let more = gathered_are r mark told (port + 1) n (number + 1) handled is (omega (arith, e)) (omega (arith, f)) in
+    ap (both (packets_in port ((with_made (captures_of r) mark told).rest number))) more
     ∙ ap (λ (first : Option (List Arrival)). both first (Some others)) here
 
 pub are_traffic : EachIsHandled → CapturesAreTraffic
-are_traffic handled r which told is = record {
+are_traffic handled r mark told is = record {
   all = of_ports r 0 r.ports 0 r.count;
-  packets = gathered_are r which told 0 r.ports (first_number r.ports) handled is (omega arith) (omega arith);
+  packets = gathered_are r mark told 0 r.ports (first_number r.ports) handled is (omega arith) (omega arith);
   order = merged r is.some_port 0 r.count;
 }

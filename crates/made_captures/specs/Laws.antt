@@ -34,10 +34,10 @@ CapturesAreWhole = (r : Recipe) (port : ℕ) → IsRecipe r →
 
 -- Beside whatever files: the packets of the captures are all of the traffic, with their frames, and in
 -- capture order they come as they are made.
-pub record IsTraffic (r : Recipe) (which : ℕ) (told : Told) : Type 0 where
+pub record IsTraffic (r : Recipe) (mark : List ℕ) (told : Told) : Type 0 where
   pub all : List Arrival
-  pub packets : packets_of (numbers_of r.ports) (with_made (captures_of r) which told) ≡ Some all
+  pub packets : packets_of (numbers_of r.ports) (with_made (captures_of r) mark told) ≡ Some all
   pub order : in_order all ≡ arrivals_of r
 
 abbrev pub CapturesAreTraffic : Type 0
-CapturesAreTraffic = (r : Recipe) (which : ℕ) (told : Told) → IsRecipe r → IsTraffic r which told
+CapturesAreTraffic = (r : Recipe) (mark : List ℕ) (told : Told) → IsRecipe r → IsTraffic r mark told

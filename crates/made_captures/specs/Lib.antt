@@ -1,4 +1,5 @@
 pub mod Records
 pub mod Captures
 pub mod Told
+pub mod Outputs
 pub mod Laws

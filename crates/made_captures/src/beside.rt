@@ -1,42 +1,62 @@
 //! Made captures beside the files outside.
-ghost use Rattle.std.specs.Prelude.{◌≡◌, ◌⊎◌};
+ghost use Rattle.std.specs.Prelude.{◌≡◌, ◌≤◌};
 ghost use Rattle.made_captures.specs.Captures.{IsMade};
-ghost use Rattle.made_captures.specs.Told.{with_made, standard_named};
+ghost use Rattle.made_captures.specs.Told.{standard_named};
+ghost use Rattle.made_captures.specs.Outputs.{told_beside, counts_right, is_known, journal_of, mark_of, told_if, standard_if};
 
 use crate::captures::Captures;
+use crate::outputs::Outputs;
 use nf_files::{Files, FilesFault};
 use std::alloc::AllocError;
 
-/// The files outside, and made captures beside them.
+/// The files of a run over made-up traffic: its captures, which are made, and beside them the outputs and
+/// the journal, which are files outside.
 ///
-/// Each call goes to the files outside, but for the reads of made captures, which never fail, and for
-/// openings: those are made before, since a number that one gave could be that of a made capture. Here
-/// they answer that memory ran out.
+/// Reads of made captures never fail. What the outputs are given is counted. A run opens and creates
+/// nothing: here both answer that memory ran out, since the number of a file that is opened could be that
+/// of a made capture.
 #[derive(Drop)]
 pub struct MadeCaptures<'a, F: Files> {
     files: &'a mut F,
     captures: &'a mut Captures,
+    outputs: Outputs,
 }
 
 impl<'a, F: Files> MadeCaptures<'a, F> {
-    /// Files, and captures beside them.
-    pub fn beside(files: &'a mut F, captures: &'a mut Captures) -> MadeCaptures<'a, F>
+    /// Files, and captures beside them. The outputs were given nothing yet.
+    pub fn beside(
+        files: &'a mut F,
+        captures: &'a mut Captures,
+        outputs: Outputs,
+    ) -> MadeCaptures<'a, F>
         ensures same_files { result.files.ghost_name ≡ files.entry.ghost_name }
         ensures files { result.files.now ≡ files.old }
         ensures captures { result.captures.now ≡ captures.old }
+        ensures outputs { result.outputs ≡ outputs }
     {
-        MadeCaptures { files, captures }
+        MadeCaptures {
+            files,
+            captures,
+            outputs,
+        }
+    }
+
+    /// How many bytes the outputs were given, modulo 2^64.
+    pub fn bytes(&self) -> u64
+        ensures { result ≡ self.now.outputs.bytes }
+    {
+        self.outputs.bytes()
     }
 }
 
 impl<'a, F: Files> Files for MadeCaptures<'a, F> {
-    ghost told = { λ m. with_made m.captures.now m.files.ghost_name (F.told m.files.now) };
+    ghost told = { λ m. told_beside m.captures.now m.files.ghost_name m.outputs (F.told m.files.now) (F.counted m.files.now) };
 
     ghost counted = { λ m. F.counted m.files.now };
 
-    ghost is_read = { λ m g. IsMade m.captures.now g ⊎ F.is_read m.files.now g };
+    ghost is_read = { λ m. IsMade m.captures.now };
 
-    ghost is_written = { λ m. F.is_written m.files.now };
+    ghost is_written = { λ m g. F.is_written m.files.now g × (g ≤ journal_of m.outputs) };
 
     ghost will_open = { λ _ _. ⊥ };
 
@@ -50,34 +70,35 @@ impl<'a, F: Files> Files for MadeCaptures<'a, F> {
         Err(FilesFault::Memory(AllocError))
     }
 
-    #[tactic(auto, using(crate::proofs::Placing::creates_on, crate::proofs::Placing::same_on))]
-    fn create_out(&mut self, name: &str) -> Result<u32, FilesFault> {
-        match self.files.create_out(name) {
-            Ok(file) => Ok(file),
-            Err(fault) => Err(fault),
-        }
+    fn create_out(&mut self, _name: &str) -> Result<u32, FilesFault> {
+        Err(FilesFault::Memory(AllocError))
     }
 
-    #[tactic(auto, using(crate::proofs::Placing::reads_made, crate::proofs::Placing::reads_others, crate::proofs::Placing::reads_on, crate::proofs::Placing::is_others, crate::proofs::Placing::same_on))]
+    #[tactic(auto, using(crate::proofs::Placing::reads_made, crate::proofs::Placing::made_on, crate::proofs::Placing::is_some_port))]
     fn read(&mut self, file: u32, out: &mut [u8]) -> Result<usize, FilesFault> {
         match self.captures.port(file) {
             Some(port) => Ok(self.captures.read(port, out)),
-            None => match self.files.read(file, out) {
-                Ok(count) => Ok(count),
-                Err(fault) => Err(fault),
-            },
+            None => unreachable!(),
         }
     }
 
-    #[tactic(auto, using(crate::proofs::Placing::writes_on, crate::proofs::Placing::same_on))]
     fn write(&mut self, file: u32, piece: &[u8]) -> Result<usize, FilesFault> {
+        self.outputs.are_numbered();
         match self.files.write(file, piece) {
-            Ok(count) => Ok(count),
+            Ok(count) => {
+                self.outputs.add(file, count);
+                Ok(count)
+            }
             Err(fault) => Err(fault),
         }
     }
 
     ghost counts = { λ m. F.counts m.files.now };
 
-    ghost standard = { λ m. standard_named m.files.ghost_name (F.told m.files.now).name (F.standard m.files.now) };
+    ghost standard = { λ m.
+        let right = counts_right m.outputs (F.told m.files.now) in
+        let known = is_known (journal_of m.outputs) (F.counted m.files.now).first in
+        let mark = mark_of m.files.ghost_name right known m.outputs.first m.outputs.count in
+        standard_named mark (told_if right (F.told m.files.now)).name
+        (standard_if right (F.told m.files.now) (F.standard m.files.now)) };
 }

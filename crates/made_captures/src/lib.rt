@@ -6,7 +6,9 @@ mod beside;
 mod capture;
 mod captures;
 pub mod laws;
+mod outputs;
 mod piece;
 
 pub use beside::MadeCaptures;
 pub use captures::Captures;
+pub use outputs::Outputs;

@@ -1,23 +1,23 @@
 //! Calls on files, feeds and runs. They promise what further calls ask for and no more: what the answers are is
 //! compared, and not proved.
-ghost use Rattle.std.specs.Prelude.{◌≡◌, ◌+◌, ◌≤◌, ◌<◌, ◌^◌, ℕ, length, IfOk};
+ghost use Rattle.std.specs.Prelude.{◌≡◌, ◌+◌, ◌≤◌, ◌^◌, ℕ, length, IfOk};
 ghost use Rattle.nf_base.specs.Functions.{function_of};
-ghost use Rattle.key_synth.specs.Laws.{HashAlikeWhereTheyMeet};
 ghost use Rattle.nf_files.specs.Told.{IsEmptyIfTold};
 ghost use Rattle.packet_feed.specs.Told.{EachFile, IsApart};
 ghost use Rattle.packet_feed.specs.Sources.{files_in};
+ghost use Rattle.traffic_run.specs.Runs.{Serves};
+ghost use Rattle.made_runs.specs.Order.{AreInOrder};
 
+use lock_mode::PackGate;
 use made_captures::Captures;
 use nf_base::func::Func;
-use nf_base::keys::Keys;
-use nf_base::workers::Workers;
 use nf_files::{Files, FilesFault};
 use packet_feed::{Fed, Feed, FeedFault};
-use sharded_run::Came;
 use std::alloc::{AllocError, Global};
+use std::sync::Wait;
 use std::thread::Threads;
-use stream_run::{Ran, Stop};
-use traffic_run::{Asked, run_one, run_shards};
+use stream_run::Stop;
+use traffic_run::{Asked, Came, Who, run};
 use worker_turns::Idle;
 
 /// The captures of a line's numbers.
@@ -60,7 +60,7 @@ pub fn create_all<F: Files>(
     names: &[&str],
 ) -> Result<Vec<u32>, FilesFault>
     ensures writable { IfOk result (λ made. EachFile (F.is_written files.new) made.items) }
-    ensures apart { IfOk result (λ made. IsApart made.items) }
+    ensures in_order { IfOk result (λ made. AreInOrder made.items) }
     ensures count { IfOk result (λ made. length made.items ≡ length names.now) }
     ensures empty { IfOk result (λ made.
         EachFile (λ file. IsEmptyIfTold ((F.told files.new).given file)) made.items) }
@@ -74,45 +74,28 @@ pub fn create_all<F: Files>(
     Ok(made)
 }
 
-/// Handles traffic by one worker.
-pub fn run_alone<F: Files>(
-    alloc: Global,
-    files: &mut F,
-    func: &Func,
-    asked: Asked,
-    made: &[u32],
-) -> Result<Ran, Stop>
-    requires flows { 1 ≤ asked.flows }
-    requires some_port { 1 ≤ length func.now.handlers }
-    requires few_ports { length func.now.handlers ≤ 4 }
-    requires writable { EachFile (F.is_written files.old) made.now }
-    requires apart { IsApart made.now }
-    requires as_many { length made.now ≡ length func.now.handlers + 1 }
-    requires empty { EachFile (λ file. IsEmptyIfTold ((F.told files.old).given file)) made.now }
-{
-    run_one(alloc, files, func, asked, made)
-}
-
-/// Handles traffic by two workers.
-pub fn run_both<R: Threads + Sync, F: Files>(
+/// Handles traffic, and writes what it leaves into files that follow one another.
+pub fn run_all<R: Threads + Wait + Sync, F: Files>(
     rt: &R,
     alloc: Global,
     files: &mut F,
     func: &Func,
-    keys: &Keys,
+    who: &Who,
     asked: Asked,
     made: &[u32],
 ) -> Result<Came, Stop>
-    requires keyed { length func.now.handlers ≤ length keys.now.ports }
-    requires alike { HashAlikeWhereTheyMeet (function_of func.now) keys.now }
+    requires serves { Serves (function_of func.now) who.now }
     requires flows { 1 ≤ asked.flows }
     requires some_port { 1 ≤ length func.now.handlers }
     requires few_ports { length func.now.handlers ≤ 4 }
     requires writable { EachFile (F.is_written files.old) made.now }
-    requires apart { IsApart made.now }
+    requires in_order { AreInOrder made.now }
     requires as_many { length made.now ≡ length func.now.handlers + 1 }
     requires empty { EachFile (λ file. IsEmptyIfTold ((F.told files.old).given file)) made.now }
 {
-    let two = Workers::new(2);
-    run_shards(rt, alloc, files, func, keys, two, asked, made, &Idle)
+    let first = made[0];
+    let mut gate = PackGate::new();
+    run(
+        rt, alloc, files, func, who, asked, first, made, &Idle, &mut gate,
+    )
 }

@@ -19,7 +19,7 @@ mod verdict;
 
 use calls::{captures_of, next, shown, start};
 use digest::Digest;
-use made_captures::MadeCaptures;
+use made_captures::{MadeCaptures, Outputs};
 use nf_base::packet::PacketId;
 use nf_files::{Files, MemoryFiles};
 use packet_feed::{Fed, Feed};
@@ -92,7 +92,8 @@ fn show_all(rt: &HostRuntime, alloc: Global, numbers: [u32; 4]) -> io::Result<()
     let mut captures = captures_of(alloc, numbers)?;
     let all = captures.numbers(alloc)?;
     let mut files = MemoryFiles::new(alloc, Vec::new(alloc));
-    let mut beside = MadeCaptures::beside(&mut files, &mut captures);
+    let outputs = Outputs::new(2, 0);
+    let mut beside = MadeCaptures::beside(&mut files, &mut captures, outputs);
     tell_from(rt, alloc, &mut beside, all.as_slice(), numbers[1])
 }
 

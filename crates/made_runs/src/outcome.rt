@@ -1,9 +1,9 @@
 //! Runs over made-up traffic, and what they come to.
 ghost use Rattle.std.specs.Prelude.{◌≡◌, ◌≤◌, ◌+◌, length};
-ghost use Rattle.nf_files.specs.Told.{IsEmptyIfTold};
-ghost use Rattle.packet_feed.specs.Told.{EachFile, IsApart};
+ghost use Rattle.nf_base.specs.Functions.{function_of};
+ghost use Rattle.traffic_run.specs.Runs.{Serves};
 
-use crate::calls::{create_all, run_alone, run_both};
+use crate::calls::{create_all, run_all};
 use crate::verdict::keys_of;
 use nf_base::func::Func;
 use nf_base::workers::Workers;
@@ -12,12 +12,22 @@ use nf_syntax::parse;
 use nf_types::check;
 use run_history::line::Mode;
 use run_history::state_text::state_text;
-use sharded_run::Came;
 use std::alloc::{AllocError, Global};
+use std::sync::Wait;
 use std::thread::Threads;
-use stream_run::{Ending, Ran, Stop};
-use traffic_run::Asked;
-use traffic_summary::summary;
+use stream_run::Stop;
+use traffic_run::{Asked, Came, Who};
+use traffic_summary::{numbers, summary};
+
+/// Who handles the packets.
+#[derive(Clone, Copy, Debug, PartialEq, Eq)]
+pub enum By {
+    One,
+    /// Two workers that share nothing.
+    TwoApart,
+    /// Two workers that share all tables.
+    TwoTogether,
+}
 
 /// How a run ended.
 #[derive(Clone, Copy, Debug, PartialEq, Eq)]
@@ -29,10 +39,10 @@ pub enum End {
     /// An output or the journal could not be created.
     Uncreated,
     Stopped(Stop),
-    /// So many packets were handled.
-    Ran(Ending, u32),
-    /// A share has no index left behind so many packets.
-    Full(u32),
+    /// All packets were handled.
+    Whole,
+    /// A share has no index left.
+    Full,
 }
 
 /// What a run came to.
@@ -41,7 +51,7 @@ pub struct Outcome {
     pub end: End,
     /// The text of the last state.
     pub state: Vec<u8>,
-    /// The lines that sum it up, where it left so many records.
+    /// The lines that sum it up.
     pub summary: Vec<u8>,
     /// What stands in the outputs, by port, and behind them in the journal.
     pub files: Vec<Vec<u8>>,
@@ -56,30 +66,21 @@ fn function(alloc: Global, text: &[u8]) -> Option<Func> {
     check(alloc, &tree).ok()
 }
 
-/// The lines that sum a run up.
-fn sum_up(
-    alloc: Global,
-    func: &Func,
-    ran: &Ran,
-    mode: Mode,
-    workers: Workers,
-    sent: u64,
-) -> Result<Vec<u8>, AllocError>
-    requires { 1 ≤ length func.now.handlers }
-{
-    summary(alloc, func, ran.packets, mode, workers, sent, &ran.state)
+fn workers_in(by: By) -> Workers {
+    match by {
+        By::One => Workers::new(1),
+        _ => Workers::new(2),
+    }
 }
 
-/// Runs a function of two ports over traffic, by one worker or by two; the calls on files that are listed fail. It is
-/// summed up as if it left so many records.
-pub fn outcome_of<R: Threads + Sync>(
+/// Runs a function of two ports over traffic; the calls on files that are listed fail.
+pub fn outcome_of<R: Threads + Wait + Sync>(
     rt: &R,
     alloc: Global,
     text: &str,
     asked: Asked,
-    both: bool,
+    by: By,
     fails: &[u64],
-    sent: u64,
 ) -> Result<Outcome, AllocError> {
     let mut files = MemoryFiles::new(alloc, Vec::from_slice(alloc, fails)?);
     let mut outcome = Outcome {
@@ -90,16 +91,7 @@ pub fn outcome_of<R: Threads + Sync>(
     };
     if let Some(func) = function(alloc, text.as_bytes()) {
         if func.handlers.len() == 2 && asked.flows > 0 {
-            run_over(
-                rt,
-                alloc,
-                &mut files,
-                &func,
-                asked,
-                both,
-                sent,
-                &mut outcome,
-            )?;
+            run_over(rt, alloc, &mut files, &func, asked, by, &mut outcome)?;
         }
     }
     for name in &NAMES {
@@ -109,93 +101,82 @@ pub fn outcome_of<R: Threads + Sync>(
     Ok(outcome)
 }
 
-/// Runs a function over traffic, and leaves what comes of it in files that are created.
-fn run_over<R: Threads + Sync, F: Files>(
+/// Runs a function over traffic, by who is to handle it.
+fn run_over<R: Threads + Wait + Sync, F: Files>(
     rt: &R,
     alloc: Global,
     files: &mut F,
     func: &Func,
     asked: Asked,
-    both: bool,
-    sent: u64,
+    by: By,
     outcome: &mut Outcome,
 ) -> Result<(), AllocError>
     requires ports { length func.now.handlers ≡ 2 }
     requires flows { 1 ≤ asked.flows }
 {
-    match create_all(alloc, files, &NAMES) {
-        Err(_) => outcome.end = End::Uncreated,
-        Ok(made) if both => run_two(
+    let two = Workers::new(2);
+    match by {
+        By::One => run_by(rt, alloc, files, func, &Who::One, asked, by, outcome),
+        By::TwoTogether => run_by(
             rt,
             alloc,
             files,
             func,
+            &Who::Sharing(two),
             asked,
-            made.as_slice(),
-            sent,
+            by,
             outcome,
-        )?,
-        Ok(made) => run_single(alloc, files, func, asked, made.as_slice(), sent, outcome)?,
+        ),
+        By::TwoApart => match keys_of(alloc, func)? {
+            Some(keys) => run_by(
+                rt,
+                alloc,
+                files,
+                func,
+                &Who::Shards(keys, two),
+                asked,
+                by,
+                outcome,
+            ),
+            None => {
+                outcome.end = End::NoKeys;
+                Ok(())
+            }
+        },
     }
-    Ok(())
 }
 
-fn run_single<F: Files>(
-    alloc: Global,
-    files: &mut F,
-    func: &Func,
-    asked: Asked,
-    made: &[u32],
-    sent: u64,
-    outcome: &mut Outcome,
-) -> Result<(), AllocError>
-    requires ports { length func.now.handlers ≡ 2 }
-    requires flows { 1 ≤ asked.flows }
-    requires writable { EachFile (F.is_written files.old) made.now }
-    requires apart { IsApart made.now }
-    requires as_many { length made.now ≡ 3 }
-    requires empty { EachFile (λ file. IsEmptyIfTold ((F.told files.old).given file)) made.now }
-{
-    match run_alone(alloc, files, func, asked, made) {
-        Err(stop) => outcome.end = End::Stopped(stop),
-        Ok(ran) => {
-            outcome.end = End::Ran(ran.ending, ran.packets);
-            outcome.state = state_text(alloc, func, &ran.state)?;
-            outcome.summary = sum_up(alloc, func, &ran, Mode::One, Workers::new(1), sent)?;
-        }
-    }
-    Ok(())
-}
-
-fn run_two<R: Threads + Sync, F: Files>(
+/// Leaves what comes of a run in files that are created.
+fn run_by<R: Threads + Wait + Sync, F: Files>(
     rt: &R,
     alloc: Global,
     files: &mut F,
     func: &Func,
+    who: &Who,
     asked: Asked,
-    made: &[u32],
-    sent: u64,
+    by: By,
     outcome: &mut Outcome,
 ) -> Result<(), AllocError>
     requires ports { length func.now.handlers ≡ 2 }
     requires flows { 1 ≤ asked.flows }
-    requires writable { EachFile (F.is_written files.old) made.now }
-    requires apart { IsApart made.now }
-    requires as_many { length made.now ≡ 3 }
-    requires empty { EachFile (λ file. IsEmptyIfTold ((F.told files.old).given file)) made.now }
+    requires serves { Serves (function_of func.now) who.now }
 {
-    let Some(keys) = keys_of(alloc, func)? else {
-        outcome.end = End::NoKeys;
+    let Ok(made) = create_all(alloc, files, &NAMES) else {
+        outcome.end = End::Uncreated;
         return Ok(());
     };
-    match run_both(rt, alloc, files, func, &keys, asked, made) {
+    match run_all(rt, alloc, files, func, who, asked, made.as_slice()) {
         Err(stop) => outcome.end = End::Stopped(stop),
-        Ok(Came::Ran(ran)) => {
-            outcome.end = End::Ran(ran.ending, ran.packets);
-            outcome.state = state_text(alloc, func, &ran.state)?;
-            outcome.summary = sum_up(alloc, func, &ran, Mode::Shard, Workers::new(2), sent)?;
+        Ok(Came::Full(_)) => outcome.end = End::Full,
+        Ok(Came::Whole { mode, state, sent }) => {
+            let workers = workers_in(by);
+            outcome.end = End::Whole;
+            outcome.state = state_text(alloc, func, &state)?;
+            outcome.summary = match mode {
+                Mode::Lock => numbers(alloc, asked.count, 2, mode, workers)?,
+                _ => summary(alloc, func, asked.count, mode, workers, sent, &state)?,
+            };
         }
-        Ok(Came::Full(full)) => outcome.end = End::Full(full.packets),
     }
     Ok(())
 }

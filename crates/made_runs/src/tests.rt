@@ -1,8 +1,8 @@
 //! A firewall under made-up traffic.
 use crate::functions::{FIREWALL, WIDE};
-use crate::outcome::{End, Outcome, outcome_of};
+use crate::outcome::{By, End, Outcome, outcome_of};
 use std::test::Fail;
-use stream_run::{Ending, Stop};
+use stream_run::Stop;
 use traffic_run::Asked;
 
 /// A run of four packets from seed 0, and what it leaves: the journal, the last state, how many records in each
@@ -13,7 +13,6 @@ struct Case {
     journal: &'static str,
     state: &'static str,
     records: [usize; 2],
-    sent: u64,
     summary: &'static str,
 }
 
@@ -24,7 +23,6 @@ static CASES: [Case; 2] = [
         journal: "maestro journal 1 one 1\n0 0 0 to:1 0\n1 0 0 to:0 -\n0 1 0 to:1 -\n1 1 0 to:0 -\n",
         state: "chain flows greatest 3000\n0 3000 a=167772160 b=3232235520 c=1024 d=80\n",
         records: [2, 2],
-        sent: 4,
         summary: "packets 4\nport 0 2\nport 1 2\nmode one 1\nsent 4\nentries flows 1\n",
     },
     Case {
@@ -33,7 +31,6 @@ static CASES: [Case; 2] = [
         journal: "maestro journal 1 one 1\n0 0 0 to:1 0\n1 0 0 to:0 -\n0 1 0 to:1 -\n1 1 0 drop -\n",
         state: "chain flows greatest 2000\n0 2000 a=167772160 b=3232235520 c=1024 d=80\n",
         records: [1, 2],
-        sent: 3,
         summary: "packets 4\nport 0 2\nport 1 2\nmode one 1\nsent 3\nentries flows 1\n",
     },
 ];
@@ -63,19 +60,16 @@ fn bytes_of(records: usize) -> usize {
     records.min(1000) * 58 + 24
 }
 
+/// How many records of this traffic an output has.
+fn records_in(output: &[u8]) -> usize {
+    output.len().saturating_sub(24) / 58
+}
+
 #[test]
 fn a_firewall_lets_flows_through(rt: HostRuntime) -> Result<(), Fail> {
     for case in cases() {
-        let got = outcome_of(
-            &rt,
-            rt.alloc(),
-            FIREWALL,
-            four_of(case.flows),
-            false,
-            &[],
-            case.sent,
-        )?;
-        assert_eq!(rt; got.end, End::Ran(Ending::All, 4), "{}", case.shows);
+        let got = outcome_of(&rt, rt.alloc(), FIREWALL, four_of(case.flows), By::One, &[])?;
+        assert_eq!(rt; got.end, End::Whole, "{}", case.shows);
         assert!(rt; file(&got, 2) == case.journal.as_bytes(), "{}", case.shows);
         assert!(rt;
             got.state.as_slice() == case.state.as_bytes(),
@@ -107,17 +101,20 @@ fn two_workers_leave_the_same_outputs(rt: HostRuntime) -> Result<(), Fail> {
         count: 300,
         flows: 9,
     };
-    let one = outcome_of(&rt, rt.alloc(), WIDE, asked, false, &[], 0)?;
-    let two = outcome_of(&rt, rt.alloc(), WIDE, asked, true, &[], 0)?;
-    assert_eq!(rt; one.end, End::Ran(Ending::All, 300));
-    assert_eq!(rt; two.end, End::Ran(Ending::All, 300));
+    let one = outcome_of(&rt, rt.alloc(), WIDE, asked, By::One, &[])?;
+    let two = outcome_of(&rt, rt.alloc(), WIDE, asked, By::TwoApart, &[])?;
+    assert_eq!(rt; one.end, End::Whole);
+    assert_eq!(rt; two.end, End::Whole);
+    let mut sent = 0;
     for port in 0..2 {
         assert!(rt; file(&one, port).len() > bytes_of(100), "port {port}");
         assert!(rt; file(&one, port) == file(&two, port), "port {port}");
+        sent += records_in(file(&two, port));
     }
-    let lines: &[u8] =
-        b"packets 300\nport 0 150\nport 1 150\nmode shard 2\nsent 0\nentries flows 9\n";
-    assert!(rt; two.summary.as_slice() == lines);
+    let lines = format!(in rt.alloc();
+        "packets 300\nport 0 150\nport 1 150\nmode shard 2\nsent {sent}\nentries flows 9\n"
+    )?;
+    assert!(rt; two.summary.as_slice() == lines.as_bytes());
     assert!(rt; file(&two, 2).starts_with(b"maestro journal 1 shard 2\n"));
     Ok(())
 }
@@ -132,12 +129,29 @@ fn each_call_that_fails_stops_the_run(rt: HostRuntime) -> Result<(), Fail> {
         End::Stopped(Stop::File(2)),
         End::Stopped(Stop::File(3)),
         End::Stopped(Stop::File(4)),
-        End::Ran(Ending::All, 4),
+        End::Whole,
     ];
     for (call, end) in cases.iter().enumerate() {
         let fails = [call as u64];
-        let got = outcome_of(&rt, rt.alloc(), FIREWALL, four_of(1), false, &fails, 0)?;
+        let got = outcome_of(&rt, rt.alloc(), FIREWALL, four_of(1), By::One, &fails)?;
         assert_eq!(rt; got.end, *end, "call {call}");
     }
+    Ok(())
+}
+
+/// Each port's packets keep their order, and what was sent and what is left is not told.
+#[test]
+fn two_workers_share_all_tables(rt: HostRuntime) -> Result<(), Fail> {
+    let asked = Asked {
+        seed: 7,
+        count: 40,
+        flows: 3,
+    };
+    let got = outcome_of(&rt, rt.alloc(), WIDE, asked, By::TwoTogether, &[])?;
+    assert_eq!(rt; got.end, End::Whole);
+    let lines: &[u8] = b"packets 40\nport 0 20\nport 1 20\nmode lock 2\n";
+    assert!(rt; got.summary.as_slice() == lines);
+    assert!(rt; file(&got, 2).starts_with(b"maestro journal 1 lock 2\n"));
+    assert_eq!(rt; file(&got, 1).len(), bytes_of(20));
     Ok(())
 }

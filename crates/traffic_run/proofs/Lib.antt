@@ -1,4 +1,5 @@
 mod Over
 mod Back
 mod Making
-mod Sharded
+pub mod Sending
+mod Known

@@ -19,16 +19,16 @@ as_many asked n captures e = ap (λ (cs : List (List ℕ)). length cs) e ∙ cap
 pub numbered : (asked : Asked) (n : ℕ) (captures : List (List ℕ)) (numbers : List ℕ) → captures ≡ captures_of (recipe_of asked n) → numbers ≡ numbers_of (length captures) → numbers ≡ numbers_of n
 numbered asked n captures numbers e f = f ∙ ap numbers_of (as_many asked n captures e)
 
-pub are_packets : (asked : Asked) (n : ℕ) (captures : List (List ℕ)) (numbers : List ℕ) (told : Told) → CapturesAreTraffic → asked.count < 2 ^ 32 → 1 ≤ n → n ≤ 4 → captures ≡ captures_of (recipe_of asked n) → numbers ≡ numbers_of (length captures)
-    → (which : ℕ) → ArePackets numbers (with_made captures which told) (asked_for asked n)
-are_packets asked n captures numbers told law few some le e f which =
+pub are_packets : (asked : Asked) (n : ℕ) (captures : List (List ℕ)) (numbers : List ℕ) → CapturesAreTraffic → asked.count < 2 ^ 32 → 1 ≤ n → n ≤ 4 → captures ≡ captures_of (recipe_of asked n) → numbers ≡ numbers_of (length captures)
+    → (mark : List ℕ) (told : Told) → ArePackets numbers (with_made captures mark told) (asked_for asked n)
+are_packets asked n captures numbers law few some le e f mark told =
     let r = recipe_of asked n in
-    let t = law r which told (record { few = few; some_port = some; ports_fit = omega (arith, le) }) in
+    let t = law r mark told (record { few = few; some_port = some; ports_fit = omega (arith, le) }) in
     record {
       all = t.all;
       packets =
-          ap (λ (cs : List (List ℕ)). packets_of numbers (with_made cs which told)) e
-          ∙ ap (λ (ns : List ℕ). packets_of ns (with_made (captures_of r) which told)) (numbered asked n captures numbers e f)
+          ap (λ (cs : List (List ℕ)). packets_of numbers (with_made cs mark told)) e
+          ∙ ap (λ (ns : List ℕ). packets_of ns (with_made (captures_of r) mark told)) (numbered asked n captures numbers e f)
           ∙ t.packets;
       order = t.order;
     }

@@ -1,134 +1,214 @@
 -- A run over captures that are made of packets is one of these packets.
-use Rattle.std.proofs.Common.{◌≡◌, ℕ, zero, suc, ◌+◌, ◌<◌, ◌≤◌, Bool, true, false, cond, List, [], ◌∷◌, length, map, take, Option, Some, Result, Ok, Err, refl, sym, ap, subst, ◌∙◌, arith}
+use Rattle.std.proofs.Common.{◌≡◌, ℕ, zero, suc, ◌+◌, ◌<◌, ◌≤◌, Bool, List, [], ◌∷◌, ◌++◌, length, map, take, Option, Some, Result, Ok, Err, refl, sym, ap, subst, ◌∙◌, append-nil, arith}
 use Rattle.std.specs.List.{AllByRecursion, slice_get}
 use Rattle.std.proofs.lemmas.List.{length-map, take_all}
-use Rattle.std.proofs.lemmas.List.Elements.{All-from_recursion, recursion_from_All}
-use Rattle.std.proofs.lemmas.Nat.{mod_below}
 use Rattle.nf_base.specs.Text.{Function}
 use Rattle.nf_base.specs.Step.{opening}
-use Rattle.nf_base.specs.Orders.{comes_before}
-use Rattle.nf_laws.specs.Steps.{HasHandler, handles}
+use Rattle.nf_base.specs.declared.keys.Keys.{Keys}
+use Rattle.nf_base.specs.declared.packet.Packet.{Packet}
 use Rattle.nf_files.specs.Told.{Told, IsEmptyIfTold}
 use Rattle.packet_feed.specs.Arrivals.{Arrival}
-use Rattle.packet_feed.specs.Order.{put_in, in_order}
+use Rattle.packet_feed.specs.Order.{in_order}
 use Rattle.packet_feed.specs.Told.{packets_of}
 use Rattle.packet_feed.specs.Sources.{files_in}
-use Rattle.packet_feed.specs.Feeding.{Feeding, StandsFor, HasMore}
-use Rattle.run_history.specs.declared.line.Mode.TheVariants.{One}
-use Rattle.stream_run.specs.declared.ending.Ending.{Ending}
-use Rattle.stream_run.specs.declared.ending.Ending.TheVariants.{All, TooMany}
+use Rattle.packet_feed.specs.Feeding.{Feeding}
+use Rattle.run_history.specs.declared.line.Mode.{Mode}
+use Rattle.run_history.specs.declared.line.Mode.TheVariants as mode
 use Rattle.stream_run.specs.declared.ran.Ran.{Ran}
-use Rattle.stream_run.specs.declared.stop.Stop.{Stop}
-use Rattle.stream_run.specs.Runs.{Run, Turn, IsLegal, arrival_in, longer}
+use Rattle.stream_run.specs.Runs.{Run, Turn, IsLegal, arrival_in}
 use Rattle.stream_run.specs.Texts.{file_bytes}
-use Rattle.stream_run.specs.Lawful.{AreTheFirst, IsOneRun, EndsSo}
-use Rattle.stream_run.specs.Lawful as over
-use Rattle.stream_run.proofs.Going.{go_on}
+use Rattle.stream_run.specs.Streaming as stream
+use Rattle.stream_run.specs.Lawful.{AreTheFirst, IsOneRun}
+use Rattle.stream_run.specs.Lawful as one
 use Rattle.stream_run.proofs.Complete.{empty_front}
-use Rattle.gen_traffic.specs.Traffic.{Recipe, sent_from, traffic}
+use Rattle.sharded_run.specs.declared.came.ShareFull.{ShareFull}
+use Rattle.sharded_run.specs.Sharded as sharded
+use Rattle.sharded_run.specs.Lawful as shards
+use Rattle.sharded_run.proofs.Begun.{share_by, is_setup}
+use Rattle.locked_run.specs.declared.came.Came.{Came}
+use Rattle.locked_run.specs.Locked.{IsRunIn}
+use Rattle.locked_run.specs.Lawful as locked
+use Rattle.gen_traffic.specs.Traffic.{Recipe, traffic}
 use Rattle.gen_traffic.proofs.Streams.{counted}
 use Rattle.made_captures.specs.Laws.{arrival_of, arrivals_of}
-use Rattle.traffic_run.specs.Runs.{ArePackets, IsRunOf, IsFinished, IsCutShort, Runs}
+use Rattle.traffic_run.specs.declared.who.Who.{Who}
+use Rattle.traffic_run.specs.declared.who.Who.TheVariants.{One, Shards, Sharing}
+use Rattle.stream_run.specs.declared.stop.Stop.{Stop}
+use Rattle.traffic_run.specs.declared.came.Left.{Left}
+use Rattle.traffic_run.specs.declared.came.Left.TheVariants as left
+use Rattle.traffic_run.specs.Started.{HasStarted}
+use Rattle.traffic_run.specs.Runs.{IsByOne, IsRunBy, Serves, IsWhole, AreBefore, IsStopped, AreFirst, IsCutShort, Leaves}
 
 -- ---- the packets of traffic
 
 pub arrivals_long : (r : Recipe) → length (arrivals_of r) ≡ r.count
 arrivals_long r = length-map (traffic r) arrival_of ∙ (counted r).count
 
-within_from : (r : Recipe) (k n : ℕ) → 1 ≤ r.ports → AllByRecursion (λ (a : Arrival). a.packet.id.port < r.ports) (map arrival_of (sent_from r k n))
-within_from r k zero some = tt
-within_from r k (suc n) some = (mod_below k r.ports some, within_from r (suc k) n some)
-
-pub arrivals_within : (r : Recipe) → 1 ≤ r.ports → AllByRecursion (λ (a : Arrival). a.packet.id.port < r.ports) (arrivals_of r)
-arrivals_within r some = within_from r 0 r.count some
-
 -- ---- nothing was handled
 
-with_handlers : (f : Function) (n : ℕ) (arrivals : List Arrival) → n ≡ length f.handlers → AllByRecursion (λ (a : Arrival). a.packet.id.port < n) arrivals → AllByRecursion (λ (a : Arrival). HasHandler f a.packet) arrivals
-with_handlers f n [] ports h = tt
-with_handlers f n (a ∷ arrivals) ports h = (handles (omega (arith, h.0, ports)), with_handlers f n arrivals ports h.1)
+empty_run : Function → Mode → ℕ → Run
+empty_run f m workers = record { function = f; mode = m; workers = workers; turns = [] }
 
--- where files are empty, each holds a front of what a run leaves there
-pub cut_none : (f : Function) (n : ℕ) (arrivals : List Arrival) (now : Told) (files : List ℕ) → n ≡ length f.handlers → AllByRecursion (λ (a : Arrival). a.packet.id.port < n) arrivals
-    → ((k file : ℕ) → slice_get files k ≡ Some file → IsEmptyIfTold (now.given file)) → IsCutShort f arrivals now files
-cut_none f n arrivals now files ports handled empty =
-    let r : Run = record { function = f; mode = One; workers = 1; turns = [] } in
-    let legal : IsLegal r = record { result = record { state = opening f; answers = [] }; ran = refl } in
-    let on = go_on r arrivals (λ a. 0) legal (All-from_recursion (λ (a : Arrival). HasHandler f a.packet) arrivals (with_handlers f n arrivals ports handled)) in
-    record {
-      run = longer r on.0;
+legal_none : (f : Function) (m : Mode) (workers : ℕ) → IsLegal (empty_run f m workers)
+unfolding empty_run
+legal_none f m workers = record { result = record { state = opening f; answers = [] }; ran = refl }
+
+-- where files are empty, each holds a front of what a run over no packet leaves there
+none_of : (who : Who) (Refused : Type 0) (f : Function) (arrivals : List Arrival) (now : Told) (files : List ℕ) (r : Run) → IsRunBy who Refused f [] r → ((k file : ℕ) → slice_get files k ≡ Some file → IsEmptyIfTold (now.given file)) → IsCutShort who Refused f arrivals now files
+none_of who Refused f arrivals now files r is empty = record {
+  run = r;
+  given = [];
+  first = (arrivals, refl);
+  is_run = is;
+  fronts = λ k file e. empty_front (file_bytes r k) (now.given file) (empty k file e);
+}
+
+pub none_by : (who : Who) (Refused : Type 0) (f : Function) (arrivals : List Arrival) (now : Told) (files : List ℕ) → Serves f who → ((k file : ℕ) → slice_get files k ≡ Some file → IsEmptyIfTold (now.given file)) → IsCutShort who Refused f arrivals now files
+unfolding empty_run
+none_by One Refused f arrivals now files s empty =
+    none_of One Refused f arrivals now files (empty_run f mode.One 1) (record { function = refl; mode_is = refl; workers = refl; alone = tt; legal = legal_none f mode.One 1; packets = refl }) empty
+none_by (Shards keys workers) Refused f arrivals now files s empty =
+    let some : 0 < workers = omega (arith, s.0.0) in
+    none_of (Shards keys workers) Refused f arrivals now files (empty_run f mode.Shard workers)
+    (record {
       is_run = record {
         function = refl;
         mode = refl;
-        workers = refl;
-        alone = recursion_from_All (λ (t : Turn). t.worker ≡ 0) on.0 on.1.1;
-        legal = on.1.2;
-        packets = on.1.0;
+        workers_are = refl;
+        queues = tt;
+        legal = legal_none f mode.Shard workers;
+        share = share_by workers some s.0.1;
+        shares = (is_setup f keys workers some s.0.1).shares;
+        rule = tt;
       };
-      fronts = λ k file e. empty_front (file_bytes (longer r on.0) k) (now.given file) (empty k file e);
-    }
+      packets = refl;
+    })
+    empty
+none_by (Sharing workers) Refused f arrivals now files s empty =
+    none_of (Sharing workers) Refused f arrivals now files (empty_run f mode.Lock workers)
+    (record { function = refl; mode = refl; workers_are = refl; own = tt; order = λ port. refl; legal = legal_none f mode.Lock workers })
+    empty
 
--- ---- a whole run
+-- ---- what is known of captures that are told
 
-either_long : (a b : Arrival) (bs : List Arrival) (c : Bool) → length (put_in a bs) ≡ length bs + 1 → length (cond c (a ∷ (b ∷ bs)) (b ∷ put_in a bs)) ≡ length (b ∷ bs) + 1
-either_long a b bs true e = omega arith
-either_long a b bs false e = omega (arith, e)
+told_of : (P : Option (List Arrival) → Type 0) (captures : List ℕ) (begun : Feeding) (start : Told) (arrivals : List Arrival) (h : HasStarted captures begun start arrivals) → P (packets_of (files_in begun.sources) h.before) → P (Some h.packets.all)
+told_of P captures begun start arrivals h p = subst P (ap (λ (fs : List ℕ). packets_of fs h.before) h.files ∙ h.packets.packets) p
 
-put_long : (a : Arrival) (bs : List Arrival) → length (put_in a bs) ≡ length bs + 1
-put_long a [] = refl
-put_long a (b ∷ bs) = either_long a b bs (comes_before a.packet b.packet) (put_long a bs)
+-- all packets are the first so many
+all_first : (captures : List ℕ) (begun : Feeding) (start : Told) (arrivals given : List Arrival) (h : HasStarted captures begun start arrivals) → AreTheFirst begun.most (packets_of (files_in begun.sources) h.before) given → given ≡ arrivals
+all_first captures begun start arrivals given h p =
+    told_of (λ o. AreTheFirst begun.most o given) captures begun start arrivals h p
+    ∙ ap (take begun.most) h.packets.order
+    ∙ take_all begun.most arrivals (omega (arith, h.most))
 
-pub ordered_long : (all : List Arrival) → length (in_order all) ≡ length all
-ordered_long [] = refl
-ordered_long (a ∷ all) = omega (arith, put_long a (in_order all), ordered_long all)
+some_first : (captures : List ℕ) (begun : Feeding) (start : Told) (arrivals given : List Arrival) (h : HasStarted captures begun start arrivals) → stream.AreFirst (packets_of (files_in begun.sources) h.before) given → AreFirst arrivals given
+some_first captures begun start arrivals given h p =
+    let first = told_of (λ o. stream.AreFirst o given) captures begun start arrivals h p in
+    (first.0, sym h.packets.order ∙ first.1)
 
-is_run_of : (f : Function) (most : ℕ) (all arrivals : List Arrival) (r : Run) → in_order all ≡ arrivals → length arrivals ≡ most → IsOneRun f most (Some all) r → IsRunOf f arrivals r
-is_run_of f most all arrivals r order count one = record {
-  function = one.function;
-  mode = one.mode;
-  workers = one.workers;
-  alone = one.alone;
-  legal = one.legal;
-  packets = one.packets ∙ ap (take most) order ∙ take_all most arrivals (omega (arith, count));
+-- ---- by one worker
+
+by_one : (f : Function) (captures : List ℕ) (begun : Feeding) (start : Told) (arrivals : List Arrival) (r : Run) (h : HasStarted captures begun start arrivals) → IsOneRun f begun.most (packets_of (files_in begun.sources) h.before) r → IsByOne f arrivals r
+by_one f captures begun start arrivals r h is = record {
+  function = is.function;
+  mode_is = is.mode;
+  workers = is.workers;
+  alone = is.alone;
+  legal = is.legal;
+  packets = all_first captures begun start arrivals (map arrival_in r.turns) h is.packets;
 }
 
--- the run of the captures' packets, as far as they are told
-told_so : (f : Function) (most : ℕ) (begun : Feeding) (captures : List ℕ) (before : Told) (arrivals : List Arrival) (r : Run) → files_in begun.sources ≡ captures → begun.most ≡ most → (p : ArePackets captures before arrivals) → length arrivals ≡ most
-    → IsOneRun f begun.most (packets_of (files_in begun.sources) before) r → IsRunOf f arrivals r
-told_so f most begun captures before arrivals r files same p count one =
-    let here = subst (λ (fs : List ℕ). IsOneRun f begun.most (packets_of fs before) r) files one in
-    let there = subst (λ (o : Option (List Arrival)). IsOneRun f begun.most o r) p.packets here in
-    is_run_of f begun.most p.all arrivals r p.order (count ∙ sym same) there
+pub whole_one : (Refused : Type 0) (f : Function) (captures : List ℕ) (begun : Feeding) (start : Told) (arrivals : List Arrival) (later : Feeding) (now : Told) (files : List ℕ) (ran : Ran) (h : HasStarted captures begun start arrivals) → one.IsFinished f begun start later now files ran
+    → IsWhole One Refused f arrivals now files mode.One ran.state
+whole_one Refused f captures begun start arrivals later now files ran h k =
+    let is = by_one f captures begun start arrivals k.run h (k.lawful h.before h.stands) in
+    record { run = k.run; is_run = is; mode_is = sym is.mode_is; left = k.left; wholes = k.wholes }
 
-no_more : (o : Option (List Arrival)) (all : List Arrival) (n : ℕ) → o ≡ Some all → length all ≤ n → HasMore o n → ⊥
-no_more o all n e le more = omega (arith, le, subst (λ (x : Option (List Arrival)). HasMore x n) e more)
+pub cut_one : (Refused : Type 0) (f : Function) (captures : List ℕ) (begun : Feeding) (start : Told) (arrivals : List Arrival) (now : Told) (files : List ℕ) (h : HasStarted captures begun start arrivals) → one.IsCutShort f begun start now files → IsCutShort One Refused f arrivals now files
+cut_one Refused f captures begun start arrivals now files h k =
+    let cut = k.lawful h.before h.stands in
+    record { run = cut.run; given = arrivals; first = ([], sym (append-nil arrivals)); is_run = by_one f captures begun start arrivals cut.run h cut.is_run; fronts = cut.fronts }
 
-pub ended_all : (e : Ending) (feed : Feeding) (before : Told) (all given : List Arrival) (most : ℕ) → packets_of (files_in feed.sources) before ≡ Some all → length all ≡ most → feed.most ≡ most → EndsSo e feed before given → e ≡ All
-ended_all All feed before all given most told long same h = refl
-ended_all TooMany feed before all given most told long same h = absurd (no_more (packets_of (files_in feed.sources) before) all (length given) told (omega (arith, h.0, long, same)) h.1)
+-- ---- by several that share nothing
 
-finished : (f : Function) (most : ℕ) (begun : Feeding) (captures : List ℕ) (before start : Told) (feed : Feeding) (now : Told) (files : List ℕ) (arrivals : List Arrival) (ran : Ran) → StandsFor before [] begun start → files_in begun.sources ≡ captures → begun.most ≡ most
-    → (p : ArePackets captures before arrivals) → length arrivals ≡ most → over.IsFinished f begun start feed now files ran → IsFinished f arrivals now files ran
-finished f most begun captures before start feed now files arrivals ran b files_are same p count h =
-    let is = told_so f most begun captures before arrivals h.run files_are same p count (h.lawful before b) in
-    let told : packets_of (files_in feed.sources) before ≡ Some p.all = ap (λ (fs : List ℕ). packets_of fs before) (h.same_files ∙ files_are) ∙ p.packets in
+pub whole_shards : (Refused : Type 0) (f : Function) (keys : Keys) (workers : ℕ) (captures : List ℕ) (begun : Feeding) (start : Told) (arrivals : List Arrival) (later : Feeding) (now : Told) (files : List ℕ) (ran : Ran) (h : HasStarted captures begun start arrivals)
+    → shards.IsFinished f keys workers begun start later now files ran → IsWhole (Shards keys workers) Refused f arrivals now files mode.Shard ran.state
+whole_shards Refused f keys workers captures begun start arrivals later now files ran h k = record {
+  run = k.run;
+  is_run = record { is_run = k.is_run; packets = all_first captures begun start arrivals (map arrival_in k.run.turns) h (k.packets h.before h.stands) };
+  mode_is = sym k.is_run.mode;
+  left = k.left;
+  wholes = k.wholes;
+}
+
+before_of : (all arrivals given : List Arrival) (packet : Packet) → in_order all ≡ arrivals → sharded.AreBefore (Some all) given packet → AreBefore arrivals given packet
+before_of all arrivals given packet order h = (h.0, h.1, h.2, sym order ∙ h.3)
+
+pub full_shards : (f : Function) (keys : Keys) (workers : ℕ) (captures : List ℕ) (begun : Feeding) (start : Told) (arrivals : List Arrival) (now : Told) (files : List ℕ) (full : ShareFull) (h : HasStarted captures begun start arrivals) → shards.IsFull f keys workers begun start now files full
+    → IsStopped f keys workers arrivals now files full
+full_shards f keys workers captures begun start arrivals now files full h k =
+    let given = map arrival_in k.run.turns in
     record {
-      run = h.run;
-      is_run = is;
-      all = ended_all ran.ending feed before p.all (map arrival_in h.run.turns) most told (sym (ordered_long p.all) ∙ ap (λ (t : List Arrival). length t) p.order ∙ count) (h.same_most ∙ same) (h.ending before b);
-      count = sym h.count ∙ sym (length-map h.run.turns arrival_in) ∙ ap (λ (t : List Arrival). length t) is.packets;
-      left = h.left;
-      wholes = h.wholes;
+      run = k.run;
+      is_run = k.is_run;
+      stops = k.stops;
+      packets = before_of h.packets.all arrivals given full.stop.packet h.packets.order (told_of (λ o. sharded.AreBefore o given full.stop.packet) captures begun start arrivals h (k.packets h.before h.stands));
+      wholes = k.wholes;
     }
 
-pub runs_over : (f : Function) (most : ℕ) (begun : Feeding) (captures : List ℕ) (before start : Told) (feed : Feeding) (now : Told) (files : List ℕ) (arrivals : List Arrival) (result : Result Ran Stop) → StandsFor before [] begun start → files_in begun.sources ≡ captures → begun.most ≡ most
-    → ArePackets captures before arrivals → length arrivals ≡ most → over.Runs f begun start feed now files result → Runs f arrivals now files result
-runs_over f most begun captures before start feed now files arrivals (Ok ran) b files_are same p count h = finished f most begun captures before start feed now files arrivals ran b files_are same p count h
-runs_over f most begun captures before start feed now files arrivals (Err stop) b files_are same p count h =
-    let cut = h.lawful before b in
-    record { run = cut.run; is_run = told_so f most begun captures before arrivals cut.run files_are same p count cut.is_run; fronts = cut.fronts }
+pub cut_shards : (Refused : Type 0) (f : Function) (keys : Keys) (workers : ℕ) (captures : List ℕ) (begun : Feeding) (start : Told) (arrivals : List Arrival) (now : Told) (files : List ℕ) (h : HasStarted captures begun start arrivals) → shards.IsCutShort f keys workers begun start now files
+    → IsCutShort (Shards keys workers) Refused f arrivals now files
+cut_shards Refused f keys workers captures begun start arrivals now files h k = record {
+  run = k.run;
+  given = map arrival_in k.run.turns;
+  first = some_first captures begun start arrivals (map arrival_in k.run.turns) h (k.packets h.before h.stands);
+  is_run = record { is_run = k.is_run; packets = refl };
+  fronts = k.fronts;
+}
+
+-- ---- by several that share all tables
+
+mode_in : (m : Mode) (f : Function) (workers : ℕ) (Refused : Type 0) (given : List Arrival) (r : Run) → IsRunIn m f workers Refused given r → m ≡ r.mode
+mode_in mode.Lock f workers Refused given r is = sym is.mode
+mode_in mode.One f workers Refused given r is = sym is.1.mode
+mode_in mode.Shard f workers Refused given r is = absurd is
+
+own_mode : (m : Mode) (f : Function) (workers : ℕ) (Refused : Type 0) (given : List Arrival) (r : Run) → IsRunIn m f workers Refused given r → IsRunIn r.mode f workers Refused given r
+own_mode m f workers Refused given r is = subst (λ (n : Mode). IsRunIn n f workers Refused given r) (mode_in m f workers Refused given r is) is
+
+pub whole_sharing : (Refused : Type 0) (f : Function) (workers : ℕ) (captures : List ℕ) (begun : Feeding) (start : Told) (arrivals : List Arrival) (later : Feeding) (now : Told) (files : List ℕ) (came : Came) (h : HasStarted captures begun start arrivals)
+    → locked.IsFinished f workers Refused begun start later now files came → IsWhole (Sharing workers) Refused f arrivals now files came.mode came.ran.state
+whole_sharing Refused f workers captures begun start arrivals later now files came h k = record {
+  run = k.run;
+  is_run = subst (λ (given : List Arrival). IsRunIn k.run.mode f workers Refused given k.run) (all_first captures begun start arrivals k.given h (k.packets h.before h.stands)) (own_mode came.mode f workers Refused k.given k.run k.is_run);
+  mode_is = mode_in came.mode f workers Refused k.given k.run k.is_run;
+  left = k.left;
+  wholes = k.wholes;
+}
+
+pub cut_sharing : (Refused : Type 0) (f : Function) (workers : ℕ) (captures : List ℕ) (begun : Feeding) (start : Told) (arrivals : List Arrival) (now : Told) (files : List ℕ) (h : HasStarted captures begun start arrivals) → locked.IsCutShort f workers Refused begun start now files
+    → IsCutShort (Sharing workers) Refused f arrivals now files
+cut_sharing Refused f workers captures begun start arrivals now files h k = record {
+  run = k.run;
+  given = k.given;
+  first = some_first captures begun start arrivals k.given h (k.packets h.before h.stands);
+  is_run = own_mode k.mode f workers Refused k.given k.run k.is_run;
+  fronts = k.fronts;
+}
 
 -- ---- files that are empty
 
 pub still_empty : (files : List ℕ) (old new : Told) → ((g : ℕ) → new.given g ≡ old.given g) → ((k file : ℕ) → slice_get files k ≡ Some file → IsEmptyIfTold (old.given file)) → (k file : ℕ) → slice_get files k ≡ Some file → IsEmptyIfTold (new.given file)
 still_empty files old new same empty k file e = subst IsEmptyIfTold (sym (same file)) (empty k file e)
+
+-- ---- a gate that isn't asked may have refused or not
+
+pub one_whole : (Refused : Type 0) (f : Function) (arrivals : List Arrival) (now : Told) (files : List ℕ) (result : Result Left Stop) → Leaves One ⊥ f arrivals now files result → Leaves One Refused f arrivals now files result
+one_whole Refused f arrivals now files (Ok (left.Whole m state)) h = record { run = h.run; is_run = h.is_run; mode_is = h.mode_is; left = h.left; wholes = h.wholes }
+one_whole Refused f arrivals now files (Ok (left.Full full)) h = absurd h
+one_whole Refused f arrivals now files (Err stop) h = record { run = h.run; given = h.given; first = h.first; is_run = h.is_run; fronts = h.fronts }
+
+pub shards_whole : (Refused : Type 0) (f : Function) (keys : Keys) (workers : ℕ) (arrivals : List Arrival) (now : Told) (files : List ℕ) (result : Result Left Stop) → Leaves (Shards keys workers) ⊥ f arrivals now files result → Leaves (Shards keys workers) Refused f arrivals now files result
+shards_whole Refused f keys workers arrivals now files (Ok (left.Whole m state)) h = record { run = h.run; is_run = h.is_run; mode_is = h.mode_is; left = h.left; wholes = h.wholes }
+shards_whole Refused f keys workers arrivals now files (Ok (left.Full full)) h = h
+shards_whole Refused f keys workers arrivals now files (Err stop) h = record { run = h.run; given = h.given; first = h.first; is_run = h.is_run; fronts = h.fronts }

@@ -1,3 +1,5 @@
 pub mod Asked
 pub mod Runs
-pub mod Shards
+pub mod Sent
+pub mod Started
+pub mod Beside

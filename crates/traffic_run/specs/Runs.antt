@@ -1,19 +1,31 @@
--- A run of made-up traffic by one worker, and what it leaves.
-use Rattle.std.specs.Prelude.{◌≡◌, ℕ, List, length, map, slice_get, Some, Result, Ok, Err}
+-- A run of made-up traffic, and what it leaves.
+use Rattle.std.specs.Prelude.{◌≡◌, ◌≢◌, ◌<◌, ◌≤◌, ℕ, zero, suc, ◌+◌, List, ◌∷◌, ◌++◌, length, map, slice_get, Some, None, Result, Ok, Err}
 use Rattle.std.specs.List.{AllByRecursion}
 use Rattle.nf_base.specs.Text.{Function}
 use Rattle.nf_base.specs.declared.done.Done.{Done}
+use Rattle.nf_base.specs.declared.keys.Keys.{Keys}
+use Rattle.nf_base.specs.declared.packet.Packet.{Packet}
+use Rattle.nf_base.specs.declared.state.State.{State}
 use Rattle.nf_files.specs.Told.{Told, IsToldAs}
 use Rattle.packet_feed.specs.Arrivals.{Arrival}
 use Rattle.packet_feed.specs.Order.{in_order}
 use Rattle.packet_feed.specs.Told.{packets_of}
-use Rattle.run_history.specs.declared.line.Mode.TheVariants.{One}
-use Rattle.stream_run.specs.declared.ending.Ending.TheVariants.{All}
-use Rattle.stream_run.specs.declared.ran.Ran.{Ran}
+use Rattle.run_history.specs.declared.line.Mode.{Mode}
+use Rattle.run_history.specs.declared.line.Mode.TheVariants as mode
+use Rattle.key_synth.specs.Laws.{HashAlikeWhereTheyMeet}
 use Rattle.stream_run.specs.declared.stop.Stop.{Stop}
-use Rattle.stream_run.specs.Runs.{Run, Turn, IsLegal, course_of, arrival_in}
-use Rattle.stream_run.specs.Texts.{file_bytes}
+use Rattle.stream_run.specs.Runs.{Run, Turn, Handled, IsLegal, course_of, arrival_in, handled_in}
+use Rattle.stream_run.specs.Texts.{file_bytes, sent_records}
 use Rattle.stream_run.specs.Writing.{IsFrontIfTold}
+use Rattle.sharded_run.specs.declared.came.ShareFull.{ShareFull}
+use Rattle.sharded_run.specs.Sharded.{IsShardRun, IsStopBehind}
+use Rattle.locked_run.specs.Locked.{IsRunIn}
+use Rattle.traffic_run.specs.declared.who.Who.{Who}
+use Rattle.traffic_run.specs.declared.who.Who.TheVariants.{One, Shards, Sharing}
+use Rattle.traffic_run.specs.declared.came.Left.{Left}
+use Rattle.traffic_run.specs.declared.came.Left.TheVariants as left
+use Rattle.traffic_run.specs.declared.came.Came.{Came}
+use Rattle.traffic_run.specs.declared.came.Came.TheVariants as came
 
 -- the packets of the captures in files, put into capture order
 pub record ArePackets (captures : List ℕ) (told : Told) (arrivals : List Arrival) : Type 0 where
@@ -21,31 +33,111 @@ pub record ArePackets (captures : List ℕ) (told : Told) (arrivals : List Arriv
   pub packets : packets_of captures told ≡ Some all
   pub order : in_order all ≡ arrivals
 
+-- ---- who handles the packets
+
 -- One worker, whose number is 0, handles these packets in this order, each with choices that are legal.
-pub record IsRunOf (f : Function) (arrivals : List Arrival) (r : Run) : Type 0 where
+pub record IsByOne (f : Function) (arrivals : List Arrival) (r : Run) : Type 0 where
   pub function : r.function ≡ f
-  pub mode : r.mode ≡ One
+  pub mode_is : r.mode ≡ mode.One
   pub workers : r.workers ≡ 1
   pub alone : AllByRecursion (λ (t : Turn). t.worker ≡ 0) r.turns
   pub legal : IsLegal r
   pub packets : map arrival_in r.turns ≡ arrivals
 
+-- Workers that share nothing handle these packets in this order, each its own queue's.
+pub record IsByShards (f : Function) (keys : Keys) (workers : ℕ) (arrivals : List Arrival) (r : Run) : Type 0 where
+  pub is_run : IsShardRun f keys workers r
+  pub packets : map arrival_in r.turns ≡ arrivals
+
+-- A run of these packets: by one worker, or by several that share nothing, or by several that share all
+-- tables, where each port's packets keep their order; where the gate refused these, by one.
+abbrev pub IsRunBy : Who → Type 0 → Function → List Arrival → Run → Type 0
+IsRunBy One Refused f arrivals r = IsByOne f arrivals r
+IsRunBy (Shards keys workers) Refused f arrivals r = IsByShards f keys workers arrivals r
+IsRunBy (Sharing workers) Refused f arrivals r = IsRunIn r.mode f workers Refused arrivals r
+
+-- What is needed of who handles packets: several are more than one and at most 16, and keys are those
+-- of the function.
+abbrev pub Serves : Function → Who → Type 0
+Serves f One = Unit {0}
+Serves f (Shards keys workers) = ((1 < workers) × (workers ≤ 16)) × ((length f.handlers ≤ length keys.ports) × HashAlikeWhereTheyMeet f keys)
+Serves f (Sharing workers) = (1 < workers) × (workers ≤ 16)
+
+-- ---- what a run leaves
+
 -- Its files are whole, and its last state is told.
-pub record IsFinished (f : Function) (arrivals : List Arrival) (now : Told) (files : List ℕ) (ran : Ran) : Type 0 where
+pub record IsWhole (who : Who) (Refused : Type 0) (f : Function) (arrivals : List Arrival) (now : Told) (files : List ℕ) (m : Mode) (state : State) : Type 0 where
   pub run : Run
-  pub is_run : IsRunOf f arrivals run
-  pub all : ran.ending ≡ All
-  pub count : ran.packets ≡ length arrivals
-  pub left : (answers : List Done) × (course_of run ≡ Some (record { state = ran.state; answers = answers }))
+  pub is_run : IsRunBy who Refused f arrivals run
+  pub mode_is : m ≡ run.mode
+  pub left : (answers : List Done) × (course_of run ≡ Some (record { state = state; answers = answers }))
   pub wholes : (k file : ℕ) → slice_get files k ≡ Some file → IsToldAs (file_bytes run k) (now.given file)
 
--- Each file holds a front of what it leaves there.
-pub record IsCutShort (f : Function) (arrivals : List Arrival) (now : Told) (files : List ℕ) : Type 0 where
+-- these are the first of packets, and this one is the next
+abbrev pub AreBefore : List Arrival → List Arrival → Packet → Type 0
+AreBefore arrivals given packet =
+    (next : Arrival) × (later : List Arrival) × (next.packet ≡ packet) × (arrivals ≡ given ++ next ∷ later)
+
+-- The run's packets are those before the packet at which a share has no index left, and its files are
+-- whole.
+pub record IsStopped (f : Function) (keys : Keys) (workers : ℕ) (arrivals : List Arrival) (now : Told) (files : List ℕ) (full : ShareFull) : Type 0 where
   pub run : Run
-  pub is_run : IsRunOf f arrivals run
+  pub is_run : IsShardRun f keys workers run
+  pub stops : IsStopBehind f keys workers run full.stop
+  pub packets : AreBefore arrivals (map arrival_in run.turns) full.stop.packet
+  pub wholes : (k file : ℕ) → slice_get files k ≡ Some file → IsToldAs (file_bytes run k) (now.given file)
+
+-- that is met by workers that share nothing, and by them alone
+abbrev pub IsFull : Who → Function → List Arrival → Told → List ℕ → ShareFull → Type 0
+IsFull One f arrivals now files full = ⊥
+IsFull (Shards keys workers) f arrivals now files full = IsStopped f keys workers arrivals now files full
+IsFull (Sharing workers) f arrivals now files full = ⊥
+
+-- these are the first of packets
+abbrev pub AreFirst : List Arrival → List Arrival → Type 0
+AreFirst arrivals given = (later : List Arrival) × (arrivals ≡ given ++ later)
+
+-- The run was stopped. Each file holds a front of what a run over some first packets leaves there.
+pub record IsCutShort (who : Who) (Refused : Type 0) (f : Function) (arrivals : List Arrival) (now : Told) (files : List ℕ) : Type 0 where
+  pub run : Run
+  pub given : List Arrival
+  pub first : AreFirst arrivals given
+  pub is_run : IsRunBy who Refused f given run
   pub fronts : (k file : ℕ) → slice_get files k ≡ Some file → IsFrontIfTold (file_bytes run k) (now.given file)
 
+-- what handling packets comes to
+abbrev pub Leaves : Who → Type 0 → Function → List Arrival → Told → List ℕ → Result Left Stop → Type 0
+Leaves who Refused f arrivals now files (Ok (left.Whole m state)) = IsWhole who Refused f arrivals now files m state
+Leaves who Refused f arrivals now files (Ok (left.Full full)) = IsFull who f arrivals now files full
+Leaves who Refused f arrivals now files (Err stop) = IsCutShort who Refused f arrivals now files
+
+-- ---- how many records it sent
+
+-- how many records packets leave in so many outputs from one on
+abbrev pub sent_from : List Handled → ℕ → ℕ → ℕ
+sent_from hs port zero = 0
+sent_from hs port (suc n) = length (sent_records port hs) + sent_from hs (port + 1) n
+
+-- how many a run leaves in all outputs
+abbrev pub sent_in : Run → ℕ
+sent_in r = sent_from (handled_in r) 0 (length r.function.handlers)
+
+-- it is told what each of so many files from a number on was given
+abbrev pub AreTold : Told → ℕ → ℕ → Type 0
+AreTold told first n = (k : ℕ) → k < n → told.given (first + k) ≢ None
+
+-- A run left so many records in all outputs, whose files are numbered from one on, where what these were
+-- given is told. In mode `lock` they aren't counted.
+abbrev pub IsSent : Told → ℕ → Run → ℕ → Type 0
+IsSent now first r sent = r.mode ≢ mode.Lock → AreTold now first (length r.function.handlers) → sent ≡ sent_in r
+
+-- its files are whole, its last state is told, and how many records it sent
+pub record IsFinished (who : Who) (Refused : Type 0) (f : Function) (arrivals : List Arrival) (now : Told) (files : List ℕ) (first : ℕ) (m : Mode) (state : State) (sent : ℕ) : Type 0 where
+  pub whole : IsWhole who Refused f arrivals now files m state
+  pub sent_is : IsSent now first whole.run sent
+
 -- what a run comes to
-abbrev pub Runs : Function → List Arrival → Told → List ℕ → Result Ran Stop → Type 0
-Runs f arrivals now files (Ok ran) = IsFinished f arrivals now files ran
-Runs f arrivals now files (Err stop) = IsCutShort f arrivals now files
+abbrev pub Runs : Who → Type 0 → Function → List Arrival → Told → List ℕ → ℕ → Result Came Stop → Type 0
+Runs who Refused f arrivals now files first (Ok (came.Whole m state sent)) = IsFinished who Refused f arrivals now files first m state sent
+Runs who Refused f arrivals now files first (Ok (came.Full full)) = IsFull who f arrivals now files full
+Runs who Refused f arrivals now files first (Err stop) = IsCutShort who Refused f arrivals now files

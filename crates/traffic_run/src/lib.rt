@@ -2,9 +2,13 @@
 #![tactic(auto)]
 
 mod asked;
-mod one;
-mod shards;
+mod came;
+mod handling;
+mod running;
+mod sent;
+mod who;
 
 pub use asked::Asked;
-pub use one::run_one;
-pub use shards::run_shards;
+pub use came::Came;
+pub use running::run;
+pub use who::Who;

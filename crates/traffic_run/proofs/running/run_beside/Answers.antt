@@ -1,0 +1,71 @@
+use Rattle.std.proofs.Common.{◌∙◌, length, arith}
+use Rattle.std.proofs.lemmas.List.{get_or_default}
+use Rattle.nf_base.specs.Functions.{function_of}
+use Rattle.nf_files.specs.Told.{IsEmptyIfTold}
+use Rattle.lock_mode.specs.Gates.{Rose}
+use Rattle.made_captures.specs.Outputs.{counts_right, is_known, journal_of, mark_of}
+use Rattle.traffic_run.specs.Asked.{asked_for}
+use Rattle.traffic_run.proofs.Back.{marks_kept, keeps_back, leaves_back, empty_beside, counts_back, known_back}
+use Rattle.traffic_run.proofs.running.run_beside.Goals as goal
+
+pub run_over-requires-clause-created : goal.run_over-requires-clause-created
+run_over-requires-clause-created g c = λ κs lives port file at. (c.requires.created port file at, c.requires.before port file at)
+
+pub run_over-requires-clause-empty : goal.run_over-requires-clause-empty
+run_over-requires-clause-empty g c = λ κs lives k file e.
+    let old = c.args.beside.now in
+    let told = g.F.Files.told old.files.now in
+    empty_beside (counts_right old.outputs told) told IsEmptyIfTold file c.requires.right (c.requires.empty k file e)
+
+pub returns-clause-same_files : goal.returns-clause-same_files
+returns-clause-same_files g c =
+    let told = g.F.Files.told in
+    let counted = g.F.Files.counted in
+    let old = c.args.beside.now in
+    let new = c.run_over.new.files in
+    (marks_kept c.args.targets.now old.captures.now new.captures.now old.files.ghost_name new.files.ghost_name old.outputs new.outputs (told old.files.now) (told new.files.now) (counted old.files.now) (counted new.files.now) c.run_over.ensures.kept).which
+
+pub returns-clause-leaves : goal.returns-clause-leaves
+returns-clause-leaves g c =
+    let told = g.F.Files.told in
+    let counted = g.F.Files.counted in
+    let old = c.args.beside.now in
+    let new = c.run_over.new.files in
+    let m = marks_kept c.args.targets.now old.captures.now new.captures.now old.files.ghost_name new.files.ghost_name old.outputs new.outputs (told old.files.now) (told new.files.now) (counted old.files.now) (counted new.files.now) c.run_over.ensures.kept in
+    let right = counts_right new.outputs (told new.files.now) in
+    let known = is_known (journal_of new.outputs) (counted new.files.now).first in
+    let Refused = Rose (g.G.Gate.refused c.args.gate.now) (g.G.Gate.refused c.run_over.new.gate) in
+    leaves_back c.args.who.now Refused (function_of c.args.func.now) (asked_for c.args.asked.now (length c.args.func.now.handlers)) new.captures.now (mark_of new.files.ghost_name right known new.outputs.first new.outputs.count) right (told new.files.now) c.args.targets.now c.run_over.result
+    (m.right ∙ c.requires.right) c.run_over.ensures.leaves
+
+pub returns-clause-counts : goal.returns-clause-counts
+returns-clause-counts g c =
+    let told = g.F.Files.told in
+    let counted = g.F.Files.counted in
+    let old = c.args.beside.now in
+    let new = c.run_over.new.files in
+    let m = marks_kept c.args.targets.now old.captures.now new.captures.now old.files.ghost_name new.files.ghost_name old.outputs new.outputs (told old.files.now) (told new.files.now) (counted old.files.now) (counted new.files.now) c.run_over.ensures.kept in
+    counts_back old.outputs new.outputs (told new.files.now) m.first m.count (m.right ∙ c.requires.right)
+
+pub returns-clause-known : goal.returns-clause-known
+returns-clause-known g c =
+    let told = g.F.Files.told in
+    let counted = g.F.Files.counted in
+    let old = c.args.beside.now in
+    let new = c.run_over.new.files in
+    let m = marks_kept c.args.targets.now old.captures.now new.captures.now old.files.ghost_name new.files.ghost_name old.outputs new.outputs (told old.files.now) (told new.files.now) (counted old.files.now) (counted new.files.now) c.run_over.ensures.kept in
+    known_back old.outputs new.outputs (counted old.files.now) (counted new.files.now) m.first m.count m.known
+
+pub returns-clause-kept : goal.returns-clause-kept
+returns-clause-kept g c =
+    let told = g.F.Files.told in
+    let counted = g.F.Files.counted in
+    let old = c.args.beside.now in
+    let new = c.run_over.new.files in
+    let m = marks_kept c.args.targets.now old.captures.now new.captures.now old.files.ghost_name new.files.ghost_name old.outputs new.outputs (told old.files.now) (told new.files.now) (counted old.files.now) (counted new.files.now) c.run_over.ensures.kept in
+    let r = counts_right old.outputs (told old.files.now) in
+    let s = counts_right new.outputs (told new.files.now) in
+    let p = is_known (journal_of old.outputs) (counted old.files.now).first in
+    let q = is_known (journal_of new.outputs) (counted new.files.now).first in
+    keeps_back c.args.targets.now old.captures.now new.captures.now (mark_of old.files.ghost_name r p old.outputs.first old.outputs.count) (mark_of new.files.ghost_name s q new.outputs.first new.outputs.count) r s (told old.files.now) (told new.files.now)
+    c.requires.right (m.right ∙ c.requires.right) (λ i d lt. omega (arith, c.type_inv.targets i, get_or_default c.args.targets.now i d 0 lt)) c.run_over.ensures.kept
