@@ -6,9 +6,9 @@ use Rattle.clap.specs.Words.{Kinds, Row, Text, all_of, fault_of, first_of, subco
 use Rattle.command_words.specs.declared.command.Description.{Description}
 use Rattle.command_words.specs.declared.command.Description.TheVariants.{Check, Explain, Keys}
 use Rattle.command_words.specs.declared.command.ModeChoice.{ModeChoice}
-use Rattle.command_words.specs.declared.command.ModeChoice.TheVariants.{Auto, Shard}
+use Rattle.command_words.specs.declared.command.ModeChoice.TheVariants.{Auto, Shard, Lock}
 use Rattle.command_words.specs.Grammar.{app}
-use Rattle.command_words.specs.Texts.{and_then, Endpoint, number_up_to, workers_in, endpoint_in, key_in}
+use Rattle.command_words.specs.Texts.{and_then, Endpoint, number_up_to, workers_in, flows_in, endpoint_in, key_in}
 
 -- a run: the names of the function's file and of each port's capture, the front of the names of what
 -- it leaves, how many workers handle the packets, in which mode, and the most packets that are handled
@@ -19,6 +19,27 @@ pub record Run : Type 0 where
   pub workers : ℕ
   pub mode : ModeChoice
   pub most : ℕ
+
+-- a replay: the names of the function's file, of the journal and of each port's capture, the front of the
+-- names of the outputs, and the most packets that are gone through
+pub record Replay : Type 0 where
+  pub function : Text
+  pub journal : Text
+  pub out : Text
+  pub captures : List Text
+  pub most : ℕ
+
+-- a run over made-up traffic: the name of the function's file, the front of the names of what the run
+-- leaves, what the traffic is drawn by, how many packets there are and of how many flows, and how many
+-- workers handle them in which mode
+pub record Gen : Type 0 where
+  pub function : Text
+  pub out : Text
+  pub seed : ℕ
+  pub count : ℕ
+  pub flows : ℕ
+  pub workers : ℕ
+  pub mode : ModeChoice
 
 -- a hash: the packet's two ends, the key where one is given, and the number of workers
 pub record Hash : Type 0 where
@@ -34,6 +55,8 @@ pub record Describe : Type 0 where
 
 pub data Command : Type 0 where
   RunCommand : Run → Command
+  ReplayCommand : Replay → Command
+  GenCommand : Gen → Command
   HashCommand : Hash → Command
   DescribeCommand : Describe → Command
 
@@ -47,6 +70,7 @@ abbrev pub mode_named : Text → Option ModeChoice
 mode_named name =
     if bytes_eq name (codes "auto") then Some Auto else
     if bytes_eq name (codes "shard") then Some Shard else
+    if bytes_eq name (codes "lock") then Some Lock else
     None
 
 -- `auto` where none is given
@@ -70,6 +94,34 @@ run_in rows =
     and_then (mode_in (first_of (codes "mode") rows)) (λ m.
     option_map (λ n. record { function = f; out = o; captures = cs; workers = w; mode = m; most = n })
     (most_in (first_of (codes "max-packets") rows)))))))
+
+abbrev pub replay_in : List Row → Option Replay
+replay_in rows =
+    and_then (first_of (codes "function") rows) (λ f.
+    and_then (first_of (codes "journal") rows) (λ j.
+    and_then (first_of (codes "out") rows) (λ o.
+    and_then (captures_in (all_of (codes "capture") rows)) (λ cs.
+    option_map (λ n. record { function = f; journal = j; out = o; captures = cs; most = n })
+    (most_in (first_of (codes "max-packets") rows))))))
+
+-- a number of 32 bits
+abbrev pub seed_in : Option Text → Option ℕ
+seed_in text = and_then text (number_up_to 4294967295)
+
+-- up to 10,000,000 packets
+abbrev pub count_in : Option Text → Option ℕ
+count_in text = and_then text (number_up_to 10000000)
+
+abbrev pub gen_in : List Row → Option Gen
+gen_in rows =
+    and_then (first_of (codes "function") rows) (λ f.
+    and_then (first_of (codes "out") rows) (λ o.
+    and_then (seed_in (first_of (codes "seed") rows)) (λ s.
+    and_then (count_in (first_of (codes "count") rows)) (λ n.
+    and_then (and_then (first_of (codes "flows") rows) flows_in) (λ k.
+    and_then (or_default 1 workers_in (first_of (codes "workers") rows)) (λ w.
+    option_map (λ m. record { function = f; out = o; seed = s; count = n; flows = k; workers = w; mode = m })
+    (mode_in (first_of (codes "mode") rows))))))))
 
 -- a key where one is given
 abbrev pub given_key : Option Text → Option (Option (List ℕ))
@@ -98,6 +150,8 @@ describe_in what rows = option_map (λ f. record { what = what; function = f }) 
 abbrev pub named : Text → List Row → Option Command
 named name rows =
     if bytes_eq name (codes "run") then option_map RunCommand (run_in rows) else
+    if bytes_eq name (codes "replay") then option_map ReplayCommand (replay_in rows) else
+    if bytes_eq name (codes "gen") then option_map GenCommand (gen_in rows) else
     if bytes_eq name (codes "hash") then option_map HashCommand (hash_in rows) else
     and_then (description_named name) (λ what. option_map DescribeCommand (describe_in what rows))
 

@@ -25,6 +25,30 @@ run_app =
     with_rule (with_rule (with_rule run_names
     (option (codes "workers"))) (option (codes "mode"))) (option (codes "max-packets"))
 
+-- replay NF JOURNAL OUT
+abbrev pub replay_names : App
+replay_names =
+    with_rule (with_rule (with_rule (new_app (codes "replay"))
+    (word (codes "function"))) (word (codes "journal"))) (word (codes "out"))
+
+-- replay NF JOURNAL OUT CAPTURE.. [--max-packets N]
+abbrev pub replay_app : App
+replay_app = with_rule (with_rule replay_names (words (codes "capture"))) (option (codes "max-packets"))
+
+-- gen NF OUT SEED
+abbrev pub gen_names : App
+gen_names =
+    with_rule (with_rule (with_rule (new_app (codes "gen"))
+    (word (codes "function"))) (word (codes "out"))) (word (codes "seed"))
+
+-- gen NF OUT SEED COUNT FLOWS
+abbrev pub gen_amounts : App
+gen_amounts = with_rule (with_rule gen_names (word (codes "count"))) (word (codes "flows"))
+
+-- gen NF OUT SEED COUNT FLOWS [--workers W] [--mode M]
+abbrev pub gen_app : App
+gen_app = with_rule (with_rule gen_amounts (option (codes "workers"))) (option (codes "mode"))
+
 -- hash SRC:PORT DST:PORT [--key HEX80] [--workers W]
 abbrev pub hash_app : App
 hash_app =
@@ -43,8 +67,10 @@ with_descriptions others =
     (description_app (codes "check")).top) (description_app (codes "explain")).top)
     (description_app (codes "keys")).top
 
+-- the commands that handle packets, behind other commands
+abbrev pub with_runs : App → App
+with_runs others = with_subcommand (with_subcommand (with_subcommand others run_app.top) replay_app.top) gen_app.top
+
 -- every command
 abbrev pub app : App
-app =
-    with_descriptions (with_subcommand (with_subcommand (new_app (codes "maestro"))
-    run_app.top) hash_app.top)
+app = with_descriptions (with_subcommand (with_runs (new_app (codes "maestro"))) hash_app.top)

@@ -21,6 +21,10 @@ number_up_to most text = at_most most (decimal text)
 abbrev pub workers_in : List ℕ → Option ℕ
 workers_in text = and_then (number_up_to 16 text) (λ n. if n == 0 then None else Some n)
 
+-- 1 to 65,536
+abbrev pub flows_in : List ℕ → Option ℕ
+flows_in text = and_then (number_up_to 65536 text) (λ n. if n == 0 then None else Some n)
+
 -- an IPv4 address and a port
 pub record Endpoint : Type 0 where
   pub address : ℕ

@@ -10,6 +10,8 @@ pub enum ModeChoice {
     Auto,
     /// Workers that share nothing.
     Shard,
+    /// Workers that share their tables.
+    Lock,
 }
 
 /// A run of a function over captures.
@@ -26,6 +28,39 @@ pub struct RunCommand {
     pub mode: ModeChoice,
     /// The most packets that are handled.
     pub most: u32,
+}
+
+/// The check of a run's journal and outputs.
+#[derive(Drop)]
+pub struct ReplayCommand {
+    /// The name of the function's text.
+    pub function: String,
+    /// The name of the run's journal.
+    pub journal: String,
+    /// The front of the names of the run's outputs.
+    pub out: String,
+    /// The name of a capture for each port, 1 to 4.
+    pub captures: Vec<String>,
+    /// The most packets of the journal that are gone through.
+    pub most: u32,
+}
+
+/// A run of a function over made-up traffic.
+#[derive(Drop)]
+pub struct GenCommand {
+    /// The name of the function's text.
+    pub function: String,
+    /// The front of the names of the files that the run leaves.
+    pub out: String,
+    /// What the traffic is drawn by.
+    pub seed: u32,
+    /// How many packets there are, at most 10,000,000.
+    pub count: u32,
+    /// How many flows they are of, 1 to 65,536.
+    pub flows: u32,
+    /// How many workers handle them.
+    pub workers: Workers,
+    pub mode: ModeChoice,
 }
 
 /// The hash of a packet between two ends.
@@ -62,6 +97,8 @@ pub struct DescribeCommand {
 #[derive(Drop)]
 pub enum Command {
     Run(RunCommand),
+    Replay(ReplayCommand),
+    Gen(GenCommand),
     Hash(HashCommand),
     Describe(DescribeCommand),
 }

@@ -54,6 +54,58 @@ fn run_words<'a>(alloc: Global) -> Result<Command<'a>, AllocError>
         .arg(option(alloc, "max-packets"))
 }
 
+/// `replay NF JOURNAL OUT`
+fn replay_names<'a>(alloc: Global) -> Result<Command<'a>, AllocError>
+    ensures app { IfOk result (λ c. app_of c ≡ grammar.replay_names) }
+    ensures local { IfOk result (λ c. (out-Command c).has_globals ≡ false) }
+{
+    Command::new(alloc, "replay")
+        .arg(word(alloc, "function"))?
+        .arg(word(alloc, "journal"))?
+        .arg(word(alloc, "out"))
+}
+
+/// `replay NF JOURNAL OUT CAPTURE.. [--max-packets N]`
+fn replay_words<'a>(alloc: Global) -> Result<Command<'a>, AllocError>
+    ensures app { IfOk result (λ c. app_of c ≡ grammar.replay_app) }
+    ensures local { IfOk result (λ c. (out-Command c).has_globals ≡ false) }
+{
+    replay_names(alloc)?
+        .arg(words(alloc, "capture"))?
+        .arg(option(alloc, "max-packets"))
+}
+
+/// `gen NF OUT SEED`
+fn gen_names<'a>(alloc: Global) -> Result<Command<'a>, AllocError>
+    ensures app { IfOk result (λ c. app_of c ≡ grammar.gen_names) }
+    ensures local { IfOk result (λ c. (out-Command c).has_globals ≡ false) }
+{
+    Command::new(alloc, "gen")
+        .arg(word(alloc, "function"))?
+        .arg(word(alloc, "out"))?
+        .arg(word(alloc, "seed"))
+}
+
+/// `gen NF OUT SEED COUNT FLOWS`
+fn gen_amounts<'a>(alloc: Global) -> Result<Command<'a>, AllocError>
+    ensures app { IfOk result (λ c. app_of c ≡ grammar.gen_amounts) }
+    ensures local { IfOk result (λ c. (out-Command c).has_globals ≡ false) }
+{
+    gen_names(alloc)?
+        .arg(word(alloc, "count"))?
+        .arg(word(alloc, "flows"))
+}
+
+/// `gen NF OUT SEED COUNT FLOWS [--workers W] [--mode M]`
+fn gen_words<'a>(alloc: Global) -> Result<Command<'a>, AllocError>
+    ensures app { IfOk result (λ c. app_of c ≡ grammar.gen_app) }
+    ensures local { IfOk result (λ c. (out-Command c).has_globals ≡ false) }
+{
+    gen_amounts(alloc)?
+        .arg(option(alloc, "workers"))?
+        .arg(option(alloc, "mode"))
+}
+
 /// `hash SRC:PORT DST:PORT [--key HEX80] [--workers W]`
 fn hash_words<'a>(alloc: Global) -> Result<Command<'a>, AllocError>
     ensures app { IfOk result (λ c. app_of c ≡ grammar.hash_app) }
@@ -86,13 +138,23 @@ fn with_descriptions<'a>(alloc: Global, command: Command<'a>) -> Result<Command<
         .subcommand(description_words(alloc, "keys")?)
 }
 
+/// The commands that handle packets, behind the commands that are there.
+fn with_runs<'a>(alloc: Global, command: Command<'a>) -> Result<Command<'a>, AllocError>
+    requires local { (out-Command command).has_globals ≡ false }
+    ensures app { IfOk result (λ c. app_of c ≡ grammar.with_runs (app_of command.entry)) }
+    ensures local { IfOk result (λ c. (out-Command c).has_globals ≡ false) }
+{
+    command
+        .subcommand(run_words(alloc)?)?
+        .subcommand(replay_words(alloc)?)?
+        .subcommand(gen_words(alloc)?)
+}
+
 /// Every command.
 pub fn all_words<'a>(alloc: Global) -> Result<Command<'a>, AllocError>
     ensures app { IfOk result (λ c. app_of c ≡ grammar.app) }
     ensures local { IfOk result (λ c. (out-Command c).has_globals ≡ false) }
 {
-    let command = Command::new(alloc, "maestro")
-        .subcommand(run_words(alloc)?)?
-        .subcommand(hash_words(alloc)?)?;
+    let command = with_runs(alloc, Command::new(alloc, "maestro"))?.subcommand(hash_words(alloc)?)?;
     with_descriptions(alloc, command)
 }

@@ -7,6 +7,9 @@ mod grammar;
 mod key;
 mod words;
 
-pub use command::{Command, DescribeCommand, Description, HashCommand, ModeChoice, RunCommand};
+pub use command::{
+    Command, DescribeCommand, Description, GenCommand, HashCommand, ModeChoice, ReplayCommand,
+    RunCommand,
+};
 pub use endpoint::Endpoint;
 pub use words::command_of;

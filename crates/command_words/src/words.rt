@@ -2,11 +2,14 @@
 
 ghost use Rattle.std.specs.Prelude.{◌≡◌, ◌≤◌, IfOk, IfSome, map, length, option_map, string_bytes};
 ghost use Rattle.clap.specs.Words.{all_of, first_of, found_of, rows_of, subcommand_rows_of};
-ghost use Rattle.command_words.specs.Texts.{and_then, endpoint_in, workers_in};
+ghost use Rattle.command_words.specs.Texts.{and_then, endpoint_in, flows_in, workers_in};
 ghost use Rattle.command_words.specs.Commands as meant;
 ghost use Rattle.command_words.specs.View as view;
 
-use crate::command::{Command, DescribeCommand, Description, HashCommand, ModeChoice, RunCommand};
+use crate::command::{
+    Command, DescribeCommand, Description, GenCommand, HashCommand, ModeChoice, ReplayCommand,
+    RunCommand,
+};
 use crate::endpoint::{Endpoint, endpoint_in, number_up_to};
 use crate::grammar::all_words;
 use crate::key::key_in;
@@ -58,6 +61,7 @@ fn mode_named(name: &str) -> Option<ModeChoice>
     match name {
         "auto" => Some(ModeChoice::Auto),
         "shard" => Some(ModeChoice::Shard),
+        "lock" => Some(ModeChoice::Lock),
         _ => None,
     }
 }
@@ -135,6 +139,88 @@ fn run_command(alloc: Global, matches: &ArgMatches) -> Result<Option<RunCommand>
     }
 }
 
+fn replay_command(alloc: Global, matches: &ArgMatches) -> Result<Option<ReplayCommand>, AllocError>
+    ensures few { IfOk result (λ r. IfSome r (λ c. (1 ≤ length c.captures.items) × (length c.captures.items ≤ 4))) }
+    ensures value { IfOk result (λ r. option_map view.replay r ≡ meant.replay_in (rows_of (found_of matches.now))) }
+{
+    let Some(function) = value(matches, "function") else {
+        return Ok(None);
+    };
+    let Some(journal) = value(matches, "journal") else {
+        return Ok(None);
+    };
+    let Some(out) = value(matches, "out") else {
+        return Ok(None);
+    };
+    let Some(captures) = captures_in(alloc, values(matches, "capture"))? else {
+        return Ok(None);
+    };
+    match most_in(value(matches, "max-packets")) {
+        Some(most) => Ok(Some(ReplayCommand {
+            function: String::from_str(alloc, function)?,
+            journal: String::from_str(alloc, journal)?,
+            out: String::from_str(alloc, out)?,
+            captures,
+            most,
+        })),
+        None => Ok(None),
+    }
+}
+
+/// A number of 32 bits, where it is there.
+fn seed_in(text: Option<&str>) -> Option<u32>
+    ensures { result ≡ meant.seed_in (option_map (λ s. s.now) text.entry) }
+{
+    Some(number_up_to(4_294_967_295, text?.as_bytes())? as u32)
+}
+
+/// Up to 10,000,000, where it is there.
+fn count_in(text: Option<&str>) -> Option<u32>
+    ensures { result ≡ meant.count_in (option_map (λ s. s.now) text.entry) }
+{
+    Some(number_up_to(10_000_000, text?.as_bytes())? as u32)
+}
+
+/// 1 to 65,536, where it is there.
+fn flows_in(text: Option<&str>) -> Option<u32>
+    ensures value { result ≡ and_then (option_map (λ s. s.now) text.entry) flows_in }
+    ensures within { IfSome result (λ n. (1 ≤ n) × (n ≤ 65536)) }
+{
+    match number_up_to(65_536, text?.as_bytes()) {
+        Some(n) if n >= 1 => Some(n as u32),
+        _ => None,
+    }
+}
+
+fn gen_command(alloc: Global, matches: &ArgMatches) -> Result<Option<GenCommand>, AllocError>
+    ensures few { IfOk result (λ r. IfSome r (λ c. (1 ≤ c.flows) × (c.flows ≤ 65536))) }
+    ensures value { IfOk result (λ r. option_map view.gen r ≡ meant.gen_in (rows_of (found_of matches.now))) }
+{
+    let Some(function) = value(matches, "function") else {
+        return Ok(None);
+    };
+    let Some(out) = value(matches, "out") else {
+        return Ok(None);
+    };
+    let seed = seed_in(value(matches, "seed"));
+    let count = count_in(value(matches, "count"));
+    let flows = flows_in(value(matches, "flows"));
+    let workers = workers_or_one(value(matches, "workers"));
+    let mode = mode_in(value(matches, "mode"));
+    match (seed, count, flows, workers, mode) {
+        (Some(seed), Some(count), Some(flows), Some(workers), Some(mode)) => Ok(Some(GenCommand {
+            function: String::from_str(alloc, function)?,
+            out: String::from_str(alloc, out)?,
+            seed,
+            count,
+            flows,
+            workers,
+            mode,
+        })),
+        _ => Ok(None),
+    }
+}
+
 /// An address, a colon and a port, where they are there.
 fn end_in(text: Option<&str>) -> Option<Endpoint>
     ensures { option_map view.endpoint result ≡ and_then (option_map (λ s. s.now) text.entry) endpoint_in }
@@ -198,6 +284,10 @@ fn named(alloc: Global, name: &str, matches: &ArgMatches) -> Result<Option<Comma
 {
     if name == "run" {
         Ok(run_command(alloc, matches)?.map(Command::Run))
+    } else if name == "replay" {
+        Ok(replay_command(alloc, matches)?.map(Command::Replay))
+    } else if name == "gen" {
+        Ok(gen_command(alloc, matches)?.map(Command::Gen))
     } else if name == "hash" {
         Ok(hash_command(matches).map(Command::Hash))
     } else {
