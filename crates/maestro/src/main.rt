@@ -1,10 +1,11 @@
-//! The program: the words of the command line and the files of the system, given to the top call.
+//! The program: the words of the command line, the files of the system and the toolchain's gate to shared
+//! tables, given to the top call.
 #![tactic(auto)]
 
 #[cfg(test)]
 mod tests;
 
-use maestro_cli::{Idle, Status, maestro};
+use maestro_cli::{Idle, PackGate, Status, maestro};
 use nf_files::RealFiles;
 use std::process::ExitCode;
 use std::{env, io};
@@ -22,6 +23,14 @@ fn main(rt: HostRuntime) -> ExitCode {
         return ExitCode::from(Status::Memory.number());
     };
     let mut files = RealFiles::new(rt.alloc(), &rt, rt.stdout(), rt.stderr());
-    let status = maestro(&rt, rt.alloc(), words.as_slice(), &mut files, &Idle);
+    let mut gate = PackGate::new();
+    let status = maestro(
+        &rt,
+        rt.alloc(),
+        words.as_slice(),
+        &mut files,
+        &Idle,
+        &mut gate,
+    );
     ExitCode::from(status.number())
 }

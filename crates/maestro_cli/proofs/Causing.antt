@@ -1,28 +1,36 @@
 -- Which calls on files failed follows from what the program answers.
-use Rattle.std.proofs.Common.{◌≡◌, ◌≢◌, ◌⊎◌, inl, inr, ℕ, ◌≤◌, List, length, Option, Some, None, Err, refl, ap, sym, subst, ◌∙◌, arith}
-use Rattle.nf_files.specs.Causes.{Counted, Faulted, FaultedAsking, Asked, asking, losing, Rose, FirstAfter}
+use Rattle.std.proofs.Common.{◌≡◌, inl, inr, ℕ, ◌≤◌, List, length, Option, Some, None, Err, refl, sym, subst, ◌∙◌, arith}
+use Rattle.nf_files.specs.Causes.{Counted, Faulted, FaultedAsking, Asked, asking, Rose, FirstAfter}
 use Rattle.stream_run.specs.declared.stop.Stop.{Stop as NumberStop}
 use Rattle.stream_run.specs.declared.stop.Stop.TheVariants as numbered
 use Rattle.stream_run.specs.Writing.{IsStopCause, StopsAt}
-use Rattle.command_words.specs.Commands.{Run as RunAsked, Hash, Describe, Command, RunCommand, HashCommand, DescribeCommand}
-use Rattle.maestro_cli.specs.declared.status.RunFile.{RunFile}
-use Rattle.maestro_cli.specs.declared.status.RunFile.TheVariants.{Nf, Stdout, Stderr}
-use Rattle.maestro_cli.specs.declared.status.End.{End}
-use Rattle.maestro_cli.specs.declared.status.End.TheVariants as ends
-use Rattle.maestro_cli.specs.declared.status.Refusal.{Refusal}
-use Rattle.maestro_cli.specs.declared.status.Refusal.TheVariants as refusals
-use Rattle.maestro_cli.specs.declared.status.Stop.{Stop}
-use Rattle.maestro_cli.specs.declared.status.Stop.TheVariants as stops
-use Rattle.maestro_cli.specs.declared.status.Status.{Status}
-use Rattle.maestro_cli.specs.declared.status.Status.TheVariants.{Done, Usage, Refused, FileFault, NotCapture, Torn, ShareFull, TooMany, NoKeys, Memory}
-use Rattle.maestro_cli.specs.Statuses.{end_status, refusal_status, stop_status}
-use Rattle.maestro_cli.specs.Outside.{Outside, HasOnlyAsked}
-use Rattle.maestro_cli.specs.Numbers.{number_of, Faults, FailedAt, IsCauseOf, Stops}
-use Rattle.maestro_cli.specs.Ending.{IsFinished, IsRefused, IsStopped}
-use Rattle.maestro_cli.specs.Described.{IsHashed, IsUnhashed, IsDescribed, IsNotDescribed, IsUndescribed, IsPrintCause, IsTextCause}
-use Rattle.maestro_cli.specs.Printed.{Tells, after_stop, stopped_at}
-use Rattle.maestro_cli.specs.Answer.{Runs, Hashes, Describes, Declines, Comes, ComesTo, Answers}
-use Rattle.maestro_cli.specs.Causes.{CountsNone, CountsSome, ports_asked, HasStatusCause}
+use Rattle.command_words.specs.Commands.{Run as RunAsked, Replay, Gen, Hash, Describe, Command, RunCommand, ReplayCommand, GenCommand, HashCommand, DescribeCommand}
+use Rattle.call_base.specs.declared.status.RunFile.{RunFile}
+use Rattle.call_base.specs.declared.status.RunFile.TheVariants.{Stderr}
+use Rattle.call_base.specs.declared.status.End.{End}
+use Rattle.call_base.specs.declared.status.End.TheVariants as ends
+use Rattle.call_base.specs.declared.status.Refusal.{Refusal}
+use Rattle.call_base.specs.declared.status.Refusal.TheVariants as refusals
+use Rattle.call_base.specs.declared.status.Stop.{Stop}
+use Rattle.call_base.specs.declared.status.Stop.TheVariants as stops
+use Rattle.call_base.specs.declared.status.Status.{Status}
+use Rattle.call_base.specs.declared.status.Status.TheVariants.{Done, Usage, Refused, FileFault, NotCapture, Torn, ShareFull, TooMany, NoKeys, Memory, Differs}
+use Rattle.replay_call.specs.declared.checked.Checked.{Checked}
+use Rattle.replay_call.specs.declared.checked.Checked.TheVariants as checks
+use Rattle.replay_call.specs.Checked.{checked_status, IsRefused as IsUnjudged}
+use Rattle.replay_call.specs.Numbers.{numbering as replay_numbering}
+use Rattle.call_base.specs.Statuses.{end_status, refusal_status, stop_status}
+use Rattle.call_base.specs.Outside.{Outside}
+use Rattle.call_base.specs.Numbers.{Numbering, run_numbering, number_of, Faults, StopsBy}
+use Rattle.run_call.specs.Ending.{IsRefused, IsStopped}
+use Rattle.gen_call.specs.Numbers.{made_numbering}
+use Rattle.gen_call.specs.Ending.{IsRefused as IsUnmade, IsStopped as IsBrokenOff}
+use Rattle.describe_call.specs.Described.{IsUndescribed}
+use Rattle.call_base.specs.PrintedOut.{IsPrintCause}
+use Rattle.call_base.specs.Loading.{IsTextCause}
+use Rattle.call_base.specs.Printed.{Tells, after_stop, stopped_at}
+use Rattle.maestro_cli.specs.Answer.{Runs, Replays, Gens, Hashes, Describes, Comes, ComesTo, Answers}
+use Rattle.maestro_cli.specs.Causes.{CountsNone, CountsSome, numbering_of, HasStatusCause, HasCallCause}
 
 -- ---- counts
 
@@ -44,17 +52,17 @@ some_asking names old new number (inr f) = record { later = f.later; rose = f.ro
 
 -- ---- the end of a call
 
-at_end : (first ports : ℕ) (old new : Counted) (how : End) → CountsNone old new → HasStatusCause first ports old new (end_status how)
-at_end first ports old new ends.Whole h = h
-at_end first ports old new (ends.Torn port offset) h = h
-at_end first ports old new (ends.TooMany most) h = h
-at_end first ports old new (ends.ShareFull full) h = h
+at_end : (numbering : Numbering) (old new : Counted) (how : End) → CountsNone old new → HasStatusCause numbering old new (end_status how)
+at_end numbering old new ends.Whole h = h
+at_end numbering old new (ends.Torn port offset) h = h
+at_end numbering old new (ends.TooMany most) h = h
+at_end numbering old new (ends.ShareFull full) h = h
 
-at_refusal : (first ports : ℕ) (old new : Counted) (how : Refusal) → CountsNone old new → HasStatusCause first ports old new (refusal_status how)
-at_refusal first ports old new refusals.Usage h = h
-at_refusal first ports old new (refusals.Text fault) h = h
-at_refusal first ports old new (refusals.NoKeys why) h = h
-at_refusal first ports old new (refusals.NotCapture port) h = h
+at_refusal : (numbering : Numbering) (old new : Counted) (how : Refusal) → CountsNone old new → HasStatusCause numbering old new (refusal_status how)
+at_refusal numbering old new refusals.Usage h = h
+at_refusal numbering old new (refusals.Text fault) h = h
+at_refusal numbering old new (refusals.NoKeys why) h = h
+at_refusal numbering old new (refusals.NotCapture port) h = h
 
 refused_none : (c : RunAsked) (before now : Outside) (how : Refusal) → IsRefused c before now how → CountsNone before.counted now.counted
 refused_none c before now refusals.Usage h = asked_none _ before.counted now.counted h.1.asked
@@ -63,48 +71,67 @@ refused_none c before now (refusals.NoKeys why) h = asked_none _ before.counted 
 refused_none c before now (refusals.NotCapture port) h = asked_none _ before.counted now.counted h.1.asked
 
 -- a call was stopped
-at_stop : (first ports : ℕ) (names : List Asked) (old new : Counted) (stop : Stop) → Stops first ports names old new stop → HasStatusCause first ports old new (stop_status stop)
-at_stop first ports names old new (stops.File file) h =
+at_stop : (numbering : Numbering) (names : List Asked) (old new : Counted) (stop : Stop) → StopsBy numbering names old new stop → HasStatusCause numbering old new (stop_status stop)
+at_stop numbering names old new (stops.File file) h =
     subst (CountsSome old new) h.cause.number_is (some_faulted h.front old new h.cause.number h.cause.faulted)
-at_stop first ports names old new stops.Memory h = asked_none h.front old new h.cause
+at_stop numbering names old new stops.Memory h = asked_none h.front old new h.cause
 
-at_stopped : (c : RunAsked) (before now : Outside) (stop : Stop) → IsStopped c before now stop → HasStatusCause before.told.next (length c.captures) before.counted now.counted (stop_status stop)
-at_stopped c before now stop (inl h) = at_stop before.told.next (length c.captures) _ before.counted now.counted stop h.stops
-at_stopped c before now stop (inr h) = at_stop before.told.next (length c.captures) _ before.counted now.counted stop h.stops
+at_stopped : (R : Type 0) (c : RunAsked) (before now : Outside) (stop : Stop) → IsStopped R c before now stop → HasStatusCause (run_numbering before.told.next (length c.captures)) before.counted now.counted (stop_status stop)
+at_stopped R c before now stop (inl h) = at_stop (run_numbering before.told.next (length c.captures)) _ before.counted now.counted stop h.stops
+at_stopped R c before now stop (inr h) = at_stop (run_numbering before.told.next (length c.captures)) _ before.counted now.counted stop h.stops
 
-at_print : (first ports : ℕ) (names : List Asked) (old new : Counted) (stop : Stop) → IsPrintCause (asking names old) new stop → HasStatusCause first ports old new (stop_status stop)
+at_print : (first ports : ℕ) (names : List Asked) (old new : Counted) (stop : Stop) → IsPrintCause (asking names old) new stop → HasStatusCause (run_numbering first ports) old new (stop_status stop)
 at_print first ports names old new (stops.File file) h =
     subst (λ (f : RunFile). CountsSome old new (number_of first ports f)) (sym h.0) (some_faulted names old new 0 (inl h.1))
 at_print first ports names old new stops.Memory h = asked_none names old new h
 
-at_print_alone : (first ports : ℕ) (old new : Counted) (stop : Stop) → IsPrintCause old new stop → HasStatusCause first ports old new (stop_status stop)
+at_print_alone : (first ports : ℕ) (old new : Counted) (stop : Stop) → IsPrintCause old new stop → HasStatusCause (run_numbering first ports) old new (stop_status stop)
 at_print_alone first ports old new (stops.File file) h =
     subst (λ (f : RunFile). CountsSome old new (number_of first ports f)) (sym h.0) (record { later = h.1.later; rose = h.1.rose; first = h.1.first })
 at_print_alone first ports old new stops.Memory h = subst (CountsNone old) (sym h) (counts_none old)
 
-at_text : (name : List ℕ) (first ports : ℕ) (old new : Counted) (stop : Stop) → IsTextCause name first old new stop → HasStatusCause first ports old new (stop_status stop)
+at_text : (name : List ℕ) (first ports : ℕ) (old new : Counted) (stop : Stop) → IsTextCause name first old new stop → HasStatusCause (run_numbering first ports) old new (stop_status stop)
 at_text name first ports old new (stops.File file) h =
     subst (λ (f : RunFile). CountsSome old new (number_of first ports f)) (sym h.0) (some_asking _ old new first h.1)
 at_text name first ports old new stops.Memory (inl same) = subst (CountsNone old) (sym same) (counts_none old)
 at_text name first ports old new stops.Memory (inr more) = asked_none _ old new more
 
-at_undescribed : (c : Describe) (first ports : ℕ) (before now : Outside) (stop : Stop) → first ≡ before.told.next → IsUndescribed c before now stop → HasStatusCause first ports before.counted now.counted (stop_status stop)
+at_undescribed : (c : Describe) (first ports : ℕ) (before now : Outside) (stop : Stop) → first ≡ before.told.next → IsUndescribed c before now stop → HasStatusCause (run_numbering first ports) before.counted now.counted (stop_status stop)
 at_undescribed c first ports before now stop is (inl h) =
-    subst (λ (n : ℕ). HasStatusCause n ports before.counted now.counted (stop_status stop)) (sym is) (at_text c.function before.told.next ports before.counted now.counted stop h.cause)
+    subst (λ (n : ℕ). HasStatusCause (run_numbering n ports) before.counted now.counted (stop_status stop)) (sym is) (at_text c.function before.told.next ports before.counted now.counted stop h.cause)
 at_undescribed c first ports before now stop is (inr h) = at_print first ports _ before.counted now.counted stop h.cause
 
 -- ---- what a command comes to
 
 abbrev causes : Option Command → Outside → Outside → Status → Type 0
-causes command before now status = HasStatusCause before.told.next (ports_asked command) before.counted now.counted status
+causes command before now status = HasStatusCause (numbering_of before.told.next 0 command) before.counted now.counted status
 
-of_run : (c : RunAsked) (before now : Outside) (status : Status) → Runs c before now status → causes (Some (RunCommand c)) before now status
-of_run c before now status (inl h) =
-    subst (causes (Some (RunCommand c)) before now) (sym h.status_is) (at_end before.told.next (length c.captures) before.counted now.counted h.how (asked_none _ before.counted now.counted h.ends.asked))
-of_run c before now status (inr (inl h)) =
-    subst (causes (Some (RunCommand c)) before now) (sym h.status_is) (at_refusal before.told.next (length c.captures) before.counted now.counted h.how (refused_none c before now h.how h.ends))
-of_run c before now status (inr (inr h)) =
-    subst (causes (Some (RunCommand c)) before now) (sym h.status_is) (at_stopped c before now h.how h.ends)
+of_run : (R : Type 0) (c : RunAsked) (before now : Outside) (status : Status) → Runs R c before now status → causes (Some (RunCommand c)) before now status
+of_run R c before now status (inl h) =
+    subst (causes (Some (RunCommand c)) before now) (sym h.status_is) (at_end (run_numbering before.told.next (length c.captures)) before.counted now.counted h.how (asked_none _ before.counted now.counted h.ends.asked))
+of_run R c before now status (inr (inl h)) =
+    subst (causes (Some (RunCommand c)) before now) (sym h.status_is) (at_refusal (run_numbering before.told.next (length c.captures)) before.counted now.counted h.how (refused_none c before now h.how h.ends))
+of_run R c before now status (inr (inr h)) =
+    subst (causes (Some (RunCommand c)) before now) (sym h.status_is) (at_stopped R c before now h.how h.ends)
+
+at_checked : (numbering : Numbering) (old new : Counted) (how : Checked) → CountsNone old new → HasStatusCause numbering old new (checked_status how)
+at_checked numbering old new checks.Same h = h
+at_checked numbering old new (checks.TooMany most) h = h
+at_checked numbering old new (checks.Differs at) h = h
+
+unjudged_none : (c : Replay) (before now : Outside) (how : Refusal) → IsUnjudged c before now how → CountsNone before.counted now.counted
+unjudged_none c before now refusals.Usage h = asked_none _ before.counted now.counted h.1.asked
+unjudged_none c before now (refusals.Text fault) h = asked_none _ before.counted now.counted h.1.asked
+unjudged_none c before now (refusals.NoKeys why) h = absurd h
+unjudged_none c before now (refusals.NotCapture port) h = asked_none _ before.counted now.counted h.1.asked
+
+of_replay : (c : Replay) (before now : Outside) (status : Status) → Replays c before now status → causes (Some (ReplayCommand c)) before now status
+of_replay c before now status (inl h) =
+    subst (causes (Some (ReplayCommand c)) before now) (sym h.status_is) (at_checked (replay_numbering before.told.next (length c.captures)) before.counted now.counted h.how (asked_none _ before.counted now.counted h.ends.asked))
+of_replay c before now status (inr (inl h)) =
+    subst (causes (Some (ReplayCommand c)) before now) (sym h.status_is) (at_refusal (replay_numbering before.told.next (length c.captures)) before.counted now.counted h.how (unjudged_none c before now h.how h.ends))
+of_replay c before now status (inr (inr h)) =
+    subst (causes (Some (ReplayCommand c)) before now) (sym h.status_is) (at_stop (replay_numbering before.told.next (length c.captures)) _ before.counted now.counted h.how h.ends.stops)
 
 of_hash : (c : Hash) (before now : Outside) (status : Status) → Hashes c before now status → causes (Some (HashCommand c)) before now status
 of_hash c before now status (inl h) =
@@ -116,19 +143,51 @@ of_describe : (c : Describe) (before now : Outside) (status : Status) → Descri
 of_describe c before now status (inl h) =
     subst (causes (Some (DescribeCommand c)) before now) (sym h.0) (asked_none _ before.counted now.counted h.1.counted)
 of_describe c before now status (inr (inl h)) =
-    subst (causes (Some (DescribeCommand c)) before now) (sym h.status_is) (at_refusal before.told.next 0 before.counted now.counted (refusals.Text h.how) (asked_none _ before.counted now.counted h.ends.1.asked))
+    subst (causes (Some (DescribeCommand c)) before now) (sym h.status_is) (at_refusal (run_numbering before.told.next 0) before.counted now.counted (refusals.Text h.how) (asked_none _ before.counted now.counted h.ends.1.asked))
 of_describe c before now status (inr (inr h)) =
     subst (causes (Some (DescribeCommand c)) before now) (sym h.status_is) (at_undescribed c before.told.next 0 before now h.how refl h.ends)
 
-of_comes : (command : Option Command) (before now : Outside) (status : Status) → Comes command before now status → causes command before now status
-of_comes None before now status h = subst (causes None before now) (sym h.0) (asked_none _ before.counted now.counted h.1.asked)
-of_comes (Some (RunCommand c)) before now status h = of_run c before now status h
-of_comes (Some (HashCommand c)) before now status h = of_hash c before now status h
-of_comes (Some (DescribeCommand c)) before now status h = of_describe c before now status h
+unmade_none : (c : Gen) (before now : Outside) (how : Refusal) → IsUnmade c before now how → CountsNone before.counted now.counted
+unmade_none c before now refusals.Usage h = absurd h
+unmade_none c before now (refusals.Text fault) h = asked_none _ before.counted now.counted h.1.asked
+unmade_none c before now (refusals.NoKeys why) h = asked_none _ before.counted now.counted h.1.asked
+unmade_none c before now (refusals.NotCapture port) h = absurd h
 
-of_end : (command : Option Command) (before now : Outside) (status : Status) → ComesTo command before now status → causes command before now status
-of_end command before now status (inl h) = of_comes command before now status h
-of_end command before now status (inr h) = subst (causes command before now) (sym h.0) (asked_none _ before.counted now.counted h.1.asked)
+abbrev own_causes : Option Command → Outside → Outside → Status → Type 0
+own_causes command before now status = HasCallCause before.told.next command before.counted now.counted status
+
+at_broken : (R : Type 0) (c : Gen) (before now : Outside) (stop : Stop) → IsBrokenOff c R before now stop → own_causes (Some (GenCommand c)) before now (stop_status stop)
+at_broken R c before now stop (inl h) = record { ports = h.ports; cause = at_stop (made_numbering before.told.next h.ports) _ before.counted now.counted stop h.stops }
+at_broken R c before now stop (inr h) =
+    record { ports = length h.run.function.handlers; cause = at_stop (made_numbering before.told.next (length h.run.function.handlers)) _ before.counted now.counted stop h.stops }
+
+of_gen : (R : Type 0) (c : Gen) (before now : Outside) (status : Status) → Gens R c before now status → own_causes (Some (GenCommand c)) before now status
+of_gen R c before now status (inl h) = record {
+  ports = 0;
+  cause = subst (causes (Some (GenCommand c)) before now) (sym h.status_is) (at_end (made_numbering before.told.next 0) before.counted now.counted h.how (asked_none _ before.counted now.counted h.ends.asked));
+}
+of_gen R c before now status (inr (inl h)) = record {
+  ports = 0;
+  cause = subst (causes (Some (GenCommand c)) before now) (sym h.status_is) (at_refusal (made_numbering before.told.next 0) before.counted now.counted h.how (unmade_none c before now h.how h.ends));
+}
+of_gen R c before now status (inr (inr h)) =
+    subst (own_causes (Some (GenCommand c)) before now) (sym h.status_is) (at_broken R c before now h.how h.ends)
+
+-- the numbers of any other command's files don't hang on ports that no capture tells
+whole : (command : Option Command) (before now : Outside) (status : Status) → causes command before now status → own_causes command before now status
+whole command before now status h = record { ports = 0; cause = h }
+
+of_comes : (R : Type 0) (command : Option Command) (before now : Outside) (status : Status) → Comes R command before now status → own_causes command before now status
+of_comes R None before now status h = whole None before now status (subst (causes None before now) (sym h.0) (asked_none _ before.counted now.counted h.1.asked))
+of_comes R (Some (RunCommand c)) before now status h = whole (Some (RunCommand c)) before now status (of_run R c before now status h)
+of_comes R (Some (ReplayCommand c)) before now status h = whole (Some (ReplayCommand c)) before now status (of_replay c before now status h)
+of_comes R (Some (GenCommand c)) before now status h = of_gen R c before now status h
+of_comes R (Some (HashCommand c)) before now status h = whole (Some (HashCommand c)) before now status (of_hash c before now status h)
+of_comes R (Some (DescribeCommand c)) before now status h = whole (Some (DescribeCommand c)) before now status (of_describe c before now status h)
+
+of_end : (R : Type 0) (command : Option Command) (before now : Outside) (status : Status) → ComesTo R command before now status → own_causes command before now status
+of_end R command before now status (inl h) = of_comes R command before now status h
+of_end R command before now status (inr h) = whole command before now status (subst (causes command before now) (sym h.0) (asked_none _ before.counted now.counted h.1.asked))
 
 -- ---- what was told of it
 
@@ -156,33 +215,48 @@ behind_some old mid new number other h f = record {
 }
 
 -- where no file stopped the call, what stops the telling of it is standard error's
-told_none : (first ports : ℕ) (old mid new : Counted) (stop : NumberStop) (at : StopsAt {T = Unit {0}} 1 (Err stop)) → IsStopCause {T = Unit {0}} mid new (Err stop) → CountsNone old mid → HasStatusCause first ports old new (stopped_at stop)
-told_none first ports old mid new (numbered.File number) at cause h = subst (CountsSome old new) at (behind_none old mid new number h cause)
-told_none first ports old mid new numbered.Memory at cause h = both_none old mid new h cause
+told_none : (numbering : Numbering) (stderr : numbering.number_of Stderr ≡ 1) (old mid new : Counted) (stop : NumberStop) (at : StopsAt {T = Unit {0}} 1 (Err stop)) → IsStopCause {T = Unit {0}} mid new (Err stop) → CountsNone old mid → HasStatusCause numbering old new (stopped_at stop)
+told_none numbering stderr old mid new (numbered.File number) at cause h = subst (CountsSome old new) (at ∙ sym stderr) (behind_none old mid new number h cause)
+told_none numbering stderr old mid new numbered.Memory at cause h = both_none old mid new h cause
 
 told_some : (old mid new : Counted) (number : ℕ) (stop : NumberStop) → IsStopCause {T = Unit {0}} mid new (Err stop) → CountsSome old mid number → CountsSome old new number
 told_some old mid new number (numbered.File other) cause h = behind_some old mid new number other h cause
 told_some old mid new number numbered.Memory cause h = subst (λ (c : Counted). CountsSome old c number) (sym cause) h
 
-told_half : (first ports : ℕ) (old mid new : Counted) (due : Status) (stop : NumberStop) → StopsAt {T = Unit {0}} 1 (Err stop) → IsStopCause {T = Unit {0}} mid new (Err stop) → HasStatusCause first ports old mid due → HasStatusCause first ports old new (after_stop due stop)
-told_half first ports old mid new (FileFault file) stop at cause h = told_some old mid new (number_of first ports file) stop cause h
-told_half first ports old mid new Done stop at cause h = told_none first ports old mid new stop at cause h
-told_half first ports old mid new Usage stop at cause h = told_none first ports old mid new stop at cause h
-told_half first ports old mid new (Refused kind line column) stop at cause h = told_none first ports old mid new stop at cause h
-told_half first ports old mid new (NotCapture port) stop at cause h = told_none first ports old mid new stop at cause h
-told_half first ports old mid new (Torn port offset) stop at cause h = told_none first ports old mid new stop at cause h
-told_half first ports old mid new (ShareFull full) stop at cause h = told_none first ports old mid new stop at cause h
-told_half first ports old mid new (NoKeys why) stop at cause h = told_none first ports old mid new stop at cause h
-told_half first ports old mid new (TooMany most) stop at cause h = told_none first ports old mid new stop at cause h
-told_half first ports old mid new Memory stop at cause h = told_none first ports old mid new stop at cause h
+told_half : (numbering : Numbering) (stderr : numbering.number_of Stderr ≡ 1) (old mid new : Counted) (due : Status) (stop : NumberStop) → StopsAt {T = Unit {0}} 1 (Err stop) → IsStopCause {T = Unit {0}} mid new (Err stop) → HasStatusCause numbering old mid due → HasStatusCause numbering old new (after_stop due stop)
+told_half numbering stderr old mid new (FileFault file) stop at cause h = told_some old mid new (numbering.number_of file) stop cause h
+told_half numbering stderr old mid new Done stop at cause h = told_none numbering stderr old mid new stop at cause h
+told_half numbering stderr old mid new Usage stop at cause h = told_none numbering stderr old mid new stop at cause h
+told_half numbering stderr old mid new (Refused kind line column) stop at cause h = told_none numbering stderr old mid new stop at cause h
+told_half numbering stderr old mid new (NotCapture port) stop at cause h = told_none numbering stderr old mid new stop at cause h
+told_half numbering stderr old mid new (Torn port offset) stop at cause h = told_none numbering stderr old mid new stop at cause h
+told_half numbering stderr old mid new (ShareFull full) stop at cause h = told_none numbering stderr old mid new stop at cause h
+told_half numbering stderr old mid new (NoKeys why) stop at cause h = told_none numbering stderr old mid new stop at cause h
+told_half numbering stderr old mid new (TooMany most) stop at cause h = told_none numbering stderr old mid new stop at cause h
+told_half numbering stderr old mid new Memory stop at cause h = told_none numbering stderr old mid new stop at cause h
+told_half numbering stderr old mid new (Differs place) stop at cause h = told_none numbering stderr old mid new stop at cause h
 
-of_telling : (first ports : ℕ) (old : Counted) (ended after : Outside) (due status : Status) → HasStatusCause first ports old ended.counted due → Tells ended after due status → HasStatusCause first ports old after.counted status
-of_telling first ports old ended after due status h (inl said) =
-    subst (HasStatusCause first ports old after.counted) (sym said.status_is) (subst (λ (c : Counted). HasStatusCause first ports old c due) (sym said.counted) h)
-of_telling first ports old ended after due status h (inr half) =
-    subst (HasStatusCause first ports old after.counted) (sym half.status_is) (told_half first ports old ended.counted after.counted due half.stop half.at half.cause h)
+of_telling : (numbering : Numbering) (stderr : numbering.number_of Stderr ≡ 1) (old : Counted) (ended after : Outside) (due status : Status) → HasStatusCause numbering old ended.counted due → Tells ended after due status → HasStatusCause numbering old after.counted status
+of_telling numbering stderr old ended after due status h (inl said) =
+    subst (HasStatusCause numbering old after.counted) (sym said.status_is) (subst (λ (c : Counted). HasStatusCause numbering old c due) (sym said.counted) h)
+of_telling numbering stderr old ended after due status h (inr half) =
+    subst (HasStatusCause numbering old after.counted) (sym half.status_is) (told_half numbering stderr old ended.counted after.counted due half.stop half.at half.cause h)
+
+-- standard error has number 1, whatever is asked for
+stderr_is : (first ports : ℕ) (command : Option Command) → (numbering_of first ports command).number_of Stderr ≡ 1
+stderr_is first ports None = refl
+stderr_is first ports (Some (RunCommand c)) = refl
+stderr_is first ports (Some (ReplayCommand c)) = refl
+stderr_is first ports (Some (GenCommand c)) = refl
+stderr_is first ports (Some (HashCommand c)) = refl
+stderr_is first ports (Some (DescribeCommand c)) = refl
 
 -- from what the program answers
-pub cause_of : (command : Option Command) (before after : Outside) (status : Status) → Answers command before after status → HasStatusCause before.told.next (ports_asked command) before.counted after.counted status
-cause_of command before after status h =
-    of_telling before.told.next (ports_asked command) before.counted h.ended after h.due status (of_end command before h.ended h.due h.comes) h.tells
+pub cause_of : (R : Type 0) (command : Option Command) (before after : Outside) (status : Status) → Answers R command before after status → HasCallCause before.told.next command before.counted after.counted status
+cause_of R command before after status h =
+    let due = of_end R command before h.ended h.due h.comes in
+    let numbering = numbering_of before.told.next due.ports command in
+    record {
+      ports = due.ports;
+      cause = of_telling numbering (stderr_is before.told.next due.ports command) before.counted h.ended after h.due status due.cause h.tells;
+    }

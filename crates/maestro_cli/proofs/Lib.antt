@@ -1,17 +1,1 @@
-pub mod Got
-pub mod Handlers
-pub mod OneText
-pub mod Walked
-pub mod OneAnswer
-pub mod Asking
-pub mod Printing
-pub mod Naming
-pub mod Creating
-pub mod Leaving
-pub mod Numbering
-pub mod Stopping
-pub mod Finishing
-pub mod Starting
-pub mod Sharding
-pub mod Beginning
 pub mod Causing

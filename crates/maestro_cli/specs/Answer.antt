@@ -1,18 +1,16 @@
 -- What the program answers: a relation of its words, of the files outside before and after, and of the status.
-use Rattle.std.specs.Prelude.{◌≡◌, ◌⊎◌, ℕ, List, [], Option, Some, None}
-use Rattle.command_words.specs.Commands.{Run as RunAsked, Hash, Describe, Command, RunCommand, HashCommand, DescribeCommand}
-use Rattle.maestro_cli.specs.declared.status.End.{End}
-use Rattle.maestro_cli.specs.declared.status.Refusal.{Refusal}
-use Rattle.maestro_cli.specs.declared.status.Stop.{Stop}
-use Rattle.maestro_cli.specs.declared.status.TextFault.{TextFault}
-use Rattle.maestro_cli.specs.declared.status.Refusal.TheVariants.{Text}
-use Rattle.maestro_cli.specs.declared.status.Status.{Status}
-use Rattle.maestro_cli.specs.declared.status.Status.TheVariants.{Done, Usage, Memory}
-use Rattle.maestro_cli.specs.Statuses.{end_status, refusal_status, stop_status}
-use Rattle.maestro_cli.specs.Outside.{Outside, HasOnlyAsked}
-use Rattle.maestro_cli.specs.Ending.{IsFinished, IsRefused, IsStopped}
-use Rattle.maestro_cli.specs.Described.{IsHashed, IsUnhashed, IsDescribed, IsNotDescribed, IsUndescribed}
-use Rattle.maestro_cli.specs.Printed.{Tells}
+use Rattle.std.specs.Prelude.{◌≡◌, ◌⊎◌, [], Option, Some, None}
+use Rattle.command_words.specs.Commands.{Run as RunAsked, Replay, Gen, Hash, Describe, Command, RunCommand, ReplayCommand, GenCommand, HashCommand, DescribeCommand}
+use Rattle.call_base.specs.declared.status.Refusal.TheVariants.{Text}
+use Rattle.call_base.specs.declared.status.Status.{Status}
+use Rattle.call_base.specs.declared.status.Status.TheVariants.{Done, Usage, Memory}
+use Rattle.call_base.specs.Statuses.{end_status, refusal_status, stop_status}
+use Rattle.call_base.specs.Outside.{Outside, HasOnlyAsked}
+use Rattle.run_call.specs.Ending.{IsFinished, IsRefused, IsStopped}
+use Rattle.replay_call.specs.Checked.{IsChecked, checked_status, IsRefused as IsUnjudged, IsStopped as IsCutOff}
+use Rattle.gen_call.specs.Ending.{IsFinished as IsMade, IsRefused as IsUnmade, IsStopped as IsBrokenOff}
+use Rattle.describe_call.specs.Described.{IsHashed, IsUnhashed, IsDescribed, IsNotDescribed, IsUndescribed}
+use Rattle.call_base.specs.Printed.{Tells}
 
 -- a way to end, which has this status
 pub record Ends {E : Type 0} (status_of : E → Status) (Ends_so : E → Type 0) (status : Status) : Type 0 where
@@ -21,10 +19,22 @@ pub record Ends {E : Type 0} (status_of : E → Status) (Ends_so : E → Type 0)
   pub ends : Ends_so how
 
 -- what a run comes to: it finished, or was refused before it began, or was stopped
-abbrev pub Runs : RunAsked → Outside → Outside → Status → Type 0
-Runs c before now status =
-    Ends end_status (IsFinished c before now) status
-    ⊎ (Ends refusal_status (IsRefused c before now) status ⊎ Ends stop_status (IsStopped c before now) status)
+abbrev pub Runs : Type 0 → RunAsked → Outside → Outside → Status → Type 0
+Runs Refused c before now status =
+    Ends end_status (IsFinished Refused c before now) status
+    ⊎ (Ends refusal_status (IsRefused c before now) status ⊎ Ends stop_status (IsStopped Refused c before now) status)
+
+-- what a replay comes to: it ended, or was refused before it judged anything, or was stopped
+abbrev pub Replays : Replay → Outside → Outside → Status → Type 0
+Replays c before now status =
+    Ends checked_status (IsChecked c before now) status
+    ⊎ (Ends refusal_status (IsUnjudged c before now) status ⊎ Ends stop_status (IsCutOff c before now) status)
+
+-- what a run over made-up traffic comes to: it finished, or was refused before it began, or was stopped
+abbrev pub Gens : Type 0 → Gen → Outside → Outside → Status → Type 0
+Gens Refused c before now status =
+    Ends end_status (IsMade c Refused before now) status
+    ⊎ (Ends refusal_status (IsUnmade c before now) status ⊎ Ends stop_status (IsBrokenOff c Refused before now) status)
 
 -- what a hash comes to
 abbrev pub Hashes : Hash → Outside → Outside → Status → Type 0
@@ -42,20 +52,22 @@ Describes c before now status =
 abbrev pub Declines : Outside → Outside → Status → Status → Type 0
 Declines before now due status = (status ≡ due) × HasOnlyAsked [] before now
 
--- what a command comes to, and words that are none
-abbrev pub Comes : Option Command → Outside → Outside → Status → Type 0
-Comes None before now status = Declines before now Usage status
-Comes (Some (RunCommand c)) before now status = Runs c before now status
-Comes (Some (HashCommand c)) before now status = Hashes c before now status
-Comes (Some (DescribeCommand c)) before now status = Describes c before now status
+-- what a command comes to, where the gate to shared tables may have refused, and words that are none
+abbrev pub Comes : Type 0 → Option Command → Outside → Outside → Status → Type 0
+Comes Refused None before now status = Declines before now Usage status
+Comes Refused (Some (RunCommand c)) before now status = Runs Refused c before now status
+Comes Refused (Some (ReplayCommand c)) before now status = Replays c before now status
+Comes Refused (Some (GenCommand c)) before now status = Gens Refused c before now status
+Comes Refused (Some (HashCommand c)) before now status = Hashes c before now status
+Comes Refused (Some (DescribeCommand c)) before now status = Describes c before now status
 
 -- the call came to its end, or memory ran out before the words were read
-abbrev pub ComesTo : Option Command → Outside → Outside → Status → Type 0
-ComesTo command before now status = Comes command before now status ⊎ Declines before now Memory status
+abbrev pub ComesTo : Type 0 → Option Command → Outside → Outside → Status → Type 0
+ComesTo Refused command before now status = Comes Refused command before now status ⊎ Declines before now Memory status
 
 -- The call came to its end, and then that was told on standard error.
-pub record Answers (command : Option Command) (before after : Outside) (status : Status) : Type 0 where
+pub record Answers (Refused : Type 0) (command : Option Command) (before after : Outside) (status : Status) : Type 0 where
   pub ended : Outside
   pub due : Status
-  pub comes : ComesTo command before ended due
+  pub comes : ComesTo Refused command before ended due
   pub tells : Tells ended after due status

@@ -2,38 +2,81 @@
 ghost use Rattle.std.specs.Prelude.{◌≤◌, length, map, string_bytes, Some};
 ghost use Rattle.command_words.specs.Commands.{command_of};
 ghost use Rattle.command_words.specs.View as view;
-ghost use Rattle.maestro_cli.specs.Outside.{seen};
-ghost use Rattle.maestro_cli.specs.Answer.{Answers, Comes, ComesTo, Runs, Hashes, Describes};
-ghost use Rattle.maestro_cli.specs.Causes.{HasStatusCause, ports_asked};
-ghost use Rattle.maestro_cli.specs.Described.{HashesTo};
+ghost use Rattle.call_base.specs.Outside.{seen};
+ghost use Rattle.maestro_cli.specs.Answer.{Answers, Comes, ComesTo, Runs, Replays, Gens, Hashes, Describes};
+ghost use Rattle.maestro_cli.specs.Causes.{HasCallCause};
+ghost use Rattle.describe_call.specs.Described.{HashesTo};
+ghost use Rattle.lock_mode.specs.Gates.{Rose};
 
-use crate::describing::print_description;
-use crate::hashing::hash_line;
-use crate::loading::NoFunction;
-use crate::running::run;
-use crate::say::{print_out, tell};
-use crate::status::{Halt, Refusal, Status, Stop};
-use command_words::{Command, DescribeCommand, HashCommand, RunCommand, command_of};
+use call_base::loading::NoFunction;
+use call_base::say::{print_out, tell};
+use call_base::status::{Halt, Refusal, Status, Stop};
+use command_words::{
+    Command, DescribeCommand, GenCommand, HashCommand, ReplayCommand, RunCommand, command_of,
+};
+use describe_call::{hash_line, print_description};
+use gen_call::generate;
+use lock_mode::Gate;
 use nf_files::Files;
+use replay_call::replay;
+use run_call::run;
 use std::alloc::Global;
+use std::sync::Wait;
 use std::thread::Threads;
 use worker_turns::Turns;
 
 // Does a run.
-fn do_run<R: Threads + Sync, F: Files, G: Turns + Sync>(
+fn do_run<R: Threads + Wait + Sync, F: Files, G: Turns + Sync, L: Gate + Drop + Send>(
     rt: &R,
     alloc: Global,
     files: &mut F,
     command: &RunCommand,
     turns: &G,
+    gate: &mut L,
 ) -> Status
     requires some { 1 ≤ length command.now.captures.items }
     requires few { length command.now.captures.items ≤ 4 }
-    ensures { Runs (view.run command.now) (seen (F.told files.old) (F.counted files.old))
+    ensures { let before = seen (F.told files.old) (F.counted files.old) in
+        Runs (Rose (L.refused gate.old) (L.refused gate.new)) (view.run command.now) before
         (seen (F.told files.new) (F.counted files.new)) result }
 {
-    match run(rt, alloc, files, command, turns) {
+    match run(rt, alloc, files, command, turns, gate) {
         Ok(end) => end.status(),
+        Err(Halt::Refusal(refusal)) => refusal.status(),
+        Err(Halt::Stop(stop)) => stop.status(),
+    }
+}
+
+// Does a replay.
+fn do_replay<F: Files>(alloc: Global, files: &mut F, command: &ReplayCommand) -> Status
+    requires some { 1 ≤ length command.now.captures.items }
+    requires few { length command.now.captures.items ≤ 4 }
+    ensures { Replays (view.replay command.now) (seen (F.told files.old) (F.counted files.old))
+        (seen (F.told files.new) (F.counted files.new)) result }
+{
+    match replay(alloc, files, command) {
+        Ok(checked) => checked.status(),
+        Err(Halt::Refusal(refusal)) => refusal.status(),
+        Err(Halt::Stop(stop)) => stop.status(),
+    }
+}
+
+// Does a run over made-up traffic.
+fn do_gen<R: Threads + Wait + Sync, F: Files, G: Turns + Sync, L: Gate + Drop + Send>(
+    rt: &R,
+    alloc: Global,
+    files: &mut F,
+    command: &GenCommand,
+    turns: &G,
+    gate: &mut L,
+) -> Status
+    requires flows { 1 ≤ (view.gen command.now).flows }
+    ensures { let before = seen (F.told files.old) (F.counted files.old) in
+        Gens (Rose (L.refused gate.old) (L.refused gate.new)) (view.gen command.now) before
+        (seen (F.told files.new) (F.counted files.new)) result }
+{
+    match generate(rt, alloc, files, command, turns, gate) {
+        Ok(made) => made.status(),
         Err(Halt::Refusal(refusal)) => refusal.status(),
         Err(Halt::Stop(stop)) => stop.status(),
     }
@@ -74,38 +117,44 @@ fn do_describe<F: Files>(alloc: Global, files: &mut F, command: &DescribeCommand
 }
 
 // Does what a command asks for.
-fn obey<R: Threads + Sync, F: Files, G: Turns + Sync>(
+fn obey<R: Threads + Wait + Sync, F: Files, G: Turns + Sync, L: Gate + Drop + Send>(
     rt: &R,
     alloc: Global,
     files: &mut F,
     command: &Command,
     turns: &G,
+    gate: &mut L,
 ) -> Status
     requires few { view.HasFew command.now }
-    ensures { Comes (Some (view.asked command.now)) (seen (F.told files.old) (F.counted files.old))
+    ensures { let before = seen (F.told files.old) (F.counted files.old) in
+        Comes (Rose (L.refused gate.old) (L.refused gate.new)) (Some (view.asked command.now)) before
         (seen (F.told files.new) (F.counted files.new)) result }
 {
     match command {
-        Command::Run(asked) => do_run(rt, alloc, files, asked, turns),
+        Command::Run(asked) => do_run(rt, alloc, files, asked, turns, gate),
+        Command::Replay(asked) => do_replay(alloc, files, asked),
+        Command::Gen(asked) => do_gen(rt, alloc, files, asked, turns, gate),
         Command::Hash(asked) => do_hash(alloc, files, asked),
         Command::Describe(asked) => do_describe(alloc, files, asked),
     }
 }
 
 // Does what words ask for.
-fn carry_out<R: Threads + Sync, F: Files, G: Turns + Sync>(
+fn carry_out<R: Threads + Wait + Sync, F: Files, G: Turns + Sync, L: Gate + Drop + Send>(
     rt: &R,
     alloc: Global,
     words: &[String],
     files: &mut F,
     turns: &G,
+    gate: &mut L,
 ) -> Status
     ensures { let before = seen (F.told files.old) (F.counted files.old) in
-        ComesTo (command_of (map string_bytes words.now)) before
+        ComesTo (Rose (L.refused gate.old) (L.refused gate.new))
+        (command_of (map string_bytes words.now)) before
         (seen (F.told files.new) (F.counted files.new)) result }
 {
     match command_of(alloc, words) {
-        Ok(Some(command)) => obey(rt, alloc, files, &command, turns),
+        Ok(Some(command)) => obey(rt, alloc, files, &command, turns, gate),
         Ok(None) => Status::Usage,
         Err(_) => Status::Memory,
     }
@@ -115,30 +164,36 @@ fn carry_out<R: Threads + Sync, F: Files, G: Turns + Sync>(
 ///
 /// The words begin with the program's name. Then stand
 /// - `run`, a network function's file, the front of the outputs' names, and one to four captures; with the
-///   options `--workers`, 1 to 16, `--mode`, `auto` or `shard`, and `--max-packets N`, 10,000,000 where it is
+///   options `--workers`, 1 to 16, `--mode`, `auto`, `shard` or `lock`, and `--max-packets N`, 10,000,000 where it is
 ///   left out;
+/// - `replay`, a network function's file, a journal, the front of the outputs' names, and one to four captures;
+///   with the option `--max-packets`;
+/// - `gen`, a network function's file, the front of the outputs' names, a seed, how many packets are made, and of
+///   how many flows, 1 to 65,536; with the options `--workers` and `--mode`;
 /// - `hash`, a source and a destination as `ADDRESS:PORT`; with the options `--key`, 80 hexadecimal digits, and
 ///   `--workers`, 1 to 16;
 /// - `check`, `explain` or `keys`, a network function's file.
 ///
-/// Several workers of a run are threads of `rt`; where one can't be started, the caller does its work. What
-/// they come to is told to `turns`.
-pub fn maestro<R: Threads + Sync, F: Files, G: Turns + Sync>(
+/// Several workers of a run, over captures or made-up traffic, are threads of `rt`; where one can't be started,
+/// the caller does its work. What they come to is told to `turns`. Workers that share tables go in by `gate`;
+/// where it can't make the ways in, one worker does the run.
+pub fn maestro<R: Threads + Wait + Sync, F: Files, G: Turns + Sync, L: Gate + Drop + Send>(
     rt: &R,
     alloc: Global,
     words: &[String],
     files: &mut F,
     turns: &G,
+    gate: &mut L,
 ) -> Status
     // What the call came to, what it asked for and which call failed; and what standard error holds of that.
     ensures answer { let before = seen (F.told files.old) (F.counted files.old) in
-        Answers (command_of (map string_bytes words.now)) before
+        Answers (Rose (L.refused gate.old) (L.refused gate.new))
+        (command_of (map string_bytes words.now)) before
         (seen (F.told files.new) (F.counted files.new)) result }
     // Which call failed first, and that none did but at a file fault.
     ensures cause { let command = command_of (map string_bytes words.now) in
-        HasStatusCause (F.told files.old).next (ports_asked command) (F.counted files.old)
-        (F.counted files.new) result }
+        HasCallCause (F.told files.old).next command (F.counted files.old) (F.counted files.new) result }
 {
-    let due = carry_out(rt, alloc, words, files, turns);
+    let due = carry_out(rt, alloc, words, files, turns, gate);
     tell(files, due)
 }

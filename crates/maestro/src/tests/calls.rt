@@ -1,7 +1,8 @@
 // Calls of the program over files in memory, and what they come to.
-use maestro_cli::{Idle, Status, Turns, maestro};
+use maestro_cli::{Gate, Idle, PackGate, Status, Turns, maestro};
 use nf_files::{Files, FilesFault, MemoryFiles};
 use std::alloc::{AllocError, Global};
+use std::sync::Wait;
 use std::thread::Threads;
 
 /// What a call came to: how it ended, and what stands in the files then.
@@ -67,8 +68,8 @@ pub fn words_of(alloc: Global, line: &str) -> Result<Vec<String>, AllocError> {
     Ok(words)
 }
 
-// Captures as `a.pcap` to `d.pcap`.
-fn put_captures(files: &mut MemoryFiles, captures: &[Vec<u8>]) -> Result<(), AllocError> {
+/// Puts captures as `a.pcap` to `d.pcap`.
+pub fn put_captures(files: &mut MemoryFiles, captures: &[Vec<u8>]) -> Result<(), AllocError> {
     for (name, bytes) in ["a.pcap", "b.pcap", "c.pcap", "d.pcap"]
         .iter()
         .zip(captures)
@@ -153,19 +154,19 @@ fn outcome_of(
     })
 }
 
-fn status_of<R: Threads + Sync>(
+fn status_of<R: Threads + Wait + Sync>(
     rt: &R,
     alloc: Global,
     words: &[String],
     files: &mut MemoryFiles,
 ) -> Status {
-    maestro(rt, alloc, words, files, &Idle)
+    maestro(rt, alloc, words, files, &Idle, &mut PackGate::new())
 }
 
 /// Calls the program with the words of a line, one space apart, over a function as `x.nf` and captures
 /// as `a.pcap` to `d.pcap`, in files whose calls of these numbers fail. `out` is the front of the names
 /// of what it leaves.
-pub fn call<R: Threads + Sync>(
+pub fn call<R: Threads + Wait + Sync>(
     rt: &R,
     alloc: Global,
     line: &str,
@@ -180,9 +181,22 @@ pub fn call<R: Threads + Sync>(
     outcome_of(alloc, &mut files, out, status)
 }
 
-/// The same with `out` as the front of the names, where no call fails, and with what is told as workers go
+/// Calls the program with the words of a line over these files, with `out` as the front of the names of
+/// what it leaves.
+pub fn call_over<R: Threads + Wait + Sync>(
+    rt: &R,
+    alloc: Global,
+    line: &str,
+    files: &mut MemoryFiles,
+) -> Result<Outcome, AllocError> {
+    let words = words_of(alloc, line)?;
+    let status = status_of(rt, alloc, words.as_slice(), files);
+    outcome_of(alloc, files, "out", status)
+}
+
+/// Calls it over a function and captures with `out` as the front of the names, where no call fails, and with what is told as workers go
 /// on.
-pub fn call_with<R: Threads + Sync, G: Turns + Sync>(
+pub fn call_with<R: Threads + Wait + Sync, G: Turns + Sync>(
     rt: &R,
     alloc: Global,
     line: &str,
@@ -190,14 +204,30 @@ pub fn call_with<R: Threads + Sync, G: Turns + Sync>(
     captures: &[Vec<u8>],
     turns: &G,
 ) -> Result<Outcome, AllocError> {
+    call_gated(rt, alloc, line, text, captures, turns, &mut PackGate::new())
+}
+
+/// The same by a gate to shared tables.
+pub fn call_gated<R: Threads + Wait + Sync, G: Turns + Sync, L: Gate + Drop + Send>(
+    rt: &R,
+    alloc: Global,
+    line: &str,
+    text: &[u8],
+    captures: &[Vec<u8>],
+    turns: &G,
+    gate: &mut L,
+) -> Result<Outcome, AllocError> {
     let words = words_of(alloc, line)?;
     let mut files = files_of(alloc, text, captures, &[])?;
-    let status = maestro(rt, alloc, words.as_slice(), &mut files, turns);
+    let status = maestro(rt, alloc, words.as_slice(), &mut files, turns, gate);
     outcome_of(alloc, &mut files, "out", status)
 }
 
 /// Calls the program with no words at all.
-pub fn call_nothing<R: Threads + Sync>(rt: &R, alloc: Global) -> Result<Outcome, AllocError> {
+pub fn call_nothing<R: Threads + Wait + Sync>(
+    rt: &R,
+    alloc: Global,
+) -> Result<Outcome, AllocError> {
     let mut files = files_of(alloc, b"", &[], &[])?;
     let status = status_of(rt, alloc, &[], &mut files);
     outcome_of(alloc, &mut files, "out", status)

@@ -13,6 +13,7 @@ fn mode_word(mode: ModeChoice) -> &'static str {
     match mode {
         ModeChoice::Auto => "auto",
         ModeChoice::Shard => "shard",
+        ModeChoice::Lock => "lock",
     }
 }
 
@@ -35,7 +36,7 @@ fn run_line(alloc: Global, line: &str) -> Result<String, Fail> {
     Ok(said)
 }
 
-const NO_COMMANDS: [&str; 71] = [
+const NO_COMMANDS: [&str; 83] = [
     "",
     "maestro",
     "maestro run",
@@ -64,6 +65,18 @@ const NO_COMMANDS: [&str; 71] = [
     "maestro run x.nf out a --max-packets 1e3",
     "maestro run x.nf out a --max-packets 0x10",
     "maestro run x.nf out a --mode one",
+    "maestro run x.nf out a --mode locked",
+    "maestro replay x.nf journal out",
+    "maestro replay x.nf journal out a b c d e",
+    "maestro replay x.nf journal out a --workers 2",
+    "maestro replay x.nf journal out a --max-packets 4294967296",
+    "maestro gen x.nf out 0 4",
+    "maestro gen x.nf out 0 4 1 a",
+    "maestro gen x.nf out 0 4 0",
+    "maestro gen x.nf out 0 4 65537",
+    "maestro gen x.nf out 0 10000001 1",
+    "maestro gen x.nf out 4294967296 4 1",
+    "maestro gen x.nf out 0 4 1 --max-packets 3",
     "maestro run x.nf out -a",
     "maestro run -x.nf out a",
     "maestro run x.nf out a --help",
@@ -123,7 +136,7 @@ fn lines_that_are_no_commands(rt: HostRuntime) -> Result<(), Fail> {
     Ok(())
 }
 
-const RUNS: [(&str, &str); 16] = [
+const RUNS: [(&str, &str); 17] = [
     ("maestro run x.nf out a", "x.nf out a 10000000 1 auto"),
     (
         "maestro run x.nf out a b c d",
@@ -177,6 +190,10 @@ const RUNS: [(&str, &str); 16] = [
         "maestro run x.nf out a --mode shard",
         "x.nf out a 10000000 1 shard",
     ),
+    (
+        "maestro run x.nf out a --mode lock --workers 4",
+        "x.nf out a 10000000 4 lock",
+    ),
     ("another run x.nf out a", "x.nf out a 10000000 1 auto"),
     (
         "maestro run -- -x.nf -out -a",
@@ -194,6 +211,60 @@ fn lines_that_are_runs(rt: HostRuntime) -> Result<(), Fail> {
     for (line, expected) in runs() {
         assert_eq!(rt; run_line(alloc, line)?.as_str(), *expected, "{line}");
     }
+    Ok(())
+}
+
+/// What a replay is asked of, one space apart: its function, its journal, its front, its captures and
+/// its most packets.
+fn replay_line(alloc: Global, line: &str) -> Result<String, Fail> {
+    let mut said = String::new(alloc);
+    if let Some(Command::Replay(replay)) = asked(alloc, line)? {
+        said.push_str(replay.function.as_str())?;
+        said.push_str(" ")?;
+        said.push_str(replay.journal.as_str())?;
+        said.push_str(" ")?;
+        said.push_str(replay.out.as_str())?;
+        for capture in replay.captures.as_slice() {
+            said.push_str(" ")?;
+            said.push_str(capture.as_str())?;
+        }
+        said.push_str(format!(in alloc; " {}", replay.most)?.as_str())?;
+    }
+    Ok(said)
+}
+
+/// What made-up traffic is asked of, one space apart: its function, its front, its seed, how many packets
+/// and flows it has, its workers and its mode.
+fn gen_line(alloc: Global, line: &str) -> Result<String, Fail> {
+    let mut said = String::new(alloc);
+    if let Some(Command::Gen(made)) = asked(alloc, line)? {
+        said.push_str(made.function.as_str())?;
+        said.push_str(" ")?;
+        said.push_str(made.out.as_str())?;
+        let (seed, count, flows) = (made.seed, made.count, made.flows);
+        said.push_str(format!(in alloc; " {seed} {count} {flows}")?.as_str())?;
+        let workers = made.workers.get();
+        let mode = mode_word(made.mode);
+        said.push_str(format!(in alloc; " {workers} {mode}")?.as_str())?;
+    }
+    Ok(said)
+}
+
+#[test]
+fn lines_that_are_replays_and_traffic(rt: HostRuntime) -> Result<(), Fail> {
+    let alloc = rt.alloc();
+    let replay = replay_line(alloc, "maestro replay x.nf j out a b --max-packets 5")?;
+    assert_eq!(rt; replay.as_str(), "x.nf j out a b 5");
+    let all = replay_line(alloc, "maestro replay x.nf j out a")?;
+    assert_eq!(rt; all.as_str(), "x.nf j out a 10000000");
+    let most = "maestro gen x.nf out 4294967295 10000000 65536 --workers 16 --mode lock";
+    let traffic = gen_line(alloc, most)?;
+    assert_eq!(rt;
+        traffic.as_str(),
+        "x.nf out 4294967295 10000000 65536 16 lock"
+    );
+    let none = gen_line(alloc, "maestro gen x.nf out 0 0 1")?;
+    assert_eq!(rt; none.as_str(), "x.nf out 0 0 1 1 auto");
     Ok(())
 }
 

@@ -4,6 +4,7 @@ use super::captures::{Frame, capture, changed_capture, short_capture};
 use super::firewall::{firewall, mirror, run_one, run_two};
 use maestro_cli::Status;
 use std::alloc::{AllocError, Global};
+use std::sync::Wait;
 use std::test::Fail;
 use std::thread::Threads;
 
@@ -30,7 +31,11 @@ fn lengths() -> &'static [usize] {
     &LENGTHS
 }
 
-fn is_torn<R: Threads + Sync>(rt: &R, alloc: Global, inside: usize) -> Result<bool, AllocError> {
+fn is_torn<R: Threads + Wait + Sync>(
+    rt: &R,
+    alloc: Global,
+    inside: usize,
+) -> Result<bool, AllocError> {
     let captures = [
         short_capture(alloc, Frame::Query, inside)?,
         short_capture(alloc, Frame::Reply, 82)?,
@@ -69,7 +74,7 @@ fn tears() -> &'static [(usize, u8, u64, &'static str)] {
     &TEARS
 }
 
-fn is_torn_at<R: Threads + Sync>(
+fn is_torn_at<R: Threads + Wait + Sync>(
     rt: &R,
     alloc: Global,
     at: usize,
@@ -91,7 +96,7 @@ fn a_record_that_reaches_too_far_is_torn(rt: HostRuntime) -> Result<(), Fail> {
     Ok(())
 }
 
-fn most_are_run<R: Threads + Sync>(rt: &R, alloc: Global) -> Result<bool, AllocError> {
+fn most_are_run<R: Threads + Wait + Sync>(rt: &R, alloc: Global) -> Result<bool, AllocError> {
     let captures = [capture(
         alloc,
         &[
@@ -114,7 +119,7 @@ fn most_are_run<R: Threads + Sync>(rt: &R, alloc: Global) -> Result<bool, AllocE
 }
 
 // A torn capture of just as many records as may be handled is torn, and one of more has too many.
-fn most_come_before_tears<R: Threads + Sync>(
+fn most_come_before_tears<R: Threads + Wait + Sync>(
     rt: &R,
     alloc: Global,
     most: &str,
@@ -189,7 +194,7 @@ fn hashes() -> &'static [(&'static str, &'static str)] {
     &HASHES
 }
 
-fn is_printed<R: Threads + Sync>(
+fn is_printed<R: Threads + Wait + Sync>(
     rt: &R,
     alloc: Global,
     line: &str,

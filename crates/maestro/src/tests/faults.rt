@@ -3,11 +3,12 @@ use super::calls::{Outcome, call, has_bytes};
 use super::firewall::{firewall, query_and_reply, run_two};
 use maestro_cli::{RunFile, Status};
 use std::alloc::{AllocError, Global};
+use std::sync::Wait;
 use std::test::Fail;
 use std::thread::Threads;
 
 // The firewall with a query and its reply, in files whose calls of these numbers fail.
-fn call_firewall<R: Threads + Sync>(
+fn call_firewall<R: Threads + Wait + Sync>(
     rt: &R,
     alloc: Global,
     fails: &[u64],
@@ -61,6 +62,7 @@ fn said(file: RunFile) -> &'static str {
         RunFile::Nf => "maestro: file fault: nf\n",
         RunFile::Capture(0) => "maestro: file fault: capture 0\n",
         RunFile::Capture(_) => "maestro: file fault: capture 1\n",
+        RunFile::Journal => "maestro: file fault: journal\n",
         RunFile::Output(0) => "maestro: file fault: output 0\n",
         RunFile::Output(_) => "maestro: file fault: output 1\n",
         RunFile::OutJournal => "maestro: file fault: out journal\n",
@@ -89,7 +91,7 @@ fn are_fronts(got: &Outcome, whole: &Outcome) -> bool {
 }
 
 // What was created are the files that a run leaves, after the three that it reads.
-fn is_named<R: Threads + Sync>(
+fn is_named<R: Threads + Wait + Sync>(
     rt: &R,
     alloc: Global,
     whole: &Outcome,
@@ -116,7 +118,7 @@ fn every_call_that_fails_names_its_file(rt: HostRuntime) -> Result<(), Fail> {
 }
 
 // After the calls of the table there is no further one.
-fn is_all<R: Threads + Sync>(rt: &R, alloc: Global) -> Result<bool, AllocError> {
+fn is_all<R: Threads + Wait + Sync>(rt: &R, alloc: Global) -> Result<bool, AllocError> {
     let whole = call_firewall(rt, alloc, &[])?;
     let got = call_firewall(rt, alloc, &[22])?;
     Ok(got.status == Status::Done && are_fronts(&got, &whole) && are_fronts(&whole, &got))
@@ -129,7 +131,7 @@ fn a_run_makes_22_calls(rt: HostRuntime) -> Result<(), Fail> {
     Ok(())
 }
 
-fn is_empty_journal<R: Threads + Sync>(rt: &R, alloc: Global) -> Result<bool, AllocError> {
+fn is_empty_journal<R: Threads + Wait + Sync>(rt: &R, alloc: Global) -> Result<bool, AllocError> {
     let got = call_firewall(rt, alloc, &[18])?;
     let status = Status::FileFault(RunFile::OutJournal);
     Ok(got.status == status && has_bytes(&got.journal, b"") && got.state.is_none())
@@ -154,7 +156,7 @@ fn first() -> &'static [(u64, RunFile)] {
     &FIRST
 }
 
-fn is_first<R: Threads + Sync>(
+fn is_first<R: Threads + Wait + Sync>(
     rt: &R,
     alloc: Global,
     number: u64,
@@ -173,7 +175,7 @@ fn the_first_fault_is_told(rt: HostRuntime) -> Result<(), Fail> {
     Ok(())
 }
 
-fn is_mute<R: Threads + Sync>(
+fn is_mute<R: Threads + Wait + Sync>(
     rt: &R,
     alloc: Global,
     line: &str,

@@ -4,6 +4,7 @@ use super::captures::{Frame, Record, capture, captures};
 use super::runs::{Ran, wrong_part};
 use maestro_cli::Status;
 use std::alloc::{AllocError, Global};
+use std::sync::Wait;
 use std::test::Fail;
 use std::thread::Threads;
 
@@ -156,7 +157,7 @@ fn is_reply(content: Option<&Option<Vec<u8>>>) -> bool {
     }
 }
 
-fn reply_is_left<R: Threads + Sync>(rt: &R, alloc: Global) -> Result<bool, AllocError> {
+fn reply_is_left<R: Threads + Wait + Sync>(rt: &R, alloc: Global) -> Result<bool, AllocError> {
     let captures = query_and_reply(alloc)?;
     let got = call(
         rt,
@@ -219,7 +220,7 @@ fn journal_of(handled: bool) -> &'static [u8] {
     }
 }
 
-fn decides<R: Threads + Sync>(
+fn decides<R: Threads + Wait + Sync>(
     rt: &R,
     alloc: Global,
     at: usize,

@@ -4,6 +4,7 @@ use super::captures::{Frame, changed_capture, short_capture};
 use super::firewall::{firewall, mirror, run_one, run_two};
 use maestro_cli::Status;
 use std::alloc::{AllocError, Global};
+use std::sync::Wait;
 use std::test::Fail;
 use std::thread::Threads;
 
@@ -30,7 +31,7 @@ fn forms() -> &'static [(usize, u8, bool, &'static str)] {
 }
 
 // The text and the capture are read.
-fn is_told<R: Threads + Sync>(
+fn is_told<R: Threads + Wait + Sync>(
     rt: &R,
     alloc: Global,
     at: usize,
@@ -76,7 +77,7 @@ fn said(port: u32) -> &'static str {
 }
 
 // The text and both captures are read.
-fn is_named<R: Threads + Sync>(
+fn is_named<R: Threads + Wait + Sync>(
     rt: &R,
     alloc: Global,
     inside: usize,

@@ -3,6 +3,7 @@ use super::captures::Frame;
 use super::firewall::RUN_ONE;
 use super::runs::{Ran, wrong_part};
 use std::alloc::{AllocError, Global};
+use std::sync::Wait;
 use std::test::Fail;
 use std::thread::Threads;
 
@@ -215,7 +216,7 @@ fn falling() -> &'static Ran {
     &FALLING
 }
 
-fn one_is_right<R: Threads + Sync>(rt: &R, alloc: Global) -> Result<bool, AllocError> {
+fn one_is_right<R: Threads + Wait + Sync>(rt: &R, alloc: Global) -> Result<bool, AllocError> {
     let rising = wrong_part(rt, alloc, rising())?;
     let falling = wrong_part(rt, alloc, falling())?;
     Ok(rising.is_empty() || falling.is_empty())

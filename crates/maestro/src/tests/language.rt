@@ -5,6 +5,7 @@ use super::firewall::{RUN_ONE, RUN_TWO, run_two};
 use super::runs::{Ran, wrong_part};
 use maestro_cli::Status;
 use std::alloc::{AllocError, Global};
+use std::sync::Wait;
 use std::test::Fail;
 use std::thread::Threads;
 
@@ -293,7 +294,7 @@ fn policer() -> &'static [u8] {
     POLICER.as_bytes()
 }
 
-fn policer_fills<R: Threads + Sync>(rt: &R, alloc: Global) -> Result<bool, AllocError> {
+fn policer_fills<R: Threads + Wait + Sync>(rt: &R, alloc: Global) -> Result<bool, AllocError> {
     let captures = captures(alloc, six())?;
     let got = call(
         rt,
@@ -359,7 +360,7 @@ fn falling() -> &'static Ran {
     &FALLING
 }
 
-fn bridge_learns<R: Threads + Sync>(rt: &R, alloc: Global) -> Result<bool, AllocError> {
+fn bridge_learns<R: Threads + Wait + Sync>(rt: &R, alloc: Global) -> Result<bool, AllocError> {
     let rising = wrong_part(rt, alloc, rising())?;
     let falling = wrong_part(rt, alloc, falling())?;
     Ok(rising.is_empty() || falling.is_empty())

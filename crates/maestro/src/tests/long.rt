@@ -4,6 +4,7 @@ use super::captures::long_capture;
 use super::firewall::mirror;
 use maestro_cli::Status;
 use std::alloc::{AllocError, Global};
+use std::sync::Wait;
 use std::test::Fail;
 use std::thread::Threads;
 
@@ -21,7 +22,7 @@ fn runs() -> &'static [(&'static str, &'static str)] {
 }
 
 // Whether all packets are sent back in their order, and none stands on standard error.
-fn all_come_back<R: Threads + Sync>(
+fn all_come_back<R: Threads + Wait + Sync>(
     rt: &R,
     alloc: Global,
     line: &str,

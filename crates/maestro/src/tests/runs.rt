@@ -3,6 +3,7 @@ use super::calls::{Outcome, call, has_bytes, is_text};
 use super::captures::{Record, capture, captures};
 use maestro_cli::Status;
 use std::alloc::{AllocError, Global};
+use std::sync::Wait;
 use std::thread::Threads;
 
 /// A run, and what it has to leave.
@@ -74,7 +75,7 @@ fn counts_are(got: &Outcome, ports: usize) -> bool {
 }
 
 /// What is wrong with a run; empty where all is right.
-pub fn wrong_part<R: Threads + Sync>(
+pub fn wrong_part<R: Threads + Wait + Sync>(
     rt: &R,
     alloc: Global,
     ran: &Ran,

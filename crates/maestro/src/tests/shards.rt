@@ -4,6 +4,7 @@ use super::captures::{Frame, Record, capture, captures};
 use maestro_cli::Turns;
 use nf_base::packet::PacketId;
 use std::alloc::{AllocError, Global};
+use std::sync::Wait;
 use std::sync::atomic::{AtomicU64, Ordering};
 use std::test::Fail;
 use std::thread::Threads;
@@ -34,11 +35,13 @@ const BOTH_WAYS: &str = "nf both { ports 2;
         forward 1; }
     on 1 { drop; } }";
 
-fn policer() -> &'static [u8] {
+/// Lets each host have so many bytes.
+pub fn policer() -> &'static [u8] {
     POLICER.as_bytes()
 }
 
-fn bridge() -> &'static [u8] {
+/// Learns at which port each MAC address is. No hash serves it.
+pub fn bridge() -> &'static [u8] {
     BRIDGE.as_bytes()
 }
 
@@ -51,7 +54,7 @@ const TWO_WORKERS: &str = "maestro run x.nf out a.pcap b.pcap --workers 2";
 // From 9.9.9.9:1 to 10.0.0.1:2.
 const TO_TEN: Frame = Frame::Flow((151_587_081, 1), (167_772_161, 2), 0x5ebf);
 
-fn run_policer<R: Threads + Sync>(
+fn run_policer<R: Threads + Wait + Sync>(
     rt: &R,
     alloc: Global,
     line: &str,
@@ -167,7 +170,7 @@ fn each_share_forgets_by_the_last_packet(rt: HostRuntime) -> Result<(), Fail> {
 }
 
 // A call that ends for want of keys, before any capture is opened.
-fn is_without_keys<R: Threads + Sync>(
+fn is_without_keys<R: Threads + Wait + Sync>(
     rt: &R,
     alloc: Global,
     line: &str,
@@ -192,7 +195,6 @@ fn there_are_no_keys(rt: HostRuntime) -> Result<(), Fail> {
     let macs = "maestro: no keys: macs J4\n";
     assert!(rt; is_without_keys(&rt, rt.alloc(), shard, bridge(), macs)?);
     assert!(rt; is_without_keys(&rt, rt.alloc(), both, bridge(), macs)?);
-    assert!(rt; is_without_keys(&rt, rt.alloc(), TWO_WORKERS, bridge(), macs)?);
     let hash = "maestro: no keys: hash\n";
     assert!(rt; is_without_keys(&rt, rt.alloc(), both, by_source_and_by_destination(), hash)?);
     Ok(())

@@ -4,6 +4,7 @@ use super::captures::{Frame, capture};
 use super::firewall::run_one;
 use maestro_cli::Status;
 use std::alloc::{AllocError, Global};
+use std::sync::Wait;
 use std::test::Fail;
 use std::thread::Threads;
 
@@ -68,7 +69,7 @@ fn is_refusal(status: Status) -> bool {
 }
 
 // The text alone is read.
-fn is_refused<R: Threads + Sync>(
+fn is_refused<R: Threads + Wait + Sync>(
     rt: &R,
     alloc: Global,
     text: &[u8],

@@ -3,6 +3,7 @@ use super::calls::{Outcome, call, is_text};
 use super::firewall::firewall;
 use maestro_cli::{Fault, RunFile, Status};
 use std::alloc::{AllocError, Global};
+use std::sync::Wait;
 use std::test::Fail;
 use std::thread::Threads;
 
@@ -245,12 +246,20 @@ fn prints(alloc: Global, got: &Outcome, front: &str, end: &str) -> Result<bool, 
     )
 }
 
-fn explains<R: Threads + Sync>(rt: &R, alloc: Global, told: &Told) -> Result<bool, AllocError> {
+fn explains<R: Threads + Wait + Sync>(
+    rt: &R,
+    alloc: Global,
+    told: &Told,
+) -> Result<bool, AllocError> {
     let got = call(rt, alloc, EXPLAIN, "out", told.text.as_bytes(), &[], &[])?;
     prints(alloc, &got, told.objects, told.verdict)
 }
 
-fn gives_keys<R: Threads + Sync>(rt: &R, alloc: Global, told: &Told) -> Result<bool, AllocError> {
+fn gives_keys<R: Threads + Wait + Sync>(
+    rt: &R,
+    alloc: Global,
+    told: &Told,
+) -> Result<bool, AllocError> {
     let got = call(rt, alloc, KEYS, "out", told.text.as_bytes(), &[], &[])?;
     prints(alloc, &got, "", told.verdict)
 }
@@ -274,7 +283,7 @@ fn keys_are_the_end_of_what_is_explained(rt: HostRuntime) -> Result<(), Fail> {
 }
 
 // A text that is no function, and one with too many paths, are refused as by `check`.
-fn is_refused_so<R: Threads + Sync>(
+fn is_refused_so<R: Threads + Wait + Sync>(
     rt: &R,
     alloc: Global,
     text: &str,
@@ -331,7 +340,7 @@ fn no_function_is_told_nothing_of(rt: HostRuntime) -> Result<(), Fail> {
 }
 
 // The text is opened and read in three calls, and what is told is printed in one.
-fn stops_at<R: Threads + Sync>(
+fn stops_at<R: Threads + Wait + Sync>(
     rt: &R,
     alloc: Global,
     line: &str,
@@ -344,7 +353,11 @@ fn stops_at<R: Threads + Sync>(
     Ok(got.is_stop(Status::FileFault(file), said, opened, 0))
 }
 
-fn stops_so<R: Threads + Sync>(rt: &R, alloc: Global, line: &str) -> Result<bool, AllocError> {
+fn stops_so<R: Threads + Wait + Sync>(
+    rt: &R,
+    alloc: Global,
+    line: &str,
+) -> Result<bool, AllocError> {
     let nf = "maestro: file fault: nf\n";
     let stdout = "maestro: file fault: stdout\n";
     let opening = stops_at(rt, alloc, line, 0, RunFile::Nf, nf)?;

@@ -5,6 +5,7 @@ use maestro_cli::{Fault, RunFile, Status};
 use nf_syntax::SyntaxKind;
 use nf_types::TypingKind;
 use std::alloc::{AllocError, Global};
+use std::sync::Wait;
 use std::test::Fail;
 use std::thread::Threads;
 
@@ -59,7 +60,7 @@ fn bad_lines() -> &'static [&'static str] {
 }
 
 /// The firewall with a capture for each port, called with a line.
-fn call_firewall<R: Threads + Sync>(
+fn call_firewall<R: Threads + Wait + Sync>(
     rt: &R,
     alloc: Global,
     line: &str,
@@ -152,7 +153,11 @@ fn missing_files() -> &'static [Missing] {
     &MISSING
 }
 
-fn is_named<R: Threads + Sync>(rt: &R, alloc: Global, case: &Missing) -> Result<bool, AllocError> {
+fn is_named<R: Threads + Wait + Sync>(
+    rt: &R,
+    alloc: Global,
+    case: &Missing,
+) -> Result<bool, AllocError> {
     let got = call_firewall(rt, alloc, case.line)?;
     Ok(got.is_stop(Status::FileFault(case.file), case.said, case.opened, 0))
 }

@@ -1,4 +1,4 @@
-use Rattle.maestro_cli.specs.Outside.{seen}
+use Rattle.call_base.specs.Outside.{seen}
 use Rattle.maestro_cli.proofs.program.do_run.Given as goal
 
 abbrev pub ghost-run : goal.ghost-run

@@ -1,6 +1,7 @@
 use Rattle.std.proofs.Common.{map, string_bytes}
 use Rattle.command_words.specs.Commands.{command_of}
-use Rattle.maestro_cli.specs.Outside.{seen}
+use Rattle.lock_mode.specs.Gates.{Rose}
+use Rattle.call_base.specs.Outside.{seen}
 use Rattle.maestro_cli.proofs.Causing.{cause_of}
 use Rattle.maestro_cli.proofs.program.maestro.Goals as goal
 
@@ -8,7 +9,7 @@ pub returns-clause-cause : goal.returns-clause-cause
 returns-clause-cause g c =
     let told = g.F.Files.told in
     let counted = g.F.Files.counted in
-    cause_of (command_of (map string_bytes c.args.words.now)) (seen (told c.args.files.now) (counted c.args.files.now)) (seen (told c.tell.new.files) (counted c.tell.new.files)) c.tell.result
+    cause_of (Rose (g.L.Gate.refused c.args.gate.now) (g.L.Gate.refused c.carry_out-due.new.gate)) (command_of (map string_bytes c.args.words.now)) (seen (told c.args.files.now) (counted c.args.files.now)) (seen (told c.tell.new.files) (counted c.tell.new.files)) c.tell.result
     (record {
       ended = seen (told c.carry_out-due.new.files) (counted c.carry_out-due.new.files);
       due = c.carry_out-due.result;

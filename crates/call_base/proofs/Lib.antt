@@ -1,0 +1,11 @@
+pub mod Got
+pub mod Handlers
+pub mod Walked
+pub mod OneAnswer
+pub mod Asking
+pub mod Printing
+pub mod Naming
+pub mod Creating
+pub mod Leaving
+pub mod Numbering
+pub mod Stopping

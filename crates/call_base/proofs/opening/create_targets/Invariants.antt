@@ -1,0 +1,19 @@
+use Rattle.std.proofs.Common.{◌≡◌, ◌+◌, ◌≤◌, ℕ, List, length, Some, string_bytes, slice_get}
+use Rattle.nf_files.specs.Causes.{asking}
+use Rattle.call_base.specs.Names.{name_at, created_by}
+use Rattle.call_base.specs.Opened.{AreCreated}
+use Rattle.call_base.proofs.opening.create_targets.Given as goal
+
+-- the files so far are created
+abbrev pub invariant-places : goal.invariant-places
+invariant-places g l =
+    let told = g.F.Files.told in
+    record {
+      count : length l.targets.items ≡ l.place;
+      behind : (told l.files).next ≡ l.last + 1;
+      numbers : (i f : ℕ) → slice_get l.targets.items i ≡ Some f → f ≡ (told l.fn.files).next + i;
+      created : AreCreated (told l.fn.files) (told l.files) (name_at (string_bytes l.out) l.ports) l.place;
+      writable : (i f : ℕ) → slice_get l.targets.items i ≡ Some f → g.F.Files.is_written l.files f;
+      reads : (n : ℕ) → g.F.Files.is_read l.fn.files n → g.F.Files.is_read l.files n;
+      asked : g.F.Files.counted l.files ≡ asking (created_by (string_bytes l.out) l.ports l.place) (g.F.Files.counted l.fn.files);
+    }

@@ -1,0 +1,15 @@
+pub mod Statuses
+pub mod Outside
+pub mod Source
+pub mod Walking
+pub mod Laws
+pub mod Names
+pub mod Numbers
+pub mod Opened
+pub mod Created
+pub mod Named
+pub mod Texts
+pub mod Printed
+pub mod Loading
+pub mod Far
+pub mod PrintedOut

@@ -1,0 +1,66 @@
+//! The name of a chain or an array, as a status tells it.
+ghost use Rattle.std.specs.Prelude.{◌≡◌, ◌≤◌, ◌++◌, ℕ, List, length};
+ghost use Rattle.nf_base.specs.Functions.{function_of};
+ghost use Rattle.verdict_text.specs.Names.{object_name};
+ghost use Rattle.call_base.specs.Named.{name_bytes};
+
+use nf_base::decl::ObjectId;
+use nf_base::func::Func;
+
+/// The name of a chain or an array, which takes no memory: the first so many of 32 bytes.
+#[derive(Clone, Copy, Debug, PartialEq, Eq)]
+pub struct ObjectName {
+    bytes: [u8; 32],
+    len: u32,
+}
+
+// Bytes, with zeros behind them.
+fn padded(name: &[u8]) -> [u8; 32]
+    requires { length name.now ≤ 32 }
+    ensures { (rest : List ℕ) × (result ≡ name.now ++ rest) }
+{
+    let mut bytes = [0; 32];
+    bytes[..name.len()].copy_from_slice(name);
+    bytes
+}
+
+impl ObjectName {
+    /// The name of these bytes.
+    pub fn of(name: &[u8]) -> ObjectName
+        requires { length name.now ≤ 32 }
+        ensures { name_bytes result ≡ name.now }
+    {
+        ObjectName {
+            bytes: padded(name),
+            len: name.len() as u32,
+        }
+    }
+
+    /// The name of a chain or an array of a function.
+    pub fn in_func(func: &Func, object: ObjectId) -> ObjectName
+        ensures { name_bytes result ≡ object_name (function_of func.now) object }
+    {
+        match object {
+            ObjectId::Chain(chain) => match func.chains.as_slice().get(chain as usize) {
+                None => ObjectName::of(&[]),
+                Some(decl) => ObjectName::of(decl.name.as_slice()),
+            },
+            ObjectId::Array(array) => match func.arrays.as_slice().get(array as usize) {
+                None => ObjectName::of(&[]),
+                Some(decl) => ObjectName::of(decl.name.as_slice()),
+            },
+        }
+    }
+
+    pub fn as_slice(&self) -> &[u8]
+        ensures value { result.now ≡ name_bytes self.now }
+        ensures few { length result.now ≤ 32 }
+    {
+        let len = self.len as usize;
+        if len < 32 {
+            &self.bytes[..len]
+        } else {
+            &self.bytes
+        }
+    }
+}

@@ -1,0 +1,50 @@
+-- What is printed of a function that is asked about.
+use Rattle.std.specs.Prelude.{◌≡◌, ℕ, List, [], ◌∷◌, ◌++◌, length, codes, decimal}
+use Rattle.nf_base.specs.Text.{Function}
+use Rattle.command_words.specs.declared.command.Description.{Description}
+use Rattle.command_words.specs.declared.command.Description.TheVariants.{Check, Explain, Keys}
+use Rattle.shard_rules.specs.Served.{own_sites, own_plan}
+use Rattle.key_synth.specs.declared.verdict.Verdict.{Verdict}
+use Rattle.key_synth.specs.Verdicts.{IsVerdict}
+use Rattle.verdict_text.specs.Verdict.{verdict_text, explained_whole}
+use Rattle.call_base.specs.Source.{path_counts}
+
+-- each number behind a space
+abbrev pub counts_text : List ℕ → List ℕ
+counts_text [] = []
+counts_text (n ∷ ns) = (codes " " ++ decimal n) ++ counts_text ns
+
+-- the name of a function, and how many ports, chains and arrays it has
+abbrev pub objects_text : Function → List ℕ
+objects_text f =
+    f.name ++ codes ": ports " ++ decimal (length f.handlers)
+    ++ codes ", chains " ++ decimal (length f.chains) ++ codes ", arrays " ++ decimal (length f.arrays)
+
+-- one line: the name, the ports, chains and arrays, and how many feasible paths each port has
+abbrev pub check_line : Function → List ℕ
+check_line f = codes "ok " ++ objects_text f ++ codes ", paths" ++ counts_text (path_counts f) ++ codes "\n"
+
+-- The text of the verdict on a function: sharded with the given keys, or locked where no admissible
+-- keys spread, with the cause.
+pub record IsVerdictText (f : Function) (text : List ℕ) : Type 0 where
+  pub verdict : Verdict
+  pub is_verdict : IsVerdict f verdict
+  pub said : text ≡ verdict_text f verdict
+
+-- The same behind the function's objects, each with its sites.
+pub record IsExplanation (f : Function) (text : List ℕ) : Type 0 where
+  pub verdict : Verdict
+  pub is_verdict : IsVerdict f verdict
+  pub said : text ≡ explained_whole f (own_sites f) (own_plan f) verdict
+
+-- the text that is asked for
+abbrev pub IsDescription : Description → Function → List ℕ → Type 0
+IsDescription Check f text = text ≡ check_line f
+IsDescription Explain f text = IsExplanation f text
+IsDescription Keys f text = IsVerdictText f text
+
+-- two texts that are asked for alike are equal
+abbrev pub DescriptionsAreOne : Type 0
+DescriptionsAreOne =
+    (what : Description) (f : Function) (text other : List ℕ) →
+    IsDescription what f text → IsDescription what f other → text ≡ other

@@ -1,0 +1,12 @@
+//! A run of a function over made-up traffic, from the function's file to the files that it leaves and the
+//! lines that sum it up.
+#![tactic(auto)]
+
+mod job;
+mod naming;
+mod running;
+mod state;
+mod summing;
+mod who;
+
+pub use running::generate;

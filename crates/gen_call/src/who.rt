@@ -1,0 +1,85 @@
+//! Who handles the packets of a run over made-up traffic.
+ghost use Rattle.std.specs.Prelude.{◌≡◌, ◌≢◌, ◌<◌, ◌≤◌};
+ghost use Rattle.nf_base.specs.Functions.{function_of};
+ghost use Rattle.key_synth.specs.Verdicts.{IsVerdict, Separates};
+ghost use Rattle.command_words.specs.View as view;
+ghost use Rattle.command_words.specs.declared.command.ModeChoice.TheVariants.{Lock, Shard};
+ghost use Rattle.call_base.specs.Source.{HasFewPaths};
+ghost use Rattle.call_base.specs.Named.{SaysCause};
+ghost use Rattle.gen_call.specs.Who.{Serves};
+
+use call_base::analysing::verdict_of;
+use call_base::object_name::ObjectName;
+use call_base::status::{Halt, NoKeys, Refusal, Stop};
+use command_words::{GenCommand, ModeChoice};
+use key_synth::{Cause, Verdict};
+use nf_base::func::Func;
+use std::alloc::Global;
+use traffic_run::Who;
+
+// Why a function has no keys.
+fn no_keys(func: &Func, cause: Cause) -> NoKeys
+    ensures { SaysCause (function_of func.now) cause result }
+{
+    match cause {
+        Cause::Object { object, rule } => NoKeys::Object {
+            name: ObjectName::in_func(func, object),
+            rule,
+        },
+        Cause::Hash => NoKeys::Hash,
+    }
+}
+
+// Several share nothing where the function has keys, and else all tables, where they may.
+fn several_by(command: &GenCommand, func: &Func, verdict: Verdict) -> Result<Who, Halt>
+    requires several { 1 < (view.gen command.now).workers }
+    requires few { (view.gen command.now).workers ≤ 16 }
+    requires unlocked { (view.gen command.now).mode ≢ Lock }
+    requires verdict { IsVerdict (function_of func.now) verdict }
+    requires separates { Separates (function_of func.now) verdict }
+    ensures serves { Serves (view.gen command.now) (function_of func.now) result }
+{
+    match verdict {
+        Verdict::Sharded(keys) => Ok(Who::Shards(keys, command.workers)),
+        Verdict::Locked(cause) => match command.mode {
+            ModeChoice::Shard => Err(Halt::Refusal(Refusal::NoKeys(no_keys(func, cause)))),
+            _ => Ok(Who::Sharing(command.workers)),
+        },
+    }
+}
+
+// One worker, where mode `shard` is asked for and this is the verdict.
+fn one_by(command: &GenCommand, func: &Func, verdict: Verdict) -> Result<Who, Halt>
+    requires alone { (view.gen command.now).workers ≡ 1 }
+    requires shard { (view.gen command.now).mode ≡ Shard }
+    requires verdict { IsVerdict (function_of func.now) verdict }
+    ensures serves { Serves (view.gen command.now) (function_of func.now) result }
+{
+    match verdict {
+        Verdict::Sharded(_) => Ok(Who::One),
+        Verdict::Locked(cause) => Err(Halt::Refusal(Refusal::NoKeys(no_keys(func, cause)))),
+    }
+}
+
+/// Who handles the packets of a run that is asked for.
+pub fn who_of(alloc: Global, command: &GenCommand, func: &Func) -> Result<Who, Halt>
+    requires few { HasFewPaths (function_of func.now) }
+    ensures serves { Serves (view.gen command.now) (function_of func.now) result }
+{
+    let several = 1 < command.workers.get();
+    match (several, command.mode) {
+        (false, ModeChoice::Auto) => Ok(Who::One),
+        (false, ModeChoice::Lock) => Ok(Who::One),
+        (true, ModeChoice::Lock) => Ok(Who::Sharing(command.workers)),
+        (_, _) => match verdict_of(alloc, func) {
+            Ok(verdict) => {
+                if several {
+                    several_by(command, func, verdict)
+                } else {
+                    one_by(command, func, verdict)
+                }
+            }
+            Err(_) => Err(Halt::Stop(Stop::Memory)),
+        },
+    }
+}

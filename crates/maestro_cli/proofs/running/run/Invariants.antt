@@ -1,4 +1,0 @@
-use Rattle.maestro_cli.proofs.running.run.Given as goal
-
-abbrev pub ghost-run_found : goal.ghost-run_found
-ghost-run_found g a = g.before

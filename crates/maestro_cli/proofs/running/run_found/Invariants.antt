@@ -1,4 +1,0 @@
-use Rattle.maestro_cli.proofs.running.run_found.Given as goal
-
-abbrev pub ghost-run_served : goal.ghost-run_served
-ghost-run_served g a = g.before

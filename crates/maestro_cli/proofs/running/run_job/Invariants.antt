@@ -1,4 +1,0 @@
-use Rattle.maestro_cli.proofs.running.run_job.Given as goal
-
-abbrev pub ghost-run_opened : goal.ghost-run_opened
-ghost-run_opened g a = g.before

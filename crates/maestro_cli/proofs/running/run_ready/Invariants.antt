@@ -1,7 +1,0 @@
-use Rattle.maestro_cli.proofs.running.run_ready.Given as goal
-
-abbrev pub ghost-run_one : goal.ghost-run_one
-ghost-run_one g a = g.before
-
-abbrev pub ghost-run_shards : goal.ghost-run_shards
-ghost-run_shards g a = g.before

@@ -1,0 +1,216 @@
+-- A replay that was refused or stopped before anything was judged.
+use Rattle.std.proofs.Common.{◌≡◌, ◌≢◌, ◌⊎◌, inl, inr, ℕ, zero, suc, ◌+◌, ◌-◌, ◌<◌, ◌≤◌, List, [], ◌∷◌, ◌++◌, length, map, Option, Some, None, Result, Ok, Err, refl, ap, sym, subst, ◌∙◌, arith}
+use Rattle.std.specs.List.{slice_get}
+use Rattle.std.proofs.lemmas.List.{length-map}
+use Rattle.std.proofs.lemmas.Option.{slice_get_within}
+use Rattle.nf_base.specs.Functions.{function_of}
+use Rattle.nf_base.specs.Text.{Function}
+use Rattle.nf_files.specs.Told.{Told}
+use Rattle.nf_files.specs.Causes.{Counted, Faulted, FaultedAsking, Asked, asking, losing}
+use Rattle.packet_feed.specs.Told.{IsCapture, IsNoCapture, KeepsOthers}
+use Rattle.packet_feed.specs.Faults.{FaultedAt}
+use Rattle.packet_feed.specs.Faults as feeding
+use Rattle.packet_feed.specs.Sources.{files_in, IsLeastBad}
+use Rattle.packet_feed.specs.Feeding.{Feeding, Starts}
+use Rattle.packet_feed.specs.Ports.{StandsByPort}
+use Rattle.packet_feed.specs.declared.fault.FeedFault.{FeedFault}
+use Rattle.packet_feed.specs.declared.fault.FeedFault.TheVariants as feed
+use Rattle.stream_run.specs.declared.stop.Stop.{Stop as NumberStop}
+use Rattle.stream_run.specs.declared.stop.Stop.TheVariants as numbered
+use Rattle.command_words.specs.Commands.{Replay}
+use Rattle.call_base.specs.declared.loading.Found.{Found}
+use Rattle.call_base.specs.declared.loading.NoFunction.{NoFunction}
+use Rattle.call_base.specs.declared.loading.NoFunction.TheVariants as none
+use Rattle.call_base.specs.declared.status.RunFile.{RunFile}
+use Rattle.call_base.specs.declared.status.RunFile.TheVariants.{Nf}
+use Rattle.call_base.specs.declared.status.Stop.{Stop}
+use Rattle.call_base.specs.declared.status.Stop.TheVariants as stops
+use Rattle.call_base.specs.declared.status.Halt.{Halt}
+use Rattle.call_base.specs.declared.status.Halt.TheVariants as halts
+use Rattle.call_base.specs.Outside.{Outside, IsUntouched, HasOnlyAsked}
+use Rattle.call_base.specs.Names.{reading}
+use Rattle.call_base.specs.Numbers.{Faults, FailedBy, StopsBy, IsFrontOf}
+use Rattle.call_base.specs.Opened.{AreOpened, AsksSome, StopsFrom}
+use Rattle.call_base.specs.Loading.{IsTextCause, FindsFunction, HasFoundCause}
+use Rattle.call_base.proofs.Asking.{asking_both, asking_none, front_all, front_before, front_behind}
+use Rattle.call_base.proofs.Creating.{untouched_both}
+use Rattle.replay_call.specs.declared.job.Job.{Job}
+use Rattle.replay_call.specs.declared.numbers.Numbers.{Numbers}
+use Rattle.replay_call.specs.Numbers.{file_of, number_of, numbering, stop_named}
+use Rattle.replay_call.specs.Names.{inputs_of, names_of, asked_by}
+use Rattle.replay_call.specs.Contents.{Below, HasPorts, HasNoCapture}
+use Rattle.replay_call.specs.Checked.{IsStopped, ReplaysTo}
+use Rattle.replay_call.specs.Progress.{IsJob, IsSized, HasFound, HasOpened, HasFed, HasReady, asked, ports_of, unfed, stop_on, unfound}
+use Rattle.replay_call.proofs.Numbering.{file_first, own_capture, own_other}
+use Rattle.replay_call.proofs.Stopping.{IsNumbered, stopped_behind, memory_behind, stopped_asking}
+
+-- ---- fronts of the names of a replay
+
+pub inputs_front : (c : Replay) → IsFrontOf (asked_by c) (inputs_of c)
+inputs_front c = front_before (inputs_of c) (map reading (names_of c)) (inputs_of c) (front_all (inputs_of c))
+
+captures_front : (c : Replay) (front : List Asked) → IsFrontOf (map reading c.captures) front → IsFrontOf (asked_by c) ((reading c.function ∷ []) ++ front)
+captures_front c front f =
+    front_before (inputs_of c) (map reading (names_of c)) ((reading c.function ∷ []) ++ front) (front_behind (reading c.function ∷ []) (map reading c.captures) front f)
+
+others_front : (c : Replay) (front : List Asked) → IsFrontOf (map reading (names_of c)) front → IsFrontOf (asked_by c) (inputs_of c ++ front)
+others_front c front f = front_behind (inputs_of c) (map reading (names_of c)) front f
+
+-- ---- a stop that changed nothing
+
+pub stopped_untouched : (c : Replay) (before b : Outside) (stop : Stop) → IsUntouched before.told b.told → StopsBy (numbering before.told.next (length c.captures)) (asked_by c) before.counted b.counted stop → IsStopped c before b stop
+stopped_untouched c before b stop untouched stops_at = record {
+  contents = untouched.contents;
+  stdout = inl (untouched.standard 0 (omega arith));
+  stderr = untouched.standard 1 (omega arith);
+  stops = stops_at;
+}
+
+-- a job's numbers are those of the openings
+pub halted : (before b : Outside) (job : Job) (stop : NumberStop) (halt : Halt) → IsJob before job → IsSized job → halt ≡ halts.Stop (stop_named job.numbers.first job.numbers.ports stop) → IsStopped (asked job) before b (stop_named before.told.next (ports_of job) stop) → ReplaysTo (asked job) before b (Err halt)
+halted before b job stop halt is sized same h =
+    let ports : job.numbers.ports ≡ ports_of job = sym (length-map job.command.now.captures.items _ ∙ sized.captures) in
+    subst (λ (x : Halt). ReplaysTo (asked job) before b (Err x)) (sym (same ∙ ap (λ (n : ℕ). halts.Stop (stop_named n job.numbers.ports stop)) is.first ∙ ap (λ (n : ℕ). halts.Stop (stop_named before.told.next n stop)) ports)) h
+
+-- ---- the function
+
+text_failed : (first ports : ℕ) (old new : Counted) (file : RunFile) → file ≡ Nf → Faults old new first → FailedBy (numbering first ports) old new file
+text_failed first ports old new file is faulted = record {
+  number = first;
+  faulted = faulted;
+  file_is = is ∙ sym (file_first first ports);
+  number_is = subst (λ (f : RunFile). first ≡ number_of first ports f) (sym is) refl;
+}
+
+unread_stop : (c : Replay) (before b : Outside) (file : RunFile) → file ≡ Nf → FaultedAsking before.counted b.counted (reading c.function ∷ []) before.told.next → StopsBy (numbering before.told.next (length c.captures)) (asked_by c) before.counted b.counted (stops.File file)
+unread_stop c before b file is (inl taken) = record {
+  front = reading c.function ∷ [];
+  is_front = record { later = map reading c.captures ++ map reading (names_of c); whole = refl };
+  cause = text_failed before.told.next (length c.captures) (asking (reading c.function ∷ []) before.counted) b.counted file is (inl taken);
+}
+unread_stop c before b file is (inr lost) = record {
+  front = [];
+  is_front = record { later = asked_by c; whole = refl };
+  cause = text_failed before.told.next (length c.captures) (asking [] before.counted) b.counted file is
+      (inr (subst (λ (old : Counted). Faulted (losing old) b.counted before.told.next) (asking_none before.counted) lost));
+}
+
+unread_text : (c : Replay) (before b : Outside) (stop : Stop) → IsUntouched before.told b.told → IsTextCause c.function before.told.next before.counted b.counted stop → IsStopped c before b stop
+unread_text c before b (stops.File file) untouched cause = stopped_untouched c before b (stops.File file) untouched (unread_stop c before b file cause.0 cause.1)
+unread_text c before b stops.Memory untouched (inl same) = stopped_untouched c before b stops.Memory untouched (record { front = []; is_front = record { later = asked_by c; whole = refl }; cause = same ∙ asking_none before.counted })
+unread_text c before b stops.Memory untouched (inr more) =
+    stopped_untouched c before b stops.Memory untouched (record { front = reading c.function ∷ []; is_front = record { later = map reading c.captures ++ map reading (names_of c); whole = refl }; cause = more })
+
+pub is_unfound : (c : Replay) (before b : Outside) (why : NoFunction) → IsUntouched before.told b.told → FindsFunction before.told c.function (Err why) → HasFoundCause c.function before.told.next before.counted b.counted (Err why) → ReplaysTo c before b (Err (unfound why))
+is_unfound c before b (none.Text fault) untouched finds cause = (finds, record { untouched = untouched; asked = cause })
+is_unfound c before b (none.Stop stop) untouched finds cause = unread_text c before b stop untouched cause
+
+-- memory ran out once the function was read
+pub unkept_found : (c : Replay) (before now : Outside) → HasOnlyAsked (reading c.function ∷ []) before now → IsStopped c before now stops.Memory
+unkept_found c before now only = stopped_untouched c before now stops.Memory only.untouched (memory_behind (asked_by c) (reading c.function ∷ []) before.told.next (length c.captures) before.counted now.counted (captures_front c [] (record { later = map reading c.captures; whole = refl })) only.asked)
+
+-- ---- the captures' names
+
+pub has_opened : (before a b : Outside) (job : Job) (captures : List ℕ) → IsJob before job → a.told.next ≡ before.told.next + 1 → HasOnlyAsked (reading (asked job).function ∷ []) before a → AreOpened a.told b.told (asked job).captures captures → length captures ≡ ports_of job → IsUntouched a.told b.told → b.counted ≡ asking (map reading (asked job).captures) a.counted → HasOpened before b job captures
+has_opened before a b job captures is next only opened all untouched counted = record {
+  next = opened.next ∙ ap (λ (n : ℕ). n + length captures) next;
+  all = all;
+  numbers = λ i f e. opened.numbers i f e ∙ ap (λ (n : ℕ). n + i) next;
+  rests = λ i f n e q. opened.rests i f n e q ∙ only.untouched.contents n;
+  only = record {
+    untouched = untouched_both before.told a.told b.told only.untouched untouched;
+    asked = counted ∙ ap (asking (map reading (asked job).captures)) only.asked ∙ asking_both (reading (asked job).function ∷ []) (map reading (asked job).captures) before.counted;
+  };
+}
+
+own_opening : (first ports : ℕ) (stop : NumberStop) → 2 ≤ first → StopsFrom (first + 1) ports stop → IsNumbered first ports stop
+own_opening first ports numbered.Memory two from = tt
+own_opening first ports (numbered.File number) two from = own_capture first ports number (number - (first + 1)) two (omega (arith, from.0)) (omega (arith, from.0, from.1))
+
+-- a capture could not be opened
+pub is_unopened : (before a b : Outside) (job : Job) (stop : NumberStop) → IsJob before job → HasOnlyAsked (reading (asked job).function ∷ []) before a → IsUntouched a.told b.told → StopsFrom (before.told.next + 1) (ports_of job) stop → AsksSome (map reading (asked job).captures) a.counted b.counted stop
+    → IsStopped (asked job) before b (stop_named before.told.next (ports_of job) stop)
+is_unopened before a b job stop is only untouched from asks =
+    stopped_untouched (asked job) before b (stop_named before.told.next (ports_of job) stop) (untouched_both before.told a.told b.told only.untouched untouched)
+    (stopped_asking (asked_by (asked job)) (reading (asked job).function ∷ []) (map reading (asked job).captures) before.told.next (ports_of job) before.counted a.counted b.counted stop
+    (own_opening before.told.next (ports_of job) stop (omega (arith, is.from_two, is.first)) from) (λ front g. captures_front (asked job) front g) only.asked asks)
+
+-- ---- the captures' headers
+
+untouched_fed : (before a b : Outside) (job : Job) (captures : List ℕ) → HasOpened before a job captures → KeepsOthers captures a.told b.told → IsUntouched before.told b.told
+untouched_fed before a b job captures h kept = record {
+  contents = λ n. kept.contents n ∙ h.only.untouched.contents n;
+  standard = λ g lt. kept.givens g ∙ h.only.untouched.standard g lt;
+}
+
+pub has_fed : (before a b : Outside) (job : Job) (captures : List ℕ) (v : Feeding) → HasOpened before a job captures → Starts captures (asked job).most a.told b.told (Ok v) → StandsByPort a.told [] v b.told → KeepsOthers captures a.told b.told → b.counted ≡ a.counted → HasFed before b job captures v
+has_fed before a b job captures v h starts by_port kept counted = record {
+  start = a.told;
+  rests = h.rests;
+  started = record { in_order = starts.0; by_port = by_port };
+  files = starts.1;
+  most = starts.2;
+  next = kept.next_same ∙ h.next;
+  all = h.all;
+  numbers = h.numbers;
+  only = record { untouched = untouched_fed before a b job captures h kept; asked = counted ∙ h.only.asked };
+}
+
+got_at : {A : Type 0} (xs : List A) (p : ℕ) → p < length xs → (x : A) × (slice_get xs p ≡ Some x)
+got_at [] p lt = absurd (omega (arith, lt))
+got_at (x ∷ xs) zero lt = (x, refl)
+got_at (x ∷ xs) (suc p) lt = got_at xs p (omega (arith, lt))
+
+-- what holds of files holds of what stood under their names
+pub below_names : (P : Option (List ℕ) → Type 0) (start before : Told) (captures : List ℕ) (names : List (List ℕ)) (below : ℕ) → length captures ≡ length names → ((i f : ℕ) (n : List ℕ) → slice_get captures i ≡ Some f → slice_get names i ≡ Some n → start.rest f ≡ before.content n)
+    → ((p f : ℕ) → p < below → slice_get captures p ≡ Some f → P (start.rest f)) → Below P before names below
+below_names P start before captures names below e same h = λ p n lt at.
+    let f = got_at captures p (omega (arith, slice_get_within names p n at, e)) in
+    subst P (same p f.0 n f.1 at) (h p f.0 lt f.1)
+
+no_capture : (before a : Outside) (job : Job) (captures : List ℕ) (port : ℕ) → IsJob before job → HasOpened before a job captures → IsLeastBad captures a.told port → HasNoCapture (asked job) before.told port
+no_capture before a job captures port is h bad =
+    let name = got_at (asked job).captures port (omega (arith, slice_get_within captures port bad.file bad.at, h.all)) in
+    record {
+      function = function_of job.func.now;
+      has_ports = is.has_ports;
+      name = name.0;
+      at = name.1;
+      none = subst IsNoCapture (h.rests port bad.file name.0 bad.at name.1) bad.none;
+      lesser = below_names IsCapture a.told before.told captures (asked job).captures port h.all h.rests (λ p f lt e. bad.lesser p f lt e);
+    }
+
+failed_at : (before a b : Outside) (job : Job) (captures : List ℕ) (o : Option ℕ) (port : ℕ) → IsJob before job → IsSized job → HasOpened before a job captures → IsUntouched before.told b.told → slice_get captures port ≡ o → FaultedAt a.counted b.counted o → ReplaysTo (asked job) before b (Err (stop_on job.numbers o))
+failed_at before a b job captures None port is sized h untouched e faulted = absurd faulted
+failed_at before a b job captures (Some file) port is sized h untouched e faulted =
+    halted before b job (numbered.File file) (stop_on job.numbers (Some file)) is sized refl
+    (stopped_untouched (asked job) before b (stop_named before.told.next (ports_of job) (numbered.File file)) untouched
+    (stopped_behind (asked_by (asked job)) (inputs_of (asked job)) before.told.next (ports_of job) before.counted a.counted b.counted (numbered.File file)
+    (own_capture before.told.next (ports_of job) file port (omega (arith, is.from_two, is.first)) (h.numbers port file e) (omega (arith, slice_get_within captures port file e, h.all)))
+    (inputs_front (asked job)) h.only.asked faulted))
+
+pub is_unfed : (before a b : Outside) (job : Job) (captures : List ℕ) (fault : FeedFault) → IsJob before job → IsSized job → HasOpened before a job captures → Starts captures (asked job).most a.told b.told (Err fault) → KeepsOthers captures a.told b.told → feeding.IsCause {T = Unit {0}} a.counted b.counted captures (Err fault) → ReplaysTo (asked job) before b (Err (unfed job.numbers captures fault))
+is_unfed before a b job captures (feed.NotCapture port) is sized h starts kept cause =
+    (no_capture before a job captures port is h starts, record { untouched = untouched_fed before a b job captures h kept; asked = cause ∙ h.only.asked })
+is_unfed before a b job captures (feed.File port) is sized h starts kept cause = failed_at before a b job captures (slice_get captures port) port is sized h (untouched_fed before a b job captures h kept) refl cause
+is_unfed before a b job captures feed.Memory is sized h starts kept cause =
+    stopped_untouched (asked job) before b stops.Memory (untouched_fed before a b job captures h kept)
+    (memory_behind (asked_by (asked job)) (inputs_of (asked job)) before.told.next (ports_of job) before.counted b.counted (inputs_front (asked job)) (cause ∙ h.only.asked))
+
+-- memory ran out once the headers were read
+pub unkept_fed : (before now : Outside) (job : Job) (captures : List ℕ) (v : Feeding) → HasFed before now job captures v → IsStopped (asked job) before now stops.Memory
+unkept_fed before now job captures v h = stopped_untouched (asked job) before now stops.Memory h.only.untouched (memory_behind (asked_by (asked job)) (inputs_of (asked job)) before.told.next (ports_of job) before.counted now.counted (inputs_front (asked job)) h.only.asked)
+
+-- ---- the journal and the outputs
+
+own_others : (first ports : ℕ) (stop : NumberStop) → 2 ≤ first → StopsFrom (first + 1 + ports) (ports + 1) stop → IsNumbered first ports stop
+own_others first ports numbered.Memory two from = tt
+own_others first ports (numbered.File number) two from = own_other first ports number (number - (first + 1 + ports)) two (omega (arith, from.0))
+
+-- one of them could not be opened
+pub are_unopened : (before a b : Outside) (job : Job) (captures : List ℕ) (v : Feeding) (stop : NumberStop) → IsJob before job → HasFed before a job captures v → IsUntouched a.told b.told → StopsFrom (before.told.next + 1 + ports_of job) (ports_of job + 1) stop → AsksSome (map reading (names_of (asked job))) a.counted b.counted stop
+    → IsStopped (asked job) before b (stop_named before.told.next (ports_of job) stop)
+are_unopened before a b job captures v stop is h untouched from asks =
+    stopped_untouched (asked job) before b (stop_named before.told.next (ports_of job) stop) (untouched_both before.told a.told b.told h.only.untouched untouched)
+    (stopped_asking (asked_by (asked job)) (inputs_of (asked job)) (map reading (names_of (asked job))) before.told.next (ports_of job) before.counted a.counted b.counted stop
+    (own_others before.told.next (ports_of job) stop (omega (arith, is.from_two, is.first)) from) (λ front g. others_front (asked job) front g) h.only.asked asks)

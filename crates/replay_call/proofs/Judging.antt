@@ -1,0 +1,250 @@
+-- A replay whose journal and outputs were opened and judged.
+use Rattle.std.proofs.Common.{◌≡◌, ◌≢◌, ◌⊎◌, inl, inr, ℕ, zero, suc, ◌+◌, ◌<◌, ◌≤◌, List, [], ◌∷◌, ◌++◌, length, map, get_or, Option, Some, None, Result, Ok, Err, refl, ap, sym, subst, ◌∙◌, append-nil, arith}
+use Rattle.std.specs.List.{slice_get, range_with_len}
+use Rattle.std.specs.Option.{option_map, option_and_then}
+use Rattle.std.proofs.lemmas.List.{length-map}
+use Rattle.std.proofs.lemmas.List.FromFn.{get_or-range_with_len, length-range_with_len}
+use Rattle.std.proofs.lemmas.Option.{slice_get_within, slice_get-map, slice_get-get_or}
+use Rattle.nf_base.specs.Functions.{function_of}
+use Rattle.nf_base.specs.Text.{Function}
+use Rattle.nf_base.specs.declared.keys.Keys.{Keys}
+use Rattle.nf_base.specs.declared.state.State.{State}
+use Rattle.nf_files.specs.Told.{Told}
+use Rattle.nf_files.specs.Causes.{Counted, Faulted, Asked, asking}
+use Rattle.nf_files.specs.Pieces.{Gains}
+use Rattle.pcap_file.specs.Capture.{Capture, capture_of}
+use Rattle.packet_feed.specs.Arrivals.{Arrival}
+use Rattle.packet_feed.specs.Told.{both, gathered, packets_in, packets_of, IsTear, IsCapture, KeepsOthers}
+use Rattle.packet_feed.specs.Streams.{Stream, tear_left}
+use Rattle.packet_feed.specs.Sources.{files_in}
+use Rattle.packet_feed.specs.Feeding.{Feeding}
+use Rattle.run_history.specs.StateText.{state_text}
+use Rattle.stream_run.specs.declared.stop.Stop.{Stop as NumberStop}
+use Rattle.stream_run.specs.declared.stop.Stop.TheVariants as numbered
+use Rattle.stream_run.specs.Writing.{IsStopCause, StopsAmong}
+use Rattle.replay_run.specs.Queues.{lent}
+use Rattle.replay_run.specs.Turns.{IsStarted, rest_at, beside_of}
+use Rattle.replay_run.specs.Heads.{Comes}
+use Rattle.replay_run.specs.declared.replayed.Replayed.{Replayed}
+use Rattle.replay_run.specs.declared.replayed.Replayed.TheVariants as came
+use Rattle.replay_run.proofs.Ends.{started_while}
+use Rattle.replay_run.proofs.Heads.{comes_as}
+use Rattle.command_words.specs.Commands.{Replay}
+use Rattle.call_base.specs.declared.status.RunFile.TheVariants.{Stdout}
+use Rattle.call_base.specs.declared.status.Stop.{Stop}
+use Rattle.call_base.specs.declared.status.Stop.TheVariants as stops
+use Rattle.call_base.specs.Outside.{Outside, IsUntouched, HasOnlyAsked}
+use Rattle.call_base.specs.Names.{reading, output_name}
+use Rattle.call_base.specs.Numbers.{StopsBy}
+use Rattle.call_base.specs.Opened.{AreOpened}
+use Rattle.call_base.specs.Printed.{Printed, PrintedFront}
+use Rattle.call_base.specs.PrintedOut.{IsPrinted, IsHalfPrinted, IsPrintCause}
+use Rattle.call_base.proofs.Asking.{asking_both, front_all}
+use Rattle.call_base.proofs.Creating.{untouched_both}
+use Rattle.replay_call.specs.declared.checked.Checked.{Checked}
+use Rattle.replay_call.specs.declared.job.Job.{Job}
+use Rattle.replay_call.specs.Numbers.{file_of, number_of, numbering, stop_named}
+use Rattle.replay_call.specs.Names.{inputs_of, names_of, asked_by}
+use Rattle.replay_call.specs.Contents.{Below, packets_under, HasReplayed, beside_under, keys_by}
+use Rattle.replay_call.specs.Checked.{IsChecked, IsStopped, ReplaysTo, checked_by, printed_by}
+use Rattle.replay_call.specs.Progress.{IsJob, IsSized, HasFed, HasReady, HasCome, asked, ports_of}
+use Rattle.replay_call.proofs.Numbering.{own_capture, own_other, own_stdout, file_of_stdout}
+use Rattle.replay_call.proofs.Stopping.{IsNumbered, stopped_behind, memory_behind}
+use Rattle.replay_call.proofs.Beginning.{below_names, stopped_untouched}
+
+-- ---- the names
+
+name_there : (out : List ℕ) (n i : ℕ) → i < n → slice_get (map (output_name out) (range_with_len 0 n)) i ≡ Some (output_name out i)
+name_there out n i lt =
+    let range = range_with_len 0 n in
+    let long : i < length range = omega (arith, lt, length-range_with_len 0 n) in
+    let zero_more : 0 + i ≡ i = omega arith in
+    slice_get-map (output_name out) range i
+    ∙ ap (option_map (output_name out)) (slice_get-get_or range i 0 long ∙ ap (λ (k : ℕ). Some k) (get_or-range_with_len 0 n i 0 lt ∙ zero_more))
+
+-- ---- the journal and the outputs were opened
+
+pub has_ready : (before a b : Outside) (job : Job) (captures : List ℕ) (v : Feeding) (opened : List ℕ) (journal : ℕ) (outputs : List ℕ) → HasFed before a job captures v → AreOpened a.told b.told (names_of (asked job)) opened → opened ≡ journal ∷ outputs → length opened ≡ ports_of job + 1
+    → IsUntouched a.told b.told → ((g : ℕ) → g < a.told.next → b.told.rest g ≡ a.told.rest g) → b.counted ≡ asking (map reading (names_of (asked job))) a.counted → HasReady before b job captures v journal outputs
+has_ready before a b job captures v opened journal outputs h opens same all untouched rests counted =
+    let here : slice_get opened 0 ≡ Some journal = ap (λ (xs : List ℕ). slice_get xs 0) same in
+    let there : (i f : ℕ) → slice_get outputs i ≡ Some f → slice_get opened (suc i) ≡ Some f = λ i f e. ap (λ (xs : List ℕ). slice_get xs (suc i)) same ∙ e in
+    let count : length opened ≡ suc (length outputs) = ap (λ (xs : List ℕ). length xs) same in
+    record {
+      start = h.start;
+      rests = h.rests;
+      started = started_while h.start v a.told b.told
+          (λ port f e.
+          let at : slice_get captures port ≡ Some f = ap (λ (fs : List ℕ). slice_get fs port) (sym h.files) ∙ e in
+          rests f (omega (arith, h.numbers port f at, slice_get_within captures port f at, h.next)))
+          h.started;
+      captures_at = h.numbers;
+      journal_at = omega (arith, opens.numbers 0 journal here, h.next, h.all);
+      outputs_at = λ i f e. omega (arith, opens.numbers (suc i) f (there i f e), h.next, h.all);
+      journal_is = opens.rests 0 journal (asked job).journal here refl ∙ h.only.untouched.contents (asked job).journal;
+      outputs_are = λ i f e.
+          let lt : i < ports_of job = omega (arith, slice_get_within outputs i f e, count, all) in
+          opens.rests (suc i) f (output_name (asked job).out i) (there i f e) (name_there (asked job).out (ports_of job) i lt) ∙ h.only.untouched.contents (output_name (asked job).out i);
+      only = record {
+        untouched = untouched_both before.told a.told b.told h.only.untouched untouched;
+        asked = counted ∙ ap (asking (map reading (names_of (asked job)))) h.only.asked ∙ asking_both (inputs_of (asked job)) (map reading (names_of (asked job))) before.counted;
+      };
+    }
+
+-- ---- what was judged, by what stood under the names
+
+same_packets : (start before : Told) (port : ℕ) (captures : List ℕ) (names : List (List ℕ)) → length captures ≡ length names → ((i f : ℕ) (n : List ℕ) → slice_get captures i ≡ Some f → slice_get names i ≡ Some n → start.rest f ≡ before.content n)
+    → gathered (λ (p : ℕ) (f : ℕ). packets_in p (start.rest f)) port captures ≡ gathered (λ (p : ℕ) (n : List ℕ). packets_in p (before.content n)) port names
+same_packets start before port [] [] e h = refl
+same_packets start before port [] (n ∷ names) e h = absurd (omega (arith, e))
+same_packets start before port (f ∷ captures) [] e h = absurd (omega (arith, e))
+same_packets start before port (f ∷ captures) (n ∷ names) e h =
+    ap (λ (o : Option (List ℕ)). both (packets_in port o) (gathered (λ (p : ℕ) (g : ℕ). packets_in p (start.rest g)) (port + 1) captures)) (h 0 f n refl refl)
+    ∙ ap (both (packets_in port (before.content n))) (same_packets start before (port + 1) captures names (omega (arith, e)) (λ i g m p q. h (suc i) g m p q))
+
+some_torn : (o : Option Capture) (torn : Option ℕ) → option_map (λ (c : Capture). c.torn) o ≡ Some torn → (c : Capture) × (o ≡ Some c)
+some_torn None torn e = absurd cc
+some_torn (Some c) torn e = (c, refl)
+
+tear_capture : (bytes : Option (List ℕ)) (torn : Option (Option ℕ)) → IsTear bytes torn → IsCapture bytes
+tear_capture None torn h = tt
+tear_capture (Some bytes) None h = absurd h
+tear_capture (Some bytes) (Some torn) h = some_torn (capture_of bytes) torn h
+
+stream_at : (sources : List Stream) (p f : ℕ) → slice_get (files_in sources) p ≡ Some f → (s : Stream) × (slice_get sources p ≡ Some s) × (s.reading.file ≡ f)
+stream_at [] p f e = absurd cc
+stream_at (s ∷ sources) zero f e = (s, refl, cc)
+stream_at (s ∷ sources) (suc p) f e = stream_at sources p f e
+
+file_there : (files : List ℕ) (k : ℕ) → k < length files → (file : ℕ) × (slice_get files k ≡ Some file)
+file_there [] k lt = absurd (omega (arith, lt))
+file_there (file ∷ files) zero lt = (file, refl)
+file_there (file ∷ files) (suc k) lt = file_there files k (omega (arith, lt))
+
+pub has_come : (before a b : Outside) (job : Job) (captures : List ℕ) (v : Feeding) (journal : ℕ) (outputs : List ℕ) (came : Replayed) → IsJob before job → IsSized job → HasReady before a job captures v journal outputs → files_in v.sources ≡ captures → length captures ≡ job.numbers.ports → length outputs ≡ job.numbers.ports
+    → ((start : Told) → IsStarted start v a.told → Comes {E = NumberStop} (function_of job.func.now) (lent job.keys) (length captures) (beside_of v start (a.told.rest journal) outputs a.told job.command.now.most) (Ok came))
+    → KeepsOthers (captures ++ journal ∷ outputs) a.told b.told → b.counted ≡ a.counted → HasCome before b job came
+has_come before a b job captures v journal outputs came is sized h files all as_many comes kept counted =
+    let c = asked job in
+    let f = function_of job.func.now in
+    let ports : job.numbers.ports ≡ length c.captures = sym (length-map job.command.now.captures.items _ ∙ sized.captures) in
+    let long : length captures ≡ length c.captures = all ∙ ports in
+    let one = beside_of v h.start (a.told.rest journal) outputs a.told job.command.now.most in
+    let here = subst (λ (ks : Option Keys). Comes {E = NumberStop} f ks (length c.captures) one (Ok came)) (sym is.keys.same)
+    (subst (λ (n : ℕ). Comes {E = NumberStop} f (lent job.keys) n one (Ok came)) long (comes h.start h.started)) in
+    record {
+      replayed = record {
+        has_ports = is.has_ports;
+        captures = below_names IsCapture h.start before.told captures c.captures (length c.captures) long h.rests (λ p g lt e.
+            let s = stream_at v.sources p g (ap (λ (fs : List ℕ). slice_get fs p) files ∙ e) in
+            subst (λ (n : ℕ). IsCapture (h.start.rest n)) s.2 (tear_capture (h.start.rest s.0.reading.file) (tear_left s.0 (a.told.rest s.0.reading.file)) (h.started.in_order.sources.each p s.0 s.1).torn));
+        verdict = is.keys.verdict;
+        is_verdict = is.keys.is_verdict;
+        comes = comes_as f (keys_by is.keys.verdict) (length c.captures) one (beside_under c before.told) (Ok came)
+            (sym (ap (λ (fs : List ℕ). packets_of fs h.start) files ∙ same_packets h.start before.told 0 captures c.captures long h.rests))
+            (sym h.journal_is)
+            refl
+            (λ port lt.
+            let there = file_there outputs port (omega (arith, lt, as_many, ports)) in
+            sym (ap (option_and_then (λ (g : ℕ). a.told.rest g)) there.1 ∙ h.outputs_are port there.0 there.1))
+            here;
+      };
+      contents = λ n. kept.contents n ∙ h.only.untouched.contents n;
+      stdout = kept.givens 0 ∙ h.only.untouched.standard 0 (omega arith);
+      stderr = kept.givens 1 ∙ h.only.untouched.standard 1 (omega arith);
+      asked_for = counted ∙ h.only.asked;
+    }
+
+-- ---- a stop while lines are judged
+
+numbered_behind : (before a : Outside) (job : Job) (captures : List ℕ) (v : Feeding) (journal : ℕ) (outputs : List ℕ) (stop : NumberStop) → IsJob before job → HasReady before a job captures v journal outputs → length captures ≡ ports_of job → StopsAmong {T = Replayed} captures (journal ∷ outputs) (Err stop) → IsNumbered before.told.next (ports_of job) stop
+numbered_behind before a job captures v journal outputs numbered.Memory is h all among = tt
+numbered_behind before a job captures v journal outputs (numbered.File file) is h all (inl one) =
+    own_capture before.told.next (ports_of job) file one.0 (omega (arith, is.from_two, is.first)) (h.captures_at one.0 file one.1) (omega (arith, slice_get_within captures one.0 file one.1, all))
+numbered_behind before a job captures v journal outputs (numbered.File file) is h all (inr one) = own_other before.told.next (ports_of job) file one.0 (omega (arith, is.from_two, is.first)) (at_place one.0 one.1)
+  where
+    at_place : (k : ℕ) → slice_get (journal ∷ outputs) k ≡ Some file → file ≡ before.told.next + 1 + ports_of job + k
+    at_place zero e = let same : journal ≡ file = cc in omega (arith, same, h.journal_at)
+    at_place (suc k) e = omega (arith, h.outputs_at k file e)
+
+pub is_unjudged : (before a b : Outside) (job : Job) (captures : List ℕ) (v : Feeding) (journal : ℕ) (outputs : List ℕ) (stop : NumberStop) → IsJob before job → HasReady before a job captures v journal outputs → length captures ≡ ports_of job → KeepsOthers (captures ++ journal ∷ outputs) a.told b.told
+    → StopsAmong {T = Replayed} captures (journal ∷ outputs) (Err stop) → IsStopCause {T = Unit {0}} a.counted b.counted (Err stop) → IsStopped (asked job) before b (stop_named before.told.next (ports_of job) stop)
+is_unjudged before a b job captures v journal outputs stop is h all kept among cause =
+    stopped_untouched (asked job) before b (stop_named before.told.next (ports_of job) stop)
+    (record { contents = λ n. kept.contents n ∙ h.only.untouched.contents n; standard = λ g lt. kept.givens g ∙ h.only.untouched.standard g lt })
+    (stopped_behind (asked_by (asked job)) (asked_by (asked job)) before.told.next (ports_of job) before.counted a.counted b.counted stop (numbered_behind before a job captures v journal outputs stop is h all among) (front_all (asked_by (asked job))) h.only.asked cause)
+
+-- ---- what is told
+
+-- nothing is printed
+pub told_so : (before now : Outside) (job : Job) (came : Replayed) (checked : Checked) → HasCome before now job came → checked ≡ checked_by (asked job).most came → printed_by (function_of job.func.now) came ≡ [] → IsChecked (asked job) before now checked
+told_so before now job came checked h is none = record {
+  function = function_of job.func.now;
+  came = came;
+  replayed = h.replayed;
+  checked_is = is;
+  contents = h.contents;
+  stdout = nothing (before.told.given 0) (now.told.given 0) (printed_by (function_of job.func.now) came) none h.stdout;
+  stderr = h.stderr;
+  asked = h.asked_for;
+}
+  where
+    same : (o : Option (List ℕ)) (piece : List ℕ) → piece ≡ [] → Gains piece o o
+    same None piece e = tt
+    same (Some xs) piece e = sym (ap (λ (t : List ℕ). xs ++ t) e ∙ append-nil xs)
+
+    nothing : (x y : Option (List ℕ)) (piece : List ℕ) → piece ≡ [] → y ≡ x → Gains piece x y
+    nothing x y piece e is = subst (Gains piece x) (sym is) (same x piece e)
+
+-- the last state's text was printed
+pub printed_whole : (before a b : Outside) (job : Job) (state : State) (text : List ℕ) → HasCome before a job (came.Same state) → text ≡ state_text (function_of job.func.now) state → IsPrinted a b text → IsChecked (asked job) before b (checked_by (asked job).most (came.Same state))
+printed_whole before a b job state text h is p = record {
+  function = function_of job.func.now;
+  came = came.Same state;
+  replayed = h.replayed;
+  checked_is = refl;
+  contents = λ n. p.contents n ∙ h.contents n;
+  stdout = subst (λ (t : List ℕ). Printed before.told b.told 0 t) is (subst (λ (o : Option (List ℕ)). Gains text o (b.told.given 0)) h.stdout p.stdout);
+  stderr = p.stderr ∙ h.stderr;
+  asked = p.counted ∙ h.asked_for;
+}
+
+print_stops : (before : Outside) (job : Job) (a b : Counted) (stop : Stop) → IsJob before job → a ≡ asking (asked_by (asked job)) before.counted → IsPrintCause a b stop → StopsBy (numbering before.told.next (ports_of job)) (asked_by (asked job)) before.counted b stop
+print_stops before job a b (stops.File file) is so_far cause = record {
+  front = asked_by (asked job);
+  is_front = front_all (asked_by (asked job));
+  cause = record {
+    number = 0;
+    faulted = inl (subst (λ (c : Counted). Faulted c b 0) so_far cause.1);
+    file_is = cause.0 ∙ sym (file_of_stdout before.told.next (ports_of job) (omega (arith, is.from_two, is.first)));
+    number_is = sym (ap (number_of before.told.next (ports_of job)) cause.0);
+  };
+}
+print_stops before job a b stops.Memory is so_far cause = record { front = asked_by (asked job); is_front = front_all (asked_by (asked job)); cause = cause ∙ so_far }
+
+-- a front of it was
+pub printed_half : (before a b : Outside) (job : Job) (state : State) (text : List ℕ) (stop : Stop) → IsJob before job → HasCome before a job (came.Same state) → text ≡ state_text (function_of job.func.now) state → IsHalfPrinted a b text stop → IsStopped (asked job) before b stop
+printed_half before a b job state text stop is h same p = record {
+  contents = λ n. p.contents n ∙ h.contents n;
+  stdout = inr (record {
+    function = function_of job.func.now;
+    state = state;
+    replayed = h.replayed;
+    printed = subst (λ (t : List ℕ). PrintedFront before.told b.told 0 t) same (record {
+      front = p.stdout.front;
+      is_front = p.stdout.is_front;
+      printed = subst (λ (o : Option (List ℕ)). Gains p.stdout.front o (b.told.given 0)) h.stdout p.stdout.printed;
+    });
+  });
+  stderr = p.stderr ∙ h.stderr;
+  stops = print_stops before job a.counted b.counted stop is h.asked_for p.cause;
+}
+
+-- memory ran out
+pub unkept_come : (before now : Outside) (job : Job) (came : Replayed) → HasCome before now job came → IsStopped (asked job) before now stops.Memory
+unkept_come before now job came h = record {
+  contents = h.contents;
+  stdout = inl h.stdout;
+  stderr = h.stderr;
+  stops = memory_behind (asked_by (asked job)) (asked_by (asked job)) before.told.next (ports_of job) before.counted now.counted (front_all (asked_by (asked job))) h.asked_for;
+}

@@ -1,0 +1,4 @@
+mod Numbering
+mod Stopping
+mod Beginning
+mod Judging

@@ -1,0 +1,70 @@
+-- What a replay finds under its names.
+use Rattle.std.specs.Prelude.{◌≡◌, ◌≢◌, ℕ, ◌<◌, List, length, slice_get, Option, Some, None, Ok}
+use Rattle.nf_base.specs.Text.{Function}
+use Rattle.nf_base.specs.declared.keys.Keys.{Keys}
+use Rattle.nf_files.specs.Told.{Told}
+use Rattle.packet_feed.specs.Arrivals.{Arrival}
+use Rattle.packet_feed.specs.Told.{gathered, packets_in, IsCapture, IsNoCapture}
+use Rattle.key_synth.specs.declared.verdict.Verdict.{Verdict}
+use Rattle.key_synth.specs.declared.verdict.Verdict.TheVariants.{Sharded, Locked}
+use Rattle.key_synth.specs.Verdicts.{IsVerdict}
+use Rattle.stream_run.specs.declared.stop.Stop.{Stop}
+use Rattle.replay_run.specs.Replaying.{Beside}
+use Rattle.replay_run.specs.Heads.{Comes}
+use Rattle.replay_run.specs.declared.replayed.Replayed.{Replayed}
+use Rattle.command_words.specs.Commands.{Replay}
+use Rattle.call_base.specs.Names.{output_name}
+use Rattle.call_base.specs.Source.{IsFunctionUnder}
+
+-- the packets of the captures under some names, of which the i-th is that of port i, where all are told
+abbrev pub packets_under : List (List ℕ) → Told → Option (List Arrival)
+packets_under names told = gathered (λ port n. packets_in port (told.content n)) 0 names
+
+-- so it is of what stands under each name below a port
+abbrev pub Below : (Option (List ℕ) → Type 0) → Told → List (List ℕ) → ℕ → Type 0
+Below P told names port = (p : ℕ) (n : List ℕ) → p < port → slice_get names p ≡ Some n → P (told.content n)
+
+-- The text is a network function that has as many ports as there are captures.
+pub record HasPorts (c : Replay) (told : Told) (f : Function) : Type 0 where
+  pub is_function : IsFunctionUnder told c.function f
+  pub as_many : length c.captures ≡ length f.handlers
+
+-- The text is a network function whose ports are not as many as the captures.
+pub record HasOtherPorts (c : Replay) (told : Told) : Type 0 where
+  pub function : Function
+  pub is_function : IsFunctionUnder told c.function function
+  pub not_as_many : length c.captures ≢ length function.handlers
+
+-- The captures are as many as the function's ports, and the file of this port is the first that is no
+-- capture.
+pub record HasNoCapture (c : Replay) (told : Told) (port : ℕ) : Type 0 where
+  pub function : Function
+  pub has_ports : HasPorts c told function
+  pub name : List ℕ
+  pub at : slice_get c.captures port ≡ Some name
+  pub none : IsNoCapture (told.content name)
+  pub lesser : Below IsCapture told c.captures port
+
+-- the keys of a verdict, where it has some
+abbrev pub keys_by : Verdict → Option Keys
+keys_by (Sharded keys) = Some keys
+keys_by (Locked cause) = None
+
+-- what the journal under its name is read beside: the captures and the outputs under theirs
+abbrev pub beside_under : Replay → Told → Beside
+beside_under c told = record {
+  packets = packets_under c.captures told;
+  journal = told.content c.journal;
+  outputs = λ port. told.content (output_name c.out port);
+  most = c.most;
+}
+
+-- What a replay comes to: the text is a network function with as many ports as there are captures, all
+-- of which are captures, and the journal and the outputs are judged beside them, under the keys that
+-- the function is given, if any.
+pub record HasReplayed (c : Replay) (told : Told) (f : Function) (came : Replayed) : Type 0 where
+  pub has_ports : HasPorts c told f
+  pub captures : Below IsCapture told c.captures (length c.captures)
+  pub verdict : Verdict
+  pub is_verdict : IsVerdict f verdict
+  pub comes : Comes {E = Stop} f (keys_by verdict) (length c.captures) (beside_under c told) (Ok came)

@@ -1,0 +1,12 @@
+//! A replay as a call of the program: a journal and the outputs beside it are judged, and the last state's
+//! text is printed where all is the same.
+#![tactic(auto)]
+
+mod checked;
+mod job;
+mod names;
+mod numbers;
+mod replaying;
+
+pub use checked::Checked;
+pub use replaying::replay;

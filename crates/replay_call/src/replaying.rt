@@ -1,0 +1,316 @@
+//! A replay, from its files to what is printed of it.
+//!
+//! Each function goes on from where a replay came, whatever was there before it began.
+ghost use Rattle.std.specs.Prelude.{◌≡◌, ◌+◌, ◌≤◌, ◌++◌, [], ◌∷◌, length, map, IfSome, string_bytes};
+ghost use Rattle.nf_base.specs.Functions.{function_of};
+ghost use Rattle.packet_feed.specs.Told.{EachFile, IsApart};
+ghost use Rattle.packet_feed.specs.Sources.{files_in};
+ghost use Rattle.replay_run.specs.Queues.{lent};
+ghost use Rattle.replay_run.specs.declared.replayed.Replayed.TheVariants.{Same};
+ghost use Rattle.command_words.specs.View as view;
+ghost use Rattle.call_base.specs.Names.{reading};
+ghost use Rattle.call_base.specs.Source.{HasFewPaths};
+ghost use Rattle.call_base.specs.Outside.{Outside, HasOnlyAsked, seen};
+ghost use Rattle.replay_call.specs.Names.{names_of};
+ghost use Rattle.replay_call.specs.Checked.{ReplaysTo};
+ghost use Rattle.replay_call.specs.Progress.{AreKeysOf, IsSized, HasFound, IsJob, AreLatest, HasOpened, HasFed, HasReady, HasCome, asked, unfed, unfound};
+
+use crate::checked::Checked;
+use crate::job::Job;
+use crate::names::names_behind;
+use crate::numbers::Numbers;
+use call_base::analysing::verdict_of;
+use call_base::loading::{Found, NoFunction, read_function};
+use call_base::opening::open_captures;
+use call_base::say::print_out;
+use call_base::status::{Difference, Halt, Refusal, Stop};
+use command_words::ReplayCommand;
+use key_synth::Verdict;
+use nf_base::keys::Keys;
+use nf_base::state::State;
+use nf_files::Files;
+use packet_feed::{Feed, FeedFault};
+use replay_run::Replayed;
+use run_history::state_text::state_text;
+use std::alloc::Global;
+use stream_run::Stop as NumberStop;
+
+// Prints the text of the state that a run left.
+fn print_state<F: Files>(
+    alloc: Global,
+    files: &mut F,
+    job: &Job,
+    state: &State,
+) -> Result<Checked, Halt>
+    requires sized { IsSized job.now }
+    ensures replays { let now = seen (F.told files.old) (F.counted files.old) in
+        (before : Outside) → IsJob before job.now → HasCome before now job.now (Same state.now) →
+        ReplaysTo (asked job.now) before (seen (F.told files.new) (F.counted files.new)) result }
+{
+    match state_text(alloc, job.func, state) {
+        Ok(text) => match print_out(files, text.as_slice()) {
+            Ok(()) => Ok(Checked::Same),
+            Err(stop) => Err(Halt::Stop(stop)),
+        },
+        Err(_) => Err(Halt::Stop(Stop::Memory)),
+    }
+}
+
+// Tells what was found.
+fn told<F: Files>(alloc: Global, files: &mut F, job: &Job, came: Replayed) -> Result<Checked, Halt>
+    requires sized { IsSized job.now }
+    ensures replays { let now = seen (F.told files.old) (F.counted files.old) in
+        (before : Outside) → IsJob before job.now → HasCome before now job.now came →
+        ReplaysTo (asked job.now) before (seen (F.told files.new) (F.counted files.new)) result }
+{
+    match came {
+        Replayed::Same(state) => print_state(alloc, files, job, &state),
+        Replayed::TooMany => Ok(Checked::TooMany {
+            most: job.command.most,
+        }),
+        Replayed::Line(line) => Ok(Checked::Differs(Difference::Line(line))),
+        Replayed::Output(port) => Ok(Checked::Differs(Difference::Output(port))),
+    }
+}
+
+// Judges the journal and the outputs, which were opened behind the captures.
+fn replay_ready<F: Files>(
+    alloc: Global,
+    files: &mut F,
+    job: &Job,
+    feed: &mut Feed,
+    captures: &[u32],
+    journal: u32,
+    outputs: &[u32],
+) -> Result<Checked, Halt>
+    requires sized { IsSized job.now }
+    requires captures { files_in feed.old.sources ≡ captures.now }
+    requires new { feed.old.given ≡ 0 }
+    requires most { feed.old.most ≡ job.now.command.now.most }
+    requires all { length captures.now ≡ job.now.numbers.ports }
+    requires as_many { length outputs.now ≡ job.now.numbers.ports }
+    requires read { EachFile (F.is_read files.old) captures.now }
+    requires opened { EachFile (F.is_read files.old) outputs.now }
+    requires opened_journal { F.is_read files.old journal }
+    requires apart { IsApart (captures.now ++ journal ∷ outputs.now) }
+    ensures replays { let now = seen (F.told files.old) (F.counted files.old) in
+        (before : Outside) → IsJob before job.now →
+        HasReady before now job.now captures.now feed.old journal outputs.now →
+        ReplaysTo (asked job.now) before (seen (F.told files.new) (F.counted files.new)) result }
+{
+    let most = job.command.most;
+    match replay_run::replay(
+        alloc, files, job.func, job.keys, feed, most, captures, journal, outputs,
+    ) {
+        Ok(came) => told(alloc, files, job, came),
+        Err(stop) => Err(job.numbers.halt(stop)),
+    }
+}
+
+// Opens the journal and the outputs, whose names are these, and judges them.
+fn replay_named<F: Files>(
+    alloc: Global,
+    files: &mut F,
+    job: &Job,
+    feed: &mut Feed,
+    captures: &[u32],
+    names: &[String],
+    last: u32,
+) -> Result<Checked, Halt>
+    requires sized { IsSized job.now }
+    requires captures { files_in feed.old.sources ≡ captures.now }
+    requires new { feed.old.given ≡ 0 }
+    requires most { feed.old.most ≡ job.now.command.now.most }
+    requires all { length captures.now ≡ job.now.numbers.ports }
+    requires some { length names.now ≡ job.now.numbers.ports + 1 }
+    requires read { EachFile (F.is_read files.old) captures.now }
+    requires last { (F.told files.old).next ≡ last + 1 }
+    requires latest { AreLatest captures.now (F.told files.old).next }
+    ensures replays { let now = seen (F.told files.old) (F.counted files.old) in
+        (before : Outside) → IsJob before job.now →
+        HasFed before now job.now captures.now feed.old →
+        map string_bytes names.now ≡ names_of (asked job.now) →
+        ReplaysTo (asked job.now) before (seen (F.told files.new) (F.counted files.new)) result }
+{
+    match open_captures(alloc, files, names, last) {
+        Ok(opened) => match opened.as_slice().split_first() {
+            Some((journal, outputs)) => replay_ready(
+                alloc, files, job, feed, captures, *journal, outputs,
+            ),
+            None => Err(Halt::Stop(Stop::Memory)),
+        },
+        Err(stop) => Err(job.numbers.halt(stop)),
+    }
+}
+
+// Opens the journal and the outputs, and judges them.
+fn replay_fed<F: Files>(
+    alloc: Global,
+    files: &mut F,
+    job: &Job,
+    feed: &mut Feed,
+    captures: &[u32],
+) -> Result<Checked, Halt>
+    requires sized { IsSized job.now }
+    requires captures { files_in feed.old.sources ≡ captures.now }
+    requires new { feed.old.given ≡ 0 }
+    requires most { feed.old.most ≡ job.now.command.now.most }
+    requires all { length captures.now ≡ job.now.numbers.ports }
+    requires read { EachFile (F.is_read files.old) captures.now }
+    requires latest { AreLatest captures.now (F.told files.old).next }
+    ensures replays { let now = seen (F.told files.old) (F.counted files.old) in
+        (before : Outside) → IsJob before job.now →
+        HasFed before now job.now captures.now feed.old →
+        ReplaysTo (asked job.now) before (seen (F.told files.new) (F.counted files.new)) result }
+{
+    let ports = job.numbers.ports;
+    let last = captures[ports as usize - 1];
+    let command = job.command;
+    match names_behind(alloc, &command.journal, &command.out, ports) {
+        Ok(names) => replay_named(alloc, files, job, feed, captures, names.as_slice(), last),
+        Err(_) => Err(Halt::Stop(Stop::Memory)),
+    }
+}
+
+// Why captures can't be read, of which these are the files.
+fn unfed(numbers: Numbers, captures: &[u32], fault: FeedFault) -> Halt
+    requires { numbers.ports ≤ 4 }
+    ensures { result ≡ unfed numbers captures.now fault }
+{
+    match fault {
+        FeedFault::NotCapture { port } => Halt::Refusal(Refusal::NotCapture { port }),
+        FeedFault::File { port } => match captures.get(port as usize) {
+            Some(file) => numbers.halt(NumberStop::File(*file)),
+            None => Halt::Stop(Stop::Memory),
+        },
+        FeedFault::Memory => Halt::Stop(Stop::Memory),
+    }
+}
+
+// Reads the headers of the captures, and goes on.
+fn replay_opened<F: Files>(
+    alloc: Global,
+    files: &mut F,
+    job: &Job,
+    captures: &[u32],
+) -> Result<Checked, Halt>
+    requires sized { IsSized job.now }
+    requires all { length captures.now ≡ job.now.numbers.ports }
+    requires read { EachFile (F.is_read files.old) captures.now }
+    requires latest { AreLatest captures.now (F.told files.old).next }
+    ensures replays { let now = seen (F.told files.old) (F.counted files.old) in
+        (before : Outside) → IsJob before job.now → HasOpened before now job.now captures.now →
+        ReplaysTo (asked job.now) before (seen (F.told files.new) (F.counted files.new)) result }
+{
+    match Feed::start(alloc, files, captures, job.command.most) {
+        Ok(mut feed) => replay_fed(alloc, files, job, &mut feed, captures),
+        Err(fault) => Err(unfed(job.numbers, captures, fault)),
+    }
+}
+
+// Opens the captures, and goes on.
+fn replay_job<F: Files>(alloc: Global, files: &mut F, job: &Job) -> Result<Checked, Halt>
+    requires sized { IsSized job.now }
+    requires next { (F.told files.old).next ≡ job.now.numbers.first + 1 }
+    ensures replays { let now = seen (F.told files.old) (F.counted files.old) in
+        (before : Outside) → IsJob before job.now →
+        HasOnlyAsked (reading (asked job.now).function ∷ []) before now →
+        ReplaysTo (asked job.now) before (seen (F.told files.new) (F.counted files.new)) result }
+{
+    let names = job.command.captures.as_slice();
+    match open_captures(alloc, files, names, job.numbers.first) {
+        Ok(captures) => replay_opened(alloc, files, job, captures.as_slice()),
+        Err(stop) => Err(job.numbers.halt(stop)),
+    }
+}
+
+// Goes on under the keys of the function, if it is given some.
+fn replay_keyed<F: Files>(
+    alloc: Global,
+    files: &mut F,
+    command: &ReplayCommand,
+    found: &Found,
+    keys: Option<&Keys>,
+) -> Result<Checked, Halt>
+    requires some { 1 ≤ length command.now.captures.items }
+    requires few { length command.now.captures.items ≤ 4 }
+    requires as_many { length command.now.captures.items ≡ length found.now.source.func.handlers }
+    requires keyed { IfSome keys (λ k. length found.now.source.func.handlers ≤ length k.now.ports) }
+    requires next { (F.told files.old).next ≡ found.now.file + 1 }
+    ensures replays { let now = seen (F.told files.old) (F.counted files.old) in
+        (before : Outside) → HasFound (view.replay command.now) before now found.now →
+        AreKeysOf (function_of found.now.source.func) (lent keys.entry) →
+        ReplaysTo (view.replay command.now) before
+        (seen (F.told files.new) (F.counted files.new)) result }
+{
+    let func = &found.source.func;
+    let numbers = Numbers {
+        first: found.file,
+        ports: func.handlers.len(),
+    };
+    let job = Job {
+        command,
+        func,
+        keys,
+        numbers,
+    };
+    replay_job(alloc, files, &job)
+}
+
+// Goes on where the captures are as many as the function's ports.
+fn replay_found<F: Files>(
+    alloc: Global,
+    files: &mut F,
+    command: &ReplayCommand,
+    found: &Found,
+) -> Result<Checked, Halt>
+    requires some { 1 ≤ length command.now.captures.items }
+    requires few { length command.now.captures.items ≤ 4 }
+    requires few_paths { HasFewPaths (function_of found.now.source.func) }
+    requires next { (F.told files.old).next ≡ found.now.file + 1 }
+    ensures replays { let now = seen (F.told files.old) (F.counted files.old) in
+        (before : Outside) → HasFound (view.replay command.now) before now found.now →
+        ReplaysTo (view.replay command.now) before
+        (seen (F.told files.new) (F.counted files.new)) result }
+{
+    let func = &found.source.func;
+    if command.captures.len() != func.handlers.len() as usize {
+        return Err(Halt::Refusal(Refusal::Usage));
+    }
+    match verdict_of(alloc, func) {
+        Ok(Verdict::Sharded(keys)) => replay_keyed(alloc, files, command, found, Some(&keys)),
+        Ok(Verdict::Locked(_)) => replay_keyed(alloc, files, command, found, None),
+        Err(_) => Err(Halt::Stop(Stop::Memory)),
+    }
+}
+
+// Why there is no function under a name, for a replay.
+fn unfound(none: NoFunction) -> Halt
+    ensures { result ≡ unfound none }
+{
+    match none {
+        NoFunction::Text(fault) => Halt::Refusal(Refusal::Text(fault)),
+        NoFunction::Stop(stop) => Halt::Stop(stop),
+    }
+}
+
+/// Does the replay that is asked for.
+///
+/// The text, the captures, the journal and the outputs are opened in this order, the headers of the
+/// captures are read before the journal is opened, and no line is judged before all are open.
+pub fn replay<F: Files>(
+    alloc: Global,
+    files: &mut F,
+    command: &ReplayCommand,
+) -> Result<Checked, Halt>
+    requires some { 1 ≤ length command.now.captures.items }
+    requires few { length command.now.captures.items ≤ 4 }
+    ensures replays { ReplaysTo (view.replay command.now)
+        (seen (F.told files.old) (F.counted files.old))
+        (seen (F.told files.new) (F.counted files.new)) result }
+{
+    match read_function(alloc, files, &command.function) {
+        Ok(found) => replay_found(alloc, files, command, &found),
+        Err(none) => Err(unfound(none)),
+    }
+}

@@ -1,0 +1,4 @@
+use Rattle.run_call.proofs.running.run_tables.Given as goal
+
+abbrev pub ghost-leave_ran : goal.ghost-leave_ran
+ghost-leave_ran g a = g.before

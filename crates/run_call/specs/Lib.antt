@@ -1,0 +1,4 @@
+pub mod Modes
+pub mod Runs
+pub mod Ending
+pub mod Progress

@@ -1,0 +1,83 @@
+-- Who handles the packets of a run that a command asks for.
+use Rattle.std.specs.Prelude.{◌≡◌, ℕ, ◌<◌, ◌≤◌, Result, Ok, Err}
+use Rattle.nf_base.specs.Text.{Function}
+use Rattle.nf_base.specs.declared.keys.Keys.{Keys}
+use Rattle.command_words.specs.declared.command.ModeChoice.{ModeChoice}
+use Rattle.command_words.specs.declared.command.ModeChoice.TheVariants.{Auto, Shard, Lock}
+use Rattle.command_words.specs.Commands.{Run as RunAsked}
+use Rattle.key_synth.specs.declared.verdict.Cause.{Cause}
+use Rattle.key_synth.specs.declared.verdict.Verdict.TheVariants.{Locked}
+use Rattle.key_synth.specs.Verdicts.{IsVerdict}
+use Rattle.key_synth.specs.Keys.{AreGiven}
+use Rattle.key_synth.specs.Laws.{HashAlikeWhereTheyMeet}
+use Rattle.run_call.specs.declared.course.Course.{Course}
+use Rattle.run_call.specs.declared.course.Course.TheVariants.{One, Shards, Tables}
+use Rattle.call_base.specs.declared.status.NoKeys.{NoKeys}
+use Rattle.call_base.specs.Named.{SaysCause}
+use Rattle.call_base.specs.declared.status.Halt.{Halt}
+use Rattle.call_base.specs.declared.status.Halt.TheVariants as halts
+use Rattle.call_base.specs.declared.status.Refusal.TheVariants as refusals
+use Rattle.call_base.specs.declared.status.Stop.TheVariants as stops
+
+-- keys are needed where mode `shard` is asked for
+abbrev pub NeedsKeys : RunAsked → Type 0
+NeedsKeys c = c.mode ≡ Shard
+
+-- a function has keys
+pub record HasKeys (f : Function) : Type 0 where
+  pub keys : Keys
+  pub given : AreGiven f keys
+
+-- a function has no keys
+pub record IsKeyless (f : Function) : Type 0 where
+  pub cause : Cause
+  pub locked : IsVerdict f (Locked cause)
+
+-- A function has no keys, for this cause.
+pub record IsLocked (f : Function) (why : NoKeys) : Type 0 where
+  pub cause : Cause
+  pub locked : IsVerdict f (Locked cause)
+  pub says : SaysCause f cause why
+
+-- The verdict is asked for: mode `shard` is, or several workers are in any mode.
+abbrev pub AsksIn : ModeChoice → ℕ → Type 0
+AsksIn Auto workers = 1 < workers
+AsksIn Shard workers = Unit {0}
+AsksIn Lock workers = ⊥
+
+abbrev pub Asks : RunAsked → Type 0
+Asks c = AsksIn c.mode c.workers
+
+-- Several workers may share nothing: mode `shard` is asked for, or any.
+abbrev pub MayShard : ModeChoice → Type 0
+MayShard Auto = Unit {0}
+MayShard Shard = Unit {0}
+MayShard Lock = ⊥
+
+-- Several workers share the tables: mode `lock` is asked for, or any, and the function has no keys.
+abbrev pub ShareTables : ModeChoice → Function → Type 0
+ShareTables Auto f = IsKeyless f
+ShareTables Shard f = ⊥
+ShareTables Lock f = Unit {0}
+
+-- who handles the packets: one worker, or as many as are asked for, which share nothing, under the
+-- function's keys, or share the tables
+abbrev pub IsCourse : RunAsked → Function → Course → Type 0
+IsCourse c f One = (c.workers ≡ 1) × (NeedsKeys c → HasKeys f)
+IsCourse c f (Shards keys) =
+    ((1 < c.workers) × (c.workers ≤ 16)) × MayShard c.mode × AreGiven f keys × HashAlikeWhereTheyMeet f keys
+IsCourse c f Tables = (1 < c.workers) × ShareTables c.mode f
+
+-- why there is none
+abbrev pub IsUnserved : RunAsked → Function → Halt → Type 0
+IsUnserved c f (halts.Refusal (refusals.NoKeys why)) = NeedsKeys c × IsLocked f why
+IsUnserved c f (halts.Refusal refusals.Usage) = ⊥
+IsUnserved c f (halts.Refusal (refusals.Text fault)) = ⊥
+IsUnserved c f (halts.Refusal (refusals.NotCapture port)) = ⊥
+IsUnserved c f (halts.Stop (stops.File file)) = ⊥
+IsUnserved c f (halts.Stop stops.Memory) = Unit {0}
+
+-- what looking for it comes to
+abbrev pub Serves : RunAsked → Function → Result Course Halt → Type 0
+Serves c f (Ok course) = IsCourse c f course
+Serves c f (Err halt) = IsUnserved c f halt

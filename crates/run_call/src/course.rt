@@ -1,0 +1,89 @@
+//! Who handles the packets of a run.
+ghost use Rattle.std.specs.Prelude.{◌≡◌};
+ghost use Rattle.nf_base.specs.Functions.{function_of};
+ghost use Rattle.key_synth.specs.Verdicts.{IsVerdict, Separates};
+ghost use Rattle.command_words.specs.View as view;
+ghost use Rattle.call_base.specs.Source.{HasFewPaths};
+ghost use Rattle.run_call.specs.Modes.{Asks, Serves};
+ghost use Rattle.call_base.specs.Named.{SaysCause};
+
+use call_base::analysing::verdict_of;
+use call_base::object_name::ObjectName;
+use call_base::status::{Halt, NoKeys, Refusal, Stop};
+use command_words::{ModeChoice, RunCommand};
+use key_synth::{Cause, Verdict};
+use nf_base::func::Func;
+use nf_base::keys::Keys;
+use std::alloc::Global;
+
+/// Who handles the packets of a run.
+#[derive(Drop)]
+pub enum Course {
+    /// One worker.
+    One,
+    /// Several, which share nothing, under these keys.
+    Shards(Keys),
+    /// Several, which share the tables.
+    Tables,
+}
+
+// Why a function has no keys.
+fn no_keys(func: &Func, cause: Cause) -> NoKeys
+    ensures { SaysCause (function_of func.now) cause result }
+{
+    match cause {
+        Cause::Object { object, rule } => NoKeys::Object {
+            name: ObjectName::in_func(func, object),
+            rule,
+        },
+        Cause::Hash => NoKeys::Hash,
+    }
+}
+
+// Who handles the packets, where this is the verdict on the function.
+fn course_by(command: &RunCommand, func: &Func, verdict: Verdict) -> Result<Course, Halt>
+    requires asks { Asks (view.run command.now) }
+    requires verdict { IsVerdict (function_of func.now) verdict }
+    requires separates { Separates (function_of func.now) verdict }
+    ensures serves { Serves (view.run command.now) (function_of func.now) result }
+{
+    match verdict {
+        Verdict::Sharded(keys) => {
+            if 1 < command.workers.get() {
+                Ok(Course::Shards(keys))
+            } else {
+                Ok(Course::One)
+            }
+        }
+        Verdict::Locked(cause) => match command.mode {
+            ModeChoice::Shard => Err(Halt::Refusal(Refusal::NoKeys(no_keys(func, cause)))),
+            _ => Ok(Course::Tables),
+        },
+    }
+}
+
+// The same, where the verdict is to be found.
+fn course_found(alloc: Global, command: &RunCommand, func: &Func) -> Result<Course, Halt>
+    requires asks { Asks (view.run command.now) }
+    requires few { HasFewPaths (function_of func.now) }
+    ensures serves { Serves (view.run command.now) (function_of func.now) result }
+{
+    match verdict_of(alloc, func) {
+        Ok(verdict) => course_by(command, func, verdict),
+        Err(_) => Err(Halt::Stop(Stop::Memory)),
+    }
+}
+
+/// Who handles the packets of a run that is asked for.
+pub fn course_of(alloc: Global, command: &RunCommand, func: &Func) -> Result<Course, Halt>
+    requires few { HasFewPaths (function_of func.now) }
+    ensures serves { Serves (view.run command.now) (function_of func.now) result }
+{
+    match (command.mode, 1 < command.workers.get()) {
+        (ModeChoice::Lock, true) => Ok(Course::Tables),
+        (ModeChoice::Lock, false) => Ok(Course::One),
+        (ModeChoice::Auto, false) => Ok(Course::One),
+        (ModeChoice::Auto, true) => course_found(alloc, command, func),
+        (ModeChoice::Shard, _) => course_found(alloc, command, func),
+    }
+}

@@ -1,0 +1,16 @@
+//! A run that is to be done.
+
+use crate::course::Course;
+use call_base::numbers::Numbers;
+use command_words::RunCommand;
+use nf_base::func::Func;
+
+/// A run that is to be done: what was asked for, the function, who handles the packets, and the numbers
+/// of its files.
+#[derive(Drop)]
+pub struct Job<'a> {
+    pub command: &'a RunCommand,
+    pub func: &'a Func,
+    pub course: &'a Course,
+    pub numbers: Numbers,
+}

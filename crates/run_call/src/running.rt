@@ -1,0 +1,377 @@
+//! A run, from its files to the files that it leaves.
+ghost use Rattle.std.specs.Prelude.{◌≡◌, ◌+◌, ◌≤◌, ◌∷◌, [], length, ℕ};
+ghost use Rattle.nf_base.specs.Functions.{function_of};
+ghost use Rattle.nf_files.specs.Told.{IsEmptyIfTold};
+ghost use Rattle.packet_feed.specs.Told.{EachFile};
+ghost use Rattle.command_words.specs.View as view;
+ghost use Rattle.call_base.specs.Names.{reading};
+ghost use Rattle.call_base.specs.Outside.{Outside, HasOnlyAsked, seen};
+ghost use Rattle.run_call.specs.Ending.{RunsTo};
+ghost use Rattle.run_call.specs.Modes.{IsCourse, Serves};
+ghost use Rattle.run_call.specs.Runs.{left_by, IsToldStop};
+ghost use Rattle.run_call.specs.Progress as progress;
+ghost use Rattle.run_call.specs.Progress.{HasFound, IsJob, HasOpened, HasFed, HasReady, HasRun, HasEnded, asked, ports_of, unfed, unfound};
+ghost use Rattle.run_call.specs.declared.course.Course.TheVariants.{Shards, Tables};
+ghost use Rattle.lock_mode.specs.Gates.{Rose};
+
+use crate::course::{Course, course_of};
+use crate::job::Job;
+use crate::leaving::{leave_ran, print_ran};
+use call_base::loading::{Found, NoFunction, read_function};
+use call_base::numbers::Numbers;
+use call_base::object_name::ObjectName;
+use call_base::opening::{create_targets, open_captures};
+use call_base::status::{End, FullShare, Halt, Refusal, Stop};
+use command_words::RunCommand;
+use lock_mode::Gate;
+use locked_run::run as run_locked;
+use nf_base::decl::ObjectId;
+use nf_base::func::Func;
+use nf_base::keys::Keys;
+use nf_files::Files;
+use packet_feed::{Feed, FeedFault};
+use run_history::line::Mode;
+use shard_core::Stop as ShareStop;
+use sharded_run::{Came, run as run_sharded};
+use std::alloc::Global;
+use std::sync::Wait;
+use std::thread::Threads;
+use stream_run::{Stop as NumberStop, run as run_stream};
+use worker_turns::Turns;
+
+// Handles all packets by one worker, and leaves what comes of them in the files that were created.
+fn run_one<F: Files>(
+    alloc: Global,
+    files: &mut F,
+    job: &Job,
+    feed: &mut Feed,
+    captures: &[u32],
+    targets: &[u32],
+) -> Result<End, Halt>
+    ghost before: { Outside }
+    requires job { IsJob before.told job.now }
+    requires alone { (asked job.now).workers ≡ 1 }
+    requires opened { EachFile (F.is_read files.old) captures.now }
+    requires created { EachFile (F.is_written files.old) targets.now }
+    requires ready { HasReady before (seen (F.told files.old) (F.counted files.old)) job.now
+        captures.now targets.now feed.old }
+    ensures runs { (old new : ℕ) → RunsTo (Rose old new) (asked job.now) before
+        (seen (F.told files.new) (F.counted files.new)) result }
+{
+    match run_stream(alloc, files, job.func, feed, captures, targets) {
+        Ok(ran) => {
+            let last = targets[job.numbers.ports as usize];
+            leave_ran(alloc, files, job, Mode::One, &ran, feed.torn(), last)
+        }
+        Err(stop) => Err(job.numbers.halt(stop)),
+    }
+}
+
+// The share stop of a run: the chain's name, the queue and the packet.
+fn full_share(func: &Func, stop: ShareStop) -> FullShare
+    ensures { IsToldStop (function_of func.now) stop result }
+{
+    let ShareStop {
+        chain,
+        queue,
+        packet,
+    } = stop;
+    FullShare {
+        chain: ObjectName::in_func(func, ObjectId::Chain(chain)),
+        queue,
+        packet: packet.id,
+    }
+}
+
+// The same by several workers, under these keys.
+fn run_shards<R: Threads + Sync, F: Files, G: Turns + Sync>(
+    rt: &R,
+    alloc: Global,
+    files: &mut F,
+    job: &Job,
+    keys: &Keys,
+    feed: &mut Feed,
+    captures: &[u32],
+    targets: &[u32],
+    turns: &G,
+) -> Result<End, Halt>
+    ghost before: { Outside }
+    requires job { IsJob before.told job.now }
+    requires several { IsCourse (asked job.now) (function_of job.now.func.now) (Shards keys.now) }
+    requires opened { EachFile (F.is_read files.old) captures.now }
+    requires created { EachFile (F.is_written files.old) targets.now }
+    requires ready { HasReady before (seen (F.told files.old) (F.counted files.old)) job.now
+        captures.now targets.now feed.old }
+    ensures runs { (old new : ℕ) → RunsTo (Rose old new) (asked job.now) before
+        (seen (F.told files.new) (F.counted files.new)) result }
+{
+    let workers = job.command.workers;
+    match run_sharded(
+        rt, alloc, files, job.func, keys, workers, feed, captures, targets, turns,
+    ) {
+        Ok(Came::Ran(ran)) => {
+            let last = targets[job.numbers.ports as usize];
+            leave_ran(alloc, files, job, Mode::Shard, &ran, feed.torn(), last)
+        }
+        Ok(Came::Full(full)) => {
+            let end = End::ShareFull(full_share(job.func, full.stop));
+            print_ran(files, job, Mode::Shard, full.packets, end)
+        }
+        Err(stop) => Err(job.numbers.halt(stop)),
+    }
+}
+
+// The same by several workers that share the tables.
+fn run_tables<R: Threads + Wait + Sync, F: Files, G: Turns + Sync, L: Gate + Drop + Send>(
+    rt: &R,
+    alloc: Global,
+    files: &mut F,
+    job: &Job,
+    feed: &mut Feed,
+    captures: &[u32],
+    targets: &[u32],
+    turns: &G,
+    gate: &mut L,
+) -> Result<End, Halt>
+    ghost before: { Outside }
+    requires job { IsJob before.told job.now }
+    requires several { IsCourse (asked job.now) (function_of job.now.func.now) Tables }
+    requires opened { EachFile (F.is_read files.old) captures.now }
+    requires created { EachFile (F.is_written files.old) targets.now }
+    requires ready { HasReady before (seen (F.told files.old) (F.counted files.old)) job.now
+        captures.now targets.now feed.old }
+    ensures runs { RunsTo (Rose (L.refused gate.old) (L.refused gate.new)) (asked job.now) before
+        (seen (F.told files.new) (F.counted files.new)) result }
+{
+    let workers = job.command.workers;
+    match run_locked(
+        rt, alloc, files, job.func, workers, feed, captures, targets, turns, gate,
+    ) {
+        Ok(came) => {
+            let last = targets[job.numbers.ports as usize];
+            leave_ran(alloc, files, job, came.mode, &came.ran, feed.torn(), last)
+        }
+        Err(stop) => Err(job.numbers.halt(stop)),
+    }
+}
+
+// Handles all packets, and leaves what comes of them in the files that were created.
+fn run_ready<R: Threads + Wait + Sync, F: Files, G: Turns + Sync, L: Gate + Drop + Send>(
+    rt: &R,
+    alloc: Global,
+    files: &mut F,
+    job: &Job,
+    feed: &mut Feed,
+    captures: &[u32],
+    targets: &[u32],
+    turns: &G,
+    gate: &mut L,
+) -> Result<End, Halt>
+    ghost before: { Outside }
+    requires job { IsJob before.told job.now }
+    requires opened { EachFile (F.is_read files.old) captures.now }
+    requires created { EachFile (F.is_written files.old) targets.now }
+    requires ready { HasReady before (seen (F.told files.old) (F.counted files.old)) job.now
+        captures.now targets.now feed.old }
+    ensures runs { RunsTo (Rose (L.refused gate.old) (L.refused gate.new)) (asked job.now) before
+        (seen (F.told files.new) (F.counted files.new)) result }
+{
+    match job.course {
+        Course::One => run_one(alloc, files, job, feed, captures, targets),
+        Course::Shards(keys) => run_shards(
+            rt, alloc, files, job, keys, feed, captures, targets, turns,
+        ),
+        Course::Tables => run_tables(rt, alloc, files, job, feed, captures, targets, turns, gate),
+    }
+}
+
+// Creates the outputs and the journal, and runs.
+fn run_fed<R: Threads + Wait + Sync, F: Files, G: Turns + Sync, L: Gate + Drop + Send>(
+    rt: &R,
+    alloc: Global,
+    files: &mut F,
+    job: &Job,
+    feed: &mut Feed,
+    captures: &[u32],
+    turns: &G,
+    gate: &mut L,
+) -> Result<End, Halt>
+    ghost before: { Outside }
+    requires job { IsJob before.told job.now }
+    requires opened { EachFile (F.is_read files.old) captures.now }
+    requires fed { HasFed before (seen (F.told files.old) (F.counted files.old)) job.now
+        captures.now feed.old }
+    ensures runs { RunsTo (Rose (L.refused gate.old) (L.refused gate.new)) (asked job.now) before
+        (seen (F.told files.new) (F.counted files.new)) result }
+{
+    let ports = job.numbers.ports;
+    let last = captures[ports as usize - 1];
+    match create_targets(alloc, files, &job.command.out, ports, last) {
+        Ok(targets) => {
+            let targets = targets.as_slice();
+            run_ready(rt, alloc, files, job, feed, captures, targets, turns, gate)
+        }
+        Err(stop) => Err(job.numbers.halt(stop)),
+    }
+}
+
+// Why captures can't be read, of which these are the files.
+fn unfed(numbers: Numbers, captures: &[u32], fault: FeedFault) -> Halt
+    requires { numbers.ports ≤ 4 }
+    ensures { result ≡ unfed numbers captures.now fault }
+{
+    match fault {
+        FeedFault::NotCapture { port } => Halt::Refusal(Refusal::NotCapture { port }),
+        FeedFault::File { port } => match captures.get(port as usize) {
+            Some(file) => numbers.halt(NumberStop::File(*file)),
+            None => Halt::Stop(Stop::Memory),
+        },
+        FeedFault::Memory => Halt::Stop(Stop::Memory),
+    }
+}
+
+// Reads the headers of the captures, and runs.
+fn run_opened<R: Threads + Wait + Sync, F: Files, G: Turns + Sync, L: Gate + Drop + Send>(
+    rt: &R,
+    alloc: Global,
+    files: &mut F,
+    job: &Job,
+    captures: &[u32],
+    turns: &G,
+    gate: &mut L,
+) -> Result<End, Halt>
+    ghost before: { Outside }
+    requires job { IsJob before.told job.now }
+    requires opened { EachFile (F.is_read files.old) captures.now }
+    requires has_opened { HasOpened before (seen (F.told files.old) (F.counted files.old)) job.now captures.now }
+    ensures runs { RunsTo (Rose (L.refused gate.old) (L.refused gate.new)) (asked job.now) before
+        (seen (F.told files.new) (F.counted files.new)) result }
+{
+    match Feed::start(alloc, files, captures, job.command.most) {
+        Ok(mut feed) => run_fed(rt, alloc, files, job, &mut feed, captures, turns, gate),
+        Err(fault) => Err(unfed(job.numbers, captures, fault)),
+    }
+}
+
+// Opens the captures, and runs.
+fn run_job<R: Threads + Wait + Sync, F: Files, G: Turns + Sync, L: Gate + Drop + Send>(
+    rt: &R,
+    alloc: Global,
+    files: &mut F,
+    job: &Job,
+    turns: &G,
+    gate: &mut L,
+) -> Result<End, Halt>
+    ghost before: { Outside }
+    requires job { IsJob before.told job.now }
+    requires next { (F.told files.old).next ≡ before.told.next + 1 }
+    requires only { HasOnlyAsked (reading (asked job.now).function ∷ []) before
+        (seen (F.told files.old) (F.counted files.old)) }
+    ensures runs { RunsTo (Rose (L.refused gate.old) (L.refused gate.new)) (asked job.now) before
+        (seen (F.told files.new) (F.counted files.new)) result }
+{
+    match open_captures(
+        alloc,
+        files,
+        job.command.captures.as_slice(),
+        job.numbers.first,
+    ) {
+        Ok(captures) => run_opened(rt, alloc, files, job, captures.as_slice(), turns, gate),
+        Err(stop) => Err(job.numbers.halt(stop)),
+    }
+}
+
+// Runs, where it is known who handles the packets.
+fn run_served<R: Threads + Wait + Sync, F: Files, G: Turns + Sync, L: Gate + Drop + Send>(
+    rt: &R,
+    alloc: Global,
+    files: &mut F,
+    command: &RunCommand,
+    found: &Found,
+    course: &Course,
+    turns: &G,
+    gate: &mut L,
+) -> Result<End, Halt>
+    ghost before: { Outside }
+    requires some { 1 ≤ length command.now.captures.items }
+    requires few { length command.now.captures.items ≤ 4 }
+    requires as_many { length command.now.captures.items ≡ length found.now.source.func.handlers }
+    requires course { IsCourse (view.run command.now) (function_of found.now.source.func) course.now }
+    requires found { HasFound (view.run command.now) before
+        (seen (F.told files.old) (F.counted files.old)) found.now }
+    ensures runs { RunsTo (Rose (L.refused gate.old) (L.refused gate.new)) (view.run command.now)
+        before (seen (F.told files.new) (F.counted files.new)) result }
+{
+    let func = &found.source.func;
+    let numbers = Numbers {
+        first: found.file,
+        ports: func.handlers.len(),
+    };
+    let job = Job {
+        command,
+        func,
+        course,
+        numbers,
+    };
+    run_job(rt, alloc, files, &job, turns, gate)
+}
+
+// Runs, where the captures are as many as the function's ports, and it has keys where they are needed.
+fn run_found<R: Threads + Wait + Sync, F: Files, G: Turns + Sync, L: Gate + Drop + Send>(
+    rt: &R,
+    alloc: Global,
+    files: &mut F,
+    command: &RunCommand,
+    found: &Found,
+    turns: &G,
+    gate: &mut L,
+) -> Result<End, Halt>
+    ghost before: { Outside }
+    requires some { 1 ≤ length command.now.captures.items }
+    requires few { length command.now.captures.items ≤ 4 }
+    requires found { HasFound (view.run command.now) before
+        (seen (F.told files.old) (F.counted files.old)) found.now }
+    ensures runs { RunsTo (Rose (L.refused gate.old) (L.refused gate.new)) (view.run command.now)
+        before (seen (F.told files.new) (F.counted files.new)) result }
+{
+    let func = &found.source.func;
+    if command.captures.len() != func.handlers.len() as usize {
+        return Err(Halt::Refusal(Refusal::Usage));
+    }
+    match course_of(alloc, command, func) {
+        Ok(course) => run_served(rt, alloc, files, command, found, &course, turns, gate),
+        Err(halt) => Err(halt),
+    }
+}
+
+// Why there is no function under a name, for a run.
+fn unfound(none: NoFunction) -> Halt
+    ensures { result ≡ unfound none }
+{
+    match none {
+        NoFunction::Text(fault) => Halt::Refusal(Refusal::Text(fault)),
+        NoFunction::Stop(stop) => Halt::Stop(stop),
+    }
+}
+
+/// Does the run that is asked for.
+pub fn run<R: Threads + Wait + Sync, F: Files, G: Turns + Sync, L: Gate + Drop + Send>(
+    rt: &R,
+    alloc: Global,
+    files: &mut F,
+    command: &RunCommand,
+    turns: &G,
+    gate: &mut L,
+) -> Result<End, Halt>
+    ghost before: { Outside }
+    requires begins { seen (F.told files.old) (F.counted files.old) ≡ before }
+    requires some { 1 ≤ length command.now.captures.items }
+    requires few { length command.now.captures.items ≤ 4 }
+    ensures runs { RunsTo (Rose (L.refused gate.old) (L.refused gate.new)) (view.run command.now)
+        before (seen (F.told files.new) (F.counted files.new)) result }
+{
+    match read_function(alloc, files, &command.function) {
+        Ok(found) => run_found(rt, alloc, files, command, &found, turns, gate),
+        Err(none) => Err(unfound(none)),
+    }
+}
