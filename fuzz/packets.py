@@ -76,12 +76,13 @@ def record(random, order, unit, time, captured):
     return struct.pack(f"{order}4I", seconds, fraction, len(captured), length) + captured
 
 
-def capture(random, opening):
-    """A capture of one of the four forms. Few go back in time, few are torn, and very few are none."""
+def capture(random, opening, longest=60):
+    """A capture of one of the four forms, of less records than the longest has. Few go back in time, few are torn, and
+    very few are none."""
     order, unit, time = random.choice("<>"), random.choice((1, 1, 1, 1, 1000)), opening
     link = random.randrange(2**16) << 16 | 1
     data = struct.pack(f"{order}IHHiIII", MAGIC[unit], 2, 4, 0, 0, random.choice((0, 262144)), link)
-    for _ in range(random.randrange(60)):
+    for _ in range(random.randrange(longest)):
         time += random.choice(STEPS) * unit
         earlier = random.choice(STEPS) * unit if random.random() < 0.05 else 0
         data += record(random, order, unit, max(0, time - earlier), frame(random))
@@ -97,7 +98,7 @@ def capture(random, opening):
     return data
 
 
-def captures(random, ports):
+def captures(random, ports, longest=60):
     """A capture for each port."""
     opening = random.choice(OPENINGS)
-    return [capture(random, opening) for _ in range(ports)]
+    return [capture(random, opening, longest) for _ in range(ports)]

@@ -1,0 +1,477 @@
+/* The bridge and the firewall of bench/lock by hand, by threads of the system that share tables under one mutex.
+ *
+ *     mutex OUT bridge|firewall WORKERS INDICES LIFETIME CAPTURE..
+ *
+ * As `maestro run --mode lock` does, it loads all captures, one for each port, has worker p modulo WORKERS handle the
+ * packets of port p in capture order, and then writes OUT.0.pcap and so on, OUT.journal and OUT.state in the order in
+ * which packets were handled: `maestro replay` judges them. Headers are read and keys are hashed outside the mutex.
+ * Captures are classic pcap with nanoseconds in little-endian order, of this folder's traffic.
+ */
+#include <errno.h>
+#include <fcntl.h>
+#include <pthread.h>
+#include <stdint.h>
+#include <stdio.h>
+#include <stdlib.h>
+#include <string.h>
+#include <sys/stat.h>
+#include <unistd.h>
+
+enum { PORTS = 4, PIECE = 1 << 20, HEADER = 24, RECORD = 16 };
+
+static const uint32_t NONE = UINT32_MAX;
+
+static void stop(const char *what)
+{
+    fprintf(stderr, "mutex: %s%s%s\n", what, errno ? ": " : "", errno ? strerror(errno) : "");
+    exit(1);
+}
+
+static void *room(size_t size)
+{
+    void *found = calloc(1, size ? size : 1);
+    if (!found)
+        stop("out of memory");
+    return found;
+}
+
+static uint32_t little(const uint8_t *at)
+{
+    uint32_t number;
+    memcpy(&number, at, 4);
+    return number;
+}
+
+static uint32_t big(const uint8_t *at)
+{
+    return __builtin_bswap32(little(at));
+}
+
+static uint32_t big_16(const uint8_t *at)
+{
+    return (uint32_t)at[0] << 8 | at[1];
+}
+
+/* Captures that are held whole. */
+
+struct packet {
+    uint64_t time;
+    const uint8_t *record;
+    uint32_t port, seq;
+};
+
+struct capture {
+    struct packet *packets;
+    size_t count;
+};
+
+static struct capture captures[PORTS];
+static unsigned ports;
+
+static void load(unsigned port, const char *name)
+{
+    int file = open(name, O_RDONLY);
+    struct stat told;
+    if (file < 0 || fstat(file, &told))
+        stop(name);
+    size_t size = (size_t)told.st_size, at = 0;
+    uint8_t *bytes = room(size);
+    while (at < size) {
+        ssize_t count = read(file, bytes + at, size - at);
+        if (count <= 0)
+            stop("a read failed");
+        at += (size_t)count;
+    }
+    if (size < HEADER || little(bytes) != 0xa1b23c4d)
+        stop("no capture in nanoseconds");
+    struct capture *to = &captures[port];
+    to->packets = room((size - HEADER) / RECORD * sizeof *to->packets);
+    uint64_t latest = 0;
+    for (at = HEADER; at + RECORD <= size; at += RECORD + little(bytes + at + 8)) {
+        uint64_t time = little(bytes + at) * UINT64_C(1000000000) + little(bytes + at + 4);
+        latest = time > latest ? time : latest;
+        to->packets[to->count] = (struct packet){latest, bytes + at, port, (uint32_t)to->count};
+        to->count++;
+    }
+}
+
+/* Entries, in a list by their stamps and found by open addressing, as in floor.c. */
+
+struct key {
+    uint64_t high, low;
+};
+
+struct entry {
+    uint64_t stamp;
+    struct key key;
+    uint32_t hash, next, previous, at;
+};
+
+struct slot {
+    uint32_t hash, index;
+};
+
+static struct entry *entries;
+static struct slot *slots;
+static uint32_t indices, mask;
+static uint64_t greatest, lifetime;
+
+static void link_last(uint32_t index, uint32_t ring)
+{
+    uint32_t last = entries[ring].previous;
+    entries[index].previous = last;
+    entries[index].next = ring;
+    entries[last].next = index;
+    entries[ring].previous = index;
+}
+
+static void unlink_entry(uint32_t index)
+{
+    entries[entries[index].previous].next = entries[index].next;
+    entries[entries[index].next].previous = entries[index].previous;
+}
+
+static void make_tables(void)
+{
+    uint32_t count = 1;
+    while (count < 2 * indices)
+        count *= 2;
+    mask = count - 1;
+    entries = room((indices + 2) * sizeof *entries);
+    slots = room(count * sizeof *slots);
+    for (uint32_t at = 0; at < count; at++)
+        slots[at].index = NONE;
+    for (uint32_t ring = indices; ring < indices + 2; ring++)
+        entries[ring].next = entries[ring].previous = ring;
+    for (uint32_t index = 0; index < indices; index++)
+        link_last(index, indices + 1);
+}
+
+static uint32_t hash_of(struct key key)
+{
+    return (uint32_t)(((key.high ^ key.low * 0x9e3779b97f4a7c15u) * 0xd6e8feb86659fd93u) >> 32);
+}
+
+/* The slot of a key, or the empty one where it is to stand. */
+static uint32_t slot_of(struct key key, uint32_t hash)
+{
+    uint32_t at = hash & mask;
+    while (slots[at].index != NONE) {
+        const struct key *other = &entries[slots[at].index].key;
+        if (slots[at].hash == hash && other->high == key.high && other->low == key.low)
+            break;
+        at = (at + 1) & mask;
+    }
+    return at;
+}
+
+static void take_out(uint32_t index)
+{
+    uint32_t hole = slot_of(entries[index].key, entries[index].hash);
+    for (uint32_t at = (hole + 1) & mask; slots[at].index != NONE; at = (at + 1) & mask) {
+        if (((at - slots[at].hash) & mask) >= ((at - hole) & mask)) {
+            slots[hole] = slots[at];
+            hole = at;
+        }
+    }
+    slots[hole].index = NONE;
+}
+
+static void renew(uint32_t index, uint64_t time)
+{
+    if (time > greatest)
+        greatest = time;
+    entries[index].stamp = greatest;
+    unlink_entry(index);
+    link_last(index, indices);
+}
+
+static void expire(uint64_t time)
+{
+    for (;;) {
+        uint32_t oldest = entries[indices].next;
+        if (oldest == indices || entries[oldest].stamp >= time || time - entries[oldest].stamp <= lifetime)
+            return;
+        take_out(oldest);
+        unlink_entry(oldest);
+        link_last(oldest, indices + 1);
+    }
+}
+
+/* The index of a new entry, or NONE where there is no room. */
+static uint32_t create(struct key key, uint32_t hash, uint64_t time)
+{
+    uint32_t index = entries[indices + 1].next;
+    if (index == indices + 1)
+        return NONE;
+    slots[slot_of(key, hash)] = (struct slot){hash, index};
+    entries[index].key = key;
+    entries[index].hash = hash;
+    renew(index, time);
+    return index;
+}
+
+/* The two functions. What a packet asks of the tables is found before the mutex is taken. */
+
+enum { SKIP = -3, DROP = -2, FLOOD = -1 };
+
+struct question {
+    struct key source, target;
+    uint32_t source_hash, target_hash;
+    int is_handled;
+};
+
+struct answer {
+    const struct packet *packet;
+    int32_t action; /* a port, or one of the above */
+    uint32_t index;
+};
+
+static int is_bridge;
+
+static struct question question_of(const struct packet *packet)
+{
+    const uint8_t *frame = packet->record + RECORD;
+    uint32_t captured = little(packet->record + 8);
+    struct question found = {0};
+    if (captured < 42 || big_16(frame + 12) != 0x0800 || frame[14] >> 4 != 4 || (frame[14] & 15) < 5)
+        return found;
+    uint32_t at = 14u + 4u * (frame[14] & 15u);
+    uint32_t needed = frame[23] == 6 ? 20 : frame[23] == 17 ? 8 : 1u << 30;
+    if (big_16(frame + 20) & 0x3fff || at + needed > captured)
+        return found;
+    found.is_handled = 1;
+    if (is_bridge) {
+        found.target = (struct key){0, (uint64_t)big_16(frame) << 32 | big(frame + 2)};
+        found.source = (struct key){0, (uint64_t)big_16(frame + 6) << 32 | big(frame + 8)};
+    } else {
+        uint64_t there = big(frame + 26), back = big(frame + 30), from = big_16(frame + at), to = big_16(frame + at + 2);
+        found.source = packet->port % 2 ? (struct key){back << 32 | there, to << 16 | from}
+                                        : (struct key){there << 32 | back, from << 16 | to};
+    }
+    found.source_hash = hash_of(found.source);
+    found.target_hash = hash_of(found.target);
+    return found;
+}
+
+static struct answer bridged(const struct packet *packet, const struct question *asked)
+{
+    struct answer found = {packet, FLOOD, NONE};
+    uint32_t index = slots[slot_of(asked->source, asked->source_hash)].index;
+    if (index != NONE)
+        renew(index, packet->time);
+    else
+        index = found.index = create(asked->source, asked->source_hash, packet->time);
+    if (index != NONE)
+        entries[index].at = packet->port;
+    uint32_t target = slots[slot_of(asked->target, asked->target_hash)].index;
+    if (target != NONE)
+        found.action = (int32_t)entries[target].at;
+    return found;
+}
+
+static struct answer walled(const struct packet *packet, const struct question *asked)
+{
+    struct answer found = {packet, ports == 1 ? 0 : (int32_t)(packet->port ^ 1), NONE};
+    if (slots[slot_of(asked->source, asked->source_hash)].index != NONE)
+        return found;
+    if (packet->port % 2 == 0)
+        found.index = create(asked->source, asked->source_hash, packet->time);
+    if (found.index == NONE)
+        found.action = DROP;
+    return found;
+}
+
+static pthread_mutex_t mutex = PTHREAD_MUTEX_INITIALIZER;
+static struct answer *order;
+static size_t handled;
+static unsigned workers;
+
+static void handle(const struct packet *packet)
+{
+    struct question asked = question_of(packet);
+    pthread_mutex_lock(&mutex);
+    struct answer found = {packet, SKIP, NONE};
+    if (asked.is_handled) {
+        expire(packet->time);
+        found = is_bridge ? bridged(packet, &asked) : walled(packet, &asked);
+    }
+    order[handled++] = found;
+    pthread_mutex_unlock(&mutex);
+}
+
+/* A worker's packets in capture order. */
+static void *work(void *number)
+{
+    size_t at[PORTS] = {0};
+    for (;;) {
+        const struct packet *next = NULL;
+        for (unsigned port = (unsigned)(uintptr_t)number; port < ports; port += workers) {
+            const struct capture *from = &captures[port];
+            if (at[port] < from->count && (!next || from->packets[at[port]].time < next->time))
+                next = &from->packets[at[port]];
+        }
+        if (!next)
+            return NULL;
+        at[next->port]++;
+        handle(next);
+    }
+}
+
+/* What the packets and the tables leave in files. */
+
+struct output {
+    int file;
+    size_t used;
+    uint8_t bytes[2 * PIECE];
+};
+
+static struct output *output(const char *front, const char *end)
+{
+    char name[4096];
+    struct output *to = room(sizeof *to);
+    if (snprintf(name, sizeof name, "%s.%s", front, end) >= (int)sizeof name)
+        stop("a name is too long");
+    to->file = open(name, O_WRONLY | O_CREAT | O_TRUNC, 0666);
+    if (to->file < 0)
+        stop(name);
+    return to;
+}
+
+static void flush(struct output *to)
+{
+    for (size_t at = 0; at < to->used;) {
+        ssize_t count = write(to->file, to->bytes + at, to->used - at);
+        if (count < 0)
+            stop("a write failed");
+        at += (size_t)count;
+    }
+    to->used = 0;
+}
+
+static void put(struct output *to, const void *bytes, size_t count)
+{
+    memcpy(to->bytes + to->used, bytes, count);
+    to->used += count;
+    if (to->used >= PIECE)
+        flush(to);
+}
+
+static void put_number(struct output *to, const char *before, uint64_t number)
+{
+    char digits[20];
+    unsigned at = sizeof digits;
+    do {
+        digits[--at] = (char)('0' + number % 10);
+        number /= 10;
+    } while (number);
+    put(to, before, strlen(before));
+    put(to, digits + at, sizeof digits - at);
+}
+
+static void put_record(struct output *to, const struct packet *packet)
+{
+    uint32_t numbers[4] = {(uint32_t)(packet->time / 1000000000), (uint32_t)(packet->time % 1000000000),
+        little(packet->record + 8), little(packet->record + 12)};
+    put(to, numbers, RECORD);
+    put(to, packet->record + RECORD, numbers[2]);
+}
+
+static void put_line(struct output *to, const struct answer *answer)
+{
+    static const char *const words[] = {" skip", " drop", " flood"};
+    put_number(to, "", answer->packet->port);
+    put_number(to, " ", answer->packet->seq);
+    put_number(to, " ", workers > 1 ? answer->packet->port % workers : 0);
+    if (answer->action < 0)
+        put(to, words[answer->action - SKIP], strlen(words[answer->action - SKIP]));
+    else
+        put_number(to, " to:", (uint64_t)answer->action);
+    if (answer->index == NONE)
+        put(to, " -\n", 3);
+    else {
+        put_number(to, " ", answer->index);
+        put(to, "\n", 1);
+    }
+}
+
+static void put_state(struct output *to)
+{
+    put_number(to, is_bridge ? "chain macs greatest " : "chain flows greatest ", greatest);
+    uint8_t *is_free = room(indices + 2);
+    for (uint32_t index = entries[indices + 1].next; index != indices + 1; index = entries[index].next)
+        is_free[index] = 1;
+    for (uint32_t index = 0; index < indices; index++) {
+        const struct entry *entry = &entries[index];
+        if (is_free[index])
+            continue;
+        put_number(to, "\n", index);
+        put_number(to, " ", entry->stamp);
+        if (is_bridge) {
+            put_number(to, " m=", entry->key.low);
+            put_number(to, " at=", entry->at);
+            continue;
+        }
+        put_number(to, " a=", entry->key.high >> 32);
+        put_number(to, " b=", entry->key.high & UINT32_MAX);
+        put_number(to, " c=", entry->key.low >> 16);
+        put_number(to, " d=", entry->key.low & 0xffff);
+    }
+    put(to, "\n", 1);
+    flush(to);
+}
+
+static void write_all(const char *front)
+{
+    static const uint8_t header[HEADER] = {0x4d, 0x3c, 0xb2, 0xa1, 2, 0, 4, 0, 0, 0, 0, 0, 0, 0, 0, 0, 0, 0, 4, 0, 1};
+    struct output *to[PORTS];
+    for (unsigned port = 0; port < ports; port++) {
+        to[port] = output(front, (const char *[]){"0.pcap", "1.pcap", "2.pcap", "3.pcap"}[port]);
+        put(to[port], header, HEADER);
+    }
+    struct output *journal = output(front, "journal");
+    put_number(journal, workers > 1 ? "maestro journal 1 lock " : "maestro journal 1 one ", workers);
+    put(journal, "\n", 1);
+    for (size_t at = 0; at < handled; at++) {
+        const struct answer *answer = &order[at];
+        for (unsigned port = 0; port < ports; port++) {
+            if (answer->action == (int32_t)port || (answer->action == FLOOD && port != answer->packet->port))
+                put_record(to[port], answer->packet);
+        }
+        put_line(journal, answer);
+    }
+    for (unsigned port = 0; port < ports; port++)
+        flush(to[port]);
+    flush(journal);
+    put_state(output(front, "state"));
+}
+
+int main(int count, char **words)
+{
+    if (count < 7 || count > 6 + PORTS)
+        stop("OUT bridge|firewall WORKERS INDICES LIFETIME CAPTURE..");
+    is_bridge = strcmp(words[2], "bridge") == 0;
+    workers = (unsigned)strtoul(words[3], NULL, 10);
+    indices = (uint32_t)strtoul(words[4], NULL, 10);
+    lifetime = strtoull(words[5], NULL, 10);
+    ports = (unsigned)count - 6;
+    if (indices < 1 || indices > 65536 || workers < 1 || workers > 16)
+        stop("there are 1 to 65536 indices and 1 to 16 workers");
+    size_t all = 0;
+    for (unsigned port = 0; port < ports; port++) {
+        load(port, words[6 + port]);
+        all += captures[port].count;
+    }
+    order = room(all * sizeof *order);
+    make_tables();
+    pthread_t threads[16];
+    for (unsigned worker = 0; worker < workers; worker++) {
+        if (pthread_create(&threads[worker], NULL, work, (void *)(uintptr_t)worker))
+            stop("a thread can't be started");
+    }
+    for (unsigned worker = 0; worker < workers; worker++)
+        pthread_join(threads[worker], NULL);
+    write_all(words[1]);
+    printf("ran %zu %s %u\n", handled, workers > 1 ? "lock" : "one", workers);
+    return 0;
+}
