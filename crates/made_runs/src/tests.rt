@@ -105,11 +105,11 @@ fn two_workers_leave_the_same_outputs(rt: HostRuntime) -> Result<(), Fail> {
     let two = outcome_of(&rt, rt.alloc(), WIDE, asked, By::TwoApart, &[])?;
     assert_eq!(rt; one.end, End::Whole);
     assert_eq!(rt; two.end, End::Whole);
-    let mut sent = 0;
+    let mut sent: usize = 0;
     for port in 0..2 {
         assert!(rt; file(&one, port).len() > bytes_of(100), "port {port}");
         assert!(rt; file(&one, port) == file(&two, port), "port {port}");
-        sent += records_in(file(&two, port));
+        sent = sent.saturating_add(records_in(file(&two, port)));
     }
     let lines = format!(in rt.alloc();
         "packets 300\nport 0 150\nport 1 150\nmode shard 2\nsent {sent}\nentries flows 9\n"
