@@ -1,6 +1,6 @@
 -- What is printed.
 use Rattle.std.proofs.Common.{◌≡◌, ◌≢◌, ℕ, ◌<◌, List, [], length, take, drop, Option, Some, None, Err, refl, sym, subst, ◌∙◌, arith}
-use Rattle.std.proofs.lemmas.List.{append-nil, take-append-drop}
+use Rattle.std.proofs.lemmas.List.{append-nil, take-append-drop, length-take-le}
 use Rattle.nf_files.specs.Told.{Told}
 use Rattle.nf_files.specs.Pieces.{Gains}
 use Rattle.nf_files.specs.Writes.{Writes, WritesFront}
@@ -22,19 +22,13 @@ gains_nothing : (o : Option (List ℕ)) → Gains [] o o
 gains_nothing None = tt
 gains_nothing (Some bytes) = sym (append-nil bytes)
 
--- nothing was printed
-pub printed_none : (a b : Told) (g : ℕ) → b.given g ≡ a.given g → Printed a b g []
-printed_none a b g same = subst (λ o. Gains [] (a.given g) o) (sym same) (gains_nothing (a.given g))
-
 pub printed_front : (a b : Told) (g : ℕ) (piece : List ℕ) → WritesFront a b g piece → PrintedFront a b g piece
 printed_front a b g piece h = record {
   front = take h.count piece;
   is_front = record { later = drop h.count piece; all = take-append-drop h.count piece };
+  part = subst (λ (n : ℕ). n < length piece) (sym (length-take-le h.count piece (omega (arith, h.part)))) h.part;
   printed = h.wrote.gained;
 }
-
-pub printed_front_none : (a b : Told) (g : ℕ) (piece : List ℕ) → b.given g ≡ a.given g → PrintedFront a b g piece
-printed_front_none a b g piece same = record { front = []; is_front = record { later = piece; all = refl }; printed = printed_none a b g same }
 
 -- printing changes no name
 pub contents_printed : (a b : Told) (g : ℕ) (piece n : List ℕ) → a.name g ≡ None → Writes a b g piece → b.content n ≡ a.content n

@@ -1,5 +1,5 @@
 -- What was printed on a standard output.
-use Rattle.std.specs.Prelude.{◌≡◌, ◌≢◌, ◌⊎◌, ℕ, List, Result, Ok, Err}
+use Rattle.std.specs.Prelude.{◌≡◌, ◌≢◌, ◌⊎◌, ◌<◌, ℕ, List, length, Result, Ok, Err}
 use Rattle.nf_files.specs.Told.{Told}
 use Rattle.nf_files.specs.Pieces.{Gains}
 use Rattle.nf_files.specs.Writes.{Writes, WritesFront}
@@ -17,10 +17,11 @@ use Rattle.call_base.specs.Texts.{error_line, said_of}
 abbrev pub Printed : Told → Told → ℕ → List ℕ → Type 0
 Printed before after file bytes = Gains bytes (before.given file) (after.given file)
 
--- a front of these bytes was put there
+-- a front of these bytes was put there, and not all
 pub record PrintedFront (before after : Told) (file : ℕ) (bytes : List ℕ) : Type 0 where
   pub front : List ℕ
   pub is_front : IsFrontOf bytes front
+  pub part : length front < length bytes
   pub printed : Printed before after file front
 
 -- a piece was given whole, or a front of it where the call was stopped

@@ -1,5 +1,5 @@
 -- Writing a file.
-use Rattle.std.specs.Prelude.{◌≡◌, ◌≢◌, ℕ, ◌≤◌, List, length, take, Some, Result, Ok, Err}
+use Rattle.std.specs.Prelude.{◌≡◌, ◌≢◌, ℕ, ◌<◌, List, length, take, Some, Result, Ok, Err}
 use Rattle.nf_files.specs.Told.{Told, IsCurrent}
 use Rattle.nf_files.specs.Pieces.{Gains}
 use Rattle.nf_files.specs.declared.fault.FilesFault.{FilesFault}
@@ -15,10 +15,10 @@ pub record Writes (old new : Told) (file : ℕ) (piece : List ℕ) : Type 0 wher
   pub latest_same : (n : List ℕ) → new.latest n ≡ old.latest n
   pub next_same : new.next ≡ old.next
 
--- the first bytes of a piece were put there, perhaps none, perhaps all
+-- the first bytes of a piece were put there, perhaps none, never all
 pub record WritesFront (old new : Told) (file : ℕ) (piece : List ℕ) : Type 0 where
   pub count : ℕ
-  pub within : count ≤ length piece
+  pub part : count < length piece
   pub wrote : Writes old new file (take count piece)
 
 -- the whole piece where the answer is `Ok`, and a front of it where it is an `Err`

@@ -43,7 +43,7 @@ pub fn read_whole<F: Files>(alloc: Global, files: &mut F, file: u32) -> Result<V
 
 /// Writes a whole piece to a file.
 ///
-/// After an `Err` the file was given a front of the piece.
+/// After an `Err` the file was given a front of the piece, and not all of it.
 pub fn write_whole<F: Files>(files: &mut F, file: u32, piece: &[u8]) -> Result<(), FilesFault>
     requires created { (file < 2) ⊎ F.is_written files.old file }
     ensures wrote { WritesAll (F.told files.old) (F.told files.new) file piece.now result }

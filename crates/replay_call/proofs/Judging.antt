@@ -233,6 +233,7 @@ printed_half before a b job state text stop is h same p = record {
     printed = subst (λ (t : List ℕ). PrintedFront before.told b.told 0 t) same (record {
       front = p.stdout.front;
       is_front = p.stdout.is_front;
+      part = p.stdout.part;
       printed = subst (λ (o : Option (List ℕ)). Gains p.stdout.front o (b.told.given 0)) h.stdout p.stdout.printed;
     });
   });
