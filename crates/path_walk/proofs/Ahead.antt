@@ -1,7 +1,7 @@
 -- How paths go on that have come to a statement.
-use Rattle.std.proofs.Common.{◌≡◌, ◌<◌, ◌≤◌, arith, ℕ, zero, suc, Bool, true, false, not, ◌&&◌, List, [], ◌∷◌, ◌++◌, length, map, Option, Some, None, if◌then◌else◌, refl, ap, ap₂, sym, ◌∙◌, subst}
-use Rattle.std.specs.List.{flat_map, filter_map, cons_option}
-use Rattle.std.proofs.lemmas.List.{append-nil, append_assoc, length-append}
+use Rattle.std.proofs.Common.{◌≡◌, ◌<◌, arith, ℕ, zero, suc, Bool, true, false, not, List, [], ◌∷◌, ◌++◌, length, Option, Some, None, if◌then◌else◌, refl, ap, ap₂, sym, ◌∙◌}
+use Rattle.std.specs.List.{flat_map, cons_option}
+use Rattle.std.proofs.lemmas.List.{append-nil}
 use Rattle.std.proofs.lemmas.List.Concat.{flat_map-append}
 use Rattle.std.proofs.lemmas.List.Elements.{filter_map-append}
 use Rattle.nf_base.specs.Paths.{Branch, Hits, Misses, Makes, IsTaken, IsFull}
@@ -11,11 +11,10 @@ use Rattle.path_walk.specs.Feasible.{differ, equals_of}
 use Rattle.path_walk.specs.Trees.{Tree, Free, Tested, Made, tree_map}
 use Rattle.path_walk.specs.Numbering.{text_at, AreApart}
 use Rattle.path_walk.specs.Known.{Marks, mark_at, excludes, told_mark}
-use Rattle.path_walk.specs.Walks.{ahead, one_way, tested, leaves}
-use Rattle.path_walk.specs.Alive.{into_first, into_second, into_third, behind_first, those, is_any}
+use Rattle.path_walk.specs.Walks.{ahead, tested}
+use Rattle.path_walk.specs.Alive.{into_first, into_second, into_third, behind_first, those}
 use Rattle.path_walk.specs.Ahead.{number_in, ahead_of, all_ahead, one_if, is_way, behind_way, behind_test}
 use Rattle.path_walk.proofs.Texts.{text_same, same_from}
-use Rattle.path_walk.proofs.Walking.{some_leaves}
 
 abbrev Into : Type 0
 Into = Branch → List Branch → Option (List Branch)

@@ -1,21 +1,18 @@
 -- Texts among some, and the tests of blocks and trees that have them.
-use Rattle.std.proofs.Common.{◌≡◌, ◌<◌, ◌≤◌, arith, ℕ, Bool, true, false, ◌&&◌, List, [], ◌∷◌, ◌++◌, length, map, Option, Some, None, if◌then◌else◌, refl, ap, ap₂, sym, ◌∙◌, subst}
-use Rattle.std.proofs.lemmas.List.{append-nil, append_assoc, length-append, get_or_append_left}
+use Rattle.std.proofs.Common.{◌≡◌, ◌<◌, arith, ℕ, Bool, true, false, ◌&&◌, List, [], ◌∷◌, ◌++◌, length, Option, Some, None, if◌then◌else◌, refl, ap, ap₂, sym, ◌∙◌, subst}
+use Rattle.std.proofs.lemmas.List.{append-nil, length-append, get_or_append_left}
 use Rattle.nf_base.specs.declared.expr.Comparison.{Comparison}
 use Rattle.nf_base.specs.Text.{Expression, Ending, FallsOff, Flood, Discard, Forward, Question, Get, Find, Test, Creation, Block, End, Do, Ask, Make}
-use Rattle.nf_base.specs.Statements.{Statement, Ends, Does, Asks, Makes, statements}
-use Rattle.nf_base.specs.Paths.{Branch}
+use Rattle.nf_base.specs.Statements.{Statement, statements}
 use Rattle.nf_laws.specs.Paths.{of_packet}
 use Rattle.path_walk.specs.declared.line.Line.{Line}
 use Rattle.path_walk.specs.declared.line.Line.TheVariants as line
 use Rattle.path_walk.specs.Tests.{TestText, is_exchanged}
-use Rattle.path_walk.specs.Feasible.{feasible_paths, branches_along}
 use Rattle.path_walk.specs.Listed.{block_branches}
 use Rattle.path_walk.specs.Seen.{line_map}
 use Rattle.path_walk.specs.Trees.{Tree, Leaf, Free, Tested, Made, text_of, ending_tree, asking, unfolded, tree_map}
-use Rattle.path_walk.specs.Layout.{question_line}
 use Rattle.path_walk.specs.Numbering.{no_text, text_at, AreApart, HasNumber, IsLineNumbered}
-use Rattle.path_walk.specs.Known.{Marks, nothing_known}
+use Rattle.path_walk.specs.Known.{nothing_known}
 use Rattle.path_walk.specs.Walks.{leaves}
 use Rattle.path_walk.specs.Alive.{next_of}
 use Rattle.path_walk.specs.Ahead.{number_in, all_ahead, HasText, IsIn, IsAdded, test_in, text_asked, text_in, AreIn, rest_statements}

@@ -1,5 +1,5 @@
 -- Paths that come to a test go on as those that it was told to, either way.
-use Rattle.std.proofs.Common.{◌≡◌, ◌⊎◌, ◌<◌, ◌≤◌, arith, ℕ, Bool, true, false, not, List, [], ◌∷◌, ◌++◌, length, map, Contains, slice_set, Option, Some, None, if◌then◌else◌, refl, ap, sym, ◌∙◌, subst, inl, inr}
+use Rattle.std.proofs.Common.{◌≡◌, ◌⊎◌, ◌<◌, ◌≤◌, arith, ℕ, Bool, true, false, List, [], ◌∷◌, ◌++◌, length, Contains, slice_set, Option, Some, None, if◌then◌else◌, refl, ap, sym, ◌∙◌, subst, inl, inr}
 use Rattle.std.specs.List.{flat_map}
 use Rattle.std.proofs.lemmas.Bool.{cases_eq, cases_lt}
 use Rattle.std.proofs.lemmas.List.{length-set, get_or-set_same, get_or-set_other, set_past}
@@ -11,13 +11,13 @@ use Rattle.path_walk.specs.Tests.{TestText}
 use Rattle.path_walk.specs.Feasible.{differ}
 use Rattle.path_walk.specs.Trees.{Tree, Leaf, Free, Tested, Made, tree_map}
 use Rattle.path_walk.specs.Known.{Marks, mark_at, excludes, with_number, told_mark}
-use Rattle.path_walk.specs.Walks.{ahead, one_way, leaves}
+use Rattle.path_walk.specs.Walks.{ahead, leaves}
 use Rattle.path_walk.specs.Alike.{HaveSame}
 use Rattle.path_walk.specs.Ahead.{number_in, ahead_of, all_ahead, one_if, is_way, behind_way, behind_test}
 use Rattle.path_walk.proofs.Marking.{marks_of}
 use Rattle.path_walk.proofs.Numbered.{bars, bars_is, bars_more, bars_free, told_swap}
 use Rattle.path_walk.proofs.Ahead.{asked_of}
-use Rattle.path_walk.proofs.Untold.{from_ahead, to_ahead, Within, May, In, Leaves, went, goes, text_is, Go, go, not_so, told_within}
+use Rattle.path_walk.proofs.Untold.{from_ahead, to_ahead, May, In, went, goes, text_is, Go, go, not_so, told_within}
 
 -- as told that a test holds, where it may, or as told that it fails
 abbrev Either : List TestText → Tree ℕ → ℕ → Marks → List Branch → Type 0

@@ -1,9 +1,8 @@
 -- Questions whose blocks do nothing: what they say stays untold.
-use Rattle.std.proofs.Common.{◌≡◌, ◌<◌, Bool, true, false, ◌&&◌, if◌then◌else◌, List, [], ◌∷◌, ◌++◌, length, Contains, refl, ap, ap₂, sym, ◌∙◌, subst, inl, inr}
+use Rattle.std.proofs.Common.{◌≡◌, ◌<◌, Bool, true, false, ◌&&◌, List, [], ◌∷◌, ◌++◌, length, refl, ap, ap₂, sym, ◌∙◌, subst, inl, inr}
 use Rattle.std.specs.List.{flat_map}
 use Rattle.std.proofs.lemmas.List.Elements.{Contains-append_left, Contains-append_cases}
-use Rattle.nf_base.specs.declared.expr.Comparison.{Comparison}
-use Rattle.nf_base.specs.Text.{Expression, Question, Get, Find, Test, FallsOff, Block, End, Ask}
+use Rattle.nf_base.specs.Text.{Question, Get, Find, Test, FallsOff, Block, End, Ask}
 use Rattle.nf_base.specs.Paths.{Branch}
 use Rattle.nf_laws.specs.Paths.{of_packet}
 use Rattle.path_walk.specs.declared.ways.Asked.{Asked}

@@ -1,5 +1,5 @@
 -- Numbers that fields are known to be, in whatever order they were told.
-use Rattle.std.proofs.Common.{◌≡◌, ◌≢◌, ◌<◌, ◌≤◌, arith, ℕ, zero, suc, Bool, true, false, not, ◌==◌, eqb-true, eq-eqb, List, [], ◌∷◌, length, get_or, slice_set, Option, Some, None, if◌then◌else◌, refl, ap, ap₂, sym, ◌∙◌, subst, inl, inr}
+use Rattle.std.proofs.Common.{◌≡◌, ◌<◌, ◌≤◌, arith, ℕ, zero, suc, Bool, true, false, not, ◌==◌, eqb-true, eq-eqb, List, [], ◌∷◌, length, get_or, slice_set, Option, Some, None, if◌then◌else◌, refl, ap, ap₂, sym, ◌∙◌, inl, inr}
 use Rattle.std.proofs.lemmas.Bool.{cases_eq, cases_lt}
 use Rattle.std.proofs.lemmas.List.{length-set, get_or-set_same, get_or-set_other, get_or_past, set-set, set_past}
 use Rattle.path_walk.specs.declared.test.FieldIs.{FieldIs}

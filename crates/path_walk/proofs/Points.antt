@@ -1,19 +1,16 @@
 -- How many paths are left, as points wait and go on.
-use Rattle.std.proofs.Common.{◌≡◌, ◌<◌, ◌≤◌, ◌+◌, arith, ℕ, Bool, true, false, not, List, [], ◌∷◌, ◌++◌, length, slice_get, Option, Some, None, is_some, if◌then◌else◌, refl, ap, ap₂, sym, ◌∙◌, subst}
+use Rattle.std.proofs.Common.{◌≡◌, ◌<◌, ◌≤◌, ◌+◌, arith, ℕ, Bool, true, false, not, List, [], ◌∷◌, ◌++◌, length, slice_get, Some, None, refl, ap, ap₂, sym, ◌∙◌, subst}
 use Rattle.std.proofs.lemmas.List.{length-map, length-append, get_or_past}
-use Rattle.nf_base.specs.Paths.{Branch, Hits, Misses, Makes, IsTaken, IsFull}
+use Rattle.nf_base.specs.Paths.{Branch, Hits, Misses}
 use Rattle.path_walk.specs.declared.counting.Point.{Point}
 use Rattle.path_walk.specs.declared.line.Line.{Line}
-use Rattle.path_walk.specs.declared.line.Line.TheVariants as line
 use Rattle.path_walk.specs.declared.walk.NumberedTest.{NumberedTest}
 use Rattle.path_walk.specs.Tests.{TestText}
-use Rattle.path_walk.specs.Feasible.{differ, equals_of}
 use Rattle.path_walk.specs.Trees.{Tree, Leaf}
 use Rattle.path_walk.specs.Lines.{child, grown, trees, IsLaid}
-use Rattle.path_walk.specs.Known.{Marks, known_seen, mark_at, excludes, told_mark}
-use Rattle.path_walk.specs.Numbering.{text_at}
-use Rattle.path_walk.specs.Walks.{ahead, one_way, tested, leaves, test_leaves}
-use Rattle.path_walk.specs.Counts.{count_at, count_of, count_waiting, count_left, PointWaits, TestCounts, LineCounts, CountSteps, CountGoesOn, CountEnds, CountAdvances}
+use Rattle.path_walk.specs.Known.{Marks, known_seen, excludes, told_mark}
+use Rattle.path_walk.specs.Walks.{ahead, tested, leaves, test_leaves}
+use Rattle.path_walk.specs.Counts.{count_at, count_of, count_waiting, count_left, PointWaits, TestCounts, CountSteps, CountGoesOn, CountEnds, CountAdvances}
 use Rattle.path_walk.proofs.Lines.{length_trees, tree_is}
 use Rattle.path_walk.proofs.Walking.{some_leaves}
 

@@ -1,5 +1,5 @@
 -- What a test says may stay untold: paths go on as those do of which it was told.
-use Rattle.std.proofs.Common.{◌≡◌, ◌⊎◌, ◌<◌, ◌≤◌, arith, ℕ, Bool, true, false, not, List, [], ◌∷◌, ◌++◌, length, map, Contains, slice_set, Option, Some, None, if◌then◌else◌, refl, ap, sym, ◌∙◌, subst, inl, inr}
+use Rattle.std.proofs.Common.{◌≡◌, ◌⊎◌, ◌<◌, ◌≤◌, arith, ℕ, Bool, true, false, not, List, [], ◌∷◌, ◌++◌, length, Contains, slice_set, Option, Some, None, if◌then◌else◌, refl, ap, sym, ◌∙◌, subst, inl, inr}
 use Rattle.std.proofs.lemmas.Bool.{cases_eq, cases_lt}
 use Rattle.std.proofs.lemmas.List.{length-set, get_or-set_same, get_or-set_other, set_past}
 use Rattle.std.proofs.lemmas.List.Elements.{Contains-append_left, Contains-append_right, Contains-append_cases}
@@ -13,7 +13,7 @@ use Rattle.path_walk.specs.Numbering.{text_at}
 use Rattle.path_walk.specs.Known.{Marks, mark_at, excludes, with_number, told_mark}
 use Rattle.path_walk.specs.Walks.{ahead, one_way, tested, leaves}
 use Rattle.path_walk.proofs.Marking.{marks_of}
-use Rattle.path_walk.proofs.Numbered.{bars, bars_is, set_swap, bars_more, bars_free, bars_itself, number_twice, number_swap, told_swap}
+use Rattle.path_walk.proofs.Numbered.{bars, bars_is, set_swap, bars_more, bars_free, bars_itself, number_twice, number_swap}
 
 -- paths behind a branch
 pub from_ahead : (b : Branch) (ps : List (List Branch)) (x : List Branch) → Contains (ahead b ps) x → (y : List Branch) × Contains ps y × (b ∷ y ≡ x)
