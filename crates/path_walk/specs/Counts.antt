@@ -1,5 +1,5 @@
 -- How many paths a walk along lines has still to count.
-use Rattle.std.specs.Prelude.{◌≡◌, ◌<◌, ◌+◌, ℕ, Bool, true, false, List, [], ◌∷◌, map, length, slice_get, Option, Some}
+use Rattle.std.specs.Prelude.{◌≡◌, ◌<◌, ◌+◌, ℕ, suc, Bool, true, false, List, [], ◌∷◌, map, length, slice_get, get_or, Option, Some}
 use Rattle.path_walk.specs.declared.line.Line.{Line}
 use Rattle.path_walk.specs.declared.line.Line.TheVariants as lines
 use Rattle.path_walk.specs.declared.counting.Point.{Point}
@@ -97,3 +97,7 @@ IsPlain texts (lines.Make made taken full) = ⊥
 -- and so are the first so many lines
 pub record ArePlain (texts : ℕ) (ls : List (Line ℕ)) (count : ℕ) : Type 0 where
   pub at : (i : ℕ) (l : Line ℕ) → i < count → slice_get ls i ≡ Some l → IsPlain texts l
+
+-- for each of some first lines a count of texts: it and those before it are plain by that count
+pub record AreAhead (ls : List (Line ℕ)) (ahead : List ℕ) : Type 0 where
+  pub at : (i : ℕ) → i < length ahead → ArePlain (get_or ahead i 0) ls (suc i)

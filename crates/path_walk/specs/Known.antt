@@ -1,11 +1,15 @@
 -- What the tests of a path so far say, by the numbers of their texts.
-use Rattle.std.specs.Prelude.{◌≡◌, ◌<◌, ℕ, Bool, true, false, ◌==◌, not, is_some, List, map, get_or, slice_set, replicate, Option, Some, None, if◌then◌else◌}
+use Rattle.std.specs.Prelude.{◌≡◌, ◌<◌, ℕ, Bool, true, false, ◌==◌, ◌||◌, not, is_some, List, map, get_or, slice_set, replicate, Option, Some, None, if◌then◌else◌}
 use Rattle.nf_base.specs.declared.packet.Field.{Field}
 use Rattle.path_walk.specs.declared.known.Known.{Known}
 use Rattle.path_walk.specs.declared.known.Mark.{Mark}
 use Rattle.path_walk.specs.declared.known.Mark.TheVariants.{Unknown, Fails, Holds}
 use Rattle.path_walk.specs.declared.test.FieldIs.{FieldIs}
-use Rattle.path_walk.specs.Tests.{field_number}
+use Rattle.path_walk.specs.declared.numbering.Numbered.{Numbered}
+use Rattle.path_walk.specs.Tests.{TestText, field_number}
+use Rattle.path_walk.specs.Feasible.{equals_of}
+use Rattle.path_walk.specs.Seen.{text_seen}
+use Rattle.path_walk.specs.Numbering.{text_at}
 
 -- how each text went, and the number that each field is known to be
 pub record Marks : Type 0 where
@@ -51,6 +55,14 @@ told_mark m n equals holds = record {
   numbers = if holds then with_number equals m.numbers else m.numbers;
 }
 
--- the first so many texts each went some way
-pub record AreMarked (m : Marks) (count : ℕ) : Type 0 where
-  pub each : (n : ℕ) → n < count → is_some (mark_at m n) ≡ true
+-- beside the texts stands what each says where it is `field == number`
+abbrev pub HasEquals : Numbered → Type 0
+HasEquals n = n.equals.items ≡ map equals_of (map text_seen n.texts.items)
+
+-- whether a text can go one way alone: it went so, or its field is known to be another number
+abbrev pub is_told : List TestText → Marks → ℕ → Bool
+is_told texts m n = is_some (mark_at m n) || excludes (equals_of (text_at texts n)) m
+
+-- and so can the first so many
+pub record AreTold (texts : List TestText) (m : Marks) (count : ℕ) : Type 0 where
+  pub each : (n : ℕ) → n < count → is_told texts m n ≡ true

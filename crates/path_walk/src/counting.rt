@@ -1,11 +1,11 @@
 //! How many paths begin at a line: a walk that keeps what its tests say, and lists nothing.
-ghost use Rattle.std.specs.Prelude.{◌≡◌, ◌<◌, ◌≤◌, ◌+◌, IfOk, OnOk, IfErr, map, None, List, true, false, vec_len, length};
+ghost use Rattle.std.specs.Prelude.{◌≡◌, ◌<◌, ◌≤◌, ◌+◌, IfOk, OnOk, IfErr, IfSome, map, None, List, true, false, vec_len, length};
 ghost use Rattle.path_walk.specs.Seen.{text_seen};
-ghost use Rattle.path_walk.specs.Known.{nothing_known, known_seen, excludes};
+ghost use Rattle.path_walk.specs.Known.{nothing_known, known_seen, excludes, HasEquals, is_told, AreTold};
 ghost use Rattle.path_walk.specs.Tests.{TestText};
 ghost use Rattle.path_walk.specs.Lines.{IsLaid};
 ghost use Rattle.path_walk.specs.Walks.{one_way, paths_from};
-ghost use Rattle.path_walk.specs.Counts.{PointWaits, TestCounts, LineCounts, CountSteps, CountAdvancesAlong, count_along, count_left_along, count_waiting_along, IsPlain, ArePlain};
+ghost use Rattle.path_walk.specs.Counts.{PointWaits, TestCounts, LineCounts, CountSteps, CountAdvancesAlong, count_along, count_left_along, count_waiting_along, IsPlain, AreAhead};
 ghost use Rattle.path_walk.specs.Listed.{IsCause};
 ghost use Rattle.path_walk.specs.declared.line.Line.TheVariants as lines;
 ghost use Rattle.path_walk.specs.declared.fault.WalkFault.TheVariants.{TooManyPaths};
@@ -14,7 +14,6 @@ use crate::fault::WalkFault;
 use crate::known::Known;
 use crate::line::Line;
 use crate::numbering::Numbered;
-use crate::test::{Text, equals_at};
 use crate::walk::{MOST, NumberedTest};
 use std::alloc::{AllocError, Global};
 
@@ -116,11 +115,12 @@ fn untold(
 fn step(
     alloc: Global,
     line: &Line<usize>,
-    texts: &[Text<'_>],
+    numbered: &Numbered<'_>,
     point: &mut Point,
     waiting: &mut Vec<Point>,
 ) -> Result<bool, AllocError>
-    ensures { IfOk result (λ goes. CountSteps goes (map text_seen texts.now) line.now point.old waiting.old.items point.new waiting.new.items) }
+    requires { HasEquals numbered.now }
+    ensures { IfOk result (λ goes. CountSteps goes (map text_seen numbered.now.texts.items) line.now point.old waiting.old.items point.new waiting.new.items) }
 {
     match line {
         Line::Stop => return Ok(false),
@@ -140,42 +140,75 @@ fn step(
                 point.at = way(*exchanged, holds, *hit, *miss);
                 return Ok(true);
             }
-            let numbered = NumberedTest {
+            let test = NumberedTest {
                 number: *test,
-                equals: equals_at(texts, *test),
+                equals: numbered.equals(*test),
                 exchanged: *exchanged,
                 hit: *hit,
                 miss: *miss,
             };
-            untold(alloc, numbered, point, waiting)?
+            untold(alloc, test, point, waiting)?
         }
         Line::Make { made, taken, full } => make(alloc, *made, *taken, *full, point, waiting)?,
     }
     Ok(true)
 }
 
-/// Whether a line is an end, or a test that has one of so many texts.
-fn is_plain(line: &Line<usize>, texts: usize) -> bool
-    ensures { result ≡ true → IsPlain texts line.now }
+/// How many texts, where a line is an end or a test that has one of them: at least so many.
+fn texts_with(line: &Line<usize>, texts: usize) -> Option<usize>
+    ensures plain { IfSome result (λ count. IsPlain count line.now) }
+    ensures least { IfSome result (λ count. texts ≤ count) }
 {
     match line {
-        Line::Stop => true,
-        Line::Free { .. } => false,
-        Line::Test { test, .. } => *test < texts,
-        Line::Make { .. } => false,
+        Line::Stop => Some(texts),
+        Line::Free { .. } => None,
+        Line::Test { test, .. } => {
+            if *test < texts {
+                Some(texts)
+            } else {
+                test.checked_add(1)
+            }
+        }
+        Line::Make { .. } => None,
     }
 }
 
-/// How many lines, from the first on, are ends and tests of the packet alone.
-fn plain_lines(numbered: &Numbered<'_>) -> usize
-    ensures { ArePlain (length numbered.now.texts.items) numbered.now.lines.items result }
+/// Of the first lines, as long as they are ends and tests of the packet alone, how many texts, from
+/// the first on, stand there and ahead. Texts are numbered from the block's end on.
+fn texts_ahead(alloc: Global, numbered: &Numbered<'_>) -> Result<Vec<usize>, AllocError>
+    ensures { IfOk result (λ ahead. AreAhead numbered.now.lines.items ahead.items) }
 {
-    for (i, line) in numbered.lines.as_slice().iter().enumerate() {
-        if !is_plain(line, numbered.texts.len()) {
-            return i;
+    let mut ahead = Vec::new(alloc);
+    let mut texts = 0;
+    for line in numbered.lines.as_slice() {
+        let Some(count) = texts_with(line, texts) else {
+            return Ok(ahead);
+        };
+        ahead.push(count)?;
+        texts = count;
+    }
+    Ok(ahead)
+}
+
+/// Whether a text can go one way alone.
+fn is_told(numbered: &Numbered<'_>, known: &Known, number: usize) -> bool
+    requires { HasEquals numbered.now }
+    ensures { result ≡ is_told (map text_seen numbered.now.texts.items) (known_seen known.now) number }
+{
+    known.is_marked(number) || known.excludes(numbered.equals(number))
+}
+
+/// Whether each of the first so many texts can go one way alone.
+fn are_told(numbered: &Numbered<'_>, known: &Known, count: usize) -> bool
+    requires { HasEquals numbered.now }
+    ensures { result ≡ true → AreTold (map text_seen numbered.now.texts.items) (known_seen known.now) count }
+{
+    for number in 0..count {
+        if !is_told(numbered, known, number) {
+            return false;
         }
     }
-    numbered.lines.len()
+    true
 }
 
 /// One step of a path: `false` where it ends.
@@ -185,50 +218,46 @@ fn advance(
     point: &mut Point,
     waiting: &mut Vec<Point>,
 ) -> Result<bool, AllocError>
-    requires { IsLaid numbered.now.lines.items }
+    requires laid { IsLaid numbered.now.lines.items }
+    requires equals { HasEquals numbered.now }
     ensures { IfOk result (CountAdvancesAlong numbered.now point.old waiting.old.items point.new waiting.new.items) }
 {
     if point.at < numbered.lines.len() {
-        step(
-            alloc,
-            &numbered.lines[point.at],
-            numbered.texts.as_slice(),
-            point,
-            waiting,
-        )
+        step(alloc, &numbered.lines[point.at], numbered, point, waiting)
     } else {
         Ok(false)
     }
 }
 
-/// Whether a point comes to tests alone, each of which goes as its text went.
-fn is_settled(numbered: &Numbered<'_>, plain: usize, point: &Point) -> bool
+/// Whether a point comes to tests alone, each of which can go one way alone.
+fn is_settled(numbered: &Numbered<'_>, ahead: &[usize], point: &Point) -> bool
     requires laid { IsLaid numbered.now.lines.items }
-    requires plain { ArePlain (length numbered.now.texts.items) numbered.now.lines.items plain }
+    requires equals { HasEquals numbered.now }
+    requires ahead { AreAhead numbered.now.lines.items ahead.now }
     ensures { result ≡ true → count_along numbered.now point.now ≡ 1 }
 {
-    point.at < plain && point.known.are_marked(numbered.texts.len())
+    point.at < ahead.len() && are_told(numbered, &point.known, ahead[point.at])
 }
 
-/// Follows a path until it has one way left, while fewer than `room` others wait. The first `plain`
-/// lines are ends and tests of the packet alone.
+/// Follows a path until it has one way left, while fewer than `room` others wait.
 fn follow(
     alloc: Global,
     numbered: &Numbered<'_>,
-    plain: usize,
+    ahead: &[usize],
     first: Point,
     waiting: &mut Vec<Point>,
     room: usize,
 ) -> Result<(), WalkFault>
     requires laid { IsLaid numbered.now.lines.items }
-    requires plain { ArePlain (length numbered.now.texts.items) numbered.now.lines.items plain }
+    requires equals { HasEquals numbered.now }
+    requires ahead { AreAhead numbered.now.lines.items ahead.now }
     requires room { vec_len waiting.old < room }
     ensures left { OnOk result (count_left_along numbered.now first waiting.old.items ≡ 1 + count_waiting_along numbered.now waiting.new.items) }
     ensures within { OnOk result (vec_len waiting.new < room) }
     ensures many { IfErr result (λ fault. fault ≡ TooManyPaths → room < count_left_along numbered.now first waiting.old.items) }
 {
     let mut point = first;
-    if is_settled(numbered, plain, &point) {
+    if is_settled(numbered, ahead, &point) {
         return Ok(());
     }
     'steps: loop {
@@ -241,7 +270,7 @@ fn follow(
             return Err(WalkFault::TooManyPaths);
         }
         // What a path knows is looked at where it branches, not at each of its tests.
-        if waiting.len() > others && is_settled(numbered, plain, &point) {
+        if waiting.len() > others && is_settled(numbered, ahead, &point) {
             return Ok(());
         }
     }
@@ -249,18 +278,26 @@ fn follow(
 
 /// How many paths begin at a line.
 pub fn counted(alloc: Global, numbered: &Numbered<'_>, at: usize) -> Result<u32, WalkFault>
-    requires { IsLaid numbered.now.lines.items }
+    requires laid { IsLaid numbered.now.lines.items }
+    requires equals { HasEquals numbered.now }
     ensures all { IfOk result (λ n. n ≡ length (paths_from numbered.now at)) }
     ensures most { IfOk result (λ n. n ≤ 4096) }
     ensures many { IfErr result (IsCause (paths_from numbered.now at)) }
 {
-    let plain = plain_lines(numbered);
+    let ahead = texts_ahead(alloc, numbered)?;
     let mut count = 0;
     let mut waiting = Vec::new(alloc);
     let known = Known::new(alloc, numbered.texts.len())?;
     waiting.push(Point { at, known })?;
     while let Some(point) = waiting.pop() {
-        follow(alloc, numbered, plain, point, &mut waiting, MOST - count)?;
+        follow(
+            alloc,
+            numbered,
+            ahead.as_slice(),
+            point,
+            &mut waiting,
+            MOST - count,
+        )?;
         count += 1;
     }
     Ok(count as u32)

@@ -1,7 +1,7 @@
 //! What the tests of a path so far say.
-ghost use Rattle.std.specs.Prelude.{◌≡◌, IfOk, None, Some, true, is_some, map, slice_set, get_or, replicate};
+ghost use Rattle.std.specs.Prelude.{◌≡◌, IfOk, None, Some, is_some, map, slice_set, get_or, replicate};
 ghost use Rattle.path_walk.specs.declared.known.Mark.TheVariants.{Unknown};
-ghost use Rattle.path_walk.specs.Known.{mark_seen, nothing_known, known_seen, mark_at, with_number, excludes, told_mark, AreMarked};
+ghost use Rattle.path_walk.specs.Known.{mark_seen, nothing_known, known_seen, mark_at, with_number, excludes, told_mark};
 
 use crate::test::{FieldIs, Sign, Text};
 use crate::token::number_of_field;
@@ -118,18 +118,6 @@ impl Known {
         ensures { result ≡ is_some (mark_at (known_seen self.now) number) }
     {
         self.mark(number).is_some()
-    }
-
-    /// Whether each of the first so many texts went some way.
-    pub fn are_marked(&self, count: usize) -> bool
-        ensures { result ≡ true → AreMarked (known_seen self.now) count }
-    {
-        for number in 0..count {
-            if !self.is_marked(number) {
-                return false;
-            }
-        }
-        true
     }
 
     /// Whether a field is known to be another number.

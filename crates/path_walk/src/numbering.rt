@@ -5,10 +5,12 @@ ghost use Rattle.std.specs.Ordering.{nat_cmp};
 ghost use Rattle.std.specs.Cmp.Lexicographic.{slice_cmp};
 ghost use Rattle.path_walk.specs.Tests.{test_tokens};
 ghost use Rattle.path_walk.specs.Seen.{text_seen, line_map, lines_seen};
-ghost use Rattle.path_walk.specs.Numbering.{texts_seen, FindsAll, IsNumber, IsLineNumbered, AreNumbered, AreApart};
+ghost use Rattle.path_walk.specs.Numbering.{text_at, texts_seen, FindsAll, IsNumber, IsLineNumbered, AreNumbered, AreApart};
+ghost use Rattle.path_walk.specs.Feasible.{equals_of};
+ghost use Rattle.path_walk.specs.Known.{HasEquals};
 
 use crate::line::Line;
-use crate::test::Text;
+use crate::test::{FieldIs, Text, equals};
 use crate::token::tokens_of;
 use std::alloc::{AllocError, Global};
 use std::collections::BTreeMap;
@@ -104,11 +106,38 @@ pub fn numbered_line<'a>(
     }
 }
 
-/// Lines whose tests go by number, and the texts by number.
+/// Lines whose tests go by number, and by number the texts, and what each says where it is
+/// `field == number`.
 #[derive(Drop)]
 pub struct Numbered<'a> {
     pub lines: Vec<Line<usize>>,
     pub texts: Vec<Text<'a>>,
+    pub equals: Vec<Option<FieldIs>>,
+}
+
+impl Numbered<'_> {
+    /// What `field == number` says, where the test of this number is one.
+    pub fn equals(&self, number: usize) -> Option<FieldIs>
+        requires { HasEquals self.now }
+        ensures { result ≡ equals_of (text_at (map text_seen self.now.texts.items) number) }
+    {
+        if number < self.equals.len() {
+            self.equals[number]
+        } else {
+            None
+        }
+    }
+}
+
+/// What each text says where it is `field == number`.
+fn all_equals(alloc: Global, texts: &[Text<'_>]) -> Result<Vec<Option<FieldIs>>, AllocError>
+    ensures { IfOk result (λ all. all.items ≡ map equals_of (map text_seen texts.now)) }
+{
+    let mut all = Vec::new(alloc);
+    for text in texts {
+        all.push(equals(text))?;
+    }
+    Ok(all)
 }
 
 /// Lines with one number for each text that their tests have.
@@ -118,6 +147,7 @@ pub fn numbered_lines<'a>(
 ) -> Result<Numbered<'a>, AllocError>
     ensures lines { IfOk result (λ all. AreNumbered (lines_seen lines.now) (map text_seen all.texts.items) all.lines.items) }
     ensures apart { IfOk result (λ all. AreApart (map text_seen all.texts.items)) }
+    ensures equals { IfOk result HasEquals }
 {
     let mut texts = Texts::new(alloc);
     let mut all = Vec::new(alloc);
@@ -125,9 +155,11 @@ pub fn numbered_lines<'a>(
         let one = numbered_line(alloc, line, &mut texts)?;
         all.push(one)?;
     }
+    let equals = all_equals(alloc, texts.list.as_slice())?;
     let Texts { list, numbers: _ } = texts;
     Ok(Numbered {
         lines: all,
         texts: list,
+        equals,
     })
 }

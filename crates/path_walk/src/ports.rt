@@ -5,6 +5,7 @@ ghost use Rattle.nf_base.specs.Functions.{function_of};
 ghost use Rattle.path_walk.specs.Once.{EachOnce};
 ghost use Rattle.path_walk.specs.Listed.{block_branches, port_branches, IsCause, HasEachTaken};
 ghost use Rattle.path_walk.specs.Lines.{IsLaid};
+ghost use Rattle.path_walk.specs.Known.{HasEquals};
 ghost use Rattle.path_walk.specs.Walks.{paths_from};
 
 use crate::counting::counted;
@@ -20,6 +21,7 @@ use std::alloc::{AllocError, Global};
 /// A block as numbered lines, and the number of the line that it begins at.
 fn laid_out<'a>(alloc: Global, block: &'a Block) -> Result<(Numbered<'a>, usize), AllocError>
     ensures laid { IfOk result (λ x. IsLaid x.0.lines.items) }
+    ensures equals { IfOk result (λ x. HasEquals x.0) }
     ensures paths { IfOk result (λ x. paths_from x.0 x.1 ≡ block_branches (block_of block.now)) }
 {
     let mut lines = Vec::new(alloc);
@@ -73,8 +75,9 @@ pub fn paths(alloc: Global, func: &Func, port: u32) -> Result<Vec<Path>, WalkFau
 /// How many feasible paths a port's handler has. A port that the function doesn't have has none.
 ///
 /// The work is at most that of listing them: a path is followed until nothing but tests stand ahead of
-/// it, each of a text that went some way on it already. The memory is that of the text and of the tests
-/// of the paths that branch off one path.
+/// it, each of which can go one way alone, as its text went some way on the path already, or as its
+/// field is known to be another number. The memory is that of the text and of the tests of the paths
+/// that branch off one path.
 pub fn count_paths(alloc: Global, func: &Func, port: u32) -> Result<u32, WalkFault>
     ensures count { IfOk result (λ n. n ≡ length (port_branches (function_of func.now) port)) }
     // More than 4,096 are refused, and no fewer.

@@ -1,11 +1,10 @@
 //! Tests of fields and numbers, and how they are compared with one another.
-ghost use Rattle.std.specs.Prelude.{◌≡◌, ◌&&◌, map};
+ghost use Rattle.std.specs.Prelude.{◌≡◌, ◌&&◌};
 ghost use Rattle.nf_laws.specs.Paths.{of_packet};
 ghost use Rattle.nf_base.specs.View.{expression_of};
 ghost use Rattle.path_walk.specs.Tests.{sign_of, is_exchanged};
 ghost use Rattle.path_walk.specs.Feasible.{equals_of};
 ghost use Rattle.path_walk.specs.Seen.{text_seen};
-ghost use Rattle.path_walk.specs.Numbering.{text_at};
 
 use nf_base::expr::{Comparison, Expr};
 use nf_base::packet::Field;
@@ -74,16 +73,6 @@ pub fn exchanges(comparison: Comparison) -> bool
         comparison,
         Comparison::NotEqual | Comparison::GreaterOrEqual | Comparison::Greater
     )
-}
-
-/// What `field == number` says, where the test of this number is one.
-pub fn equals_at(texts: &[Text<'_>], number: usize) -> Option<FieldIs>
-    ensures { result ≡ equals_of (text_at (map text_seen texts.now) number) }
-{
-    if number >= texts.len() {
-        return None;
-    }
-    equals(&texts[number])
 }
 
 /// What `field == number` says, where the test is one.

@@ -1,7 +1,7 @@
 //! A walk along lines: one path after the other, hit before miss.
 ghost use Rattle.std.specs.Prelude.{◌≡◌, ◌<◌, ◌≤◌, ◌∷◌, ◌++◌, [], IfOk, OnOk, map, None, Some, List, ℕ, false, vec_len, IfErr, length};
 ghost use Rattle.path_walk.specs.Seen.{text_seen};
-ghost use Rattle.path_walk.specs.Known.{nothing_known, known_seen, excludes};
+ghost use Rattle.path_walk.specs.Known.{nothing_known, known_seen, excludes, HasEquals};
 ghost use Rattle.path_walk.specs.Tests.{TestText};
 ghost use Rattle.path_walk.specs.Trees.{Tree};
 ghost use Rattle.path_walk.specs.Lines.{child, trees, IsLaid};
@@ -17,7 +17,7 @@ use crate::fault::WalkFault;
 use crate::known::Known;
 use crate::line::Line;
 use crate::numbering::Numbered;
-use crate::test::{FieldIs, Text, equals_at};
+use crate::test::FieldIs;
 use std::alloc::{AllocError, Global};
 use std::marker::Model;
 
@@ -211,11 +211,12 @@ fn untold(
 fn step(
     alloc: Global,
     line: &Line<usize>,
-    texts: &[Text<'_>],
+    numbered: &Numbered<'_>,
     walk: &mut Walk,
     waiting: &mut Vec<Walk>,
 ) -> Result<bool, AllocError>
-    ensures { IfOk result (λ goes. Steps goes (map text_seen texts.now) line.now walk.old waiting.old.items walk.new waiting.new.items) }
+    requires { HasEquals numbered.now }
+    ensures { IfOk result (λ goes. Steps goes (map text_seen numbered.now.texts.items) line.now walk.old waiting.old.items walk.new waiting.new.items) }
 {
     match line {
         Line::Stop => return Ok(false),
@@ -230,14 +231,14 @@ fn step(
                 walk.go_one_way(*exchanged, holds, *hit, *miss)?;
                 return Ok(true);
             }
-            let numbered = NumberedTest {
+            let test = NumberedTest {
                 number: *test,
-                equals: equals_at(texts, *test),
+                equals: numbered.equals(*test),
                 exchanged: *exchanged,
                 hit: *hit,
                 miss: *miss,
             };
-            untold(alloc, numbered, walk, waiting)?
+            untold(alloc, test, walk, waiting)?
         }
         Line::Make { made, taken, full } => make(alloc, *made, *taken, *full, walk, waiting)?,
     }
@@ -251,17 +252,12 @@ fn advance(
     walk: &mut Walk,
     waiting: &mut Vec<Walk>,
 ) -> Result<bool, AllocError>
-    requires { IsLaid numbered.now.lines.items }
+    requires laid { IsLaid numbered.now.lines.items }
+    requires equals { HasEquals numbered.now }
     ensures { IfOk result (AdvancesAlong numbered.now walk.old waiting.old.items walk.new waiting.new.items) }
 {
     if walk.at < numbered.lines.len() {
-        step(
-            alloc,
-            &numbered.lines[walk.at],
-            numbered.texts.as_slice(),
-            walk,
-            waiting,
-        )
+        step(alloc, &numbered.lines[walk.at], numbered, walk, waiting)
     } else {
         Ok(false)
     }
@@ -276,6 +272,7 @@ fn follow(
     room: usize,
 ) -> Result<Path, WalkFault>
     requires laid { IsLaid numbered.now.lines.items }
+    requires equals { HasEquals numbered.now }
     requires room { vec_len waiting.old < room }
     ensures left { IfOk result (λ path. left_along numbered.now first waiting.old.items ≡ path ∷ waiting_along numbered.now waiting.new.items) }
     ensures within { OnOk result (vec_len waiting.new < room) }
@@ -299,7 +296,8 @@ pub const MOST: usize = 4096;
 
 /// The paths that begin at a line.
 pub fn listed(alloc: Global, numbered: &Numbered<'_>, at: usize) -> Result<Vec<Path>, WalkFault>
-    requires { IsLaid numbered.now.lines.items }
+    requires laid { IsLaid numbered.now.lines.items }
+    requires equals { HasEquals numbered.now }
     ensures all { IfOk result (λ all. all.items ≡ paths_from numbered.now at) }
     ensures most { IfOk result (λ all. vec_len all ≤ 4096) }
     ensures many { IfErr result (IsCause (paths_from numbered.now at)) }

@@ -1,4 +1,4 @@
-use Rattle.std.proofs.Common.{[], List, map, arith, subst}
+use Rattle.std.proofs.Common.{[], map, arith}
 use Rattle.std.proofs.lemmas.Result.{IfOk-weaker}
 use Rattle.path_walk.specs.Seen.{text_seen}
 use Rattle.path_walk.specs.Lines.{trees}
@@ -16,9 +16,8 @@ returns-then-point-len c =
     let olds = c.args.waiting.now.items in
     let new = c.step.new.point in
     let news = c.step.new.waiting.items in
-    IfOk-weaker c.step.result (λ goes. CountSteps goes (map text_seen c.as_slice.result.now) l old olds new news) (λ goes. CountAdvances goes texts (trees [] ls) old olds new news)
-    (λ goes h. count_line texts ls l goes old olds new news c.requires (got ls old.at l (omega arith) c.index.ensures)
-    (subst (λ (ts : List _). CountSteps goes (map text_seen ts) l old olds new news) c.as_slice.ensures.value h)) c.step.ensures
+    IfOk-weaker c.step.result (λ goes. CountSteps goes (map text_seen c.args.numbered.now.texts.items) l old olds new news) (λ goes. CountAdvances goes texts (trees [] ls) old olds new news)
+    (λ goes h. count_line texts ls l goes old olds new news c.requires.laid (got ls old.at l (omega arith) c.index.ensures) h) c.step.ensures
 
 pub returns-else-point-len : goal.returns-else-point-len
 returns-else-point-len c =

@@ -1,4 +1,4 @@
-use Rattle.std.proofs.Common.{[], List, map, arith, subst}
+use Rattle.std.proofs.Common.{[], map, arith}
 use Rattle.std.proofs.lemmas.Result.{IfOk-weaker}
 use Rattle.path_walk.specs.Seen.{text_seen}
 use Rattle.path_walk.specs.Lines.{trees}
@@ -15,9 +15,8 @@ returns-then-walk-len c =
     let olds = c.args.waiting.now.items in
     let new = c.step.new.walk in
     let news = c.step.new.waiting.items in
-    IfOk-weaker c.step.result (λ goes. Steps goes (map text_seen c.as_slice.result.now) l old olds new news) (λ goes. Advances goes texts (trees [] ls) old olds new news)
-    (λ goes h. at_line texts ls l goes old olds new news c.requires (got ls old.at l (omega arith) c.index.ensures)
-    (subst (λ (ts : List _). Steps goes (map text_seen ts) l old olds new news) c.as_slice.ensures.value h)) c.step.ensures
+    IfOk-weaker c.step.result (λ goes. Steps goes (map text_seen c.args.numbered.now.texts.items) l old olds new news) (λ goes. Advances goes texts (trees [] ls) old olds new news)
+    (λ goes h. at_line texts ls l goes old olds new news c.requires.laid (got ls old.at l (omega arith) c.index.ensures) h) c.step.ensures
 
 pub returns-else-walk-len : goal.returns-else-walk-len
 returns-else-walk-len c =
