@@ -4,6 +4,7 @@ pub mod Source
 pub mod Walking
 pub mod Laws
 pub mod Names
+pub mod Captures
 pub mod Numbers
 pub mod Opened
 pub mod Created

@@ -29,6 +29,7 @@ use Rattle.call_base.specs.declared.status.Halt.{Halt}
 use Rattle.call_base.specs.declared.status.Halt.TheVariants as halts
 use Rattle.call_base.specs.Outside.{Outside, IsUntouched, HasOnlyAsked}
 use Rattle.call_base.specs.Names.{reading}
+use Rattle.call_base.specs.Captures.{Below}
 use Rattle.call_base.specs.Numbers.{Faults, FailedBy, StopsBy, IsFrontOf}
 use Rattle.call_base.specs.Opened.{AreOpened, AsksSome, StopsFrom}
 use Rattle.call_base.specs.Loading.{IsTextCause, FindsFunction, HasFoundCause}
@@ -38,7 +39,7 @@ use Rattle.replay_call.specs.declared.job.Job.{Job}
 use Rattle.replay_call.specs.declared.numbers.Numbers.{Numbers}
 use Rattle.replay_call.specs.Numbers.{file_of, number_of, numbering, stop_named}
 use Rattle.replay_call.specs.Names.{inputs_of, names_of, asked_by}
-use Rattle.replay_call.specs.Contents.{Below, HasPorts, HasNoCapture}
+use Rattle.replay_call.specs.Contents.{HasPorts, HasNoCapture}
 use Rattle.replay_call.specs.Checked.{IsStopped, ReplaysTo}
 use Rattle.replay_call.specs.Progress.{IsJob, IsSized, HasFound, HasOpened, HasFed, HasReady, asked, ports_of, unfed, stop_on, unfound}
 use Rattle.replay_call.proofs.Numbering.{file_first, own_capture, own_other}

@@ -35,6 +35,7 @@ use Rattle.call_base.specs.declared.status.Stop.{Stop}
 use Rattle.call_base.specs.declared.status.Stop.TheVariants as stops
 use Rattle.call_base.specs.Outside.{Outside, IsUntouched, HasOnlyAsked}
 use Rattle.call_base.specs.Names.{reading, output_name}
+use Rattle.call_base.specs.Captures.{packets_under, Below}
 use Rattle.call_base.specs.Numbers.{StopsBy}
 use Rattle.call_base.specs.Opened.{AreOpened}
 use Rattle.call_base.specs.Printed.{Printed, PrintedFront}
@@ -45,7 +46,7 @@ use Rattle.replay_call.specs.declared.checked.Checked.{Checked}
 use Rattle.replay_call.specs.declared.job.Job.{Job}
 use Rattle.replay_call.specs.Numbers.{file_of, number_of, numbering, stop_named}
 use Rattle.replay_call.specs.Names.{inputs_of, names_of, asked_by}
-use Rattle.replay_call.specs.Contents.{Below, packets_under, HasReplayed, beside_under, keys_by}
+use Rattle.replay_call.specs.Contents.{HasReplayed, beside_under, keys_by}
 use Rattle.replay_call.specs.Checked.{IsChecked, IsStopped, ReplaysTo, checked_by, printed_by}
 use Rattle.replay_call.specs.Progress.{IsJob, IsSized, HasFed, HasReady, HasCome, asked, ports_of}
 use Rattle.replay_call.proofs.Numbering.{own_capture, own_other, own_stdout, file_of_stdout}

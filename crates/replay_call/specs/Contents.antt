@@ -1,10 +1,9 @@
 -- What a replay finds under its names.
-use Rattle.std.specs.Prelude.{◌≡◌, ◌≢◌, ℕ, ◌<◌, List, length, slice_get, Option, Some, None, Ok}
+use Rattle.std.specs.Prelude.{◌≡◌, ◌≢◌, ℕ, List, length, slice_get, Option, Some, None, Ok}
 use Rattle.nf_base.specs.Text.{Function}
 use Rattle.nf_base.specs.declared.keys.Keys.{Keys}
 use Rattle.nf_files.specs.Told.{Told}
-use Rattle.packet_feed.specs.Arrivals.{Arrival}
-use Rattle.packet_feed.specs.Told.{gathered, packets_in, IsCapture, IsNoCapture}
+use Rattle.packet_feed.specs.Told.{IsCapture, IsNoCapture}
 use Rattle.key_synth.specs.declared.verdict.Verdict.{Verdict}
 use Rattle.key_synth.specs.declared.verdict.Verdict.TheVariants.{Sharded, Locked}
 use Rattle.key_synth.specs.Verdicts.{IsVerdict}
@@ -13,16 +12,9 @@ use Rattle.replay_run.specs.Replaying.{Beside}
 use Rattle.replay_run.specs.Heads.{Comes}
 use Rattle.replay_run.specs.declared.replayed.Replayed.{Replayed}
 use Rattle.command_words.specs.Commands.{Replay}
+use Rattle.call_base.specs.Captures.{packets_under, Below}
 use Rattle.call_base.specs.Names.{output_name}
 use Rattle.call_base.specs.Source.{IsFunctionUnder}
-
--- the packets of the captures under some names, of which the i-th is that of port i, where all are told
-abbrev pub packets_under : List (List ℕ) → Told → Option (List Arrival)
-packets_under names told = gathered (λ port n. packets_in port (told.content n)) 0 names
-
--- so it is of what stands under each name below a port
-abbrev pub Below : (Option (List ℕ) → Type 0) → Told → List (List ℕ) → ℕ → Type 0
-Below P told names port = (p : ℕ) (n : List ℕ) → p < port → slice_get names p ≡ Some n → P (told.content n)
 
 -- The text is a network function that has as many ports as there are captures.
 pub record HasPorts (c : Replay) (told : Told) (f : Function) : Type 0 where

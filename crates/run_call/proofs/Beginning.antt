@@ -28,12 +28,13 @@ use Rattle.call_base.specs.declared.status.Halt.TheVariants as halts
 use Rattle.call_base.specs.declared.status.Refusal.TheVariants as refusals
 use Rattle.call_base.specs.Outside.{Outside, IsUntouched, HasOnlyAsked}
 use Rattle.call_base.specs.Names.{reading, inputs_of}
+use Rattle.call_base.specs.Captures.{Below}
 use Rattle.call_base.specs.Numbers.{file_of, number_of, stop_named, Faults, FailedAt, Stops}
 use Rattle.call_base.specs.Opened.{AreOpened, AsksSome, StopsFrom, StopsNext}
 use Rattle.run_call.specs.declared.course.Course.{Course}
 use Rattle.run_call.specs.declared.course.Course.TheVariants as course
 use Rattle.run_call.specs.Modes.{NeedsKeys, HasKeys, IsCourse, IsUnserved, ShareTables}
-use Rattle.run_call.specs.Runs.{Below, HasPorts, HasNoCapture}
+use Rattle.run_call.specs.Runs.{HasPorts, HasNoCapture}
 use Rattle.call_base.specs.Loading.{IsTextCause}
 use Rattle.call_base.specs.Loading.{FindsFunction, HasFoundCause}
 use Rattle.run_call.specs.Ending.{KnownAt, IsKnown, IsUnbegun, IsStopped, RunsTo}

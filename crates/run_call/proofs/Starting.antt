@@ -27,10 +27,11 @@ use Rattle.stream_run.specs.declared.stop.Stop.TheVariants as numbered
 use Rattle.run_call.specs.declared.job.Job.{Job}
 use Rattle.call_base.specs.Outside.{Outside}
 use Rattle.call_base.specs.Names.{name_at, inputs_of, created_by, asked_by}
+use Rattle.call_base.specs.Captures.{packets_under, Below}
 use Rattle.call_base.specs.Numbers.{stop_named}
 use Rattle.call_base.specs.Created.{Left, bytes_at, state_bytes}
 use Rattle.call_base.specs.Opened.{AreSomeCreated, AsksSome}
-use Rattle.run_call.specs.Runs.{packets_under, Below, HasPorts, IsRunOf, packets, IsEndOf}
+use Rattle.run_call.specs.Runs.{HasPorts, IsRunOf, packets, IsEndOf}
 use Rattle.call_base.specs.Far.{IsFar}
 use Rattle.run_call.specs.Ending.{IsStopped}
 use Rattle.run_call.specs.Progress.{IsJob, HasFed, HasReady, HasRun, asked, ports_of, end_of, torn_end}

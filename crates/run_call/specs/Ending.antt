@@ -18,10 +18,11 @@ use Rattle.call_base.specs.Outside.{Outside, IsUntouched, HasOnlyAsked}
 use Rattle.call_base.specs.Names.{reading, inputs_of, asked_by, asked_until, name_at}
 use Rattle.call_base.specs.Numbers.{Stops}
 use Rattle.call_base.specs.Far.{IsFar}
+use Rattle.call_base.specs.Captures.{Below}
 use Rattle.call_base.specs.Created.{Left, bytes_at}
 use Rattle.call_base.specs.Source.{IsNoFunctionUnder}
 use Rattle.packet_feed.specs.Told.{IsCapture}
-use Rattle.run_call.specs.Runs.{Below, HasPorts, IsRunOf, IsEndOf, left_by, HasOtherPorts, HasNoKeys, HasNoCapture}
+use Rattle.run_call.specs.Runs.{HasPorts, IsRunOf, IsEndOf, left_by, HasOtherPorts, HasNoKeys, HasNoCapture}
 use Rattle.call_base.specs.Printed.{Printed, PrintedFront}
 use Rattle.call_base.specs.Texts.{ran_line}
 use Rattle.packet_feed.specs.Arrivals.{Arrival}

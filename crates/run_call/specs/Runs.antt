@@ -1,10 +1,10 @@
 -- The run that a command asks for, and how it ends.
-use Rattle.std.specs.Prelude.{◌≡◌, ◌≢◌, ◌⊎◌, ℕ, ◌+◌, ◌<◌, ◌≤◌, List, length, map, slice_get, Option, Some, None}
+use Rattle.std.specs.Prelude.{◌≡◌, ◌≢◌, ◌⊎◌, ℕ, ◌+◌, ◌<◌, ◌≤◌, List, length, map, slice_get, Some, None}
 use Rattle.nf_base.specs.Text.{Function}
 use Rattle.nf_base.specs.declared.keys.Keys.{Keys}
 use Rattle.nf_files.specs.Told.{Told}
 use Rattle.packet_feed.specs.Arrivals.{Arrival}
-use Rattle.packet_feed.specs.Told.{gathered, packets_in, IsTear, IsCapture, IsNoCapture}
+use Rattle.packet_feed.specs.Told.{IsTear, IsCapture, IsNoCapture}
 use Rattle.packet_feed.specs.Feeding.{AreAll, HasMore}
 use Rattle.stream_run.specs.Runs.{Run, arrival_in}
 use Rattle.stream_run.specs.Lawful.{IsOneRun}
@@ -20,17 +20,10 @@ use Rattle.call_base.specs.declared.status.FullShare.{FullShare}
 use Rattle.call_base.specs.declared.status.NoKeys.{NoKeys}
 use Rattle.call_base.specs.Source.{IsFunctionUnder}
 use Rattle.call_base.specs.Named.{name_bytes}
+use Rattle.call_base.specs.Captures.{packets_under, Below}
 use Rattle.run_call.specs.Modes.{NeedsKeys, HasKeys, IsLocked, MayShard, ShareTables}
 use Rattle.run_history.specs.declared.line.Mode.TheVariants.{Shard}
 use Rattle.locked_run.specs.Locked.{IsLockRun, IsLoneRun}
-
--- the packets of the captures under some names, of which the i-th is that of port i, where all are told
-abbrev pub packets_under : List (List ℕ) → Told → Option (List Arrival)
-packets_under names told = gathered (λ port n. packets_in port (told.content n)) 0 names
-
--- so it is of what stands under each name below a port
-abbrev pub Below : (Option (List ℕ) → Type 0) → Told → List (List ℕ) → ℕ → Type 0
-Below P told names port = (p : ℕ) (n : List ℕ) → p < port → slice_get names p ≡ Some n → P (told.content n)
 
 -- The text is a network function that has as many ports as there are captures, and keys where they are
 -- needed.
