@@ -33,7 +33,7 @@ use Rattle.call_base.specs.Numbers.{file_of, number_of, stop_named, Faults, Fail
 use Rattle.call_base.specs.Opened.{AreOpened, AsksSome, StopsFrom, StopsNext}
 use Rattle.run_call.specs.declared.course.Course.{Course}
 use Rattle.run_call.specs.declared.course.Course.TheVariants as course
-use Rattle.run_call.specs.Modes.{NeedsKeys, HasKeys, IsCourse, IsUnserved, ShareTables}
+use Rattle.run_call.specs.Modes.{NeedsKeys, HasKeys, IsCourse, Serves, ShareTables}
 use Rattle.run_call.specs.Runs.{HasPorts, HasNoCapture}
 use Rattle.call_base.specs.Loading.{IsTextCause}
 use Rattle.call_base.specs.Loading.{FindsFunction, HasFoundCause}
@@ -205,7 +205,7 @@ keyed_by c f (course.Shards keys) is needs = record { keys = keys; given = is.2 
 keyed_by c f course.Tables is needs = absurd (subst (λ (m : ModeChoice). ShareTables m f) needs is.1)
 
 -- the function has no keys, and they are needed; or memory ran out
-pub is_unserved : (Refused : Type 0) (c : RunAsked) (before now : Outside) (found : Found) (halt : Halt) → HasFound c before now found → length c.captures ≡ length (function_of found.source.func).handlers → IsUnserved c (function_of found.source.func) halt → RunsTo Refused c before now (Err halt)
+pub is_unserved : (Refused : Type 0) (c : RunAsked) (before now : Outside) (found : Found) (halt : Halt) → HasFound c before now found → length c.captures ≡ length (function_of found.source.func).handlers → Serves c (function_of found.source.func) (Err halt) → RunsTo Refused c before now (Err halt)
 is_unserved Refused c before now found (halts.Refusal (refusals.NoKeys why)) h as_many is =
     (record { function = function_of found.source.func; is_function = h.is_function; as_many = as_many; needs = is.0; locked = is.1 }, h.only)
 is_unserved Refused c before now found (halts.Refusal refusals.Usage) h as_many is = absurd is

@@ -16,6 +16,7 @@ use Rattle.call_base.specs.declared.status.NoKeys.{NoKeys}
 use Rattle.call_base.specs.Named.{SaysCause}
 use Rattle.call_base.specs.declared.status.Halt.{Halt}
 use Rattle.call_base.specs.declared.status.Halt.TheVariants as halts
+use Rattle.call_base.specs.declared.status.Refusal.{Refusal}
 use Rattle.call_base.specs.declared.status.Refusal.TheVariants as refusals
 use Rattle.call_base.specs.declared.status.Stop.TheVariants as stops
 
@@ -69,15 +70,20 @@ IsCourse c f (Shards keys) =
 IsCourse c f Tables = (1 < c.workers) × ShareTables c.mode f
 
 -- why there is none
-abbrev pub IsUnserved : RunAsked → Function → Halt → Type 0
-IsUnserved c f (halts.Refusal (refusals.NoKeys why)) = NeedsKeys c × IsLocked f why
-IsUnserved c f (halts.Refusal refusals.Usage) = ⊥
-IsUnserved c f (halts.Refusal (refusals.Text fault)) = ⊥
-IsUnserved c f (halts.Refusal (refusals.NotCapture port)) = ⊥
-IsUnserved c f (halts.Stop (stops.File file)) = ⊥
-IsUnserved c f (halts.Stop stops.Memory) = Unit {0}
+abbrev pub IsUnserved : RunAsked → Function → Refusal → Type 0
+IsUnserved c f (refusals.NoKeys why) = NeedsKeys c × IsLocked f why
+IsUnserved c f refusals.Usage = ⊥
+IsUnserved c f (refusals.Text fault) = ⊥
+IsUnserved c f (refusals.NotCapture port) = ⊥
 
--- what looking for it comes to
+-- what a verdict comes to
+abbrev pub ServesBy : RunAsked → Function → Result Course Refusal → Type 0
+ServesBy c f (Ok course) = IsCourse c f course
+ServesBy c f (Err why) = IsUnserved c f why
+
+-- what looking for it comes to; want of memory is free
 abbrev pub Serves : RunAsked → Function → Result Course Halt → Type 0
 Serves c f (Ok course) = IsCourse c f course
-Serves c f (Err halt) = IsUnserved c f halt
+Serves c f (Err (halts.Refusal why)) = IsUnserved c f why
+Serves c f (Err (halts.Stop (stops.File file))) = ⊥
+Serves c f (Err (halts.Stop stops.Memory)) = Unit {0}

@@ -4,7 +4,7 @@ ghost use Rattle.nf_base.specs.Functions.{function_of};
 ghost use Rattle.key_synth.specs.Verdicts.{IsVerdict, Separates};
 ghost use Rattle.command_words.specs.View as view;
 ghost use Rattle.call_base.specs.Source.{HasFewPaths};
-ghost use Rattle.run_call.specs.Modes.{Asks, Serves};
+ghost use Rattle.run_call.specs.Modes.{Asks, Serves, ServesBy};
 ghost use Rattle.call_base.specs.Named.{SaysCause};
 
 use call_base::analysing::verdict_of;
@@ -41,11 +41,11 @@ fn no_keys(func: &Func, cause: Cause) -> NoKeys
 }
 
 // Who handles the packets, where this is the verdict on the function.
-fn course_by(command: &RunCommand, func: &Func, verdict: Verdict) -> Result<Course, Halt>
+fn course_by(command: &RunCommand, func: &Func, verdict: Verdict) -> Result<Course, Refusal>
     requires asks { Asks (view.run command.now) }
     requires verdict { IsVerdict (function_of func.now) verdict }
     requires separates { Separates (function_of func.now) verdict }
-    ensures serves { Serves (view.run command.now) (function_of func.now) result }
+    ensures serves { ServesBy (view.run command.now) (function_of func.now) result }
 {
     match verdict {
         Verdict::Sharded(keys) => {
@@ -56,7 +56,7 @@ fn course_by(command: &RunCommand, func: &Func, verdict: Verdict) -> Result<Cour
             }
         }
         Verdict::Locked(cause) => match command.mode {
-            ModeChoice::Shard => Err(Halt::Refusal(Refusal::NoKeys(no_keys(func, cause)))),
+            ModeChoice::Shard => Err(Refusal::NoKeys(no_keys(func, cause))),
             _ => Ok(Course::Tables),
         },
     }
@@ -69,7 +69,10 @@ fn course_found(alloc: Global, command: &RunCommand, func: &Func) -> Result<Cour
     ensures serves { Serves (view.run command.now) (function_of func.now) result }
 {
     match verdict_of(alloc, func) {
-        Ok(verdict) => course_by(command, func, verdict),
+        Ok(verdict) => match course_by(command, func, verdict) {
+            Ok(course) => Ok(course),
+            Err(why) => Err(Halt::Refusal(why)),
+        },
         Err(_) => Err(Halt::Stop(Stop::Memory)),
     }
 }
