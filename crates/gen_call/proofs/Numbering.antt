@@ -6,9 +6,6 @@ use Rattle.stream_run.specs.declared.stop.Stop.TheVariants as numbered
 use Rattle.call_base.specs.declared.status.RunFile.TheVariants.{Nf, Output, OutJournal, State, Stdout, Stderr}
 use Rattle.gen_call.specs.Numbers.{made_file, file_of, number_of}
 
-pub file_first : (first ports : ℕ) → file_of first ports first ≡ Nf
-file_first first ports = ap (λ b. if b then Nf else if nat_eq first 0 then Stdout else if nat_eq first 1 then Stderr else made_file ports (first - (first + 1))) (eq-eqb first first refl)
-
 file_stdout : (first ports : ℕ) → 2 ≤ first → file_of first ports 0 ≡ Stdout
 file_stdout first ports two = ap (λ b. if b then Nf else Stdout) (ne_eqb 0 first (λ e. omega (arith, e, two)))
 

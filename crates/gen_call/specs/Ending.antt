@@ -16,6 +16,7 @@ use Rattle.call_base.specs.Outside.{Outside, IsUntouched, HasOnlyAsked}
 use Rattle.call_base.specs.Names.{reading, name_at}
 use Rattle.call_base.specs.Created.{Left, bytes_at}
 use Rattle.call_base.specs.Source.{IsNoFunctionUnder}
+use Rattle.call_base.specs.Loading.{IsTextCause}
 use Rattle.call_base.specs.Printed.{Printed, PrintedFront}
 use Rattle.gen_call.specs.Numbers.{Stops}
 use Rattle.gen_call.specs.Runs.{packets_for, IsRunOf, IsEndOf, left_by, HasNoKeys, IsSummary, asked_until}
@@ -63,11 +64,10 @@ IsRefused c before now (Text fault) =
 IsRefused c before now (NoKeys why) = HasNoKeys c before.told why × HasOnlyAsked (reading c.function ∷ []) before now
 IsRefused c before now (NotCapture port) = ⊥
 
--- A run was stopped before it created anything.
+-- A run was stopped before it created anything: the text's file failed, or memory ran out.
 pub record IsUnbegun (c : Gen) (before now : Outside) (stop : Stop) : Type 0 where
   pub untouched : IsUntouched before.told now.told
-  pub ports : ℕ
-  pub stops : Stops before.told.next ports (reading c.function ∷ []) before.counted now.counted stop
+  pub cause : IsTextCause c.function before.told.next before.counted now.counted stop
 
 -- A run was stopped after it began to create files: each holds a front of what one run leaves there, over
 -- all packets or some first ones. Nothing is printed before all are whole.

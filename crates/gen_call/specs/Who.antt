@@ -11,6 +11,7 @@ use Rattle.traffic_run.specs.Runs.{Serves as MayServe}
 use Rattle.call_base.specs.declared.status.NoKeys.{NoKeys as Why}
 use Rattle.call_base.specs.declared.status.Halt.{Halt}
 use Rattle.call_base.specs.declared.status.Halt.TheVariants as halts
+use Rattle.call_base.specs.declared.status.Refusal.{Refusal}
 use Rattle.call_base.specs.declared.status.Refusal.TheVariants as refusals
 use Rattle.call_base.specs.declared.status.Stop.TheVariants as stops
 use Rattle.call_base.specs.Named.{SaysCause}
@@ -23,15 +24,20 @@ pub record IsLocked (f : Function) (why : Why) : Type 0 where
   pub says : SaysCause f cause why
 
 -- why there is none
-abbrev pub IsUnserved : Gen → Function → Halt → Type 0
-IsUnserved c f (halts.Refusal (refusals.NoKeys why)) = (c.mode ≡ Shard) × IsLocked f why
-IsUnserved c f (halts.Refusal refusals.Usage) = ⊥
-IsUnserved c f (halts.Refusal (refusals.Text fault)) = ⊥
-IsUnserved c f (halts.Refusal (refusals.NotCapture port)) = ⊥
-IsUnserved c f (halts.Stop (stops.File file)) = ⊥
-IsUnserved c f (halts.Stop stops.Memory) = Unit {0}
+abbrev pub IsUnserved : Gen → Function → Refusal → Type 0
+IsUnserved c f (refusals.NoKeys why) = (c.mode ≡ Shard) × IsLocked f why
+IsUnserved c f refusals.Usage = ⊥
+IsUnserved c f (refusals.Text fault) = ⊥
+IsUnserved c f (refusals.NotCapture port) = ⊥
 
--- what looking for it comes to
+-- what a verdict comes to
+abbrev pub ServesBy : Gen → Function → Result Who Refusal → Type 0
+ServesBy c f (Ok who) = IsWho c f who × MayServe f who
+ServesBy c f (Err why) = IsUnserved c f why
+
+-- what looking for it comes to; want of memory is free
 abbrev pub Serves : Gen → Function → Result Who Halt → Type 0
 Serves c f (Ok who) = IsWho c f who × MayServe f who
-Serves c f (Err halt) = IsUnserved c f halt
+Serves c f (Err (halts.Refusal why)) = IsUnserved c f why
+Serves c f (Err (halts.Stop (stops.File file))) = ⊥
+Serves c f (Err (halts.Stop stops.Memory)) = Unit {0}

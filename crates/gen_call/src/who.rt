@@ -1,12 +1,14 @@
 //! Who handles the packets of a run over made-up traffic.
 ghost use Rattle.std.specs.Prelude.{◌≡◌, ◌≢◌, ◌<◌, ◌≤◌};
 ghost use Rattle.nf_base.specs.Functions.{function_of};
+ghost use Rattle.nf_base.specs.Text.{Function};
 ghost use Rattle.key_synth.specs.Verdicts.{IsVerdict, Separates};
+ghost use Rattle.command_words.specs.Commands.{Gen};
 ghost use Rattle.command_words.specs.View as view;
 ghost use Rattle.command_words.specs.declared.command.ModeChoice.TheVariants.{Lock, Shard};
 ghost use Rattle.call_base.specs.Source.{HasFewPaths};
 ghost use Rattle.call_base.specs.Named.{SaysCause};
-ghost use Rattle.gen_call.specs.Who.{Serves};
+ghost use Rattle.gen_call.specs.Who.{Serves, ServesBy};
 
 use call_base::analysing::verdict_of;
 use call_base::object_name::ObjectName;
@@ -31,33 +33,43 @@ fn no_keys(func: &Func, cause: Cause) -> NoKeys
 }
 
 // Several share nothing where the function has keys, and else all tables, where they may.
-fn several_by(command: &GenCommand, func: &Func, verdict: Verdict) -> Result<Who, Halt>
+fn several_by(command: &GenCommand, func: &Func, verdict: Verdict) -> Result<Who, Refusal>
     requires several { 1 < (view.gen command.now).workers }
     requires few { (view.gen command.now).workers ≤ 16 }
     requires unlocked { (view.gen command.now).mode ≢ Lock }
     requires verdict { IsVerdict (function_of func.now) verdict }
     requires separates { Separates (function_of func.now) verdict }
-    ensures serves { Serves (view.gen command.now) (function_of func.now) result }
+    ensures serves { ServesBy (view.gen command.now) (function_of func.now) result }
 {
     match verdict {
         Verdict::Sharded(keys) => Ok(Who::Shards(keys, command.workers)),
         Verdict::Locked(cause) => match command.mode {
-            ModeChoice::Shard => Err(Halt::Refusal(Refusal::NoKeys(no_keys(func, cause)))),
+            ModeChoice::Shard => Err(Refusal::NoKeys(no_keys(func, cause))),
             _ => Ok(Who::Sharing(command.workers)),
         },
     }
 }
 
 // One worker, where mode `shard` is asked for and this is the verdict.
-fn one_by(command: &GenCommand, func: &Func, verdict: Verdict) -> Result<Who, Halt>
+fn one_by(command: &GenCommand, func: &Func, verdict: Verdict) -> Result<Who, Refusal>
     requires alone { (view.gen command.now).workers ≡ 1 }
     requires shard { (view.gen command.now).mode ≡ Shard }
     requires verdict { IsVerdict (function_of func.now) verdict }
-    ensures serves { Serves (view.gen command.now) (function_of func.now) result }
+    ensures serves { ServesBy (view.gen command.now) (function_of func.now) result }
 {
     match verdict {
         Verdict::Sharded(_) => Ok(Who::One),
-        Verdict::Locked(cause) => Err(Halt::Refusal(Refusal::NoKeys(no_keys(func, cause)))),
+        Verdict::Locked(cause) => Err(Refusal::NoKeys(no_keys(func, cause))),
+    }
+}
+
+// What is refused halts the call.
+fn or_halt(served: Result<Who, Refusal>) -> Result<Who, Halt>
+    ensures serves { (c : Gen) → (f : Function) → ServesBy c f served → Serves c f result }
+{
+    match served {
+        Ok(who) => Ok(who),
+        Err(why) => Err(Halt::Refusal(why)),
     }
 }
 
@@ -74,9 +86,9 @@ pub fn who_of(alloc: Global, command: &GenCommand, func: &Func) -> Result<Who, H
         (_, _) => match verdict_of(alloc, func) {
             Ok(verdict) => {
                 if several {
-                    several_by(command, func, verdict)
+                    or_halt(several_by(command, func, verdict))
                 } else {
-                    one_by(command, func, verdict)
+                    or_halt(one_by(command, func, verdict))
                 }
             }
             Err(_) => Err(Halt::Stop(Stop::Memory)),
