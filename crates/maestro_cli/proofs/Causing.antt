@@ -1,12 +1,13 @@
 -- Which calls on files failed follows from what the program answers.
 use Rattle.std.proofs.Common.{◌≡◌, inl, inr, ℕ, ◌≤◌, List, length, Option, Some, None, Err, refl, sym, subst, ◌∙◌, arith}
+use Rattle.nf_files.specs.Told.{Told}
 use Rattle.nf_files.specs.Causes.{Counted, Faulted, FaultedAsking, Asked, asking, Rose, FirstAfter}
 use Rattle.stream_run.specs.declared.stop.Stop.{Stop as NumberStop}
 use Rattle.stream_run.specs.declared.stop.Stop.TheVariants as numbered
 use Rattle.stream_run.specs.Writing.{IsStopCause, StopsAt}
 use Rattle.command_words.specs.Commands.{Run as RunAsked, Replay, Gen, Hash, Describe, Command, RunCommand, ReplayCommand, GenCommand, HashCommand, DescribeCommand}
 use Rattle.call_base.specs.declared.status.RunFile.{RunFile}
-use Rattle.call_base.specs.declared.status.RunFile.TheVariants.{Stderr}
+use Rattle.call_base.specs.declared.status.RunFile.TheVariants.{Nf, Capture, Journal, Output, OutJournal, State, Stdout, Stderr}
 use Rattle.call_base.specs.declared.status.End.{End}
 use Rattle.call_base.specs.declared.status.End.TheVariants as ends
 use Rattle.call_base.specs.declared.status.Refusal.{Refusal}
@@ -30,7 +31,7 @@ use Rattle.call_base.specs.PrintedOut.{IsPrintCause}
 use Rattle.call_base.specs.Loading.{IsTextCause}
 use Rattle.call_base.specs.Printed.{Tells, after_stop, stopped_at}
 use Rattle.maestro_cli.specs.Answer.{Runs, Replays, Gens, Hashes, Describes, Comes, ComesTo, Answers}
-use Rattle.maestro_cli.specs.Causes.{CountsNone, CountsSome, numbering_of, HasStatusCause, HasCallCause}
+use Rattle.maestro_cli.specs.Causes.{CountsNone, CountsSome, numbering_of, HasStatusCause, HasSoManyPorts, KnowsPorts, KnowsPortsAt, ArePortsOf, HasCallCause}
 
 -- ---- counts
 
@@ -154,40 +155,92 @@ unmade_none c before now (refusals.NoKeys why) h = asked_none _ before.counted n
 unmade_none c before now (refusals.NotCapture port) h = absurd h
 
 abbrev own_causes : Option Command → Outside → Outside → Status → Type 0
-own_causes command before now status = HasCallCause before.told.next command before.counted now.counted status
+own_causes command before now status = HasCallCause before.told command before.counted now.counted status
+
+knows_file : (told : Told) (name : List ℕ) (ports : ℕ) (file : RunFile) → HasSoManyPorts told name ports → KnowsPorts told name ports file
+knows_file told name ports (Output port) h = h
+knows_file told name ports OutJournal h = h
+knows_file told name ports State h = h
+knows_file told name ports Nf h = tt
+knows_file told name ports (Capture port) h = tt
+knows_file told name ports Journal h = tt
+knows_file told name ports Stdout h = tt
+knows_file told name ports Stderr h = tt
+
+knows_stop : (told : Told) (name : List ℕ) (ports : ℕ) (stop : Stop) → HasSoManyPorts told name ports → KnowsPortsAt told name ports (stop_status stop)
+knows_stop told name ports (stops.File file) h = knows_file told name ports file h
+knows_stop told name ports stops.Memory h = tt
+
+-- the text could not be read
+at_unmade : (c : Gen) (before now : Outside) (stop : Stop) → IsTextCause c.function before.told.next before.counted now.counted stop → own_causes (Some (GenCommand c)) before now (stop_status stop)
+at_unmade c before now (stops.File file) h = record {
+  ports = 0;
+  of_function = subst (λ (f : RunFile). KnowsPorts before.told c.function 0 f) (sym h.0) tt;
+  cause = subst (λ (f : RunFile). CountsSome before.counted now.counted ((made_numbering before.told.next 0).number_of f)) (sym h.0) (some_asking _ before.counted now.counted before.told.next h.1);
+}
+at_unmade c before now stops.Memory (inl same) = record { ports = 0; of_function = tt; cause = subst (CountsNone before.counted) (sym same) (counts_none before.counted) }
+at_unmade c before now stops.Memory (inr more) = record { ports = 0; of_function = tt; cause = asked_none _ before.counted now.counted more }
 
 at_broken : (R : Type 0) (c : Gen) (before now : Outside) (stop : Stop) → IsBrokenOff c R before now stop → own_causes (Some (GenCommand c)) before now (stop_status stop)
-at_broken R c before now stop (inl h) = record { ports = h.ports; cause = at_stop (made_numbering before.told.next h.ports) _ before.counted now.counted stop h.stops }
+at_broken R c before now stop (inl h) = at_unmade c before now stop h.cause
 at_broken R c before now stop (inr h) =
-    record { ports = length h.run.function.handlers; cause = at_stop (made_numbering before.told.next (length h.run.function.handlers)) _ before.counted now.counted stop h.stops }
+    let ports = length h.run.function.handlers in
+    record {
+      ports = ports;
+      of_function = knows_stop before.told c.function ports stop (record { function = h.run.function; is_function = h.is_run.is_function; as_many = refl });
+      cause = at_stop (made_numbering before.told.next ports) _ before.counted now.counted stop h.stops;
+    }
+
+knows_end : (told : Told) (name : List ℕ) (ports : ℕ) (how : End) → KnowsPortsAt told name ports (end_status how)
+knows_end told name ports ends.Whole = tt
+knows_end told name ports (ends.Torn port offset) = tt
+knows_end told name ports (ends.TooMany most) = tt
+knows_end told name ports (ends.ShareFull full) = tt
+
+knows_refusal : (told : Told) (name : List ℕ) (ports : ℕ) (how : Refusal) → KnowsPortsAt told name ports (refusal_status how)
+knows_refusal told name ports refusals.Usage = tt
+knows_refusal told name ports (refusals.Text fault) = tt
+knows_refusal told name ports (refusals.NoKeys why) = tt
+knows_refusal told name ports (refusals.NotCapture port) = tt
 
 of_gen : (R : Type 0) (c : Gen) (before now : Outside) (status : Status) → Gens R c before now status → own_causes (Some (GenCommand c)) before now status
 of_gen R c before now status (inl h) = record {
   ports = 0;
+  of_function = subst (KnowsPortsAt before.told c.function 0) (sym h.status_is) (knows_end before.told c.function 0 h.how);
   cause = subst (causes (Some (GenCommand c)) before now) (sym h.status_is) (at_end (made_numbering before.told.next 0) before.counted now.counted h.how (asked_none _ before.counted now.counted h.ends.asked));
 }
 of_gen R c before now status (inr (inl h)) = record {
   ports = 0;
+  of_function = subst (KnowsPortsAt before.told c.function 0) (sym h.status_is) (knows_refusal before.told c.function 0 h.how);
   cause = subst (causes (Some (GenCommand c)) before now) (sym h.status_is) (at_refusal (made_numbering before.told.next 0) before.counted now.counted h.how (unmade_none c before now h.how h.ends));
 }
 of_gen R c before now status (inr (inr h)) =
     subst (own_causes (Some (GenCommand c)) before now) (sym h.status_is) (at_broken R c before now h.how h.ends)
 
 -- the numbers of any other command's files don't hang on ports that no capture tells
-whole : (command : Option Command) (before now : Outside) (status : Status) → causes command before now status → own_causes command before now status
-whole command before now status h = record { ports = 0; cause = h }
+whole : (command : Option Command) (before now : Outside) (status : Status) → ArePortsOf before.told command 0 status → causes command before now status → own_causes command before now status
+whole command before now status known h = record { ports = 0; of_function = known; cause = h }
 
 of_comes : (R : Type 0) (command : Option Command) (before now : Outside) (status : Status) → Comes R command before now status → own_causes command before now status
-of_comes R None before now status h = whole None before now status (subst (causes None before now) (sym h.0) (asked_none _ before.counted now.counted h.1.asked))
-of_comes R (Some (RunCommand c)) before now status h = whole (Some (RunCommand c)) before now status (of_run R c before now status h)
-of_comes R (Some (ReplayCommand c)) before now status h = whole (Some (ReplayCommand c)) before now status (of_replay c before now status h)
+of_comes R None before now status h = whole None before now status tt (subst (causes None before now) (sym h.0) (asked_none _ before.counted now.counted h.1.asked))
+of_comes R (Some (RunCommand c)) before now status h = whole (Some (RunCommand c)) before now status tt (of_run R c before now status h)
+of_comes R (Some (ReplayCommand c)) before now status h = whole (Some (ReplayCommand c)) before now status tt (of_replay c before now status h)
 of_comes R (Some (GenCommand c)) before now status h = of_gen R c before now status h
-of_comes R (Some (HashCommand c)) before now status h = whole (Some (HashCommand c)) before now status (of_hash c before now status h)
-of_comes R (Some (DescribeCommand c)) before now status h = whole (Some (DescribeCommand c)) before now status (of_describe c before now status h)
+of_comes R (Some (HashCommand c)) before now status h = whole (Some (HashCommand c)) before now status tt (of_hash c before now status h)
+of_comes R (Some (DescribeCommand c)) before now status h = whole (Some (DescribeCommand c)) before now status tt (of_describe c before now status h)
+
+-- want of memory tells no file
+memory_tells_none : (told : Told) (command : Option Command) → ArePortsOf told command 0 Memory
+memory_tells_none told None = tt
+memory_tells_none told (Some (RunCommand c)) = tt
+memory_tells_none told (Some (ReplayCommand c)) = tt
+memory_tells_none told (Some (GenCommand c)) = tt
+memory_tells_none told (Some (HashCommand c)) = tt
+memory_tells_none told (Some (DescribeCommand c)) = tt
 
 of_end : (R : Type 0) (command : Option Command) (before now : Outside) (status : Status) → ComesTo R command before now status → own_causes command before now status
 of_end R command before now status (inl h) = of_comes R command before now status h
-of_end R command before now status (inr h) = whole command before now status (subst (causes command before now) (sym h.0) (asked_none _ before.counted now.counted h.1.asked))
+of_end R command before now status (inr h) = whole command before now status (subst (ArePortsOf before.told command 0) (sym h.0) (memory_tells_none before.told command)) (subst (causes command before now) (sym h.0) (asked_none _ before.counted now.counted h.1.asked))
 
 -- ---- what was told of it
 
@@ -242,6 +295,36 @@ of_telling numbering stderr old ended after due status h (inl said) =
 of_telling numbering stderr old ended after due status h (inr half) =
     subst (HasStatusCause numbering old after.counted) (sym half.status_is) (told_half numbering stderr old ended.counted after.counted due half.stop half.at half.cause h)
 
+-- what stops the telling is standard error, which no run creates
+knows_none : (told : Told) (name : List ℕ) (ports : ℕ) (stop : NumberStop) → KnowsPortsAt told name ports (stopped_at stop)
+knows_none told name ports (numbered.File number) = tt
+knows_none told name ports numbered.Memory = tt
+
+knows_half : (told : Told) (name : List ℕ) (ports : ℕ) (due : Status) (stop : NumberStop) → KnowsPortsAt told name ports due → KnowsPortsAt told name ports (after_stop due stop)
+knows_half told name ports (FileFault file) stop h = h
+knows_half told name ports Done stop h = knows_none told name ports stop
+knows_half told name ports Usage stop h = knows_none told name ports stop
+knows_half told name ports (Refused kind line column) stop h = knows_none told name ports stop
+knows_half told name ports (NotCapture port) stop h = knows_none told name ports stop
+knows_half told name ports (Torn port offset) stop h = knows_none told name ports stop
+knows_half told name ports (ShareFull full) stop h = knows_none told name ports stop
+knows_half told name ports (NoKeys why) stop h = knows_none told name ports stop
+knows_half told name ports (TooMany most) stop h = knows_none told name ports stop
+knows_half told name ports Memory stop h = knows_none told name ports stop
+knows_half told name ports (Differs place) stop h = knows_none told name ports stop
+
+knows_told : (told : Told) (name : List ℕ) (ports : ℕ) (ended after : Outside) (due status : Status) → KnowsPortsAt told name ports due → Tells ended after due status → KnowsPortsAt told name ports status
+knows_told told name ports ended after due status h (inl said) = subst (KnowsPortsAt told name ports) (sym said.status_is) h
+knows_told told name ports ended after due status h (inr half) = subst (KnowsPortsAt told name ports) (sym half.status_is) (knows_half told name ports due half.stop h)
+
+ports_told : (told : Told) (command : Option Command) (ports : ℕ) (ended after : Outside) (due status : Status) → ArePortsOf told command ports due → Tells ended after due status → ArePortsOf told command ports status
+ports_told told (Some (GenCommand c)) ports ended after due status h t = knows_told told c.function ports ended after due status h t
+ports_told told None ports ended after due status h t = tt
+ports_told told (Some (RunCommand c)) ports ended after due status h t = tt
+ports_told told (Some (ReplayCommand c)) ports ended after due status h t = tt
+ports_told told (Some (HashCommand c)) ports ended after due status h t = tt
+ports_told told (Some (DescribeCommand c)) ports ended after due status h t = tt
+
 -- standard error has number 1, whatever is asked for
 stderr_is : (first ports : ℕ) (command : Option Command) → (numbering_of first ports command).number_of Stderr ≡ 1
 stderr_is first ports None = refl
@@ -252,11 +335,12 @@ stderr_is first ports (Some (HashCommand c)) = refl
 stderr_is first ports (Some (DescribeCommand c)) = refl
 
 -- from what the program answers
-pub cause_of : (R : Type 0) (command : Option Command) (before after : Outside) (status : Status) → Answers R command before after status → HasCallCause before.told.next command before.counted after.counted status
+pub cause_of : (R : Type 0) (command : Option Command) (before after : Outside) (status : Status) → Answers R command before after status → HasCallCause before.told command before.counted after.counted status
 cause_of R command before after status h =
     let due = of_end R command before h.ended h.due h.comes in
     let numbering = numbering_of before.told.next due.ports command in
     record {
       ports = due.ports;
+      of_function = ports_told before.told command due.ports h.ended after h.due status due.of_function h.tells;
       cause = of_telling numbering (stderr_is before.told.next due.ports command) before.counted h.ended after h.due status due.cause h.tells;
     }

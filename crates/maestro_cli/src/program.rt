@@ -192,7 +192,7 @@ pub fn maestro<R: Threads + Wait + Sync, F: Files, G: Turns + Sync, L: Gate + Dr
         (seen (F.told files.new) (F.counted files.new)) result }
     // Which call failed first, and that none did but at a file fault.
     ensures cause { let command = command_of (map string_bytes words.now) in
-        HasCallCause (F.told files.old).next command (F.counted files.old) (F.counted files.new) result }
+        HasCallCause (F.told files.old) command (F.counted files.old) (F.counted files.new) result }
 {
     let due = carry_out(rt, alloc, words, files, turns, gate);
     tell(files, due)
