@@ -292,7 +292,7 @@ half_summed since a b job mode state sent text stop is h unnamed lines wrote at 
         (
           text,
           record { state = state; left = h.left; sent = sent; sent_is = still_sent since a.told b.told r.run sent 0 _ (omega arith) two wrote.wrote h.sent_is; text_is = lines_of since a job mode state sent _ _ text h lines },
-          record { front = front.front; is_front = front.is_front; printed = subst (λ o. Gains front.front o (b.told.given 0)) r.stdout front.printed },
+          record { front = front.front; is_front = front.is_front; part = front.part; printed = subst (λ o. Gains front.front o (b.told.given 0)) r.stdout front.printed },
         ),
       );
       stderr = wrote.wrote.givens 1 (λ e. omega (arith, e)) ∙ r.stderr;

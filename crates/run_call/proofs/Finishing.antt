@@ -124,6 +124,7 @@ run_half_printed before a b job packets state end piece stop is h unnamed line w
         record {
           front = front.front;
           is_front = subst (λ (p : List ℕ). IsBytesFront p front.front) (line_told before a job _ packets state end all all piece h line) front.is_front;
+          part = subst (λ (p : List ℕ). length front.front < length p) (line_told before a job _ packets state end all all piece h line) front.part;
           printed = subst (λ o. Gains front.front o (b.told.given 0)) h.stdout front.printed;
         },
       );
