@@ -37,7 +37,8 @@ pub fn give_all(shards: &mut Shards, batch: &[Packet])
     requires room { HasRoom (length batch.now) shards.old }
     ensures stands { (x : Setup) → (m : Machine) → StandsFor x m shards.old →
         StandsFor x (all_dispatched x batch.now m) shards.new }
-    ensures left { length shards.new.queues.items ≡ length shards.old.queues.items + length batch.now }
+    ensures left { let queued = length shards.old.queues.items in
+        length shards.new.queues.items ≡ queued + length batch.now }
     ensures size { SameSize shards.old shards.new }
 {
     for i in 0..batch.len() {

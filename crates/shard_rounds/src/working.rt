@@ -66,14 +66,15 @@ fn each_beside<R: Threads + Sync, G: Turns + Sync, H: FnMut() -> B, B>(
 {
     let mut work = ||
         requires { IsSync R.row × IsSync G.row × AreWorkers func.now workers.now.items }
-        ensures { AllWorkedThrough (function_of func.entry.now) workers.entry.now.items workers.exit.now.items }
+        ensures { let f = function_of func.entry.now in
+            AllWorkedThrough f workers.entry.now.items workers.exit.now.items }
     { work_each(rt, workers, func, turns) };
     let (_, came) = join_mut(rt, &mut work, other);
     came
 }
 
-/// Lets workers alone work all that waits for them, each in a thread of its own where one can be made. The others' work
-/// is done by the caller's thread.
+/// Lets workers alone work all that waits for them, each in a thread of its own where one can be
+/// made. The others' work is done by the caller's thread.
 fn work_each<R: Threads + Sync, G: Turns + Sync>(
     rt: &R,
     workers: &mut Vec<Worker>,
