@@ -1,5 +1,5 @@
 -- Runs that ended, by what their files have then.
-use Rattle.std.proofs.Common.{◌≡◌, ◌<◌, ℕ, List, ◌∷◌, map, Option, Some, None, Result, subst, arith}
+use Rattle.std.proofs.Common.{◌≡◌, ◌<◌, ℕ, List, [], ◌∷◌, map, Option, Some, None, Result, subst, arith}
 use Rattle.nf_base.specs.declared.func.Func.{Func}
 use Rattle.nf_base.specs.declared.keys.Keys.{Keys}
 use Rattle.nf_base.specs.declared.packet.Packet.{Packet}
@@ -25,19 +25,19 @@ use Rattle.sharded_run.specs.Going.{Awaits, GoesOn, Comes, Halts, EndsSo}
 use Rattle.sharded_run.proofs.Lined.{ran_of, worked_stand}
 
 -- what a round comes to, whatever was reached before it
-abbrev pub WentOf : (E : Type 0) → Func → ℕ → Feeding → Told → List Holding → Sharded → List Arrival → Feeding → Told → List Holding → Sharded → List Arrival → Result went.Went E → Type 0
-WentOf E func ports feed old sinks v batch next now left new more result =
-    (keys : Keys) (workers : ℕ) (begun : Feeding) (start : Told) → 1 < workers → HashAlikeWhereTheyMeet (function_of func) keys → Awaits (function_of func) keys workers ports begun start feed old sinks v batch None
-    → GoesOn {E = E} (function_of func) keys workers ports begun start next now left new more result
+abbrev pub WentOf : (E : Type 0) → Func → ℕ → Feeding → Told → List Holding → Sharded → List Handled → List Arrival → Feeding → Told → List Holding → Sharded → List Arrival → Result went.Went E → Type 0
+WentOf E func ports feed old sinks v late batch next now left new more result =
+    (keys : Keys) (workers : ℕ) (begun : Feeding) (start : Told) → 1 < workers → HashAlikeWhereTheyMeet (function_of func) keys → Awaits (function_of func) keys workers ports begun start feed old sinks v late batch None
+    → GoesOn {E = E} (function_of func) keys workers ports begun start next now left new batch more result
 
-pub went_as : (E : Type 0) (func other : Func) (ports : ℕ) (feed : Feeding) (old : Told) (sinks : List Holding) (v : Sharded) (batch : List Arrival) (next : Feeding) (now : Told) (left : List Holding) (new : Sharded) (more : List Arrival) (result : Result went.Went E) → func ≡ other
-    → WentOf E func ports feed old sinks v batch next now left new more result → WentOf E other ports feed old sinks v batch next now left new more result
-went_as E func other ports feed old sinks v batch next now left new more result same h = subst (λ (fn : Func). WentOf E fn ports feed old sinks v batch next now left new more result) same h
+pub went_as : (E : Type 0) (func other : Func) (ports : ℕ) (feed : Feeding) (old : Told) (sinks : List Holding) (v : Sharded) (late : List Handled) (batch : List Arrival) (next : Feeding) (now : Told) (left : List Holding) (new : Sharded) (more : List Arrival) (result : Result went.Went E) → func ≡ other
+    → WentOf E func ports feed old sinks v late batch next now left new more result → WentOf E other ports feed old sinks v late batch next now left new more result
+went_as E func other ports feed old sinks v late batch next now left new more result same h = subst (λ (fn : Func). WentOf E fn ports feed old sinks v late batch next now left new more result) same h
 
 -- what the last round comes to
 abbrev pub LastOf : (E : Type 0) → Func → ℕ → Feeding → Told → List Holding → Sharded → List Arrival → Ending → Told → List Holding → Sharded → Result ended.Ended E → Type 0
 LastOf E func ports feed old sinks v batch ending now left new result =
-    (keys : Keys) (workers : ℕ) (begun : Feeding) (start : Told) → 1 < workers → HashAlikeWhereTheyMeet (function_of func) keys → Awaits (function_of func) keys workers ports begun start feed old sinks v batch (Some ending)
+    (keys : Keys) (workers : ℕ) (begun : Feeding) (start : Told) → 1 < workers → HashAlikeWhereTheyMeet (function_of func) keys → Awaits (function_of func) keys workers ports begun start feed old sinks v [] batch (Some ending)
     → Comes {E = E} (function_of func) keys workers ports begun start feed now left new result
 
 pub last_as : (E : Type 0) (func other : Func) (ports : ℕ) (feed : Feeding) (old : Told) (sinks : List Holding) (v : Sharded) (batch : List Arrival) (ending : Ending) (now : Told) (left : List Holding) (new : Sharded) (result : Result ended.Ended E) → func ≡ other

@@ -201,6 +201,13 @@ reaches_on f keys workers ports begun start next read now batch handled sinks v 
       within = r.within;
     }
 
+-- what was handled then
+pub reached_hs : (f : Function) (keys : Keys) (workers ports : ℕ) (begun : Feeding) (start : Told) (next : Feeding) (read now : Told) (batch : List Arrival) (handled : List Collected) (sinks : List Holding) (v : Sharded) (done : List Handled)
+    → (r : Rounded f keys workers ports begun start next read batch handled None v done) → (rests : (g : ℕ) → now.rest g ≡ read.rest g) → (held : AreHeld Shard workers ports (done ++ answered batch handled) now sinks)
+    → (reaches_on f keys workers ports begun start next read now batch handled sinks v done r rests held).hs ≡ done ++ answered batch handled
+unfolding reaches_on
+reached_hs f keys workers ports begun start next read now batch handled sinks v done r rests held = refl
+
 ending_of : (e : Ending) (feed next : Feeding) (old before : Told) (given batch : List Arrival) (hs : List Handled) → given ++ batch ≡ map arrival_of hs → length hs ≡ next.given → IsOver e feed old next batch → StandsFor before given feed old → IsEnding e next before hs
 ending_of All feed next old before given batch hs same count over b =
     let h = over before given b in
@@ -276,16 +283,16 @@ stops_with f keys workers ports begun start next read now batch handled stop pac
 -- ---- where the run is stopped
 
 -- what stands of files is a front where none of them was written
-fronts_kept : (workers ports : ℕ) (hs : List Handled) (old new : Told) (sinks : List Holding) → ((g : ℕ) → new.given g ≡ old.given g) → AreHeld Shard workers ports hs old sinks → AreFronts Shard workers ports hs new (files_of sinks)
+pub fronts_kept : (workers ports : ℕ) (hs : List Handled) (old new : Told) (sinks : List Holding) → ((g : ℕ) → new.given g ≡ old.given g) → AreHeld Shard workers ports hs old sinks → AreFronts Shard workers ports hs new (files_of sinks)
 fronts_kept workers ports hs old new sinks same held k file e =
     let s = stays_in sinks k file e in
     let there : Holds (bytes_of Shard workers ports k hs) (new.given s.0.file) s.0.held = subst (λ (o : Option (List ℕ)). Holds (bytes_of Shard workers ports k hs) o s.0.held) (sym (same s.0.file)) (held k s.0 s.1) in
     subst (λ (n : ℕ). IsFrontIfTold (bytes_of Shard workers ports k hs) (new.given n)) s.2 (front_all (bytes_of Shard workers ports k hs) (new.given s.0.file) s.0.held there)
 
 -- before a round was worked
-pub halts_before : (f : Function) (keys : Keys) (workers ports : ℕ) (begun : Feeding) (start : Told) (feed : Feeding) (old new : Told) (sinks : List Holding) (v : Sharded) → 1 < workers → HashAlikeWhereTheyMeet f keys
-    → Reaches f keys workers ports begun start feed old sinks v → ((g : ℕ) → new.given g ≡ old.given g) → Halts f keys workers ports begun start new (files_of sinks)
-halts_before f keys workers ports begun start feed old new sinks v several alike r same =
+pub halts_at : (f : Function) (keys : Keys) (workers ports : ℕ) (begun : Feeding) (start : Told) (feed : Feeding) (old new : Told) (sinks : List Holding) (v : Sharded) (files : List ℕ) → 1 < workers → HashAlikeWhereTheyMeet f keys
+    → (r : Reaches f keys workers ports begun start feed old sinks v) → AreFronts Shard workers ports r.hs new files → Halts f keys workers ports begun start new files
+halts_at f keys workers ports begun start feed old new sinks v files several alike r fronts =
     let ran = ran_of f keys workers r.worked.share r.hs v r.worked.at several alike (worked_stand f keys workers r.hs v r.worked) in
     record {
       hs = r.hs;
@@ -293,8 +300,13 @@ halts_before f keys workers ports begun start feed old new sinks v several alike
       sharded = ran.sharded;
       first = λ before b. first_given before (map arrival_of r.hs) feed begun old r.same_files (r.given before b);
       within = omega (arith, r.count, r.within, r.same_most);
-      fronts = fronts_kept workers ports r.hs old new sinks same r.held;
+      fronts = fronts;
     }
+
+pub halts_before : (f : Function) (keys : Keys) (workers ports : ℕ) (begun : Feeding) (start : Told) (feed : Feeding) (old new : Told) (sinks : List Holding) (v : Sharded) → 1 < workers → HashAlikeWhereTheyMeet f keys
+    → Reaches f keys workers ports begun start feed old sinks v → ((g : ℕ) → new.given g ≡ old.given g) → Halts f keys workers ports begun start new (files_of sinks)
+halts_before f keys workers ports begun start feed old new sinks v several alike r same =
+    halts_at f keys workers ports begun start feed old new sinks v (files_of sinks) several alike r (fronts_kept workers ports r.hs old new sinks same r.held)
 
 are_first : (all : Option (List Arrival)) (given batch done later : List Arrival) → AreFirst all (given ++ batch) → batch ≡ done ++ later → AreFirst all (given ++ done)
 are_first None given batch done later h whole = tt

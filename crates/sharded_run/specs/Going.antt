@@ -1,5 +1,5 @@
 -- A run in mode `shard` that goes on round by round.
-use Rattle.std.specs.Prelude.{◌≡◌, ◌+◌, ◌≤◌, ◌<◌, ℕ, List, [], length, map, slice_get, Option, Some, None, Result, Ok, Err}
+use Rattle.std.specs.Prelude.{◌≡◌, ◌+◌, ◌++◌, ◌≤◌, ◌<◌, ℕ, List, [], length, map, slice_get, Option, Some, None, Result, Ok, Err}
 use Rattle.std.specs.List.{AllByRecursion}
 use Rattle.nf_base.specs.declared.keys.Keys.{Keys}
 use Rattle.nf_base.specs.declared.packet.Fields.{Fields}
@@ -21,6 +21,7 @@ use Rattle.shard_machine.specs.Machine as machine
 use Rattle.shard_machine.specs.Machine.{Machine}
 use Rattle.shard_core.specs.Sharded as shards
 use Rattle.shard_core.specs.Sharded.{Sharded}
+use Rattle.shard_core.specs.declared.collected.Collected.{Collected}
 use Rattle.shard_core.specs.declared.collected.Stop.{Stop}
 use Rattle.stream_run.specs.declared.ending.Ending.{Ending}
 use Rattle.stream_run.specs.Runs.{Handled}
@@ -30,6 +31,7 @@ use Rattle.stream_run.specs.Streaming.{IsUndivided, arrival_of, handling_in, Are
 use Rattle.sharded_run.specs.Setups.{queue_by, setup_of}
 use Rattle.sharded_run.specs.Sharded.{AreBefore}
 use Rattle.sharded_run.specs.Reading.{Rises, Fits, Gathers, IsOver}
+use Rattle.sharded_run.specs.Rounds.{answered}
 use Rattle.stream_run.specs.declared.ran.Ran.{Ran}
 use Rattle.sharded_run.specs.declared.came.Ended.{Ended}
 use Rattle.sharded_run.specs.declared.came.Ended.TheVariants.{Over, Full}
@@ -122,23 +124,25 @@ abbrev pub IsOverIf : Option Ending → Feeding → Told → Feeding → List Ar
 IsOverIf None begun start feed batch = Unit {0}
 IsOverIf (Some ending) begun start feed batch = IsOver ending begun start feed batch
 
--- What packets leave was given to the files but for what is held. Those of a batch were read behind them
--- and are to be worked.
-pub record Awaits (f : Function) (keys : Keys) (workers ports : ℕ) (begun : Feeding) (start : Told) (feed : Feeding) (now : Told) (sinks : List Holding) (v : Sharded) (batch : List Arrival) (ending : Option Ending) : Type 0 where
+-- What packets leave was given to the files but for what is held. Others were worked behind them, and
+-- what they leave is to be written. Those of a batch were read behind these and are to be worked.
+pub record Awaits (f : Function) (keys : Keys) (workers ports : ℕ) (begun : Feeding) (start : Told) (feed : Feeding) (now : Told) (sinks : List Holding) (v : Sharded) (late : List Handled) (batch : List Arrival) (ending : Option Ending) : Type 0 where
   pub before : Feeding
   pub old : Told
   pub read : Told
-  pub reached : Reaches f keys workers ports begun start before old sinks v
+  pub reached : Reaches f keys workers ports begun start before old [] v
+  pub hs : List Handled
+  pub behind : reached.hs ≡ hs ++ late
+  pub held : AreHeld Shard workers ports hs now sinks
   pub gathers : Gathers ports before feed old read batch
   pub over : IsOverIf ending before old feed batch
   pub rests : (g : ℕ) → now.rest g ≡ read.rest g
-  pub givens : (g : ℕ) → now.given g ≡ old.given g
 
--- what a round comes to behind which packets are left
-abbrev pub GoesOn : {E : Type 0} → Function → Keys → ℕ → ℕ → Feeding → Told → Feeding → Told → List Holding → Sharded → List Arrival → Result Went E → Type 0
-GoesOn f keys workers ports begun start feed now sinks v next (Ok (On ending)) = Awaits f keys workers ports begun start feed now sinks v next ending
-GoesOn f keys workers ports begun start feed now sinks v next (Ok (Met full)) = StopsWith f keys workers begun start full.stop full.packets (λ hs. AreHeld Shard workers ports hs now sinks)
-GoesOn f keys workers ports begun start feed now sinks v next (Err stop) = Halts f keys workers ports begun start now (files_of sinks)
+-- what a round of a batch comes to behind which packets are left
+abbrev pub GoesOn : {E : Type 0} → Function → Keys → ℕ → ℕ → Feeding → Told → Feeding → Told → List Holding → Sharded → List Arrival → List Arrival → Result Went E → Type 0
+GoesOn f keys workers ports begun start feed now sinks v batch next (Ok (On ending handled)) = Awaits f keys workers ports begun start feed now sinks v (answered batch handled) next ending
+GoesOn f keys workers ports begun start feed now sinks v batch next (Ok (Met full)) = StopsWith f keys workers begun start full.stop full.packets (λ hs. AreHeld Shard workers ports hs now sinks)
+GoesOn f keys workers ports begun start feed now sinks v batch next (Err stop) = Halts f keys workers ports begun start now (files_of sinks)
 
 -- what all rounds come to
 abbrev pub Comes : {E : Type 0} → Function → Keys → ℕ → ℕ → Feeding → Told → Feeding → Told → List Holding → Sharded → Result Ended E → Type 0
@@ -174,8 +178,8 @@ pub record HasRead (ports : ℕ) (old new : Feeding) (batch : List Arrival) (end
   pub on : old.given + open_end ending ≤ new.given
 
 -- the rounds go on, and a fact holds
-abbrev pub IfOn : {E : Type 0} → Result Went E → (Option Ending → Type 0) → Type 0
-IfOn (Ok (On ending)) P = P ending
+abbrev pub IfOn : {E : Type 0} → Result Went E → (Option Ending → List Collected → Type 0) → Type 0
+IfOn (Ok (On ending handled)) P = P ending handled
 IfOn (Ok (Met full)) P = Unit {0}
 IfOn (Err stop) P = Unit {0}
 

@@ -1,6 +1,7 @@
 //! What a run in mode `shard` came to.
 
-use shard_core::Stop;
+use nf_base::seq::Seq;
+use shard_core::{Collected, Stop};
 use stream_run::{Ending, Ran};
 
 /// The share stop at which a run ends.
@@ -21,11 +22,11 @@ pub enum Ended {
 }
 
 /// What a round came to behind which packets are left.
-#[derive(Clone, Copy, Debug, PartialEq, Eq)]
+#[derive(Drop)]
 pub(crate) enum Went {
-    /// All its packets were handled. Those of the next round were read, and so the captures end behind
-    /// them, if they do.
-    On(Option<Ending>),
+    /// All its packets were handled, and this is to be written. Those of the next round were read, and so
+    /// the captures end behind them, if they do.
+    On(Option<Ending>, Seq<Collected>),
     /// A share has no index left at a packet, and those before it were handled.
     Met(ShareFull),
 }

@@ -11,11 +11,11 @@ ghost use Rattle.packet_feed.specs.Sources.{files_in};
 ghost use Rattle.packet_feed.specs.Feeding.{Feeding};
 ghost use Rattle.shard_core.specs.Plays.{SameSize};
 ghost use Rattle.stream_run.specs.Writing.{files_of, KeepsBut, IsStopCause, StopsAmong};
-ghost use Rattle.sharded_run.specs.Rounds.{AreIdle};
+ghost use Rattle.sharded_run.specs.Rounds.{AreIdle, answered};
 ghost use Rattle.sharded_run.specs.Reading.{Fits};
 ghost use Rattle.sharded_run.specs.Going.{Reaches, Awaits, GoesOn, Comes, HasRead, IfOn, end_by};
 
-use crate::beside::work_and_read;
+use crate::beside::work_and_pass;
 use crate::came::{Ended, ShareFull, Went};
 use crate::kept::Batch;
 use crate::reading::read_round;
@@ -24,8 +24,8 @@ use crate::writing::write_round;
 use nf_base::seq::Seq;
 use nf_files::Files;
 use packet_feed::Feed;
-use shard_core::Shards;
-use shard_rounds::{Turns, end_round};
+use shard_core::{Collected, Shards};
+use shard_rounds::{Round, Turns, end_round};
 use std::alloc::Global;
 use std::mem;
 use std::thread::Threads;
@@ -66,7 +66,7 @@ fn last_round<R: Threads + Sync, F: Files, G: Turns + Sync>(
         (keys : keys.Keys) → (workers : ℕ) → (begun : Feeding) → (start : Told) →
         1 < workers → HashAlikeWhereTheyMeet f keys →
         Awaits f keys workers ports begun start
-        feed.now (F.told files.old) sinks.old shards.old batch.now (Some ending) →
+        feed.now (F.told files.old) sinks.old shards.old [] batch.now (Some ending) →
         Comes f keys workers ports begun start
         feed.now (F.told files.new) sinks.new shards.new result }
     ensures same { SameSize shards.old shards.new }
@@ -91,8 +91,8 @@ fn last_round<R: Threads + Sync, F: Files, G: Turns + Sync>(
     Ok(ended(ending, round.stop, packets))
 }
 
-// One round: what was read is worked while the packets of the next round are read, and what it leaves
-// is put into the files.
+// One round: what was read is worked while what the round before leaves is put into the files, and the
+// packets of the next round are read into the room of its packets.
 fn one_round<R: Threads + Sync, F: Files, G: Turns + Sync>(
     rt: &R,
     alloc: Global,
@@ -101,8 +101,9 @@ fn one_round<R: Threads + Sync, F: Files, G: Turns + Sync>(
     feed: &mut Feed,
     captures: &[u32],
     sinks: &mut Seq<Sink>,
+    last: &mut Batch,
+    handled: &Seq<Collected>,
     batch: &Batch,
-    next: &mut Batch,
     turns: &G,
 ) -> Result<Went, Stop>
     requires idle { AreIdle shards.old }
@@ -113,17 +114,20 @@ fn one_round<R: Threads + Sync, F: Files, G: Turns + Sync>(
     requires created { EachFile (F.is_written files.old) (files_of sinks.old) }
     requires apart { IsApart (files_of sinks.old) }
     requires few { length sinks.old ≤ 2 ^ 32 }
+    requires handled { length handled.now ≤ length last.old }
     requires fit { AllByRecursion (Fits (length captures.now)) (map packet_of batch.now) }
     requires enough { length batch.now ≤ feed.old.given }
     ensures on { let f = function_of shards.old.func in let ports = length captures.now in
         (keys : keys.Keys) → (workers : ℕ) → (begun : Feeding) → (start : Told) →
         1 < workers → HashAlikeWhereTheyMeet f keys →
-        Awaits f keys workers ports begun start
-        feed.old (F.told files.old) sinks.old shards.old batch.now None →
+        Awaits f keys workers ports begun start feed.old (F.told files.old) sinks.old shards.old
+        (answered last.old handled.now) batch.now None →
         GoesOn f keys workers ports begun start
-        feed.new (F.told files.new) sinks.new shards.new next.new result }
-    ensures idle { IfOn result (λ _. AreIdle shards.new) }
-    ensures read { IfOn result (HasRead (length captures.now) feed.old feed.new next.new) }
+        feed.new (F.told files.new) sinks.new shards.new batch.now last.new result }
+    ensures idle { IfOn result (λ _ _. AreIdle shards.new) }
+    ensures read { IfOn result (λ ending _.
+        HasRead (length captures.now) feed.old feed.new last.new ending) }
+    ensures fewer { IfOn result (λ _ got. length got ≤ length batch.now) }
     ensures same { SameSize shards.old shards.new }
     ensures same_files { files_of sinks.new ≡ files_of sinks.old }
     ensures kept { KeepsBut (files_of sinks.old) (F.told files.old) (F.told files.new) }
@@ -133,30 +137,29 @@ fn one_round<R: Threads + Sync, F: Files, G: Turns + Sync>(
     ensures writes { (g : ℕ) → F.is_written files.old g → F.is_written files.new g }
 {
     let given = feed.given();
-    let got = match begin_kept(alloc, shards, batch) {
-        Ok(got) => got,
+    let ports = shards.func().handlers.len();
+    let room = match begin_kept(alloc, shards, batch) {
+        Ok(room) => room,
         Err(_) => return Err(Stop::Memory),
     };
-    next.clear();
-    let read = work_and_read(rt, alloc, shards, files, feed, captures, next, turns);
-    let round = end_round(shards, got);
-    let ending = match read {
+    let passed = work_and_pass(
+        rt, alloc, shards, files, sinks, ports, last, handled, feed, captures, turns,
+    );
+    let Round { handled: got, stop } = end_round(shards, room);
+    let ending = match passed {
         Ok(ending) => ending,
         Err(stop) => return Err(stop),
     };
-    let ports = shards.func().handlers.len();
-    let handled = &round.handled;
-    match write_round(files, sinks, ports, batch, handled) {
-        Ok(()) => {}
-        Err(stop) => return Err(stop),
-    }
-    let stop = round.stop;
     match stop {
         Some(stop) => {
-            let packets = given - (batch.len() - handled.len()) as u32;
+            match write_round(files, sinks, ports, batch, &got) {
+                Ok(()) => {}
+                Err(fault) => return Err(fault),
+            }
+            let packets = given - (batch.len() - got.len()) as u32;
             Ok(Went::Met(ShareFull { stop, packets }))
         }
-        None => Ok(Went::On(ending)),
+        None => Ok(Went::On(ending, got)),
     }
 }
 
@@ -169,8 +172,8 @@ fn rounds_in<R: Threads + Sync, F: Files, G: Turns + Sync>(
     feed: &mut Feed,
     captures: &[u32],
     sinks: &mut Seq<Sink>,
+    last: &mut Batch,
     batch: &mut Batch,
-    next: &mut Batch,
     turns: &G,
 ) -> Result<Ended, Stop>
     requires idle { AreIdle shards.old }
@@ -201,18 +204,27 @@ fn rounds_in<R: Threads + Sync, F: Files, G: Turns + Sync>(
         Ok(ending) => ending,
         Err(stop) => return Err(stop),
     };
+    let ports = shards.func().handlers.len();
+    let mut handled = Seq::new(alloc);
     'rounds: loop {
         match ending {
-            Some(end) => return last_round(
-                rt, alloc, files, shards, feed, captures, sinks, batch, end, turns,
-            ),
+            Some(end) => {
+                match write_round(files, sinks, ports, last, &handled) {
+                    Ok(()) => {}
+                    Err(stop) => return Err(stop),
+                }
+                return last_round(
+                    rt, alloc, files, shards, feed, captures, sinks, batch, end, turns,
+                );
+            }
             None => {}
         }
         match one_round(
-            rt, alloc, files, shards, feed, captures, sinks, batch, next, turns,
+            rt, alloc, files, shards, feed, captures, sinks, last, &handled, batch, turns,
         ) {
-            Ok(Went::On(then)) => {
-                mem::swap(batch, next);
+            Ok(Went::On(then, got)) => {
+                mem::swap(last, batch);
+                handled = got;
                 ending = then;
             }
             Ok(Went::Met(full)) => return Ok(Ended::Full(full)),
@@ -256,9 +268,9 @@ pub(crate) fn all_rounds<R: Threads + Sync, F: Files, G: Turns + Sync>(
     ensures reads { (g : ℕ) → F.is_read files.old g → F.is_read files.new g }
     ensures writes { (g : ℕ) → F.is_written files.old g → F.is_written files.new g }
 {
+    let mut last = Batch::new(alloc);
     let mut batch = Batch::new(alloc);
-    let mut next = Batch::new(alloc);
     rounds_in(
-        rt, alloc, files, shards, feed, captures, sinks, &mut batch, &mut next, turns,
+        rt, alloc, files, shards, feed, captures, sinks, &mut last, &mut batch, turns,
     )
 }

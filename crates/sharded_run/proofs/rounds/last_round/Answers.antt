@@ -1,4 +1,4 @@
-use Rattle.std.proofs.Common.{◌≡◌, ◌<◌, ◌-◌, ◌+◌, ◌∙◌, ◌++◌, ℕ, length, map, Some, Ok, sym, ap, subst, refl, arith}
+use Rattle.std.proofs.Common.{◌≡◌, ◌<◌, ◌-◌, ◌+◌, ◌∙◌, ◌++◌, [], ℕ, length, map, Some, Ok, sym, ap, subst, arith}
 use Rattle.std.proofs.lemmas.List.Elements.{All-from_recursion, All-weaker}
 use Rattle.nf_base.specs.declared.func.Func.{Func}
 use Rattle.nf_base.specs.declared.packet.Packet.{Packet}
@@ -25,7 +25,7 @@ work_kept-requires-clause-ports g c = λ κs lives.
 pub returns-in-Err-clause-comes : goal.returns-in-Err-clause-comes
 returns-in-Err-clause-comes g c = λ keys workers begun start several alike a.
     let told = g.F.Files.told in
-    halts_waiting (function_of c.args.shards.now.func) keys workers (length c.args.captures.now) begun start c.args.feed.now (told c.args.files.now) (told c.args.files.now) c.args.sinks.now c.args.shards.now c.args.batch.now (Some c.args.ending) several alike a (λ n. refl)
+    halts_waiting (function_of c.args.shards.now.func) keys workers (length c.args.captures.now) begun start c.args.feed.now (told c.args.files.now) c.args.sinks.now c.args.shards.now [] c.args.batch.now (Some c.args.ending) several alike a
 
 pub returns-in-Err-write_round-clause-comes : goal.returns-in-Err-write_round-clause-comes
 returns-in-Err-write_round-clause-comes g c = λ keys workers begun start several alike a.
@@ -41,8 +41,8 @@ returns-in-Err-write_round-clause-comes g c = λ keys workers begun start severa
     let v = c.args.shards.now in
     let new = c.work_kept.new.shards in
     let hs = a.reached.hs in
-    let rd = rounded_of f keys workers ports begun start feed old sinks batch (Some c.args.ending) round.handled round.stop v new a (c.in-Ok.ensures.round (setup_of f keys workers a.reached.worked.share) a.reached.worked.at a.reached.worked.stands) in
-    let held = held_waiting f keys workers ports begun start feed old old sinks batch (Some c.args.ending) v a (λ n. refl) in
+    let rd = rounded_of f keys workers ports begun start feed old sinks [] batch (Some c.args.ending) round.handled round.stop v new a (c.in-Ok.ensures.round (setup_of f keys workers a.reached.worked.share) a.reached.worked.at a.reached.worked.stands) in
+    let held = held_waiting f keys workers ports begun start feed old sinks batch (Some c.args.ending) v a in
     let same : ports ≡ c.len-ports.result = c.requires.ports ∙ sym (c.len-ports.ensures.value ∙ ap (λ (fn : Func). length fn.handlers) (c.func.ensures ∙ c.work_kept.ensures.same.func)) in
     let files = files_of c.write_round.new.sinks in
     halts_writing f keys workers ports begun start feed a.read now batch round.handled round.stop files new hs several alike rd
@@ -64,8 +64,8 @@ returns-clause-comes g c = λ keys workers begun start several alike a.
     let new = c.work_kept.new.shards in
     let hs = a.reached.hs in
     let packets = c.given.result - (c.len.result - c.len-2.result) in
-    let rd = rounded_of f keys workers ports begun start feed old sinks batch (Some c.args.ending) round.handled round.stop v new a (c.in-Ok.ensures.round (setup_of f keys workers a.reached.worked.share) a.reached.worked.at a.reached.worked.stands) in
-    let held = held_waiting f keys workers ports begun start feed old old sinks batch (Some c.args.ending) v a (λ n. refl) in
+    let rd = rounded_of f keys workers ports begun start feed old sinks [] batch (Some c.args.ending) round.handled round.stop v new a (c.in-Ok.ensures.round (setup_of f keys workers a.reached.worked.share) a.reached.worked.at a.reached.worked.stands) in
+    let held = held_waiting f keys workers ports begun start feed old sinks batch (Some c.args.ending) v a in
     let same : ports ≡ c.len-ports.result = c.requires.ports ∙ sym (c.len-ports.ensures.value ∙ ap (λ (fn : Func). length fn.handlers) (c.func.ensures ∙ c.work_kept.ensures.same.func)) in
     let counted : packets + length batch ≡ feed.given + length round.handled = omega (arith, c.given.ensures, c.len.ensures, c.len-2.ensures, c.in-Ok.ensures.fewer, c.requires.enough) in
     subst (λ (e : Ended). Comes {E = Stop} f keys workers ports begun start feed now c.write_round.new.sinks new (Ok e)) (sym c.ended.ensures)

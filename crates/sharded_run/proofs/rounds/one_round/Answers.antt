@@ -1,4 +1,4 @@
-use Rattle.std.proofs.Common.{◌≡◌, ◌<◌, ◌-◌, ◌+◌, ◌∙◌, ◌++◌, [], ℕ, length, map, Option, None, sym, ap, subst, refl, arith}
+use Rattle.std.proofs.Common.{◌≡◌, ◌<◌, ◌-◌, ◌+◌, ◌∙◌, ◌++◌, ℕ, List, length, map, Option, None, sym, ap, subst, arith}
 use Rattle.std.proofs.lemmas.List.{length-map}
 use Rattle.std.proofs.lemmas.List.Elements.{All-from_recursion, All-weaker}
 use Rattle.nf_base.specs.declared.func.Func.{Func}
@@ -8,7 +8,7 @@ use Rattle.packet_feed.specs.Arrivals.{packet_of}
 use Rattle.run_history.specs.declared.line.Mode.TheVariants.{Shard}
 use Rattle.stream_run.specs.declared.ending.Ending.{Ending}
 use Rattle.stream_run.specs.declared.stop.Stop.{Stop}
-use Rattle.stream_run.specs.Writing.{files_of, AreHeld, AreFronts}
+use Rattle.stream_run.specs.Writing.{files_of, AreHeld, AreFronts, KeepsBut}
 use Rattle.stream_run.proofs.Held.{but_both}
 use Rattle.sharded_run.specs.declared.came.Went.{Went}
 use Rattle.sharded_run.specs.Setups.{setup_of}
@@ -16,7 +16,7 @@ use Rattle.sharded_run.specs.Reading.{Fits}
 use Rattle.sharded_run.specs.Rounds.{answered}
 use Rattle.shard_core.specs.declared.collected.Stop as stopping
 use Rattle.sharded_run.proofs.Reached.{Rounded, halts_writing, stops_with, fewer_got}
-use Rattle.sharded_run.proofs.Rounding.{among_as, none_other, idle_on, is_round, has_read, awaits_on, halts_waiting, rounded_of, held_waiting}
+use Rattle.sharded_run.proofs.Rounding.{among_as, idle_on, is_round, has_read, awaits_on, halts_with, halts_waiting, rounded_of, held_behind}
 use Rattle.sharded_run.proofs.rounds.one_round.Goals as goal
 
 pub begin_kept-requires-clause-ports : goal.begin_kept-requires-clause-ports
@@ -28,29 +28,39 @@ begin_kept-requires-clause-ports g c =
 pub returns-in-Err-clause-on : goal.returns-in-Err-clause-on
 returns-in-Err-clause-on g c = λ keys workers begun start several alike a.
     let told = g.F.Files.told in
-    halts_waiting (function_of c.args.shards.now.func) keys workers (length c.args.captures.now) begun start c.args.feed.now (told c.args.files.now) (told c.args.files.now) c.args.sinks.now c.args.shards.now c.args.batch.now None several alike a (λ n. refl)
+    halts_waiting (function_of c.args.shards.now.func) keys workers (length c.args.captures.now) begun start c.args.feed.now (told c.args.files.now) c.args.sinks.now c.args.shards.now (answered c.args.last.now c.args.handled.now) c.args.batch.now None several alike a
 
-pub returns-in-Err-read-clause-on : goal.returns-in-Err-read-clause-on
-returns-in-Err-read-clause-on g c = λ keys workers begun start several alike a.
+pub returns-in-Err-passed-clause-on : goal.returns-in-Err-passed-clause-on
+returns-in-Err-passed-clause-on g c = λ keys workers begun start several alike a.
     let told = g.F.Files.told in
-    halts_waiting (function_of c.args.shards.now.func) keys workers (length c.args.captures.now) begun start c.args.feed.now (told c.args.files.now) (told c.work_and_read-read.new.files) c.args.sinks.now c.args.shards.now c.args.batch.now None several alike a
-    (λ n. (c.work_and_read-read.ensures.kept.but []).givens n (none_other n))
+    let f = function_of c.args.shards.now.func in
+    let ports = length c.args.captures.now in
+    let feed = c.args.feed.now in
+    let old = told c.args.files.now in
+    let mid = told c.work_and_pass-passed.new.files in
+    let batch = c.args.batch.now in
+    let late = answered c.args.last.now c.args.handled.now in
+    let sinks = c.args.sinks.now in
+    let left = c.work_and_pass-passed.new.sinks in
+    let v = c.args.shards.now in
+    let same : ports ≡ c.len-ports.result = c.requires.ports ∙ sym (c.len-ports.ensures.value ∙ ap (λ (fn : Func). length fn.handlers) c.func.ensures) in
+    halts_with f keys workers ports begun start feed old mid sinks v late batch None (files_of left) several alike a
+    (subst (λ (n : ℕ). AreFronts Shard workers n (a.hs ++ late) mid (files_of left)) (sym same)
+    (c.in-Err-passed.ensures.goes_on workers a.hs (subst (λ (n : ℕ). AreHeld Shard workers n a.hs old sinks) same a.held)))
 
-pub returns-in-Err-read-clause-kept : goal.returns-in-Err-read-clause-kept
-returns-in-Err-read-clause-kept g c = c.work_and_read-read.ensures.kept.but (files_of c.args.sinks.now)
-
-pub returns-in-Err-read-clause-among : goal.returns-in-Err-read-clause-among
-returns-in-Err-read-clause-among g c = among_as (Option Ending) Went c.args.captures.now (files_of c.args.sinks.now) c.in-Err-read.stop (c.in-Err-read.ensures.among (files_of c.args.sinks.now))
+pub returns-in-Err-passed-clause-among : goal.returns-in-Err-passed-clause-among
+returns-in-Err-passed-clause-among g c = among_as (Option Ending) Went c.args.captures.now (files_of c.args.sinks.now) c.in-Err-passed.stop c.in-Err-passed.ensures.among
 
 pub write_round-requires-clause-handled : goal.write_round-requires-clause-handled
 write_round-requires-clause-handled g c =
     let i = c.requires.idle in
     let batch = c.args.batch.now in
     let v = c.args.shards.now in
-    let round = c.end_round-round.result in
-    let new = c.end_round-round.new.shards in
-    let ran = c.end_round-round.ensures.ran i.setup i.at (map packet_of batch) v i.stands (c.work_and_read-read.ensures.worked i.setup _ (c.in-Ok.ensures.given i.setup i.at i.stands)) in
-    omega (arith, fewer_got i.setup i.at (map packet_of batch) round.handled round.stop new i.sent (is_round i.setup i.at (map packet_of batch) round new ran), length-map batch packet_of)
+    let round = c.end_round-got.result in
+    let new = c.end_round-got.new.shards in
+    let ran = c.end_round-got.ensures.ran i.setup i.at (map packet_of batch) v i.stands (c.work_and_pass-passed.ensures.worked i.setup _ (c.in-Ok.ensures.given i.setup i.at i.stands)) in
+    let k = is_round i.setup i.at (map packet_of batch) round new ran in
+    omega (arith, fewer_got i.setup i.at (map packet_of batch) round.handled round.stop new i.sent k, length-map batch packet_of)
 
 pub returns-in-Err-write_round-clause-on : goal.returns-in-Err-write_round-clause-on
 returns-in-Err-write_round-clause-on g c = λ keys workers begun start several alike a.
@@ -58,123 +68,134 @@ returns-in-Err-write_round-clause-on g c = λ keys workers begun start several a
     let f = function_of c.args.shards.now.func in
     let ports = length c.args.captures.now in
     let feed = c.args.feed.now in
-    let next = c.work_and_read-read.new.feed in
     let old = told c.args.files.now in
-    let mid = told c.work_and_read-read.new.files in
-    let now = told c.write_round.new.files in
+    let mid = told c.work_and_pass-passed.new.files in
     let batch = c.args.batch.now in
-    let round = c.end_round-round.result in
+    let late = answered c.args.last.now c.args.handled.now in
     let sinks = c.args.sinks.now in
+    let left = c.work_and_pass-passed.new.sinks in
     let v = c.args.shards.now in
-    let new = c.end_round-round.new.shards in
-    let hs = a.reached.hs in
+    let same : ports ≡ c.len-ports.result = c.requires.ports ∙ sym (c.len-ports.ensures.value ∙ ap (λ (fn : Func). length fn.handlers) c.func.ensures) in
+    let round = c.end_round-got.result in
+    let new = c.end_round-got.new.shards in
     let x = setup_of f keys workers a.reached.worked.share in
     let m = a.reached.worked.at in
     let stands = a.reached.worked.stands in
-    let ran = c.end_round-round.ensures.ran x m (map packet_of batch) v stands (c.work_and_read-read.ensures.worked x _ (c.in-Ok.ensures.given x m stands)) in
-    let rd = rounded_of f keys workers ports begun start feed old sinks batch None round.handled round.stop v new a (is_round x m (map packet_of batch) round new ran) in
-    let held = held_waiting f keys workers ports begun start feed old mid sinks batch None v a (λ n. (c.work_and_read-read.ensures.kept.but []).givens n (none_other n)) in
-    let same : ports ≡ c.len-ports.result = c.requires.ports ∙ sym (c.len-ports.ensures.value ∙ ap (λ (fn : Func). length fn.handlers) (c.func.ensures ∙ (c.end_round-round.ensures.size.func ∙ c.work_and_read-read.ensures.size.func ∙ c.begin_kept.ensures.same.func))) in
+    let ran = c.end_round-got.ensures.ran x m (map packet_of batch) v stands (c.work_and_pass-passed.ensures.worked x _ (c.in-Ok.ensures.given x m stands)) in
+    let rd = rounded_of f keys workers ports begun start feed old sinks late batch None round.handled round.stop v new a (is_round x m (map packet_of batch) round new ran) in
+    let written : AreHeld Shard workers ports (a.hs ++ late) mid left = subst (λ (n : ℕ). AreHeld Shard workers n (a.hs ++ late) mid left) (sym same)
+    (c.in-Ok-passed.ensures.goes_on workers a.hs (subst (λ (n : ℕ). AreHeld Shard workers n a.hs old sinks) same a.held)) in
+    let now = told c.write_round.new.files in
+    let there = held_behind f keys workers ports begun start feed old mid sinks left late batch None v a written in
     let files = files_of c.write_round.new.sinks in
-    halts_writing f keys workers ports begun start feed a.read now batch round.handled round.stop files new hs several alike rd
-    (subst (λ (n : ℕ). AreFronts Shard workers n (hs ++ answered batch round.handled) now files) (sym same)
-    (c.in-Err-write_round.ensures.goes_on Shard workers hs (subst (λ (n : ℕ). AreHeld Shard workers n hs mid sinks) same held)))
+    halts_writing f keys workers ports begun start feed a.read now batch round.handled round.stop files new a.reached.hs several alike rd
+    (subst (λ (n : ℕ). AreFronts Shard workers n (a.reached.hs ++ answered batch round.handled) now files) (sym same)
+    (c.in-Err-write_round.ensures.goes_on Shard workers a.reached.hs (subst (λ (n : ℕ). AreHeld Shard workers n a.reached.hs mid left) same there)))
 
 pub returns-in-Err-write_round-clause-kept : goal.returns-in-Err-write_round-clause-kept
 returns-in-Err-write_round-clause-kept g c =
     let told = g.F.Files.told in
-    but_both (files_of c.args.sinks.now) (told c.args.files.now) (told c.work_and_read-read.new.files) (told c.write_round.new.files) (c.work_and_read-read.ensures.kept.but (files_of c.args.sinks.now)) c.write_round.ensures.kept
+    but_both (files_of c.args.sinks.now) (told c.args.files.now) (told c.work_and_pass-passed.new.files) (told c.write_round.new.files) c.work_and_pass-passed.ensures.kept
+    (subst (λ (fs : List ℕ). KeepsBut fs (told c.work_and_pass-passed.new.files) (told c.write_round.new.files)) c.work_and_pass-passed.ensures.same_files c.write_round.ensures.kept)
 
-pub returns-in-Some-clause-kept : goal.returns-in-Some-clause-kept
-returns-in-Some-clause-kept g c =
+pub returns-in-Ok-write_round-clause-kept : goal.returns-in-Ok-write_round-clause-kept
+returns-in-Ok-write_round-clause-kept g c =
     let told = g.F.Files.told in
-    but_both (files_of c.args.sinks.now) (told c.args.files.now) (told c.work_and_read-read.new.files) (told c.write_round.new.files) (c.work_and_read-read.ensures.kept.but (files_of c.args.sinks.now)) c.write_round.ensures.kept
+    but_both (files_of c.args.sinks.now) (told c.args.files.now) (told c.work_and_pass-passed.new.files) (told c.write_round.new.files) c.work_and_pass-passed.ensures.kept
+    (subst (λ (fs : List ℕ). KeepsBut fs (told c.work_and_pass-passed.new.files) (told c.write_round.new.files)) c.work_and_pass-passed.ensures.same_files c.write_round.ensures.kept)
 
-pub returns-clause-kept : goal.returns-clause-kept
-returns-clause-kept g c =
-    let told = g.F.Files.told in
-    but_both (files_of c.args.sinks.now) (told c.args.files.now) (told c.work_and_read-read.new.files) (told c.write_round.new.files) (c.work_and_read-read.ensures.kept.but (files_of c.args.sinks.now)) c.write_round.ensures.kept
-
-pub returns-clause-idle : goal.returns-clause-idle
-returns-clause-idle g c =
-    let i = c.requires.idle in
-    let batch = c.args.batch.now in
-    let v = c.args.shards.now in
-    let round = c.end_round-round.result in
-    let new = c.end_round-round.new.shards in
-    let ran = c.end_round-round.ensures.ran i.setup i.at (map packet_of batch) v i.stands (c.work_and_read-read.ensures.worked i.setup _ (c.in-Ok.ensures.given i.setup i.at i.stands)) in
-    idle_on v new i batch round.handled round.stop (is_round i.setup i.at (map packet_of batch) round new ran) c.in-None.is
-
-pub returns-clause-read : goal.returns-clause-read
-returns-clause-read g c =
-    let told = g.F.Files.told in
-    has_read Stop (length c.args.captures.now) c.args.feed.now (told c.args.files.now) c.work_and_read-read.new.feed (told c.work_and_read-read.new.files) c.work_and_read-read.new.batch c.in-Ok-read.ending c.requires.within c.in-Ok-read.ensures.reads_on
-
-pub returns-clause-on : goal.returns-clause-on
-returns-clause-on g c = λ keys workers begun start several alike a.
+pub returns-in-Ok-write_round-clause-on : goal.returns-in-Ok-write_round-clause-on
+returns-in-Ok-write_round-clause-on g c = λ keys workers begun start several alike a.
     let told = g.F.Files.told in
     let f = function_of c.args.shards.now.func in
     let ports = length c.args.captures.now in
     let feed = c.args.feed.now in
-    let next = c.work_and_read-read.new.feed in
     let old = told c.args.files.now in
-    let mid = told c.work_and_read-read.new.files in
-    let now = told c.write_round.new.files in
+    let mid = told c.work_and_pass-passed.new.files in
     let batch = c.args.batch.now in
-    let round = c.end_round-round.result in
+    let late = answered c.args.last.now c.args.handled.now in
     let sinks = c.args.sinks.now in
+    let left = c.work_and_pass-passed.new.sinks in
     let v = c.args.shards.now in
-    let new = c.end_round-round.new.shards in
-    let hs = a.reached.hs in
+    let same : ports ≡ c.len-ports.result = c.requires.ports ∙ sym (c.len-ports.ensures.value ∙ ap (λ (fn : Func). length fn.handlers) c.func.ensures) in
+    let round = c.end_round-got.result in
+    let new = c.end_round-got.new.shards in
     let x = setup_of f keys workers a.reached.worked.share in
     let m = a.reached.worked.at in
     let stands = a.reached.worked.stands in
-    let ran = c.end_round-round.ensures.ran x m (map packet_of batch) v stands (c.work_and_read-read.ensures.worked x _ (c.in-Ok.ensures.given x m stands)) in
-    let rd = rounded_of f keys workers ports begun start feed old sinks batch None round.handled round.stop v new a (is_round x m (map packet_of batch) round new ran) in
-    let held = held_waiting f keys workers ports begun start feed old mid sinks batch None v a (λ n. (c.work_and_read-read.ensures.kept.but []).givens n (none_other n)) in
-    let same : ports ≡ c.len-ports.result = c.requires.ports ∙ sym (c.len-ports.ensures.value ∙ ap (λ (fn : Func). length fn.handlers) (c.func.ensures ∙ (c.end_round-round.ensures.size.func ∙ c.work_and_read-read.ensures.size.func ∙ c.begin_kept.ensures.same.func))) in
-    awaits_on Stop f keys workers ports begun start feed next a.read old mid now batch c.work_and_read-read.new.batch round.handled c.in-Ok-read.ending c.write_round.new.sinks new hs
-    (subst (λ (s : Option stopping.Stop). Rounded f keys workers ports begun start feed a.read batch round.handled s new hs) c.in-None.is rd) a.rests c.in-Ok-read.ensures.reads_on c.write_round.ensures.rests
-    (subst (λ (n : ℕ). AreHeld Shard workers n (hs ++ answered batch round.handled) now c.write_round.new.sinks) (sym same)
-    (c.in-Ok-write_round.ensures.goes_on Shard workers hs (subst (λ (n : ℕ). AreHeld Shard workers n hs mid sinks) same held)))
+    let ran = c.end_round-got.ensures.ran x m (map packet_of batch) v stands (c.work_and_pass-passed.ensures.worked x _ (c.in-Ok.ensures.given x m stands)) in
+    let rd = rounded_of f keys workers ports begun start feed old sinks late batch None round.handled round.stop v new a (is_round x m (map packet_of batch) round new ran) in
+    let written : AreHeld Shard workers ports (a.hs ++ late) mid left = subst (λ (n : ℕ). AreHeld Shard workers n (a.hs ++ late) mid left) (sym same)
+    (c.in-Ok-passed.ensures.goes_on workers a.hs (subst (λ (n : ℕ). AreHeld Shard workers n a.hs old sinks) same a.held)) in
+    let now = told c.write_round.new.files in
+    let there = held_behind f keys workers ports begun start feed old mid sinks left late batch None v a written in
+    let packets = c.given-given.result - (c.len.result - c.len-in-Some.result) in
+    let counted : packets + length batch ≡ feed.given + length round.handled = omega (arith, c.given-given.ensures, c.len.ensures, c.len-in-Some.ensures, c.requires.enough, fewer_got x m (map packet_of batch) round.handled round.stop new a.reached.worked.sent (is_round x m (map packet_of batch) round new ran), length-map batch packet_of) in
+    stops_with f keys workers ports begun start feed a.read now batch round.handled c.in-Some.stop packets c.write_round.new.sinks new a.reached.hs several alike
+    (subst (λ (s : Option stopping.Stop). Rounded f keys workers ports begun start feed a.read batch round.handled s new a.reached.hs) c.in-Some.is rd) counted
+    (subst (λ (n : ℕ). AreHeld Shard workers n (a.reached.hs ++ answered batch round.handled) now c.write_round.new.sinks) (sym same)
+    (c.in-Ok-write_round.ensures.goes_on Shard workers a.reached.hs (subst (λ (n : ℕ). AreHeld Shard workers n a.reached.hs mid left) same there)))
 
 pub overflow_sub-packets : goal.overflow_sub-packets
 overflow_sub-packets g c =
     let i = c.requires.idle in
     let batch = c.args.batch.now in
     let v = c.args.shards.now in
-    let round = c.end_round-round.result in
-    let new = c.end_round-round.new.shards in
-    let ran = c.end_round-round.ensures.ran i.setup i.at (map packet_of batch) v i.stands (c.work_and_read-read.ensures.worked i.setup _ (c.in-Ok.ensures.given i.setup i.at i.stands)) in
-    omega (arith, c.len.ensures, c.len-in-Some.ensures, fewer_got i.setup i.at (map packet_of batch) round.handled round.stop new i.sent (is_round i.setup i.at (map packet_of batch) round new ran), length-map batch packet_of)
+    let round = c.end_round-got.result in
+    let new = c.end_round-got.new.shards in
+    let ran = c.end_round-got.ensures.ran i.setup i.at (map packet_of batch) v i.stands (c.work_and_pass-passed.ensures.worked i.setup _ (c.in-Ok.ensures.given i.setup i.at i.stands)) in
+    let k = is_round i.setup i.at (map packet_of batch) round new ran in
+    omega (arith, c.len.ensures, c.len-in-Some.ensures, fewer_got i.setup i.at (map packet_of batch) round.handled round.stop new i.sent k, length-map batch packet_of)
 
-pub returns-in-Some-clause-on : goal.returns-in-Some-clause-on
-returns-in-Some-clause-on g c = λ keys workers begun start several alike a.
+pub returns-in-None-clause-on : goal.returns-in-None-clause-on
+returns-in-None-clause-on g c = λ keys workers begun start several alike a.
     let told = g.F.Files.told in
     let f = function_of c.args.shards.now.func in
     let ports = length c.args.captures.now in
     let feed = c.args.feed.now in
-    let next = c.work_and_read-read.new.feed in
     let old = told c.args.files.now in
-    let mid = told c.work_and_read-read.new.files in
-    let now = told c.write_round.new.files in
+    let mid = told c.work_and_pass-passed.new.files in
     let batch = c.args.batch.now in
-    let round = c.end_round-round.result in
+    let late = answered c.args.last.now c.args.handled.now in
     let sinks = c.args.sinks.now in
+    let left = c.work_and_pass-passed.new.sinks in
     let v = c.args.shards.now in
-    let new = c.end_round-round.new.shards in
-    let hs = a.reached.hs in
+    let same : ports ≡ c.len-ports.result = c.requires.ports ∙ sym (c.len-ports.ensures.value ∙ ap (λ (fn : Func). length fn.handlers) c.func.ensures) in
+    let round = c.end_round-got.result in
+    let new = c.end_round-got.new.shards in
     let x = setup_of f keys workers a.reached.worked.share in
     let m = a.reached.worked.at in
     let stands = a.reached.worked.stands in
-    let ran = c.end_round-round.ensures.ran x m (map packet_of batch) v stands (c.work_and_read-read.ensures.worked x _ (c.in-Ok.ensures.given x m stands)) in
-    let rd = rounded_of f keys workers ports begun start feed old sinks batch None round.handled round.stop v new a (is_round x m (map packet_of batch) round new ran) in
-    let held = held_waiting f keys workers ports begun start feed old mid sinks batch None v a (λ n. (c.work_and_read-read.ensures.kept.but []).givens n (none_other n)) in
-    let same : ports ≡ c.len-ports.result = c.requires.ports ∙ sym (c.len-ports.ensures.value ∙ ap (λ (fn : Func). length fn.handlers) (c.func.ensures ∙ (c.end_round-round.ensures.size.func ∙ c.work_and_read-read.ensures.size.func ∙ c.begin_kept.ensures.same.func))) in
-    let packets = c.given-given.result - (c.len.result - c.len-in-Some.result) in
+    let ran = c.end_round-got.ensures.ran x m (map packet_of batch) v stands (c.work_and_pass-passed.ensures.worked x _ (c.in-Ok.ensures.given x m stands)) in
+    let rd = rounded_of f keys workers ports begun start feed old sinks late batch None round.handled round.stop v new a (is_round x m (map packet_of batch) round new ran) in
+    let written : AreHeld Shard workers ports (a.hs ++ late) mid left = subst (λ (n : ℕ). AreHeld Shard workers n (a.hs ++ late) mid left) (sym same)
+    (c.in-Ok-passed.ensures.goes_on workers a.hs (subst (λ (n : ℕ). AreHeld Shard workers n a.hs old sinks) same a.held)) in
+    awaits_on Stop f keys workers ports begun start feed c.work_and_pass-passed.new.feed old mid batch c.work_and_pass-passed.new.last round.handled c.in-Ok-passed.ending sinks left v new late a
+    (subst (λ (s : Option stopping.Stop). Rounded f keys workers ports begun start feed a.read batch round.handled s new a.reached.hs) c.in-None.is rd) c.in-Ok-passed.ensures.reads_on written
+
+pub returns-in-None-clause-idle : goal.returns-in-None-clause-idle
+returns-in-None-clause-idle g c =
     let i = c.requires.idle in
-    let counted : packets + length batch ≡ feed.given + length round.handled = omega (arith, c.given-given.ensures, c.len.ensures, c.len-in-Some.ensures, c.requires.enough, fewer_got x m (map packet_of batch) round.handled round.stop new a.reached.worked.sent (is_round x m (map packet_of batch) round new ran), length-map batch packet_of) in
-    stops_with f keys workers ports begun start feed a.read now batch round.handled c.in-Some.stop packets c.write_round.new.sinks new hs several alike
-    (subst (λ (s : Option stopping.Stop). Rounded f keys workers ports begun start feed a.read batch round.handled s new hs) c.in-Some.is rd) counted
-    (subst (λ (n : ℕ). AreHeld Shard workers n (hs ++ answered batch round.handled) now c.write_round.new.sinks) (sym same)
-    (c.in-Ok-write_round.ensures.goes_on Shard workers hs (subst (λ (n : ℕ). AreHeld Shard workers n hs mid sinks) same held)))
+    let batch = c.args.batch.now in
+    let v = c.args.shards.now in
+    let round = c.end_round-got.result in
+    let new = c.end_round-got.new.shards in
+    let ran = c.end_round-got.ensures.ran i.setup i.at (map packet_of batch) v i.stands (c.work_and_pass-passed.ensures.worked i.setup _ (c.in-Ok.ensures.given i.setup i.at i.stands)) in
+    let k = is_round i.setup i.at (map packet_of batch) round new ran in
+    idle_on v new i batch round.handled round.stop k c.in-None.is
+
+pub returns-in-None-clause-fewer : goal.returns-in-None-clause-fewer
+returns-in-None-clause-fewer g c =
+    let i = c.requires.idle in
+    let batch = c.args.batch.now in
+    let v = c.args.shards.now in
+    let round = c.end_round-got.result in
+    let new = c.end_round-got.new.shards in
+    let ran = c.end_round-got.ensures.ran i.setup i.at (map packet_of batch) v i.stands (c.work_and_pass-passed.ensures.worked i.setup _ (c.in-Ok.ensures.given i.setup i.at i.stands)) in
+    let k = is_round i.setup i.at (map packet_of batch) round new ran in
+    omega (arith, fewer_got i.setup i.at (map packet_of batch) round.handled round.stop new i.sent k, length-map batch packet_of)
+
+pub returns-in-None-clause-read : goal.returns-in-None-clause-read
+returns-in-None-clause-read g c =
+    let told = g.F.Files.told in
+    has_read Stop (length c.args.captures.now) c.args.feed.now (told c.args.files.now) c.work_and_pass-passed.new.feed (told c.work_and_pass-passed.new.files) c.work_and_pass-passed.new.last c.in-Ok-passed.ending c.requires.within c.in-Ok-passed.ensures.reads_on

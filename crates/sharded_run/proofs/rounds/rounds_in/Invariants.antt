@@ -10,7 +10,7 @@ use Rattle.packet_feed.specs.Feeding.{Feeding}
 use Rattle.shard_core.specs.Plays.{SameSize}
 use Rattle.stream_run.specs.Writing.{files_of, KeepsBut}
 use Rattle.sharded_run.specs.Reading.{Fits}
-use Rattle.sharded_run.specs.Rounds.{AreIdle}
+use Rattle.sharded_run.specs.Rounds.{AreIdle, answered}
 use Rattle.sharded_run.specs.Going.{Reaches, Awaits, open_end}
 use Rattle.sharded_run.proofs.rounds.rounds_in.Given as goal
 
@@ -22,12 +22,13 @@ invariant-rounds g l =
     let ports = length l.captures in
     record {
       on : (keys : Keys) (workers : ℕ) (begun : Feeding) (start : Told) → 1 < workers → HashAlikeWhereTheyMeet f keys
-          → Reaches f keys workers ports begun start l.fn.feed (told l.fn.files) l.fn.sinks l.fn.shards → Awaits f keys workers ports begun start l.feed (told l.files) l.sinks l.shards l.batch l.ending;
+          → Reaches f keys workers ports begun start l.fn.feed (told l.fn.files) l.fn.sinks l.fn.shards → Awaits f keys workers ports begun start l.feed (told l.files) l.sinks l.shards (answered l.last l.handled) l.batch l.ending;
       idle : AreIdle l.shards;
       captures : files_in l.feed.sources ≡ l.captures;
       within : l.feed.given ≤ l.feed.most;
       fit : AllByRecursion (Fits ports) (map packet_of l.batch);
       enough : length l.batch ≤ l.feed.given;
+      fewer : length l.handled ≤ length l.last;
       same : SameSize l.fn.shards l.shards;
       same_files : files_of l.sinks ≡ files_of l.fn.sinks;
       kept : KeepsBut (files_of l.fn.sinks) (told l.fn.files) (told l.files);
