@@ -29,10 +29,10 @@ pub record IsHashed (c : Hash) (before now : Outside) : Type 0 where
   pub stderr : now.told.given 1 ≡ before.told.given 1
   pub counted : now.counted ≡ before.counted
 
--- That was stopped.
+-- That was stopped: nothing of the line was printed, or a front of it.
 pub record IsUnhashed (c : Hash) (before now : Outside) (stop : Stop) : Type 0 where
   pub contents : (n : List ℕ) → now.told.content n ≡ before.told.content n
-  pub stdout : PrintedFront before.told now.told 0 (hash_line c)
+  pub stdout : (now.told.given 0 ≡ before.told.given 0) ⊎ PrintedFront before.told now.told 0 (hash_line c)
   pub stderr : now.told.given 1 ≡ before.told.given 1
   pub cause : IsPrintCause before.counted now.counted stop
 
