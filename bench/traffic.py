@@ -31,6 +31,15 @@ def client(flow):
     return (10 << 24) + flow, 1024 + flow
 
 
+def scattered(flow):
+    """The same of clients whose addresses and ports follow no pattern, so that queues have about equally many flows.
+
+    Where both count up, much of what one does to a Toeplitz hash the other undoes.
+    """
+    chance = random.Random(flow)
+    return (10 << 24) + chance.randrange(1 << 24), chance.randrange(1024, 1 << 16)
+
+
 def checksum(numbers):
     """The Internet checksum of an even number of bytes (RFC 1071)."""
     total = sum(struct.unpack(f">{len(numbers) // 2}H", numbers))
@@ -54,10 +63,14 @@ def headers(source, target, size, protocol):
 
 
 class Traffic:
-    """So many records a capture, of so many flows, with frames of some sizes in turn, whole or cut to some bytes."""
+    """So many records a capture, of so many flows, with frames of some sizes in turn, whole or cut to some bytes.
 
-    def __init__(self, records, flows, sizes=MIX, cut=None):
+    `opener` gives the address and the port that opened a flow.
+    """
+
+    def __init__(self, records, flows, sizes=MIX, cut=None, opener=client):
         self.records = records
+        self.opener = opener
         self.flows = flows
         self.sizes = sizes
         self.cut = cut
@@ -81,7 +94,7 @@ class Traffic:
             for flow, size in zip(itertools.islice(self.turns(port), self.records), itertools.cycle(self.sizes)):
                 frame = frames.get((flow, size))
                 if frame is None:
-                    source, target = (client(flow), SERVER) if port == 0 else (SERVER, reply_to(flow))
+                    source, target = (self.opener(flow), SERVER) if port == 0 else (SERVER, reply_to(flow))
                     frame = headers(source, target, size, TCP if flow % 2 else UDP).ljust(size, b"\0")[:self.cut]
                     frames[flow, size] = frame
                 out.write(RECORD.pack(time // 10**9, time % 10**9, len(frame), size) + frame)
