@@ -7,108 +7,9 @@
  * flow that wasn't used for LIFETIME nanoseconds is forgotten. Captures are classic pcap over Ethernet in any of the
  * four forms; a torn record ends one.
  */
-#include <errno.h>
-#include <fcntl.h>
-#include <stdint.h>
-#include <stdio.h>
-#include <stdlib.h>
-#include <string.h>
-#include <unistd.h>
-
-enum { PIECE = 65536, MOST_CAPTURED = 262144, HEADER = 24, RECORD = 16 };
+#include "by_hand.h"
 
 static const uint64_t GREATEST_TIME = 4294967295999999999u;
-static const uint32_t NONE = UINT32_MAX;
-
-static void stop(const char *what)
-{
-    fprintf(stderr, "floor: %s%s%s\n", what, errno ? ": " : "", errno ? strerror(errno) : "");
-    exit(1);
-}
-
-static void *room(size_t size)
-{
-    void *found = calloc(1, size);
-    if (!found)
-        stop("out of memory");
-    return found;
-}
-
-static uint32_t little(const uint8_t *at)
-{
-    uint32_t number;
-    memcpy(&number, at, 4);
-    return number;
-}
-
-static uint32_t big(const uint8_t *at)
-{
-    return __builtin_bswap32(little(at));
-}
-
-static uint32_t big_16(const uint8_t *at)
-{
-    return (uint32_t)at[0] << 8 | at[1];
-}
-
-/* Files that are written, each by its own buffer. */
-
-struct output {
-    int file;
-    size_t used;
-    uint8_t bytes[PIECE + RECORD + MOST_CAPTURED];
-};
-
-static struct output *output(const char *front, const char *end)
-{
-    char name[4096];
-    struct output *to = room(sizeof *to);
-    if (snprintf(name, sizeof name, "%s.%s", front, end) >= (int)sizeof name)
-        stop("a name is too long");
-    to->file = open(name, O_WRONLY | O_CREAT | O_TRUNC, 0666);
-    if (to->file < 0)
-        stop(name);
-    return to;
-}
-
-static void flush(struct output *to)
-{
-    for (size_t at = 0; at < to->used;) {
-        ssize_t count = write(to->file, to->bytes + at, to->used - at);
-        if (count < 0)
-            stop("a write failed");
-        at += (size_t)count;
-    }
-    to->used = 0;
-}
-
-static void put(struct output *to, const void *bytes, size_t count)
-{
-    memcpy(to->bytes + to->used, bytes, count);
-    to->used += count;
-}
-
-static void put_text(struct output *to, const char *text)
-{
-    put(to, text, strlen(text));
-}
-
-static void put_number(struct output *to, uint64_t number)
-{
-    char digits[20];
-    unsigned at = sizeof digits;
-    do {
-        digits[--at] = (char)('0' + number % 10);
-        number /= 10;
-    } while (number);
-    put(to, digits + at, sizeof digits - at);
-}
-
-static void full(struct output *to)
-{
-    if (to->used >= PIECE)
-        flush(to);
-}
 
 /* Captures, each with the next whole record of it in its buffer. */
 
@@ -305,11 +206,8 @@ struct answer {
 /* The key of a frame's flow, whichever way it goes: whether it is of IPv4 with TCP or UDP, and no fragment. */
 static int key_of(const uint8_t *frame, uint32_t captured, unsigned port, struct key *key)
 {
-    if (captured < 42 || big_16(frame + 12) != 0x0800 || frame[14] >> 4 != 4 || (frame[14] & 15) < 5)
-        return 0;
-    uint32_t at = 14u + 4u * (frame[14] & 15u);
-    uint32_t needed = frame[23] == 6 ? 20 : frame[23] == 17 ? 8 : MOST_CAPTURED;
-    if (big_16(frame + 20) & 0x3fff || at + needed > captured)
+    uint32_t at = end_of_ip(frame, captured);
+    if (!at)
         return 0;
     uint32_t source = big(frame + 26), target = big(frame + 30);
     uint16_t source_port = (uint16_t)big_16(frame + at), target_port = (uint16_t)big_16(frame + at + 2);
@@ -345,10 +243,7 @@ static struct answer handle(const struct capture *from, unsigned port)
 
 static void put_record(struct output *to, const struct capture *from)
 {
-    uint32_t numbers[4] = {(uint32_t)(from->time / 1000000000), (uint32_t)(from->time % 1000000000), from->captured,
-        from->original};
-    put(to, numbers, RECORD);
-    put(to, from->bytes + from->at + RECORD, from->captured);
+    put_frame(to, from->time, from->captured, from->original, from->bytes + from->at + RECORD);
     full(to);
 }
 
@@ -394,7 +289,6 @@ static void put_state(struct output *to)
 
 int main(int count, char **words)
 {
-    static const uint8_t header[HEADER] = {0x4d, 0x3c, 0xb2, 0xa1, 2, 0, 4, 0, 0, 0, 0, 0, 0, 0, 0, 0, 0, 0, 4, 0, 1};
     if (count != 6)
         stop("OUT INSIDE OUTSIDE INDICES LIFETIME");
     indices = (uint32_t)strtoul(words[4], NULL, 10);
@@ -405,8 +299,8 @@ int main(int count, char **words)
     struct output *to[2] = {output(words[1], "0.pcap"), output(words[1], "1.pcap")};
     struct output *journal = output(words[1], "journal");
     make_tables();
-    put(to[0], header, HEADER);
-    put(to[1], header, HEADER);
+    put(to[0], pcap_header, HEADER);
+    put(to[1], pcap_header, HEADER);
     put_text(journal, "maestro journal 1 one 1\n");
     while (from[0]->has_next || from[1]->has_next) {
         unsigned port = !from[0]->has_next || (from[1]->has_next && from[1]->time < from[0]->time);

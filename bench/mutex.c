@@ -5,52 +5,15 @@
  * As `maestro run --mode lock` does, it loads all captures, one for each port, has worker p modulo WORKERS handle the
  * packets of port p in capture order, and then writes OUT.0.pcap and so on, OUT.journal and OUT.state in the order in
  * which packets were handled: `maestro replay` judges them. Headers are read and keys are hashed outside the mutex.
+ * Where OUT is `-` nothing is written, and it prints how long the workers took.
  * Captures are classic pcap with nanoseconds in little-endian order, of this folder's traffic.
  */
-#include <errno.h>
-#include <fcntl.h>
+#include "by_hand.h"
 #include <pthread.h>
-#include <stdint.h>
-#include <stdio.h>
-#include <stdlib.h>
-#include <string.h>
 #include <sys/stat.h>
-#include <unistd.h>
+#include <time.h>
 
-enum { PORTS = 4, PIECE = 1 << 20, HEADER = 24, RECORD = 16 };
-
-static const uint32_t NONE = UINT32_MAX;
-
-static void stop(const char *what)
-{
-    fprintf(stderr, "mutex: %s%s%s\n", what, errno ? ": " : "", errno ? strerror(errno) : "");
-    exit(1);
-}
-
-static void *room(size_t size)
-{
-    void *found = calloc(1, size ? size : 1);
-    if (!found)
-        stop("out of memory");
-    return found;
-}
-
-static uint32_t little(const uint8_t *at)
-{
-    uint32_t number;
-    memcpy(&number, at, 4);
-    return number;
-}
-
-static uint32_t big(const uint8_t *at)
-{
-    return __builtin_bswap32(little(at));
-}
-
-static uint32_t big_16(const uint8_t *at)
-{
-    return (uint32_t)at[0] << 8 | at[1];
-}
+enum { PORTS = 4 };
 
 /* Captures that are held whole. */
 
@@ -234,11 +197,8 @@ static struct question question_of(const struct packet *packet)
     const uint8_t *frame = packet->record + RECORD;
     uint32_t captured = little(packet->record + 8);
     struct question found = {0};
-    if (captured < 42 || big_16(frame + 12) != 0x0800 || frame[14] >> 4 != 4 || (frame[14] & 15) < 5)
-        return found;
-    uint32_t at = 14u + 4u * (frame[14] & 15u);
-    uint32_t needed = frame[23] == 6 ? 20 : frame[23] == 17 ? 8 : 1u << 30;
-    if (big_16(frame + 20) & 0x3fff || at + needed > captured)
+    uint32_t at = end_of_ip(frame, captured);
+    if (!at)
         return found;
     found.is_handled = 1;
     if (is_bridge) {
@@ -320,84 +280,40 @@ static void *work(void *number)
 
 /* What the packets and the tables leave in files. */
 
-struct output {
-    int file;
-    size_t used;
-    uint8_t bytes[2 * PIECE];
-};
-
-static struct output *output(const char *front, const char *end)
-{
-    char name[4096];
-    struct output *to = room(sizeof *to);
-    if (snprintf(name, sizeof name, "%s.%s", front, end) >= (int)sizeof name)
-        stop("a name is too long");
-    to->file = open(name, O_WRONLY | O_CREAT | O_TRUNC, 0666);
-    if (to->file < 0)
-        stop(name);
-    return to;
-}
-
-static void flush(struct output *to)
-{
-    for (size_t at = 0; at < to->used;) {
-        ssize_t count = write(to->file, to->bytes + at, to->used - at);
-        if (count < 0)
-            stop("a write failed");
-        at += (size_t)count;
-    }
-    to->used = 0;
-}
-
-static void put(struct output *to, const void *bytes, size_t count)
-{
-    memcpy(to->bytes + to->used, bytes, count);
-    to->used += count;
-    if (to->used >= PIECE)
-        flush(to);
-}
-
-static void put_number(struct output *to, const char *before, uint64_t number)
-{
-    char digits[20];
-    unsigned at = sizeof digits;
-    do {
-        digits[--at] = (char)('0' + number % 10);
-        number /= 10;
-    } while (number);
-    put(to, before, strlen(before));
-    put(to, digits + at, sizeof digits - at);
-}
-
 static void put_record(struct output *to, const struct packet *packet)
 {
-    uint32_t numbers[4] = {(uint32_t)(packet->time / 1000000000), (uint32_t)(packet->time % 1000000000),
-        little(packet->record + 8), little(packet->record + 12)};
-    put(to, numbers, RECORD);
-    put(to, packet->record + RECORD, numbers[2]);
+    const uint8_t *record = packet->record;
+    put_frame(to, packet->time, little(record + 8), little(record + 12), record + RECORD);
+    full(to);
+}
+
+static void put_after(struct output *to, const char *before, uint64_t number)
+{
+    put_text(to, before);
+    put_number(to, number);
 }
 
 static void put_line(struct output *to, const struct answer *answer)
 {
     static const char *const words[] = {" skip", " drop", " flood"};
-    put_number(to, "", answer->packet->port);
-    put_number(to, " ", answer->packet->seq);
-    put_number(to, " ", workers > 1 ? answer->packet->port % workers : 0);
+    put_number(to, answer->packet->port);
+    put_after(to, " ", answer->packet->seq);
+    put_after(to, " ", workers > 1 ? answer->packet->port % workers : 0);
     if (answer->action < 0)
-        put(to, words[answer->action - SKIP], strlen(words[answer->action - SKIP]));
+        put_text(to, words[answer->action - SKIP]);
     else
-        put_number(to, " to:", (uint64_t)answer->action);
+        put_after(to, " to:", (uint64_t)answer->action);
     if (answer->index == NONE)
-        put(to, " -\n", 3);
-    else {
-        put_number(to, " ", answer->index);
-        put(to, "\n", 1);
-    }
+        put_text(to, " -");
+    else
+        put_after(to, " ", answer->index);
+    put_text(to, "\n");
+    full(to);
 }
 
 static void put_state(struct output *to)
 {
-    put_number(to, is_bridge ? "chain macs greatest " : "chain flows greatest ", greatest);
+    put_after(to, is_bridge ? "chain macs greatest " : "chain flows greatest ", greatest);
     uint8_t *is_free = room(indices + 2);
     for (uint32_t index = entries[indices + 1].next; index != indices + 1; index = entries[index].next)
         is_free[index] = 1;
@@ -405,33 +321,33 @@ static void put_state(struct output *to)
         const struct entry *entry = &entries[index];
         if (is_free[index])
             continue;
-        put_number(to, "\n", index);
-        put_number(to, " ", entry->stamp);
+        full(to);
+        put_after(to, "\n", index);
+        put_after(to, " ", entry->stamp);
         if (is_bridge) {
-            put_number(to, " m=", entry->key.low);
-            put_number(to, " at=", entry->at);
+            put_after(to, " m=", entry->key.low);
+            put_after(to, " at=", entry->at);
             continue;
         }
-        put_number(to, " a=", entry->key.high >> 32);
-        put_number(to, " b=", entry->key.high & UINT32_MAX);
-        put_number(to, " c=", entry->key.low >> 16);
-        put_number(to, " d=", entry->key.low & 0xffff);
+        put_after(to, " a=", entry->key.high >> 32);
+        put_after(to, " b=", entry->key.high & UINT32_MAX);
+        put_after(to, " c=", entry->key.low >> 16);
+        put_after(to, " d=", entry->key.low & 0xffff);
     }
-    put(to, "\n", 1);
+    put_text(to, "\n");
     flush(to);
 }
 
 static void write_all(const char *front)
 {
-    static const uint8_t header[HEADER] = {0x4d, 0x3c, 0xb2, 0xa1, 2, 0, 4, 0, 0, 0, 0, 0, 0, 0, 0, 0, 0, 0, 4, 0, 1};
     struct output *to[PORTS];
     for (unsigned port = 0; port < ports; port++) {
         to[port] = output(front, (const char *[]){"0.pcap", "1.pcap", "2.pcap", "3.pcap"}[port]);
-        put(to[port], header, HEADER);
+        put(to[port], pcap_header, HEADER);
     }
     struct output *journal = output(front, "journal");
-    put_number(journal, workers > 1 ? "maestro journal 1 lock " : "maestro journal 1 one ", workers);
-    put(journal, "\n", 1);
+    put_after(journal, workers > 1 ? "maestro journal 1 lock " : "maestro journal 1 one ", workers);
+    put_text(journal, "\n");
     for (size_t at = 0; at < handled; at++) {
         const struct answer *answer = &order[at];
         for (unsigned port = 0; port < ports; port++) {
@@ -444,6 +360,22 @@ static void write_all(const char *front)
         flush(to[port]);
     flush(journal);
     put_state(output(front, "state"));
+}
+
+/* Starts the workers, and waits for them to end; gives how many nanoseconds that took. */
+static uint64_t handle_all(void)
+{
+    struct timespec start, end;
+    pthread_t threads[16];
+    clock_gettime(CLOCK_MONOTONIC, &start);
+    for (unsigned worker = 0; worker < workers; worker++) {
+        if (pthread_create(&threads[worker], NULL, work, (void *)(uintptr_t)worker))
+            stop("a thread can't be started");
+    }
+    for (unsigned worker = 0; worker < workers; worker++)
+        pthread_join(threads[worker], NULL);
+    clock_gettime(CLOCK_MONOTONIC, &end);
+    return (uint64_t)(end.tv_sec - start.tv_sec) * 1000000000u + (uint64_t)end.tv_nsec - (uint64_t)start.tv_nsec;
 }
 
 int main(int count, char **words)
@@ -464,13 +396,11 @@ int main(int count, char **words)
     }
     order = room(all * sizeof *order);
     make_tables();
-    pthread_t threads[16];
-    for (unsigned worker = 0; worker < workers; worker++) {
-        if (pthread_create(&threads[worker], NULL, work, (void *)(uintptr_t)worker))
-            stop("a thread can't be started");
+    uint64_t took = handle_all();
+    if (strcmp(words[1], "-") == 0) {
+        printf("handled %zu in %llu ns\n", handled, (unsigned long long)took);
+        return 0;
     }
-    for (unsigned worker = 0; worker < workers; worker++)
-        pthread_join(threads[worker], NULL);
     write_all(words[1]);
     printf("ran %zu %s %u\n", handled, workers > 1 ? "lock" : "one", workers);
     return 0;
