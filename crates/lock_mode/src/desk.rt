@@ -1,5 +1,6 @@
 //! What lies under the writer's lock: the writer, and the end of the history.
-ghost use Rattle.std.specs.Prelude.{◌≡◌, ◌<◌, ◌+◌, ◌^◌, ◌++◌, ◌∷◌, [], length, drop, true, IfOk, OnErr};
+ghost use Rattle.std.specs.Prelude.{◌≡◌, ◌<◌, ◌≤◌, ◌+◌, ◌^◌, ◌++◌, ◌∷◌, [], length, drop, true, IfOk, OnErr};
+ghost use Rattle.lock_core.specs.declared.call.Way.TheVariants as way;
 ghost use Rattle.lock_core.specs.Events.{IsStep};
 ghost use mathlib.Core.List.{IsPrefix};
 ghost use Rattle.lock_core.specs.Calls.{count_of};
@@ -131,7 +132,9 @@ fn wait_for_all<J: Naming, G: Gate + Drop, R: Wait>(rt: &R, seats: &[Seat<J, G>]
 
 impl<J: Naming> Desk<J> {
     /// Handles a packet of a seat behind all that the seat has seen, and tells the history then.
-    pub(crate) fn place<R: Wait>(
+    ///
+    /// `Err` comes before anything is done.
+    fn put<R: Wait>(
         &mut self,
         rt: &R,
         seen: &Front<J>,
@@ -140,12 +143,50 @@ impl<J: Naming> Desk<J> {
     ) -> Result<(Placed, Front<J>), AllocError>
         requires seat { seat < J.seats }
         requires port { packet.now.id.port < length J.function.handlers }
-        ensures { IfOk result (λ r. IsAlone J.function seen.now seat packet.now r.0 r.1) }
+        ensures stands { IfOk result (λ r. IsAlone J.function seen.now seat packet.now r.0 r.1) }
+        ensures once { IfOk result (λ r. r.0.place ≡ length self.old.tail) }
+        ensures last { IfOk result (λ r. r.1 ≡ self.new.tail) }
+        ensures same { OnErr result (self.new.tail ≡ self.old.tail) }
     {
         wait_for(rt, seen, &self.tail);
         let placed = replace_with(self, rt, |desk, rt| desk.alone(rt, seat, packet));
         match placed {
             Ok(placed) => Ok((placed, self.tail.seen())),
+            Err(refused) => Err(refused),
+        }
+    }
+
+    /// Handles a packet of a seat behind all that the seat has seen: the history has one entry more
+    /// then, which the seat has seen, and the seat one call. The seat has room for it.
+    ///
+    /// `Err` comes before anything is done.
+    pub(crate) fn place<R: Wait, G: Gate + Drop>(
+        &mut self,
+        rt: &R,
+        seat: &mut Seat<J, G>,
+        packet: &Packet,
+    ) -> Result<Placed, AllocError>
+        requires port { packet.now.id.port < length J.function.handlers }
+        requires room { 0 < seat.old.room }
+        ensures stands { IfOk result (λ placed. IsAlone J.function seat.old.seen
+            seat.old.number packet.now placed seat.new.seen) }
+        ensures called { IfOk result (λ placed. seat.new.calls ≡ seat.old.calls
+            ++ (record { way = way.Alone; place = placed.place; packet = packet.now; done = placed.done }) ∷ []) }
+        // Nothing else came into the history.
+        ensures once { IfOk result (λ placed. placed.place ≡ length self.old.tail) }
+        ensures last { IfOk result (λ _. seat.new.seen ≡ self.new.tail) }
+        ensures history { OnErr result (self.new.tail ≡ self.old.tail) }
+        ensures unseen { OnErr result (seat.new.seen ≡ seat.old.seen) }
+        ensures same { OnErr result (seat.new.calls ≡ seat.old.calls) }
+        ensures number { seat.new.number ≡ seat.old.number }
+        ensures refused { seat.new.refused ≡ seat.old.refused }
+        ensures room { seat.old.room ≤ seat.new.room + 1 }
+    {
+        match self.put(rt, seat.seen(), seat.number(), packet) {
+            Ok((placed, front)) => {
+                seat.stand(rt, front, packet, &placed);
+                Ok(placed)
+            }
             Err(refused) => Err(refused),
         }
     }

@@ -9,7 +9,7 @@ ghost use Rattle.lock_mode.specs.Gates.{Rose};
 ghost use Rattle.lock_mode.specs.Opening.{IfMany, IfOneSeat, AreNew, AreOpening};
 ghost use Rattle.lock_mode.specs.Seats.{AreAll};
 
-use crate::book::{Blank, Book, Front, Naming};
+use crate::book::{Blank, Book, Naming};
 use crate::desk::Desk;
 use crate::gate::Gate;
 use crate::opening::{Opened, copies_of, opened_by};
@@ -93,24 +93,6 @@ impl<J: Naming> Shared<J> {
         }
     }
 
-    /// Handles a packet under the writer's lock, behind all that was seen.
-    fn place<R: Wait>(
-        &self,
-        rt: &R,
-        seen: &Front<J>,
-        seat: u32,
-        packet: &Packet,
-    ) -> Result<(Placed, Front<J>), AllocError>
-        requires seat { seat < J.seats }
-        requires port { packet.now.id.port < length J.function.handlers }
-        ensures { IfOk result (λ r. IsAlone J.function seen.now seat packet.now r.0 r.1) }
-    {
-        let mut guard = self.desk.lock(rt);
-        let placed = guard.place(rt, seen, seat, packet);
-        MutexGuard::unlock(guard);
-        placed
-    }
-
     /// Handles a packet at the end of the history, which the seat has then seen. It may wait.
     ///
     /// `Err` is for want of memory, and comes before anything is done.
@@ -132,13 +114,10 @@ impl<J: Naming> Shared<J> {
         ensures room { seat.old.room ≤ seat.new.room + 1 }
     {
         seat.reserve(1)?;
-        match self.place(rt, seat.seen(), seat.number(), packet) {
-            Ok((placed, front)) => {
-                seat.stand(rt, front, packet, &placed);
-                Ok(placed)
-            }
-            Err(refused) => Err(refused),
-        }
+        let mut guard = self.desk.lock(rt);
+        let placed = guard.place(rt, seat, packet);
+        MutexGuard::unlock(guard);
+        placed
     }
 
     /// Ends the tables, with all their seats, and gives what was done as one order. It may wait.
@@ -172,6 +151,8 @@ impl<J: Naming> Shared<J> {
     }
 
     /// Ends the tables, with all their seats, without an answer. It takes no memory, and may wait.
+    ///
+    /// It leaves nothing that a clause could speak of.
     pub fn give_up<R: Wait, G: Gate + Drop>(self, rt: &R, seats: Vec<Seat<J, G>>) {
         drop(seats);
         let Shared { desk } = self;
