@@ -1,0 +1,53 @@
+//! Workers that share the tables of a function, or one that has them for itself.
+ghost use Rattle.std.specs.Prelude.{◌≡◌, ◌<◌, true, length, All};
+
+use crate::gates::Shut;
+use lock_mode::{Gate, PackGate};
+use lock_workers::{Idle, Worked, run};
+use nf_base::func::Func;
+use nf_base::packet::Packet;
+use std::alloc::{AllocError, Global};
+use std::sync::Wait;
+use std::thread::Threads;
+
+/// Whether each packet is of one of so many ports.
+fn have_ports(packets: &[Packet], ports: u32) -> bool
+    ensures { result ≡ true → All (λ p. p.id.port < ports) packets.now }
+{
+    packets.iter().all(|p| p.id.port < ports)
+}
+
+/// What packets come to by workers that a gate lets in, unless one has no port or there is no worker.
+fn work_by<R: Threads + Wait + Sync, G: Gate + Drop + Send>(
+    rt: &R,
+    alloc: Global,
+    func: &Func,
+    workers: u32,
+    packets: &[Packet],
+    gate: &mut G,
+) -> Result<Option<Worked>, AllocError> {
+    let ports = func.handlers.len();
+    if workers == 0 || packets.len() > 4_294_967_296 || !have_ports(packets, ports) {
+        return Ok(None);
+    }
+    match run(rt, alloc, func, workers, packets, &Idle, gate) {
+        Ok(worked) => Ok(Some(worked)),
+        Err(refused) => Err(refused),
+    }
+}
+
+/// What packets come to by so many workers, or, where that is 0, by one that shares its tables with
+/// nobody.
+pub fn work<R: Threads + Wait + Sync>(
+    rt: &R,
+    alloc: Global,
+    func: &Func,
+    workers: u32,
+    packets: &[Packet],
+) -> Result<Option<Worked>, AllocError> {
+    if workers == 0 {
+        work_by(rt, alloc, func, 1, packets, &mut Shut::new())
+    } else {
+        work_by(rt, alloc, func, workers, packets, &mut PackGate::new())
+    }
+}
