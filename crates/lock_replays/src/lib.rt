@@ -1,5 +1,6 @@
 //! Laws of runs in mode `lock` and of their replays.
 #![tactic(auto)]
+
 ghost use Rattle.lock_replays.specs.Laws.{LockRunsAreRight, TheirPacketsAreFirst};
 
 use replay_run::laws::{ports_keep_their_order, runs_are_right};
