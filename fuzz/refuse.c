@@ -1,35 +1,42 @@
 /* Refuses memory to a program that is run with this library in LD_PRELOAD.
  *
- * REFUSE=N has its Nth growth fail, counted from 1, and REFUSE=N.. each from the Nth on. At the end it writes into the
- * file that ASKED names how many there were.
+ * REFUSE=N has its Nth growth fail, counted from 1, and REFUSE=N+K that and the next K ones. In the file that ASKED names
+ * it counts them, in the 8 bytes of a number: a program may end without a last word of this library.
  */
 #define _GNU_SOURCE
 #include <dlfcn.h>
+#include <fcntl.h>
 #include <stdatomic.h>
-#include <stdio.h>
 #include <stdlib.h>
-#include <string.h>
+#include <sys/mman.h>
+#include <unistd.h>
 
 static void *(*plain_malloc)(size_t);
 static void *(*plain_realloc)(void *, size_t);
-static unsigned long refused;
-static int for_good;
-static atomic_ulong asked;
+static unsigned long first, last;
+static atomic_ulong before;
+static atomic_ulong *asked = &before;
 
 __attribute__((constructor)) static void begin(void)
 {
-    const char *words = getenv("REFUSE");
+    const char *words = getenv("REFUSE"), *name = getenv("ASKED");
     plain_malloc = dlsym(RTLD_NEXT, "malloc");
     plain_realloc = dlsym(RTLD_NEXT, "realloc");
-    for_good = words && strstr(words, "..");
-    atomic_store(&asked, 0);
-    refused = words ? strtoul(words, NULL, 10) : 0;
+    int file = name ? open(name, O_RDWR | O_CREAT | O_TRUNC | O_CLOEXEC, 0666) : -1;
+    if (file >= 0 && ftruncate(file, sizeof *asked) == 0) {
+        void *found = mmap(NULL, sizeof *asked, PROT_READ | PROT_WRITE, MAP_SHARED, file, 0);
+        asked = found == MAP_FAILED ? asked : found;
+    }
+    char *rest = NULL;
+    unsigned long number = words ? strtoul(words, &rest, 10) : 0;
+    last = number + (rest && *rest == '+' ? strtoul(rest + 1, NULL, 10) : 0);
+    first = number;
 }
 
 static int is_refused(void)
 {
-    unsigned long number = atomic_fetch_add(&asked, 1) + 1;
-    return refused && (for_good ? number >= refused : number == refused);
+    unsigned long number = atomic_fetch_add(asked, 1) + 1;
+    return first && first <= number && number <= last;
 }
 
 void *malloc(size_t size)
@@ -44,16 +51,4 @@ void *realloc(void *block, size_t size)
     if (!plain_realloc)
         plain_realloc = dlsym(RTLD_NEXT, "realloc");
     return is_refused() ? NULL : plain_realloc(block, size);
-}
-
-__attribute__((destructor)) static void end(void)
-{
-    const char *name = getenv("ASKED");
-    unsigned long count = atomic_load(&asked);
-    refused = 0;
-    FILE *file = name ? fopen(name, "we") : NULL;
-    if (!file)
-        return;
-    fprintf(file, "%lu\n", count);
-    fclose(file);
 }
