@@ -6,7 +6,7 @@ use nf_base::mac::Mac;
 use nf_base::packet::{Fields, Packet, PacketId};
 use nf_syntax::parse;
 use nf_types::check;
-use std::alloc::Global;
+use std::alloc::{AllocError, Global};
 
 const BRIDGE: &[u8] = b"nf bridge {
   ports 2;
@@ -25,12 +25,12 @@ const BRIDGE: &[u8] = b"nf bridge {
   }
 }";
 
-/// The bridge, unless memory runs out.
-pub fn bridge(alloc: Global) -> Option<Func> {
+/// The bridge, unless memory runs out: its text has no fault.
+pub fn bridge(alloc: Global) -> Result<Func, AllocError> {
     let Ok(tree) = parse(alloc, BRIDGE) else {
-        return None;
+        return Err(AllocError);
     };
-    check(alloc, &tree).ok()
+    check(alloc, &tree).map_err(|_| AllocError)
 }
 
 /// The packet of a port, from its own address to the other's: at 5 nanoseconds at port 0, else at 9.

@@ -55,8 +55,6 @@ fn play(rt: &HostRuntime, func: &Func) -> io::Result<()> {
 }
 
 fn main(rt: HostRuntime) -> io::Result<()> {
-    match bridge(rt.alloc()) {
-        Some(func) => play(&rt, &func),
-        None => println!(rt; "no function"),
-    }
+    let func = bridge(rt.alloc())?;
+    play(&rt, &func)
 }

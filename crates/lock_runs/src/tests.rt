@@ -17,9 +17,7 @@ fn told(placed: &Option<Placed>) -> Option<(u64, Action, u32)> {
 
 /// Plays events at a bridge with two seats, and tells what the last one came to.
 fn last(alloc: Global, events: &[Event]) -> Result<Option<(u64, Action, u32)>, AllocError> {
-    let Some(func) = bridge(alloc) else {
-        return Err(AllocError);
-    };
+    let func = bridge(alloc)?;
     let mut log = Log::new(alloc, &func, 2)?;
     let mut last = None;
     for event in events {

@@ -81,6 +81,14 @@ fn is_right(outcome: &Outcome) -> bool {
     })
 }
 
+/// Tells what a run came to that isn't right, as where memory ran out.
+fn tell_wrong(rt: &HostRuntime, outcome: &Outcome) -> io::Result<()> {
+    if is_right(outcome) {
+        return Ok(());
+    }
+    tell(rt, outcome)
+}
+
 /// Whether the outputs are what the bridge sends out.
 fn is_sent(alloc: Global, outcome: &Outcome) -> Result<bool, AllocError> {
     for (file, records) in outcome.files.iter().zip(&SENT) {
@@ -96,6 +104,7 @@ fn main(rt: HostRuntime) -> io::Result<()> {
     let alloc = rt.alloc();
     let any = case(&rt, alloc, 9, &[], &Idle, &mut PackGate::new())?;
     println!(rt; "right {}, sent {}", is_right(&any), is_sent(alloc, &any)?)?;
+    tell_wrong(&rt, &any)?;
     let meeting = Meeting::new();
     let met = case(&rt, alloc, 9, &[], &meeting, &mut PackGate::new())?;
     println!(rt;
@@ -108,6 +117,7 @@ fn main(rt: HostRuntime) -> io::Result<()> {
     let both = case(&rt, alloc, 9, &[], &Idle, &mut Doors::new(&inside))?;
     let is_inside = inside.was_kept() && inside.has_come(2);
     println!(rt; "inside {is_inside}, right {}", is_right(&both))?;
+    tell_wrong(&rt, &both)?;
     tell(&rt, &case(&rt, alloc, 9, &[], &Idle, &mut Shut::new())?)?;
     tell(&rt, &case(&rt, alloc, 1, &[], &Idle, &mut PackGate::new())?)?;
     tell(

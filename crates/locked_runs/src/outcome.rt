@@ -22,7 +22,7 @@ use worker_turns::Turns;
 /// How a run ended.
 #[derive(Clone, Copy, Debug, PartialEq, Eq)]
 pub enum End {
-    /// The text is no function of two ports.
+    /// The text is no function of two ports, or memory ran out while it was read.
     NoFunction,
     /// A capture could not be opened.
     Unopened,
