@@ -83,60 +83,18 @@ static struct capture *capture(const char *name)
     return from;
 }
 
-/* Flows, in a list by the time of their last use, and found by open addressing: a slot has 32 bits of a key's hash
- * and the flow's index, and slots behind a freed one close up. */
+/* Flows. */
 
 struct key {
     uint32_t inside, outside;
     uint16_t inside_port, outside_port;
 };
 
-struct flow {
+struct entry {
     uint64_t stamp;
     struct key key;
     uint32_t hash, next, previous;
 };
-
-struct slot {
-    uint32_t hash, index;
-};
-
-/* Two rings go through the flows: at `indices` begins that of the live ones, and behind it that of the free ones. */
-static struct flow *flows;
-static struct slot *slots;
-static uint32_t indices, mask;
-static uint64_t greatest, lifetime;
-
-static void link_last(uint32_t index, uint32_t ring)
-{
-    uint32_t last = flows[ring].previous;
-    flows[index].previous = last;
-    flows[index].next = ring;
-    flows[last].next = index;
-    flows[ring].previous = index;
-}
-
-static void unlink_flow(uint32_t index)
-{
-    flows[flows[index].previous].next = flows[index].next;
-    flows[flows[index].next].previous = flows[index].previous;
-}
-
-static void make_tables(void)
-{
-    uint32_t count = 1;
-    while (count < 2 * indices)
-        count *= 2;
-    mask = count - 1;
-    flows = room((indices + 2) * sizeof *flows);
-    slots = room(count * sizeof *slots);
-    for (uint32_t at = 0; at < count; at++)
-        slots[at].index = NONE;
-    for (uint32_t ring = indices; ring < indices + 2; ring++)
-        flows[ring].next = flows[ring].previous = ring;
-    for (uint32_t index = 0; index < indices; index++)
-        link_last(index, indices + 1);
-}
 
 static uint32_t hash_of(const struct key *key)
 {
@@ -152,47 +110,7 @@ static int is_same(const struct key *one, const struct key *other)
         && one->outside_port == other->outside_port;
 }
 
-/* The slot of a key, or the empty one where it is to stand. */
-static uint32_t slot_of(const struct key *key, uint32_t hash)
-{
-    uint32_t at = hash & mask;
-    while (slots[at].index != NONE && !(slots[at].hash == hash && is_same(&flows[slots[at].index].key, key)))
-        at = (at + 1) & mask;
-    return at;
-}
-
-static void take_out(uint32_t index)
-{
-    uint32_t hole = slot_of(&flows[index].key, flows[index].hash);
-    for (uint32_t at = (hole + 1) & mask; slots[at].index != NONE; at = (at + 1) & mask) {
-        if (((at - slots[at].hash) & mask) >= ((at - hole) & mask)) {
-            slots[hole] = slots[at];
-            hole = at;
-        }
-    }
-    slots[hole].index = NONE;
-}
-
-static void renew(uint32_t index, uint64_t time)
-{
-    if (time > greatest)
-        greatest = time;
-    flows[index].stamp = greatest;
-    unlink_flow(index);
-    link_last(index, indices);
-}
-
-static void expire(uint64_t time)
-{
-    for (;;) {
-        uint32_t oldest = flows[indices].next;
-        if (oldest == indices || flows[oldest].stamp >= time || time - flows[oldest].stamp <= lifetime)
-            return;
-        take_out(oldest);
-        unlink_flow(oldest);
-        link_last(oldest, indices + 1);
-    }
-}
+#include "tables.h"
 
 /* What comes of a packet. */
 
@@ -229,12 +147,12 @@ static struct answer handle(const struct capture *from, unsigned port)
         renew(index, from->time);
         return (struct answer){FORWARD, NONE};
     }
-    index = flows[indices + 1].next;
+    index = entries[indices + 1].next;
     if (port == 1 || index == indices + 1)
         return (struct answer){DROP, NONE};
     slots[at] = (struct slot){hash, index};
-    flows[index].key = key;
-    flows[index].hash = hash;
+    entries[index].key = key;
+    entries[index].hash = hash;
     renew(index, from->time);
     return (struct answer){FORWARD, index};
 }
@@ -267,10 +185,10 @@ static void put_state(struct output *to)
     put_number(to, greatest);
     put_text(to, "\n");
     uint8_t *is_free = room(indices + 2);
-    for (uint32_t index = flows[indices + 1].next; index != indices + 1; index = flows[index].next)
+    for (uint32_t index = entries[indices + 1].next; index != indices + 1; index = entries[index].next)
         is_free[index] = 1;
     for (uint32_t index = 0; index < indices; index++) {
-        const struct flow *flow = &flows[index];
+        const struct entry *flow = &entries[index];
         if (is_free[index])
             continue;
         uint64_t values[4] = {flow->key.inside, flow->key.outside, flow->key.inside_port, flow->key.outside_port};

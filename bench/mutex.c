@@ -58,7 +58,7 @@ static void load(unsigned port, const char *name)
     }
 }
 
-/* Entries, in a list by their stamps and found by open addressing, as in floor.c. */
+/* Entries: hosts of a bridge, or flows of a firewall. */
 
 struct key {
     uint64_t high, low;
@@ -70,96 +70,17 @@ struct entry {
     uint32_t hash, next, previous, at;
 };
 
-struct slot {
-    uint32_t hash, index;
-};
-
-static struct entry *entries;
-static struct slot *slots;
-static uint32_t indices, mask;
-static uint64_t greatest, lifetime;
-
-static void link_last(uint32_t index, uint32_t ring)
-{
-    uint32_t last = entries[ring].previous;
-    entries[index].previous = last;
-    entries[index].next = ring;
-    entries[last].next = index;
-    entries[ring].previous = index;
-}
-
-static void unlink_entry(uint32_t index)
-{
-    entries[entries[index].previous].next = entries[index].next;
-    entries[entries[index].next].previous = entries[index].previous;
-}
-
-static void make_tables(void)
-{
-    uint32_t count = 1;
-    while (count < 2 * indices)
-        count *= 2;
-    mask = count - 1;
-    entries = room((indices + 2) * sizeof *entries);
-    slots = room(count * sizeof *slots);
-    for (uint32_t at = 0; at < count; at++)
-        slots[at].index = NONE;
-    for (uint32_t ring = indices; ring < indices + 2; ring++)
-        entries[ring].next = entries[ring].previous = ring;
-    for (uint32_t index = 0; index < indices; index++)
-        link_last(index, indices + 1);
-}
-
 static uint32_t hash_of(struct key key)
 {
     return (uint32_t)(((key.high ^ key.low * 0x9e3779b97f4a7c15u) * 0xd6e8feb86659fd93u) >> 32);
 }
 
-/* The slot of a key, or the empty one where it is to stand. */
-static uint32_t slot_of(struct key key, uint32_t hash)
+static int is_same(const struct key *one, const struct key *other)
 {
-    uint32_t at = hash & mask;
-    while (slots[at].index != NONE) {
-        const struct key *other = &entries[slots[at].index].key;
-        if (slots[at].hash == hash && other->high == key.high && other->low == key.low)
-            break;
-        at = (at + 1) & mask;
-    }
-    return at;
+    return one->high == other->high && one->low == other->low;
 }
 
-static void take_out(uint32_t index)
-{
-    uint32_t hole = slot_of(entries[index].key, entries[index].hash);
-    for (uint32_t at = (hole + 1) & mask; slots[at].index != NONE; at = (at + 1) & mask) {
-        if (((at - slots[at].hash) & mask) >= ((at - hole) & mask)) {
-            slots[hole] = slots[at];
-            hole = at;
-        }
-    }
-    slots[hole].index = NONE;
-}
-
-static void renew(uint32_t index, uint64_t time)
-{
-    if (time > greatest)
-        greatest = time;
-    entries[index].stamp = greatest;
-    unlink_entry(index);
-    link_last(index, indices);
-}
-
-static void expire(uint64_t time)
-{
-    for (;;) {
-        uint32_t oldest = entries[indices].next;
-        if (oldest == indices || entries[oldest].stamp >= time || time - entries[oldest].stamp <= lifetime)
-            return;
-        take_out(oldest);
-        unlink_entry(oldest);
-        link_last(oldest, indices + 1);
-    }
-}
+#include "tables.h"
 
 /* The index of a new entry, or NONE where there is no room. */
 static uint32_t create(struct key key, uint32_t hash, uint64_t time)
@@ -167,7 +88,7 @@ static uint32_t create(struct key key, uint32_t hash, uint64_t time)
     uint32_t index = entries[indices + 1].next;
     if (index == indices + 1)
         return NONE;
-    slots[slot_of(key, hash)] = (struct slot){hash, index};
+    slots[slot_of(&key, hash)] = (struct slot){hash, index};
     entries[index].key = key;
     entries[index].hash = hash;
     renew(index, time);
@@ -217,14 +138,14 @@ static struct question question_of(const struct packet *packet)
 static struct answer bridged(const struct packet *packet, const struct question *asked)
 {
     struct answer found = {packet, FLOOD, NONE};
-    uint32_t index = slots[slot_of(asked->source, asked->source_hash)].index;
+    uint32_t index = slots[slot_of(&asked->source, asked->source_hash)].index;
     if (index != NONE)
         renew(index, packet->time);
     else
         index = found.index = create(asked->source, asked->source_hash, packet->time);
     if (index != NONE)
         entries[index].at = packet->port;
-    uint32_t target = slots[slot_of(asked->target, asked->target_hash)].index;
+    uint32_t target = slots[slot_of(&asked->target, asked->target_hash)].index;
     if (target != NONE)
         found.action = (int32_t)entries[target].at;
     return found;
@@ -233,7 +154,7 @@ static struct answer bridged(const struct packet *packet, const struct question 
 static struct answer walled(const struct packet *packet, const struct question *asked)
 {
     struct answer found = {packet, ports == 1 ? 0 : (int32_t)(packet->port ^ 1), NONE};
-    if (slots[slot_of(asked->source, asked->source_hash)].index != NONE)
+    if (slots[slot_of(&asked->source, asked->source_hash)].index != NONE)
         return found;
     if (packet->port % 2 == 0)
         found.index = create(asked->source, asked->source_hash, packet->time);
