@@ -39,11 +39,11 @@ def by_fields(*parts):
 FIREWALL = """\
 nf fw {
   ports 2;
-  chain flows 1 lifetime 60000000000 { map by_flow(a: 32, b: 32, c: 16, d: 16); }
+  chain flows 1 lifetime 60000000000 { map by_flow(client: 32, server: 32, cport: 16, sport: 16); }
   on 0 {
     get e = flows.by_flow(src_ip, dst_ip, src_port, dst_port) { touch e; }
     else {
-      new f = flows(a = src_ip, b = dst_ip, c = src_port, d = dst_port) { }
+      new f = flows(client = src_ip, server = dst_ip, cport = src_port, sport = dst_port) { }
       full { drop; }
     }
     forward 1;
@@ -57,7 +57,7 @@ nf fw {
 POLICER = """\
 nf policer {
   ports 2;
-  chain hosts 5 lifetime 10 { map by_dst(d: 32); free used: 64; }
+  chain hosts 5 lifetime 10 { map by_dst(host: 32); free used: 64; }
   on 0 { forward 1; }
   on 1 {
     get e = hosts.by_dst(dst_ip) {
@@ -65,7 +65,7 @@ nf policer {
       if e.used > 1000 { drop; }
       forward 0;
     } else {
-      new f = hosts(d = dst_ip) { f.used = length; forward 0; }
+      new f = hosts(host = dst_ip) { f.used = length; forward 0; }
     }
     drop;
   }
@@ -75,15 +75,15 @@ TRANSLATOR = """\
 nf nat {
   ports 2;
   chain conns 60000 lifetime 60000000000 {
-    map by_in(sip: 32, sp: 16, dip: 32, dp: 16);
-    fixed rip: 32; fixed rp: 16;
+    map by_in(client: 32, cport: 16, server: 32, sport: 16);
+    fixed far: 32; fixed fport: 16;
   }
   on 0 {
     get e = conns.by_in(src_ip, src_port, dst_ip, dst_port) {
       touch e; set src_ip = 203.0.113.1; set src_port = e.index + 1024; forward 1;
     } else {
-      new f = conns(sip = src_ip, sp = src_port, dip = dst_ip, dp = dst_port,
-                    rip = dst_ip, rp = dst_port) {
+      new f = conns(client = src_ip, cport = src_port, server = dst_ip, sport = dst_port,
+                    far = dst_ip, fport = dst_port) {
         set src_ip = 203.0.113.1; set src_port = f.index + 1024; forward 1;
       }
     }
@@ -91,8 +91,8 @@ nf nat {
   }
   on 1 {
     if dst_port < 1024 { drop; }
-    find e = conns[dst_port - 1024] where (rip = src_ip, rp = src_port) {
-      touch e; set dst_ip = e.sip; set dst_port = e.sp; forward 0;
+    find e = conns[dst_port - 1024] where (far = src_ip, fport = src_port) {
+      touch e; set dst_ip = e.client; set dst_port = e.cport; forward 0;
     }
     drop;
   }
@@ -101,16 +101,16 @@ nf nat {
 BRIDGE = """\
 nf bridge {
   ports 2;
-  chain macs 4 lifetime 10 { map by_mac(m: 48); free at: 8; }
+  chain macs 4 lifetime 10 { map by_mac(mac: 48); free at: 8; }
   on 0 {
     get e = macs.by_mac(src_mac) { touch e; e.at = 0; }
-    else { new f = macs(m = src_mac) { f.at = 0; } }
+    else { new f = macs(mac = src_mac) { f.at = 0; } }
     get g = macs.by_mac(dst_mac) { forward g.at; }
     flood;
   }
   on 1 {
     get e = macs.by_mac(src_mac) { touch e; e.at = 1; }
-    else { new f = macs(m = src_mac) { f.at = 1; } }
+    else { new f = macs(mac = src_mac) { f.at = 1; } }
     get g = macs.by_mac(dst_mac) { forward g.at; }
     flood;
   }
@@ -160,25 +160,25 @@ CASES = {
     "a policer": Worked(
         POLICER, None,
         "nf policer\n"
-        "object hosts rule J1 keeps d\n"
-        "site 1 get by_dst d=dst_ip\n"
-        "site 1 new d=dst_ip\n"
-        "site 1 name by_dst d=dst_ip\n",
+        "object hosts rule J1 keeps host\n"
+        "site 1 get by_dst host=dst_ip\n"
+        "site 1 new host=dst_ip\n"
+        "site 1 name by_dst host=dst_ip\n",
         sharded(DEFAULT, f"{zeros(7)}01{zeros(32)}"),
     ),
     "by source": Worked(by_fields(("x", 32, "src_ip")), None, None, sharded(f"6d5a56da{zeros(36)}")),
     "an address translator": Worked(
         TRANSLATOR, "ok nat: ports 2, chains 1, arrays 0, paths 4 3\n",
         "nf nat\n"
-        "object conns rule J5 keeps dip dp rip rp\n"
-        "site 0 get by_in sip=src_ip sp=src_port dip=dst_ip dp=dst_port rip=dst_ip rp=dst_port\n"
-        "site 0 new sip=src_ip sp=src_port dip=dst_ip dp=dst_port rip=dst_ip rp=dst_port\n"
-        "site 0 name by_in sip=src_ip sp=src_port dip=dst_ip dp=dst_port rip=dst_ip rp=dst_port\n"
-        "site 1 find dip=src_ip dp=src_port rip=src_ip rp=src_port\n",
+        "object conns rule J5 keeps server sport far fport\n"
+        "site 0 get by_in client=src_ip cport=src_port server=dst_ip sport=dst_port far=dst_ip fport=dst_port\n"
+        "site 0 new client=src_ip cport=src_port server=dst_ip sport=dst_port far=dst_ip fport=dst_port\n"
+        "site 0 name by_in client=src_ip cport=src_port server=dst_ip sport=dst_port far=dst_ip fport=dst_port\n"
+        "site 1 find server=src_ip sport=src_port far=src_ip fport=src_port\n",
         sharded(f"{zeros(7)}01{zeros(32)}", f"{zeros(3)}01{zeros(36)}"),
     ),
     "one without a guard": Worked(
-        TRANSLATOR.replace(" where (rip = src_ip, rp = src_port)", ""), None, None, "locked conns J4\n",
+        TRANSLATOR.replace(" where (far = src_ip, fport = src_port)", ""), None, None, "locked conns J4\n",
     ),
     "by both ports": Worked(
         by_fields(("x", 16, "src_port"), ("y", 16, "dst_port")), None, None,

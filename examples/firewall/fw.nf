@@ -4,9 +4,10 @@
 nf fw {
   ports 2;
 
-  # Up to 1,024 flows, each forgotten 60,000,000,000 ns after it was last used.
+  # Up to 1,024 flows, each forgotten 60,000,000,000 ns after it was last used. The client is the host
+  # inside, the server the one outside; cport and sport are their ports.
   chain flows 1024 lifetime 60000000000 {
-    map by_flow(a: 32, b: 32, c: 16, d: 16);  # inside address, outside address, and their ports
+    map by_flow(client: 32, server: 32, cport: 16, sport: 16);
   }
 
   # From inside: know the flow, or begin one. Where there is room for no more flows, drop.
@@ -14,7 +15,7 @@ nf fw {
     get e = flows.by_flow(src_ip, dst_ip, src_port, dst_port) {
       touch e;
     } else {
-      new f = flows(a = src_ip, b = dst_ip, c = src_port, d = dst_port) { }
+      new f = flows(client = src_ip, server = dst_ip, cport = src_port, sport = dst_port) { }
       full { drop; }
     }
     forward 1;

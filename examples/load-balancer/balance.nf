@@ -5,7 +5,7 @@
 nf balance {
   ports 2;
   chain servers 4 lifetime 10000000000 { map by_ip(ip: 32); }
-  chain flows 4096 lifetime 60000000000 { map by_flow(c: 32, cp: 16, sp: 16); free at: 16; }
+  chain flows 4096 lifetime 60000000000 { map by_flow(client: 32, cport: 16, sport: 16); free at: 16; }
   on 0 {
     if dst_ip != 192.0.2.80 { drop; }
     get f = flows.by_flow(src_ip, src_port, dst_port) {
@@ -13,11 +13,15 @@ nf balance {
       free f;
     }
     find b = servers[(src_ip + src_port) % 4] {
-      new f = flows(c = src_ip, cp = src_port, sp = dst_port) { f.at = b.index; set dst_ip = b.ip; forward 1; }
+      new f = flows(client = src_ip, cport = src_port, sport = dst_port) {
+        f.at = b.index; set dst_ip = b.ip; forward 1;
+      }
       drop;
     }
     find b = servers[(src_ip + src_port + 1) % 4] {
-      new f = flows(c = src_ip, cp = src_port, sp = dst_port) { f.at = b.index; set dst_ip = b.ip; forward 1; }
+      new f = flows(client = src_ip, cport = src_port, sport = dst_port) {
+        f.at = b.index; set dst_ip = b.ip; forward 1;
+      }
     }
     drop;
   }
