@@ -6,6 +6,6 @@ let b:did_ftplugin = 1
 
 setlocal comments=:# commentstring=#\ %s
 setlocal shiftwidth=2 expandtab
-setlocal makeprg=MAESTRO_TELL=always\ maestro\ check\ %:S
+setlocal makeprg=MAESTRO_TELL=faults\ maestro\ check\ %:S
 setlocal errorformat=%f:%l:%c:\ error:\ %m,%-G%.%#
 let b:undo_ftplugin = "setlocal comments< commentstring< shiftwidth< expandtab< makeprg< errorformat<"
