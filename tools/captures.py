@@ -1,4 +1,5 @@
 """Captures as a run reads them (docs/FORMATS.md, "Captures"), for the tools that look at one."""
+import os
 import struct
 import sys
 from pathlib import Path
@@ -38,15 +39,17 @@ def run_tool(name, main):
             status = 0
         else:
             status = main(words) or 0
+        if sys.stdout is None:
+            raise Halt(3, "file fault: stdout")
         sys.stdout.flush()
     except Halt as halt:
         print(f"maestro: {halt.line}", file=sys.stderr)
         status = halt.status
-    except BrokenPipeError:
-        sys.stdout = None
-        status = 3
     except OSError as fault:
-        print(f"maestro: file fault: {fault.filename or 'stdout'}: {fault.strerror}", file=sys.stderr)
+        name = f"{fault.filename}: " if fault.filename else ""
+        print(f"maestro: file fault: {name}{fault.strerror}", file=sys.stderr)
+        # What is left for standard output has no place any more.
+        os.dup2(os.open(os.devnull, os.O_WRONLY), 1)
         status = 3
     except KeyboardInterrupt:
         status = 130
