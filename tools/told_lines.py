@@ -95,6 +95,7 @@ NO_CAPTURES = {
     "a b's.pcapng": (PCAPNG, "it is pcapng: editcap -F nsecpcap './a b'\\''s.pcapng' NEW.pcap makes a classic capture of it"),
     "k.pcap": (bytes.fromhex("34cdb2a1") + EMPTY[4:], "it is a capture of Kuznetzov's form: editcap -F nsecpcap k.pcap NEW.pcap makes a classic capture of it"),
     "s.snoop": (b"snoop\0\0\0\0\0\0\2\0\0\0\4", "it is a snoop capture: editcap -F nsecpcap s.snoop NEW.pcap makes a classic capture of it"),
+    "n.cap": (b"GMBU" + bytes(60), "it is a capture of Network Monitor: editcap -F nsecpcap n.cap NEW.pcap makes a classic capture of it"),
     "z.pcap.gz": (gzip.compress(EMPTY), "it is compressed by gzip: zcat z.pcap.gz >NEW.pcap unpacks it"),
     "z.pcap.xz": (lzma.compress(EMPTY), "it is compressed by xz: xzcat z.pcap.xz >NEW.pcap unpacks it"),
     "z.pcap.bz2": (bz2.compress(EMPTY), "it is compressed by bzip2: bzcat z.pcap.bz2 >NEW.pcap unpacks it"),
