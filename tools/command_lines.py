@@ -3,6 +3,7 @@
 EMPTY = bytes.fromhex("4d3cb2a1020004000000000000000000000004 0001000000".replace(" ", ""))
 # The key of Microsoft's verification suite.
 DEFAULT_KEY = "6d5a56da255b0ec24167253d43a38fb0d0ca2bcbae7b30b477cb2da38030f20c6a42b73bbeac01fa"
+SHORT = "capture 0 is short.pcap\nit has 23 bytes, and the header of a capture has 24"
 HUB = "nf hub {\n  ports 1;\n  on 0 { forward 0; }\n}\n"
 # Of two workers the second one's share has two of five hosts.
 POLICER = """nf policer { ports 2;
@@ -42,37 +43,42 @@ FIREWALL = """nf fw { ports 2;
 """
 
 
+def bad(told):
+    """What comes of a line that is no command, and what is told of it."""
+    return (1, "", "bad command line", told)
+
+
 def command_lines():
     """Command lines of each status that can be had: the status, what is printed, and what a terminal shows beside it."""
     no_file = ", and there is no such file"
-    bad = (1, "", "bad command line", "maestro help says which words there are; a run takes a capture for each port of its function")
+    words = "there are check explain keys run replay gen hash help summary show spread card draw plot split"
+    one_port = bad("a b.nf has 1 port, and takes as many captures: 2 given")
     two = ["c d.pcap", "hosts.pcap"]
     return [
         (["run", "a b.nf", "o u t", "c d.pcap"], 0, "ran 0 one 1\n", "", ""),
         (["run", "--workers", "1", "a b.nf", "o u t", "--max-packets=5", "--", "c d.pcap"], 0, "ran 0 one 1\n", "", ""),
         (["run", "--workers", "16", "--mode", "shard", "a b.nf", "o u t", "c d.pcap"], 0, "ran 0 shard 16\n", "", ""),
         (["run", "--mode", "shard", "a b.nf", "o u t", "c d.pcap"], 0, "ran 0 one 1\n", "", ""),
-        (["run", "--mode", "one", "a b.nf", "o u t", "c d.pcap"], *bad),
+        (["run", "--mode", "one", "a b.nf", "o u t", "c d.pcap"], *bad("--mode is auto, shard or lock, not one")),
         (["run", "--mode=lock", "a b.nf", "o u t", "c d.pcap"], 0, "ran 0 one 1\n", "", ""),
         (["run", "--mode", "lock", "--workers", "16", "a b.nf", "o u t", "c d.pcap"], 0, "ran 0 lock 16\n", "", ""),
-        (["run", "--mode", "locks", "a b.nf", "o u t", "c d.pcap"], *bad),
-        (["run", "--workers", "17", "a b.nf", "o u t", "c d.pcap"], *bad),
+        (["run", "--mode", "locks", "a b.nf", "o u t", "c d.pcap"], *bad("--mode is auto, shard or lock, not locks")),
+        (["run", "--workers", "17", "a b.nf", "o u t", "c d.pcap"], *bad("--workers is 1 to 16, not 17")),
         (["hash", "66.9.149.187:2794", "161.142.100.80:1766"], 0, "51ccc178 120 0\n", "", ""),
         (["check", "a b.nf"], 0, "ok hub: ports 1, chains 0, arrays 0, paths 1\n", "", ""),
         (["check", "--", "a b.nf"], 0, "ok hub: ports 1, chains 0, arrays 0, paths 1\n", "", ""),
         (["explain", "a b.nf"], 0, f"nf hub\nsharded\nkey 0 {DEFAULT_KEY}\n", "", ""),
         (["keys", "a b.nf"], 0, f"sharded\nkey 0 {DEFAULT_KEY}\n", "", ""),
         (["keys", "--", "a b.nf"], 0, f"sharded\nkey 0 {DEFAULT_KEY}\n", "", ""),
-        (["check"], *bad),
-        (["explain"], *bad),
-        (["keys", "a b.nf", "a b.nf"], *bad),
+        (["check"], *bad("check takes NF: 0 names given")),
+        (["explain"], *bad("explain takes NF: 0 names given")),
+        (["keys", "a b.nf", "a b.nf"], *bad("keys takes NF: 2 names given")),
         (["keys", "no one.nf"], 3, "", "file fault: nf", f"nf is no one.nf{no_file}"),
-        (["check", "a b.nf", "a b.nf"], *bad),
+        (["check", "a b.nf", "a b.nf"], *bad("check takes NF: 2 names given")),
         (["check", "no one.nf"], 3, "", "file fault: nf", f"nf is no one.nf{no_file}"),
-        (["run", "a b.nf", "o u t", "c d.pcap", "c d.pcap"], *bad),
-        (["run", "--help"], *bad),
-        ([""], *bad),
-        (["--helpless"], *bad),
+        (["run", "a b.nf", "o u t", "c d.pcap", "c d.pcap"], *one_port),
+        ([""], *bad(f"an empty word is no command; {words}")),
+        (["--helpless"], *bad(f"--helpless stands where a command does, and options stand behind it; {words}")),
         (["run", "no one.nf", "o u t", "c d.pcap"], 3, "", "file fault: nf", f"nf is no one.nf{no_file}"),
         (["run", "a b.nf", "o", "--max-packets", "3", "no"], 3, "", "file fault: capture 0", f"capture 0 is no{no_file}"),
         (["run", "--workers=1", "--", "a b.nf", "o", "-c"], 3, "", "file fault: capture 0", f"capture 0 is -c{no_file}"),
@@ -81,7 +87,7 @@ def command_lines():
         (["run", "a b.nf", "no folder/o", "c d.pcap"], 3, "", "file fault: output 0", "output 0 is no folder/o.0.pcap"),
         (["run", "a b.nf", "taken", "c d.pcap"], 3, "", "file fault: out journal", "out journal is taken.journal"),
         (["run", "a b.nf", "stated", "c d.pcap"], 3, "", "file fault: state", "state is stated.state"),
-        (["run", "a b.nf", "o", "short.pcap"], 4, "", "capture 0 has no pcap header", "capture 0 is short.pcap"),
+        (["run", "a b.nf", "o", "short.pcap"], 4, "", "capture 0 has no pcap header", SHORT),
         (["run", "a b.nf", "o", "torn.pcap"], 5, "ran 0 one 1\n", "capture 0 is torn at byte 24", "capture 0 is torn.pcap"),
         (["run", "--workers", "2", "policer.nf", "o", *two], 6, "ran 2 shard 2\n", "share full: chain hosts, queue 1, packet 1 2", ""),
         (["run", "a b.nf", "o", "--max-packets", "0", "one.pcap"], 7, "ran 0 one 1\n", "more than 0 packets", ""),
@@ -90,16 +96,17 @@ def command_lines():
         (["run", "--workers", "2", "--max-packets=1", "bridge.nf", "o", *two], 7, "ran 1 lock 2\n", "more than 1 packets", ""),
         (["run", "--workers", "2", "--mode", "shard", "bridge.nf", "o", *two], 8, "", "no keys: macs J4", ""),
         (["run", "--mode", "shard", "bridge.nf", "o", *two], 8, "", "no keys: macs J4", ""),
-        *made_up(bad, no_file),
-        *replays(bad, no_file),
+        *made_up(no_file),
+        *replays(no_file),
     ]
 
 
-def made_up(bad, no_file):
+def made_up(no_file):
     """Command lines of `gen`."""
     def sums(*lines):
         return "".join(f"{line}\n" for line in lines)
 
+    takes = "gen takes NF OUT SEED COUNT FLOWS"
     four = ("packets 4", "port 0 2", "port 1 2")
     return [
         (["gen", "fw.nf", "o", "0", "4", "1"], 0, sums(*four, "mode one 1", "sent 4", "entries flows 1"), "", ""),
@@ -114,18 +121,18 @@ def made_up(bad, no_file):
         (["gen", "a b.nf", "no folder/o", "0", "4", "1"], 3, "", "file fault: output 0", "output 0 is no folder/o.0.pcap"),
         (["gen", "a b.nf", "taken", "0", "4", "1"], 3, "", "file fault: out journal", "out journal is taken.journal"),
         (["gen", "a b.nf", "stated", "0", "4", "1"], 3, "", "file fault: state", "state is stated.state"),
-        (["gen", "a b.nf", "o", "0", "4"], *bad),
-        (["gen", "a b.nf", "o", "0", "4", "1", "1"], *bad),
-        (["gen", "a b.nf", "o", "4294967296", "4", "1"], *bad),
-        (["gen", "a b.nf", "o", "0", "10000001", "1"], *bad),
-        (["gen", "a b.nf", "o", "0", "4", "0"], *bad),
-        (["gen", "a b.nf", "o", "0", "4", "65537"], *bad),
-        (["gen", "a b.nf", "o", "00", "4", "1"], *bad),
-        (["gen", "a b.nf", "o", "0", "4", "1", "--max-packets", "4"], *bad),
+        (["gen", "a b.nf", "o", "0", "4"], *bad(f"{takes}: 4 names given")),
+        (["gen", "a b.nf", "o", "0", "4", "1", "1"], *bad(f"{takes}: 6 names given")),
+        (["gen", "a b.nf", "o", "4294967296", "4", "1"], *bad("SEED is 0 to 4294967295, not 4294967296")),
+        (["gen", "a b.nf", "o", "0", "10000001", "1"], *bad("COUNT is 0 to 10000000, not 10000001")),
+        (["gen", "a b.nf", "o", "0", "4", "0"], *bad("FLOWS is 1 to 65536, not 0")),
+        (["gen", "a b.nf", "o", "0", "4", "65537"], *bad("FLOWS is 1 to 65536, not 65537")),
+        (["gen", "a b.nf", "o", "00", "4", "1"], *bad("SEED is 0 to 4294967295, not 00")),
+        (["gen", "a b.nf", "o", "0", "4", "1", "--max-packets", "4"], *bad("--max-packets is no option of gen; it has --workers --mode")),
     ]
 
 
-def replays(bad, no_file):
+def replays(no_file):
     """Command lines of `replay`, over journals and outputs that `fill` writes."""
     two, hosts = ["left.pcap", "right.pcap"], ["c d.pcap", "hosts.pcap"]
 
@@ -169,15 +176,15 @@ def replays(bad, no_file):
         (["replay", "policer.nf", "share.journal", "full", *hosts], *at(2, "1 0 1 to:0 0")),
         (["replay", "a b.nf", "none.journal", "none", "torn.pcap"], 0, "", "", ""),
         (["replay", "--", "a b.nf", "none.journal", "none", "torn.pcap"], 0, "", "", ""),
-        (["replay", "a b.nf", "none.journal", "none", "short.pcap"], 4, "", "capture 0 has no pcap header", "capture 0 is short.pcap"),
-        (["replay", "a b.nf", "no.journal", "no", "short.pcap"], 4, "", "capture 0 has no pcap header", "capture 0 is short.pcap"),
+        (["replay", "a b.nf", "none.journal", "none", "short.pcap"], 4, "", "capture 0 has no pcap header", SHORT),
+        (["replay", "a b.nf", "no.journal", "no", "short.pcap"], 4, "", "capture 0 has no pcap header", SHORT),
         (["replay", "no one.nf", "none.journal", "none", "torn.pcap"], 3, "", "file fault: nf", f"nf is no one.nf{no_file}"),
         (["replay", "a b.nf", "none.journal", "none", "no"], 3, "", "file fault: capture 0", f"capture 0 is no{no_file}"),
         (["replay", "a b.nf", "no.journal", "no", "torn.pcap"], 3, "", "file fault: journal", f"journal is no.journal{no_file}"),
         (["replay", "a b.nf", "none.journal", "no", "torn.pcap"], 3, "", "file fault: output 0", f"output 0 is no.0.pcap{no_file}"),
-        (["replay", "a b.nf", "none.journal", "none"], *bad),
-        (["replay", "a b.nf", "none.journal", "none", "torn.pcap", "torn.pcap"], *bad),
-        (["replay", "a b.nf", "none.journal", "none", "torn.pcap", "--workers", "2"], *bad),
+        (["replay", "a b.nf", "none.journal", "none"], *bad("replay takes NF JOURNAL OUT CAPTURE..: 3 names given")),
+        (["replay", "a b.nf", "none.journal", "none", "torn.pcap", "torn.pcap"], *bad("a b.nf has 1 port, and takes as many captures: 2 given")),
+        (["replay", "a b.nf", "none.journal", "none", "torn.pcap", "--workers", "2"], *bad("--workers is no option of replay; it has --max-packets")),
     ]
 
 
