@@ -17,7 +17,7 @@ use Rattle.nf_base.specs.Operations.{on_var, unless_at, without}
 use Rattle.nf_base.specs.Locations.{Location, Numbers}
 use Rattle.nf_base.specs.Locations as location
 use Rattle.nf_base.proofs.Mixes.{got_set, set_own, set_other, get_own, get_other}
-use Rattle.shard_laws.specs.Homes.{owned, unseen, cell_owned, Holds}
+use Rattle.shard_laws.specs.Homes.{queue_home, owned, unseen, cell_owned, Holds}
 use Rattle.shard_laws.specs.Agreement.{Scene, SlotsAgree, StampsAgree, ChainAgrees, CellsAgree, ChainsAgree, ArraysAgree, VarsAgree, Agree}
 use Rattle.shard_laws.proofs.ByNumber.{agree_put, set_none}
 
@@ -74,15 +74,15 @@ top_raise s k now shard a =
 -- an entry put at an index of one's own
 pub chain_stamp : (s : Scene) (n later : Numbers) (k : ℕ) (a b : Chain) (i : ℕ) (e : Entry) → ChainAgrees s n k a b → s.homes.owner k i ≡ s.queue
     → ((j : ℕ) (f : Entry) → j ≢ i → HoldsIn s n k j f → HoldsIn s later k j f)
-    → ((m : ℕ) (decl : MapDecl) → slice_get (maps_of s.packet.decls k) m ≡ Some decl → s.homes.home (location.KeyOf k m (key_in decl e.labels)) ≡ s.homes.owner k i)
-    → s.homes.home (location.EntryNo k (later.entry_no k i)) ≡ s.homes.owner k i → s.homes.written (object.Chain k) ≡ true → ChainAgrees s later k (stamped s.packet.time i e a) (stamped s.packet.time i e b)
-chain_stamp s n later k a b i e g o others names life made =
+    → ((m : ℕ) (decl : MapDecl) → slice_get (maps_of s.packet.decls k) m ≡ Some decl → s.homes.home (location.KeyOf k m (key_in decl e.labels)) ≡ s.homes.home (location.EntryNo k (later.entry_no k i)))
+    → s.homes.at (s.homes.home (location.EntryNo k (later.entry_no k i))) ≡ s.homes.owner k i → s.homes.kept k i (later.entry_no k i) ≡ true → s.homes.written (object.Chain k) ≡ true → ChainAgrees s later k (stamped s.packet.time i e a) (stamped s.packet.time i e b)
+chain_stamp s n later k a b i e g o others names life kept made =
     let u : max s.packet.time a.greatest ≡ s.packet.time = top_now s k _ _ g.stamps in
     let v : max s.packet.time b.greatest ≡ s.packet.time = top_part s k _ _ g.stamps in
     let x : Option Entry = Some (record e { stamp = max s.packet.time a.greatest }) in
     record {
       slots = subst (λ (t : ℕ). SlotsAgree s later k (slice_set a.slots i x) (slice_set b.slots i (Some (record e { stamp = t })))) (u ∙ sym v)
-          (slots_set s n later k a.slots b.slots i x g.slots o others (λ f q. subst (λ (y : Entry). HoldsIn s later k i y) (same_Some _ _ q) (record { made = made; within = omega arith; keys = names; number = life })));
+          (slots_set s n later k a.slots b.slots i x g.slots o others (λ f q. subst (λ (y : Entry). HoldsIn s later k i y) (same_Some _ _ q) (record { made = made; within = omega arith; keys = names; number = life; kept = kept })));
       stamps = top_raise s k _ _ g.stamps;
     }
 
@@ -98,14 +98,14 @@ chain_live s n k a b i op g o f =
     (live_same s n k a b op (entry_at a.slots i) g (λ x q. f x (g.slots.each i x (entry_at_is a.slots i x q))))
 
 pub chain_touch : (s : Scene) (n : Numbers) (k : ℕ) (a b : Chain) (i : ℕ) → ChainAgrees s n k a b → s.homes.owner k i ≡ s.queue → ChainAgrees s n k (touched s.packet.time i a) (touched s.packet.time i b)
-chain_touch s n k a b i g o = chain_live s n k a b i (stamped s.packet.time i) g o (λ e h. chain_stamp s n n k a b i e g o (λ j f ne q. q) h.keys h.number h.made)
+chain_touch s n k a b i g o = chain_live s n k a b i (stamped s.packet.time i) g o (λ e h. chain_stamp s n n k a b i e g o (λ j f ne q. q) h.keys h.number h.kept h.made)
 
 pub chain_free : (s : Scene) (n : Numbers) (k : ℕ) (a b : Chain) (i : ℕ) → ChainAgrees s n k a b → s.homes.owner k i ≡ s.queue → ChainAgrees s n k (freed i a) (freed i b)
 chain_free s n k a b i g o = record { slots = slots_put s n k a.slots b.slots i None g.slots o (λ f q. cc); stamps = g.stamps }
 
 pub chain_write : (s : Scene) (n : Numbers) (column v k : ℕ) (a b : Chain) (i : ℕ) → ChainAgrees s n k a b → s.homes.owner k i ≡ s.queue → ChainAgrees s n k (written column v i a) (written column v i b)
 chain_write s n column v k a b i g o = chain_live s n k a b i (with_column column v i) g o (λ e h. record {
-  slots = slots_put s n k a.slots b.slots i (Some (record e { columns = slice_set e.columns column v })) g.slots o (λ f q. subst (λ (y : Entry). HoldsIn s n k i y) (same_Some _ _ q) (record { made = h.made; within = h.within; keys = h.keys; number = h.number }));
+  slots = slots_put s n k a.slots b.slots i (Some (record e { columns = slice_set e.columns column v })) g.slots o (λ f q. subst (λ (y : Entry). HoldsIn s n k i y) (same_Some _ _ q) (record { made = h.made; within = h.within; keys = h.keys; number = h.number; kept = h.kept }));
   stamps = g.stamps;
 })
 
@@ -170,44 +170,53 @@ some_or_none (Some x) = inr (x, refl)
 
 -- the cell of an array is at home here, if there is one
 abbrev pub CellHere : Scene → ℕ → ℕ → List ℕ → Type 0
-CellHere s a i now = (v : ℕ) → slice_get now i ≡ Some v → s.homes.written (object.Array a) ≡ true → s.homes.home (location.CellAt a i) ≡ s.queue
+CellHere s a i now = (v : ℕ) → slice_get now i ≡ Some v → s.homes.written (object.Array a) ≡ true → s.homes.home (location.CellAt a i) ≡ s.bucket
 
 past_part : (s : Scene) (a : ℕ) (now shard : List ℕ) (i : ℕ) → CellsAgree s a now shard → slice_get now i ≡ None → slice_get shard i ≡ None
-past_part s a now shard i g e = elim (cases_Bool (cell_owned s.homes.home s.queue a i)) [
-  | inl own ↦ ap (λ zs. slice_get zs i) g.here ∙ get_own (cell_owned s.homes.home s.queue a) (s.opened a) now i own ∙ e
-  | inr other ↦ ap (λ zs. slice_get zs i) g.here ∙ get_other (cell_owned s.homes.home s.queue a) (s.opened a) now i other ∙ ap (option_map (λ x. s.opened a i)) e
+past_part s a now shard i g e = elim (cases_Bool (cell_owned (queue_home s.homes) s.queue a i)) [
+  | inl own ↦ ap (λ zs. slice_get zs i) g.here ∙ get_own (cell_owned (queue_home s.homes) s.queue a) (s.opened a) now i own ∙ e
+  | inr other ↦ ap (λ zs. slice_get zs i) g.here ∙ get_other (cell_owned (queue_home s.homes) s.queue a) (s.opened a) now i other ∙ ap (option_map (λ x. s.opened a i)) e
 ]
 
 pub cells_read : (s : Scene) (a : ℕ) (now shard : List ℕ) (i : ℕ) → CellsAgree s a now shard → CellHere s a i now → slice_get shard i ≡ slice_get now i
 cells_read s a now shard i g o = elim (some_or_none (slice_get now i)) [
   | inl past ↦ past_part s a now shard i g past ∙ sym past
   | inr within ↦ elim (cases_Bool (s.homes.written (object.Array a))) [
-    | inl wr ↦ ap (λ zs. slice_get zs i) g.here ∙ get_own (cell_owned s.homes.home s.queue a) (s.opened a) now i (eq-eqb _ _ (o within.0 within.1 wr))
-    | inr wr ↦ elim (cases_Bool (cell_owned s.homes.home s.queue a i)) [
-      | inl own ↦ ap (λ zs. slice_get zs i) g.here ∙ get_own (cell_owned s.homes.home s.queue a) (s.opened a) now i own
-      | inr other ↦ ap (λ zs. slice_get zs i) g.here ∙ get_other (cell_owned s.homes.home s.queue a) (s.opened a) now i other ∙ ap (option_map (λ (x : ℕ). s.opened a i)) within.1 ∙ ap Some (g.idle wr i within.0 within.1) ∙ sym within.1
+    | inl wr ↦ ap (λ zs. slice_get zs i) g.here ∙ get_own (cell_owned (queue_home s.homes) s.queue a) (s.opened a) now i (eq-eqb _ _ (ap s.homes.at (o within.0 within.1 wr) ∙ s.is))
+    | inr wr ↦ elim (cases_Bool (cell_owned (queue_home s.homes) s.queue a i)) [
+      | inl own ↦ ap (λ zs. slice_get zs i) g.here ∙ get_own (cell_owned (queue_home s.homes) s.queue a) (s.opened a) now i own
+      | inr other ↦ ap (λ zs. slice_get zs i) g.here ∙ get_other (cell_owned (queue_home s.homes) s.queue a) (s.opened a) now i other ∙ ap (option_map (λ (x : ℕ). s.opened a i)) within.1 ∙ ap Some (g.idle wr i within.0 within.1) ∙ sym within.1
     ]
   ]
 ]
 
-pub cells_write : (s : Scene) (a : ℕ) (now shard : List ℕ) (i v : ℕ) → CellsAgree s a now shard → s.homes.written (object.Array a) ≡ true → CellHere s a i now → CellsAgree s a (slice_set now i v) (slice_set shard i v)
-cells_write s a now shard i v g wr o = elim (some_or_none (slice_get now i)) [
+-- the cell may be given a value, if there is one
+abbrev pub CellStored : Scene → ℕ → ℕ → List ℕ → Type 0
+CellStored s a i now = (v : ℕ) → slice_get now i ≡ Some v → s.homes.stored a i ≡ true
+
+pub cells_write : (s : Scene) (a : ℕ) (now shard : List ℕ) (i v : ℕ) → CellsAgree s a now shard → s.homes.written (object.Array a) ≡ true → CellHere s a i now → CellStored s a i now → CellsAgree s a (slice_set now i v) (slice_set shard i v)
+cells_write s a now shard i v g wr o may = elim (some_or_none (slice_get now i)) [
   | inl past ↦
       subst (λ (zs : List ℕ). CellsAgree s a zs (slice_set shard i v)) (sym (set_none now i v past)) (subst (λ (zs : List ℕ). CellsAgree s a now zs) (sym (set_none shard i v (past_part s a now shard i g past))) g)
   | inr within ↦
-      let home : s.homes.home (location.CellAt a i) ≡ s.queue = o within.0 within.1 wr in
+      let home : queue_home s.homes (location.CellAt a i) ≡ s.queue = ap s.homes.at (o within.0 within.1 wr) ∙ s.is in
+      let given : s.homes.stored a i ≡ true = may within.0 within.1 in
       record {
-        here = ap (λ zs. slice_set zs i v) g.here ∙ sym (set_own (cell_owned s.homes.home s.queue a) (s.opened a) now i v (eq-eqb _ _ home));
-        beside = λ w ne. set_other (cell_owned s.homes.home w a) (s.opened a) now i v (ne_eqb _ _ (λ q. ne (sym q ∙ home))) ∙ g.beside w ne;
+        here = ap (λ zs. slice_set zs i v) g.here ∙ sym (set_own (cell_owned (queue_home s.homes) s.queue a) (s.opened a) now i v (eq-eqb _ _ home));
+        beside = λ w ne. set_other (cell_owned (queue_home s.homes) w a) (s.opened a) now i v (ne_eqb _ _ (λ q. ne (sym q ∙ home))) ∙ g.beside w ne;
         idle = λ no_write. cc;
+        stays = λ j x none at. elim (got_set now i j v x at) [
+          | inl q ↦ let none_here : s.homes.stored a i ≡ false = ap (s.homes.stored a) (sym q.0) ∙ none in cc
+          | inr q ↦ g.stays j x none q.1
+        ];
       }
 ]
 
-pub arrays_write : (s : Scene) (now shard : List (List ℕ)) (a i v : ℕ) → ArraysAgree s now shard → s.homes.written (object.Array a) ≡ true → CellHere s a i (array_at now a) → ArraysAgree s (slice_set now a (slice_set (array_at now a) i v)) (slice_set shard a (slice_set (array_at shard a) i v))
-arrays_write s now shard a i v g wr o = record {
+pub arrays_write : (s : Scene) (now shard : List (List ℕ)) (a i v : ℕ) → ArraysAgree s now shard → s.homes.written (object.Array a) ≡ true → CellHere s a i (array_at now a) → CellStored s a i (array_at now a) → ArraysAgree s (slice_set now a (slice_set (array_at now a) i v)) (slice_set shard a (slice_set (array_at shard a) i v))
+arrays_write s now shard a i v g wr o may = record {
   long = length-set now a _ ∙ g.long;
   long_part = length-set shard a _ ∙ g.long_part;
-  each = agree_put [] (CellsAgree s) now shard a _ _ (g.long_part ∙ sym g.long) g.each (cells_write s a (array_at now a) (array_at shard a) i v (g.each a) wr o);
+  each = agree_put [] (CellsAgree s) now shard a _ _ (g.long_part ∙ sym g.long) g.each (cells_write s a (array_at now a) (array_at shard a) i v (g.each a) wr o may);
 }
 
 -- values are the same, where the cells that are read are at home here

@@ -36,14 +36,14 @@ test_answers s n c d true a = a
 test_answers s n c d false a = tt
 
 -- `get`
-key_same : (s : Scene) (n : Numbers) (c d : Context) (k m : ℕ) (key : List ℕ) → Agree s n c d → (s.homes.written (object.Chain k) ≡ true → s.homes.home (location.KeyOf k m key) ≡ s.queue) → key_found s.packet d k m key ≡ key_found s.packet c k m key
+key_same : (s : Scene) (n : Numbers) (c d : Context) (k m : ℕ) (key : List ℕ) → Agree s n c d → (s.homes.written (object.Chain k) ≡ true → s.homes.home (location.KeyOf k m key) ≡ s.bucket) → key_found s.packet d k m key ≡ key_found s.packet c k m key
 key_same s n c d k m key a h = by_map (slice_get (maps_of s.packet.decls k) m) refl
   where
     by_map : (o : Option MapDecl) → slice_get (maps_of s.packet.decls k) m ≡ o → option_and_then (λ decl. found decl key (chain_at d.state.chains k).slots) o ≡ option_and_then (λ decl. found decl key (chain_at c.state.chains k).slots) o
     by_map None e = refl
     by_map (Some decl) e = found_same s n k m decl key _ _ (a.chains.each k).slots e h
 
-key_own : (s : Scene) (n : Numbers) (c d : Context) (k m : ℕ) (key : List ℕ) (i : ℕ) → Agree s n c d → (s.homes.written (object.Chain k) ≡ true → s.homes.home (location.KeyOf k m key) ≡ s.queue) → key_found s.packet c k m key ≡ Some i → s.homes.owner k i ≡ s.queue
+key_own : (s : Scene) (n : Numbers) (c d : Context) (k m : ℕ) (key : List ℕ) (i : ℕ) → Agree s n c d → (s.homes.written (object.Chain k) ≡ true → s.homes.home (location.KeyOf k m key) ≡ s.bucket) → key_found s.packet c k m key ≡ Some i → s.homes.owner k i ≡ s.queue
 key_own s n c d k m key i a h = by_map (slice_get (maps_of s.packet.decls k) m) refl
   where
     by_map : (o : Option MapDecl) → slice_get (maps_of s.packet.decls k) m ≡ o → option_and_then (λ decl. found decl key (chain_at c.state.chains k).slots) o ≡ Some i → s.homes.owner k i ≡ s.queue
@@ -59,20 +59,20 @@ find_index : (p : Input) (c : Context) (gs : List Guard) (i j : ℕ) (o : Option
 find_index p c gs i j None h = cc
 find_index p c gs i j (Some e) h = (if_index (has_labels p c gs e) i j h, (e, refl))
 
-find_own : (s : Scene) (n : Numbers) (c d : Context) (k i j : ℕ) (gs : List Guard) → Agree s n c d → AllAt s.homes s.queue (entry_if n k (index_found s.packet c k i gs)) → index_found s.packet c k i gs ≡ Some j → (i ≡ j) × (s.homes.owner k j ≡ s.queue)
+find_own : (s : Scene) (n : Numbers) (c d : Context) (k i j : ℕ) (gs : List Guard) → Agree s n c d → AllAt s.homes s.bucket (entry_if n k (index_found s.packet c k i gs)) → index_found s.packet c k i gs ≡ Some j → (i ≡ j) × (s.homes.owner k j ≡ s.queue)
 find_own s n c d k i j gs a h e =
     let slots = (chain_at c.state.chains k).slots in
     let r = find_index s.packet c gs i j (entry_at slots i) e in
-    let life : s.homes.written (object.Chain k) ≡ true → s.homes.home (location.EntryNo k (n.entry_no k j)) ≡ s.queue = (subst (λ (o : Option ℕ). AllAt s.homes s.queue (entry_if n k o)) e h).0 in
+    let life : s.homes.written (object.Chain k) ≡ true → s.homes.home (location.EntryNo k (n.entry_no k j)) ≡ s.bucket = (subst (λ (o : Option ℕ). AllAt s.homes s.bucket (entry_if n k o)) e h).0 in
     let there : slice_get slots j ≡ Some (Some r.1.0) = subst (λ (l : ℕ). slice_get slots l ≡ Some (Some r.1.0)) r.0 (entry_at_is slots i r.1.0 r.1.1) in
     let o = (a.chains.each k).slots.each j r.1.0 there in
-    (r.0, sym o.number ∙ life o.made)
+    (r.0, sym o.number ∙ ap s.homes.at (life o.made) ∙ s.is)
 
 index_same : (s : Scene) (n : Numbers) (c d : Context) (gs : List Guard) (i : ℕ) (o : Option Entry) → Agree s n c d → GuardsHome s c gs → index_if s.packet d gs i o ≡ index_if s.packet c gs i o
 index_same s n c d gs i None a h = refl
 index_same s n c d gs i (Some e) a h = ap (λ (b : Bool). if b then Some i else None) (labels_same s n c d a gs h e)
 
-find_same : (s : Scene) (n : Numbers) (c d : Context) (k i : ℕ) (gs : List Guard) → Agree s n c d → GuardsHome s c gs → AllAt s.homes s.queue (entry_if n k (index_found s.packet c k i gs)) → index_found s.packet d k i gs ≡ index_found s.packet c k i gs
+find_same : (s : Scene) (n : Numbers) (c d : Context) (k i : ℕ) (gs : List Guard) → Agree s n c d → GuardsHome s c gs → AllAt s.homes s.bucket (entry_if n k (index_found s.packet c k i gs)) → index_found s.packet d k i gs ≡ index_found s.packet c k i gs
 find_same s n c d k i gs a q h = elim (cases_eq (s.homes.owner k i) s.queue) [
   | inl own ↦ index_same s n c d gs i _ a q ∙ ap (λ (z : Option (Option Entry)). index_if s.packet c gs i (joined z)) (same_at s n k _ _ i (a.chains.each k).slots own)
   | inr other ↦
@@ -87,7 +87,7 @@ pub asked_alike : (s : Scene) (z n : Numbers) (c d : Context) (q : Question) (re
 asked_alike s z n c d (Get at chain m key var) rest a g =
     let r = goes_all s z n c key _ g in
     let x = map (given s.packet c) key in
-    let home : s.homes.written (object.Chain chain) ≡ true → s.homes.home (location.KeyOf chain m x) ≡ s.queue = r.1.0.at_home.0 in (
+    let home : s.homes.written (object.Chain chain) ≡ true → s.homes.home (location.KeyOf chain m x) ≡ s.bucket = r.1.0.at_home.0 in (
       answers_alike s n c d var chain (key_found s.packet c chain m x) (key_found s.packet d chain m (map (given s.packet d) key)) a
           (ap (key_found s.packet d chain m) (givens_same s n c d a key r.0) ∙ key_same s n c d chain m x a home)
           (λ i e. key_own s n c d chain m x i a home e),

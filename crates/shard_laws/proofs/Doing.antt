@@ -76,7 +76,7 @@ did_alike s z n c d (Store at array e x) rest wr a g =
         left = a.left;
         arrays = subst (λ (j : ℕ). ArraysAgree s (after s.packet c (Store at array e x)).state.arrays (slice_set d.state.arrays array (slice_set (array_at d.state.arrays array) (narrowed W16 j) (given s.packet d x)))) (sym (value_same s n c d a e r.0))
             (subst (λ (w : ℕ). ArraysAgree s (after s.packet c (Store at array e x)).state.arrays (slice_set d.state.arrays array (slice_set (array_at d.state.arrays array) i w))) (sym (given_same s n c d a x q.0))
-            (arrays_write s c.state.arrays d.state.arrays array i v a.arrays (wr at array e x refl) t.0));
+            (arrays_write s c.state.arrays d.state.arrays array i v a.arrays (wr at array e x refl) t.0 t.1));
       },
-      t.1,
+      t.2,
     )

@@ -56,12 +56,12 @@ found_at m key (x ∷ xs) i h = elim (cases_Bool (has_key m key x)) [
 ]
 
 -- what an own name is bound to is one's own
-pub own_found : (s : Scene) (n : Numbers) (k m : ℕ) (decl : MapDecl) (key : List ℕ) (now shard : List (Option Entry)) (i : ℕ) → SlotsAgree s n k now shard → slice_get (maps_of s.packet.decls k) m ≡ Some decl → (s.homes.written (object.Chain k) ≡ true → s.homes.home (location.KeyOf k m key) ≡ s.queue) → found decl key now ≡ Some i → s.homes.owner k i ≡ s.queue
+pub own_found : (s : Scene) (n : Numbers) (k m : ℕ) (decl : MapDecl) (key : List ℕ) (now shard : List (Option Entry)) (i : ℕ) → SlotsAgree s n k now shard → slice_get (maps_of s.packet.decls k) m ≡ Some decl → (s.homes.written (object.Chain k) ≡ true → s.homes.home (location.KeyOf k m key) ≡ s.bucket) → found decl key now ≡ Some i → s.homes.owner k i ≡ s.queue
 own_found s n k m decl key now shard i a q h e =
     let at = found_at decl key now i e in
     let o = a.each i at.0 at.1 in
-    sym (o.keys m decl q) ∙ ap (λ x. s.homes.home (location.KeyOf k m x)) at.2 ∙ h o.made
+    sym o.number ∙ ap s.homes.at (sym (o.keys m decl q) ∙ ap (λ x. s.homes.home (location.KeyOf k m x)) at.2 ∙ h o.made) ∙ s.is
 
-pub found_same : (s : Scene) (n : Numbers) (k m : ℕ) (decl : MapDecl) (key : List ℕ) (now shard : List (Option Entry)) → SlotsAgree s n k now shard → slice_get (maps_of s.packet.decls k) m ≡ Some decl → (s.homes.written (object.Chain k) ≡ true → s.homes.home (location.KeyOf k m key) ≡ s.queue) → found decl key shard ≡ found decl key now
+pub found_same : (s : Scene) (n : Numbers) (k m : ℕ) (decl : MapDecl) (key : List ℕ) (now shard : List (Option Entry)) → SlotsAgree s n k now shard → slice_get (maps_of s.packet.decls k) m ≡ Some decl → (s.homes.written (object.Chain k) ≡ true → s.homes.home (location.KeyOf k m key) ≡ s.bucket) → found decl key shard ≡ found decl key now
 found_same s n k m decl key now shard a q h =
     ap (found decl key) a.here ∙ found_mix decl key (owned s.homes.owner s.queue k) now (λ i e. eq-eqb _ _ (own_found s n k m decl key now shard i a q h e))

@@ -9,7 +9,7 @@ use Rattle.nf_base.specs.Operations.{Stops, never, key_found, index_found, answe
 use Rattle.nf_base.specs.Events.{Event, Tested, LookedUp, Found, AskedNew, EntryUsed, EntryFreed, CellRead, CellWritten, used, frees, loads, stores, reads, reads_all, reads_guards, restamps_at, rewrites, did, asked}
 use Rattle.nf_base.specs.Course.{if_hit, if_new, events}
 use Rattle.nf_base.specs.Locations.{Location, KeyOf, Numbers, keys_from, entry_made, locations_of, numbers_after, locations}
-use Rattle.shard_laws.specs.Homes.{Homes, AllAt}
+use Rattle.shard_laws.specs.Homes.{Homes, AllAt, AllTold}
 use Rattle.shard_laws.proofs.Making.{all_split}
 
 all_join : (h : Homes) (w : ℕ) (xs ys : List Location) → AllAt h w xs → AllAt h w ys → AllAt h w (xs ++ ys)
@@ -23,12 +23,13 @@ pub record Ground : Type 0 where
   pub packet : Input
 
 abbrev pub At : Ground → Numbers → List Event → Type 0
-At g n es = AllAt g.homes g.queue (locations g.packet.decls n es)
+At g n es = AllAt g.homes g.queue (locations g.packet.decls n es) × AllTold g.homes n es
 
 front_event : (g : Ground) (n : Numbers) (e : Event) (xs ys : List Event) → At g n (e ∷ xs) → (At g (numbers_after n e) xs → At g (numbers_after n e) ys) → At g n (e ∷ ys)
 front_event g n e xs ys a f =
-    let r = all_split g.homes g.queue (locations_of g.packet.decls n e) (locations g.packet.decls (numbers_after n e) xs) a in
-    all_join g.homes g.queue (locations_of g.packet.decls n e) (locations g.packet.decls (numbers_after n e) ys) r.0 (f r.1)
+    let r = all_split g.homes g.queue (locations_of g.packet.decls n e) (locations g.packet.decls (numbers_after n e) xs) a.0 in
+    let t = f (r.1, a.1.1) in
+    (all_join g.homes g.queue (locations_of g.packet.decls n e) (locations g.packet.decls (numbers_after n e) ys) r.0 t.0, (a.1.0, t.1))
 
 front_used : (g : Ground) (n : Numbers) (changed : Bool) (v : Var) (xs ys : List Event) → At g n (used changed v xs) → (At g n xs → At g n ys) → At g n (used changed v ys)
 front_used g n changed None xs ys a f = f a
@@ -100,9 +101,9 @@ front_new : (g : Ground) (n : Numbers) (at chain : ℕ) (labels : List ℕ) (to 
 front_new g n at chain labels to from h k x y u v (inl e) a f t w = subst (λ (z : NewResult). At g n (AskedNew at chain labels z ∷ if_new z k y v [] [])) (sym e) (same_new g n at chain labels to h k x y u v a f t w)
 front_new g n at chain labels to from h k x y u v (inr e) a f t w =
     let names = keys_from (KeyOf chain) (maps_of g.packet.decls chain) labels in
-    let r = all_split g.homes g.queue (locations_of g.packet.decls n (AskedNew at chain labels to)) (locations g.packet.decls (numbers_after n (AskedNew at chain labels to)) (if_new to h x u [] [])) a in
+    let r = all_split g.homes g.queue (locations_of g.packet.decls n (AskedNew at chain labels to)) (locations g.packet.decls (numbers_after n (AskedNew at chain labels to)) (if_new to h x u [] [])) a.0 in
     let q = all_split g.homes g.queue (entry_made n chain to) names r.0 in
-    subst (λ (z : NewResult). At g n (AskedNew at chain labels z ∷ if_new z k y v [] [])) (sym e) (all_join g.homes g.queue names [] q.1 tt)
+    subst (λ (z : NewResult). At g n (AskedNew at chain labels z ∷ if_new z k y v [] [])) (sym e) (all_join g.homes g.queue names [] q.1 tt, ((tt, tt), tt))
 
 pub front : (g : Ground) (stops : Stops) (b : Block) (c : Context) (k l : Context → List Event) → ((d : Context) (n : Numbers) → At g n (k d) → At g n (l d)) → (n : Numbers) → At g n (events never g.packet b c k) → At g n (events stops g.packet b c l)
 front g stops (End FallsOff) c k l f n a = f c n a

@@ -21,13 +21,13 @@ pub goes_frees : (s : Scene) (z n : Numbers) (v : Var) (rest : List Event) → G
 goes_frees s z n None rest g = g
 goes_frees s z n (Some at) rest g = g.1
 
-goes_loads : (s : Scene) (z n : Numbers) (at a i : ℕ) (o : Option ℕ) (rest : List Event) → Goes s z n (loads at a i o rest) → ((v : ℕ) → o ≡ Some v → s.homes.written (object.Array a) ≡ true → s.homes.home (location.CellAt a i) ≡ s.queue) × Goes s z n rest
+goes_loads : (s : Scene) (z n : Numbers) (at a i : ℕ) (o : Option ℕ) (rest : List Event) → Goes s z n (loads at a i o rest) → ((v : ℕ) → o ≡ Some v → s.homes.written (object.Array a) ≡ true → s.homes.home (location.CellAt a i) ≡ s.bucket) × Goes s z n rest
 goes_loads s z n at a i None rest g = ((λ v e. cc), g)
 goes_loads s z n at a i (Some w) rest g = ((λ v e. g.0.at_home.0), g.1)
 
-pub goes_stores : (s : Scene) (z n : Numbers) (at a i v : ℕ) (o : Option ℕ) (rest : List Event) → Goes s z n (stores at a i v o rest) → ((v : ℕ) → o ≡ Some v → s.homes.written (object.Array a) ≡ true → s.homes.home (location.CellAt a i) ≡ s.queue) × Goes s z n rest
-goes_stores s z n at a i v None rest g = ((λ v e. cc), g)
-goes_stores s z n at a i v (Some w) rest g = ((λ v e. g.0.at_home.0), g.1)
+pub goes_stores : (s : Scene) (z n : Numbers) (at a i v : ℕ) (o : Option ℕ) (rest : List Event) → Goes s z n (stores at a i v o rest) → ((v : ℕ) → o ≡ Some v → s.homes.written (object.Array a) ≡ true → s.homes.home (location.CellAt a i) ≡ s.bucket) × ((v : ℕ) → o ≡ Some v → s.homes.stored a i ≡ true) × Goes s z n rest
+goes_stores s z n at a i v None rest g = ((λ v e. cc), (λ v e. cc), g)
+goes_stores s z n at a i v (Some w) rest g = ((λ v e. g.0.at_home.0), (λ v e. g.0.told.1), g.1)
 
 pub goes_reads : (s : Scene) (z n : Numbers) (c : Context) (e : Expression) (rest : List Event) → Goes s z n (reads s.packet c e rest) → AtHome s c e × Goes s z n rest
 goes_reads s z n c (Number k) rest g = (tt, g)

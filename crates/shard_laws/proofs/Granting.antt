@@ -14,12 +14,12 @@ use Rattle.nf_base.specs.Course.{if_hit, if_new, events}
 use Rattle.nf_base.specs.Shares.{owns, none_vacant, share_stops}
 use Rattle.nf_laws.proofs.Plain.{IsPlain, plain_reads, plain_all, plain_did, plain_asked, question_event}
 
-full_none_vacant : (own : ℕ → Bool) (xs : List (Option Entry)) → is_full xs ≡ true → none_vacant own xs ≡ true
+pub full_none_vacant : (own : ℕ → Bool) (xs : List (Option Entry)) → is_full xs ≡ true → none_vacant own xs ≡ true
 full_none_vacant own [] e = refl
 full_none_vacant own (None ∷ xs) e = cc
 full_none_vacant own (Some x ∷ xs) e = full_none_vacant (λ i. own (suc i)) xs e
 
-and_both : (a b : Bool) → a ≡ true → b ≡ true → (a && b) ≡ true
+pub and_both : (a b : Bool) → a ≡ true → b ≡ true → (a && b) ≡ true
 and_both true b e f = f
 and_both false b e f = cc
 

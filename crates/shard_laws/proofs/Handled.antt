@@ -23,7 +23,7 @@ use Rattle.nf_laws.specs.Objects.{by_new, by_store}
 use Rattle.nf_laws.proofs.Listed.{at_index}
 use Rattle.nf_laws.proofs.Written.{written_is}
 use Rattle.nf_laws.proofs.Shaped.{expired_length}
-use Rattle.shard_laws.specs.Homes.{Homes, AllAt, AllOwn, owned, unseen, cell_owned, seen, IsTold, KnowsWritten}
+use Rattle.shard_laws.specs.Homes.{Homes, queue_home, AllTold, entries_made, MadeOwn, AllAt, owned, unseen, cell_owned, seen, IsTold, KnowsWritten}
 use Rattle.shard_laws.specs.Agreement.{Scene, ChainsAgree, ArraysAgree, Agree, Alike}
 use Rattle.nf_base.specs.Record.{answers_full}
 use Rattle.shard_laws.specs.Queues.{time_of}
@@ -53,7 +53,7 @@ left_after s z choices a b c d r [] e g h =
     )
 left_after s z choices a b c d r (i ∷ left) e g h = absurd (none-some _ h)
 
-settled_after : (s : Scene) (z : Numbers) (choices : List ℕ) (f g : Completion) (r : StepResult) → s.strict ≡ true → Alike s z (λ c. []) f g → step_result choices f ≡ Some r → (q : StepResult) × (step_result choices g ≡ Some q) × After s z r q
+settled_after : (s : Scene) (z : Numbers) (choices : List ℕ) (f g : Completion) (r : StepResult) → s.strict ≡ true → Alike s z (λ c. []) (λ c. []) f g → step_result choices f ≡ Some r → (q : StepResult) × (step_result choices g ≡ Some q) × After s z r q
 settled_after s z choices (Normal c) (Normal d) r strict h e =
     let g : Agree s z c d = subst (λ (m : Numbers). Agree s m c d) h.2 h.1 in
     let t = left_after s z choices Drop Drop c d r c.left refl g e in
@@ -71,17 +71,18 @@ settled_after s z choices NoStep g r strict h e = absurd (none-some _ e)
 settled_after s z choices (StoppedAt k left) g r strict h e = absurd (none-some _ e)
 
 -- one packet's handler, beside any state that is its queue's part of the undivided one at its time
-pub handled : (s : Scene) (n : Numbers) (block : Block) (choices : List ℕ) (r : StepResult) → s.strict ≡ true → IsTold s.homes.written block → Whole s.homes s.opened s.packet.decls s.packet.time n s.whole → StartsOn s.homes s.opened s.queue s.whole s.part
-    → AllAt s.homes s.queue (locations s.packet.decls n (events s.over s.packet block (course_of s.whole choices) (λ _. []))) → AllOwn s.homes.owner s.queue choices → answers_full (events s.over s.packet block (course_of s.whole choices) (λ _. [])) ≡ false
+pub handled : (s : Scene) (n : Numbers) (block : Block) (choices : List ℕ) (r : StepResult) → s.strict ≡ true → s.by_part ≡ false → IsTold s.homes.written block → Whole s.homes s.opened s.packet.decls s.packet.time n s.whole → StartsOn s.homes s.opened s.queue s.whole s.part
+    → AllAt s.homes s.bucket (locations s.packet.decls n (events s.over s.packet block (course_of s.whole choices) (λ _. []))) → AllTold s.homes n (events s.over s.packet block (course_of s.whole choices) (λ _. [])) → MadeOwn s.homes.owner s.queue (entries_made (events s.over s.packet block (course_of s.whole choices) (λ _. [])))
+    → answers_full (events s.over s.packet block (course_of s.whole choices) (λ _. [])) ≡ false
     → step_result choices (exec s.over s.packet block (course_of s.whole choices)) ≡ Some r
     → (q : StepResult) × (step_result choices (exec s.stops s.packet block (course_of s.part choices)) ≡ Some q) × After s (all_numbers n (events s.over s.packet block (course_of s.whole choices) (λ _. []))) r q
-handled s n block choices r strict text w b home own full e =
+handled s n block choices r strict by text w b home told own full e =
     let es = events s.over s.packet block (course_of s.whole choices) (λ _. []) in
     settled_after s (all_numbers n es) choices (exec s.over s.packet block (course_of s.whole choices)) (exec s.stops s.packet block (course_of s.part choices)) r strict
-    (exec_alike s (all_numbers n es) block n (course_of s.whole choices) (course_of s.part choices) (λ _. []) text (start_agree s n choices w b own) (goes_from s n es home (λ b. full))) e
+    (exec_alike s (all_numbers n es) block n (course_of s.whole choices) (course_of s.part choices) (λ _. []) (λ _. []) text (start_agree s n choices w b) (goes_from s n es home told (λ b. full) (λ b. own)) (λ b. let q : true ≡ false = sym b ∙ by in cc)) e
 
 pub after_whole : (s : Scene) (z : Numbers) (r q : StepResult) → After s z r q → Whole s.homes s.opened s.packet.decls s.packet.time z r.state
-after_whole s z r q a = record { each = λ k. (a.chains.each k).slots.each; low = λ k. (a.chains.each k).stamps.low; idle = λ k. (a.arrays.each k).idle }
+after_whole s z r q a = record { each = λ k. (a.chains.each k).slots.each; low = λ k. (a.chains.each k).stamps.low; idle = λ k. (a.arrays.each k).idle; stays = λ k. (a.arrays.each k).stays }
 
 -- the part of the packet's own queue
 part_low : (time now before shard before_part : ℕ) → RiseAlike time before now before_part shard → before_part ≤ before → shard ≤ now
@@ -117,7 +118,7 @@ part_beside s time v m part z r q is a le low ne after =
       slots = λ k. aged s.homes s.opened s.packet.decls time s.packet.time v m part k a le
           ∙ ap (λ (x : State). mix (owned s.homes.owner v k) unseen (chain_at x.chains k).slots) (sym is) ∙ sym ((after.chains.each k).slots.beside v ne);
       arrays = a.arrays ∙ ap (λ (x : State). length x.arrays) (sym is) ∙ sym after.arrays.long;
-      cells = λ k. a.cells k ∙ ap (λ (x : State). mix (cell_owned s.homes.home v k) (s.opened k) (array_at x.arrays k)) (sym is) ∙ sym ((after.arrays.each k).beside v ne);
+      cells = λ k. a.cells k ∙ ap (λ (x : State). mix (cell_owned (queue_home s.homes) v k) (s.opened k) (array_at x.arrays k)) (sym is) ∙ sym ((after.arrays.each k).beside v ne);
       low = λ k.
           let g : (chain_at s.whole.chains k).greatest ≡ (chain_at m.chains k).greatest = ap (λ (x : State). (chain_at x.chains k).greatest) is ∙ greatest_at s.packet.time s.packet.decls m.chains k in
           let l : (chain_at m.chains k).greatest ≤ time = low k in
@@ -135,25 +136,25 @@ told h f port block knows e =
       stores = λ at a i g t. knows (object.Array a) ((written_is f (object.Array a)).1 (record { block = block; statement = Does (Store at a i g); handler = stands; stands = t; writes = by_store at a i g }));
     }
 
-block_on : (h : Homes) (opened : ℕ → ℕ → ℕ) (stops : Stops) (f : Function) (time u w : ℕ) (ns : Numbers) (m part : State) (now : ℕ) (fields : Fields) (choices : List ℕ) (block : Block) (r : StepResult) → IsTold h.written block → HaltsOwn h.owner w stops → Whole h opened f.chains time ns m → Part h opened f.chains time w m part → time ≤ now
-    → AllAt h u (locations f.chains ns (records never f m now fields choices (Some block))) → AllOwn h.owner u choices → answers_full (records never f m now fields choices (Some block)) ≡ false → step_result choices (completes never f m now fields choices (Some block)) ≡ Some r
+block_on : (h : Homes) (opened : ℕ → ℕ → ℕ) (stops : Stops) (f : Function) (time c w : ℕ) (ns : Numbers) (m part : State) (now : ℕ) (fields : Fields) (choices : List ℕ) (block : Block) (r : StepResult) → IsTold h.written block → HaltsOwn h.owner w stops → Whole h opened f.chains time ns m → Part h opened f.chains time w m part → time ≤ now
+    → AllAt h c (locations f.chains ns (records never f m now fields choices (Some block))) → AllTold h ns (records never f m now fields choices (Some block)) → MadeOwn h.owner (h.at c) (entries_made (records never f m now fields choices (Some block))) → answers_full (records never f m now fields choices (Some block)) ≡ false → step_result choices (completes never f m now fields choices (Some block)) ≡ Some r
     → (Whole h opened f.chains now (all_numbers ns (records never f m now fields choices (Some block))) r.state)
-    × (u ≡ w → (q : StepResult) × (step_result choices (completes stops f part now fields choices (Some block)) ≡ Some q) × (q.done ≡ r.done) × Part h opened f.chains now w r.state q.state
+    × (h.at c ≡ w → (q : StepResult) × (step_result choices (completes stops f part now fields choices (Some block)) ≡ Some q) × (q.done ≡ r.done) × Part h opened f.chains now w r.state q.state
     × ((k : ℕ) → RiseAlike now (chain_at m.chains k).greatest (chain_at r.state.chains k).greatest (chain_at part.chains k).greatest (chain_at q.state.chains k).greatest))
-    × (u ≢ w → Part h opened f.chains now w r.state part)
-block_on h opened stops f time u w ns m part now fields choices block r text halts whole a le home own full e =
+    × (h.at c ≢ w → Part h opened f.chains now w r.state part)
+block_on h opened stops f time c w ns m part now fields choices block r text halts whole a le home told_all own full e =
     let p = input f now fields in
     let m_now = at_time now f.chains m in
     let z = all_numbers ns (records never f m now fields choices (Some block)) in
-    let s : Scene = record { homes = h; strict = true; tight = false; over = never; follows = λ k c d e q. cc; leads = λ t. cc; roomy = λ t. cc; stops = never; opened = opened; queue = u; packet = p; whole = m_now; part = seen h opened u m_now; halts = λ k c q. cc } in
+    let s : Scene = record { homes = h; strict = true; tight = false; by_part = false; bucket = c; is = refl; firm = λ x y. refl; lax = λ x. cc; over = never; follows = λ k c d e q. cc; leads = λ t. cc; roomy = λ t. cc; stops = never; opened = opened; queue = h.at c; packet = p; whole = m_now; part = seen h opened (h.at c) m_now; halts = λ k c q. cc } in
     let whole_now : Whole h opened f.chains now ns m_now = whole_later h opened f.chains time now ns m whole le in
-    let aside = handled s ns block choices r refl text whole_now (seen_begins h opened u m_now) home own full e in (
+    let aside = handled s ns block choices r refl refl text whole_now (seen_begins h opened (h.at c) m_now) home told_all own full e in (
       after_whole s z r aside.0 aside.2,
       (λ same.
-          let s_w : Scene = record { homes = h; strict = true; tight = false; over = never; follows = λ k c d e q. cc; leads = λ t. cc; roomy = λ t. cc; stops = stops; opened = opened; queue = w; packet = p; whole = m_now; part = at_time now f.chains part; halts = halts } in
+          let s_w : Scene = record { homes = h; strict = true; tight = false; by_part = false; bucket = c; is = same; firm = λ x y. refl; lax = λ x. cc; over = never; follows = λ k c d e q. cc; leads = λ t. cc; roomy = λ t. cc; stops = stops; opened = opened; queue = w; packet = p; whole = m_now; part = at_time now f.chains part; halts = halts } in
           let b : StartsOn h opened w m_now (at_time now f.chains part) = part_begins h opened f.chains time now w m part a le in
-          let here = handled s_w ns block choices r refl text whole_now b
-          (subst (λ (v : ℕ). AllAt h v (locations f.chains ns (records never f m now fields choices (Some block)))) same home) (subst (λ (v : ℕ). AllOwn h.owner v choices) same own) full e in (
+          let here = handled s_w ns block choices r refl refl text whole_now b home told_all
+          (subst (λ (v : ℕ). MadeOwn h.owner v (entries_made (records never f m now fields choices (Some block)))) same own) full e in (
             here.0,
             here.1,
             here.2.done,
@@ -164,12 +165,12 @@ block_on h opened stops f time u w ns m part now fields choices block r text hal
       λ ne. part_beside s time w m part z r aside.0 refl a le whole.low (λ q. ne (sym q)) aside.2,
     )
 
-fields_on : (h : Homes) (opened : ℕ → ℕ → ℕ) (stops : Stops) (f : Function) (time u w : ℕ) (ns : Numbers) (m part : State) (packet : Packet) (choices : List ℕ) (fields : Fields) (o : Option Block) (r : StepResult) → slice_get f.handlers packet.id.port ≡ o → KnowsWritten h f → HaltsOwn h.owner w stops → Whole h opened f.chains time ns m → Part h opened f.chains time w m part → time ≤ packet.time
-    → AllAt h u (locations f.chains ns (records never f m packet.time fields choices o)) → AllOwn h.owner u choices → answers_full (records never f m packet.time fields choices o) ≡ false → step_result choices (completes never f m packet.time fields choices o) ≡ Some r
-    → OneOn h opened stops f time u w ns m part packet choices (Some fields) r
-fields_on h opened stops f time u w ns m part packet choices fields None r is knows halts whole a le home own full e = absurd (none-some _ e)
-fields_on h opened stops f time u w ns m part packet choices fields (Some block) r is knows halts whole a le home own full e =
-    let one = block_on h opened stops f time u w ns m part packet.time fields choices block r (told h f packet.id.port block knows is) halts whole a le home own full e in
+fields_on : (h : Homes) (opened : ℕ → ℕ → ℕ) (stops : Stops) (f : Function) (time c w : ℕ) (ns : Numbers) (m part : State) (packet : Packet) (choices : List ℕ) (fields : Fields) (o : Option Block) (r : StepResult) → slice_get f.handlers packet.id.port ≡ o → KnowsWritten h f → HaltsOwn h.owner w stops → Whole h opened f.chains time ns m → Part h opened f.chains time w m part → time ≤ packet.time
+    → AllAt h c (locations f.chains ns (records never f m packet.time fields choices o)) → AllTold h ns (records never f m packet.time fields choices o) → MadeOwn h.owner (h.at c) (entries_made (records never f m packet.time fields choices o)) → answers_full (records never f m packet.time fields choices o) ≡ false → step_result choices (completes never f m packet.time fields choices o) ≡ Some r
+    → OneOn h opened stops f time (h.at c) w ns m part packet choices (Some fields) r
+fields_on h opened stops f time c w ns m part packet choices fields None r is knows halts whole a le home told_all own full e = absurd (none-some _ e)
+fields_on h opened stops f time c w ns m part packet choices fields (Some block) r is knows halts whole a le home told_all own full e =
+    let one = block_on h opened stops f time c w ns m part packet.time fields choices block r (told h f packet.id.port block knows is) halts whole a le home told_all own full e in
     record {
       whole = subst (λ (o : Option Block). Whole h opened f.chains packet.time (all_numbers ns (records never f m packet.time fields choices o)) r.state) (sym is) one.0;
       own = λ same. let q = one.1 same in record { next = q.0; stepped = ap (λ (o : Option Block). step_result choices (completes stops f part packet.time fields choices o)) is ∙ q.1; done = q.2; stays = q.3; rise = q.4 };
@@ -182,7 +183,7 @@ skip_on h opened stops f time u w ns m part packet [] r whole a e =
     (record { whole = whole; own = λ same. record { next = record { state = part; done = _ }; stepped = refl; done = refl; stays = a; rise = λ k. inl (refl, refl) }; other = λ ne. a })
 skip_on h opened stops f time u w ns m part packet (i ∷ choices) r whole a e = absurd (none-some _ e)
 
-pub one_on : (h : Homes) (opened : ℕ → ℕ → ℕ) (stops : Stops) (f : Function) (time u w : ℕ) (ns : Numbers) (m part : State) (packet : Packet) (choices : List ℕ) (o : Option Fields) (r : StepResult) → KnowsWritten h f → HaltsOwn h.owner w stops → Whole h opened f.chains time ns m → Part h opened f.chains time w m part → time ≤ time_of time packet.time o
-    → AllAt h u (locations f.chains ns (record_of never f m packet choices o)) → AllOwn h.owner u choices → answers_full (record_of never f m packet choices o) ≡ false → step_of never f m packet choices o ≡ Some r → OneOn h opened stops f time u w ns m part packet choices o r
-one_on h opened stops f time u w ns m part packet choices None r knows halts whole a le home own full e = skip_on h opened stops f time u w ns m part packet choices r whole a e
-one_on h opened stops f time u w ns m part packet choices (Some fields) r knows halts whole a le home own full e = fields_on h opened stops f time u w ns m part packet choices fields (slice_get f.handlers packet.id.port) r refl knows halts whole a le home own full e
+pub one_on : (h : Homes) (opened : ℕ → ℕ → ℕ) (stops : Stops) (f : Function) (time c w : ℕ) (ns : Numbers) (m part : State) (packet : Packet) (choices : List ℕ) (o : Option Fields) (r : StepResult) → KnowsWritten h f → HaltsOwn h.owner w stops → Whole h opened f.chains time ns m → Part h opened f.chains time w m part → time ≤ time_of time packet.time o
+    → AllAt h c (locations f.chains ns (record_of never f m packet choices o)) → AllTold h ns (record_of never f m packet choices o) → MadeOwn h.owner (h.at c) (entries_made (record_of never f m packet choices o)) → answers_full (record_of never f m packet choices o) ≡ false → step_of never f m packet choices o ≡ Some r → OneOn h opened stops f time (h.at c) w ns m part packet choices o r
+one_on h opened stops f time c w ns m part packet choices None r knows halts whole a le home told_all own full e = skip_on h opened stops f time (h.at c) w ns m part packet choices r whole a e
+one_on h opened stops f time c w ns m part packet choices (Some fields) r knows halts whole a le home told_all own full e = fields_on h opened stops f time c w ns m part packet choices fields (slice_get f.handlers packet.id.port) r refl knows halts whole a le home told_all own full e

@@ -6,9 +6,12 @@ pub mod Doing
 pub mod Asking
 pub mod Making
 pub mod Courses
+pub mod Taken
+pub mod Traces
 pub mod Living
 pub mod Starting
 pub mod Handled
+pub mod Traced
 pub mod Queued
 pub mod Opening
 pub mod Recomposed

@@ -9,9 +9,9 @@ use Rattle.nf_base.specs.declared.state.State.{State}
 use Rattle.nf_base.specs.Chains.{chain_at, alive, unexpired, expired, lifetime_of}
 use Rattle.nf_base.specs.Events.{Event}
 use Rattle.nf_base.specs.Locations.{Numbers, locations_of, locations, numbers_after, all_numbers}
-use Rattle.shard_laws.specs.Homes.{Homes, AllAt}
+use Rattle.shard_laws.specs.Homes.{Homes, AllTold, made_in_front, entries_made, MadeOwn, AllAt}
 use Rattle.shard_laws.specs.Agreement.{Scene, Goes}
-use Rattle.nf_base.specs.Record.{result_of_new, is_refusal, answers_full}
+use Rattle.nf_base.specs.Record.{NewEntry, made_of, result_of_new, is_refusal, answers_full}
 use Rattle.shard_laws.specs.Parts.{Whole, at_time}
 use Rattle.shard_laws.proofs.Making.{all_split}
 
@@ -20,12 +20,22 @@ if_not : (b c : Bool) → (b || c) ≡ false → (b ≡ false) × (c ≡ false)
 if_not true c h = cc
 if_not false c h = (refl, h)
 
-pub goes_from : (s : Scene) (n : Numbers) (es : List Event) → AllAt s.homes s.queue (locations s.packet.decls n es) → (s.strict ≡ true → answers_full es ≡ false) → Goes s (all_numbers n es) n es
-goes_from s n [] h f = refl
-goes_from s n (e ∷ es) h f =
-    let r = all_split s.homes s.queue (locations_of s.packet.decls n e) (locations s.packet.decls (numbers_after n e) es) h in
-    let q = λ (b : s.strict ≡ true). if_not (is_refusal (result_of_new e)) (answers_full es) (f b) in
-    (record { at_home = r.0; granted = λ b. (q b).0 }, goes_from s (numbers_after n e) es r.1 (λ b. (q b).1))
+pub own_tail : (owner : ℕ → ℕ → ℕ) (w : ℕ) (o : Option NewEntry) (more : List NewEntry) → MadeOwn owner w (made_in_front o more) → MadeOwn owner w more
+own_tail owner w None more a = a
+own_tail owner w (Some made) more a = a.1
+
+pub own_first : (owner : ℕ → ℕ → ℕ) (w : ℕ) (o : Option NewEntry) (more : List NewEntry) → MadeOwn owner w (made_in_front o more) → MadeOwn owner w (made_in_front o [])
+own_first owner w None more a = tt
+own_first owner w (Some made) more a = (a.0, tt)
+
+pub goes_from : (s : Scene) (n : Numbers) (es : List Event) → AllAt s.homes s.bucket (locations s.packet.decls n es) → AllTold s.homes n es → (s.strict ≡ true → answers_full es ≡ false) → (s.by_part ≡ false → MadeOwn s.homes.owner s.queue (entries_made es)) → Goes s (all_numbers n es) n es
+goes_from s n [] h t f own = refl
+goes_from s n (e ∷ es) h t f own =
+    let r = all_split s.homes s.bucket (locations_of s.packet.decls n e) (locations s.packet.decls (numbers_after n e) es) h in
+    let q = λ (b : s.strict ≡ true). if_not (is_refusal (result_of_new e)) (answers_full es) (f b) in (
+      record { at_home = r.0; granted = λ b. (q b).0; told = t.0; own = λ b. own_first s.homes.owner s.queue (made_of e) (entries_made es) (own b) },
+      goes_from s (numbers_after n e) es r.1 t.1 (λ b. (q b).1) (λ b. own_tail s.homes.owner s.queue (made_of e) (entries_made es) (own b)),
+    )
 
 -- lifetimes
 alive_twice : (t u l : ℕ) (x : Option Entry) → t ≤ u → alive u l (alive t l x) ≡ alive u l x
@@ -81,9 +91,10 @@ greatest_at t decls chains k = ap (λ (c : Chain). c.greatest) (expired_at t (li
 pub whole_later : (h : Homes) (opened : ℕ → ℕ → ℕ) (decls : List ChainDecl) (time after : ℕ) (n : Numbers) (m : State) → Whole h opened decls time n m → time ≤ after → Whole h opened decls after n (at_time after decls m)
 whole_later h opened decls time after n m w le = record {
   idle = w.idle;
+  stays = w.stays;
   each = λ k i e at.
       let r = got_alive after (lifetime_of decls k) (chain_at m.chains k).slots i e (subst (λ (xs : List (Option Entry)). slice_get xs i ≡ Some (Some e)) (slots_at after decls m.chains k) at) in
       let o = w.each k i e r.0 in
-      record { made = o.made; within = r.1; keys = o.keys; number = o.number };
+      record { made = o.made; within = r.1; keys = o.keys; number = o.number; kept = o.kept };
   low = λ k. let g : (chain_at (expired after (lifetime_of decls) m.chains) k).greatest ≡ (chain_at m.chains k).greatest = greatest_at after decls m.chains k in let l : (chain_at m.chains k).greatest ≤ time = w.low k in omega (arith, le);
 }

@@ -1,16 +1,18 @@
 -- A home for each place, from the packets that meet: the queue of the first packet of the run that touches it.
-use Rattle.std.proofs.Common.{◌≡◌, ℕ, ◌<◌, Bool, true, false, ◌==◌, ◌&&◌, eq-eqb, eqb-true, List, [], ◌∷◌, Contains, Option, Some, if◌then◌else◌, refl, ap, ap₂, sym, ◌∙◌, subst, ◌⊎◌, inl, inr, bytes_eq}
+use Rattle.nf_base.specs.Events.{Event, Tested, LookedUp, Found, AskedNew, EntryUsed, EntryFreed, CellRead, CellWritten}
+use Rattle.nf_base.specs.Record.{NewEntry, made_of}
+use Rattle.std.proofs.Common.{◌≡◌, ℕ, ◌<◌, Bool, true, false, ◌==◌, ◌&&◌, eq-eqb, eqb-true, List, [], ◌∷◌, Contains, Option, Some, if◌then◌else◌, refl, ap, ap₂, sym, ◌∙◌, subst, ◌⊎◌, inl, inr, bytes_eq, None}
 use Rattle.std.proofs.lemmas.Bool.{cases_Bool}
 use Rattle.std.proofs.lemmas.Slice.Eq.{bytes_eq-Decides}
 use Rattle.nf_base.specs.declared.packet.Packet.{Packet}
 use Rattle.nf_base.specs.declared.state.State.{State}
 use Rattle.nf_base.specs.Text.{Function}
 use Rattle.nf_base.specs.Objects.{is_written}
-use Rattle.nf_base.specs.Locations.{Location, EntryNo, KeyOf, CellAt, object_of, Numbers, no_numbers, all_numbers}
+use Rattle.nf_base.specs.Locations.{Location, EntryNo, KeyOf, CellAt, object_of, Numbers, no_numbers, all_numbers, numbers_after}
 use Rattle.nf_base.specs.Step.{StepResult, step, recorded, opening}
 use Rattle.nf_base.specs.Runs.{Handling, Report, report_of, if_stepped, reports}
 use Rattle.nf_laws.proofs.Listed.{here, there, has, has_none}
-use Rattle.shard_laws.specs.Homes.{Homes, AllAt}
+use Rattle.shard_laws.specs.Homes.{Homes, AllAt, TellsMade, TellsStored, AllTold}
 use Rattle.shard_laws.specs.Queues.{StayHome, MeetAtOneQueue}
 use Rattle.shard_laws.specs.Parts.{opened_of}
 use Rattle.shard_laws.specs.Laws.{Undivided, MeetingQueuesCompose, MeetingUndividedRuns}
@@ -104,31 +106,61 @@ home_is queue (q ∷ rs) r x h t = elim (cases_Bool (touches x q.touched)) [
   ]
 ]
 
-all_at : (h : Homes) (w : ℕ) (xs : List Location) → ((x : Location) → Contains xs x → h.written (object_of x) ≡ true → h.home x ≡ w) → AllAt h w xs
+pub all_at : (h : Homes) (w : ℕ) (xs : List Location) → ((x : Location) → Contains xs x → h.written (object_of x) ≡ true → h.home x ≡ w) → AllAt h w xs
 all_at h w [] f = tt
 all_at h w (x ∷ xs) f = (f x (here x xs), all_at h w xs (λ y c. f y (there x xs y c)))
 
-abbrev pub met_homes : (ℕ → ℕ → ℕ) → (Packet → ℕ) → Function → List Handling → Homes
-met_homes owner queue f ts = record { owner = owner; home = first_home queue (reports f (opening f) no_numbers ts); written = is_written f }
+-- homes at buckets, each of a queue; entries and cells may be anything
+abbrev pub homes_at : (ℕ → ℕ → ℕ) → (ℕ → ℕ) → (Packet → ℕ) → Function → List Handling → Homes
+homes_at owner at bucket f ts = record { owner = owner; home = first_home bucket (reports f (opening f) no_numbers ts); at = at; written = is_written f; kept = λ chain index no. true; stored = λ array index. true }
 
-pub at_home : (owner : ℕ → ℕ → ℕ) (queue : Packet → ℕ) (f : Function) (ts : List Handling) → MeetAtOneQueue queue f ts → (r : Report) → Contains (reports f (opening f) no_numbers ts) r → AllAt (met_homes owner queue f ts) (queue r.packet) r.touched
-at_home owner queue f ts meet r h = all_at (met_homes owner queue f ts) (queue r.packet) r.touched (λ x t wr.
+-- where each queue has one bucket, its own
+abbrev pub met_homes : (ℕ → ℕ → ℕ) → (Packet → ℕ) → Function → List Handling → Homes
+met_homes owner queue f ts = homes_at owner (λ b. b) queue f ts
+
+made_told : (h : Homes) (ns : Numbers) (o : Option NewEntry) → ((k i no : ℕ) → h.kept k i no ≡ true) → TellsMade h ns o
+made_told h ns None any = tt
+made_told h ns (Some made) any = any made.chain made.index (ns.made made.chain)
+
+stored_told : (h : Homes) (e : Event) → ((a i : ℕ) → h.stored a i ≡ true) → TellsStored h e
+stored_told h (Tested place holds) any = tt
+stored_told h (LookedUp place chain m key hit) any = tt
+stored_told h (Found place chain hit) any = tt
+stored_told h (AskedNew place chain labels result) any = tt
+stored_told h (EntryUsed chain i changed) any = tt
+stored_told h (EntryFreed chain i) any = tt
+stored_told h (CellRead place array i) any = tt
+stored_told h (CellWritten place array i changed) any = any array i
+
+-- where anything may be, all is told
+pub any_told : (h : Homes) (ns : Numbers) (es : List Event) → ((k i no : ℕ) → h.kept k i no ≡ true) → ((a i : ℕ) → h.stored a i ≡ true) → AllTold h ns es
+any_told h ns [] any cells = tt
+any_told h ns (e ∷ es) any cells = ((made_told h ns (made_of e) any, stored_told h e cells), any_told h (numbers_after ns e) es any cells)
+
+-- what a packet of a run touches of a written object is at home at its queue
+pub home_of : (queue : Packet → ℕ) (f : Function) (ts : List Handling) → MeetAtOneQueue queue f ts → (r : Report) → Contains (reports f (opening f) no_numbers ts) r → (x : Location) → Contains r.touched x → is_written f (object_of x) ≡ true → first_home queue (reports f (opening f) no_numbers ts) x ≡ queue r.packet
+home_of queue f ts meet r h x t wr =
+    let a = home_is queue (reports f (opening f) no_numbers ts) r x h t in
+    a.3 ∙ meet a.0 r (record { first = a.1; second = h; location = x; written = wr; by_first = a.2; by_second = t })
+
+pub at_home : (owner : ℕ → ℕ → ℕ) (at : ℕ → ℕ) (queue : Packet → ℕ) (f : Function) (ts : List Handling) → MeetAtOneQueue queue f ts → (r : Report) → Contains (reports f (opening f) no_numbers ts) r → AllAt (homes_at owner at queue f ts) (queue r.packet) r.touched
+at_home owner at queue f ts meet r h = all_at (homes_at owner at queue f ts) (queue r.packet) r.touched (λ x t wr.
     let a = home_is queue (reports f (opening f) no_numbers ts) r x h t in
     a.3 ∙ meet a.0 r (record { first = a.1; second = h; location = x; written = wr; by_first = a.2; by_second = t }))
 
 rest_in : (r q : Report) (o : Option StepResult) (next : StepResult) (rest : State → List Report) → o ≡ Some next → Contains (rest next.state) q → Contains (r ∷ if_stepped o rest) q
 rest_in r q o next rest e h = there r (if_stepped o rest) q (subst (λ (z : Option StepResult). Contains (if_stepped z rest) q) (sym e) h)
 
-pub stays_met : (h : Homes) (queue : Packet → ℕ) (f : Function) (all : List Report) → ((r : Report) → Contains all r → AllAt h (queue r.packet) r.touched) → (s : State) (ns : Numbers) (ts : List Handling) → ((r : Report) → Contains (reports f s ns ts) r → Contains all r) → StayHome h queue f s ns ts
-stays_met h queue f all at s ns [] within = tt
-stays_met h queue f all at s ns (t ∷ ts) within = (
-  at (report_of f s ns t) (within (report_of f s ns t) (here (report_of f s ns t) _)),
-  λ next e. stays_met h queue f all at next.state (all_numbers ns (recorded f s t.packet t.choices)) ts
+pub stays_met : (h : Homes) (queue : Packet → ℕ) (f : Function) (all : List Report) → ((r : Report) → Contains all r → AllAt h (queue r.packet) r.touched) → ((ns : Numbers) (es : List Event) → AllTold h ns es) → (s : State) (ns : Numbers) (ts : List Handling) → ((r : Report) → Contains (reports f s ns ts) r → Contains all r) → StayHome h queue f s ns ts
+stays_met h queue f all at any s ns [] within = tt
+stays_met h queue f all at any s ns (t ∷ ts) within = (
+  (at (report_of f s ns t) (within (report_of f s ns t) (here (report_of f s ns t) _)), any ns _),
+  λ next e. stays_met h queue f all at any next.state (all_numbers ns (recorded f s t.packet t.choices)) ts
       (λ r c. within r (rest_in (report_of f s ns t) r (step f s t.packet t.choices) next (λ u. reports f u (all_numbers ns (recorded f s t.packet t.choices)) ts) e c)),
 )
 
 pub met_stays : (owner : ℕ → ℕ → ℕ) (queue : Packet → ℕ) (f : Function) (ts : List Handling) → MeetAtOneQueue queue f ts → StayHome (met_homes owner queue f ts) queue f (opening f) no_numbers ts
-met_stays owner queue f ts meet = stays_met (met_homes owner queue f ts) queue f (reports f (opening f) no_numbers ts) (at_home owner queue f ts meet) (opening f) no_numbers ts (λ r c. c)
+met_stays owner queue f ts meet = stays_met (met_homes owner queue f ts) queue f (reports f (opening f) no_numbers ts) (at_home owner (λ b. b) queue f ts meet) (λ ns es. any_told (met_homes owner queue f ts) ns es (λ k i no. refl) (λ a i. refl)) (opening f) no_numbers ts (λ r c. c)
 
 pub met_below : (owner : ℕ → ℕ → ℕ) (queue : Packet → ℕ) (f : Function) (n : ℕ) (ts : List Handling) → 0 < n → ((p : Packet) → queue p < n) → (x : Location) → (met_homes owner queue f ts).home x < n
 met_below owner queue f n ts lt below x = home_below queue n (reports f (opening f) no_numbers ts) x lt below

@@ -1,4 +1,6 @@
 -- The run over one queue's packets, from the opening state.
+use Rattle.nf_base.specs.Operations.{never}
+use Rattle.shard_laws.specs.Queues.{queue_by}
 use Rattle.std.proofs.Common.{◌≡◌, ℕ, zero, suc, ◌≤◌, Bool, true, false, List, [], ◌∷◌, map, replicate, Option, Some, None, slice_get, if◌then◌else◌, refl, ap, ap₂, sym, ◌∙◌, subst, arith}
 use Rattle.nf_base.specs.declared.decl.ChainDecl.{ChainDecl}
 use Rattle.nf_base.specs.declared.state.Entry.{Entry}
@@ -9,7 +11,7 @@ use Rattle.nf_base.specs.Locations.{no_numbers}
 use Rattle.nf_base.specs.Step.{opening_chain, opening}
 use Rattle.nf_base.specs.Shares.{mix}
 use Rattle.nf_base.proofs.Mixes.{mix_map}
-use Rattle.shard_laws.specs.Homes.{Homes, owned, unseen, cell_owned, seen}
+use Rattle.shard_laws.specs.Homes.{Homes, owned, unseen, cell_owned, seen, queue_home}
 use Rattle.shard_laws.specs.Parts.{Whole, Part, opened_of}
 use Rattle.shard_laws.specs.Laws.{SeenIsPart, PartsAge, OperationsAgree, QuestionsAgree, CreationsAgree, PacketsStepAlike, QueuesRun}
 use Rattle.nf_laws.proofs.Shaped.{expired_length}
@@ -19,6 +21,7 @@ use Rattle.shard_laws.proofs.Handled.{one_on}
 use Rattle.shard_laws.proofs.Living.{all_fresh, greatest_at}
 use Rattle.shard_laws.proofs.Making.{new_alike}
 use Rattle.shard_laws.proofs.Queued.{runs_on}
+use Rattle.shard_laws.proofs.Taken.{takes_make}
 use Rattle.shard_laws.proofs.Starting.{StartsOn, aged, seen_begins}
 
 no_entry : (n i : ℕ) (e : Entry) → slice_get (replicate n None) i ≡ Some (Some e) → ⊥
@@ -26,7 +29,7 @@ no_entry zero i e h = cc
 no_entry (suc n) zero e h = cc
 no_entry (suc n) (suc i) e h = no_entry n i e h
 
-no_entries : (decls : List ChainDecl) (k i : ℕ) (e : Entry) → slice_get (chain_at (map opening_chain decls) k).slots i ≡ Some (Some e) → ⊥
+pub no_entries : (decls : List ChainDecl) (k i : ℕ) (e : Entry) → slice_get (chain_at (map opening_chain decls) k).slots i ≡ Some (Some e) → ⊥
 no_entries [] k i e h = cc
 no_entries (d ∷ ds) zero i e h = no_entry d.size i e h
 no_entries (d ∷ ds) (suc k) i e h = no_entries ds k i e h
@@ -63,6 +66,7 @@ whole_opening h f = record {
   each = λ k i e at. absurd (no_entries f.chains k i e at);
   low = λ k. let g : (chain_at (opening f).chains k).greatest ≡ 0 = greatest_open f.chains k in omega arith;
   idle = λ a no_write i v e. ap or_zero e;
+  stays = λ a i v none e. ap or_zero e;
 }
 
 pub part_opening : (h : Homes) (f : Function) (w : ℕ) → Part h (opened_of f) f.chains 0 w (opening f) (opening f)
@@ -70,13 +74,13 @@ part_opening h f w = record {
   chains = refl;
   slots = λ k. open_chains 0 (lifetime_of f.chains k) (owned h.owner w k) f.chains k;
   arrays = refl;
-  cells = λ a. mix_same (cell_owned h.home w a) (opened_of f a) (array_at (opening f).arrays a) (λ i v e. ap or_zero e);
+  cells = λ a. mix_same (cell_owned (queue_home h) w a) (opened_of f a) (array_at (opening f).arrays a) (λ i v e. ap or_zero e);
   low = λ k. omega arith;
 }
 
 pub queues_run : QueuesRun
-queues_run h queue f hs r knows rising stay own full e w stops halts =
-    let q = runs_on h stops (opened_of f) queue f w hs 0 no_numbers (opening f) (opening f) r knows halts (whole_opening h f) (part_opening h f w) rising stay own full e in
+queues_run h bucket f hs r knows rising stay own full e w stops halts =
+    let q = runs_on h stops (opened_of f) bucket f w hs 0 no_numbers (opening f) (opening f) r knows halts (whole_opening h f) (part_opening h f w) rising stay (takes_make h.owner (queue_by h bucket) never f hs (opening f) own) full e in
     record { ran = q.ran; is = q.is; answers = q.answers; part = q.part_of }
 
 -- what is said of single steps
@@ -108,7 +112,7 @@ pub questions_agree : QuestionsAgree
 questions_agree s z n c d q rest a g = (asked_alike s z n c d q rest a g).0
 
 pub creations_agree : CreationsAgree
-creations_agree s z n c d new rest wr a g = (new_alike s z n c d new rest wr a g).0
+creations_agree s z n c d new rest wr a g own = (new_alike s z n c d new rest wr a g own).0
 
 pub packets_step_alike : PacketsStepAlike
-packets_step_alike h opened stops f time u w ns s part packet choices r knows halts whole a le home own full e = one_on h opened stops f time u w ns s part packet choices packet.fields r knows halts whole a le home own full e
+packets_step_alike h opened stops f time b w ns s part packet choices r knows halts whole a le home told_all own full e = one_on h opened stops f time b w ns s part packet choices packet.fields r knows halts whole a le home told_all own full e

@@ -11,23 +11,23 @@ use Rattle.nf_base.specs.Text.{Function}
 use Rattle.nf_base.specs.Operations.{Stops, never}
 use Rattle.nf_base.specs.Locations.{no_numbers, locations}
 use Rattle.nf_base.specs.Shares.{share_stops, AreOwn, IsShareStop}
-use Rattle.nf_base.specs.Step.{step_by, record_of, recorded, opening}
+use Rattle.nf_base.specs.Step.{step_by, record_of, opening, recorded_by}
 use Rattle.nf_base.specs.Runs.{Handling, RunResult, run_by, run, Report, report_of, reports, numbers_of}
 use Rattle.nf_laws.proofs.Listed.{here}
 use Rattle.nf_laws.proofs.AlikeTold.{steps_alike}
 use Rattle.nf_laws.proofs.Parted.{begins}
 use Rattle.nf_laws.proofs.Reported.{reports_part}
-use Rattle.shard_laws.specs.Homes.{AllAt, AllOwn}
+use Rattle.shard_laws.specs.Homes.{AllAt, AllOwn, entries_made, MadeOwn}
 use Rattle.shard_laws.specs.Queues.{last_time, of_queue, TakeOwn, Throughout, MeetsNoFull, StayHome}
-use Rattle.shard_laws.specs.Parts.{Whole, Part, HaltsOwn, opened_of}
+use Rattle.shard_laws.specs.Parts.{Whole, Part, HaltsOwn, opened_of, own_stops}
 use Rattle.shard_laws.specs.Laws.{Composes, Undivided}
 use Rattle.shard_laws.specs.Rule.{owner_of, AreShares, TakeOfShare, KeepShareRule}
 use Rattle.shard_laws.specs.ShareLaws.{StopsAt, RunsByStopsAreRuns, MeetingSharesCompose, MeetingSharesRecompose, MeetingStopsAreUndivided}
-use Rattle.shard_laws.proofs.Meeting.{at_home, meeting_queues_compose, meeting_undivided_runs, met_homes, met_stays, stays_met}
+use Rattle.shard_laws.proofs.Meeting.{at_home, meeting_queues_compose, meeting_undivided_runs, met_homes, met_stays, stays_met, any_told}
 use Rattle.shard_laws.proofs.Opening.{part_opening, queues_run, whole_opening}
 use Rattle.shard_laws.proofs.Queued.{run_from}
-use Rattle.shard_laws.proofs.Recomposed.{Gives, runs_back, undivided_runs}
-use Rattle.shard_laws.proofs.Stopped.{grants_on, shares_halt_own, stops_are_undivided}
+use Rattle.shard_laws.proofs.Recomposed.{Gives, runs_back, undivided_runs, takes_each}
+use Rattle.shard_laws.proofs.Stopped.{grants_on, shares_halt_own, stops_are_undivided, share_is_own}
 
 pub run_is : RunsByStopsAreRuns
 run_is stops f s [] r e = e
@@ -110,18 +110,17 @@ meeting_shares_compose share queue f n hs r lt are below meet rising rule e =
 
 -- a packet that has a step by its share meets no full chain
 gives_granted : (n : ℕ) (share : ℕ → Share) (queue : Packet → ℕ) (f : Function) (big : List Handling) → 1 < n → AreShares n share → ((p : Packet) → queue p < n) → Gives (met_homes (owner_of n) queue f big) (stops_below n share) (MeetsNoFull f) (opened_of f) queue f
-gives_granted n share queue f big many are below time ns m part t q whole a le at own e =
+gives_granted n share queue f big many are below time ns m part t q whole a le at told_all own e =
     let h = met_homes (owner_of n) queue f big in
     let u = queue t.packet in
     let lt : u < n = below t.packet in
     let b : nat_lt u n ≡ true = lt-ltb u n lt in
     let of : (share u).of ≡ n = are.of u lt in
     let is : (share u).queue ≡ u = are.queue u lt in
-    grants_on h (share u) (opened_of f) f time ns m part t.packet t.choices t.packet.fields q (subst (λ (m : ℕ). 1 < m) (sym of) many) (ap owner_of (sym of)) (λ o x. x) whole
-    (subst (λ (v : ℕ). Part h (opened_of f) f.chains time v m part) (sym is) a) le
-    (subst (λ (v : ℕ). AllAt h v (locations f.chains ns (recorded f m t.packet t.choices))) (sym is) at)
-    (subst (λ (v : ℕ). AllOwn h.owner v t.choices) (sym is) own)
-    (subst (λ (c : Bool). step_by (if c then share_stops (share u) else never) f part t.packet t.choices ≡ Some q) b e)
+    let gen : stops_below n share u ≡ own_stops true (owner_of n) u = ap (λ (c : Bool). if c then share_stops (share u) else never) b ∙ share_is_own (share u) (owner_of n) u (subst (λ (m : ℕ). 1 < m) (sym of) many) (ap owner_of (sym of)) (sym is) in
+    grants_on h u (opened_of f) f time ns m part t.packet t.choices t.packet.fields q (λ o x. x) whole a le at told_all
+    (subst (λ (x : Stops). MadeOwn (owner_of n) u (entries_made (recorded_by x f part t.packet t.choices))) gen own)
+    (subst (λ (x : Stops). step_by x f part t.packet t.choices ≡ Some q) gen e)
 
 pub meeting_shares_recompose : MeetingSharesRecompose
 meeting_shares_recompose share queue f n hs runs lt are below meet rising own each =
@@ -132,7 +131,7 @@ meeting_shares_recompose share queue f n hs runs lt are below meet rising own ea
       recomposes = meeting_undivided_runs (owner_of n) (stops_below n share) queue f n hs runs lt below (halts_below n share are) meet rising mine runs_are;
       rule = λ many. both_rule share queue f (opening f) hs own
           (runs_back h (stops_below n share) (MeetsNoFull f) (opened_of f) queue f hs 0 no_numbers (opening f) (λ v. opening f) runs (λ o x. x) (halts_below n share are) (gives_granted n share queue f hs many are below)
-          (whole_opening h f) (λ v. part_opening h f v) rising (met_stays (owner_of n) queue f hs meet) mine runs_are).lines;
+          (whole_opening h f) (λ v. part_opening h f v) rising (met_stays (owner_of n) queue f hs meet) (λ v. takes_each (owner_of n) queue (stops_below n share) f v hs (opening f) mine) runs_are).lines;
     }
 
 -- the same stop, by its two sides
@@ -151,19 +150,20 @@ meeting_stops share queue f n hs runs r packet fields choices chain many are bel
     let is : (share u).queue ≡ u = are.queue u lt in
     let ns = numbers_of f (opening f) no_numbers hs in
     let parts : reports f (opening f) no_numbers big ≡ reports f (opening f) no_numbers hs ++ reports f r.state ns (last ∷ []) = reports_part f (opening f) no_numbers hs (last ∷ []) r ran in
-    let stay : StayHome h queue f (opening f) no_numbers hs = stays_met h queue f (reports f (opening f) no_numbers big) (at_home (owner_of n) queue f big meet) (opening f) no_numbers hs
+    let stay : StayHome h queue f (opening f) no_numbers hs = stays_met h queue f (reports f (opening f) no_numbers big) (at_home (owner_of n) (λ v. v) queue f big meet) (λ ms es. any_told h ms es (λ k i no. refl) (λ k i. refl)) (opening f) no_numbers hs
     (λ a c. subst (λ (xs : List Report). Contains xs a) (sym parts) (Contains-append_left (reports f (opening f) no_numbers hs) (reports f r.state ns (last ∷ [])) a c)) in
     let one = report_of f r.state ns last in
-    let at : AllAt h u one.touched = at_home (owner_of n) queue f big meet one
+    let at : AllAt h u one.touched = at_home (owner_of n) (λ v. v) queue f big meet one
     (subst (λ (xs : List Report). Contains xs one) (sym parts) (Contains-append_right (reports f (opening f) no_numbers hs) (reports f r.state ns (last ∷ [])) one (here one _))) in
     let x : Undivided h (opened_of f) queue f 0 (opening f) (λ v. opening f) no_numbers hs runs =
     undivided_runs h (stops_below n share) queue f hs runs (λ o y. y) (halts_below n share are) rising stay (take_own n share queue hs are below own) (λ w. run_below n share queue f hs w (runs w) below (each w)) in
     let same : x.ran ≡ r = same_Some _ _ (sym x.is ∙ ran) in
     let alike : packet.fields ≡ Some fields → AreOwn (share u) choices → StopsAt (share_stops (share u)) f (runs u).state packet fields choices chain [] ↔ StopsAt (share_stops (share u)) f r.state packet fields choices chain [] =
-    λ handled mine. stops_are_undivided h (share u) (opened_of f) f (last_time 0 hs) ns r.state (runs u).state packet fields choices chain [] (subst (λ (m : ℕ). 1 < m) (sym of) many) (ap owner_of (sym of)) (λ o y. y)
+    λ handled mine. stops_are_undivided h (share u) u (opened_of f) f (last_time 0 hs) ns r.state (runs u).state packet fields choices chain [] (subst (λ (m : ℕ). 1 < m) (sym of) many) (ap owner_of (sym of)) (sym is) (λ o y. y)
     (subst (λ (y : RunResult). Whole h (opened_of f) f.chains (last_time 0 hs) ns y.state) same x.whole)
     (subst (λ (v : ℕ). Part h (opened_of f) f.chains (last_time 0 hs) v r.state (runs u).state) (sym is) (subst (λ (y : RunResult). Part h (opened_of f) f.chains (last_time 0 hs) u y.state (runs u).state) same (x.each u))) le
-    (subst (λ (o : Option Fields). AllAt h (share u).queue (locations f.chains ns (record_of never f r.state packet choices o))) handled (subst (λ (v : ℕ). AllAt h v one.touched) (sym is) at))
+    (subst (λ (o : Option Fields). AllAt h u (locations f.chains ns (record_of never f r.state packet choices o))) handled at)
+    (any_told h ns (record_of never f r.state packet choices (Some fields)) (λ k i no. refl) (λ k i. refl))
     (subst (λ (v : ℕ). AllOwn h.owner v choices) (sym is) (all_own n (share u) u choices of is mine)) in (
       stop_iff (share u) f (runs u).state r.state packet fields choices chain (λ handled mine e. (alike handled mine).0 e),
       stop_iff (share u) f r.state (runs u).state packet fields choices chain (λ handled mine e. (alike handled mine).1 e),

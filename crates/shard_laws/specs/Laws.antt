@@ -7,15 +7,15 @@ use Rattle.nf_base.specs.declared.state.State.{State}
 use Rattle.nf_base.specs.Text.{Function, Expression, Given, Operation, Store, Question, Creation}
 use Rattle.nf_base.specs.Chains.{chain_at}
 use Rattle.nf_base.specs.Context.{Context}
-use Rattle.nf_base.specs.Operations.{Stops, answer, after, new_result}
+use Rattle.nf_base.specs.Operations.{Stops, answer, after, Made, new_result}
 use Rattle.nf_base.specs.Events.{Event, did, asked, asked_new}
 use Rattle.nf_base.specs.Record.{answers_full}
 use Rattle.nf_base.specs.Locations.{Location, Numbers, no_numbers, locations}
 use Rattle.nf_base.specs.Step.{StepResult, step, recorded, opening}
 use Rattle.nf_base.specs.Runs.{Handling, RunResult, run_by, run, numbers_of}
-use Rattle.shard_laws.specs.Homes.{Homes, AllAt, AllOwn, seen, KnowsWritten}
+use Rattle.shard_laws.specs.Homes.{Homes, AllTold, entries_made, MadeOwn, AllAt, seen, KnowsWritten}
 use Rattle.shard_laws.specs.Agreement.{Scene, Agree, Goes, AnswersAlike, NewsAlike}
-use Rattle.shard_laws.specs.Queues.{time_after, last_time, NeverFall, of_queue, answers_of, TakeOwn, Throughout, MeetsNoFull, StayHome, MeetAtOneQueue}
+use Rattle.shard_laws.specs.Queues.{time_after, last_time, NeverFall, of_queue, answers_of, TakeOwn, Throughout, MeetsNoFull, StayHome, queue_by, MeetAtOneQueue}
 use Rattle.shard_laws.specs.Parts.{Whole, Part, at_time, HaltsOwn, opened_of, OneOn}
 use Rattle.shard_laws.specs.Unions.{IsUnion}
 
@@ -60,18 +60,22 @@ CreationsAgree =
     (s : Scene) (z n : Numbers) (c d : Context) (new : Creation) (rest : List Event) →
     s.homes.written (object.Chain new.chain) ≡ true → Agree s n c d →
     Goes s z n (asked_new s.over s.packet c new rest) →
+    (s.by_part ≡ true → (i : ℕ) → new_result s.stops s.packet d new ≡ Made i →
+    s.homes.owner new.chain i ≡ s.queue) →
     NewsAlike s n new c d (new_result s.over s.packet c new) (new_result s.stops s.packet d new)
 
 -- one packet's step on the whole state, beside the part of a queue
 abbrev pub PacketsStepAlike : Type 0
 PacketsStepAlike =
-    (h : Homes) (opened : ℕ → ℕ → ℕ) (stops : Stops) (f : Function) (time u w : ℕ) (ns : Numbers)
+    (h : Homes) (opened : ℕ → ℕ → ℕ) (stops : Stops) (f : Function) (time b w : ℕ) (ns : Numbers)
     (s part : State) (packet : Packet) (choices : List ℕ) (r : StepResult) →
     KnowsWritten h f → HaltsOwn h.owner w stops → Whole h opened f.chains time ns s →
     Part h opened f.chains time w s part → time ≤ time_after time packet →
-    AllAt h u (locations f.chains ns (recorded f s packet choices)) → AllOwn h.owner u choices →
+    AllAt h b (locations f.chains ns (recorded f s packet choices)) →
+    AllTold h ns (recorded f s packet choices) →
+    MadeOwn h.owner (h.at b) (entries_made (recorded f s packet choices)) →
     answers_full (recorded f s packet choices) ≡ false → step f s packet choices ≡ Some r →
-    OneOn h opened stops f time u w ns s part packet choices packet.fields r
+    OneOn h opened stops f time (h.at b) w ns s part packet choices packet.fields r
 
 -- The run over a queue's packets has a meaning and gives each its answer, and its last state is the
 -- queue's part of the whole one at the last time.
@@ -87,11 +91,12 @@ pub record QueueRuns (h : Homes) (stops : Stops) (queue : Packet → ℕ) (f : F
 -- meets no full chain
 abbrev pub QueuesRun : Type 0
 QueuesRun =
-    (h : Homes) (queue : Packet → ℕ) (f : Function) (hs : List Handling) (r : RunResult) →
-    KnowsWritten h f → NeverFall 0 hs → StayHome h queue f (opening f) no_numbers hs →
-    TakeOwn h.owner queue hs → Throughout (MeetsNoFull f) f (opening f) hs →
+    (h : Homes) (bucket : Packet → ℕ) (f : Function) (hs : List Handling) (r : RunResult) →
+    KnowsWritten h f → NeverFall 0 hs → StayHome h bucket f (opening f) no_numbers hs →
+    TakeOwn h.owner (queue_by h bucket) hs → Throughout (MeetsNoFull f) f (opening f) hs →
     run f (opening f) hs ≡ Some r →
-    (w : ℕ) (stops : Stops) → HaltsOwn h.owner w stops → QueueRuns h stops queue f hs r w
+    (w : ℕ) (stops : Stops) → HaltsOwn h.owner w stops →
+    QueueRuns h stops (queue_by h bucket) f hs r w
 
 -- of each chain, one of the states 0 to below n has the greatest stamp
 abbrev pub HasTop : ℕ → (ℕ → State) → State → Type 0
@@ -115,12 +120,12 @@ pub record Undivided (h : Homes) (opened : ℕ → ℕ → ℕ) (queue : Packet 
 -- and the queues' last states are its parts.
 abbrev pub UndividedRuns : Type 0
 UndividedRuns =
-    (h : Homes) (stops : ℕ → Stops) (queue : Packet → ℕ) (f : Function) (hs : List Handling)
+    (h : Homes) (stops : ℕ → Stops) (bucket : Packet → ℕ) (f : Function) (hs : List Handling)
     (runs : ℕ → RunResult) →
     KnowsWritten h f → ((v : ℕ) → HaltsOwn h.owner v (stops v)) → NeverFall 0 hs →
-    StayHome h queue f (opening f) no_numbers hs → TakeOwn h.owner queue hs →
-    ((v : ℕ) → run_by (stops v) f (opening f) (of_queue queue v hs) ≡ Some (runs v)) →
-    Undivided h (opened_of f) queue f 0 (opening f) (λ v. opening f) no_numbers hs runs
+    StayHome h bucket f (opening f) no_numbers hs → TakeOwn h.owner (queue_by h bucket) hs →
+    ((v : ℕ) → run_by (stops v) f (opening f) (of_queue (queue_by h bucket) v hs) ≡ Some (runs v)) →
+    Undivided h (opened_of f) (queue_by h bucket) f 0 (opening f) (λ v. opening f) no_numbers hs runs
 
 -- The runs of each queue's packets have a meaning and give each its answer, and the last states of
 -- the queues 0 to below n make up the last state of all.
@@ -135,11 +140,12 @@ pub record Composes (owner : ℕ → ℕ → ℕ) (queue : Packet → ℕ) (f : 
 -- takes indices that its queue owns and meets no full chain.
 abbrev pub QueuesCompose : Type 0
 QueuesCompose =
-    (h : Homes) (queue : Packet → ℕ) (f : Function) (n : ℕ) (hs : List Handling) (r : RunResult) →
-    KnowsWritten h f → 0 < n → ((x : Location) → h.home x < n) → ((p : Packet) → queue p < n) →
-    NeverFall 0 hs → StayHome h queue f (opening f) no_numbers hs → TakeOwn h.owner queue hs →
+    (h : Homes) (bucket : Packet → ℕ) (f : Function) (n : ℕ) (hs : List Handling) (r : RunResult) →
+    KnowsWritten h f → 0 < n → ((x : Location) → h.at (h.home x) < n) →
+    ((p : Packet) → h.at (bucket p) < n) → NeverFall 0 hs →
+    StayHome h bucket f (opening f) no_numbers hs → TakeOwn h.owner (queue_by h bucket) hs →
     Throughout (MeetsNoFull f) f (opening f) hs → run f (opening f) hs ≡ Some r →
-    Composes h.owner queue f n hs r
+    Composes h.owner (queue_by h bucket) f n hs r
 
 -- the same from the packets that meet: where any two of them have one queue
 abbrev pub MeetingQueuesCompose : Type 0

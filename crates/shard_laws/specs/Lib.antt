@@ -2,6 +2,7 @@ pub mod Homes
 pub mod Agreement
 pub mod Queues
 pub mod Parts
+pub mod Marks
 pub mod Unions
 pub mod Laws
 pub mod Rule

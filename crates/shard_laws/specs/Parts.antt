@@ -1,5 +1,5 @@
 -- The whole state in a run, and the part of it that is one queue's.
-use Rattle.std.specs.Prelude.{◌≡◌, ◌≢◌, ◌≤◌, ◌⊎◌, ℕ, true, false, List, length, map, Option, Some, slice_get}
+use Rattle.std.specs.Prelude.{◌≡◌, ◌≢◌, ◌≤◌, ◌⊎◌, ℕ, ◌&&◌, Bool, true, false, List, length, map, Option, Some, slice_get}
 use Rattle.nf_base.specs.declared.decl.ChainDecl.{ChainDecl}
 use Rattle.nf_base.specs.declared.decl.ObjectId.TheVariants as object
 use Rattle.nf_base.specs.declared.packet.Packet.{Packet}
@@ -14,7 +14,7 @@ use Rattle.nf_base.specs.Operations.{Stops, never}
 use Rattle.nf_base.specs.Locations.{Numbers, all_numbers}
 use Rattle.nf_base.specs.Step.{StepResult, step_of, record_of, opening}
 use Rattle.nf_base.specs.Shares.{mix, none_vacant}
-use Rattle.shard_laws.specs.Homes.{Homes, owned, unseen, cell_owned, Holds}
+use Rattle.shard_laws.specs.Homes.{Homes, queue_home, owned, unseen, cell_owned, Holds}
 use Rattle.shard_laws.specs.Queues.{time_of}
 
 -- what holds of the whole state in a run, after the packets up to a time
@@ -25,6 +25,8 @@ pub record Whole (h : Homes) (opened : ℕ → ℕ → ℕ) (decls : List ChainD
   pub low : (k : ℕ) → (chain_at s.chains k).greatest ≤ time
   pub idle : (a : ℕ) → h.written (object.Array a) ≡ false →
       (i v : ℕ) → slice_get (array_at s.arrays a) i ≡ Some v → opened a i ≡ v
+  pub stays : (a i v : ℕ) → h.stored a i ≡ false → slice_get (array_at s.arrays a) i ≡ Some v →
+      opened a i ≡ v
 
 -- A state is queue w's part of the whole one: what is not past its lifetime in it, its own copy of
 -- the cells at home there, and no stamp above the greatest one.
@@ -36,7 +38,7 @@ pub record Part (h : Homes) (opened : ℕ → ℕ → ℕ) (decls : List ChainDe
       ≡ mix (owned h.owner w k) unseen (chain_at s.chains k).slots
   pub arrays : length part.arrays ≡ length s.arrays
   pub cells : (a : ℕ) →
-      array_at part.arrays a ≡ mix (cell_owned h.home w a) (opened a) (array_at s.arrays a)
+      array_at part.arrays a ≡ mix (cell_owned (queue_home h) w a) (opened a) (array_at s.arrays a)
   pub low : (k : ℕ) → (chain_at part.chains k).greatest ≤ (chain_at s.chains k).greatest
 
 -- a state without what is past its lifetime
@@ -54,6 +56,10 @@ abbrev pub HaltsOwn : (ℕ → ℕ → ℕ) → ℕ → Stops → Type 0
 HaltsOwn owner w stops =
     (k : ℕ) (chain : Chain) → stops k chain ≡ true →
     none_vacant (owned owner w k) chain.slots ≡ true
+
+-- A queue's own stops: where no index that it owns is vacant; the only queue of a run stops nowhere.
+abbrev pub own_stops : Bool → (ℕ → ℕ → ℕ) → ℕ → Stops
+own_stops many owner w k chain = many && none_vacant (owned owner w k) chain.slots
 
 -- what a function's cells hold at the opening
 abbrev pub opened_of : Function → ℕ → ℕ → ℕ

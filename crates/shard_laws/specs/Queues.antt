@@ -7,9 +7,10 @@ use Rattle.nf_base.specs.declared.done.Done.{Done}
 use Rattle.nf_base.specs.Text.{Function}
 use Rattle.nf_base.specs.Record.{answers_full}
 use Rattle.nf_base.specs.Locations.{Numbers, locations, all_numbers}
-use Rattle.nf_base.specs.Step.{StepResult, step, recorded}
+use Rattle.nf_base.specs.Operations.{Stops}
+use Rattle.nf_base.specs.Step.{StepResult, step, step_by, recorded, recorded_by}
 use Rattle.nf_base.specs.Runs.{Handling, Report, Meet}
-use Rattle.shard_laws.specs.Homes.{Homes, AllAt, AllOwn}
+use Rattle.shard_laws.specs.Homes.{Homes, AllTold, entries_made, MadeOwn, AllAt, AllOwn}
 
 -- the time of the last handled packet, after one with these fields
 abbrev pub time_of : ℕ → ℕ → Option Fields → ℕ
@@ -63,14 +64,29 @@ Throughout P f s (h ∷ hs) =
 abbrev pub MeetsNoFull : Function → State → Handling → Type 0
 MeetsNoFull f s h = answers_full (recorded f s h.packet h.choices) ≡ false
 
--- each packet touches what is at home at its queue alone, up to and with the first one that has no
--- step
+-- each packet touches what is at home at its bucket alone, and tells what it makes and stores to, up
+-- to and with the first one that has no step
 abbrev pub StayHome : Homes → (Packet → ℕ) → Function → State → Numbers → List Handling → Type 0
-StayHome h queue f s ns [] = Unit {0}
-StayHome h queue f s ns (one ∷ hs) =
-    AllAt h (queue one.packet) (locations f.chains ns (recorded f s one.packet one.choices))
+StayHome h bucket f s ns [] = Unit {0}
+StayHome h bucket f s ns (one ∷ hs) =
+    (AllAt h (bucket one.packet) (locations f.chains ns (recorded f s one.packet one.choices))
+    × AllTold h ns (recorded f s one.packet one.choices))
     × ((next : StepResult) → step f s one.packet one.choices ≡ Some next →
-    StayHome h queue f next.state (all_numbers ns (recorded f s one.packet one.choices)) hs)
+    StayHome h bucket f next.state (all_numbers ns (recorded f s one.packet one.choices)) hs)
+
+-- the queue of a packet's bucket
+abbrev pub queue_by : Homes → (Packet → ℕ) → Packet → ℕ
+queue_by h bucket packet = h.at (bucket packet)
+
+-- each packet of a run makes entries at indices that its queue owns, up to and with the first one
+-- that has no step
+abbrev pub MakeOwn :
+    (ℕ → ℕ → ℕ) → (Packet → ℕ) → Stops → Function → State → List Handling → Type 0
+MakeOwn owner queue stops f s [] = Unit {0}
+MakeOwn owner queue stops f s (h ∷ hs) =
+    MadeOwn owner (queue h.packet) (entries_made (recorded_by stops f s h.packet h.choices))
+    × ((next : StepResult) → step_by stops f s h.packet h.choices ≡ Some next →
+    MakeOwn owner queue stops f next.state hs)
 
 -- any two packets of a run that meet have one queue
 abbrev pub MeetAtOneQueue : (Packet → ℕ) → Function → List Handling → Type 0

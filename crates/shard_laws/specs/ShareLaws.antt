@@ -11,7 +11,7 @@ use Rattle.nf_base.specs.Operations.{Stops, never}
 use Rattle.nf_base.specs.Runs.{Handling, RunResult, run_by, run}
 use Rattle.nf_base.specs.Shares.{share_stops, IsShareStop}
 use Rattle.nf_base.specs.Step.{completes, record_of, opening}
-use Rattle.shard_laws.specs.Homes.{Homes, AllAt, AllOwn, KnowsWritten}
+use Rattle.shard_laws.specs.Homes.{Homes, AllTold, AllAt, AllOwn, KnowsWritten}
 use Rattle.shard_laws.specs.Laws.{Composes, Recomposes}
 use Rattle.shard_laws.specs.Parts.{Whole, Part, HaltsOwn}
 use Rattle.shard_laws.specs.Queues.{last_time, NeverFall, of_queue, MeetAtOneQueue}
@@ -37,13 +37,14 @@ StopsAt stops f s packet fields choices chain left =
 -- same chain, with the same choices left: where what the packet touches is at home there.
 abbrev pub StopsAreUndivided : Type 0
 StopsAreUndivided =
-    (h : Homes) (share : Share) (opened : ℕ → ℕ → ℕ) (f : Function) (time : ℕ) (ns : Numbers)
-    (s part : State) (packet : Packet) (fields : Fields) (choices : List ℕ) (chain : ℕ)
-    (left : List ℕ) →
-    1 < share.of → h.owner ≡ owner_of share.of → KnowsWritten h f →
+    (h : Homes) (share : Share) (bucket : ℕ) (opened : ℕ → ℕ → ℕ) (f : Function) (time : ℕ)
+    (ns : Numbers) (s part : State) (packet : Packet) (fields : Fields) (choices : List ℕ)
+    (chain : ℕ) (left : List ℕ) →
+    1 < share.of → h.owner ≡ owner_of share.of → h.at bucket ≡ share.queue → KnowsWritten h f →
     Whole h opened f.chains time ns s → Part h opened f.chains time share.queue s part →
     time ≤ packet.time →
-    AllAt h share.queue (locations f.chains ns (record_of never f s packet choices (Some fields))) →
+    AllAt h bucket (locations f.chains ns (record_of never f s packet choices (Some fields))) →
+    AllTold h ns (record_of never f s packet choices (Some fields)) →
     AllOwn h.owner share.queue choices →
     StopsAt (share_stops share) f part packet fields choices chain left
     ↔ StopsAt (share_stops share) f s packet fields choices chain left

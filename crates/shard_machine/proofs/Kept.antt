@@ -33,7 +33,7 @@ new_holds x = record {
 }
 
 -- a run with one packet more
-run_more : (halts : Stops) (f : Function) (s t u : State) (hs : List Handling) (dones : List Done) (h : Handling) (done : Done) → run_by halts f s hs ≡ Some (record { state = t; answers = dones }) → step_by halts f t h.packet h.choices ≡ Some (record { state = u; done = done }) →
+pub run_more : (halts : Stops) (f : Function) (s t u : State) (hs : List Handling) (dones : List Done) (h : Handling) (done : Done) → run_by halts f s hs ≡ Some (record { state = t; answers = dones }) → step_by halts f t h.packet h.choices ≡ Some (record { state = u; done = done }) →
     run_by halts f s (hs ++ h ∷ []) ≡ Some (record { state = u; answers = dones ++ done ∷ [] })
 run_more halts f s t u hs dones h done e g =
     runs_part halts f s hs (h ∷ [])
@@ -109,11 +109,11 @@ dispatch_holds x p m h = record {
   ];
 }
 
-if_true : {A : Type 0} (b : Bool) (x y : A) → b ≡ true → (if b then x else y) ≡ x
+pub if_true : {A : Type 0} (b : Bool) (x y : A) → b ≡ true → (if b then x else y) ≡ x
 if_true true x y e = refl
 if_true false x y e = cc
 
-if_false : {A : Type 0} (b : Bool) (x y : A) → b ≡ false → (if b then x else y) ≡ y
+pub if_false : {A : Type 0} (b : Bool) (x y : A) → b ≡ false → (if b then x else y) ≡ y
 if_false true x y e = cc
 if_false false x y e = refl
 

@@ -29,7 +29,7 @@ use Rattle.shard_machine.specs.Laws.{TimesNeverFall, CollectedIsARun, AllCollect
 use Rattle.shard_machine.proofs.Sent.{append_nil, append_twice, map_append, same_behind, same_front, length_append, length_map, packets_append, one_at, one_answer_at, no_answer_at, packets_of_at, own_front}
 
 -- the lines of a queue's answers
-lines_at : (queue : Packet → ℕ) (w : ℕ) (xs : List Answer) → of_queue queue w (lines_of xs) ≡ lines_of (answers_at queue w xs)
+pub lines_at : (queue : Packet → ℕ) (w : ℕ) (xs : List Answer) → of_queue queue w (lines_of xs) ≡ lines_of (answers_at queue w xs)
 lines_at queue w [] = refl
 lines_at queue w (a ∷ xs) = ap (λ (zs : List Handling). if queue a.packet == w then record { packet = a.packet; choices = a.done.picks } ∷ zs else zs) (lines_at queue w xs) ∙ out (queue a.packet == w)
   where
@@ -87,15 +87,15 @@ own_all x m h = all_of_share x.share x.queue m.collected (λ w.
     (subst (λ (hs : List Handling). TakeOfShare x.share x.queue hs) (ap lines_of (h.answers w) ∙ map_append (λ (a : Answer). record { packet = a.packet; choices = a.done.picks }) (answers_at x.queue w m.collected) (h.more w)) (h.worker w).own))
 
 -- times and packets of what was collected
-times_front : (time : ℕ) (xs : List Answer) (left : List Packet) → TimesNeverFall time (packets_of xs ++ left) → NeverFall time (lines_of xs)
+pub times_front : (time : ℕ) (xs : List Answer) (left : List Packet) → TimesNeverFall time (packets_of xs ++ left) → NeverFall time (lines_of xs)
 times_front time [] left t = tt
 times_front time (a ∷ xs) left t = (t.0, times_front (time_after time a.packet) xs left t.1)
 
-next_time : (time : ℕ) (xs : List Answer) (p : Packet) (left : List Packet) → TimesNeverFall time (packets_of xs ++ p ∷ left) → last_time time (lines_of xs) ≤ time_after (last_time time (lines_of xs)) p
+pub next_time : (time : ℕ) (xs : List Answer) (p : Packet) (left : List Packet) → TimesNeverFall time (packets_of xs ++ p ∷ left) → last_time time (lines_of xs) ≤ time_after (last_time time (lines_of xs)) p
 next_time time [] p left t = t.0
 next_time time (a ∷ xs) p left t = next_time (time_after time a.packet) xs p left t.1
 
-lines_sent : (xs : List Answer) (left : List Packet) (h : Handling) → Contains (lines_of xs) h → Contains (packets_of xs ++ left) h.packet
+pub lines_sent : (xs : List Answer) (left : List Packet) (h : Handling) → Contains (lines_of xs) h → Contains (packets_of xs ++ left) h.packet
 lines_sent [] left h i = absurd (has_none h i)
 lines_sent (a ∷ xs) left h i = elim (has (record { packet = a.packet; choices = a.done.picks }) (lines_of xs) h i) [
   | inl e ↦ subst (λ (z : Handling). Contains (a.packet ∷ (packets_of xs ++ left)) z.packet) e (here a.packet (packets_of xs ++ left))
@@ -103,7 +103,7 @@ lines_sent (a ∷ xs) left h i = elim (has (record { packet = a.packet; choices 
 ]
 
 -- answers are those of a run, as they are queue by queue
-all_answers : (queue : Packet → ℕ) (xs : List Answer) (ds : List Done) → length ds ≡ length xs → ((w : ℕ) → dones_of (answers_at queue w xs) ≡ answers_of queue w (lines_of xs) ds) → ds ≡ dones_of xs
+pub all_answers : (queue : Packet → ℕ) (xs : List Answer) (ds : List Done) → length ds ≡ length xs → ((w : ℕ) → dones_of (answers_at queue w xs) ≡ answers_of queue w (lines_of xs) ds) → ds ≡ dones_of xs
 all_answers queue [] [] long each = refl
 all_answers queue [] (d ∷ ds) long each = cc
 all_answers queue (a ∷ xs) [] long each = cc
@@ -150,7 +150,7 @@ state_is : (x : Setup) (m : Machine) (h : Holds x m) (w : ℕ) → (m.worker w).
 state_is x m h w e =
     ap (λ (r : RunResult). r.state) (same_Some _ _ (sym (queue_runs x m h w).is ∙ ap (λ zs. run_by (share_stops (x.share w)) x.function (opening x.function) (lines_of zs)) (sym e) ∙ (h.worker w).ran))
 
-no_more : {A : Type 0} (xs ys : List A) (n : ℕ) → length (xs ++ ys) ≤ length xs → ys ≡ []
+pub no_more : {A : Type 0} (xs ys : List A) (n : ℕ) → length (xs ++ ys) ≤ length xs → ys ≡ []
 no_more xs [] n le = refl
 no_more xs (y ∷ ys) n le = let e : length (xs ++ y ∷ ys) ≡ length xs + suc (length ys) = length_append xs (y ∷ ys) in absurd (omega (arith, le, e))
 
@@ -202,18 +202,18 @@ stop_packet x m h packet later next at =
     ap (packets_at x.queue u) next ∙ packets_append x.queue u (packets_of m.collected) (packet ∷ later) ∙ ap₂ (λ ps qs. ps ++ qs) (packets_of_at x.queue u m.collected) (one_at x.queue u packet later refl) in
     same_behind (packets_of (answers_at x.queue u m.collected)) _ _ (sym (ap (λ zs. packets_of zs ++ (m.worker u).waiting) at) ∙ (h.worker u).order ∙ sent)
 
-contains_last : (xs : List Handling) (y h : Handling) → Contains (xs ++ y ∷ []) h → Contains xs h ⊎ (y ≡ h)
+pub contains_last : (xs : List Handling) (y h : Handling) → Contains (xs ++ y ∷ []) h → Contains xs h ⊎ (y ≡ h)
 contains_last [] y h i = elim (has y [] h i) [ inl e ↦ inr e | inr j ↦ absurd (has_none h j) ]
 contains_last (x ∷ xs) y h i = elim (has x (xs ++ y ∷ []) h i) [
   | inl e ↦ inl (subst (λ (z : Handling). Contains (x ∷ xs) z) e (here x xs))
   | inr j ↦ elim (contains_last xs y h j) [ inl k ↦ inl (there x xs h k) | inr e ↦ inr e ]
 ]
 
-packet_sent : (xs : List Answer) (p : Packet) (left : List Packet) → Contains (packets_of xs ++ p ∷ left) p
+pub packet_sent : (xs : List Answer) (p : Packet) (left : List Packet) → Contains (packets_of xs ++ p ∷ left) p
 packet_sent [] p left = here p left
 packet_sent (a ∷ xs) p left = there a.packet (packets_of xs ++ p ∷ left) p (packet_sent xs p left)
 
-handled_time : (before : ℕ) (packet : Packet) (fields : Fields) (o : Option Fields) → o ≡ Some fields → before ≤ time_of before packet.time o → before ≤ packet.time
+pub handled_time : (before : ℕ) (packet : Packet) (fields : Fields) (o : Option Fields) → o ≡ Some fields → before ≤ time_of before packet.time o → before ≤ packet.time
 handled_time before packet fields None e le = cc
 handled_time before packet fields (Some g) e le = le
 
@@ -236,7 +236,7 @@ stops_are x m packet chain r many is h times meet stop e =
     (s.fields, s.choices, both.0 (subst (λ (t : State). IsShareStop (x.share u) x.function t packet s.fields s.choices chain) (sym state) share_stop))
 
 -- a front of a list, by its length
-front_of : {A : Type 0} (xs ys zs ws : List A) → xs ++ ys ≡ zs ++ ws → length zs ≤ length xs → (more : List A) × (xs ≡ zs ++ more)
+pub front_of : {A : Type 0} (xs ys zs ws : List A) → xs ++ ys ≡ zs ++ ws → length zs ≤ length xs → (more : List A) × (xs ≡ zs ++ more)
 front_of xs ys [] ws e le = (xs, refl)
 front_of [] ys (z ∷ zs) ws e le = absurd (omega (arith, le))
 front_of (x ∷ xs) ys (z ∷ zs) ws e le =
