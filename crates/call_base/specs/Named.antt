@@ -4,7 +4,7 @@ use Rattle.nf_base.specs.Text.{Function}
 use Rattle.nf_base.specs.declared.packet.Packet.{Packet}
 use Rattle.key_synth.specs.declared.verdict.Cause.{Cause}
 use Rattle.key_synth.specs.declared.verdict.Cause.TheVariants as cause
-use Rattle.verdict_text.specs.Names.{object_name}
+use Rattle.nf_base.specs.Names.{object_name}
 use Rattle.call_base.specs.declared.object_name.ObjectName.{ObjectName}
 use Rattle.call_base.specs.declared.status.NoKeys.{NoKeys}
 use Rattle.call_base.specs.declared.status.NoKeys.TheVariants as none

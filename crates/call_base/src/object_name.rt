@@ -1,7 +1,7 @@
 //! The name of a chain or an array, as a status tells it.
 ghost use Rattle.std.specs.Prelude.{◌≡◌, ◌≤◌, ◌++◌, ℕ, List, length};
 ghost use Rattle.nf_base.specs.Functions.{function_of};
-ghost use Rattle.verdict_text.specs.Names.{object_name};
+ghost use Rattle.nf_base.specs.Names.{object_name};
 ghost use Rattle.call_base.specs.Named.{name_bytes};
 
 use nf_base::decl::ObjectId;

@@ -1,8 +1,9 @@
 -- The fields that the hash reads, their widths and their values.
-use Rattle.std.specs.Prelude.{◌<◌, ◌^◌, ℕ, Option, Some, None}
+use Rattle.std.specs.Prelude.{◌≡◌, ◌<◌, ◌^◌, ℕ, Option, Some, None}
 use Rattle.nf_base.specs.declared.packet.Field.{Field}
 use Rattle.nf_base.specs.declared.packet.Field.TheVariants as field
 use Rattle.nf_base.specs.declared.packet.Fields.{Fields}
+use Rattle.nf_base.specs.declared.packet.Packet.{Packet}
 use Rattle.hash_fields.specs.declared.hashable.Hashable.{Hashable}
 use Rattle.hash_fields.specs.declared.hashable.Hashable.TheVariants.{SrcIp, DstIp, SrcPort, DstPort}
 
@@ -30,6 +31,10 @@ value fields DstPort = fields.dst_port
 -- fields within their widths, as those of each packet are
 pub record IsInput (fields : Fields) : Type 0 where
   pub within : (h : Hashable) → value fields h < 2 ^ width h
+
+-- a packet's fields, where it is handled, are within their widths
+abbrev pub HasInput : Packet → Type 0
+HasInput packet = (fields : Fields) → packet.fields ≡ Some fields → IsInput fields
 
 -- a field of the language, where it is hashed
 abbrev pub hashable : Field → Option Hashable

@@ -1,7 +1,6 @@
 -- Admissible keys of a function, and those that it is given.
 use Rattle.std.specs.Prelude.{◌≡◌, ◌≢◌, ◌⊎◌, ℕ, ◌<◌, ◌≤◌, true, length, All, Contains, Option, Some, None}
 use Rattle.nf_base.specs.declared.keys.Keys.{Keys}
-use Rattle.nf_base.specs.declared.packet.Fields.{Fields}
 use Rattle.nf_base.specs.Text.{Function}
 use Rattle.nf_base.specs.Objects.{is_written}
 use Rattle.nf_sites.specs.Sites.{Site}
@@ -9,14 +8,9 @@ use Rattle.nf_sites.specs.OnPaths.{sites_of}
 use Rattle.nf_sites.specs.Admissible.{IsAdmissibleBySites}
 use Rattle.toeplitz_hash.specs.declared.key.TheConstants.{DEFAULT_KEY}
 use Rattle.toeplitz_hash.specs.Bits.{bit_of}
-use Rattle.toeplitz_hash.specs.Toeplitz.{toeplitz_of}
-use Rattle.toeplitz_hash.specs.Packets.{input_bytes, key_at}
+use Rattle.toeplitz_hash.specs.Packets.{key_at, hash_by}
 use Rattle.key_rows.specs.Spread.{Spreads}
 use Rattle.key_rows.specs.Given.{IsKey, key_bit, AgreeBefore}
-
--- the hash of an input at a port, under the port's key
-abbrev pub hash_by : Keys → ℕ → Fields → ℕ
-hash_by keys port fields = toeplitz_of (key_at keys port) (input_bytes fields)
 
 -- Keys are admissible where any two inputs that agree in each kept label at two sites of a written
 -- object have equal hashes.

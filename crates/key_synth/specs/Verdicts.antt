@@ -11,7 +11,7 @@ use Rattle.key_synth.specs.declared.verdict.Cause.TheVariants as cause
 use Rattle.key_synth.specs.declared.verdict.Verdict.{Verdict}
 use Rattle.key_synth.specs.declared.verdict.Verdict.TheVariants.{Sharded, Locked}
 use Rattle.key_synth.specs.Keys.{AreGiven, NoneMayBeGiven}
-use Rattle.key_synth.specs.Laws.{HashAlikeWhereTheyMeet}
+use Rattle.toeplitz_hash.specs.Meeting.{HashAlikeWhereTheyMeet}
 
 -- the rule by which an object's labels are kept, where none is
 abbrev pub rule_if_none : Rule → List ℕ → Option Rule

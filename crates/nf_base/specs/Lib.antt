@@ -2,6 +2,7 @@ pub mod Text
 pub mod View
 pub mod Laid
 pub mod Functions
+pub mod Names
 pub mod Statements
 pub mod Limits
 pub mod FitsOnce

@@ -85,6 +85,23 @@ fn copied_arrays(
 
 impl Func {
     ghost use Rattle.nf_base.specs.Functions.{function_of};
+    ghost use Rattle.nf_base.specs.Names.{object_name};
+
+    /// The name of a chain or an array: no bytes where there is none of that number.
+    pub fn object_name(&self, object: ObjectId) -> &[u8]
+        ensures { result.now ≡ object_name (function_of self.now) object }
+    {
+        match object {
+            ObjectId::Chain(chain) => match self.chains.as_slice().get(chain as usize) {
+                None => &[],
+                Some(decl) => decl.name.as_slice(),
+            },
+            ObjectId::Array(array) => match self.arrays.as_slice().get(array as usize) {
+                None => &[],
+                Some(decl) => decl.name.as_slice(),
+            },
+        }
+    }
 
     /// The same function once more.
     pub fn copy(&self, alloc: Global) -> Result<Func, AllocError>

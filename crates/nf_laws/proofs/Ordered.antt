@@ -5,7 +5,7 @@ use Rattle.std.specs.Cmp.{IsStrictWeakOrder}
 use Rattle.std.proofs.lemmas.List.Sorted.{sorted_far, Contains-permutation, IsPermutation-sym}
 use Rattle.std.proofs.lemmas.List.Kept.{IsSortedBy-filter}
 use Rattle.nf_base.specs.declared.packet.Packet.{Packet}
-use Rattle.nf_base.specs.Orders.{comes_before, at_port}
+use Rattle.nf_base.specs.Orders.{comes_before, port_of, came_at}
 use Rattle.nf_laws.proofs.Listed.{kept, was}
 use Rattle.nf_laws.specs.Orders.{ComesBefore, by_time, by_port, by_number, PacketsComeInOrder, NoneComesLate, EachPacketIsOrdered, NoPacketIsLost, PortsRise}
 
@@ -37,14 +37,14 @@ pub none_late : NoneComesLate
 none_late packets ordered i j d h le lt = sorted_far comes_before order ordered h.in_order i j d le lt
 
 pub ports_rise : PortsRise
-ports_rise packets ordered listed port h k = rw (k port) (IsSortedBy-filter comes_before order (at_port port) ordered h.in_order)
+ports_rise packets ordered listed port h k = rw (k port) (IsSortedBy-filter comes_before order (came_at port_of port) ordered h.in_order)
 
 pub none_lost : NoPacketIsLost
 none_lost ordered listed packet k =
     let port = packet.id.port in
     let is_there = eq-eqb port port refl in (
-      λ h. was (at_port port) listed packet (subst (λ xs. Contains xs packet) (sym (k port)) (kept (at_port port) ordered packet h is_there)),
-      λ h. was (at_port port) ordered packet (subst (λ xs. Contains xs packet) (k port) (kept (at_port port) listed packet h is_there)),
+      λ h. was (came_at port_of port) listed packet (subst (λ xs. Contains xs packet) (sym (k port)) (kept (came_at port_of port) ordered packet h is_there)),
+      λ h. was (came_at port_of port) ordered packet (subst (λ xs. Contains xs packet) (k port) (kept (came_at port_of port) listed packet h is_there)),
     )
 
 pub each_ordered : EachPacketIsOrdered

@@ -2,7 +2,7 @@
 use Rattle.std.specs.Prelude.{◌≡◌, ◌<◌, ◌≤◌, ◌↔◌, ℕ, true, false, List, length, Contains, slice_index_or, filter}
 use Rattle.std.specs.List.Sorted.{IsSortedBy}
 use Rattle.nf_base.specs.declared.packet.Packet.{Packet}
-use Rattle.nf_base.specs.Orders.{comes_before, IsCaptureOrder, at_port, KeepsPortOrder}
+use Rattle.nf_base.specs.Orders.{comes_before, IsCaptureOrder, port_of, came_at, KeepsPortOrder}
 
 -- a packet comes before another: it is earlier; or at one time its port is less; or there its
 -- number is
@@ -29,10 +29,10 @@ EachPacketIsOrdered = (packets ordered : List Packet) (packet : Packet) →
 -- where each port keeps its order, no packet is left out, and none is added
 abbrev pub NoPacketIsLost : Type 0
 NoPacketIsLost = (ordered listed : List Packet) (packet : Packet) →
-    KeepsPortOrder ordered listed → Contains ordered packet ↔ Contains listed packet
+    KeepsPortOrder port_of ordered listed → Contains ordered packet ↔ Contains listed packet
 
 -- and at each port, whichever it is, the packets stand in capture order
 abbrev pub PortsRise : Type 0
 PortsRise = (packets ordered listed : List Packet) (port : ℕ) →
-    IsCaptureOrder packets ordered → KeepsPortOrder ordered listed →
-    IsSortedBy comes_before (filter (at_port port) listed)
+    IsCaptureOrder packets ordered → KeepsPortOrder port_of ordered listed →
+    IsSortedBy comes_before (filter (came_at port_of port) listed)

@@ -1,16 +1,12 @@
 -- Separation: packets that meet have one hash.
-use Rattle.std.specs.Prelude.{◌≡◌, ℕ, List, Option, Some}
+use Rattle.std.specs.Prelude.{◌≡◌, ℕ, List, Option}
 use Rattle.std.specs.Option.{option_map}
 use Rattle.nf_base.specs.declared.packet.Packet.{Packet}
 use Rattle.nf_base.specs.declared.packet.Fields.{Fields}
 use Rattle.nf_base.specs.Text.{Function}
 use Rattle.nf_base.specs.Runs.{Handling, Report, Meet}
-use Rattle.hash_fields.specs.Hashed.{IsInput}
+use Rattle.hash_fields.specs.Hashed.{HasInput}
 use Rattle.nf_sites.specs.Admissible.{IsAdmissibleBySites}
-
--- a packet's fields, where it is handled, are within their widths
-abbrev pub HasInput : Packet → Type 0
-HasInput packet = (fields : Fields) → packet.fields ≡ Some fields → IsInput fields
 
 -- the hash of a handled packet, by its port
 abbrev pub hash_of : (ℕ → Fields → ℕ) → Packet → Option ℕ

@@ -2,8 +2,8 @@
 use Rattle.std.specs.Prelude.{◌≡◌, ℕ, List, Contains}
 use Rattle.nf_base.specs.declared.keys.Keys.{Keys}
 use Rattle.nf_base.specs.declared.packet.Packet.{Packet}
-use Rattle.nf_sites.specs.Separation.{HasInput}
-use Rattle.key_synth.specs.Laws.{HashAlikeWhereTheyMeet}
+use Rattle.hash_fields.specs.Hashed.{HasInput}
+use Rattle.toeplitz_hash.specs.Meeting.{HashAlikeWhereTheyMeet}
 use Rattle.rss_table.specs.Tables.{even_table, queue_of}
 use Rattle.shard_machine.specs.Machine.{Setup}
 use Rattle.shard_machine.specs.Laws.{OneQueueWhereTheyMeet}

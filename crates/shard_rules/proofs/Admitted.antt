@@ -25,7 +25,8 @@ use Rattle.shard_rules.specs.Sites.{object_sites, field_at, knows}
 use Rattle.shard_rules.specs.Rules.{is_kept, kept_labels}
 use Rattle.shard_rules.specs.Places.{place_of, same_place, places_of}
 use Rattle.shard_rules.specs.Plans.{objects_of, kept_places, written_places}
-use Rattle.shard_rules.specs.Served.{own_sites, own_plan, hash_under, PlacesSayWhatSitesSay}
+use Rattle.toeplitz_hash.specs.Packets.{hash_by}
+use Rattle.shard_rules.specs.Served.{own_sites, own_plan, PlacesSayWhatSitesSay}
 use Rattle.shard_rules.proofs.Once.{once_from, once_to}
 use Rattle.shard_rules.proofs.SamePlace.{places_same}
 use Rattle.shard_rules.proofs.Own.{told, own_kept}
@@ -124,7 +125,7 @@ in_places f o x i e =
     once_to same_place places_same (map (place_of (keeps f o)) (on f o)) (place_of (keeps f o) (site_told f x))
     (to_map (place_of (keeps f o)) (on f o) (site_told f x) (on_own f x o i e))
 
-by_sites : (f : Function) (keys : Keys) → rows.AreAdmissibleForAll keys (own_plan f).objects → IsAdmissibleBySites f (hash_under keys)
+by_sites : (f : Function) (keys : Keys) → rows.AreAdmissibleForAll keys (own_plan f).objects → IsAdmissibleBySites f (hash_by keys)
 by_sites f keys h x y i j e w p q ip iq agree =
     let o = x.object in
     let places = places_of (keeps f o) (on f o) in
@@ -149,7 +150,7 @@ place_is f o place i =
     let of_o : a.0.object ≡ o = one_object a.0.object o (passes (λ (s : Site). sites.same_object s.object o) (own_sites f) a.0 a.1) in
     record { site = b.0; of = b.1; on_it = ap (λ (s : Site). s.object) b.2 ∙ of_o; is = ap (place_of (keeps f o)) b.2 ∙ a.2 }
 
-agree_at : (f : Function) (keys : Keys) → IsAdmissibleBySites f (hash_under keys) → (o : ObjectId) → is_written f o ≡ true → (first second : Place) → PlaceOf f o first → PlaceOf f o second → rows.AgreeAt keys first second
+agree_at : (f : Function) (keys : Keys) → IsAdmissibleBySites f (hash_by keys) → (o : ObjectId) → is_written f o ≡ true → (first second : Place) → PlaceOf f o first → PlaceOf f o second → rows.AgreeAt keys first second
 agree_at f keys ok o w first second a b =
     let x = a.site in
     let y = b.site in
@@ -171,7 +172,7 @@ written_is f o object e = elim (cases_Bool (is_written f o)) [
   | inr w ↦ absurd (let bad : None ≡ Some object = rw w at e in cc)
 ]
 
-by_places : (f : Function) (keys : Keys) → IsAdmissibleBySites f (hash_under keys) → rows.AreAdmissibleForAll keys (own_plan f).objects
+by_places : (f : Function) (keys : Keys) → IsAdmissibleBySites f (hash_by keys) → rows.AreAdmissibleForAll keys (own_plan f).objects
 by_places f keys ok =
     each_of (λ (object : Object). rows.AreAdmissible keys object.places) (own_plan f).objects
     (λ object i.

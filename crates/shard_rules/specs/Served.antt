@@ -1,11 +1,9 @@
 -- What the places of a plan say of keys: no more and no less than the function's sites.
-use Rattle.std.specs.Prelude.{◌≡◌, ◌↔◌, ℕ, List}
+use Rattle.std.specs.Prelude.{◌≡◌, ◌↔◌, List}
 use Rattle.nf_base.specs.declared.decl.ObjectId.{ObjectId}
 use Rattle.nf_base.specs.declared.keys.Keys.{Keys}
-use Rattle.nf_base.specs.declared.packet.Fields.{Fields}
 use Rattle.nf_base.specs.Text.{Function}
-use Rattle.toeplitz_hash.specs.Toeplitz.{toeplitz_of}
-use Rattle.toeplitz_hash.specs.Packets.{input_bytes, key_at}
+use Rattle.toeplitz_hash.specs.Packets.{hash_by}
 use Rattle.nf_sites.specs.OnPaths as text
 use Rattle.nf_sites.specs.Known.{labels_of, kept}
 use Rattle.nf_sites.specs.Admissible.{IsAdmissibleBySites}
@@ -30,11 +28,7 @@ abbrev pub KeptLabelsAreTheFunctions : Type 0
 KeptLabelsAreTheFunctions = (f : Function) (o : ObjectId) →
     kept_labels (labels_of f o) (object_sites o (own_sites f)) ≡ kept f o
 
--- the Toeplitz hash of a port's input under the port's key
-abbrev pub hash_under : Keys → ℕ → Fields → ℕ
-hash_under keys port fields = toeplitz_of (key_at keys port) (input_bytes fields)
-
 -- keys are admissible at the places exactly where their hash is by the sites
 abbrev pub PlacesSayWhatSitesSay : Type 0
 PlacesSayWhatSitesSay = (f : Function) (keys : Keys) →
-    AreAdmissibleForAll keys (own_plan f).objects ↔ IsAdmissibleBySites f (hash_under keys)
+    AreAdmissibleForAll keys (own_plan f).objects ↔ IsAdmissibleBySites f (hash_by keys)

@@ -1,5 +1,6 @@
 pub mod Bits
 pub mod Toeplitz
 pub mod Packets
+pub mod Meeting
 pub mod Laws
 pub mod Suite

@@ -16,9 +16,10 @@ input_bytes fields =
 abbrev pub key_at : Keys → ℕ → List ℕ
 key_at keys port = slice_index_or keys.ports port []
 
+-- the hash of fields that came in at a port, under its key
+abbrev pub hash_by : Keys → ℕ → Fields → ℕ
+hash_by keys port fields = toeplitz_of (key_at keys port) (input_bytes fields)
+
 -- a packet's hash under the key of its port; none of one that is skipped
 abbrev pub hash_of : Keys → Packet → Option ℕ
-hash_of keys packet =
-    option_map
-    (λ (fields : Fields). toeplitz_of (key_at keys packet.id.port) (input_bytes fields))
-    packet.fields
+hash_of keys packet = option_map (hash_by keys packet.id.port) packet.fields

@@ -1,31 +1,15 @@
--- The names of objects, maps, labels and fields, as they are printed.
+-- The names of maps, labels and fields, as they are printed.
 use Rattle.std.specs.Prelude.{ℕ, List, [], Option, Some, None, codes, slice_get}
 use Rattle.nf_base.specs.declared.decl.ObjectId.{ObjectId}
 use Rattle.nf_base.specs.declared.decl.ObjectId.TheVariants as object
 use Rattle.nf_base.specs.declared.decl.ChainDecl.{ChainDecl}
-use Rattle.nf_base.specs.declared.decl.ArrayDecl.{ArrayDecl}
 use Rattle.nf_base.specs.declared.decl.ColumnDecl.{ColumnDecl}
 use Rattle.nf_base.specs.declared.decl.MapDecl.{MapDecl}
 use Rattle.nf_base.specs.Text.{Function}
 use Rattle.hash_fields.specs.declared.hashable.Hashable.{Hashable}
 use Rattle.hash_fields.specs.declared.hashable.Hashable.TheVariants.{SrcIp, DstIp, SrcPort, DstPort}
 
--- the name of a declared chain
-abbrev pub chain_name : Option ChainDecl → List ℕ
-chain_name None = []
-chain_name (Some decl) = decl.name
-
--- that of a declared array
-abbrev pub array_name : Option ArrayDecl → List ℕ
-array_name None = []
-array_name (Some decl) = decl.name
-
--- the name of a chain or an array
-abbrev pub object_name : Function → ObjectId → List ℕ
-object_name f (object.Chain chain) = chain_name (slice_get f.chains chain)
-object_name f (object.Array array) = array_name (slice_get f.arrays array)
-
--- that of a declared map
+-- the name of a declared map
 abbrev pub declared_map : Option MapDecl → List ℕ
 declared_map None = []
 declared_map (Some decl) = decl.name

@@ -12,7 +12,8 @@ use Rattle.shard_rules.specs.declared.plan.Plan.{Plan}
 use Rattle.shard_rules.specs.Rules.{rule_word}
 use Rattle.nf_sites.specs.Known.{same_object, labels_of}
 use Rattle.shard_rules.specs.Sites.{field_at, knows_one}
-use Rattle.verdict_text.specs.Names.{object_name, map_name, label_name, field_word}
+use Rattle.nf_base.specs.Names.{object_name}
+use Rattle.verdict_text.specs.Names.{map_name, label_name, field_word}
 
 -- how a site uses its object
 abbrev pub sort_text : Function → ObjectId → Sort → List ℕ

@@ -9,7 +9,7 @@ use Rattle.key_synth.specs.declared.verdict.Cause.{Cause}
 use Rattle.key_synth.specs.declared.verdict.Cause.TheVariants as cause
 use Rattle.key_synth.specs.declared.verdict.Verdict.{Verdict}
 use Rattle.key_synth.specs.declared.verdict.Verdict.TheVariants.{Sharded, Locked}
-use Rattle.verdict_text.specs.Names.{object_name}
+use Rattle.nf_base.specs.Names.{object_name}
 use Rattle.verdict_text.specs.Objects.{explained}
 
 -- the line of a port's key: 80 hexadecimal digits

@@ -15,7 +15,7 @@ ghost use Rattle.std.specs.List.{range_with_len};
 ghost use Rattle.nf_base.specs.Functions.{function_of};
 ghost use Rattle.verdict_text.specs.Objects.{sort_text, known_text, knowns_text, site_knows, site_text, sites_text, labels_text, kept_text, standing_text, object_text, objects_text, explained};
 
-use crate::names::{field_word, label_name, map_name, object_name};
+use crate::names::{field_word, label_name, map_name};
 use crate::text::{push_bytes, push_decimal};
 use access_keys::Site;
 use hash_fields::Hashable;
@@ -180,7 +180,7 @@ fn push_object(
         ≡ out.old.items ++ object_text (function_of func.now) sites.now object standing.now) }
 {
     push_bytes(out, b"object ")?;
-    push_bytes(out, object_name(func, object))?;
+    push_bytes(out, func.object_name(object))?;
     push_standing(out, func, sites, object, standing)
 }
 

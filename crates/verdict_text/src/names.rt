@@ -1,27 +1,11 @@
-//! The names of objects, maps, labels and fields, as they are printed.
+//! The names of maps, labels and fields, as they are printed.
 ghost use Rattle.std.specs.Prelude.{◌≡◌};
 ghost use Rattle.nf_base.specs.Functions.{function_of};
-ghost use Rattle.verdict_text.specs.Names.{object_name, map_name, label_name, field_word};
+ghost use Rattle.verdict_text.specs.Names.{map_name, label_name, field_word};
 
 use hash_fields::Hashable;
 use nf_base::decl::ObjectId;
 use nf_base::func::Func;
-
-/// The name of a chain or an array.
-pub fn object_name(func: &Func, object: ObjectId) -> &[u8]
-    ensures { result.now ≡ object_name (function_of func.now) object }
-{
-    match object {
-        ObjectId::Chain(chain) => match func.chains.as_slice().get(chain as usize) {
-            None => &[],
-            Some(decl) => decl.name.as_slice(),
-        },
-        ObjectId::Array(array) => match func.arrays.as_slice().get(array as usize) {
-            None => &[],
-            Some(decl) => decl.name.as_slice(),
-        },
-    }
-}
 
 /// The name of a map of a chain.
 pub fn map_name(func: &Func, object: ObjectId, map: u32) -> &[u8]

@@ -12,7 +12,6 @@ ghost use Rattle.nf_base.specs.Functions.{function_of};
 ghost use Rattle.verdict_text.specs.Verdict.{key_text, keys_text, cause_text, verdict_text, explained_whole};
 
 use crate::explaining::push_explained;
-use crate::names::object_name;
 use crate::text::{push_bytes, push_decimal};
 use access_keys::Site;
 use key_synth::{Cause, Verdict};
@@ -47,7 +46,7 @@ fn push_cause(out: &mut Vec<u8>, func: &Func, cause: Cause) -> Result<(), AllocE
 {
     match cause {
         Cause::Object { object, rule } => {
-            push_bytes(out, object_name(func, object))?;
+            push_bytes(out, func.object_name(object))?;
             push_bytes(out, b" ")?;
             push_bytes(out, rule.word().as_bytes())
         }

@@ -1,5 +1,5 @@
 use Rattle.nf_sites.proofs.Separate.{hash_alike}
-use Rattle.key_synth.specs.Keys.{hash_by}
+use Rattle.toeplitz_hash.specs.Packets.{hash_by}
 use Rattle.key_synth.proofs.laws.meeting_packets_hash_alike.Goals as goal
 
 pub returns : goal.returns

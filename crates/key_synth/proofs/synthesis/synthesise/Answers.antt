@@ -7,7 +7,8 @@ use Rattle.nf_base.specs.declared.decl.ObjectId.{ObjectId}
 use Rattle.nf_sites.proofs.Separate.{hash_alike}
 use Rattle.shard_rules.specs.declared.plan.Plan.{Plan}
 use Rattle.shard_rules.specs.declared.plan.Standing.{Standing}
-use Rattle.key_synth.specs.Keys.{hash_by, AreGiven, NoneMayBeGiven, AreAnswer}
+use Rattle.toeplitz_hash.specs.Packets.{hash_by}
+use Rattle.key_synth.specs.Keys.{AreGiven, NoneMayBeGiven, AreAnswer}
 use Rattle.key_synth.specs.Verdicts.{IsCause}
 use Rattle.key_synth.proofs.Tied.{answered}
 use Rattle.key_synth.proofs.synthesis.synthesise.Goals as goal
