@@ -30,7 +30,8 @@ use Rattle.stream_run.proofs.Complete.{ran_of, bytes_are, same_arrivals, first_m
 use Rattle.stream_run.proofs.Reached.{first_given}
 use Rattle.sharded_run.specs.Reading.{Gathers, IsOver}
 use Rattle.locked_run.specs.declared.came.Settled.{Settled}
-use Rattle.locked_run.specs.Locked.{KeepsPortOrder, IsRunIn}
+use Rattle.nf_base.specs.Orders.{KeepsPortOrder}
+use Rattle.locked_run.specs.Locked.{IsRunIn, port_of}
 use Rattle.locked_run.specs.Handled.{joined}
 use Rattle.locked_run.specs.Going.{mode_of, AreInMode, AreSettled, AreWhole, Writes, IsWritten, IsHalted}
 use Rattle.locked_run.specs.Lawful.{IsFinished, IsCutShort}
@@ -97,7 +98,7 @@ run_in Lock f workers Refused given hs state s = record {
   mode = refl;
   workers_are = refl;
   own = all_turns workers hs s.in_mode.0;
-  order = subst (KeepsPortOrder given) (sym (same_arrivals hs)) s.in_mode.1;
+  order = subst (KeepsPortOrder port_of given) (sym (same_arrivals hs)) s.in_mode.1;
   legal = record { result = result_in hs state; ran = ran_of f Lock workers hs state s.undivided };
 }
 run_in One f workers Refused given hs state s = (

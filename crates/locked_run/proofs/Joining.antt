@@ -18,7 +18,8 @@ use Rattle.lock_workers.specs.Worked.{AreAt, places_by, AreHandled}
 use Rattle.stream_run.specs.Runs.{Handled}
 use Rattle.stream_run.specs.Streaming.{IsUndivided, arrival_of, handling_in}
 use Rattle.locked_run.specs.Handled.{in_front, joined}
-use Rattle.locked_run.specs.Locked.{is_of, KeepsPortOrder}
+use Rattle.nf_base.specs.Orders.{KeepsPortOrder}
+use Rattle.locked_run.specs.Locked.{is_of, port_of}
 
 -- the packet that stands at a place
 pub record Stands (batch : List Arrival) (place : ℕ) (x : Ordered) : Type 0 where
@@ -181,7 +182,7 @@ port_of_by workers port (h ∷ hs) own = one (is_of port h.arrival) refl (is_by 
     one false e true k i = ap (λ (b : Bool). cond b (h.arrival ∷ filter (is_of port) (map arrival_of (filter (is_by (port % workers)) hs))) (filter (is_of port) (map arrival_of (filter (is_by (port % workers)) hs)))) e ∙ i
     one false e false k i = i
 
-pub ports_kept : (f : Function) (workers : ℕ) (batch : List Arrival) (xs : List Ordered) (places : List ℕ) (state : State) → AreHandled f workers (map packet_of batch) xs places state → KeepsPortOrder batch (map arrival_of (joined batch xs places))
+pub ports_kept : (f : Function) (workers : ℕ) (batch : List Arrival) (xs : List Ordered) (places : List ℕ) (state : State) → AreHandled f workers (map packet_of batch) xs places state → KeepsPortOrder port_of batch (map arrival_of (joined batch xs places))
 ports_kept f workers batch xs places state h port =
     sym (port_of_by workers port (joined batch xs places) (workers_are f workers batch xs places state h))
     ∙ ap (filter (is_of port)) (each_own f workers batch xs places state h (port % workers))

@@ -3,7 +3,8 @@ use Rattle.std.proofs.Common.{◌≡◌, ◌≢◌, ⊎_elim, ℕ, Bool, true, f
 use Rattle.std.proofs.lemmas.Bool.{cases_eq}
 use Rattle.std.proofs.lemmas.List.Elements.{filter-append}
 use Rattle.packet_feed.specs.Arrivals.{Arrival}
-use Rattle.locked_run.specs.Locked.{is_of, KeepsPortOrder}
+use Rattle.nf_base.specs.Orders.{KeepsPortOrder}
+use Rattle.locked_run.specs.Locked.{is_of, port_of}
 use Rattle.locked_run.specs.Laws.{EachStandsOnce, OthersGoBetween, NoneGoesBefore}
 
 -- where the first packet of a port stands
@@ -31,7 +32,7 @@ parted port (h ∷ hs) a rest e = one (is_of port h) refl (λ q. parted port hs 
         }
 
 -- the first packet aside, the others keep the order
-keeps_rest : (a : Arrival) (rest before after : List Arrival) → KeepsPortOrder (a ∷ rest) (before ++ a ∷ after) → filter (is_of a.packet.id.port) before ≡ [] → filter (is_of a.packet.id.port) after ≡ filter (is_of a.packet.id.port) rest → KeepsPortOrder rest (before ++ after)
+keeps_rest : (a : Arrival) (rest before after : List Arrival) → KeepsPortOrder port_of (a ∷ rest) (before ++ a ∷ after) → filter (is_of a.packet.id.port) before ≡ [] → filter (is_of a.packet.id.port) after ≡ filter (is_of a.packet.id.port) rest → KeepsPortOrder port_of rest (before ++ after)
 keeps_rest a rest before after keeps none later port =
     ⊎_elim
     (λ (same : port ≡ a.packet.id.port).
@@ -61,7 +62,7 @@ cond_length : (b : Bool) (a : Arrival) (xs ys : List Arrival) → length xs ≡ 
 cond_length true a xs ys e = omega (arith, e)
 cond_length false a xs ys e = e
 
-nothing_left : (handled : List Arrival) → KeepsPortOrder [] handled → handled ≡ []
+nothing_left : (handled : List Arrival) → KeepsPortOrder port_of [] handled → handled ≡ []
 nothing_left [] keeps = refl
 nothing_left (h ∷ hs) keeps =
     let e : h ∷ filter (is_of h.packet.id.port) hs ≡ [] = ap (λ (b : Bool). cond b (h ∷ filter (is_of h.packet.id.port) hs) (filter (is_of h.packet.id.port) hs)) (sym (eq-eqb h.packet.id.port h.packet.id.port refl)) ∙ keeps h.packet.id.port in
@@ -72,7 +73,7 @@ stands_once [] handled test keeps = ap (λ (xs : List Arrival). length (filter t
 stands_once (a ∷ rest) handled test keeps =
     let port = a.packet.id.port in
     let p = parted port handled a (filter (is_of port) rest) (keeps port ∙ ap (λ (b : Bool). cond b (a ∷ filter (is_of port) rest) (filter (is_of port) rest)) (eq-eqb port port refl)) in
-    let less = keeps_rest a rest p.before p.after (subst (KeepsPortOrder (a ∷ rest)) p.is keeps) p.none p.later in
+    let less = keeps_rest a rest p.before p.after (subst (KeepsPortOrder port_of (a ∷ rest)) p.is keeps) p.none p.later in
     ap (λ (xs : List Arrival). length (filter test xs)) p.is
     ∙ count_front test a p.before p.after
     ∙ cond_length (test a) a (filter test (p.before ++ p.after)) (filter test rest) (stands_once rest (p.before ++ p.after) test less)

@@ -12,7 +12,8 @@ use Rattle.stream_run.specs.Texts.{bytes_of}
 use Rattle.stream_run.specs.Writing.{AreFronts}
 use Rattle.stream_run.specs.Streaming.{IsUndivided, arrival_of}
 use Rattle.locked_run.specs.declared.came.Settled.{Settled}
-use Rattle.locked_run.specs.Locked.{KeepsPortOrder}
+use Rattle.nf_base.specs.Orders.{KeepsPortOrder}
+use Rattle.locked_run.specs.Locked.{port_of}
 
 -- the mode in which so many of the workers handled packets
 abbrev pub mode_of : ℕ → ℕ → Mode
@@ -22,7 +23,7 @@ mode_of handled_by workers = if handled_by == workers then Lock else One
 abbrev pub AreInMode : Mode → ℕ → Type 0 → List Arrival → List Handled → Type 0
 AreInMode Lock workers Refused given hs =
     AllByRecursion (λ (h : Handled). h.worker ≡ h.arrival.packet.id.port % workers) hs
-    × KeepsPortOrder given (map arrival_of hs)
+    × KeepsPortOrder port_of given (map arrival_of hs)
 AreInMode One workers Refused given hs =
     Refused × AllByRecursion (λ (h : Handled). h.worker ≡ 0) hs × (map arrival_of hs ≡ given)
 AreInMode Shard workers Refused given hs = ⊥

@@ -1,19 +1,20 @@
 -- A run in mode `lock`: workers that share the tables handle the packets of their own ports.
-use Rattle.std.specs.Prelude.{◌≡◌, ◌%◌, ◌==◌, ℕ, Bool, List, map, filter}
+use Rattle.std.specs.Prelude.{◌≡◌, ◌%◌, ℕ, Bool, List, map}
 use Rattle.std.specs.List.{AllByRecursion}
+use Rattle.nf_base.specs.Orders.{came_at, KeepsPortOrder}
 use Rattle.nf_base.specs.Text.{Function}
 use Rattle.run_history.specs.declared.line.Mode.{Mode}
 use Rattle.run_history.specs.declared.line.Mode.TheVariants.{One, Shard, Lock}
 use Rattle.packet_feed.specs.Arrivals.{Arrival}
 use Rattle.stream_run.specs.Runs.{Run, Turn, IsLegal, arrival_in}
 
--- a packet came in at a port
-abbrev pub is_of : ℕ → Arrival → Bool
-is_of port a = a.packet.id.port == port
+-- the port at which a packet came in
+abbrev pub port_of : Arrival → ℕ
+port_of a = a.packet.id.port
 
--- the packets of each port are the same, in the same order
-abbrev pub KeepsPortOrder : List Arrival → List Arrival → Type 0
-KeepsPortOrder given handled = (port : ℕ) → filter (is_of port) handled ≡ filter (is_of port) given
+-- whether a packet came in at a port
+abbrev pub is_of : ℕ → Arrival → Bool
+is_of = came_at port_of
 
 -- Each packet is handled by the worker whose number is its port modulo theirs, and each port's stand in
 -- the order in which they were given, all of them and no others. What the packets come to is what the
@@ -23,7 +24,7 @@ pub record IsLockRun (f : Function) (workers : ℕ) (given : List Arrival) (r : 
   pub mode : r.mode ≡ Lock
   pub workers_are : r.workers ≡ workers
   pub own : AllByRecursion (λ (t : Turn). t.worker ≡ t.arrival.packet.id.port % workers) r.turns
-  pub order : KeepsPortOrder given (map arrival_in r.turns)
+  pub order : KeepsPortOrder port_of given (map arrival_in r.turns)
   pub legal : IsLegal r
 
 -- Worker 0 handles all packets in the order in which they were given, in mode `one`, for as many

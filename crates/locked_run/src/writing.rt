@@ -12,7 +12,7 @@ use crate::kept::Kept;
 use lock_core::Ordered;
 use nf_base::seq::Seq;
 use nf_files::Files;
-use stream_run::{Sink, Stop, put_all};
+use stream_run::{HandledPacket, Sink, Stop, put_all};
 
 // Puts what one packet leaves into all files.
 fn write_one<F: Files>(
@@ -37,19 +37,14 @@ fn write_one<F: Files>(
     ensures reads { (g : ℕ) → F.is_read files.old g → F.is_read files.new g }
     ensures writes { (g : ℕ) → F.is_written files.old g → F.is_written files.new g }
 {
-    let packet = kept.packet();
-    let original = kept.original();
-    let frame = kept.frame();
-    put_all(
-        sinks,
-        files,
-        ports,
-        ordered.seat,
-        packet,
-        original,
-        frame,
-        &ordered.done,
-    )
+    let handled = HandledPacket {
+        worker: ordered.seat,
+        packet: kept.packet(),
+        original: kept.original(),
+        frame: kept.frame(),
+        done: &ordered.done,
+    };
+    put_all(sinks, files, ports, &handled)
 }
 
 /// Puts what packets leave into all files, in an order of them, each of which stands at its place.

@@ -1,5 +1,5 @@
 -- When a call on captures may have no answer.
-use Rattle.std.specs.Prelude.{◌≡◌, ℕ, List, slice_get, Option, Some, None, Result, Ok, Err}
+use Rattle.std.specs.Prelude.{◌≡◌, ℕ, List, slice_get, Option, Some, None, IsSome, Result, Ok, Err}
 use Rattle.nf_files.specs.Causes.{Counted, Faulted}
 use Rattle.pcap_file.specs.declared.fault.CapFault.{CapFault}
 use Rattle.pcap_file.specs.declared.fault.CapFault.TheVariants as one
@@ -24,9 +24,19 @@ IsCause old new files (Err (NotCapture port)) = new ≡ old
 IsCause old new files (Err Memory) = new ≡ old
 IsCause old new files (Err (File port)) = FaultedAt old new (slice_get files port)
 
+-- a fault that doesn't say that a file is no capture
+abbrev pub IsReadFault : FeedFault → Type 0
+IsReadFault (NotCapture port) = ⊥
+IsReadFault (File port) = Unit {0}
+IsReadFault Memory = Unit {0}
+
+-- a fault of one of these files, or of none
+abbrev pub IsOneOf : List ℕ → FeedFault → Type 0
+IsOneOf files (NotCapture port) = Unit {0}
+IsOneOf files (File port) = IsSome (slice_get files port)
+IsOneOf files Memory = Unit {0}
+
 -- an answer that doesn't say that a file is no capture
 abbrev pub IsNoHeaderFault : {T : Type 0} → Result T FeedFault → Type 0
 IsNoHeaderFault (Ok x) = Unit {0}
-IsNoHeaderFault (Err (NotCapture port)) = ⊥
-IsNoHeaderFault (Err (File port)) = Unit {0}
-IsNoHeaderFault (Err Memory) = Unit {0}
+IsNoHeaderFault (Err fault) = IsReadFault fault

@@ -1,10 +1,10 @@
 //! The packets of captures in capture order.
-ghost use Rattle.std.specs.Prelude.{◌≡◌, ◌^◌, ◌<◌, ◌≤◌, ◌+◌, ℕ, List, [], length, IfOk, OnErr};
+ghost use Rattle.std.specs.Prelude.{◌≡◌, ◌^◌, ◌<◌, ◌≤◌, ◌+◌, ℕ, List, [], length, IfOk, IfErr, OnErr};
 ghost use Rattle.nf_files.specs.Told.{Told};
 ghost use Rattle.pcap_file.specs.Record.{greatest_time};
 ghost use Rattle.packet_feed.specs.Arrivals.{Arrival};
 ghost use Rattle.packet_feed.specs.Order.{in_order, IsOrdered};
-ghost use Rattle.packet_feed.specs.Faults.{IsCause, IsNoHeaderFault};
+ghost use Rattle.packet_feed.specs.Faults.{IsCause, IsNoHeaderFault, IsOneOf};
 ghost use Rattle.packet_feed.specs.Told.{EachFile, IsApart, KeepsOthers};
 ghost use Rattle.packet_feed.specs.Streams.{last_read};
 ghost use Rattle.packet_feed.specs.Sources.{files_in, AreFrom};
@@ -75,6 +75,7 @@ impl Feed {
             StandsByPort (F.told files.old) [] feed (F.told files.new)) }
         ensures kept { KeepsOthers captures.now (F.told files.old) (F.told files.new) }
         ensures cause { IsCause (F.counted files.old) (F.counted files.new) captures.now result }
+        ensures one { IfErr result (λ fault. IsOneOf captures.now fault) }
         ensures reads { (g : ℕ) → F.is_read files.old g → F.is_read files.new g }
         ensures writes { (g : ℕ) → F.is_written files.old g → F.is_written files.new g }
         // The order in which packets are given is the capture order.
@@ -113,6 +114,7 @@ impl Feed {
         ensures cause { let all = files_in self.old.sources in
             IsCause (F.counted files.old) (F.counted files.new) all result }
         ensures never { IsNoHeaderFault result }
+        ensures one { IfErr result (λ fault. IsOneOf (files_in self.old.sources) fault) }
         ensures reads { (g : ℕ) → F.is_read files.old g → F.is_read files.new g }
         ensures writes { (g : ℕ) → F.is_written files.old g → F.is_written files.new g }
     {
@@ -157,6 +159,7 @@ impl Feed {
         ensures cause { let all = files_in self.old.sources in
             IsCause (F.counted files.old) (F.counted files.new) all result }
         ensures never { IsNoHeaderFault result }
+        ensures one { IfErr result (λ fault. IsOneOf (files_in self.old.sources) fault) }
         ensures reads { (g : ℕ) → F.is_read files.old g → F.is_read files.new g }
         ensures writes { (g : ℕ) → F.is_written files.old g → F.is_written files.new g }
     {

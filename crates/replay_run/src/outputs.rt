@@ -17,7 +17,7 @@ use nf_base::seq::Seq;
 use nf_files::Files;
 use pcap_file::push_header;
 use std::alloc::{AllocError, Global};
-use stream_run::{Stop, push_sent};
+use stream_run::{HandledPacket, Stop, push_sent};
 
 /// Outputs of which nothing was read yet.
 pub(crate) fn begin(alloc: Global, outputs: &[u32]) -> Result<Seq<Compared>, AllocError>
@@ -80,7 +80,14 @@ fn compare_sent<F: Files>(
     ensures writes { (g : ℕ) → F.is_written files.old g → F.is_written files.new g }
 {
     buffer.clear();
-    match push_sent(buffer, port, packet, original, frame, done) {
+    let handled = HandledPacket {
+        worker: 0,
+        packet,
+        original,
+        frame,
+        done,
+    };
+    match push_sent(buffer, port, &handled) {
         Ok(()) => compare_next(files, compared, buffer.as_slice()),
         Err(_) => Err(Stop::Memory),
     }

@@ -11,7 +11,7 @@ use Rattle.nf_base.specs.Text.{Function}
 use Rattle.nf_base.specs.Functions.{function_of}
 use Rattle.nf_base.specs.Step.{opening}
 use Rattle.nf_files.specs.Told.{Told, IsEmptyIfTold}
-use Rattle.key_synth.specs.Laws.{HashAlikeWhereTheyMeet}
+use Rattle.toeplitz_hash.specs.Meeting.{HashAlikeWhereTheyMeet}
 use Rattle.packet_feed.specs.Told.{packets_of}
 use Rattle.packet_feed.specs.Sources.{files_in}
 use Rattle.packet_feed.specs.Feeding.{Feeding}

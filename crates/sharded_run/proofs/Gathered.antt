@@ -4,7 +4,7 @@ use Rattle.std.specs.List.{AllByRecursion}
 use Rattle.std.proofs.lemmas.List.{map-append, length-map, length-append}
 use Rattle.nf_base.specs.declared.packet.Packet.{Packet}
 use Rattle.nf_files.specs.Told.{Told}
-use Rattle.nf_sites.specs.Separation.{HasInput}
+use Rattle.hash_fields.specs.Hashed.{HasInput}
 use Rattle.packet_feed.specs.Arrivals.{Arrival, packet_of}
 use Rattle.packet_feed.specs.Told.{packets_of}
 use Rattle.packet_feed.specs.Streams.{Stream}

@@ -12,8 +12,8 @@ use Rattle.nf_base.specs.Text.{Function}
 use Rattle.nf_base.specs.Runs.{Handling, RunResult, run}
 use Rattle.nf_base.specs.Shares.{IsShareStop}
 use Rattle.nf_base.specs.Step.{opening}
-use Rattle.nf_sites.specs.Separation.{HasInput}
-use Rattle.key_synth.specs.Laws.{HashAlikeWhereTheyMeet}
+use Rattle.hash_fields.specs.Hashed.{HasInput}
+use Rattle.toeplitz_hash.specs.Meeting.{HashAlikeWhereTheyMeet}
 use Rattle.shard_laws.specs.Rule.{KeepShareRule}
 use Rattle.shard_machine.specs.Machine.{Machine, dones_of, lines_of}
 use Rattle.shard_machine.specs.Moments.{IsAtStop}

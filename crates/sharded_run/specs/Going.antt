@@ -9,7 +9,7 @@ use Rattle.nf_base.specs.Text.{Function}
 use Rattle.nf_base.specs.Shares.{IsShareStop}
 use Rattle.nf_base.specs.Step.{opening}
 use Rattle.nf_files.specs.Told.{Told, IsToldAs}
-use Rattle.nf_sites.specs.Separation.{HasInput}
+use Rattle.hash_fields.specs.Hashed.{HasInput}
 use Rattle.packet_feed.specs.Arrivals.{Arrival, packet_of}
 use Rattle.packet_feed.specs.Told.{packets_of}
 use Rattle.packet_feed.specs.Sources.{files_in, AreFrom}

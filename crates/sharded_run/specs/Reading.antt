@@ -3,7 +3,7 @@ use Rattle.std.specs.Prelude.{◌≡◌, ◌+◌, ◌<◌, ◌≤◌, ℕ, List,
 use Rattle.std.specs.List.{AllByRecursion}
 use Rattle.nf_base.specs.declared.packet.Packet.{Packet}
 use Rattle.nf_files.specs.Told.{Told}
-use Rattle.nf_sites.specs.Separation.{HasInput}
+use Rattle.hash_fields.specs.Hashed.{HasInput}
 use Rattle.pcap_file.specs.Record.{greatest_time}
 use Rattle.packet_feed.specs.Arrivals.{Arrival, packet_of}
 use Rattle.packet_feed.specs.Told.{packets_of}

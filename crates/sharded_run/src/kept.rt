@@ -1,6 +1,6 @@
 //! Packets that were read, with their frames.
 ghost use Rattle.std.specs.Prelude.{◌≡◌, ◌≤◌, ◌<◌, ◌∷◌, ◌++◌, [], length, map, IfOk, OnOk, OnErr, slice_index_or};
-ghost use Rattle.nf_sites.specs.Separation.{HasInput};
+ghost use Rattle.hash_fields.specs.Hashed.{HasInput};
 ghost use Rattle.pcap_file.specs.Record.{greatest_time};
 ghost use Rattle.packet_feed.specs.Arrivals.{Arrival, packet_of};
 

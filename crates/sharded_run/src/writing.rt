@@ -10,7 +10,7 @@ use crate::kept::{Batch, Kept};
 use nf_base::seq::Seq;
 use nf_files::Files;
 use shard_core::Collected;
-use stream_run::{Sink, Stop, put_all};
+use stream_run::{HandledPacket, Sink, Stop, put_all};
 
 // Puts what one packet leaves into all files.
 fn write_one<F: Files>(
@@ -35,19 +35,14 @@ fn write_one<F: Files>(
     ensures reads { (g : ℕ) → F.is_read files.old g → F.is_read files.new g }
     ensures writes { (g : ℕ) → F.is_written files.old g → F.is_written files.new g }
 {
-    let packet = kept.packet();
-    let original = kept.original();
-    let frame = kept.frame();
-    put_all(
-        sinks,
-        files,
-        ports,
-        collected.queue,
-        packet,
-        original,
-        frame,
-        &collected.done,
-    )
+    let handled = HandledPacket {
+        worker: collected.queue,
+        packet: kept.packet(),
+        original: kept.original(),
+        frame: kept.frame(),
+        done: &collected.done,
+    };
+    put_all(sinks, files, ports, &handled)
 }
 
 /// Puts what the packets of a round leave into all files, those of them that were handled.

@@ -2,6 +2,7 @@
 #![tactic(auto)]
 
 mod ending;
+mod handled;
 mod heads;
 pub mod laws;
 mod piece;
@@ -13,6 +14,7 @@ mod stop;
 mod streaming;
 
 pub use ending::Ending;
+pub use handled::HandledPacket;
 pub use heads::begin_sinks;
 pub use piece::push_sent;
 pub use ran::Ran;

@@ -4,11 +4,10 @@ ghost use Rattle.frame_ip.specs.Edit.{IsUnedited};
 ghost use Rattle.pcap_file.specs.Record.{greatest_time, record_at};
 ghost use Rattle.pcap_file.specs.Spelled.{written_bytes};
 ghost use Rattle.stream_run.specs.Texts.{sends, with_edits, sent_bytes, piece};
-ghost use Rattle.stream_run.specs.Writing.{came_to};
 
+use crate::handled::HandledPacket;
 use frame_ip::{edit, view};
-use nf_base::done::{Action, Done, Edits};
-use nf_base::packet::Packet;
+use nf_base::done::{Action, Edits};
 use pcap_file::push_record;
 use run_history::line::push_packet;
 use std::alloc::AllocError;
@@ -89,21 +88,18 @@ fn push_edited(
 }
 
 /// Appends what a packet leaves in the output of a port: a record where it is sent out there.
-pub fn push_sent(
-    buffer: &mut Vec<u8>,
-    port: u32,
-    packet: &Packet,
-    original: u32,
-    frame: &[u8],
-    done: &Done,
-) -> Result<(), AllocError>
-    requires time { packet.now.time ≤ greatest_time }
-    requires captured { length frame.now ≤ 262144 }
-    ensures { OnOk result (buffer.new.items ≡ buffer.old.items
-        ++ sent_bytes port (came_to 0 packet.now original frame.now done.now)) }
+pub fn push_sent(buffer: &mut Vec<u8>, port: u32, handled: &HandledPacket) -> Result<(), AllocError>
+    ensures { OnOk result (buffer.new.items ≡ buffer.old.items ++ sent_bytes port handled.now) }
 {
+    let HandledPacket {
+        worker: _,
+        packet,
+        original,
+        frame,
+        done,
+    } = handled;
     if sends(done.action, packet.id.port, port) {
-        push_edited(buffer, packet.time, original, frame, &done.edits)
+        push_edited(buffer, packet.time, *original, frame, &done.edits)
     } else {
         Ok(())
     }
@@ -115,19 +111,19 @@ pub(crate) fn push_piece(
     buffer: &mut Vec<u8>,
     ports: u32,
     file: u32,
-    worker: u32,
-    packet: &Packet,
-    original: u32,
-    frame: &[u8],
-    done: &Done,
+    handled: &HandledPacket,
 ) -> Result<(), AllocError>
-    requires time { packet.now.time ≤ greatest_time }
-    requires captured { length frame.now ≤ 262144 }
-    ensures { OnOk result (buffer.new.items ≡ buffer.old.items
-        ++ piece ports file (came_to worker packet.now original frame.now done.now)) }
+    ensures { OnOk result (buffer.new.items ≡ buffer.old.items ++ piece ports file handled.now) }
 {
     if file >= ports {
-        return push_packet(buffer, packet.id, worker, done.action, &done.picks);
+        let HandledPacket {
+            worker,
+            packet,
+            original: _,
+            frame: _,
+            done,
+        } = handled;
+        return push_packet(buffer, packet.id, *worker, done.action, &done.picks);
     }
-    push_sent(buffer, file, packet, original, frame, done)
+    push_sent(buffer, file, handled)
 }

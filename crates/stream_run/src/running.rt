@@ -4,6 +4,7 @@ ghost use Rattle.nf_base.specs.Functions.{function_of};
 ghost use Rattle.nf_base.specs.Step.{step, opening};
 ghost use Rattle.nf_engine.specs.View.{fixed_of};
 ghost use Rattle.pcap_file.specs.Record.{greatest_time};
+ghost use Rattle.packet_feed.specs.Faults.{IsReadFault, IsOneOf};
 ghost use Rattle.packet_feed.specs.Told.{EachFile, IsApart};
 ghost use Rattle.packet_feed.specs.Sources.{files_in};
 ghost use Rattle.run_history.specs.declared.line.Mode.TheVariants.{One};
@@ -11,6 +12,7 @@ ghost use Rattle.stream_run.specs.Writing.{files_of, AreHeld, KeepsAllBut, Keeps
 ghost use Rattle.stream_run.specs.Streaming.{HandlesOne, Comes, stop_in};
 
 use crate::ending::Ending;
+use crate::handled::HandledPacket;
 use crate::sink::Sink;
 use crate::sinks::put_all;
 use crate::stop::Stop;
@@ -69,27 +71,28 @@ fn handle_one<F: Files>(
     ensures writes { (g : ℕ) → F.is_written files.old g → F.is_written files.new g }
 {
     let done = handle_whole(tables, func, packet);
-    put_all(
-        sinks,
-        files,
-        func.handlers.len(),
-        0,
+    let handled = HandledPacket {
+        worker: 0,
         packet,
         original,
         frame,
-        &done,
-    )
+        done: &done,
+    };
+    put_all(sinks, files, func.handlers.len(), &handled)
 }
 
-/// What a fault of the captures in these files is for a run.
+/// What a fault of the captures in these files is for a run whose headers were read: it is of one of
+/// them, or of none.
 pub fn stop_in(captures: &[u32], fault: FeedFault) -> Stop
+    requires read { IsReadFault fault }
+    requires one { IsOneOf captures.now fault }
     ensures { result ≡ stop_in captures.now fault }
 {
     match fault {
-        FeedFault::NotCapture { port: _ } => Stop::Memory,
+        FeedFault::NotCapture { port: _ } => unreachable!(),
         FeedFault::File { port } => match captures.get(port as usize) {
             Some(file) => Stop::File(*file),
-            None => Stop::Memory,
+            None => unreachable!(),
         },
         FeedFault::Memory => Stop::Memory,
     }

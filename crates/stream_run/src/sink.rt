@@ -1,13 +1,11 @@
 //! A file that is written in large pieces.
-ghost use Rattle.std.specs.Prelude.{◌≡◌, ◌<◌, ◌≤◌, ◌++◌, ◌⊎◌, ℕ, List, length, OnOk, vec_len};
-ghost use Rattle.pcap_file.specs.Record.{greatest_time};
+ghost use Rattle.std.specs.Prelude.{◌≡◌, ◌<◌, ◌++◌, ◌⊎◌, ℕ, List, length, OnOk, vec_len};
 ghost use Rattle.stream_run.specs.Texts.{piece};
-ghost use Rattle.stream_run.specs.Writing.{came_to, Holds, GoesOn, IsLittle, KeepsOther, IsStopCause, StopsAt};
+ghost use Rattle.stream_run.specs.Writing.{Holds, GoesOn, IsLittle, KeepsOther, IsStopCause, StopsAt};
 
+use crate::handled::HandledPacket;
 use crate::piece::push_piece;
 use crate::stop::Stop;
-use nf_base::done::Done;
-use nf_base::packet::Packet;
 use nf_files::{Files, write_whole};
 use std::marker::Model;
 
@@ -67,17 +65,10 @@ impl Sink {
         files: &mut F,
         ports: u32,
         number: u32,
-        worker: u32,
-        packet: &Packet,
-        original: u32,
-        frame: &[u8],
-        done: &Done,
+        handled: &HandledPacket,
     ) -> Result<(), Stop>
         requires created { F.is_written files.old self.old.file }
-        requires time { packet.now.time ≤ greatest_time }
-        requires captured { length frame.now ≤ 262144 }
-        ensures goes_on { let h = came_to worker packet.now original frame.now done.now in
-            let more = piece ports number h in
+        ensures goes_on { let more = piece ports number handled.now in
             (bytes : List ℕ) → Holds bytes ((F.told files.old).given self.old.file) self.old.held →
             GoesOn (bytes ++ more) ((F.told files.new).given self.old.file) self.new.held result }
         // The memory of a run doesn't grow with what it writes.
@@ -89,16 +80,7 @@ impl Sink {
         ensures reads { (g : ℕ) → F.is_read files.old g → F.is_read files.new g }
         ensures writes { (g : ℕ) → F.is_written files.old g → F.is_written files.new g }
     {
-        match push_piece(
-            &mut self.buffer,
-            ports,
-            number,
-            worker,
-            packet,
-            original,
-            frame,
-            done,
-        ) {
+        match push_piece(&mut self.buffer, ports, number, handled) {
             Err(_) => Err(Stop::Memory),
             Ok(()) => {
                 if self.buffer.len() < PIECE {

@@ -1,16 +1,14 @@
 //! Files that are written side by side, by number: the outputs in the order of their ports, and the
 //! journal behind them.
 ghost use Rattle.std.specs.Prelude.{◌≡◌, ◌^◌, ◌≤◌, ◌∷◌, ◌++◌, [], ℕ, List, length, OnOk};
-ghost use Rattle.pcap_file.specs.Record.{greatest_time};
 ghost use Rattle.packet_feed.specs.Told.{EachFile, IsApart};
 ghost use Rattle.run_history.specs.declared.line.Mode.{Mode};
 ghost use Rattle.stream_run.specs.Runs.{Handled};
-ghost use Rattle.stream_run.specs.Writing.{came_to, files_of, AreHeld, AllGoOn, AreEmpty, HoldLittle, KeepsAllBut, IsStopCause, StopsAmong};
+ghost use Rattle.stream_run.specs.Writing.{files_of, AreHeld, AllGoOn, AreEmpty, HoldLittle, KeepsAllBut, IsStopCause, StopsAmong};
 
+use crate::handled::HandledPacket;
 use crate::sink::Sink;
 use crate::stop::Stop;
-use nf_base::done::Done;
-use nf_base::packet::Packet;
 use nf_base::seq::Seq;
 use nf_files::Files;
 
@@ -19,21 +17,14 @@ pub fn put_all<F: Files>(
     sinks: &mut Seq<Sink>,
     files: &mut F,
     ports: u32,
-    worker: u32,
-    packet: &Packet,
-    original: u32,
-    frame: &[u8],
-    done: &Done,
+    handled: &HandledPacket,
 ) -> Result<(), Stop>
     requires created { EachFile (F.is_written files.old) (files_of sinks.old) }
     requires apart { IsApart (files_of sinks.old) }
     requires few { length sinks.old ≤ 2 ^ 32 }
-    requires time { packet.now.time ≤ greatest_time }
-    requires captured { length frame.now ≤ 262144 }
-    ensures goes_on { let h = came_to worker packet.now original frame.now done.now in
-        (mode : Mode) → (workers : ℕ) → (hs : List Handled) →
+    ensures goes_on { (mode : Mode) → (workers : ℕ) → (hs : List Handled) →
         AreHeld mode workers ports hs (F.told files.old) sinks.old →
-        AllGoOn mode workers ports (hs ++ h ∷ []) (F.told files.new) sinks.new result }
+        AllGoOn mode workers ports (hs ++ handled.now ∷ []) (F.told files.new) sinks.new result }
     // Each file was given what it is to hold but for less than 65,536 bytes.
     ensures little { OnOk result (HoldLittle sinks.new) }
     ensures same_files { files_of sinks.new ≡ files_of sinks.old }
@@ -45,9 +36,7 @@ pub fn put_all<F: Files>(
 {
     for k in 0..sinks.len() {
         let sink = sinks.item_mut(k);
-        match sink.put(
-            files, ports, k as u32, worker, packet, original, frame, done,
-        ) {
+        match sink.put(files, ports, k as u32, handled) {
             Ok(()) => {}
             Err(stop) => return Err(stop),
         }

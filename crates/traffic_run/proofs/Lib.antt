@@ -3,3 +3,4 @@ mod Back
 mod Making
 pub mod Sending
 mod Known
+mod Headers

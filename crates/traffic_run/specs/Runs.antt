@@ -12,7 +12,7 @@ use Rattle.packet_feed.specs.Order.{in_order}
 use Rattle.packet_feed.specs.Told.{packets_of}
 use Rattle.run_history.specs.declared.line.Mode.{Mode}
 use Rattle.run_history.specs.declared.line.Mode.TheVariants as mode
-use Rattle.key_synth.specs.Laws.{HashAlikeWhereTheyMeet}
+use Rattle.toeplitz_hash.specs.Meeting.{HashAlikeWhereTheyMeet}
 use Rattle.stream_run.specs.declared.stop.Stop.{Stop}
 use Rattle.stream_run.specs.Runs.{Run, Turn, Handled, IsLegal, course_of, arrival_in, handled_in}
 use Rattle.stream_run.specs.Texts.{file_bytes, sent_records}

@@ -1,7 +1,7 @@
 //! Packets of captures that are made of traffic, handled.
 ghost use Rattle.std.specs.Prelude.{◌≡◌, ◌+◌, ◌<◌, ◌≤◌, ℕ, Some, length, slice_get};
 ghost use Rattle.nf_base.specs.Functions.{function_of};
-ghost use Rattle.key_synth.specs.Laws.{HashAlikeWhereTheyMeet};
+ghost use Rattle.toeplitz_hash.specs.Meeting.{HashAlikeWhereTheyMeet};
 ghost use Rattle.lock_mode.specs.Gates.{Rose};
 ghost use Rattle.nf_files.specs.Told.{IsEmptyIfTold};
 ghost use Rattle.packet_feed.specs.Told.{EachFile, IsApart};

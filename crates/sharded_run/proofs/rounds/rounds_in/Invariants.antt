@@ -3,7 +3,7 @@ use Rattle.std.specs.List.{AllByRecursion}
 use Rattle.nf_base.specs.declared.keys.Keys.{Keys}
 use Rattle.nf_base.specs.Functions.{function_of}
 use Rattle.nf_files.specs.Told.{Told}
-use Rattle.key_synth.specs.Laws.{HashAlikeWhereTheyMeet}
+use Rattle.toeplitz_hash.specs.Meeting.{HashAlikeWhereTheyMeet}
 use Rattle.packet_feed.specs.Arrivals.{packet_of}
 use Rattle.packet_feed.specs.Sources.{files_in}
 use Rattle.packet_feed.specs.Feeding.{Feeding}

@@ -1,7 +1,7 @@
 use Rattle.std.proofs.Common.{◌≡◌, ◌<◌, ◌∙◌, ℕ, [], length, sym, ap, subst, arith}
 use Rattle.nf_base.specs.Text.{Function}
 use Rattle.nf_base.specs.Functions.{function_of}
-use Rattle.key_synth.specs.Laws.{HashAlikeWhereTheyMeet}
+use Rattle.toeplitz_hash.specs.Meeting.{HashAlikeWhereTheyMeet}
 use Rattle.run_history.specs.declared.line.Mode.TheVariants.{Shard}
 use Rattle.stream_run.specs.Writing.{files_of, AreHeld}
 use Rattle.sharded_run.specs.Going.{AreSharded, HaveWorked}

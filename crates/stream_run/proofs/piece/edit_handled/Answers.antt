@@ -1,5 +1,4 @@
-use Rattle.std.proofs.Common.{◌≡◌, List, ℕ, length, ap, sym, arith}
-use Rattle.stream_run.specs.Texts.{with_edits}
+use Rattle.std.proofs.Common.{List, ℕ, length, ap, sym, arith}
 use Rattle.stream_run.proofs.Edited.{unedited}
 use Rattle.stream_run.proofs.piece.edit_handled.Goals as goal
 

@@ -4,13 +4,13 @@ use Rattle.std.proofs.lemmas.Option.{slice_get_read, slice_get_within}
 use Rattle.packet_feed.specs.Told.{IsApart}
 use Rattle.packet_feed.proofs.Gathering.{map_kept}
 use Rattle.stream_run.specs.Texts.{bytes_of}
-use Rattle.stream_run.specs.Writing.{Holding, Holds, IsFrontIfTold, files_of, came_to}
+use Rattle.stream_run.specs.Writing.{Holding, Holds, IsFrontIfTold, files_of}
 use Rattle.stream_run.proofs.Bytes.{bytes_more}
 use Rattle.stream_run.proofs.Held.{file_at, same_length, partly_more, partly_fronts, all_partly, grows, little_more, kept_more, stops_here}
 use Rattle.stream_run.proofs.sinks.put_all.Goals as goal
 
-pub put-requires-clause-created : goal.put-requires-clause-created
-put-requires-clause-created g c =
+pub put-requires : goal.put-requires
+put-requires g c =
     let told = g.F.Files.told in
     let now = c.loop-k.sinks in
     let k = c.loop-k.k in
@@ -20,7 +20,7 @@ put-requires-clause-created g c =
     let at = slice_get_read now (length now) k s refl lt c.item_mut-sink.ensures.value in
     let file = sym (ap (λ (fs : List ℕ). slice_get fs k) inv.same_files) ∙ file_at now k s at in
     let apart = subst (λ (fs : List ℕ). IsApart fs) (sym inv.same_files) c.requires.apart in
-    inv.writes s.file (c.requires.created k s.file file)
+    record { created = inv.writes s.file (c.requires.created k s.file file) }
 
 pub returns-in-Err-clause-goes_on : goal.returns-in-Err-clause-goes_on
 returns-in-Err-clause-goes_on g c = λ mode workers hs held j f q.
@@ -33,7 +33,7 @@ returns-in-Err-clause-goes_on g c = λ mode workers hs held j f q.
     let at = slice_get_read now (length now) k s refl lt c.item_mut-sink.ensures.value in
     let file = sym (ap (λ (fs : List ℕ). slice_get fs k) inv.same_files) ∙ file_at now k s at in
     let apart = subst (λ (fs : List ℕ). IsApart fs) (sym inv.same_files) c.requires.apart in
-    let h = came_to c.args.worker c.args.packet.now c.args.original c.args.frame.now c.args.done.now in
+    let h = c.args.handled.now in
     let same = map_kept (λ (x : Holding). x.file) now k s c.put.new.self at c.put.ensures.same_file in
     partly_fronts (λ j. bytes_of mode workers c.args.ports j hs) (λ j. bytes_of mode workers c.args.ports j (hs ++ h ∷ [])) now k s (told c.loop-k.files) (told c.put.new.files) apart at c.put.ensures.kept (grows mode workers c.args.ports hs h) (λ x. subst (λ (xs : List ℕ). IsFrontIfTold xs ((told c.put.new.files).given s.file)) (sym (bytes_more mode workers c.args.ports k hs h)) (c.in-Err.ensures.goes_on (bytes_of mode workers c.args.ports k hs) x)) (inv.partly mode workers hs held) j f (ap (λ (fs : List ℕ). slice_get fs j) (sym same) ∙ q)
 
@@ -74,7 +74,7 @@ loop-k-preserved g c =
     let at = slice_get_read now (length now) k s refl lt c.item_mut-sink.ensures.value in
     let file = sym (ap (λ (fs : List ℕ). slice_get fs k) inv.same_files) ∙ file_at now k s at in
     let apart = subst (λ (fs : List ℕ). IsApart fs) (sym inv.same_files) c.requires.apart in
-    let h = came_to c.args.worker c.args.packet.now c.args.original c.args.frame.now c.args.done.now in
+    let h = c.args.handled.now in
     record {
       partly = λ mode workers hs held. partly_more (λ j. bytes_of mode workers c.args.ports j hs) (λ j. bytes_of mode workers c.args.ports j (hs ++ h ∷ [])) now k s c.put.new.self (told c.loop-k.files) (told c.put.new.files) apart at c.put.ensures.same_file c.put.ensures.kept (λ x. subst (λ (xs : List ℕ). Holds xs ((told c.put.new.files).given s.file) c.put.new.self.held) (sym (bytes_more mode workers c.args.ports k hs h)) (c.in-Ok.ensures.goes_on (bytes_of mode workers c.args.ports k hs) x)) (inv.partly mode workers hs held);
       little = little_more now k c.put.new.self c.in-Ok.ensures.little inv.little;
@@ -87,7 +87,7 @@ loop-k-preserved g c =
 
 pub returns-clause-goes_on : goal.returns-clause-goes_on
 returns-clause-goes_on g c = λ mode workers hs held.
-    let h = came_to c.args.worker c.args.packet.now c.args.original c.args.frame.now c.args.done.now in
+    let h = c.args.handled.now in
     all_partly (λ j. bytes_of mode workers c.args.ports j hs) (λ j. bytes_of mode workers c.args.ports j (hs ++ h ∷ [])) c.loop-k.sinks c.loop-k.k (g.F.Files.told c.loop-k.files) (omega (arith, c.len-k-end.ensures, c.loop-k-test.false, same_length c.loop-k.sinks c.args.sinks.now c.loop-k.invariant.same_files)) (c.loop-k.invariant.partly mode workers hs held)
 
 pub returns-clause-little : goal.returns-clause-little

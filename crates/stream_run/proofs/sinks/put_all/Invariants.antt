@@ -3,7 +3,7 @@ use Rattle.std.specs.List.{slice_get}
 use Rattle.run_history.specs.declared.line.Mode.{Mode}
 use Rattle.stream_run.specs.Runs.{Handled}
 use Rattle.stream_run.specs.Texts.{bytes_of}
-use Rattle.stream_run.specs.Writing.{Holding, came_to, files_of, AreHeld, IsLittle, KeepsAllBut}
+use Rattle.stream_run.specs.Writing.{Holding, files_of, AreHeld, IsLittle, KeepsAllBut}
 use Rattle.stream_run.proofs.Held.{IsPartly}
 use Rattle.stream_run.proofs.sinks.put_all.Given as goal
 
@@ -11,7 +11,7 @@ use Rattle.stream_run.proofs.sinks.put_all.Given as goal
 abbrev pub invariant-loop-k : goal.invariant-loop-k
 invariant-loop-k g l =
     let told = g.F.Files.told in
-    let h = came_to l.worker l.packet l.original l.frame l.done in
+    let h = l.handled in
     record {
       partly : (mode : Mode) (workers : ℕ) (hs : List Handled) → AreHeld mode workers l.ports hs (told l.fn.files) l.fn.sinks
           → IsPartly (λ j. bytes_of mode workers l.ports j hs) (λ j. bytes_of mode workers l.ports j (hs ++ h ∷ [])) l.k (told l.files) l.sinks;

@@ -3,6 +3,7 @@ use Rattle.nf_base.specs.Functions.{function_of}
 use Rattle.lock_mode.specs.Gates.{Rose}
 use Rattle.stream_run.proofs.Held.{but_both, but_read}
 use Rattle.traffic_run.specs.Asked.{recipe_of, asked_for}
+use Rattle.traffic_run.proofs.Headers.{read_fault}
 use Rattle.traffic_run.proofs.Over.{arrivals_long, none_by, still_empty}
 use Rattle.traffic_run.proofs.handling.run_over.Goals as goal
 
@@ -37,3 +38,16 @@ returns-in-Err-clause-leaves g c =
     let Refused = Rose (g.G.Gate.refused c.args.gate.now) (g.G.Gate.refused c.args.gate.now) in
     none_by c.args.who.now Refused (function_of c.args.func.now) (asked_for c.args.asked.now (length c.args.func.now.handlers)) (told c.start.new.files) c.args.targets.now c.requires.serves
     (still_empty c.args.targets.now (told c.args.files.now) (told c.start.new.files) c.start.ensures.kept.givens c.requires.empty)
+
+pub stop_in-requires : goal.stop_in-requires
+stop_in-requires g c =
+    let told = g.F.Files.told in
+    record {
+      read = read_fault c.args.captures.now (told c.args.files.now) (told c.start.new.files) c.args.asked.now.count (asked_for c.args.asked.now (length c.args.func.now.handlers)) c.in-Err.fault c.requires.made c.in-Err.ensures.starts;
+      one = c.in-Err.ensures.one;
+    }
+
+pub returns-in-Err-clause-kept : goal.returns-in-Err-clause-kept
+returns-in-Err-clause-kept g c =
+    let told = g.F.Files.told in
+    but_read c.args.targets.now c.args.captures.now (told c.args.files.now) (told c.start.new.files) c.start.ensures.kept
