@@ -1,5 +1,5 @@
 -- The end of the history.
-use Rattle.std.specs.Prelude.{◌≡◌, ℕ, ◌<◌, List, length, get_or}
+use Rattle.std.specs.Prelude.{◌≡◌, ℕ, ◌<◌, List, length, get_or, Option, Some, None}
 use Rattle.nf_base.specs.Text.{Function}
 use Rattle.vig_tables.specs.TablesState.{TablesState}
 use Rattle.lock_core.specs.declared.call.Entry.{Entry}
@@ -18,3 +18,8 @@ pub record IsTail (f of_tail : Function) (seats : ℕ) (t : TablesState) (entrie
   pub each : length counts ≡ seats
   pub ran : RanTo f t entries
   pub counted : AreCounts entries counts
+
+-- where a history ends, if that end is there
+abbrev pub end_of : Option (List Entry) → List Entry → List Entry
+end_of (Some entries) history = entries
+end_of None history = history

@@ -1,61 +1,78 @@
 //! What lies under the writer's lock: the writer, and the end of the history.
-ghost use Rattle.std.specs.Prelude.{◌≡◌, ◌<◌, ◌≤◌, ◌+◌, ◌^◌, ◌++◌, ◌∷◌, [], length, drop, true, IfOk, OnErr};
+ghost use Rattle.std.specs.Prelude.{◌≡◌, ◌<◌, ◌≤◌, ◌+◌, ◌^◌, ◌++◌, ◌∷◌, [], length, drop, true, None, IfOk, OnErr};
+ghost use Rattle.std.specs.Bool.{OnTrue};
 ghost use Rattle.lock_core.specs.declared.call.Way.TheVariants as way;
 ghost use Rattle.lock_core.specs.Events.{IsStep};
 ghost use mathlib.Core.List.{IsPrefix};
 ghost use Rattle.lock_core.specs.Calls.{count_of};
 ghost use Rattle.lock_mode.specs.Alone.{IsAlone};
+ghost use Rattle.lock_mode.specs.Closing.{IsClosed};
 ghost use Rattle.lock_mode.specs.Merging.{HaveSeen, AreMerged};
 ghost use Rattle.lock_mode.specs.Seats.{AreAll};
-ghost use Rattle.lock_mode.specs.Sides.{RanTo};
+ghost use Rattle.lock_mode.specs.Sides.{IsNext};
+ghost use Rattle.lock_mode.specs.Tails.{end_of};
 
 use crate::book::{Book, Front, Naming};
 use crate::gate::Gate;
 use crate::merge::merged;
 use crate::rule::{Rising, Seeing, TableWriter};
 use crate::seat::Seat;
+use crate::shared::{Closed, Published};
 use crate::side::{Op, Side};
 use crate::tail::Tail;
 use crate::viewer::until;
 use core::mem::replace_with;
 use crossbeam_utils::rule::Protocol;
 use left_right::Absorb;
-use lock_core::{Ordered, Placed, again};
+use lock_core::{Entry, Ordered, Placed, again};
 use nf_base::packet::Packet;
 use std::alloc::{AllocError, Global};
 use std::sync::Wait;
-use std::thread;
-use vig_tables::Tables;
+
+/// How many entries a history has at most.
+const MOST: u64 = 1 << 32;
 
 /// The writer, which has published all of the history. It is not `Drop`.
+///
+/// `tail` is where the history ends. Once a packet was handled there and couldn't be published for
+/// want of memory it is gone: then the history stays as it is.
 pub(crate) struct Desk<J: Naming>
 where
     Side<J>: Absorb<Op<J>>,
     Rising: Protocol<Side<J>, u64>,
 {
     writer: TableWriter<J>,
-    tail: Tail<J>,
+    tail: Option<Tail<J>>,
+    front: Front<J>,
     book: Book<J>,
     pub ghost settled: { drop writer.behind writer.log.items ≡ [] },
-    pub ghost same: { writer.desk.shown.value.0 ≡ tail },
+    pub ghost same: { writer.desk.shown.value.0 ≡ front },
     pub ghost whole: { writer.desk.shown.value.1 ≡ true },
+    pub ghost ends: { end_of tail front ≡ front },
 }
 
-/// Waits until an operation stands in the writer's list.
-fn append_waiting<J: Naming, R: Wait>(rt: &R, writer: &mut TableWriter<J>, op: Op<J>)
-    ensures desk { writer.new.desk ≡ writer.old.desk }
-    ensures pending { drop writer.new.behind writer.new.log.items
-        ≡ drop writer.old.behind writer.old.log.items ++ op ∷ [] }
+/// Whether a history begins with what was seen.
+fn begins<J: Naming>(seen: &Front<J>, all: &Front<J>) -> bool
+    ensures { OnTrue result (IsPrefix seen.now all.now) }
 {
-    let mut op = op;
-    for _ in rt.forever() {
-        match writer.append(op) {
-            Ok(()) => return,
-            Err(back) => op = back,
-        }
-        thread::yield_now();
+    if seen.len() > all.len() {
+        return false;
     }
-    unreachable!()
+    let _front = until(seen, all.again());
+    true
+}
+
+/// Whether a history begins with what each seat has seen.
+fn have_seen<J: Naming, G: Gate + Drop>(seats: &[Seat<J, G>], all: &Front<J>) -> bool
+    ensures { OnTrue result (HaveSeen seats.now all.now (length seats.now)) }
+{
+    for at in 0..seats.len() {
+        let seat = &seats[at];
+        if !begins(seat.seen(), all) {
+            return false;
+        }
+    }
+    true
 }
 
 impl<J: Naming> Desk<J> {
@@ -63,77 +80,124 @@ impl<J: Naming> Desk<J> {
     pub(crate) fn over(writer: TableWriter<J>, tail: Tail<J>, book: Book<J>) -> Desk<J>
         requires settled { drop writer.behind writer.log.items ≡ [] }
         requires same { writer.desk.shown.value ≡ (tail, true) }
-        ensures { result.tail ≡ tail }
+        ensures { result.front ≡ tail }
     {
-        Desk { writer, tail, book }
+        let front = tail.seen();
+        Desk {
+            writer,
+            tail: Some(tail),
+            front,
+            book,
+        }
+    }
+
+    /// The same with the history's end taken out.
+    fn without_end(self) -> (Desk<J>, Option<Tail<J>>)
+        ensures front { result.0.front ≡ self.front }
+        ensures end { end_of result.1 self.front ≡ self.front }
+    {
+        let Desk {
+            writer,
+            tail,
+            front,
+            book,
+        } = self;
+        let desk = Desk {
+            writer,
+            tail: None,
+            front,
+            book,
+        };
+        (desk, tail)
+    }
+
+    /// Publishes the tables behind one entry more.
+    ///
+    /// `Err` is for want of memory, and leaves what was published.
+    fn publish<R: Wait>(
+        self,
+        rt: &R,
+        tail: Tail<J>,
+        entry: Entry,
+    ) -> (Desk<J>, Result<Placed, AllocError>)
+        requires next { IsNext J.function tail entry }
+        requires grown { tail ≡ self.front ++ entry ∷ [] }
+        ensures place { IfOk result.1 (λ placed. placed.place ≡ length self.front) }
+        ensures done { IfOk result.1 (λ placed. placed.done ≡ entry.done) }
+        ensures history { IfOk result.1 (λ _. result.0.front ≡ tail) }
+        ensures same { OnErr result.1 (result.0.front ≡ self.front) }
+    {
+        let Desk {
+            mut writer,
+            tail: _end,
+            front,
+            book,
+        } = self;
+        let placed = Placed {
+            place: front.len(),
+            done: again(&entry.done),
+        };
+        let seen = tail.seen();
+        match writer.append(Op::new(tail.seen(), entry)) {
+            Ok(()) => {
+                let (writer, published) = writer.publish_as::<Seeing, R>(rt);
+                match published {
+                    Ok(()) => {
+                        let desk = Desk {
+                            writer,
+                            tail: Some(tail),
+                            front: seen,
+                            book,
+                        };
+                        (desk, Ok(placed))
+                    }
+                    Err(_) => unreachable!(),
+                }
+            }
+            Err(_op) => {
+                let desk = Desk {
+                    writer,
+                    tail: None,
+                    front,
+                    book,
+                };
+                (desk, Err(AllocError))
+            }
+        }
     }
 
     /// Handles a packet of a seat at the end of the history, and publishes the tables behind it.
     ///
-    /// `Err` comes before anything is done.
+    /// `Err` is for want of memory, and leaves the history.
     fn alone<R: Wait>(
         self,
         rt: &R,
         seat: u32,
         packet: &Packet,
     ) -> (Desk<J>, Result<Placed, AllocError>)
+        requires room { length self.front < 2 ^ 32 }
         requires seat { seat < J.seats }
         requires port { packet.now.id.port < length J.function.handlers }
-        ensures place { IfOk result.1 (λ placed. placed.place ≡ length self.tail) }
+        ensures place { IfOk result.1 (λ placed. placed.place ≡ length self.front) }
         ensures steps { IfOk result.1 (λ placed.
-            IsStep J.function self.tail packet.now placed.done) }
-        ensures history { IfOk result.1 (λ placed. result.0.tail ≡ self.tail
-            ++ (record { seat = seat; number = count_of seat self.tail; packet = packet.now; done = placed.done }) ∷ []) }
-        ensures same { OnErr result.1 (result.0.tail ≡ self.tail) }
+            IsStep J.function self.front packet.now placed.done) }
+        ensures history { IfOk result.1 (λ placed. result.0.front ≡ self.front
+            ++ (record { seat = seat; number = count_of seat self.front; packet = packet.now; done = placed.done }) ∷ []) }
+        ensures same { OnErr result.1 (result.0.front ≡ self.front) }
     {
-        let place = self.tail.len();
-        if place >= 1 << 32 {
-            return (self, Err(AllocError));
-        }
-        let Desk {
-            mut writer,
-            mut tail,
-            book,
-        } = self;
-        let entry = tail.alone(rt, &book, seat, packet);
-        let done = again(&entry.done);
-        append_waiting(rt, &mut writer, Op::new(tail.seen(), entry));
-        let (writer, published) = writer.publish_as::<Seeing, R>(rt);
-        match published {
-            Ok(()) => (Desk { writer, tail, book }, Ok(Placed { place, done })),
-            Err(_) => unreachable!(),
+        let (desk, tail) = self.without_end();
+        match tail {
+            Some(tail) => match tail.alone(&desk.book, seat, packet) {
+                Some((tail, entry)) => desk.publish(rt, tail, entry),
+                None => (desk, Err(AllocError)),
+            },
+            None => (desk, Err(AllocError)),
         }
     }
-}
 
-/// Waits until what was seen is not more than there is: then the history begins with it.
-fn wait_for<J: Naming, R: Wait>(rt: &R, seen: &Front<J>, tail: &Tail<J>)
-    ensures { IsPrefix seen.now tail.now }
-{
-    for _ in rt.forever() {
-        if seen.len() <= tail.len() {
-            let _front = until(seen, tail.seen());
-            return;
-        }
-        thread::yield_now();
-    }
-    unreachable!()
-}
-
-/// Waits until none of the seats has seen more than there is.
-fn wait_for_all<J: Naming, G: Gate + Drop, R: Wait>(rt: &R, seats: &[Seat<J, G>], tail: &Tail<J>)
-    ensures { HaveSeen seats.now tail.now (length seats.now) }
-{
-    for at in 0..seats.len() {
-        let seat = &seats[at];
-        wait_for(rt, seat.seen(), tail);
-    }
-}
-
-impl<J: Naming> Desk<J> {
     /// Handles a packet of a seat behind all that the seat has seen, and tells the history then.
     ///
-    /// `Err` comes before anything is done.
+    /// `Err` is for want of memory, and leaves the history.
     fn put<R: Wait>(
         &mut self,
         rt: &R,
@@ -144,14 +208,16 @@ impl<J: Naming> Desk<J> {
         requires seat { seat < J.seats }
         requires port { packet.now.id.port < length J.function.handlers }
         ensures stands { IfOk result (λ r. IsAlone J.function seen.now seat packet.now r.0 r.1) }
-        ensures once { IfOk result (λ r. r.0.place ≡ length self.old.tail) }
-        ensures last { IfOk result (λ r. r.1 ≡ self.new.tail) }
-        ensures same { OnErr result (self.new.tail ≡ self.old.tail) }
+        ensures once { IfOk result (λ r. r.0.place ≡ length self.old.front) }
+        ensures last { IfOk result (λ r. r.1 ≡ self.new.front) }
+        ensures same { OnErr result (self.new.front ≡ self.old.front) }
     {
-        wait_for(rt, seen, &self.tail);
+        if self.front.len() >= MOST || !begins(seen, &self.front) {
+            return Err(AllocError);
+        }
         let placed = replace_with(self, rt, |desk, rt| desk.alone(rt, seat, packet));
         match placed {
-            Ok(placed) => Ok((placed, self.tail.seen())),
+            Ok(placed) => Ok((placed, self.front.again())),
             Err(refused) => Err(refused),
         }
     }
@@ -159,7 +225,7 @@ impl<J: Naming> Desk<J> {
     /// Handles a packet of a seat behind all that the seat has seen: the history has one entry more
     /// then, which the seat has seen, and the seat one call. The seat has room for it.
     ///
-    /// `Err` comes before anything is done.
+    /// `Err` is for want of memory, and leaves the history.
     pub(crate) fn place<R: Wait, G: Gate + Drop>(
         &mut self,
         rt: &R,
@@ -173,9 +239,9 @@ impl<J: Naming> Desk<J> {
         ensures called { IfOk result (λ placed. seat.new.calls ≡ seat.old.calls
             ++ (record { way = way.Alone; place = placed.place; packet = packet.now; done = placed.done }) ∷ []) }
         // Nothing else came into the history.
-        ensures once { IfOk result (λ placed. placed.place ≡ length self.old.tail) }
-        ensures last { IfOk result (λ _. seat.new.seen ≡ self.new.tail) }
-        ensures history { OnErr result (self.new.tail ≡ self.old.tail) }
+        ensures once { IfOk result (λ placed. placed.place ≡ length self.old.front) }
+        ensures last { IfOk result (λ _. seat.new.seen ≡ self.new.front) }
+        ensures history { OnErr result (self.new.front ≡ self.old.front) }
         ensures unseen { OnErr result (seat.new.seen ≡ seat.old.seen) }
         ensures same { OnErr result (seat.new.calls ≡ seat.old.calls) }
         ensures number { seat.new.number ≡ seat.old.number }
@@ -191,34 +257,57 @@ impl<J: Naming> Desk<J> {
         }
     }
 
-    /// All calls of all seats in one order. It waits for ever where they are not the whole history.
+    /// All calls of all seats in one order.
     ///
-    /// `Err` is for want of memory.
-    pub(crate) fn order<R: Wait, G: Gate + Drop>(
+    /// `Err` is for want of memory, or where they are not the whole history.
+    fn order<G: Gate + Drop>(
         &self,
-        rt: &R,
         alloc: Global,
         seats: &[Seat<J, G>],
     ) -> Result<Vec<Ordered>, AllocError>
         requires { AreAll J.seats seats.now }
         ensures { IfOk result (λ order.
-            AreMerged J.function self.now.tail seats.now order.items) }
+            AreMerged J.function self.now.front seats.now order.items) }
     {
-        wait_for_all(rt, seats, &self.tail);
-        merged(rt, alloc, seats, &self.tail)
+        if !have_seen(seats, &self.front) {
+            return Err(AllocError);
+        }
+        merged(alloc, seats, &self.front)
     }
 
-    /// Ends the writer, which waits for those that are in the tables, and gives the tables where the
-    /// history ends.
-    pub(crate) fn end<R: Wait>(self, rt: &R) -> Tables
-        ensures { RanTo J.function result self.tail }
+    /// What all seats did, as one order, with the tables that it leaves; and what is published.
+    ///
+    /// `Err` is for want of memory, or where the seats' calls are not the whole history.
+    pub(crate) fn close<G: Gate + Drop>(
+        self,
+        alloc: Global,
+        seats: &[Seat<J, G>],
+    ) -> Result<(Closed, Published<J>), Desk<J>>
+        requires { AreAll J.seats seats.now }
+        ensures { IfOk result (λ r.
+            IsClosed J.function seats.now r.0.order.items r.0.tables) }
     {
+        let Ok(order) = self.order(alloc, seats) else {
+            return Err(self);
+        };
+        let (desk, tail) = self.without_end();
+        match tail {
+            Some(tail) => {
+                let tables = tail.into_tables();
+                Ok((Closed { tables, order }, desk.published()))
+            }
+            None => Err(desk),
+        }
+    }
+
+    /// What is published.
+    pub(crate) fn published(self) -> Published<J> {
         let Desk {
             writer,
-            tail,
+            tail: _tail,
+            front: _front,
             book: _book,
         } = self;
-        let _side = writer.take(rt);
-        tail.into_tables()
+        Published { writer }
     }
 }

@@ -20,5 +20,5 @@ pub use looked::Looked;
 pub use opening::{MakeFault, Opened, TablePair};
 pub use rule::{TableEntry, TableReader, TableWriter};
 pub use seat::Seat;
-pub use shared::{CloseRefused, Closed, Shared};
+pub use shared::{CloseRefused, Closed, Published, Shared};
 pub use side::Side;

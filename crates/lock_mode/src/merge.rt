@@ -1,18 +1,15 @@
-// One order, put together of the calls of all seats.
+//! One order, put together of the calls of all seats.
 ghost use Rattle.std.specs.Prelude.{◌≡◌, ◌<◌, ◌≤◌, ◌++◌, ◌∷◌, [], length, replicate, IfOk, IfSome};
 ghost use Rattle.std.specs.Bool.{OnTrue};
 ghost use Rattle.std.specs.Vec.{vec_len, vec_capacity};
 ghost use Rattle.lock_mode.specs.Seats.{AreAll};
 ghost use Rattle.lock_mode.specs.Merging.{HaveSeen, IsMerged, AreTaken, IsBehind, AreMerged};
 
-use crate::book::Naming;
+use crate::book::{Front, Naming};
 use crate::gate::Gate;
 use crate::seat::Seat;
-use crate::tail::Tail;
 use lock_core::{Call, Ordered, Way, again};
 use std::alloc::{AllocError, Global};
-use std::sync::Wait;
-use std::thread;
 
 /// An order, how many calls of each seat stand in it, and how many entries of the history.
 #[derive(Drop)]
@@ -78,9 +75,9 @@ impl Merge {
     fn new<J: Naming, G: Gate + Drop>(
         alloc: Global,
         seats: &[Seat<J, G>],
-        tail: &Tail<J>,
+        all: &Front<J>,
     ) -> Result<Merge, AllocError>
-        ensures { IfOk result (λ merge. IsMerged J.function tail.now seats.now
+        ensures { IfOk result (λ merge. IsMerged J.function all.now seats.now
             merge.order.items merge.taken.items merge.entries) }
     {
         let order = Vec::with_capacity(alloc, count_calls(seats))?;
@@ -124,15 +121,15 @@ impl Merge {
     fn put<J: Naming, G: Gate + Drop>(
         &mut self,
         seats: &[Seat<J, G>],
-        tail: &Tail<J>,
+        all: &Front<J>,
         at: usize,
     ) -> Result<bool, AllocError>
         requires within { at < length seats.now }
         requires numbered { AreAll J.seats seats.now }
-        requires seen { HaveSeen seats.now tail.now (length seats.now) }
-        requires merged { IsMerged J.function tail.now seats.now
+        requires seen { HaveSeen seats.now all.now (length seats.now) }
+        requires merged { IsMerged J.function all.now seats.now
             self.old.order.items self.old.taken.items self.old.entries }
-        ensures merged { IsMerged J.function tail.now seats.now
+        ensures merged { IsMerged J.function all.now seats.now
             self.new.order.items self.new.taken.items self.new.entries }
     {
         let seat = &seats[at];
@@ -148,7 +145,7 @@ impl Merge {
         self.order.reserve(1)?;
         put_last(&mut self.order, ordered(seat.number(), call));
         self.taken[at] = next + 1;
-        self.entries = behind(self.entries, tail.len(), call.way);
+        self.entries = behind(self.entries, all.len(), call.way);
         Ok(true)
     }
 
@@ -156,20 +153,20 @@ impl Merge {
     fn put_all<J: Naming, G: Gate + Drop>(
         &mut self,
         seats: &[Seat<J, G>],
-        tail: &Tail<J>,
+        all: &Front<J>,
     ) -> Result<(), AllocError>
         requires numbered { AreAll J.seats seats.now }
-        requires seen { HaveSeen seats.now tail.now (length seats.now) }
-        requires merged { IsMerged J.function tail.now seats.now
+        requires seen { HaveSeen seats.now all.now (length seats.now) }
+        requires merged { IsMerged J.function all.now seats.now
             self.old.order.items self.old.taken.items self.old.entries }
-        ensures merged { IsMerged J.function tail.now seats.now
+        ensures merged { IsMerged J.function all.now seats.now
             self.new.order.items self.new.taken.items self.new.entries }
     {
         for _ in 0..u64::MAX {
             let Some(at) = self.next(seats) else {
                 return Ok(());
             };
-            if !self.put(seats, tail, at)? {
+            if !self.put(seats, all, at)? {
                 return Ok(());
             }
         }
@@ -192,56 +189,50 @@ impl Merge {
     }
 
     /// Whether all calls of all seats and all entries of the history stand in the order.
-    fn is_whole<J: Naming, G: Gate + Drop>(&self, seats: &[Seat<J, G>], tail: &Tail<J>) -> bool
+    fn is_whole<J: Naming, G: Gate + Drop>(&self, seats: &[Seat<J, G>], all: &Front<J>) -> bool
         requires { length self.now.taken.items ≡ length seats.now }
-        ensures { OnTrue result ((self.now.entries ≡ length tail.now)
+        ensures { OnTrue result ((self.now.entries ≡ length all.now)
             × AreTaken seats.now self.now.taken.items (length seats.now)) }
     {
-        self.entries == tail.len() && self.has_all(seats)
+        self.entries == all.len() && self.has_all(seats)
     }
 
-    /// The order, where all calls and all entries stand in it. Else it waits for ever.
-    fn into_order<J: Naming, G: Gate + Drop, R: Wait>(
+    /// The order, where all calls and all entries stand in it.
+    fn into_order<J: Naming, G: Gate + Drop>(
         self,
-        rt: &R,
         seats: &[Seat<J, G>],
-        tail: &Tail<J>,
-    ) -> Vec<Ordered>
-        requires seen { HaveSeen seats.now tail.now (length seats.now) }
-        requires merged { IsMerged J.function tail.now seats.now
+        all: &Front<J>,
+    ) -> Result<Vec<Ordered>, AllocError>
+        requires seen { HaveSeen seats.now all.now (length seats.now) }
+        requires merged { IsMerged J.function all.now seats.now
             self.order.items self.taken.items self.entries }
-        ensures { AreMerged J.function tail.now seats.now result.items }
+        ensures { IfOk result (λ order. AreMerged J.function all.now seats.now order.items) }
     {
-        let whole = self.is_whole(seats, tail);
+        if !self.is_whole(seats, all) {
+            return Err(AllocError);
+        }
         let Merge {
             order,
             taken: _taken,
             entries: _entries,
         } = self;
-        for _ in rt.forever() {
-            if whole {
-                return order;
-            }
-            thread::yield_now();
-        }
-        unreachable!()
+        Ok(order)
     }
 }
 
 /// All calls of all seats in one order.
 ///
-/// It waits for ever where they are not the whole history. `Err` is for want of memory.
-pub(crate) fn merged<J: Naming, G: Gate + Drop, R: Wait>(
-    rt: &R,
+/// `Err` is for want of memory, or where they are not the whole history.
+pub(crate) fn merged<J: Naming, G: Gate + Drop>(
     alloc: Global,
     seats: &[Seat<J, G>],
-    tail: &Tail<J>,
+    all: &Front<J>,
 ) -> Result<Vec<Ordered>, AllocError>
     requires numbered { AreAll J.seats seats.now }
-    requires seen { HaveSeen seats.now tail.now (length seats.now) }
-    ensures { IfOk result (λ order. AreMerged J.function tail.now seats.now order.items) }
+    requires seen { HaveSeen seats.now all.now (length seats.now) }
+    ensures { IfOk result (λ order. AreMerged J.function all.now seats.now order.items) }
 {
-    let mut merge = Merge::new(alloc, seats, tail)?;
-    merge.put_all(seats, tail)?;
-    Ok(merge.into_order(rt, seats, tail))
+    let mut merge = Merge::new(alloc, seats, all)?;
+    merge.put_all(seats, all)?;
+    merge.into_order(seats, all)
 }

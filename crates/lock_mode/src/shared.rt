@@ -42,6 +42,25 @@ pub struct Closed {
     pub order: Vec<Ordered>,
 }
 
+/// The tables that seats looked at, once they are closed. It is not `Drop`: it ends by `end`.
+pub struct Published<J: Naming>
+where
+    Side<J>: Absorb<Op<J>>,
+    Rising: Protocol<Side<J>, u64>,
+{
+    pub(crate) writer: TableWriter<J>,
+}
+
+impl<J: Naming> Published<J> {
+    /// Ends them, and waits until nobody looks at them.
+    ///
+    /// It leaves nothing that a clause could speak of.
+    pub fn end<R: Wait>(self, rt: &R) {
+        let Published { writer } = self;
+        let _side = writer.take(rt);
+    }
+}
+
 /// Shared tables and their seats, which are not closed for want of memory. It is not `Drop`.
 pub struct CloseRefused<J: Naming, G: Gate + Drop>
 where
@@ -93,9 +112,10 @@ impl<J: Naming> Shared<J> {
         }
     }
 
-    /// Handles a packet at the end of the history, which the seat has then seen. It may wait.
+    /// Handles a packet at the end of the history, which the seat has then seen. It may wait: for the
+    /// writer's lock, and for those that look at the tables that it is to change.
     ///
-    /// `Err` is for want of memory, and comes before anything is done.
+    /// `Err` is for want of memory, and leaves the history. It doesn't wait for memory to come back.
     pub fn alone<R: Wait, G: Gate + Drop>(
         &self,
         rt: &R,
@@ -120,28 +140,25 @@ impl<J: Naming> Shared<J> {
         placed
     }
 
-    /// Ends the tables, with all their seats, and gives what was done as one order. It may wait.
+    /// Takes all seats, and gives what was done as one order, with the tables that it leaves. It
+    /// waits for nobody. What is published is still to be ended.
     ///
     /// `Err` is for want of memory.
-    pub fn close<R: Wait, G: Gate + Drop>(
+    pub fn close<G: Gate + Drop>(
         self,
-        rt: &R,
         alloc: Global,
         seats: Vec<Seat<J, G>>,
-    ) -> Result<Closed, CloseRefused<J, G>>
+    ) -> Result<(Closed, Published<J>), CloseRefused<J, G>>
         requires all { AreAll J.seats seats.items }
-        ensures closed { IfOk result (λ closed.
-            IsClosed J.function seats.items closed.order.items closed.tables) }
+        ensures closed { IfOk result (λ r.
+            IsClosed J.function seats.items r.0.order.items r.0.tables) }
         ensures refused { IfErr result (λ refused. refused.seats ≡ seats) }
     {
         let Shared { desk } = self;
         let desk = desk.into_inner();
-        match desk.order(rt, alloc, seats.as_slice()) {
-            Ok(order) => Ok(Closed {
-                tables: desk.end(rt),
-                order,
-            }),
-            Err(_) => Err(CloseRefused {
+        match desk.close(alloc, seats.as_slice()) {
+            Ok(closed) => Ok(closed),
+            Err(desk) => Err(CloseRefused {
                 shared: Shared {
                     desk: Mutex::new(desk),
                 },
@@ -156,6 +173,6 @@ impl<J: Naming> Shared<J> {
     pub fn give_up<R: Wait, G: Gate + Drop>(self, rt: &R, seats: Vec<Seat<J, G>>) {
         drop(seats);
         let Shared { desk } = self;
-        let _tables = desk.into_inner().end(rt);
+        desk.into_inner().published().end(rt);
     }
 }

@@ -1,11 +1,10 @@
 //! The end of the history, where the next packet is handled.
-ghost use Rattle.std.specs.Prelude.{◌≡◌, ◌<◌, ◌+◌, ◌^◌, ◌++◌, ◌∷◌, [], length, replicate, Some, IfOk};
+ghost use Rattle.std.specs.Prelude.{◌≡◌, ◌<◌, ◌+◌, ◌^◌, ◌++◌, ◌∷◌, [], length, replicate, Some, IfOk, IfSome};
 ghost use Rattle.nf_base.specs.Functions.{function_of};
 ghost use Rattle.nf_base.specs.Step.{step};
 ghost use Rattle.nf_engine.specs.View.{fixed_of};
 ghost use Rattle.lock_core.specs.Calls.{count_of};
 ghost use Rattle.lock_core.specs.Events.{IsStep};
-ghost use Rattle.lock_mode.specs.Books.{MayFollow};
 ghost use Rattle.lock_mode.specs.Sides.{IsNext, RanTo};
 
 use crate::book::{Book, Front, Naming};
@@ -16,8 +15,6 @@ use nf_base::packet::Packet;
 use nf_engine::{Handled, handle};
 use std::alloc::{AllocError, Global};
 use std::marker::Model;
-use std::sync::Wait;
-use std::thread;
 use vig_tables::Tables;
 
 /// The tables where the history ends, and how many entries each seat has there.
@@ -58,23 +55,6 @@ fn handle_whole(tables: &mut Tables, func: &Func, packet: &Packet) -> Done
         Handled::Done(done) => done,
         Handled::ShareFull(_) => unreachable!(),
     }
-}
-
-/// Adds an entry to a beginning of the history. It waits for ever where the history has more.
-fn add_waiting<J: Naming, R: Wait>(rt: &R, front: &mut Front<J>, book: &Book<J>, entry: &Entry)
-    requires room { length front.old < 2 ^ 62 }
-    requires next { MayFollow front.old entry.now }
-    ensures { front.new ≡ front.old ++ entry.now ∷ [] }
-{
-    for _ in rt.forever() {
-        let mut next = front.again();
-        if next.add(book, entry) {
-            *front = next;
-            return;
-        }
-        thread::yield_now();
-    }
-    unreachable!()
 }
 
 /// So many zeros.
@@ -121,13 +101,6 @@ impl<J: Naming> Tail<J> {
         tables
     }
 
-    /// How many entries the history has.
-    pub fn len(&self) -> u64
-        ensures { result ≡ length self.now }
-    {
-        self.front.len()
-    }
-
     /// The history.
     pub fn seen(&self) -> Front<J>
         ensures { result ≡ self.now }
@@ -136,25 +109,41 @@ impl<J: Naming> Tail<J> {
     }
 
     /// Handles a packet of a seat at the end of the history, which has its entry then.
-    pub fn alone<R: Wait>(&mut self, rt: &R, book: &Book<J>, seat: u32, packet: &Packet) -> Entry
-        requires room { length self.old < 2 ^ 62 }
+    ///
+    /// `None` where the history has more than this end, which is given up then.
+    pub fn alone(self, book: &Book<J>, seat: u32, packet: &Packet) -> Option<(Tail<J>, Entry)>
+        requires room { length self < 2 ^ 62 }
         requires seat { seat < J.seats }
         requires port { packet.now.id.port < length J.function.handlers }
-        ensures entry { (result.seat ≡ seat) × (result.packet ≡ packet.now) }
-        ensures number { result.number ≡ count_of seat self.old }
-        ensures history { self.new ≡ self.old ++ result ∷ [] }
-        ensures steps { IsStep J.function self.old packet.now result.done }
-        ensures next { IsNext J.function self.new result }
+        ensures entry { IfSome result (λ r. (r.1.seat ≡ seat) × (r.1.packet ≡ packet.now)) }
+        ensures number { IfSome result (λ r. r.1.number ≡ count_of seat self) }
+        ensures history { IfSome result (λ r. r.0 ≡ self ++ r.1 ∷ []) }
+        ensures steps { IfSome result (λ r. IsStep J.function self packet.now r.1.done) }
+        ensures next { IfSome result (λ r. IsNext J.function r.0 r.1) }
     {
-        let done = handle_whole(&mut self.tables, &self.func, packet);
+        let Tail {
+            func,
+            mut tables,
+            mut front,
+            mut counts,
+        } = self;
+        let done = handle_whole(&mut tables, &func, packet);
         let entry = Entry {
             seat,
-            number: self.counts[seat as usize],
+            number: counts[seat as usize],
             packet: *packet,
             done,
         };
-        add_waiting(rt, &mut self.front, book, &entry);
-        self.counts[seat as usize] += 1;
-        entry
+        if !front.add(book, &entry) {
+            return None;
+        }
+        counts[seat as usize] += 1;
+        let tail = Tail {
+            func,
+            tables,
+            front,
+            counts,
+        };
+        Some((tail, entry))
     }
 }

@@ -75,6 +75,9 @@ pub fn look_by<J: Naming, G: Gate>(
 }
 
 /// A viewer of a history that was published. It waits until the reader sees no less.
+///
+/// It takes no memory. The history was published by this very thread, so that the first look sees
+/// it; a reader that has looked is of the writer's table, which no call of `left_right` says.
 pub(crate) fn catch_up<J: Naming, R: Wait>(
     rt: &R,
     reader: TableReader<J>,

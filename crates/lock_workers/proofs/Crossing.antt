@@ -188,8 +188,11 @@ module _ (J : RattleType) (n : naming.Ghosts J.Denot) where
     desk_send = declared_send (desk.the_type J S n a p) (
       search (sendable, as_row_send, writer_law.the_send, side_send, side_sync, op_law.the_send, heap.send, heap.sync, heap.frees) depth 40,
       (
-        search (sendable, as_row_send, tail_send) depth 40,
-        (search (sendable, as_row_send, book_law.the_send) depth 40, tt),
+        search (sendable, crosses, as_row_send, tail_send) depth 40,
+        (
+          search (sendable, as_row_send, front_law.the_send) depth 40,
+          (search (sendable, as_row_send, book_law.the_send) depth 40, tt),
+        ),
       ),
     )
 

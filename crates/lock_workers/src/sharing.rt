@@ -60,8 +60,11 @@ fn work_shared<
         shared.give_up(rt, seats);
         return Err(AllocError);
     }
-    match shared.close(rt, alloc, seats) {
-        Ok(closed) => Ok(closed),
+    match shared.close(alloc, seats) {
+        Ok((closed, published)) => {
+            published.end(rt);
+            Ok(closed)
+        }
         Err(refused) => {
             let CloseRefused { shared, seats } = refused;
             shared.give_up(rt, seats);

@@ -9,7 +9,7 @@ use Rattle.lock_mode.proofs.merge.Merge.put.Goals as goal
 pub returns : goal.returns
 returns g c =
     let f = g.J.Naming.function in
-    let all = c.args.tail.now in
+    let all = c.args.all.now in
     let seats = c.args.seats.now in
     let order = c.args.self.now.order.items in
     let taken = c.args.self.now.taken.items in
@@ -23,7 +23,7 @@ returns g c =
     let here : slice_get seats c.args.at ≡ Some s = slice_get_read seats (length seats) c.args.at s refl c.requires.within c.index-seats-at.is in
     let is : n ≡ get_or taken c.args.at 0 = sym (get_or_from_slice_get taken c.args.at n 0 (slice_get_read taken (length taken) c.args.at n refl within c.index-next.ensures)) in
     let at_call : slice_get s.calls n ≡ Some call = ap (λ (cs : List Call). slice_get cs n) (sym c.calls-calls.ensures.calls) ∙ slice_get_read c.calls-calls.result.now (length c.calls-calls.result.now) n call refl c.if-next-calls.false c.index-calls-next.is in
-    let behind : IsBehind call.way entries (length all) new = subst (λ (l : ℕ). IsBehind call.way entries l new) c.len.ensures c.behind-self.ensures.behind in
+    let behind : IsBehind call.way entries (length all) new = subst (λ (l : ℕ). IsBehind call.way entries l new) c.len.ensures.length c.behind-self.ensures.behind in
     let x : c.ordered.result ≡ record { seat = s.number; way = call.way; packet = call.packet; done = call.done } = c.ordered.ensures ∙ ap (λ (k : ℕ). record { seat = k; way = call.way; packet = call.packet; done = call.done }) c.number.ensures.number in
     let put : c.put_last.new.order.items ≡ order ++ record { seat = s.number; way = call.way; packet = call.packet; done = call.done } ∷ [] =
     c.put_last.ensures ∙ (ap (λ (xs : List Ordered). xs ++ c.ordered.result ∷ []) c.reserve.ensures.items ∙ ap (λ (y : Ordered). order ++ y ∷ []) x) in

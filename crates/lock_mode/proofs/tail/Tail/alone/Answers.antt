@@ -1,7 +1,6 @@
-use Rattle.std.proofs.Common.{◌≡◌, ◌<◌, ◌+◌, ℕ, List, [], ◌∷◌, ◌++◌, length, length-set, set, sym, ap, ◌∙◌, subst, arith}
+use Rattle.std.proofs.Common.{◌≡◌, ◌<◌, ◌+◌, List, [], ◌∷◌, ◌++◌, length, length-set, set, sym, ap, ◌∙◌, subst, arith}
 use Rattle.nf_base.specs.Functions.{function_of}
 use Rattle.lock_core.specs.declared.call.Entry.{Entry}
-use Rattle.lock_core.specs.Calls.{count_of}
 use Rattle.lock_core.specs.Events.{IsStep}
 use Rattle.lock_mode.specs.Tails.{AreCounts}
 use Rattle.lock_mode.proofs.Tailing.{count_within, counts_more, step_is, ran_with, is_next}
@@ -10,23 +9,23 @@ use Rattle.lock_mode.proofs.tail.Tail.alone.Goals as goal
 pub overflow_add-index_mut : goal.overflow_add-index_mut
 overflow_add-index_mut g c =
     let tail = c.self.inside in
-    let entries : tail.front ≡ c.args.self.now = c.self.view_is in
+    let entries : tail.front ≡ c.args.self = c.self.view_is in
     let here : c.args.seat < length tail.counts.items = omega (arith, c.self.invariant.each, c.requires.seat) in
     let is = c.index_mut.ensures.value ∙ c.self.invariant.counted c.args.seat c.index_mut.result.now here in
     omega (arith, is, count_within c.args.seat tail.front, ap length entries, c.requires.room)
 
-pub invariant_of-self : goal.invariant_of-self
-invariant_of-self g c =
+pub invariant_of-tail : goal.invariant_of-tail
+invariant_of-tail g c =
     let tail = c.self.inside in
     let inv = c.self.invariant in
     let here : c.args.seat < length tail.counts.items = omega (arith, c.self.invariant.each, c.requires.seat) in
     let is = c.index_mut.ensures.value ∙ inv.counted c.args.seat c.index_mut.result.now here in
     let e : Entry = record { seat = c.args.seat; number = c.index.result.now; packet = c.args.packet.now; done = c.handle_whole-done.result } in
-    let grown : c.add_waiting.new.front ≡ tail.front ++ e ∷ [] = c.add_waiting.ensures in
+    let grown : c.add.new.self ≡ tail.front ++ e ∷ [] = c.if-not-add.ensures in
     record {
       same = inv.same;
       each = length-set tail.counts.items c.args.seat (c.index_mut.result.now + 1) ∙ inv.each;
-      ran = ran_with g.J.Naming.function (function_of tail.func) tail.tables c.handle_whole-done.new.tables tail.front c.add_waiting.new.front e inv.same inv.ran c.handle_whole-done.ensures.steps c.handle_whole-done.ensures.same grown;
+      ran = ran_with g.J.Naming.function (function_of tail.func) tail.tables c.handle_whole-done.new.tables tail.front c.add.new.self e inv.same inv.ran c.handle_whole-done.ensures.steps c.handle_whole-done.ensures.same grown;
       counted = subst (λ (es : List Entry). AreCounts es (set tail.counts.items c.args.seat (c.index_mut.result.now + 1))) (sym grown) (counts_more tail.front tail.counts.items e c.index_mut.result.now inv.counted is here);
     }
 
@@ -34,7 +33,7 @@ pub returns-clause-steps : goal.returns-clause-steps
 returns-clause-steps g c =
     let tail = c.self.inside in
     let inv = c.self.invariant in
-    let entries : tail.front ≡ c.args.self.now = c.self.view_is in
+    let entries : tail.front ≡ c.args.self = c.self.view_is in
     subst (λ (es : List Entry). IsStep g.J.Naming.function es c.args.packet.now c.handle_whole-done.result) entries
     (step_is g.J.Naming.function (function_of tail.func) tail.tables c.handle_whole-done.new.tables tail.front c.args.packet.now c.handle_whole-done.result inv.same inv.ran c.handle_whole-done.ensures.steps)
 
@@ -43,6 +42,6 @@ returns-clause-next g c =
     let tail = c.self.inside in
     let inv = c.self.invariant in
     let e : Entry = record { seat = c.args.seat; number = c.index.result.now; packet = c.args.packet.now; done = c.handle_whole-done.result } in
-    let grown : c.add_waiting.new.front ≡ tail.front ++ e ∷ [] = c.add_waiting.ensures in
-    is_next g.J.Naming.function c.handle_whole-done.new.tables tail.front c.add_waiting.new.front e grown c.requires.port
-    (ran_with g.J.Naming.function (function_of tail.func) tail.tables c.handle_whole-done.new.tables tail.front c.add_waiting.new.front e inv.same inv.ran c.handle_whole-done.ensures.steps c.handle_whole-done.ensures.same grown)
+    let grown : c.add.new.self ≡ tail.front ++ e ∷ [] = c.if-not-add.ensures in
+    is_next g.J.Naming.function c.handle_whole-done.new.tables tail.front c.add.new.self e grown c.requires.port
+    (ran_with g.J.Naming.function (function_of tail.func) tail.tables c.handle_whole-done.new.tables tail.front c.add.new.self e inv.same inv.ran c.handle_whole-done.ensures.steps c.handle_whole-done.ensures.same grown)
