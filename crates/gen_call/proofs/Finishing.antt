@@ -40,11 +40,11 @@ use Rattle.call_base.proofs.Leaving.{left_created, left_same, left_written, left
 use Rattle.gen_call.specs.declared.job.Job.{Job}
 use Rattle.gen_call.specs.Numbers.{stop_named}
 use Rattle.gen_call.specs.Runs.{left_lines, summary_text, asked_until}
-use Rattle.gen_call.specs.Ending.{ports_of, IsFinished, IsStopped, GensTo}
+use Rattle.gen_call.specs.Ending.{ports_of, IsFinished, IsPrinting, IsStopped, GensTo}
 use Rattle.gen_call.specs.Leaving.{IsPut, IsUncreated, IsHalfPut}
 use Rattle.gen_call.specs.Progress.{Since, HasRefused, IsJob, HasRun, HasDone, asked}
 use Rattle.gen_call.proofs.Numbering.{IsNumbered, own_made}
-use Rattle.gen_call.proofs.Stopping.{stopped_behind, memory_behind, stopped_next, made_front, own_stop, own_printed}
+use Rattle.gen_call.proofs.Stopping.{stopped_behind, memory_behind, stopped_next, made_front, own_stop, own_printed, far_creating, far_writing, far_printing}
 
 -- ---- a run's ports
 
@@ -144,8 +144,8 @@ state_put since a b job mode state sent text is h text_is put =
     }
 
 -- memory ran out once so many files were created and are whole
-pub starved : (since : Since) (a : Outside) (job : Job) (made full : ℕ) → IsJob since.before job → (h : HasRun since a job Whole made full) → made ≤ job.naming.ports + 2 → IsStopped (asked job) (HasRefused since) since.before a stops.Memory
-starved since a job made full is h within =
+pub starved : (since : Since) (a : Outside) (job : Job) (made full : ℕ) → IsJob since.before job → (h : HasRun since a job Whole made full) → made ≤ job.naming.ports + 2 → made ≤ full → IsStopped (asked job) (HasRefused since) since.before a stops.Memory
+starved since a job made full is h within whole =
     let ports = ports_are since.before job h.run is h.of_function in
     inr (record {
       run = h.run;
@@ -156,6 +156,8 @@ starved since a job made full is h within =
       full = full;
       within = omega (arith, within, ports);
       files = h.files;
+      far = tt;
+      last = λ lt. (omega (arith, lt, whole), h.ending);
       stdout = inl h.stdout;
       stderr = h.stderr;
       stops = memory_behind (asked_until (asked job) (ports_of h.run) (ports_of h.run + 2)) (asked_until (asked job) (ports_of h.run) made) since.before.told.next (ports_of h.run) since.before.counted a.counted
@@ -185,6 +187,8 @@ uncreated since a b job stop is h k =
       full = n + 1;
       within = omega arith;
       files = left_same since.before.told a.told b.told first (name_at (asked job).out n) (bytes_at h.run) (n + 1) (n + 1) left k.same;
+      far = far_creating _ _ since.before.told.next n a.told.next stop a.counted b.counted _ (two_of since.before job is) left.next h.ending k.asks;
+      last = λ lt. absurd (omega (arith, lt));
       stdout = inl (k.same.givens 0 ∙ h.stdout);
       stderr = k.same.givens 1 ∙ h.stderr;
       stops = stopped_next (asked_until (asked job) n (n + 2)) (asked_until (asked job) n (n + 1)) (writing (name_at (asked job).out n (n + 1))) a.told.next since.before.told.next n since.before.counted a.counted b.counted stop
@@ -219,6 +223,8 @@ half_put since a b job mode state sent text stop is h text_is put =
       full = n + 1;
       within = omega arith;
       files = half;
+      far = far_writing _ _ since.before.told.next n (n + 1 + 1) put.file stop two at r.ending put.at;
+      last = λ lt. (omega arith, r.ending);
       stdout = inl (other 0 (omega (arith, two)) ∙ r.stdout);
       stderr = other 1 (omega (arith, two)) ∙ r.stderr;
       stops = stopped_behind (asked_until (asked job) n (n + 2)) (asked_until (asked job) n (n + 1 + 1)) since.before.told.next n since.before.counted put.mid.counted b.counted stop
@@ -278,6 +284,7 @@ half_summed since a b job mode state sent text stop is h unnamed lines wrote at 
     let first = since.before.told.next + 1 in
     let two = two_of since.before job is in
     let front = printed_front a.told b.told 0 text wrote in
+    let printing : IsPrinting (asked job) r.run r.given (n + 2) (n + 2) = record { ending = r.ending; all = refl; whole = refl } in
     inr (record {
       run = r.run;
       given = r.given;
@@ -287,8 +294,10 @@ half_summed since a b job mode state sent text stop is h unnamed lines wrote at 
       full = n + 2;
       within = omega arith;
       files = left_printed since.before.told a.told b.told first (name_at (asked job).out n) (bytes_at r.run) (n + 2) (n + 2) 0 _ (subst (λ (m : ℕ). Left since.before.told a.told first (name_at (asked job).out n) (bytes_at r.run) m m) all r.files) (omega arith) (omega (arith, two)) unnamed wrote.wrote;
+      far = far_printing _ _ since.before.told.next n (n + 2) (n + 2) stop two printing at;
+      last = λ lt. (omega arith, r.ending);
       stdout = inr (
-        refl,
+        printing,
         (
           text,
           record { state = state; left = h.left; sent = sent; sent_is = still_sent since a.told b.told r.run sent 0 _ (omega arith) two wrote.wrote h.sent_is; text_is = lines_of since a job mode state sent _ _ text h lines },

@@ -44,7 +44,8 @@ use Rattle.gen_call.specs.Runs.{packets_for, IsWho, IsRunOf, IsToldStop, asked_u
 use Rattle.gen_call.specs.Ending.{ports_of, IsFinished, IsStopped}
 use Rattle.gen_call.specs.Progress.{Since, HasRefused, IsJob, HasCreated, HasRun, HasDone, asked, state_name, state_text, lines_of}
 use Rattle.gen_call.proofs.Numbering.{IsNumbered}
-use Rattle.gen_call.proofs.Stopping.{stopped_behind, stopped_asking, made_front, own_among, own_stop}
+use Rattle.call_base.specs.Far.{IsFar}
+use Rattle.gen_call.proofs.Stopping.{stopped_behind, stopped_asking, made_front, own_among, own_stop, far_among, far_next}
 use Rattle.gen_call.specs.Leaving.{IsPut, IsUncreated, IsHalfPut, IsNotBegun, IsOut, PutsTo, PrintsTo, FinishesTo}
 use Rattle.gen_call.proofs.Finishing.{handlers_of, ports_are, few_of, two_of, last_name, state_put, starved, uncreated as uncreated_state, half_put, summed, half_summed}
 
@@ -169,15 +170,18 @@ keys_of since a b job targets (whos.Shards keys workers) all full said told is h
       run = k.run;
       given = given;
       is_run = run_is since.before job who (HasRefused since) given k.run is by (record { is_run = k.is_run; packets = refl });
-      ending = record {
-        keys = keys;
-        are_given = subst (λ (g : Function). AreGiven g keys) e by.3;
-        several = omega (arith, by.0, by.1);
-        stop = full.stop;
-        behind = subst (λ (w : ℕ). IsStopBehind k.run.function keys w k.run full.stop) by.0 (subst (λ (g : Function). IsStopBehind g keys workers k.run full.stop) e k.stops);
-        next = subst (λ (ps : List Arrival). traffic.AreBefore ps given full.stop.packet) (all_is ∙ packets_as job k.run.function f) k.packets;
-        said = subst (λ (g : Function). IsToldStop g full.stop said) e told;
-      };
+      ending = (
+        k.is_run.mode,
+        record {
+          keys = keys;
+          are_given = subst (λ (g : Function). AreGiven g keys) e by.3;
+          several = omega (arith, by.0, by.1);
+          stop = full.stop;
+          behind = subst (λ (w : ℕ). IsStopBehind k.run.function keys w k.run full.stop) by.0 (subst (λ (g : Function). IsStopBehind g keys workers k.run full.stop) e k.stops);
+          next = subst (λ (ps : List Arrival). traffic.AreBefore ps given full.stop.packet) (all_is ∙ packets_as job k.run.function f) k.packets;
+          said = subst (λ (g : Function). IsToldStop g full.stop said) e told;
+        },
+      );
       files = subst (λ (n : ℕ). Left since.before.told b.told (since.before.told.next + 1) (name_at (asked job).out (ports_of k.run)) (bytes_at k.run) n n) more
           (left_created since.before a b job targets k.run (job.naming.ports + 1) is h f kept (λ i file e. front_whole (file_bytes k.run i) (b.told.given file) (k.wholes i file e)) (omega arith) (λ i file lt e. k.wholes i file e));
       stdout = standard_kept since.before a b job targets 0 is h kept (omega arith);
@@ -204,6 +208,8 @@ cut since a b job targets who all stop is h by all_is k kept cause among =
       full = 0;
       within = omega (arith, ports);
       files = left_created since.before a b job targets k.run 0 is h f kept k.fronts (omega arith) (λ i file lt e. absurd (omega (arith, lt)));
+      far = far_among _ _ since.before.told.next n (job.naming.ports + 1) targets stop (two_of since.before job is) (λ i file e. (numbers_of since.before a job targets h i file e, omega (arith, slice_get_within targets i file e, h.created.all, ports))) (omega (arith, ports)) among;
+      last = λ lt. absurd (omega (arith, lt, ports));
       stdout = inl (standard_kept since.before a b job targets 0 is h kept (omega arith));
       stderr = standard_kept since.before a b job targets 1 is h kept (omega arith);
       stops = stopped_behind (asked_until (asked job) n (n + 2)) (asked_until (asked job) n (job.naming.ports + 1)) since.before.told.next n since.before.counted a.counted b.counted stop
@@ -219,6 +225,12 @@ own_uncreated first ports before now name numbered.Memory two at s = tt
 own_uncreated first ports before now name (numbered.File file) two at s =
     let here = s.at file refl in
     own_stop first ports s.made (numbered.File file) two (omega (arith, here.1)) (omega (arith, here.0, at))
+
+far_uncreated : (ended stated : Type 0) (first ports : ℕ) (before now : Told) (name : ℕ → List ℕ) (stop : NumberStop) → 2 ≤ first → before.next ≡ first + 1 → (s : AreSomeCreated before now name (ports + 1) stop) → IsFar ended stated ports (stop_named first ports stop) s.made 0
+far_uncreated ended stated first ports before now name numbered.Memory two at s = tt
+far_uncreated ended stated first ports before now name (numbered.File file) two at s =
+    let here = s.at file refl in
+    far_next ended stated first ports s.made file two (omega (arith, here.0, at)) (omega (arith, here.1))
 
 pub uncreated : (since : Since) (a b : Outside) (job : Job) (who : Who) (stop : NumberStop) → IsJob since.before job → a.told.next ≡ since.before.told.next + 1 → HasOnlyAsked (reading (asked job).function ∷ []) since.before a → IsWho (asked job) (function_of job.func.now) who → Serves (function_of job.func.now) who
     → AreSomeCreated a.told b.told (name_at (asked job).out job.naming.ports) (job.naming.ports + 1) stop → AsksSome (created_by (asked job).out job.naming.ports (job.naming.ports + 1)) a.counted b.counted stop
@@ -243,6 +255,8 @@ uncreated since a b job who stop is at only by serves some asks =
         full = 0;
         within = omega (arith, made.less);
         files = left_begun since.before.told a.told b.told (since.before.told.next + 1) (name_at (asked job).out n) (bytes_at none.run) made.made only.untouched.contents at made.created;
+        far = far_uncreated _ _ since.before.told.next n a.told b.told (name_at (asked job).out n) stop two at made;
+        last = λ lt. absurd (omega (arith, lt, made.less));
         stdout = inl (made.created.givens 0 (omega (arith, at, two)) ∙ only.untouched.standard 0 (omega arith));
         stderr = made.created.givens 1 (omega (arith, at, two)) ∙ only.untouched.standard 1 (omega arith);
         stops = stopped_asking (asked_until (asked job) n (n + 2)) (reading (asked job).function ∷ []) (created_by (asked job).out n (n + 1)) since.before.told.next n since.before.counted a.counted b.counted stop
@@ -273,10 +287,10 @@ pub record IsHalted (since : Since) (b : Outside) (job : Job) (stop : NumberStop
   pub stopped : IsStopped (asked job) (HasRefused since) since.before b (stop_named since.before.told.next (ports_of run) stop)
 
 -- memory ran out
-memory_is : (since : Since) (a b : Outside) (job : Job) (made full : ℕ) (stop : NumberStop) → IsJob since.before job → (h : HasRun since a job Whole made full) → made ≤ job.naming.ports + 2 → IsNotBegun a b stop → IsHalted since b job stop
-memory_is since a b job made full stop is h within none =
+memory_is : (since : Since) (a b : Outside) (job : Job) (made full : ℕ) (stop : NumberStop) → IsJob since.before job → (h : HasRun since a job Whole made full) → made ≤ job.naming.ports + 2 → made ≤ full → IsNotBegun a b stop → IsHalted since b job stop
+memory_is since a b job made full stop is h within whole none =
     let n = ports_of h.run in
-    let here = subst (λ (o : Outside). IsStopped (asked job) (HasRefused since) since.before o stops.Memory) (sym none.same) (starved since a job made full is h within) in
+    let here = subst (λ (o : Outside). IsStopped (asked job) (HasRefused since) since.before o stops.Memory) (sym none.same) (starved since a job made full is h within whole) in
     record {
       run = h.run;
       of_function = h.of_function;
@@ -284,7 +298,7 @@ memory_is since a b job made full stop is h within none =
     }
 
 put_failed : (since : Since) (a b : Outside) (job : Job) (mode : Mode) (state : State) (sent : ℕ) (stop : NumberStop) → IsJob since.before job → HasDone since a job mode state sent (job.naming.ports + 1) (job.naming.ports + 1) → PutsTo {T = Unit {0}} (state_name job) (state_text job state) a b (Err stop) → IsHalted since b job stop
-put_failed since a b job mode state sent stop is h (inl none) = memory_is since a b job (job.naming.ports + 1) (job.naming.ports + 1) stop is h.has_run (omega arith) none
+put_failed since a b job mode state sent stop is h (inl none) = memory_is since a b job (job.naming.ports + 1) (job.naming.ports + 1) stop is h.has_run (omega arith) (omega arith) none
 put_failed since a b job mode state sent stop is h (inr (inl not_made)) =
     let r = h.has_run in
     record {
@@ -301,7 +315,7 @@ put_failed since a b job mode state sent stop is h (inr (inr half)) =
     }
 
 lines_failed : (since : Since) (a b : Outside) (job : Job) (mode : Mode) (state : State) (sent : ℕ) (stop : NumberStop) → IsJob since.before job → HasDone since a job mode state sent (job.naming.ports + 2) (job.naming.ports + 2) → PrintsTo {T = Unit {0}} (lines_of job mode state sent) a b (Err stop) → IsHalted since b job stop
-lines_failed since a b job mode state sent stop is h (inl none) = memory_is since a b job (job.naming.ports + 2) (job.naming.ports + 2) stop is h.has_run (omega arith) none
+lines_failed since a b job mode state sent stop is h (inl none) = memory_is since a b job (job.naming.ports + 2) (job.naming.ports + 2) stop is h.has_run (omega arith) (omega arith) none
 lines_failed since a b job mode state sent stop is h (inr half) = record {
   run = h.has_run.run;
   of_function = h.has_run.of_function;

@@ -1,5 +1,5 @@
 -- Why a run over made-up traffic was stopped, and what it had asked for then.
-use Rattle.std.proofs.Common.{◌≡◌, inl, inr, ℕ, ◌+◌, ◌≤◌, List, [], ◌∷◌, ◌++◌, Some, slice_get, Err, refl, ap, sym, subst, ◌∙◌}
+use Rattle.std.proofs.Common.{arith, ◌≡◌, inl, inr, ℕ, ◌+◌, ◌≤◌, List, [], ◌∷◌, ◌++◌, Some, slice_get, Err, refl, ap, sym, subst, ◌∙◌}
 use Rattle.nf_files.specs.Causes.{Counted, Asked, asking}
 use Rattle.stream_run.specs.declared.stop.Stop.{Stop as NumberStop}
 use Rattle.stream_run.specs.declared.stop.Stop.TheVariants as numbered
@@ -12,7 +12,8 @@ use Rattle.call_base.specs.Opened.{AsksNext, AsksSome, IsAskCause}
 use Rattle.call_base.proofs.Asking.{asking_both, asks_next, front_behind, front_range}
 use Rattle.gen_call.specs.Numbers.{made_numbering, stop_named, Stops}
 use Rattle.gen_call.specs.Runs.{asked_until}
-use Rattle.gen_call.proofs.Numbering.{IsNumbered, own_made, own_stdout}
+use Rattle.call_base.specs.Far.{IsFar}
+use Rattle.gen_call.proofs.Numbering.{IsNumbered, own_made, own_stdout, far_made, far_state, far_stdout}
 
 cause_named : (first ports : ℕ) (old new : Counted) (stop : NumberStop) → IsNumbered first ports stop → IsAskCause old new stop → IsCauseBy (made_numbering first ports) old new (stop_named first ports stop)
 cause_named first ports old new (numbered.File number) is h = record { number = number; faulted = h; file_is = refl; number_is = sym is }
@@ -69,3 +70,32 @@ pub stopped_next : (names behind : List Asked) (one : Asked) (number first ports
 stopped_next names behind one number first ports start old new stop is f g so_far h =
     let s = asks_next names behind one number start old new stop f g so_far h in
     record { front = s.front; is_front = s.is_front; cause = cause_named first ports (asking s.front start) new stop is s.cause }
+
+-- ---- how far a run came
+
+-- once all but the state were created, one of these stopped it
+pub far_among : (ended stated : Type 0) (first ports made : ℕ) (files : List ℕ) (stop : NumberStop) → 2 ≤ first → ((k file : ℕ) → slice_get files k ≡ Some file → (file ≡ first + 1 + k) × (k ≤ ports)) → made ≡ ports + 1 → StopsAmong {T = Unit {0}} [] files (Err stop) → IsFar ended stated ports (stop_named first ports stop) made 0
+far_among ended stated first ports made files numbered.Memory two numbers all among = tt
+far_among ended stated first ports made files (numbered.File number) two numbers all (inl none) = absurd (cc none.1)
+far_among ended stated first ports made files (numbered.File number) two numbers all (inr own) =
+    let n = numbers own.0 number own.1 in
+    far_made ended stated first ports number own.0 made 0 two n.0 n.1 (omega (arith, n.1, all)) (omega (arith, all))
+
+-- one could not be created, behind all others
+pub far_next : (ended stated : Type 0) (first ports made number : ℕ) → 2 ≤ first → number ≡ first + 1 + made → made ≤ ports → IsFar ended stated ports (stop_named first ports (numbered.File number)) made 0
+far_next ended stated first ports made number two at le = far_made ended stated first ports number made made 0 two at le (omega arith) (omega (arith, le))
+
+-- the state could not be created, or not be written
+pub far_creating : (ended stated : Type 0) (first ports number : ℕ) (stop : NumberStop) (old new : Counted) (one : Asked) → 2 ≤ first → number ≡ first + 1 + (ports + 1) → stated → AsksNext {T = ℕ} one number old new (Err stop) → IsFar ended stated ports (stop_named first ports stop) (ports + 1) (ports + 1)
+far_creating ended stated first ports number numbered.Memory old new one two is leaves h = tt
+far_creating ended stated first ports number (numbered.File file) old new one two is leaves h = far_state ended stated first ports file (ports + 1) (ports + 1) two (h.0 ∙ is) (omega arith) leaves
+
+pub far_writing : (ended stated : Type 0) (first ports made number : ℕ) (stop : NumberStop) → 2 ≤ first → number ≡ first + 1 + (ports + 1) → stated → StopsAt {T = Unit {0}} number (Err stop) → IsFar ended stated ports (stop_named first ports stop) made (ports + 1)
+far_writing ended stated first ports made number numbered.Memory two is leaves at = tt
+far_writing ended stated first ports made number (numbered.File file) two is leaves at = far_state ended stated first ports file made (ports + 1) two (at ∙ is) (omega arith) leaves
+
+-- standard output stopped it
+pub far_printing : (ended stated : Type 0) (first ports made full : ℕ) (stop : NumberStop) → 2 ≤ first → ended → StopsAt {T = Unit {0}} 0 (Err stop) → IsFar ended stated ports (stop_named first ports stop) made full
+far_printing ended stated first ports made full numbered.Memory two whole at = tt
+far_printing ended stated first ports made full (numbered.File number) two whole at =
+    subst (λ (g : ℕ). IsFar ended stated ports (stop_named first ports (numbered.File g)) made full) (sym at) (far_stdout ended stated first ports made full two whole)

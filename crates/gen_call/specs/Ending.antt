@@ -1,5 +1,5 @@
 -- What a run over made-up traffic comes to, before that is told on standard error.
-use Rattle.std.specs.Prelude.{◌≡◌, ◌⊎◌, ℕ, ◌+◌, ◌≤◌, List, [], ◌∷◌, length, Result, Ok, Err}
+use Rattle.std.specs.Prelude.{◌≡◌, ◌⊎◌, ℕ, ◌+◌, ◌<◌, ◌≤◌, List, [], ◌∷◌, length, Result, Ok, Err}
 use Rattle.nf_files.specs.Causes.{asking}
 use Rattle.packet_feed.specs.Arrivals.{Arrival}
 use Rattle.stream_run.specs.Runs.{Run}
@@ -15,6 +15,7 @@ use Rattle.call_base.specs.declared.status.Halt.TheVariants as halts
 use Rattle.call_base.specs.Outside.{Outside, IsUntouched, HasOnlyAsked}
 use Rattle.call_base.specs.Names.{reading, name_at}
 use Rattle.call_base.specs.Created.{Left, bytes_at}
+use Rattle.call_base.specs.Far.{IsFar}
 use Rattle.call_base.specs.Source.{IsNoFunctionUnder}
 use Rattle.call_base.specs.Loading.{IsTextCause}
 use Rattle.call_base.specs.Printed.{Printed, PrintedFront}
@@ -69,8 +70,15 @@ pub record IsUnbegun (c : Gen) (before now : Outside) (stop : Stop) : Type 0 whe
   pub untouched : IsUntouched before.told now.told
   pub cause : IsTextCause c.function before.told.next before.counted now.counted stop
 
+-- All packets were handled, and all files are whole: the lines on the run are printed.
+pub record IsPrinting (c : Gen) (run : Run) (given : List Arrival) (made full : ℕ) : Type 0 where
+  pub ending : IsEndOf c run given Whole
+  pub all : made ≡ left_by (ports_of run) Whole
+  pub whole : full ≡ made
+
 -- A run was stopped after it began to create files: each holds a front of what one run leaves there, over
--- all packets or some first ones. Nothing is printed before all are whole.
+-- all packets or some first ones. The state is created behind whole others, once all packets were handled,
+-- and nothing is printed before all are whole.
 pub record IsCutShort (c : Gen) (Refused : Type 0) (before now : Outside) (stop : Stop) : Type 0 where
   pub run : Run
   pub given : List Arrival
@@ -80,8 +88,10 @@ pub record IsCutShort (c : Gen) (Refused : Type 0) (before now : Outside) (stop 
   pub full : ℕ
   pub within : made ≤ ports_of run + 2
   pub files : HasLeft c before now run made full
+  pub far : IsFar (IsPrinting c run given made full) (IsEndOf c run given Whole) (ports_of run) stop made full
+  pub last : ports_of run + 1 < made → (ports_of run + 1 ≤ full) × IsEndOf c run given Whole
   pub stdout : (now.told.given 0 ≡ before.told.given 0)
-      ⊎ ((full ≡ ports_of run + 2) × ((text : List ℕ) × IsSummary c now.told (before.told.next + 1) run text × PrintedFront before.told now.told 0 text))
+      ⊎ (IsPrinting c run given made full × ((text : List ℕ) × IsSummary c now.told (before.told.next + 1) run text × PrintedFront before.told now.told 0 text))
   pub stderr : now.told.given 1 ≡ before.told.given 1
   pub stops : Stops before.told.next (ports_of run) (asked_until c (ports_of run) (ports_of run + 2)) before.counted now.counted stop
 

@@ -15,7 +15,7 @@ use Rattle.key_synth.specs.Verdicts.{IsVerdict}
 use Rattle.key_synth.specs.Keys.{AreGiven}
 use Rattle.shard_core.specs.declared.collected.Stop.{Stop as ShareStop}
 use Rattle.sharded_run.specs.Sharded.{IsStopBehind}
-use Rattle.verdict_text.specs.Names.{chain_name}
+use Rattle.nf_base.specs.Names.{chain_name}
 use Rattle.stream_run.specs.Runs.{Run, course_of}
 use Rattle.traffic_run.specs.declared.asked.Asked.{Asked as Traffic}
 use Rattle.traffic_run.specs.declared.who.Who.{Who}
@@ -90,11 +90,11 @@ pub record IsFullBehind (c : Gen) (run : Run) (given : List Arrival) (full : Ful
   pub next : AreBefore (packets_for c run.function) given stop.packet
   pub said : IsToldStop run.function stop full
 
--- All packets were handled, or those before a share stop. Made-up captures are whole, and there are as
--- many packets as were asked for.
+-- All packets were handled, or, by workers that share nothing, those before a share stop. Made-up captures
+-- are whole, and there are as many packets as were asked for.
 abbrev pub IsEndOf : Gen → Run → List Arrival → End → Type 0
 IsEndOf c run given Whole = given ≡ packets_for c run.function
-IsEndOf c run given (ShareFull full) = IsFullBehind c run given full
+IsEndOf c run given (ShareFull full) = (run.mode ≡ mode.Shard) × IsFullBehind c run given full
 IsEndOf c run given (Torn port offset) = ⊥
 IsEndOf c run given (TooMany most) = ⊥
 

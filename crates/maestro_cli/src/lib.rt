@@ -1,6 +1,7 @@
 //! The whole program: from its words and the files outside to a status.
 #![tactic(auto)]
 
+pub mod laws;
 mod program;
 
 pub use call_base::object_name::ObjectName;

@@ -1,5 +1,5 @@
 -- A replay that was refused or stopped before anything was judged.
-use Rattle.std.proofs.Common.{◌≡◌, ◌≢◌, ◌⊎◌, inl, inr, ℕ, zero, suc, ◌+◌, ◌-◌, ◌<◌, ◌≤◌, List, [], ◌∷◌, ◌++◌, length, map, Option, Some, None, Result, Ok, Err, refl, ap, sym, subst, ◌∙◌, arith}
+use Rattle.std.proofs.Common.{◌≡◌, ◌≢◌, inl, inr, ℕ, ◌+◌, ◌-◌, ◌<◌, ◌≤◌, List, [], ◌∷◌, ◌++◌, length, map, Option, Some, None, Result, Ok, Err, refl, ap, sym, subst, ◌∙◌, arith}
 use Rattle.std.specs.List.{slice_get}
 use Rattle.std.proofs.lemmas.List.{length-map}
 use Rattle.std.proofs.lemmas.Option.{slice_get_within}
@@ -10,7 +10,7 @@ use Rattle.nf_files.specs.Causes.{Counted, Faulted, FaultedAsking, Asked, asking
 use Rattle.packet_feed.specs.Told.{IsCapture, IsNoCapture, KeepsOthers}
 use Rattle.packet_feed.specs.Faults.{FaultedAt}
 use Rattle.packet_feed.specs.Faults as feeding
-use Rattle.packet_feed.specs.Sources.{files_in, IsLeastBad}
+use Rattle.packet_feed.specs.Sources.{AreLesserCaptures, IsLeastBad}
 use Rattle.packet_feed.specs.Feeding.{Feeding, Starts}
 use Rattle.packet_feed.specs.Ports.{StandsByPort}
 use Rattle.packet_feed.specs.declared.fault.FeedFault.{FeedFault}
@@ -29,9 +29,8 @@ use Rattle.call_base.specs.declared.status.Halt.{Halt}
 use Rattle.call_base.specs.declared.status.Halt.TheVariants as halts
 use Rattle.call_base.specs.Outside.{Outside, IsUntouched, HasOnlyAsked}
 use Rattle.call_base.specs.Names.{reading}
-use Rattle.call_base.specs.Captures.{Below}
 use Rattle.call_base.specs.Numbers.{Faults, FailedBy, StopsBy, IsFrontOf}
-use Rattle.call_base.specs.Opened.{AreOpened, AsksSome, StopsFrom}
+use Rattle.call_base.specs.Opened.{AreOpened, AsksSome, StopsFrom, StopsNext}
 use Rattle.call_base.specs.Loading.{IsTextCause, FindsFunction, HasFoundCause}
 use Rattle.call_base.proofs.Asking.{asking_both, asking_none, front_all, front_before, front_behind}
 use Rattle.call_base.proofs.Creating.{untouched_both}
@@ -40,10 +39,11 @@ use Rattle.replay_call.specs.declared.numbers.Numbers.{Numbers}
 use Rattle.replay_call.specs.Numbers.{file_of, number_of, numbering, stop_named}
 use Rattle.replay_call.specs.Names.{inputs_of, names_of, asked_by}
 use Rattle.replay_call.specs.Contents.{HasPorts, HasNoCapture}
-use Rattle.replay_call.specs.Checked.{IsStopped, ReplaysTo}
+use Rattle.replay_call.specs.Checked.{KnowsPorts, KnowsHeaders, KnownAt, IsKnown, IsDue, IsStopped, ReplaysTo}
 use Rattle.replay_call.specs.Progress.{IsJob, IsSized, HasFound, HasOpened, HasFed, HasReady, asked, ports_of, unfed, stop_on, unfound}
 use Rattle.replay_call.proofs.Numbering.{file_first, own_capture, own_other}
 use Rattle.replay_call.proofs.Stopping.{IsNumbered, stopped_behind, memory_behind, stopped_asking}
+use Rattle.replay_call.proofs.Known.{got_at, below_names, headers_of, known_capture, known_other, due_text, due_captures, due_others, front_length}
 
 -- ---- fronts of the names of a replay
 
@@ -59,12 +59,14 @@ others_front c front f = front_behind (inputs_of c) (map reading (names_of c)) f
 
 -- ---- a stop that changed nothing
 
-pub stopped_untouched : (c : Replay) (before b : Outside) (stop : Stop) → IsUntouched before.told b.told → StopsBy (numbering before.told.next (length c.captures)) (asked_by c) before.counted b.counted stop → IsStopped c before b stop
-stopped_untouched c before b stop untouched stops_at = record {
+pub stopped_untouched : (c : Replay) (before b : Outside) (stop : Stop) → IsUntouched before.told b.told → (s : StopsBy (numbering before.told.next (length c.captures)) (asked_by c) before.counted b.counted stop) → IsKnown c before.told b.told stop → IsDue c before.told (length s.front) → IsStopped c before b stop
+stopped_untouched c before b stop untouched stops_at known due = record {
   contents = untouched.contents;
   stdout = inl (untouched.standard 0 (omega arith));
   stderr = untouched.standard 1 (omega arith);
   stops = stops_at;
+  known = known;
+  due = due;
 }
 
 -- a job's numbers are those of the openings
@@ -96,11 +98,19 @@ unread_stop c before b file is (inr lost) = record {
       (inr (subst (λ (old : Counted). Faulted (losing old) b.counted before.told.next) (asking_none before.counted) lost));
 }
 
+-- no name but the text's was asked for
+unread_few : (c : Replay) (before b : Outside) (file : RunFile) (is : file ≡ Nf) (h : FaultedAsking before.counted b.counted (reading c.function ∷ []) before.told.next) → length (unread_stop c before b file is h).front ≤ 1
+unfolding unread_stop
+unread_few c before b file is (inl taken) = omega arith
+unread_few c before b file is (inr lost) = omega arith
+
 unread_text : (c : Replay) (before b : Outside) (stop : Stop) → IsUntouched before.told b.told → IsTextCause c.function before.told.next before.counted b.counted stop → IsStopped c before b stop
-unread_text c before b (stops.File file) untouched cause = stopped_untouched c before b (stops.File file) untouched (unread_stop c before b file cause.0 cause.1)
-unread_text c before b stops.Memory untouched (inl same) = stopped_untouched c before b stops.Memory untouched (record { front = []; is_front = record { later = asked_by c; whole = refl }; cause = same ∙ asking_none before.counted })
+unread_text c before b (stops.File file) untouched cause =
+    stopped_untouched c before b (stops.File file) untouched (unread_stop c before b file cause.0 cause.1) (subst (KnownAt c before.told b.told) (sym cause.0) tt)
+    (due_text c before.told (length (unread_stop c before b file cause.0 cause.1).front) (unread_few c before b file cause.0 cause.1))
+unread_text c before b stops.Memory untouched (inl same) = stopped_untouched c before b stops.Memory untouched (record { front = []; is_front = record { later = asked_by c; whole = refl }; cause = same ∙ asking_none before.counted }) tt (due_text c before.told 0 (omega arith))
 unread_text c before b stops.Memory untouched (inr more) =
-    stopped_untouched c before b stops.Memory untouched (record { front = reading c.function ∷ []; is_front = record { later = map reading c.captures ++ map reading (names_of c); whole = refl }; cause = more })
+    stopped_untouched c before b stops.Memory untouched (record { front = reading c.function ∷ []; is_front = record { later = map reading c.captures ++ map reading (names_of c); whole = refl }; cause = more }) tt (due_text c before.told 1 (omega arith))
 
 pub is_unfound : (c : Replay) (before b : Outside) (why : NoFunction) → IsUntouched before.told b.told → FindsFunction before.told c.function (Err why) → HasFoundCause c.function before.told.next before.counted b.counted (Err why) → ReplaysTo c before b (Err (unfound why))
 is_unfound c before b (none.Text fault) untouched finds cause = (finds, record { untouched = untouched; asked = cause })
@@ -108,7 +118,11 @@ is_unfound c before b (none.Stop stop) untouched finds cause = unread_text c bef
 
 -- memory ran out once the function was read
 pub unkept_found : (c : Replay) (before now : Outside) → HasOnlyAsked (reading c.function ∷ []) before now → IsStopped c before now stops.Memory
-unkept_found c before now only = stopped_untouched c before now stops.Memory only.untouched (memory_behind (asked_by c) (reading c.function ∷ []) before.told.next (length c.captures) before.counted now.counted (captures_front c [] (record { later = map reading c.captures; whole = refl })) only.asked)
+unfolding memory_behind
+unkept_found c before now only =
+    stopped_untouched c before now stops.Memory only.untouched
+    (memory_behind (asked_by c) (reading c.function ∷ []) before.told.next (length c.captures) before.counted now.counted (captures_front c [] (record { later = map reading c.captures; whole = refl })) only.asked)
+    tt (due_text c before.told 1 (omega arith))
 
 -- ---- the captures' names
 
@@ -128,13 +142,29 @@ own_opening : (first ports : ℕ) (stop : NumberStop) → 2 ≤ first → StopsF
 own_opening first ports numbered.Memory two from = tt
 own_opening first ports (numbered.File number) two from = own_capture first ports number (number - (first + 1)) two (omega (arith, from.0)) (omega (arith, from.0, from.1))
 
+-- what a job is of has as many ports as captures
+pub job_ports : (before : Outside) (job : Job) → IsJob before job → KnowsPorts (asked job) before.told
+job_ports before job is = record { function = function_of job.func.now; has_ports = is.has_ports }
+
+known_opening : (c : Replay) (told now : Told) (stop : NumberStop) → KnowsPorts c told → 2 ≤ told.next → StopsFrom (told.next + 1) (length c.captures) stop → StopsNext now.next stop → IsKnown c told now (stop_named told.next (length c.captures) stop)
+known_opening c told now numbered.Memory h two from here = tt
+known_opening c told now (numbered.File number) h two from here =
+    known_capture c told now told.next (length c.captures) number (number - (told.next + 1)) h two (omega (arith, from.0)) (omega (arith, from.0, from.1)) (λ all. absurd (omega (arith, from.1, here, all)))
+
+due_opening : (before : Outside) (job : Job) (front : List Asked) → IsJob before job → IsFrontOf (map reading (asked job).captures) front → IsDue (asked job) before.told (length (reading (asked job).function ∷ front))
+due_opening before job front is f =
+    due_captures (asked job) before.told (length (reading (asked job).function ∷ front)) (job_ports before job is)
+    (omega (arith, front_length (map reading (asked job).captures) front f, length-map (asked job).captures reading))
+
 -- a capture could not be opened
-pub is_unopened : (before a b : Outside) (job : Job) (stop : NumberStop) → IsJob before job → HasOnlyAsked (reading (asked job).function ∷ []) before a → IsUntouched a.told b.told → StopsFrom (before.told.next + 1) (ports_of job) stop → AsksSome (map reading (asked job).captures) a.counted b.counted stop
+pub is_unopened : (before a b : Outside) (job : Job) (stop : NumberStop) → IsJob before job → HasOnlyAsked (reading (asked job).function ∷ []) before a → IsUntouched a.told b.told → StopsFrom (before.told.next + 1) (ports_of job) stop → StopsNext b.told.next stop → AsksSome (map reading (asked job).captures) a.counted b.counted stop
     → IsStopped (asked job) before b (stop_named before.told.next (ports_of job) stop)
-is_unopened before a b job stop is only untouched from asks =
+unfolding stopped_asking
+is_unopened before a b job stop is only untouched from here asks =
     stopped_untouched (asked job) before b (stop_named before.told.next (ports_of job) stop) (untouched_both before.told a.told b.told only.untouched untouched)
     (stopped_asking (asked_by (asked job)) (reading (asked job).function ∷ []) (map reading (asked job).captures) before.told.next (ports_of job) before.counted a.counted b.counted stop
     (own_opening before.told.next (ports_of job) stop (omega (arith, is.from_two, is.first)) from) (λ front g. captures_front (asked job) front g) only.asked asks)
+    (known_opening (asked job) before.told b.told stop (job_ports before job is) (omega (arith, is.from_two, is.first)) from here) (due_opening before job asks.front is asks.is_front)
 
 -- ---- the captures' headers
 
@@ -157,18 +187,6 @@ has_fed before a b job captures v h starts by_port kept counted = record {
   only = record { untouched = untouched_fed before a b job captures h kept; asked = counted ∙ h.only.asked };
 }
 
-got_at : {A : Type 0} (xs : List A) (p : ℕ) → p < length xs → (x : A) × (slice_get xs p ≡ Some x)
-got_at [] p lt = absurd (omega (arith, lt))
-got_at (x ∷ xs) zero lt = (x, refl)
-got_at (x ∷ xs) (suc p) lt = got_at xs p (omega (arith, lt))
-
--- what holds of files holds of what stood under their names
-pub below_names : (P : Option (List ℕ) → Type 0) (start before : Told) (captures : List ℕ) (names : List (List ℕ)) (below : ℕ) → length captures ≡ length names → ((i f : ℕ) (n : List ℕ) → slice_get captures i ≡ Some f → slice_get names i ≡ Some n → start.rest f ≡ before.content n)
-    → ((p f : ℕ) → p < below → slice_get captures p ≡ Some f → P (start.rest f)) → Below P before names below
-below_names P start before captures names below e same h = λ p n lt at.
-    let f = got_at captures p (omega (arith, slice_get_within names p n at, e)) in
-    subst P (same p f.0 n f.1 at) (h p f.0 lt f.1)
-
 no_capture : (before a : Outside) (job : Job) (captures : List ℕ) (port : ℕ) → IsJob before job → HasOpened before a job captures → IsLeastBad captures a.told port → HasNoCapture (asked job) before.told port
 no_capture before a job captures port is h bad =
     let name = got_at (asked job).captures port (omega (arith, slice_get_within captures port bad.file bad.at, h.all)) in
@@ -181,32 +199,51 @@ no_capture before a job captures port is h bad =
       lesser = below_names IsCapture a.told before.told captures (asked job).captures port h.all h.rests (λ p f lt e. bad.lesser p f lt e);
     }
 
-failed_at : (before a b : Outside) (job : Job) (captures : List ℕ) (o : Option ℕ) (port : ℕ) → IsJob before job → IsSized job → HasOpened before a job captures → IsUntouched before.told b.told → slice_get captures port ≡ o → FaultedAt a.counted b.counted o → ReplaysTo (asked job) before b (Err (stop_on job.numbers o))
-failed_at before a b job captures None port is sized h untouched e faulted = absurd faulted
-failed_at before a b job captures (Some file) port is sized h untouched e faulted =
+-- the names of the text and the captures were asked for
+due_inputs : (before : Outside) (job : Job) → IsJob before job → IsDue (asked job) before.told (length (inputs_of (asked job)))
+due_inputs before job is = due_captures (asked job) before.told (length (inputs_of (asked job))) (job_ports before job is) (omega (arith, length-map (asked job).captures reading))
+
+failed_at : (before a b : Outside) (job : Job) (captures : List ℕ) (o : Option ℕ) (port : ℕ) → IsJob before job → IsSized job → HasOpened before a job captures → IsUntouched before.told b.told → AreLesserCaptures captures a.told port → slice_get captures port ≡ o → FaultedAt a.counted b.counted o → ReplaysTo (asked job) before b (Err (stop_on job.numbers o))
+unfolding stopped_behind
+failed_at before a b job captures None port is sized h untouched lesser e faulted = absurd faulted
+failed_at before a b job captures (Some file) port is sized h untouched lesser e faulted =
     halted before b job (numbered.File file) (stop_on job.numbers (Some file)) is sized refl
     (stopped_untouched (asked job) before b (stop_named before.told.next (ports_of job) (numbered.File file)) untouched
     (stopped_behind (asked_by (asked job)) (inputs_of (asked job)) before.told.next (ports_of job) before.counted a.counted b.counted (numbered.File file)
     (own_capture before.told.next (ports_of job) file port (omega (arith, is.from_two, is.first)) (h.numbers port file e) (omega (arith, slice_get_within captures port file e, h.all)))
-    (inputs_front (asked job)) h.only.asked faulted))
+    (inputs_front (asked job)) h.only.asked faulted)
+    (known_capture (asked job) before.told b.told before.told.next (ports_of job) file port (job_ports before job is) (omega (arith, is.from_two, is.first)) (h.numbers port file e) (omega (arith, slice_get_within captures port file e, h.all))
+    (λ next. below_names IsCapture a.told before.told captures (asked job).captures port h.all h.rests (λ p f lt e. lesser p f lt e)))
+    (due_inputs before job is))
 
 pub is_unfed : (before a b : Outside) (job : Job) (captures : List ℕ) (fault : FeedFault) → IsJob before job → IsSized job → HasOpened before a job captures → Starts captures (asked job).most a.told b.told (Err fault) → KeepsOthers captures a.told b.told → feeding.IsCause {T = Unit {0}} a.counted b.counted captures (Err fault) → ReplaysTo (asked job) before b (Err (unfed job.numbers captures fault))
+unfolding memory_behind
 is_unfed before a b job captures (feed.NotCapture port) is sized h starts kept cause =
     (no_capture before a job captures port is h starts, record { untouched = untouched_fed before a b job captures h kept; asked = cause ∙ h.only.asked })
-is_unfed before a b job captures (feed.File port) is sized h starts kept cause = failed_at before a b job captures (slice_get captures port) port is sized h (untouched_fed before a b job captures h kept) refl cause
+is_unfed before a b job captures (feed.File port) is sized h starts kept cause = failed_at before a b job captures (slice_get captures port) port is sized h (untouched_fed before a b job captures h kept) starts refl cause
 is_unfed before a b job captures feed.Memory is sized h starts kept cause =
     stopped_untouched (asked job) before b stops.Memory (untouched_fed before a b job captures h kept)
-    (memory_behind (asked_by (asked job)) (inputs_of (asked job)) before.told.next (ports_of job) before.counted b.counted (inputs_front (asked job)) (cause ∙ h.only.asked))
+    (memory_behind (asked_by (asked job)) (inputs_of (asked job)) before.told.next (ports_of job) before.counted b.counted (inputs_front (asked job)) (cause ∙ h.only.asked)) tt (due_inputs before job is)
+
+-- all captures have headers
+fed_headers : (before now : Outside) (job : Job) (captures : List ℕ) (v : Feeding) → IsJob before job → HasFed before now job captures v → KnowsHeaders (asked job) before.told
+fed_headers before now job captures v is h = record { ports = job_ports before job is; captures = headers_of h.start before.told now.told v captures (asked job).captures h.files h.all h.rests h.started }
 
 -- memory ran out once the headers were read
-pub unkept_fed : (before now : Outside) (job : Job) (captures : List ℕ) (v : Feeding) → HasFed before now job captures v → IsStopped (asked job) before now stops.Memory
-unkept_fed before now job captures v h = stopped_untouched (asked job) before now stops.Memory h.only.untouched (memory_behind (asked_by (asked job)) (inputs_of (asked job)) before.told.next (ports_of job) before.counted now.counted (inputs_front (asked job)) h.only.asked)
+pub unkept_fed : (before now : Outside) (job : Job) (captures : List ℕ) (v : Feeding) → IsJob before job → HasFed before now job captures v → IsStopped (asked job) before now stops.Memory
+unkept_fed before now job captures v is h =
+    stopped_untouched (asked job) before now stops.Memory h.only.untouched (memory_behind (asked_by (asked job)) (inputs_of (asked job)) before.told.next (ports_of job) before.counted now.counted (inputs_front (asked job)) h.only.asked)
+    tt (due_others (asked job) before.told _ (fed_headers before now job captures v is h))
 
 -- ---- the journal and the outputs
 
 own_others : (first ports : ℕ) (stop : NumberStop) → 2 ≤ first → StopsFrom (first + 1 + ports) (ports + 1) stop → IsNumbered first ports stop
 own_others first ports numbered.Memory two from = tt
 own_others first ports (numbered.File number) two from = own_other first ports number (number - (first + 1 + ports)) two (omega (arith, from.0))
+
+known_others : (c : Replay) (told now : Told) (first ports : ℕ) (stop : NumberStop) → KnowsHeaders c told → 2 ≤ first → StopsFrom (first + 1 + ports) (ports + 1) stop → IsKnown c told now (stop_named first ports stop)
+known_others c told now first ports numbered.Memory h two from = tt
+known_others c told now first ports (numbered.File number) h two from = known_other c told now first ports number (number - (first + 1 + ports)) h two (omega (arith, from.0))
 
 -- one of them could not be opened
 pub are_unopened : (before a b : Outside) (job : Job) (captures : List ℕ) (v : Feeding) (stop : NumberStop) → IsJob before job → HasFed before a job captures v → IsUntouched a.told b.told → StopsFrom (before.told.next + 1 + ports_of job) (ports_of job + 1) stop → AsksSome (map reading (names_of (asked job))) a.counted b.counted stop
@@ -215,3 +252,4 @@ are_unopened before a b job captures v stop is h untouched from asks =
     stopped_untouched (asked job) before b (stop_named before.told.next (ports_of job) stop) (untouched_both before.told a.told b.told h.only.untouched untouched)
     (stopped_asking (asked_by (asked job)) (inputs_of (asked job)) (map reading (names_of (asked job))) before.told.next (ports_of job) before.counted a.counted b.counted stop
     (own_others before.told.next (ports_of job) stop (omega (arith, is.from_two, is.first)) from) (λ front g. others_front (asked job) front g) h.only.asked asks)
+    (known_others (asked job) before.told b.told before.told.next (ports_of job) stop (fed_headers before a job captures v is h) (omega (arith, is.from_two, is.first)) from) (due_others (asked job) before.told _ (fed_headers before a job captures v is h))

@@ -12,10 +12,8 @@ use Rattle.nf_base.specs.declared.state.State.{State}
 use Rattle.nf_files.specs.Told.{Told}
 use Rattle.nf_files.specs.Causes.{Counted, Faulted, Asked, asking}
 use Rattle.nf_files.specs.Pieces.{Gains}
-use Rattle.pcap_file.specs.Capture.{Capture, capture_of}
 use Rattle.packet_feed.specs.Arrivals.{Arrival}
-use Rattle.packet_feed.specs.Told.{both, gathered, packets_in, packets_of, IsTear, IsCapture, KeepsOthers}
-use Rattle.packet_feed.specs.Streams.{Stream, tear_left}
+use Rattle.packet_feed.specs.Told.{both, gathered, packets_in, packets_of, KeepsOthers}
 use Rattle.packet_feed.specs.Sources.{files_in}
 use Rattle.packet_feed.specs.Feeding.{Feeding}
 use Rattle.run_history.specs.StateText.{state_text}
@@ -35,7 +33,6 @@ use Rattle.call_base.specs.declared.status.Stop.{Stop}
 use Rattle.call_base.specs.declared.status.Stop.TheVariants as stops
 use Rattle.call_base.specs.Outside.{Outside, IsUntouched, HasOnlyAsked}
 use Rattle.call_base.specs.Names.{reading, output_name}
-use Rattle.call_base.specs.Captures.{packets_under, Below}
 use Rattle.call_base.specs.Numbers.{StopsBy}
 use Rattle.call_base.specs.Opened.{AreOpened}
 use Rattle.call_base.specs.Printed.{Printed, PrintedFront}
@@ -47,11 +44,12 @@ use Rattle.replay_call.specs.declared.job.Job.{Job}
 use Rattle.replay_call.specs.Numbers.{file_of, number_of, numbering, stop_named}
 use Rattle.replay_call.specs.Names.{inputs_of, names_of, asked_by}
 use Rattle.replay_call.specs.Contents.{HasReplayed, beside_under, keys_by}
-use Rattle.replay_call.specs.Checked.{IsChecked, IsStopped, ReplaysTo, checked_by, printed_by}
+use Rattle.replay_call.specs.Checked.{KnowsHeaders, KnowsSame, KnownAt, IsKnown, IsChecked, IsStopped, ReplaysTo, checked_by, printed_by}
 use Rattle.replay_call.specs.Progress.{IsJob, IsSized, HasFed, HasReady, HasCome, asked, ports_of}
 use Rattle.replay_call.proofs.Numbering.{own_capture, own_other, own_stdout, file_of_stdout}
 use Rattle.replay_call.proofs.Stopping.{IsNumbered, stopped_behind, memory_behind}
-use Rattle.replay_call.proofs.Beginning.{below_names, stopped_untouched}
+use Rattle.replay_call.proofs.Beginning.{job_ports, stopped_untouched}
+use Rattle.replay_call.proofs.Known.{headers_of, known_capture, known_other, due_others}
 
 -- ---- the names
 
@@ -103,20 +101,6 @@ same_packets start before port (f ∷ captures) (n ∷ names) e h =
     ap (λ (o : Option (List ℕ)). both (packets_in port o) (gathered (λ (p : ℕ) (g : ℕ). packets_in p (start.rest g)) (port + 1) captures)) (h 0 f n refl refl)
     ∙ ap (both (packets_in port (before.content n))) (same_packets start before (port + 1) captures names (omega (arith, e)) (λ i g m p q. h (suc i) g m p q))
 
-some_torn : (o : Option Capture) (torn : Option ℕ) → option_map (λ (c : Capture). c.torn) o ≡ Some torn → (c : Capture) × (o ≡ Some c)
-some_torn None torn e = absurd cc
-some_torn (Some c) torn e = (c, refl)
-
-tear_capture : (bytes : Option (List ℕ)) (torn : Option (Option ℕ)) → IsTear bytes torn → IsCapture bytes
-tear_capture None torn h = tt
-tear_capture (Some bytes) None h = absurd h
-tear_capture (Some bytes) (Some torn) h = some_torn (capture_of bytes) torn h
-
-stream_at : (sources : List Stream) (p f : ℕ) → slice_get (files_in sources) p ≡ Some f → (s : Stream) × (slice_get sources p ≡ Some s) × (s.reading.file ≡ f)
-stream_at [] p f e = absurd cc
-stream_at (s ∷ sources) zero f e = (s, refl, cc)
-stream_at (s ∷ sources) (suc p) f e = stream_at sources p f e
-
 file_there : (files : List ℕ) (k : ℕ) → k < length files → (file : ℕ) × (slice_get files k ≡ Some file)
 file_there [] k lt = absurd (omega (arith, lt))
 file_there (file ∷ files) zero lt = (file, refl)
@@ -136,9 +120,7 @@ has_come before a b job captures v journal outputs came is sized h files all as_
     record {
       replayed = record {
         has_ports = is.has_ports;
-        captures = below_names IsCapture h.start before.told captures c.captures (length c.captures) long h.rests (λ p g lt e.
-            let s = stream_at v.sources p g (ap (λ (fs : List ℕ). slice_get fs p) files ∙ e) in
-            subst (λ (n : ℕ). IsCapture (h.start.rest n)) s.2 (tear_capture (h.start.rest s.0.reading.file) (tear_left s.0 (a.told.rest s.0.reading.file)) (h.started.in_order.sources.each p s.0 s.1).torn));
+        captures = headers_of h.start before.told a.told v captures c.captures files long h.rests h.started;
         verdict = is.keys.verdict;
         is_verdict = is.keys.is_verdict;
         comes = comes_as f (keys_by is.keys.verdict) (length c.captures) one (beside_under c before.told) (Ok came)
@@ -168,12 +150,25 @@ numbered_behind before a job captures v journal outputs (numbered.File file) is 
     at_place zero e = let same : journal ≡ file = cc in omega (arith, same, h.journal_at)
     at_place (suc k) e = omega (arith, h.outputs_at k file e)
 
-pub is_unjudged : (before a b : Outside) (job : Job) (captures : List ℕ) (v : Feeding) (journal : ℕ) (outputs : List ℕ) (stop : NumberStop) → IsJob before job → HasReady before a job captures v journal outputs → length captures ≡ ports_of job → KeepsOthers (captures ++ journal ∷ outputs) a.told b.told
+known_behind : (before a : Outside) (now : Told) (job : Job) (captures : List ℕ) (v : Feeding) (journal : ℕ) (outputs : List ℕ) (stop : NumberStop) → IsJob before job → HasReady before a job captures v journal outputs → length captures ≡ ports_of job → KnowsHeaders (asked job) before.told → StopsAmong {T = Replayed} captures (journal ∷ outputs) (Err stop) → IsKnown (asked job) before.told now (stop_named before.told.next (ports_of job) stop)
+known_behind before a now job captures v journal outputs numbered.Memory is h all known among = tt
+known_behind before a now job captures v journal outputs (numbered.File file) is h all known (inl one) =
+    known_capture (asked job) before.told now before.told.next (ports_of job) file one.0 known.ports (omega (arith, is.from_two, is.first)) (h.captures_at one.0 file one.1) (omega (arith, slice_get_within captures one.0 file one.1, all))
+    (λ next. λ p n lt at. known.captures p n (omega (arith, lt, slice_get_within captures one.0 file one.1, all)) at)
+known_behind before a now job captures v journal outputs (numbered.File file) is h all known (inr one) = known_other (asked job) before.told now before.told.next (ports_of job) file one.0 known (omega (arith, is.from_two, is.first)) (at_place one.0 one.1)
+  where
+    at_place : (k : ℕ) → slice_get (journal ∷ outputs) k ≡ Some file → file ≡ before.told.next + 1 + ports_of job + k
+    at_place zero e = let same : journal ≡ file = cc in omega (arith, same, h.journal_at)
+    at_place (suc k) e = omega (arith, h.outputs_at k file e)
+
+pub is_unjudged : (before a b : Outside) (job : Job) (captures : List ℕ) (v : Feeding) (journal : ℕ) (outputs : List ℕ) (stop : NumberStop) → IsJob before job → HasReady before a job captures v journal outputs → files_in v.sources ≡ captures → length captures ≡ ports_of job → KeepsOthers (captures ++ journal ∷ outputs) a.told b.told
     → StopsAmong {T = Replayed} captures (journal ∷ outputs) (Err stop) → IsStopCause {T = Unit {0}} a.counted b.counted (Err stop) → IsStopped (asked job) before b (stop_named before.told.next (ports_of job) stop)
-is_unjudged before a b job captures v journal outputs stop is h all kept among cause =
+is_unjudged before a b job captures v journal outputs stop is h files all kept among cause =
+    let known : KnowsHeaders (asked job) before.told = record { ports = job_ports before job is; captures = headers_of h.start before.told a.told v captures (asked job).captures files all h.rests h.started } in
     stopped_untouched (asked job) before b (stop_named before.told.next (ports_of job) stop)
     (record { contents = λ n. kept.contents n ∙ h.only.untouched.contents n; standard = λ g lt. kept.givens g ∙ h.only.untouched.standard g lt })
     (stopped_behind (asked_by (asked job)) (asked_by (asked job)) before.told.next (ports_of job) before.counted a.counted b.counted stop (numbered_behind before a job captures v journal outputs stop is h all among) (front_all (asked_by (asked job))) h.only.asked cause)
+    (known_behind before a b.told job captures v journal outputs stop is h all known among) (due_others (asked job) before.told _ known)
 
 -- ---- what is told
 
@@ -223,6 +218,13 @@ print_stops before job a b (stops.File file) is so_far cause = record {
 }
 print_stops before job a b stops.Memory is so_far cause = record { front = asked_by (asked job); is_front = front_all (asked_by (asked job)); cause = cause ∙ so_far }
 
+known_printed : (before : Outside) (now : Told) (job : Job) (a b : Counted) (stop : Stop) → KnowsSame (asked job) before.told → IsPrintCause a b stop → IsKnown (asked job) before.told now stop
+known_printed before now job a b (stops.File file) same cause = subst (KnownAt (asked job) before.told now) (sym cause.0) same
+known_printed before now job a b stops.Memory same cause = tt
+
+come_headers : (before now : Outside) (job : Job) (came : Replayed) → HasCome before now job came → KnowsHeaders (asked job) before.told
+come_headers before now job came h = record { ports = record { function = function_of job.func.now; has_ports = h.replayed.has_ports }; captures = h.replayed.captures }
+
 -- a front of it was
 pub printed_half : (before a b : Outside) (job : Job) (state : State) (text : List ℕ) (stop : Stop) → IsJob before job → HasCome before a job (came.Same state) → text ≡ state_text (function_of job.func.now) state → IsHalfPrinted a b text stop → IsStopped (asked job) before b stop
 printed_half before a b job state text stop is h same p = record {
@@ -240,6 +242,8 @@ printed_half before a b job state text stop is h same p = record {
   });
   stderr = p.stderr ∙ h.stderr;
   stops = print_stops before job a.counted b.counted stop is h.asked_for p.cause;
+  known = known_printed before b.told job a.counted b.counted stop (record { function = function_of job.func.now; state = state; replayed = h.replayed }) p.cause;
+  due = due_others (asked job) before.told _ (come_headers before a job (came.Same state) h);
 }
 
 -- memory ran out
@@ -249,4 +253,6 @@ unkept_come before now job came h = record {
   stdout = inl h.stdout;
   stderr = h.stderr;
   stops = memory_behind (asked_by (asked job)) (asked_by (asked job)) before.told.next (ports_of job) before.counted now.counted (front_all (asked_by (asked job))) h.asked_for;
+  known = tt;
+  due = due_others (asked job) before.told _ (come_headers before now job came h);
 }

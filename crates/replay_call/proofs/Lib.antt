@@ -1,4 +1,5 @@
 mod Numbering
 mod Stopping
+mod Known
 mod Beginning
 mod Judging

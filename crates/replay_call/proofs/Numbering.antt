@@ -11,7 +11,7 @@ file_first first ports = ap (λ b. if b then Nf else if nat_eq first 0 then Stdo
 pub file_of_stdout : (first ports : ℕ) → 2 ≤ first → file_of first ports 0 ≡ Stdout
 file_of_stdout first ports two = ap (λ b. if b then Nf else Stdout) (ne_eqb 0 first (λ e. omega (arith, e, two)))
 
-file_behind : (first ports number place : ℕ) → 2 ≤ first → number ≡ first + place → 1 ≤ place → file_of first ports number ≡ opened_file ports place
+pub file_behind : (first ports number place : ℕ) → 2 ≤ first → number ≡ first + place → 1 ≤ place → file_of first ports number ≡ opened_file ports place
 file_behind first ports number place two at some =
     ap (λ b. if b then Nf else if nat_eq number 0 then Stdout else if nat_eq number 1 then Stderr else opened_file ports (number - first)) (ne_eqb number first (λ e. omega (arith, e, at, some)))
     ∙ ap (λ b. if b then Stdout else if nat_eq number 1 then Stderr else opened_file ports (number - first)) (ne_eqb number 0 (λ e. omega (arith, e, at, two)))
@@ -21,15 +21,15 @@ file_behind first ports number place two at some =
 abbrev opened_if : (a b : Bool) (place ports : ℕ) → RunFile
 opened_if a b place ports = if a then Capture (place - 1) else if b then Journal else Output (place - 2 - ports)
 
-opened_capture : (ports place : ℕ) → place ≤ ports → opened_file ports place ≡ Capture (place - 1)
+pub opened_capture : (ports place : ℕ) → place ≤ ports → opened_file ports place ≡ Capture (place - 1)
 opened_capture ports place le = ap (λ a. opened_if a (nat_eq place (ports + 1)) place ports) (le-leb place ports le)
 
-opened_journal : (ports place : ℕ) → place ≡ ports + 1 → opened_file ports place ≡ Journal
+pub opened_journal : (ports place : ℕ) → place ≡ ports + 1 → opened_file ports place ≡ Journal
 opened_journal ports place is =
     ap (λ a. opened_if a (nat_eq place (ports + 1)) place ports) (lt-leb place ports (omega (arith, is)))
     ∙ ap (λ b. if b then Journal else Output (place - 2 - ports)) (eq-eqb place (ports + 1) is)
 
-opened_output : (ports place : ℕ) → ports + 1 < place → opened_file ports place ≡ Output (place - 2 - ports)
+pub opened_output : (ports place : ℕ) → ports + 1 < place → opened_file ports place ≡ Output (place - 2 - ports)
 opened_output ports place past =
     ap (λ a. opened_if a (nat_eq place (ports + 1)) place ports) (lt-leb place ports (omega (arith, past)))
     ∙ ap (λ b. if b then Journal else Output (place - 2 - ports)) (ne_eqb place (ports + 1) (λ e. omega (arith, e, past)))

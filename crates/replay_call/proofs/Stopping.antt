@@ -20,17 +20,17 @@ abbrev pub IsNumbered : ℕ → ℕ → NumberStop → Type 0
 IsNumbered first ports (numbered.File number) = number_of first ports (file_of first ports number) ≡ number
 IsNumbered first ports numbered.Memory = Unit {0}
 
-cause_named : (first ports : ℕ) (old new : Counted) (stop : NumberStop) → IsNumbered first ports stop → IsAskCause old new stop → IsCauseBy (numbering first ports) old new (stop_named first ports stop)
+pub cause_named : (first ports : ℕ) (old new : Counted) (stop : NumberStop) → IsNumbered first ports stop → IsAskCause old new stop → IsCauseBy (numbering first ports) old new (stop_named first ports stop)
 cause_named first ports old new (numbered.File number) is h = record { number = number; faulted = h; file_is = refl; number_is = sym is }
 cause_named first ports old new numbered.Memory is h = h
 
 -- a cause of a call that asks for no name
-ask_cause : (old new : Counted) (stop : NumberStop) → IsStopCause {T = Unit {0}} old new (Err stop) → IsAskCause old new stop
+pub ask_cause : (old new : Counted) (stop : NumberStop) → IsStopCause {T = Unit {0}} old new (Err stop) → IsAskCause old new stop
 ask_cause old new (numbered.File number) h = inl h
 ask_cause old new numbered.Memory h = h
 
 -- these names had been asked for, and then a call was stopped
-pub stopped_behind : (names front : List Asked) (first ports : ℕ) (start old new : Counted) (stop : NumberStop) → IsNumbered first ports stop → IsFrontOf names front → old ≡ asking front start → IsStopCause {T = Unit {0}} old new (Err stop) → StopsBy (numbering first ports) names start new (stop_named first ports stop)
+unfoldable pub stopped_behind : (names front : List Asked) (first ports : ℕ) (start old new : Counted) (stop : NumberStop) → IsNumbered first ports stop → IsFrontOf names front → old ≡ asking front start → IsStopCause {T = Unit {0}} old new (Err stop) → StopsBy (numbering first ports) names start new (stop_named first ports stop)
 stopped_behind names front first ports start old new stop is f so_far h = record {
   front = front;
   is_front = f;
@@ -38,11 +38,11 @@ stopped_behind names front first ports start old new stop is f so_far h = record
 }
 
 -- the same, where memory ran out
-pub memory_behind : (names front : List Asked) (first ports : ℕ) (start now : Counted) → IsFrontOf names front → now ≡ asking front start → StopsBy (numbering first ports) names start now stops.Memory
+unfoldable pub memory_behind : (names front : List Asked) (first ports : ℕ) (start now : Counted) → IsFrontOf names front → now ≡ asking front start → StopsBy (numbering first ports) names start now stops.Memory
 memory_behind names front first ports start now f so_far = record { front = front; is_front = f; cause = so_far }
 
 -- these names had been asked for, and then some more, until a call was stopped
-pub stopped_asking : (names behind more : List Asked) (first ports : ℕ) (start old new : Counted) (stop : NumberStop) → IsNumbered first ports stop → ((front : List Asked) → IsFrontOf more front → IsFrontOf names (behind ++ front)) → old ≡ asking behind start → AsksSome more old new stop → StopsBy (numbering first ports) names start new (stop_named first ports stop)
+unfoldable pub stopped_asking : (names behind more : List Asked) (first ports : ℕ) (start old new : Counted) (stop : NumberStop) → IsNumbered first ports stop → ((front : List Asked) → IsFrontOf more front → IsFrontOf names (behind ++ front)) → old ≡ asking behind start → AsksSome more old new stop → StopsBy (numbering first ports) names start new (stop_named first ports stop)
 stopped_asking names behind more first ports start old new stop is fronts so_far s = record {
   front = behind ++ s.front;
   is_front = fronts s.front s.is_front;

@@ -1,8 +1,10 @@
 -- What a replay comes to, before that is told on standard error.
-use Rattle.std.specs.Prelude.{◌≡◌, ◌⊎◌, ℕ, List, [], ◌∷◌, length, Result, Ok, Err}
+use Rattle.std.specs.Prelude.{◌≡◌, ◌⊎◌, ℕ, ◌+◌, ◌<◌, ◌≤◌, List, [], ◌∷◌, length, Result, Ok, Err}
 use Rattle.nf_base.specs.Text.{Function}
 use Rattle.nf_base.specs.declared.state.State.{State}
+use Rattle.nf_files.specs.Told.{Told}
 use Rattle.nf_files.specs.Causes.{asking}
+use Rattle.packet_feed.specs.Told.{IsCapture}
 use Rattle.run_history.specs.StateText.{state_text}
 use Rattle.replay_run.specs.declared.replayed.Replayed.{Replayed}
 use Rattle.replay_run.specs.declared.replayed.Replayed.TheVariants as came
@@ -12,9 +14,13 @@ use Rattle.call_base.specs.declared.status.Refusal.{Refusal}
 use Rattle.call_base.specs.declared.status.Refusal.TheVariants.{Usage, Text, NoKeys, NotCapture}
 use Rattle.call_base.specs.declared.status.Status.{Status}
 use Rattle.call_base.specs.declared.status.Status.TheVariants.{Done, TooMany, Differs}
+use Rattle.call_base.specs.declared.status.RunFile.{RunFile}
+use Rattle.call_base.specs.declared.status.RunFile.TheVariants.{Nf, Capture, Journal, Output, OutJournal, State as LastState, Stdout, Stderr}
 use Rattle.call_base.specs.declared.status.Stop.{Stop}
+use Rattle.call_base.specs.declared.status.Stop.TheVariants.{File, Memory}
 use Rattle.call_base.specs.declared.status.Halt.{Halt}
 use Rattle.call_base.specs.declared.status.Halt.TheVariants as halts
+use Rattle.call_base.specs.Captures.{Below}
 use Rattle.call_base.specs.Names.{reading}
 use Rattle.call_base.specs.Numbers.{StopsBy}
 use Rattle.call_base.specs.Outside.{Outside, HasOnlyAsked}
@@ -24,7 +30,7 @@ use Rattle.replay_call.specs.declared.checked.Checked.{Checked}
 use Rattle.replay_call.specs.declared.checked.Checked.TheVariants as ends
 use Rattle.replay_call.specs.Numbers.{numbering}
 use Rattle.replay_call.specs.Names.{inputs_of, asked_by}
-use Rattle.replay_call.specs.Contents.{HasOtherPorts, HasNoCapture, HasReplayed}
+use Rattle.replay_call.specs.Contents.{HasPorts, HasOtherPorts, HasNoCapture, HasReplayed}
 
 -- how a replay ends that comes to this
 abbrev pub checked_by : ℕ → Replayed → Checked
@@ -73,12 +79,58 @@ pub record IsHalfPrinted (c : Replay) (before now : Outside) : Type 0 where
   pub replayed : HasReplayed c before.told function (came.Same state)
   pub printed : PrintedFront before.told now.told 0 (state_text function state)
 
--- A replay was stopped by the outside or for want of memory. No name has changed.
+-- What is known once a capture is asked for: the text is a function with as many ports as there are
+-- captures.
+pub record KnowsPorts (c : Replay) (told : Told) : Type 0 where
+  pub function : Function
+  pub has_ports : HasPorts c told function
+
+-- What is known where a capture failed: so it is, and where all captures were opened, those of lesser ports
+-- have headers.
+pub record KnowsLesser (c : Replay) (told now : Told) (port : ℕ) : Type 0 where
+  pub ports : KnowsPorts c told
+  pub lesser : told.next + 1 + length c.captures ≤ now.next → Below IsCapture told c.captures port
+
+-- what is known once the journal is asked for: so it is, and all captures have headers
+pub record KnowsHeaders (c : Replay) (told : Told) : Type 0 where
+  pub ports : KnowsPorts c told
+  pub captures : Below IsCapture told c.captures (length c.captures)
+
+-- what is known once the last state is printed: all is the same
+pub record KnowsSame (c : Replay) (told : Told) : Type 0 where
+  pub function : Function
+  pub state : State
+  pub replayed : HasReplayed c told function (came.Same state)
+
+-- what is known where a file failed
+abbrev pub KnownAt : Replay → Told → Told → RunFile → Type 0
+KnownAt c told now Nf = Unit {0}
+KnownAt c told now (Capture port) = KnowsLesser c told now port
+KnownAt c told now Journal = KnowsHeaders c told
+KnownAt c told now (Output port) = KnowsHeaders c told
+KnownAt c told now OutJournal = ⊥
+KnownAt c told now LastState = ⊥
+KnownAt c told now Stdout = KnowsSame c told
+KnownAt c told now Stderr = ⊥
+
+abbrev pub IsKnown : Replay → Told → Told → Stop → Type 0
+IsKnown c told now (File file) = KnownAt c told now file
+IsKnown c told now Memory = Unit {0}
+
+-- What is known where so many names were asked for, whatever stopped the replay.
+pub record IsDue (c : Replay) (told : Told) (names : ℕ) : Type 0 where
+  pub ports : 1 < names → KnowsPorts c told
+  pub headers : 1 + length c.captures < names → KnowsHeaders c told
+
+-- A replay was stopped by the outside or for want of memory: no capture was asked for where the text is no
+-- function of as many ports, and no journal where a capture has no header. No name has changed.
 pub record IsStopped (c : Replay) (before now : Outside) (stop : Stop) : Type 0 where
   pub contents : (n : List ℕ) → now.told.content n ≡ before.told.content n
   pub stdout : (now.told.given 0 ≡ before.told.given 0) ⊎ IsHalfPrinted c before now
   pub stderr : now.told.given 1 ≡ before.told.given 1
   pub stops : StopsBy (numbering before.told.next (length c.captures)) (asked_by c) before.counted now.counted stop
+  pub known : IsKnown c before.told now.told stop
+  pub due : IsDue c before.told (length stops.front)
 
 -- what a replay comes to
 abbrev pub ReplaysTo : Replay → Outside → Outside → Result Checked Halt → Type 0

@@ -9,7 +9,7 @@ use Rattle.key_synth.specs.declared.verdict.Cause.{Cause}
 use Rattle.key_synth.specs.declared.verdict.Verdict.TheVariants.{Locked}
 use Rattle.key_synth.specs.Verdicts.{IsVerdict}
 use Rattle.key_synth.specs.Keys.{AreGiven}
-use Rattle.key_synth.specs.Laws.{HashAlikeWhereTheyMeet}
+use Rattle.toeplitz_hash.specs.Meeting.{HashAlikeWhereTheyMeet}
 use Rattle.run_call.specs.declared.course.Course.{Course}
 use Rattle.run_call.specs.declared.course.Course.TheVariants.{One, Shards, Tables}
 use Rattle.call_base.specs.declared.status.NoKeys.{NoKeys}

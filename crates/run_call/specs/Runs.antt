@@ -12,7 +12,7 @@ use Rattle.stream_run.specs.Streaming.{AreFirst}
 use Rattle.key_synth.specs.Keys.{AreGiven}
 use Rattle.shard_core.specs.declared.collected.Stop.{Stop as ShareStop}
 use Rattle.sharded_run.specs.Sharded.{IsShardRun, IsStopBehind, AreBefore}
-use Rattle.verdict_text.specs.Names.{chain_name}
+use Rattle.nf_base.specs.Names.{chain_name}
 use Rattle.command_words.specs.Commands.{Run as RunAsked}
 use Rattle.call_base.specs.declared.status.End.{End}
 use Rattle.call_base.specs.declared.status.End.TheVariants.{Whole, Torn, TooMany, ShareFull}

@@ -45,6 +45,6 @@ returns-in-Err g c =
     record {
       replays = λ before is only. halted before b job c.in-Err.stop c.halt.result is c.requires.sized c.halt.ensures
           (is_unopened before a b job c.in-Err.stop is only c.open_captures.ensures.untouched
-          (from_first before job c.as_slice-names.result.now c.in-Err.stop is c.as_slice-names.ensures.value c.in-Err.ensures.from)
+          (from_first before job c.as_slice-names.result.now c.in-Err.stop is c.as_slice-names.ensures.value c.in-Err.ensures.from) c.in-Err.ensures.here
           (subst (λ (xs : List (String Global)). AsksSome (map reading (map string_bytes xs)) a.counted b.counted c.in-Err.stop) c.as_slice-names.ensures.value c.in-Err.ensures.cause));
     }

@@ -22,5 +22,5 @@ returns-in-Err g c =
     let all = c.requires.all ∙ sym (length-map job.command.now.captures.items string_bytes ∙ c.requires.sized.captures) in
     record {
       replays = λ before is ready. halted before b job c.in-Err.stop c.halt.result is c.requires.sized c.halt.ensures
-          (is_unjudged before a b job c.args.captures.now c.args.feed.now c.args.journal c.args.outputs.now c.in-Err.stop is ready all c.replay.ensures.kept c.in-Err.ensures.among c.in-Err.ensures.cause);
+          (is_unjudged before a b job c.args.captures.now c.args.feed.now c.args.journal c.args.outputs.now c.in-Err.stop is ready c.requires.captures all c.replay.ensures.kept c.in-Err.ensures.among c.in-Err.ensures.cause);
     }

@@ -1,0 +1,379 @@
+-- The headline follows from what the program answers.
+use Rattle.std.proofs.Common.{◌≡◌, ◌≢◌, ◌⊎◌, inl, inr, ℕ, ◌+◌, ◌<◌, ◌≤◌, Bool, List, ◌++◌, length, drop, Option, Some, None, nat_eq, if◌then◌else◌, refl, ap, sym, subst, ◌∙◌, arith}
+use Rattle.std.proofs.lemmas.Bool.{lt-ltb, le-ltb, le-leb, lt-leb, eq-eqb, ne_eqb}
+use Rattle.std.proofs.lemmas.List.{take-append-drop}
+use Rattle.std.specs.List.{AllByRecursion}
+use Rattle.nf_base.specs.Text.{Function}
+use Rattle.nf_files.specs.Told.{Told}
+use Rattle.packet_feed.specs.Arrivals.{Arrival}
+use Rattle.packet_feed.specs.Order.{in_order}
+use Rattle.packet_feed.specs.Feeding.{HasMore}
+use Rattle.run_history.specs.declared.line.Mode.{Mode}
+use Rattle.run_history.specs.declared.line.Mode.TheVariants as mode
+use Rattle.key_synth.specs.Keys.{NoneMayBeGiven}
+use Rattle.key_synth.specs.Laws.{MeetingPacketsHashAlike}
+use Rattle.lock_mode.specs.Gates.{Rose}
+use Rattle.stream_run.specs.declared.stop.Stop.{Stop as NumberStop}
+use Rattle.stream_run.specs.declared.stop.Stop.TheVariants as numbered
+use Rattle.stream_run.specs.Lawful.{AreTheFirst}
+use Rattle.stream_run.specs.Runs.{Run, Turn, IsLegal}
+use Rattle.stream_run.specs.Streaming.{AreFirst}
+use Rattle.stream_run.specs.Texts.{file_bytes}
+use Rattle.sharded_run.specs.Setups.{queue_by}
+use Rattle.locked_run.specs.Locked.{IsLockRun, IsLoneRun, IsRunIn}
+use Rattle.traffic_run.specs.declared.who.Who.{Who}
+use Rattle.traffic_run.specs.declared.who.Who.TheVariants.{One, Shards, Sharing}
+use Rattle.traffic_run.specs.Runs.{IsRunBy}
+use Rattle.command_words.specs.Commands.{Run as RunAsked, Gen, RunCommand, GenCommand}
+use Rattle.command_words.specs.declared.command.ModeChoice.{ModeChoice}
+use Rattle.command_words.specs.declared.command.ModeChoice.TheVariants as choice
+use Rattle.call_base.specs.declared.status.End.{End}
+use Rattle.call_base.specs.declared.status.End.TheVariants as ends
+use Rattle.call_base.specs.declared.status.Refusal.{Refusal}
+use Rattle.call_base.specs.declared.status.Refusal.TheVariants as refusals
+use Rattle.call_base.specs.declared.status.Stop.{Stop}
+use Rattle.call_base.specs.declared.status.Stop.TheVariants as stops
+use Rattle.call_base.specs.declared.status.Status.{Status}
+use Rattle.call_base.specs.declared.status.Status.TheVariants.{Done, Usage, Refused as Rejected, FileFault, NotCapture, Torn, ShareFull, TooMany, NoKeys, Memory, Differs}
+use Rattle.call_base.specs.Captures.{packets_under}
+use Rattle.call_base.specs.Created.{Left, bytes_at, state_bytes, text_of}
+use Rattle.call_base.specs.Names.{name_at, output_name, journal_name, state_name}
+use Rattle.call_base.specs.Outside.{Outside}
+use Rattle.call_base.specs.Printed.{Tells, IsSaid, after_stop, stopped_at}
+use Rattle.call_base.specs.Source.{IsFunctionUnder}
+use Rattle.call_base.specs.Statuses.{end_status, refusal_status, stop_status}
+use Rattle.run_call.specs.Modes.{MayShard, ShareTables}
+use Rattle.run_call.specs.Runs.{IsByOne, IsByShards, IsByTables, IsRunOf}
+use Rattle.run_call.specs.Ending.{IsFinished, IsRefused}
+use Rattle.gen_call.specs.Runs.{packets_for, MayShare, IsWho}
+use Rattle.gen_call.specs.Ending.{IsFinished as IsMade, IsRefused as IsUnmade}
+use Rattle.maestro_cli.specs.Answer.{Runs, Gens, ComesTo}
+use Rattle.maestro_cli.specs.Headline.{IsDone, ArePackets, InPortOrder, WhereRefused, AreHandled, StandsUnder, Headline, HeadlineOfRun, HeadlineOfGen, HasNoneToGive, OnlyWhereNoneSpread}
+
+-- ---- how the call ended, by its status
+
+not_stopped : (stop : NumberStop) → IsDone (stopped_at stop) → ⊥
+not_stopped (numbered.File file) h = absurd h
+not_stopped numbered.Memory h = absurd h
+
+not_half : (due : Status) (stop : NumberStop) → due ≢ Done → IsDone (after_stop due stop) → ⊥
+not_half Done stop some h = some refl
+not_half (FileFault file) stop some h = absurd h
+not_half Usage stop some h = not_stopped stop h
+not_half (Rejected kind line column) stop some h = not_stopped stop h
+not_half (NotCapture port) stop some h = not_stopped stop h
+not_half (Torn port offset) stop some h = not_stopped stop h
+not_half (ShareFull full) stop some h = not_stopped stop h
+not_half (TooMany most) stop some h = not_stopped stop h
+not_half (NoKeys why) stop some h = not_stopped stop h
+not_half Memory stop some h = not_stopped stop h
+not_half (Differs at) stop some h = not_stopped stop h
+
+-- the line on it was told whole, of this status
+said_so : (ended after : Outside) (due status : Status) → Tells ended after due status → IsDone status → (due ≡ status) × IsSaid ended after status status
+said_so ended after due status (inl said) done =
+    (sym said.status_is, subst (λ (s : Status). IsSaid ended after s status) (sym said.status_is) said)
+said_so ended after due status (inr half) done = absurd (not_half due half.stop half.some (subst IsDone half.status_is done))
+
+not_refused : (how : Refusal) → IsDone (refusal_status how) → ⊥
+not_refused refusals.Usage h = absurd h
+not_refused (refusals.Text fault) h = absurd h
+not_refused (refusals.NoKeys why) h = absurd h
+not_refused (refusals.NotCapture port) h = absurd h
+
+not_stopped_so : (how : Stop) → IsDone (stop_status how) → ⊥
+not_stopped_so (stops.File file) h = absurd h
+not_stopped_so stops.Memory h = absurd h
+
+-- ---- the files
+
+name_output : (out : List ℕ) (ports k : ℕ) → k < ports → name_at out ports k ≡ output_name out k
+unfolding name_at
+name_output out ports k lt = ap (λ (b : Bool). if b then output_name out k else if nat_eq k ports then journal_name out else state_name out) (lt-ltb k ports lt)
+
+name_journal : (out : List ℕ) (ports : ℕ) → name_at out ports ports ≡ journal_name out
+unfolding name_at
+name_journal out ports =
+    ap (λ (b : Bool). if b then output_name out ports else if nat_eq ports ports then journal_name out else state_name out) (le-ltb ports ports (omega arith))
+    ∙ ap (λ (b : Bool). if b then journal_name out else state_name out) (eq-eqb ports ports refl)
+
+name_state : (out : List ℕ) (ports : ℕ) → name_at out ports (ports + 1) ≡ state_name out
+unfolding name_at
+name_state out ports =
+    ap (λ (b : Bool). if b then output_name out (ports + 1) else if nat_eq (ports + 1) ports then journal_name out else state_name out) (le-ltb (ports + 1) ports (omega arith))
+    ∙ ap (λ (b : Bool). if b then journal_name out else state_name out) (ne_eqb (ports + 1) ports (λ e. omega (arith, e)))
+
+leaves : (r : Run) (k : ℕ) → k ≤ length r.function.handlers → bytes_at r k ≡ file_bytes r k
+leaves r k le = ap (λ (b : Bool). if b then file_bytes r k else state_bytes r) (le-leb k (length r.function.handlers) le)
+
+leaves_state : (r : Run) → bytes_at r (length r.function.handlers + 1) ≡ state_bytes r
+leaves_state r = ap (λ (b : Bool). if b then file_bytes r (length r.function.handlers + 1) else state_bytes r) (lt-leb (length r.function.handlers + 1) (length r.function.handlers) (omega arith))
+
+-- what a run left stands under its names
+stands_at : (before now : Told) (first made k : ℕ) (name bytes : ℕ → List ℕ) (named given : List ℕ) → Left before now first name bytes made made → k < made → name k ≡ named → bytes k ≡ given → StandsUnder now named (first + k) given
+stands_at before now first made k name bytes named given left lt is same =
+    subst (λ (n : List ℕ). StandsUnder now n (first + k) given) is
+    (subst (λ (t : List ℕ). StandsUnder now (name k) (first + k) t) same (record { created = left.names k lt; standing = left.standing k lt; whole = left.wholes k lt }))
+
+headline_of : (Gave : Function → List Arrival → Type 0) (Refused : Type 0) (m : ModeChoice) (workers : ℕ) (name out : List ℕ) (first : ℕ) (before now : Told) (r : Run) (packets : List Arrival) → IsFunctionUnder before name r.function → Gave r.function packets → AreHandled Refused m workers packets r → IsLegal r
+    → (n : ℕ) → n ≡ length r.function.handlers → Left before now first (name_at out n) (bytes_at r) (n + 2) (n + 2) → Headline Gave Refused m workers name out first before now
+headline_of Gave Refused m workers name out first before now r packets is gave handled legal n as_many some =
+    let p = length r.function.handlers in
+    let left = subst (λ (k : ℕ). Left before now first (name_at out k) (bytes_at r) (k + 2) (k + 2)) as_many some in
+    record {
+      run = r;
+      function_is = is;
+      packets = packets;
+      packets_are = gave;
+      handled = handled;
+      result = legal.result;
+      one_undivided_run = legal.ran;
+      sent = λ port lt. stands_at before now first (p + 2) port (name_at out p) (bytes_at r) (output_name out port) (file_bytes r port) left (omega (arith, lt)) (name_output out p port lt) (leaves r port (omega (arith, lt)));
+      journal = stands_at before now first (p + 2) p (name_at out p) (bytes_at r) (journal_name out) (file_bytes r p) left (omega arith) (name_journal out p) (leaves r p (omega arith));
+      tables = stands_at before now first (p + 2) (p + 1) (name_at out p) (bytes_at r) (state_name out) _ left (omega arith) (name_state out p) (leaves_state r ∙ ap (text_of r.function) legal.ran);
+    }
+
+-- ---- a run over captures
+
+-- the first packets, at most so many, are the first
+are_first : (most : ℕ) (all : Option (List Arrival)) (packets : List Arrival) → AreTheFirst most all packets → AreFirst all packets
+are_first most None packets h = tt
+are_first most (Some all) packets h =
+    (drop most (in_order all), sym (ap (λ (t : List Arrival). t ++ drop most (in_order all)) h ∙ take-append-drop most (in_order all)))
+
+none_shared : (m : ModeChoice) (f : Function) → ShareTables m f → m ≢ choice.Lock → NoneMayBeGiven f
+none_shared choice.Auto f share ne = share.locked.0
+none_shared choice.Shard f share ne = absurd share
+none_shared choice.Lock f share ne = absurd (ne refl)
+
+may_not_lock : (m : ModeChoice) → MayShard m → m ≢ choice.Lock
+may_not_lock choice.Auto may = λ e. absurd (cc e)
+may_not_lock choice.Shard may = λ e. absurd (cc e)
+may_not_lock choice.Lock may = absurd may
+
+-- a run's packets, by whom they were handled, and that this is legal
+record IsHandled (Refused : Type 0) (c : RunAsked) (told : Told) (packets : List Arrival) (r : Run) : Type 0 where
+  handled : AreHandled Refused c.mode c.workers packets r
+  legal : IsLegal r
+  first : AreFirst (packets_under c.captures told) packets
+
+ported : (Refused : Type 0) (f : Function) (workers : ℕ) (packets : List Arrival) (r : Run) → IsLockRun f workers packets r ⊎ (Refused × IsLoneRun f workers packets r) → InPortOrder workers packets r ⊎ WhereRefused Refused packets r
+ported Refused f workers packets r (inl k) = inl (record { each_once_in_port_order = k.order; by_their_ports = k.own })
+ported Refused f workers packets r (inr k) = inr (record { refused = k.0; each_once_in_capture_order = k.1.order; by_worker_0 = k.1.alone })
+
+ported_legal : (Refused : Type 0) (f : Function) (workers : ℕ) (packets : List Arrival) (r : Run) → IsLockRun f workers packets r ⊎ (Refused × IsLoneRun f workers packets r) → IsLegal r
+ported_legal Refused f workers packets r (inl k) = k.legal
+ported_legal Refused f workers packets r (inr k) = k.1.legal
+
+handled_so : (alike : MeetingPacketsHashAlike) (Refused : Type 0) (c : RunAsked) (told : Told) (packets : List Arrival) (r : Run) → IsByOne c told packets r ⊎ (IsByShards c told packets r ⊎ IsByTables Refused c told packets r) → IsHandled Refused c told packets r
+handled_so alike Refused c told packets r (inl k) = record {
+  handled = inl (record { one = k.alone; each_once_in_capture_order = k.order; by_worker_0 = k.is_run.alone });
+  legal = k.is_run.legal;
+  first = are_first c.most (packets_under c.captures told) packets (subst (AreTheFirst c.most (packets_under c.captures told)) k.order k.is_run.packets);
+}
+handled_so alike Refused c told packets r (inr (inl k)) = record {
+  handled = inr (inl (record {
+    several = k.several;
+    allowed = may_not_lock c.mode k.may;
+    each_once_in_capture_order = k.order;
+    keys = k.keys;
+    keys_are_given = k.given;
+    keys_hash_alike_packets_that_meet = alike r.function k.keys k.given.may.admissible;
+    by_their_queues = k.is_run.queues;
+  }));
+  legal = k.is_run.legal;
+  first = subst (AreFirst (packets_under c.captures told)) k.order k.first;
+}
+handled_so alike Refused c told packets r (inr (inr k)) = record {
+  handled = inr (inr (record {
+    several = k.several;
+    only_where_no_keys_spread = none_shared c.mode r.function k.share;
+    handled = ported Refused r.function c.workers packets r k.is_run;
+  }));
+  legal = ported_legal Refused r.function c.workers packets r k.is_run;
+  first = k.first;
+}
+
+abbrev packets_at : Status → RunAsked → Told → Function → List Arrival → Type 0
+packets_at status c told f packets = ArePackets status c.most (packets_under c.captures told) packets
+
+of_files : (alike : MeetingPacketsHashAlike) (Refused : Type 0) (c : RunAsked) (before now : Told) (status : Status) (packets : List Arrival) (r : Run) → IsRunOf Refused c before packets r → ArePackets status c.most (packets_under c.captures before) packets
+    → Left before now (before.next + 1 + length c.captures) (name_at c.out (length c.captures)) (bytes_at r) (length c.captures + 2) (length c.captures + 2)
+    → Headline (packets_at status c before) Refused c.mode c.workers c.function c.out (before.next + 1 + length c.captures) before now
+of_files alike Refused c before now status packets r is gave left =
+    let h = handled_so alike Refused c before packets r is.handled in
+    headline_of (packets_at status c before) Refused c.mode c.workers c.function c.out (before.next + 1 + length c.captures) before now r packets is.has_ports.is_function gave h.handled h.legal (length c.captures) is.has_ports.as_many left
+
+of_end : (alike : MeetingPacketsHashAlike) (Refused : Type 0) (c : RunAsked) (before now : Outside) (end : End) → IsFinished Refused c before now end → IsDone (end_status end) → Headline (packets_at (end_status end) c before.told) Refused c.mode c.workers c.function c.out (before.told.next + 1 + length c.captures) before.told now.told
+of_end alike Refused c before now ends.Whole k done = of_files alike Refused c before.told now.told Done k.arrivals k.run k.is_run k.ending.0 k.files
+of_end alike Refused c before now (ends.Torn port offset) k done = of_files alike Refused c before.told now.told (Torn port offset) k.arrivals k.run k.is_run k.ending.0 k.files
+of_end alike Refused c before now (ends.TooMany most) k done =
+    let first = (handled_so alike Refused c before.told k.arrivals k.run k.is_run.handled).first in
+    of_files alike Refused c before.told now.told (TooMany most) k.arrivals k.run k.is_run
+    (k.ending.0, k.ending.1 ∙ k.ending.0, first, subst (HasMore (packets_under c.captures before.told)) k.ending.0 k.ending.2)
+    k.files
+of_end alike Refused c before now (ends.ShareFull full) k done = absurd done
+
+-- what a run comes to, at such a status
+of_run : (alike : MeetingPacketsHashAlike) (Refused : Type 0) (c : RunAsked) (before now : Outside) (status : Status) → Runs Refused c before now status → IsDone status → Headline (packets_at status c before.told) Refused c.mode c.workers c.function c.out (before.told.next + 1 + length c.captures) before.told now.told
+of_run alike Refused c before now status (inl k) done =
+    subst (λ (s : Status). Headline (packets_at s c before.told) Refused c.mode c.workers c.function c.out (before.told.next + 1 + length c.captures) before.told now.told) (sym k.status_is)
+    (of_end alike Refused c before now k.how k.ends (subst IsDone k.status_is done))
+of_run alike Refused c before now status (inr (inl k)) done = absurd (not_refused k.how (subst IsDone k.status_is done))
+of_run alike Refused c before now status (inr (inr k)) done = absurd (not_stopped_so k.how (subst IsDone k.status_is done))
+
+of_answer : (alike : MeetingPacketsHashAlike) (Refused : Type 0) (c : RunAsked) (before ended : Outside) (due status : Status) → ComesTo Refused (Some (RunCommand c)) before ended due → due ≡ status → IsDone status → Headline (packets_at status c before.told) Refused c.mode c.workers c.function c.out (before.told.next + 1 + length c.captures) before.told ended.told
+of_answer alike Refused c before ended due status (inl k) same done = of_run alike Refused c before ended status (subst (Runs Refused c before ended) same k) done
+of_answer alike Refused c before ended due status (inr k) same done = absurd (subst IsDone (sym same ∙ k.0) done)
+
+pub headline_of_run : MeetingPacketsHashAlike → HeadlineOfRun
+headline_of_run alike = λ was is c before after status a done.
+    let said = said_so a.ended after a.due status a.tells done in
+    record { ended = a.ended; headline = of_answer alike (Rose was is) c before a.ended a.due status a.comes said.0 done; said = said.1 }
+
+-- ---- a run over made-up traffic
+
+none_may_share : (m : ModeChoice) (f : Function) → MayShare m f → m ≢ choice.Lock → NoneMayBeGiven f
+none_may_share choice.Auto f share ne = share.1.0
+none_may_share choice.Shard f share ne = absurd share
+none_may_share choice.Lock f share ne = absurd (ne refl)
+
+in_mode : (m : Mode) (Refused : Type 0) (f : Function) (workers : ℕ) (packets : List Arrival) (r : Run) → IsRunIn m f workers Refused packets r → IsLockRun f workers packets r ⊎ (Refused × IsLoneRun f workers packets r)
+in_mode mode.Lock Refused f workers packets r k = inl k
+in_mode mode.One Refused f workers packets r k = inr k
+in_mode mode.Shard Refused f workers packets r k = absurd k
+
+-- packets of a run over made-up traffic, by whom they were handled, and that this is legal
+record AreMade (Refused : Type 0) (c : Gen) (packets : List Arrival) (r : Run) : Type 0 where
+  handled : AreHandled Refused c.mode c.workers packets r
+  legal : IsLegal r
+
+made_so : (alike : MeetingPacketsHashAlike) (Refused : Type 0) (c : Gen) (packets : List Arrival) (r : Run) (who : Who) → IsWho c r.function who → IsRunBy who Refused r.function packets r → AreMade Refused c packets r
+made_so alike Refused c packets r One by k = record {
+  handled = inl (record { one = by.0; each_once_in_capture_order = k.packets; by_worker_0 = k.alone });
+  legal = k.legal;
+}
+made_so alike Refused c packets r (Shards keys workers) by k = record {
+  handled = inr (inl (record {
+    several = omega (arith, by.0, by.1);
+    allowed = by.2;
+    each_once_in_capture_order = k.packets;
+    keys = keys;
+    keys_are_given = by.3;
+    keys_hash_alike_packets_that_meet = alike r.function keys by.3.may.admissible;
+    by_their_queues = subst (λ (w : ℕ). AllByRecursion (λ (t : Turn). t.worker ≡ queue_by keys w t.arrival.packet) r.turns) by.0 k.is_run.queues;
+  }));
+  legal = k.is_run.legal;
+}
+made_so alike Refused c packets r (Sharing workers) by k =
+    let one = in_mode r.mode Refused r.function workers packets r k in
+    record {
+      handled = inr (inr (record {
+        several = omega (arith, by.0, by.1);
+        only_where_no_keys_spread = none_may_share c.mode r.function by.2;
+        handled = subst (λ (w : ℕ). InPortOrder w packets r ⊎ WhereRefused Refused packets r) by.0 (ported Refused r.function workers packets r one);
+      }));
+      legal = ported_legal Refused r.function workers packets r one;
+    }
+
+abbrev made_for : Gen → Function → List Arrival → Type 0
+made_for c f packets = packets ≡ packets_for c f
+
+of_made : (alike : MeetingPacketsHashAlike) (Refused : Type 0) (c : Gen) (before now : Outside) (end : End) → IsMade c Refused before now end → IsDone (end_status end) → Headline (made_for c) Refused c.mode c.workers c.function c.out (before.told.next + 1) before.told now.told
+of_made alike Refused c before now ends.Whole k done =
+    let h = made_so alike Refused c k.given k.run k.is_run.who k.is_run.is_who k.is_run.is_run in
+    headline_of (made_for c) Refused c.mode c.workers c.function c.out (before.told.next + 1) before.told now.told k.run k.given k.is_run.is_function k.ending h.handled h.legal (length k.run.function.handlers) refl k.files
+of_made alike Refused c before now (ends.Torn port offset) k done = absurd k.ending
+of_made alike Refused c before now (ends.TooMany most) k done = absurd k.ending
+of_made alike Refused c before now (ends.ShareFull full) k done = absurd done
+
+of_gen : (alike : MeetingPacketsHashAlike) (Refused : Type 0) (c : Gen) (before now : Outside) (status : Status) → Gens Refused c before now status → IsDone status → Headline (made_for c) Refused c.mode c.workers c.function c.out (before.told.next + 1) before.told now.told
+of_gen alike Refused c before now status (inl k) done = of_made alike Refused c before now k.how k.ends (subst IsDone k.status_is done)
+of_gen alike Refused c before now status (inr (inl k)) done = absurd (not_refused k.how (subst IsDone k.status_is done))
+of_gen alike Refused c before now status (inr (inr k)) done = absurd (not_stopped_so k.how (subst IsDone k.status_is done))
+
+of_made_answer : (alike : MeetingPacketsHashAlike) (Refused : Type 0) (c : Gen) (before ended : Outside) (due status : Status) → ComesTo Refused (Some (GenCommand c)) before ended due → due ≡ status → IsDone status → Headline (made_for c) Refused c.mode c.workers c.function c.out (before.told.next + 1) before.told ended.told
+of_made_answer alike Refused c before ended due status (inl k) same done = of_gen alike Refused c before ended status (subst (Gens Refused c before ended) same k) done
+of_made_answer alike Refused c before ended due status (inr k) same done = absurd (subst IsDone (sym same ∙ k.0) done)
+
+pub headline_of_gen : MeetingPacketsHashAlike → HeadlineOfGen
+headline_of_gen alike = λ was is c before after status a done.
+    let said = said_so a.ended after a.due status a.tells done in
+    record { ended = a.ended; headline = of_made_answer alike (Rose was is) c before a.ended a.due status a.comes said.0 done; said = said.1 }
+
+-- ---- keys that were refused
+
+-- a status that tells that there are no keys
+abbrev IsKeyless : Status → Type 0
+IsKeyless (NoKeys why) = Unit {0}
+IsKeyless Done = ⊥
+IsKeyless Usage = ⊥
+IsKeyless (Rejected kind line column) = ⊥
+IsKeyless (FileFault file) = ⊥
+IsKeyless (NotCapture port) = ⊥
+IsKeyless (Torn port offset) = ⊥
+IsKeyless (ShareFull full) = ⊥
+IsKeyless (TooMany most) = ⊥
+IsKeyless Memory = ⊥
+IsKeyless (Differs at) = ⊥
+
+stopped_with_keys : (stop : NumberStop) → IsKeyless (stopped_at stop) → ⊥
+stopped_with_keys (numbered.File file) h = absurd h
+stopped_with_keys numbered.Memory h = absurd h
+
+half_with_keys : (due : Status) (stop : NumberStop) → due ≢ Done → IsKeyless (after_stop due stop) → ⊥
+half_with_keys Done stop some h = some refl
+half_with_keys (FileFault file) stop some h = absurd h
+half_with_keys Usage stop some h = stopped_with_keys stop h
+half_with_keys (Rejected kind line column) stop some h = stopped_with_keys stop h
+half_with_keys (NotCapture port) stop some h = stopped_with_keys stop h
+half_with_keys (Torn port offset) stop some h = stopped_with_keys stop h
+half_with_keys (ShareFull full) stop some h = stopped_with_keys stop h
+half_with_keys (TooMany most) stop some h = stopped_with_keys stop h
+half_with_keys (NoKeys why) stop some h = stopped_with_keys stop h
+half_with_keys Memory stop some h = stopped_with_keys stop h
+half_with_keys (Differs at) stop some h = stopped_with_keys stop h
+
+keyless_due : (ended after : Outside) (due status : Status) → Tells ended after due status → IsKeyless status → IsKeyless due
+keyless_due ended after due status (inl said) h = subst IsKeyless said.status_is h
+keyless_due ended after due status (inr half) h = absurd (half_with_keys due half.stop half.some (subst IsKeyless half.status_is h))
+
+end_with_keys : (how : End) → IsKeyless (end_status how) → ⊥
+end_with_keys ends.Whole h = absurd h
+end_with_keys (ends.Torn port offset) h = absurd h
+end_with_keys (ends.TooMany most) h = absurd h
+end_with_keys (ends.ShareFull full) h = absurd h
+
+stop_with_keys : (how : Stop) → IsKeyless (stop_status how) → ⊥
+stop_with_keys (stops.File file) h = absurd h
+stop_with_keys stops.Memory h = absurd h
+
+none_refused : (c : RunAsked) (before now : Outside) (how : Refusal) → IsRefused c before now how → IsKeyless (refusal_status how) → HasNoneToGive before.told c.function
+none_refused c before now (refusals.NoKeys why) k h = record { function = k.0.function; function_is = k.0.is_function; none = k.0.locked.locked.0 }
+none_refused c before now refusals.Usage k h = absurd h
+none_refused c before now (refusals.Text fault) k h = absurd h
+none_refused c before now (refusals.NotCapture port) k h = absurd h
+
+none_of_run : (Refused : Type 0) (c : RunAsked) (before now : Outside) (due : Status) → ComesTo Refused (Some (RunCommand c)) before now due → IsKeyless due → HasNoneToGive before.told c.function
+none_of_run Refused c before now due (inl (inl k)) h = absurd (end_with_keys k.how (subst IsKeyless k.status_is h))
+none_of_run Refused c before now due (inl (inr (inl k))) h = none_refused c before now k.how k.ends (subst IsKeyless k.status_is h)
+none_of_run Refused c before now due (inl (inr (inr k))) h = absurd (stop_with_keys k.how (subst IsKeyless k.status_is h))
+none_of_run Refused c before now due (inr k) h = absurd (subst IsKeyless k.0 h)
+
+none_unmade : (c : Gen) (before now : Outside) (how : Refusal) → IsUnmade c before now how → IsKeyless (refusal_status how) → HasNoneToGive before.told c.function
+none_unmade c before now (refusals.NoKeys why) k h = record { function = k.0.function; function_is = k.0.is_function; none = k.0.locked.0 }
+none_unmade c before now refusals.Usage k h = absurd h
+none_unmade c before now (refusals.Text fault) k h = absurd h
+none_unmade c before now (refusals.NotCapture port) k h = absurd h
+
+none_of_gen : (Refused : Type 0) (c : Gen) (before now : Outside) (due : Status) → ComesTo Refused (Some (GenCommand c)) before now due → IsKeyless due → HasNoneToGive before.told c.function
+none_of_gen Refused c before now due (inl (inl k)) h = absurd (end_with_keys k.how (subst IsKeyless k.status_is h))
+none_of_gen Refused c before now due (inl (inr (inl k))) h = none_unmade c before now k.how k.ends (subst IsKeyless k.status_is h)
+none_of_gen Refused c before now due (inl (inr (inr k))) h = absurd (stop_with_keys k.how (subst IsKeyless k.status_is h))
+none_of_gen Refused c before now due (inr k) h = absurd (subst IsKeyless k.0 h)
+
+pub only_where_none_spread : OnlyWhereNoneSpread
+only_where_none_spread = λ was is before after why. (
+  λ c a. none_of_run (Rose was is) c before a.ended a.due a.comes (keyless_due a.ended after a.due (NoKeys why) a.tells tt),
+  λ c a. none_of_gen (Rose was is) c before a.ended a.due a.comes (keyless_due a.ended after a.due (NoKeys why) a.tells tt),
+)
