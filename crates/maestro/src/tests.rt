@@ -10,6 +10,7 @@ mod forms;
 mod functions;
 mod gates;
 mod language;
+mod large;
 mod long;
 mod made;
 mod replays;

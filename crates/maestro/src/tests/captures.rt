@@ -222,6 +222,26 @@ pub fn long_capture(alloc: Global, count: u32) -> Result<Vec<u8>, AllocError> {
     Ok(out)
 }
 
+/// A capture of so many queries, each a nanosecond behind the one before.
+pub fn rising_capture(alloc: Global, count: u32) -> Result<Vec<u8>, AllocError> {
+    let mut out = Vec::from_slice(alloc, &HEADER)?;
+    for time in 0..count {
+        push_frame(alloc, &mut out, u64::from(time), Frame::Query)?;
+    }
+    Ok(out)
+}
+
+/// A capture of so many queries of one time, each a frame of 262,144 bytes.
+pub fn wide_capture(alloc: Global, count: u32) -> Result<Vec<u8>, AllocError> {
+    let mut frame = Vec::from_slice(alloc, query())?;
+    frame.resize(262_144, 0)?;
+    let mut out = Vec::from_slice(alloc, &HEADER)?;
+    for _ in 0..count {
+        push_record(&mut out, 1, 262_144, frame.as_slice())?;
+    }
+    Ok(out)
+}
+
 /// A capture of one query, with another byte at a place.
 pub fn changed_capture(alloc: Global, at: usize, byte: u8) -> Result<Vec<u8>, AllocError> {
     let bytes = capture(alloc, &[(1, Frame::Query)])?;
