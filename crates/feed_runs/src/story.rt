@@ -3,10 +3,10 @@ ghost use Rattle.std.specs.Prelude.{◌≤◌, length};
 ghost use Rattle.packet_feed.specs.Told.{EachFile};
 ghost use Rattle.packet_feed.specs.Sources.{files_in};
 
-use crate::calls::{last, next, open_all, start, torn};
 use nf_base::packet::Packet;
-use nf_files::{Files, MemoryFiles};
+use nf_files::Files;
 use packet_feed::{Fed, Feed, FeedFault};
+use run_samples::files::{holding, last, next, open_all, start, torn};
 use std::alloc::{AllocError, Global};
 
 /// What is shown of a packet.
@@ -52,17 +52,14 @@ pub fn read_all(
     fails: &[u64],
     most: u32,
 ) -> Result<Story, AllocError> {
-    let mut files = MemoryFiles::new(alloc, Vec::from_slice(alloc, fails)?);
-    let count = captures.len().min(4);
-    for (name, bytes) in NAMES.iter().zip(captures) {
-        files.put(name, bytes.as_slice())?;
-    }
+    let names = &NAMES[..captures.len().min(4)];
+    let mut files = holding(alloc, names, captures, fails)?;
     let mut told = Story {
         lines: Vec::new(alloc),
         end: End::Never,
         torn: None,
     };
-    read_from(alloc, &mut files, &NAMES[..count], most, &mut told)?;
+    read_from(alloc, &mut files, names, most, &mut told)?;
     Ok(told)
 }
 

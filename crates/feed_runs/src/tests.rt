@@ -1,49 +1,84 @@
 //! Captures that are read as streams.
-use crate::calls::{left, next, open_all, start};
+use crate::calls::left;
 use crate::capture;
-use crate::story::{End, Line, read_all};
-use nf_files::{Files, MemoryFiles};
+use crate::story::{End, Line, Story, read_all};
+use nf_files::Files;
 use packet_feed::FeedFault;
 use pcap_file::{push_header, push_record};
+use run_samples::files::{holding, next, open_all, start};
 use std::alloc::{AllocError, Global};
 use std::test::Fail;
 
-/// Time, port and number of each packet.
+/// Time, port and number of a packet.
 fn order(line: &Line) -> (u64, u32, u32) {
     (line.time, line.port, line.seq)
 }
 
+/// More bytes than a capture here has.
+const ALL: usize = 1_000_000;
+
+/// A capture of frames of one byte, by their times, cut to so many bytes.
+fn cut_capture(alloc: Global, times: &[u64], length: usize) -> Result<Vec<u8>, AllocError> {
+    let mut bytes = capture(alloc, times)?;
+    bytes.truncate(length);
+    Ok(bytes)
+}
+
+/// What such captures give, of which each is cut to so many bytes; the calls on files that are listed fail.
+fn cut_story(
+    alloc: Global,
+    all: &[(&[u64], usize)],
+    fails: &[u64],
+    most: u32,
+) -> Result<Story, AllocError> {
+    let mut captures = Vec::new(alloc);
+    for (times, length) in all {
+        captures.push(cut_capture(alloc, times, *length)?)?;
+    }
+    read_all(alloc, captures.as_slice(), fails, most)
+}
+
+/// How it ends, where the captures are torn, and how many packets there are.
+fn ends(
+    alloc: Global,
+    all: &[(&[u64], usize)],
+    fails: &[u64],
+    most: u32,
+) -> Result<(End, Option<(u32, u64)>, usize), AllocError> {
+    let told = cut_story(alloc, all, fails, most)?;
+    Ok((told.end, told.torn, told.lines.len()))
+}
+
+/// Captures in which packets come at one time, and times fall.
+const TIES: [(&[u64], usize); 4] = [
+    (&[7, 3, 9], ALL),
+    (&[7, 8], ALL),
+    (&[], ALL),
+    (&[0, 9], ALL),
+];
+
+/// Their packets, in the order in which they come.
+const IN_ORDER: [(u64, u32, u32); 7] = [
+    (0, 3, 0),
+    (7, 0, 0),
+    (7, 0, 1),
+    (7, 1, 0),
+    (8, 1, 1),
+    (9, 0, 2),
+    (9, 3, 1),
+];
+
 #[test]
 fn ties_go_by_port_and_times_never_fall(rt: HostRuntime) -> Result<(), Fail> {
-    let alloc = rt.alloc();
-    let captures = [
-        capture(alloc, &[7, 3, 9])?,
-        capture(alloc, &[7, 8])?,
-        capture(alloc, &[])?,
-        capture(alloc, &[0, 9])?,
-    ];
-    let expected = [
-        (0, 3, 0),
-        (7, 0, 0),
-        (7, 0, 1),
-        (7, 1, 0),
-        (8, 1, 1),
-        (9, 0, 2),
-        (9, 3, 1),
-    ];
-    let told = read_all(alloc, &captures, &[], 7)?;
+    let told = cut_story(rt.alloc(), &TIES, &[], 7)?;
     assert_eq!(rt; (told.end, told.torn), (End::End, None));
     assert_eq!(rt; told.lines.len(), 7);
-    for (line, wanted) in told.lines.iter().zip(&expected) {
+    for (line, wanted) in told.lines.iter().zip(&IN_ORDER) {
         assert_eq!(rt; order(line), *wanted);
     }
     for most in 0..7 {
-        let told = read_all(alloc, &captures, &[], most)?;
-        assert_eq!(rt;
-            (told.lines.len(), told.end),
-            (most as usize, End::TooMany),
-            "{most}"
-        );
+        let (end, _torn, count) = ends(rt.alloc(), &TIES, &[], most)?;
+        assert_eq!(rt; (count, end), (most as usize, End::TooMany), "{most}");
     }
     Ok(())
 }
@@ -69,19 +104,19 @@ const FORMS: [[u8; 43]; 4] = [
     ],
 ];
 
-fn forms(alloc: Global) -> Result<[Vec<u8>; 4], AllocError> {
-    Ok([
-        Vec::from_slice(alloc, &FORMS[0])?,
-        Vec::from_slice(alloc, &FORMS[1])?,
-        Vec::from_slice(alloc, &FORMS[2])?,
-        Vec::from_slice(alloc, &FORMS[3])?,
-    ])
+/// What captures of these bytes give.
+fn story(alloc: Global, all: &[&[u8]]) -> Result<Story, AllocError> {
+    let mut captures = Vec::new(alloc);
+    for bytes in all {
+        captures.push(Vec::from_slice(alloc, bytes)?)?;
+    }
+    read_all(alloc, captures.as_slice(), &[], 9)
 }
 
 #[test]
 fn all_four_forms_are_read(rt: HostRuntime) -> Result<(), Fail> {
-    let alloc = rt.alloc();
-    let told = read_all(alloc, &forms(alloc)?, &[], 9)?;
+    let [a, b, c, d] = &FORMS;
+    let told = story(rt.alloc(), &[a, b, c, d])?;
     // Nanoseconds come before microseconds of the same fraction.
     let expected = [
         (1_000_000_002, 1, 8),
@@ -102,12 +137,7 @@ fn all_four_forms_are_read(rt: HostRuntime) -> Result<(), Fail> {
 
 #[test]
 fn torn_captures_give_their_whole_records(rt: HostRuntime) -> Result<(), Fail> {
-    let alloc = rt.alloc();
     for cut in 24..61 {
-        let mut second = capture(alloc, &[6, 9])?;
-        second.truncate(cut);
-        let captures = [capture(alloc, &[7])?, second, capture(alloc, &[5])?];
-        let told = read_all(alloc, &captures, &[], 9)?;
         let (count, torn) = match cut {
             24 => (2, None),
             25..41 => (2, Some((1, 24))),
@@ -115,48 +145,33 @@ fn torn_captures_give_their_whole_records(rt: HostRuntime) -> Result<(), Fail> {
             42..58 => (3, Some((1, 41))),
             _ => (4, None),
         };
-        assert_eq!(rt; (told.end, told.torn), (End::End, torn), "{cut} bytes");
-        assert_eq!(rt; told.lines.len(), count, "{cut} bytes");
+        let all: [(&[u64], usize); 3] = [(&[7], ALL), (&[6, 9], cut), (&[5], ALL)];
+        let ends = ends(rt.alloc(), &all, &[], 9)?;
+        assert_eq!(rt; ends, (End::End, torn, count), "{cut} bytes");
     }
     Ok(())
 }
 
+/// A record here has 17 bytes: the last one of ports 0 and 2 lacks a byte.
 #[test]
 fn the_least_torn_port_is_named(rt: HostRuntime) -> Result<(), Fail> {
-    let alloc = rt.alloc();
-    let mut captures = [
-        capture(alloc, &[7])?,
-        capture(alloc, &[])?,
-        capture(alloc, &[5, 9])?,
-    ];
-    captures[2].pop();
-    captures[0].pop();
-    let told = read_all(alloc, &captures, &[], 1)?;
-    assert_eq!(rt;
-        (told.end, told.torn, told.lines.len()),
-        (End::End, Some((0, 24)), 1)
-    );
+    let all: [(&[u64], usize); 3] = [(&[7], 40), (&[], ALL), (&[5, 9], 57)];
+    let ends = ends(rt.alloc(), &all, &[], 1)?;
+    assert_eq!(rt; ends, (End::End, Some((0, 24)), 1));
     Ok(())
 }
 
 #[test]
 fn the_least_port_without_a_header_is_named(rt: HostRuntime) -> Result<(), Fail> {
-    let alloc = rt.alloc();
     for bad in 0..3 {
-        let mut captures = [
-            capture(alloc, &[7])?,
-            capture(alloc, &[8])?,
-            capture(alloc, &[])?,
+        let all: [(&[u64], usize); 3] = [
+            (&[7], if bad == 0 { 23 } else { ALL }),
+            (&[8], if bad == 1 { 23 } else { ALL }),
+            (&[], 9),
         ];
-        captures[bad].truncate(23);
-        captures[2].truncate(9);
-        let told = read_all(alloc, &captures, &[], 9)?;
-        let fault = FeedFault::NotCapture { port: bad as u32 };
-        assert_eq!(rt;
-            (told.end, told.lines.len()),
-            (End::Unstarted(fault), 0),
-            "port {bad}"
-        );
+        let (end, _torn, count) = ends(rt.alloc(), &all, &[], 9)?;
+        let fault = FeedFault::NotCapture { port: bad };
+        assert_eq!(rt; (end, count), (End::Unstarted(fault), 0), "port {bad}");
     }
     Ok(())
 }
@@ -169,8 +184,7 @@ fn fault(port: u32) -> End {
 /// for its frame, where it is wanted; at the end of a capture one that gives nothing.
 #[test]
 fn each_call_that_fails_names_its_port(rt: HostRuntime) -> Result<(), Fail> {
-    let alloc = rt.alloc();
-    let captures = [capture(alloc, &[5, 9])?, capture(alloc, &[7])?];
+    let all: [(&[u64], usize); 2] = [(&[5, 9], ALL), (&[7], ALL)];
     let cases = [
         (0, End::Unopened, 0),
         (1, End::Unopened, 0),
@@ -187,8 +201,8 @@ fn each_call_that_fails_names_its_port(rt: HostRuntime) -> Result<(), Fail> {
         (12, End::End, 3),
     ];
     for (call, end, given) in cases {
-        let told = read_all(alloc, &captures, &[call], 9)?;
-        assert_eq!(rt; (told.end, told.lines.len()), (end, given), "call {call}");
+        let (found, _torn, count) = ends(rt.alloc(), &all, &[call], 9)?;
+        assert_eq!(rt; (found, count), (end, given), "call {call}");
     }
     Ok(())
 }
@@ -200,14 +214,18 @@ const SEGMENT: [u8; 54] = [
     0, 0,
 ];
 
-#[test]
-fn a_skipped_frame_is_a_packet_with_a_number(rt: HostRuntime) -> Result<(), Fail> {
-    let alloc = rt.alloc();
+/// What a capture gives of a segment that is cut, and of a whole one.
+fn segments(alloc: Global) -> Result<Story, AllocError> {
     let mut out = Vec::new(alloc);
     push_header(&mut out)?;
     push_record(&mut out, 1, 54, &SEGMENT[..53])?;
     push_record(&mut out, 2, 1500, &SEGMENT)?;
-    let told = read_all(alloc, &[out], &[], 9)?;
+    read_all(alloc, &[out], &[], 9)
+}
+
+#[test]
+fn a_skipped_frame_is_a_packet_with_a_number(rt: HostRuntime) -> Result<(), Fail> {
+    let told = segments(rt.alloc())?;
     let expected = [(0, 53, 54, false), (1, 54, 1500, true)];
     assert_eq!(rt; told.lines.len(), 2);
     for (line, wanted) in told.lines.iter().zip(&expected) {
@@ -235,10 +253,16 @@ fn left_after<F: Files>(
     Ok((first, second))
 }
 
+/// The same of two captures in memory.
+fn left_of(alloc: Global, packets: u32) -> Result<(usize, usize), Fail> {
+    let captures = [capture(alloc, &[1, 2, 9])?, capture(alloc, &[3, 10])?];
+    let mut files = holding(alloc, &["0", "1"], &captures, &[])?;
+    left_after(alloc, &mut files, packets)
+}
+
 /// A record here has 17 bytes.
 #[test]
 fn at_most_one_record_more_is_taken(rt: HostRuntime) -> Result<(), Fail> {
-    let alloc = rt.alloc();
     let cases = [
         (0, (51, 34)),
         (1, (34, 17)),
@@ -248,10 +272,7 @@ fn at_most_one_record_more_is_taken(rt: HostRuntime) -> Result<(), Fail> {
         (5, (0, 0)),
     ];
     for (packets, wanted) in cases {
-        let mut files = MemoryFiles::new(alloc, Vec::new(alloc));
-        files.put("0", capture(alloc, &[1, 2, 9])?.as_slice())?;
-        files.put("1", capture(alloc, &[3, 10])?.as_slice())?;
-        let left = left_after(alloc, &mut files, packets)?;
+        let left = left_of(rt.alloc(), packets)?;
         assert_eq!(rt; left, wanted, "{packets} packets");
     }
     Ok(())

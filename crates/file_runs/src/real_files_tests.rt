@@ -24,34 +24,50 @@ fn made_failing(rt: &HostRuntime, calls: &[Call]) -> Result<Told, AllocError> {
     make_all(rt.alloc(), &mut files, calls)
 }
 
-/// A new folder for the files of a test.
-fn folder(rt: &HostRuntime, test: &str) -> io::Result<String> {
+/// A new folder for the files of a test: its path, and behind it those of names in it.
+fn folder(rt: &HostRuntime, test: &str, names: &[&str]) -> io::Result<Vec<String>> {
+    let mut paths = Vec::new(rt.alloc());
+    paths.push(new_folder(rt, test)?)?;
+    for name in names {
+        let path = format!(in rt.alloc(); "{}/{name}", at(paths.as_slice(), 0))?;
+        paths.push(path)?;
+    }
+    Ok(paths)
+}
+
+fn new_folder(rt: &HostRuntime, test: &str) -> io::Result<String> {
     let name = format!(in rt.alloc(); "nf_files-{}-{test}", process::id(rt.process()))?;
     let path = env::temp_dir(rt)?.join(rt.alloc(), name.as_str())?;
     fs::create_dir(rt, path.as_str())?;
     Ok(format!(in rt.alloc(); "{}", path.as_str())?)
 }
 
-/// The path of a name in it.
-fn path(alloc: Global, folder: &str, name: &str) -> io::Result<String> {
-    Ok(format!(in alloc; "{folder}/{name}")?)
+/// One of these paths.
+fn at(paths: &[String], number: usize) -> &str {
+    match paths.get(number) {
+        Some(path) => path.as_str(),
+        None => "",
+    }
 }
 
 /// Whether a file has these bytes.
-fn has(rt: &HostRuntime, name: &str, bytes: &[u8]) -> io::Result<bool> {
-    Ok(fs::read(rt, name)?.as_slice() == bytes)
+fn has(rt: &HostRuntime, name: &str, bytes: &[u8]) -> bool {
+    match fs::read(rt, name) {
+        Ok(found) => found.as_slice() == bytes,
+        Err(_) => false,
+    }
 }
 
 #[test]
 fn what_was_written_is_read_again(rt: HostRuntime) -> Result<(), Fail> {
-    let folder = folder(&rt, "again")?;
-    let name = path(rt.alloc(), folder.as_str(), "file")?;
-    fs::write(&rt, name.as_str(), b"old and long".as_slice())?;
+    let paths = folder(&rt, "again", &["file"])?;
+    let name = at(paths.as_slice(), 1);
+    fs::write(&rt, name, b"old and long".as_slice())?;
     let calls = [
-        Call::Create(name.as_str()),
+        Call::Create(name),
         Call::Write(b"one "),
         Call::Write(b"two"),
-        Call::Open(name.as_str()),
+        Call::Open(name),
         Call::Read(16),
         Call::Read(16),
     ];
@@ -66,7 +82,7 @@ fn what_was_written_is_read_again(rt: HostRuntime) -> Result<(), Fail> {
     let told = made(&rt, &calls)?;
     assert_eq!(rt; told.answers.as_slice(), answers.as_slice());
     assert_eq!(rt; told.bytes.as_slice(), b"one two".as_slice());
-    fs::remove_dir_all(&rt, folder.as_str())?;
+    fs::remove_dir_all(&rt, at(paths.as_slice(), 0))?;
     Ok(())
 }
 
@@ -134,18 +150,24 @@ fn a_fault_is_told_once_behind_the_bytes_before_it(rt: HostRuntime) -> Result<()
     Ok(())
 }
 
-/// All that the reads may leave is read at the end: 400,000 bytes are there.
-#[test]
-fn reads_of_any_size_go_on_where_the_last_one_ended(rt: HostRuntime) -> Result<(), Fail> {
-    let folder = folder(&rt, "ahead")?;
-    let name = path(rt.alloc(), folder.as_str(), "file")?;
-    let mut bytes = Vec::new(rt.alloc());
+/// The bytes of the first 100,000 numbers.
+fn numbers(alloc: Global) -> Result<Vec<u8>, AllocError> {
+    let mut bytes = Vec::new(alloc);
     for number in 0..100_000u32 {
         bytes.extend_from_slice(&number.to_le_bytes())?;
     }
-    fs::write(&rt, name.as_str(), bytes.as_slice())?;
+    Ok(bytes)
+}
+
+/// All that the reads may leave is read at the end: 400,000 bytes are there.
+#[test]
+fn reads_of_any_size_go_on_where_the_last_one_ended(rt: HostRuntime) -> Result<(), Fail> {
+    let paths = folder(&rt, "ahead", &["file"])?;
+    let name = at(paths.as_slice(), 1);
+    let bytes = numbers(rt.alloc())?;
+    fs::write(&rt, name, bytes.as_slice())?;
     let calls = [
-        Call::Open(name.as_str()),
+        Call::Open(name),
         Call::Read(1),
         Call::Read(65_519),
         Call::Read(65_536),
@@ -163,33 +185,34 @@ fn reads_of_any_size_go_on_where_the_last_one_ended(rt: HostRuntime) -> Result<(
         "{} bytes",
         told.bytes.len()
     );
-    fs::remove_dir_all(&rt, folder.as_str())?;
+    fs::remove_dir_all(&rt, at(paths.as_slice(), 0))?;
     Ok(())
+}
+
+/// Writes a file that is to be read, and one that isn't.
+fn write_both(rt: &HostRuntime, name: &str, other: &str) -> io::Result<()> {
+    fs::write(rt, name, b"whole".as_slice())?;
+    fs::write(rt, other, b"old".as_slice())
 }
 
 /// By whatever name it is to be created: its own, spelled otherwise, or that of a link.
 #[test]
 fn a_file_that_is_read_is_not_emptied(rt: HostRuntime) -> Result<(), Fail> {
-    let alloc = rt.alloc();
-    let folder = folder(&rt, "read")?;
-    let name = path(alloc, folder.as_str(), "in")?;
-    let spelled = path(alloc, folder.as_str(), "./in")?;
-    let hard = path(alloc, folder.as_str(), "hard")?;
-    let soft = path(alloc, folder.as_str(), "soft")?;
-    let other = path(alloc, folder.as_str(), "other")?;
-    fs::write(&rt, name.as_str(), b"whole".as_slice())?;
-    fs::write(&rt, other.as_str(), b"old".as_slice())?;
-    fs::hard_link(&rt, name.as_str(), hard.as_str())?;
-    symlink(&rt, "in", soft.as_str())?;
+    let paths = folder(&rt, "read", &["in", "./in", "hard", "soft", "other"])?;
+    let (name, other) = (at(paths.as_slice(), 1), at(paths.as_slice(), 5));
+    let (hard, soft) = (at(paths.as_slice(), 3), at(paths.as_slice(), 4));
+    write_both(&rt, name, other)?;
+    fs::hard_link(&rt, name, hard)?;
+    symlink(&rt, "in", soft)?;
     let calls = [
-        Call::Open(name.as_str()),
+        Call::Open(name),
         Call::Read(2),
-        Call::Create(name.as_str()),
-        Call::Create(spelled.as_str()),
-        Call::Create(hard.as_str()),
-        Call::Create(soft.as_str()),
+        Call::Create(name),
+        Call::Create(at(paths.as_slice(), 2)),
+        Call::Create(hard),
+        Call::Create(soft),
         Call::Read(8),
-        Call::Create(other.as_str()),
+        Call::Create(other),
     ];
     let answers = [
         Answer::File(2),
@@ -203,28 +226,22 @@ fn a_file_that_is_read_is_not_emptied(rt: HostRuntime) -> Result<(), Fail> {
     ];
     let told = made(&rt, &calls)?;
     assert_eq!(rt; told.answers.as_slice(), answers.as_slice());
-    assert!(rt; has(&rt, name.as_str(), b"whole")? && has(&rt, other.as_str(), b"")?);
-    fs::remove_dir_all(&rt, folder.as_str())?;
+    assert!(rt; has(&rt, name, b"whole") && has(&rt, other, b""));
+    fs::remove_dir_all(&rt, at(paths.as_slice(), 0))?;
     Ok(())
 }
 
 #[test]
 fn a_file_without_a_number_goes_by_its_name(rt: HostRuntime) -> Result<(), Fail> {
-    let folder = folder(&rt, "name")?;
-    let name = path(rt.alloc(), folder.as_str(), "in")?;
-    let other = path(rt.alloc(), folder.as_str(), "out")?;
-    fs::write(&rt, name.as_str(), b"whole".as_slice())?;
-    fs::write(&rt, other.as_str(), b"old".as_slice())?;
-    let calls = [
-        Call::Open(name.as_str()),
-        Call::Create(name.as_str()),
-        Call::Create(other.as_str()),
-    ];
+    let paths = folder(&rt, "name", &["in", "out"])?;
+    let (name, other) = (at(paths.as_slice(), 1), at(paths.as_slice(), 2));
+    write_both(&rt, name, other)?;
+    let calls = [Call::Open(name), Call::Create(name), Call::Create(other)];
     let answers = [Answer::File(2), FAILED, Answer::File(3)];
     let told = made_failing(&rt, &calls)?;
     assert_eq!(rt; told.answers.as_slice(), answers.as_slice());
-    assert!(rt; has(&rt, name.as_str(), b"whole")? && has(&rt, other.as_str(), b"")?);
-    fs::remove_dir_all(&rt, folder.as_str())?;
+    assert!(rt; has(&rt, name, b"whole") && has(&rt, other, b""));
+    fs::remove_dir_all(&rt, at(paths.as_slice(), 0))?;
     Ok(())
 }
 

@@ -82,14 +82,18 @@ fn one_place(alloc: Global, known: u32) -> Result<String, AllocError> {
     Ok(line)
 }
 
+/// What the keys of such a place are.
+fn found(alloc: Global, known: u32) -> Result<String, AllocError> {
+    let line = one_place(alloc, known)?;
+    answer(alloc, line.as_str())
+}
+
 #[test]
 fn a_place_keeps_the_bits_that_only_its_fields_meet(rt: HostRuntime) -> Result<(), Fail> {
-    let alloc = rt.alloc();
     for known in 0..16u32 {
-        let line = one_place(alloc, known)?;
-        let found = answer(alloc, line.as_str())?;
-        let expected = expected(alloc, known)?;
-        assert_eq!(rt; found.as_str(), expected.as_str(), "{}", line.as_str());
+        let found = found(rt.alloc(), known)?;
+        let expected = expected(rt.alloc(), known)?;
+        assert_eq!(rt; found.as_str(), expected.as_str(), "fields {known:04b}");
     }
     Ok(())
 }
@@ -139,13 +143,17 @@ fn hash(keys: &Keys, packet: &Packet) -> u32 {
     }
 }
 
+/// The keys of a firewall.
+fn firewall(alloc: Global) -> Result<Option<Keys>, AllocError> {
+    let places = "0:src_ip,dst_ip,src_port,dst_port 1:dst_ip,src_ip,dst_port,src_port";
+    let objects = objects(alloc, places)?;
+    keys(alloc, objects.as_slice())
+}
+
 /// A reply at port 1 has the hash of what it answers at port 0, and another port has another hash.
 #[test]
 fn a_reply_has_the_hash_of_what_it_answers(rt: HostRuntime) -> Result<(), Fail> {
-    let alloc = rt.alloc();
-    let firewall = "0:src_ip,dst_ip,src_port,dst_port 1:dst_ip,src_ip,dst_port,src_port";
-    let objects = objects(alloc, firewall)?;
-    let Some(keys) = keys(alloc, objects.as_slice())? else {
+    let Some(keys) = firewall(rt.alloc())? else {
         return Err(Fail::from("no keys"));
     };
     let inside = (0x0a00_0001, 1000);

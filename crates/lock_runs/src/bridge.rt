@@ -4,33 +4,15 @@ use lock_core::Event;
 use nf_base::func::Func;
 use nf_base::mac::Mac;
 use nf_base::packet::{Fields, Packet, PacketId};
-use nf_syntax::parse;
-use nf_types::check;
+use run_samples::functions::{BRIDGE, function};
 use std::alloc::{AllocError, Global};
-
-const BRIDGE: &[u8] = b"nf bridge {
-  ports 2;
-  chain macs 4 lifetime 10 { map by_mac(m: 48); free at: 8; }
-  on 0 {
-    get e = macs.by_mac(src_mac) { touch e; e.at = 0; }
-    else { new f = macs(m = src_mac) { f.at = 0; } }
-    get g = macs.by_mac(dst_mac) { forward g.at; }
-    flood;
-  }
-  on 1 {
-    get e = macs.by_mac(src_mac) { touch e; e.at = 1; }
-    else { new f = macs(m = src_mac) { f.at = 1; } }
-    get g = macs.by_mac(dst_mac) { forward g.at; }
-    flood;
-  }
-}";
 
 /// The bridge, unless memory runs out: its text has no fault.
 pub fn bridge(alloc: Global) -> Result<Func, AllocError> {
-    let Ok(tree) = parse(alloc, BRIDGE) else {
-        return Err(AllocError);
-    };
-    check(alloc, &tree).map_err(|_| AllocError)
+    match function(alloc, BRIDGE.as_bytes()) {
+        Some(func) => Ok(func),
+        None => Err(AllocError),
+    }
 }
 
 /// The packet of a port, from its own address to the other's: at 5 nanoseconds at port 0, else at 9.

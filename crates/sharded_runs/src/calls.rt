@@ -2,7 +2,7 @@
 //! compared, and not proved.
 ghost use Rattle.std.specs.Prelude.{◌≡◌, ◌≤◌, ◌+◌, ◌^◌, ℕ, length, IfOk};
 ghost use Rattle.nf_base.specs.Functions.{function_of};
-ghost use Rattle.key_synth.specs.Laws.{HashAlikeWhereTheyMeet};
+ghost use Rattle.toeplitz_hash.specs.Meeting.{HashAlikeWhereTheyMeet};
 ghost use Rattle.nf_files.specs.Told.{IsEmptyIfTold};
 ghost use Rattle.packet_feed.specs.Told.{EachFile, IsApart};
 ghost use Rattle.packet_feed.specs.Sources.{files_in};

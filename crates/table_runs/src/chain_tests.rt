@@ -1,29 +1,15 @@
 //! Chains.
 ghost use Rattle.std.specs.Prelude.{◌≡◌, IfOk, length};
 
+use crate::calls::{allocate, expire_one, greatest, is_full, open, stamp, take};
 use nf_base::share::Share;
 use nf_base::size::Size;
 use std::alloc::{AllocError, Global};
 use std::test::Fail;
 use vig_chain::Chain;
 
-// The tests call a chain through these, which promise nothing: what the answers are is compared,
-// and not proved.
-
-fn stamp(chain: &Chain, index: u32) -> Option<u64> {
-    chain.stamp(index)
-}
-
-fn take(chain: &mut Chain, index: u32, time: u64) -> bool {
-    chain.take(index, time)
-}
-
 fn free(chain: &mut Chain, index: u32) -> bool {
     chain.free(index)
-}
-
-fn expire_one(chain: &mut Chain, time: u64, lifetime: u64) -> Option<u32> {
-    chain.expire_one(time, lifetime)
 }
 
 /// Touches a live index: false where there is no entry.
@@ -37,7 +23,7 @@ fn touch(chain: &mut Chain, index: u32, time: u64) -> bool {
 
 #[test]
 fn a_touched_entry_outlives_others(rt: HostRuntime) -> Result<(), Fail> {
-    let mut chain = Chain::new(rt.alloc(), Size::new(3), Share { queue: 0, of: 1 })?;
+    let mut chain = open(rt.alloc(), Size::new(3), Share { queue: 0, of: 1 })?;
     assert!(rt; take(&mut chain, 2, 10));
     assert!(rt; take(&mut chain, 0, 11));
     assert!(rt; !take(&mut chain, 2, 12));
@@ -48,7 +34,7 @@ fn a_touched_entry_outlives_others(rt: HostRuntime) -> Result<(), Fail> {
     assert_eq!(rt; expire_one(&mut chain, u64::MAX, u64::MAX), None);
     assert!(rt; free(&mut chain, 2));
     assert!(rt; !free(&mut chain, 2));
-    assert!(rt; !chain.is_full());
+    assert!(rt; !is_full(&chain));
     assert_eq!(rt; stamp(&chain, 2), None);
     Ok(())
 }
@@ -56,9 +42,9 @@ fn a_touched_entry_outlives_others(rt: HostRuntime) -> Result<(), Fail> {
 /// The one queue of sixteen that owns no index of a chain of four.
 #[test]
 fn an_empty_share_is_full(rt: HostRuntime) -> Result<(), Fail> {
-    let mut chain = Chain::new(rt.alloc(), Size::new(4), Share { queue: 9, of: 16 })?;
-    assert!(rt; chain.is_full());
-    assert_eq!(rt; chain.allocate(1), None);
+    let mut chain = open(rt.alloc(), Size::new(4), Share { queue: 9, of: 16 })?;
+    assert!(rt; is_full(&chain));
+    assert_eq!(rt; allocate(&mut chain, 1), None);
     Ok(())
 }
 
@@ -85,7 +71,7 @@ fn a_copy_goes_on_by_itself(rt: HostRuntime) -> Result<(), Fail> {
     let mut chain = taken(rt.alloc())?;
     let mut copy = copied(rt.alloc(), &chain)?;
     assert_eq!(rt;
-        (stamp(&copy, 0), stamp(&copy, 1), copy.greatest()),
+        (stamp(&copy, 0), stamp(&copy, 1), greatest(&copy)),
         (None, Some(10), 10)
     );
     assert!(rt; take(&mut copy, 0, 5));

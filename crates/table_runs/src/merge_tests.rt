@@ -1,55 +1,21 @@
 //! The tables of shares as those of the whole.
-ghost use Rattle.nf_base.specs.declared.decl.ChainDecl.{ChainDecl};
-ghost use Rattle.std.specs.Prelude.{◌≡◌, ◌≤◌, length, IfOk, All, List};
+ghost use Rattle.std.specs.Prelude.{◌≡◌, ◌≤◌, length, IfOk};
 ghost use Rattle.vig_tables.specs.Union.{AreOf};
 
-use crate::tables_tests::{cells, columns, key, map, silent};
-use nf_base::decl::{ChainDecl, Name, ObjectId};
+use crate::table_calls::{
+    column, create, due, expire, greatest, is_full, label, lookup, read, read_cell, share, stamp,
+};
 use nf_base::func::Func;
-use nf_base::limited::Limited;
 use nf_base::share::Share;
-use nf_base::size::Size;
 use std::alloc::{AllocError, Global};
 use std::test::Fail;
 use vig_tables::{Created, Tables};
 
-/// So many hosts by address, for 10 nanoseconds, with what each used.
-fn hosts(alloc: Global, size: Size) -> Result<ChainDecl, AllocError>
-    ensures keys { IfOk result (λ decl. All (λ map. map.parts ≤ 8) decl.maps) }
-    ensures maps { IfOk result (λ decl. length decl.maps ≡ 1) }
-{
-    let mut maps = Limited::new(alloc);
-    maps.push(map(alloc, 0, 1))?;
-    Ok(ChainDecl {
-        name: Name::new(alloc),
-        size,
-        lifetime: 10,
-        labels: columns(alloc, 1)?,
-        columns: columns(alloc, 1)?,
-        maps,
-        order: Limited::new(alloc),
-    })
-}
-
-/// A policer with so many hosts and an array of four cells, which open with 7, 0, 0 and 9.
-fn policer(alloc: Global, size: Size) -> Result<Func, AllocError> {
-    let mut chains = Vec::new(alloc);
-    chains.push(hosts(alloc, size)?)?;
-    let mut arrays = Limited::new(alloc);
-    arrays.push(cells(alloc)?)?;
-    let mut objects = Limited::new(alloc);
-    objects.push(ObjectId::Chain(0))?;
-    objects.push(ObjectId::Array(0))?;
-    let mut handlers = Vec::new(alloc);
-    handlers.push(silent())?;
-    Ok(Func {
-        name: Name::new(alloc),
-        chains: Limited::from_vec(chains),
-        arrays,
-        objects,
-        handlers: Limited::from_vec(handlers),
-    })
-}
+/// 64 hosts by address, for 10 nanoseconds, with what each used; and four cells.
+const POLICER: &str = "nf policer { ports 1; \
+chain hosts 64 lifetime 10 { map by_host(a: 32); free used: 32; } \
+array cells 4: 64 = { 7, 0, 0, 9 }; \
+on 0 { drop; } }";
 
 /// A host at an index, what it used, and when.
 #[derive(Clone, Copy)]
@@ -138,19 +104,19 @@ fn merged(
     requires some { 1 ≤ of }
     requires most { of ≤ 16 }
 {
-    let func = policer(alloc, Size::new(64))?;
+    let func = read(alloc, POLICER)?;
     let parts = parts(alloc, &func, of, hosts, changes)?;
     Tables::merge(alloc, &func, parts.as_slice(), time)
 }
 
 /// What stands at an index: stamp, address and what was used.
 fn entry(tables: &Tables, i: u32) -> Option<(u64, u64, u64)> {
-    let stamp = tables.stamp(0, i)?;
-    Some((stamp, tables.label(0, i, 0), tables.column(0, i, 0)))
+    let stamp = stamp(tables, 0, i)?;
+    Some((stamp, label(tables, 0, i, 0), column(tables, 0, i, 0)))
 }
 
 fn found(tables: &Tables, address: u64) -> Option<u32> {
-    tables.lookup(0, &key(&[address]))
+    lookup(tables, 0, &[address])
 }
 
 /// Two hosts of two queues: of the second nothing was seen since it came.
@@ -180,7 +146,7 @@ fn each_share_expires_at_the_last_packets_time(rt: HostRuntime) -> Result<(), Fa
         (found(&tables, 0x8000_0001), found(&tables, 0x0a00_0001)),
         (None, Some(2))
     );
-    assert_eq!(rt; (tables.greatest(0), tables.share().of), (11, 1));
+    assert_eq!(rt; (greatest(&tables, 0), share(&tables).1), (11, 1));
     Ok(())
 }
 
@@ -201,10 +167,10 @@ fn the_last_tick_counts_in_each_share(rt: HostRuntime) -> Result<(), Fail> {
 /// What the four cells of the array hold.
 fn cells_of(tables: &Tables) -> [u64; 4] {
     [
-        tables.read(0, 0),
-        tables.read(0, 1),
-        tables.read(0, 2),
-        tables.read(0, 3),
+        read_cell(tables, 0, 0),
+        read_cell(tables, 0, 1),
+        read_cell(tables, 0, 2),
+        read_cell(tables, 0, 3),
     ]
 }
 
@@ -261,12 +227,12 @@ fn sixty_four(alloc: Global) -> Result<Vec<Host>, AllocError> {
 
 /// How many of 64 hosts are found at their index with what they used.
 fn found_as_made(tables: &Tables) -> u32 {
-    let mut count = 0;
+    let mut count = 0u32;
     for i in 0..64u32 {
         let number = u64::from(i);
         let stands = entry(tables, i) == Some((came(i), 1000 + number, number));
         if stands && found(tables, 1000 + number) == Some(i) {
-            count += 1;
+            count = count.saturating_add(1);
         }
     }
     count
@@ -274,11 +240,11 @@ fn found_as_made(tables: &Tables) -> u32 {
 
 /// How many of 64 indices are live after an expiry.
 fn live_after(tables: &mut Tables, time: u64) -> u32 {
-    tables.expire(time);
-    let mut count = 0;
+    expire(tables, time);
+    let mut count = 0u32;
     for i in 0..64u32 {
-        if tables.stamp(0, i).is_some() {
-            count += 1;
+        if stamp(tables, 0, i).is_some() {
+            count = count.saturating_add(1);
         }
     }
     count
@@ -288,8 +254,8 @@ fn live_after(tables: &mut Tables, time: u64) -> u32 {
 fn sixteen_shares_stand_in_the_order_of_their_stamps(rt: HostRuntime) -> Result<(), Fail> {
     let hosts = sixty_four(rt.alloc())?;
     let mut tables = merged(rt.alloc(), 16, hosts.as_slice(), &[], 110)?;
-    assert_eq!(rt; (found_as_made(&tables), tables.greatest(0)), (64, 110));
-    assert!(rt; tables.is_full(0) && !tables.due(0, 110) && tables.due(0, 111));
+    assert_eq!(rt; (found_as_made(&tables), greatest(&tables, 0)), (64, 110));
+    assert!(rt; is_full(&tables, 0) && !due(&tables, 0, 110) && due(&tables, 0, 111));
     // At 114 what was stamped before 104 is past its lifetime.
     assert_eq!(rt; live_after(&mut tables, 114), 44);
     assert_eq!(rt; live_after(&mut tables, 118), 12);
@@ -297,24 +263,15 @@ fn sixteen_shares_stand_in_the_order_of_their_stamps(rt: HostRuntime) -> Result<
     Ok(())
 }
 
-/// Makes an entry of a host, if each label has a value.
-fn create(tables: &mut Tables, address: u64, time: u64) -> Option<Created> {
-    if tables.label_count(0) == 1 {
-        Some(tables.create(0, &[address], time))
-    } else {
-        None
-    }
-}
-
 #[test]
 fn the_whole_goes_on_where_the_shares_left_off(rt: HostRuntime) -> Result<(), Fail> {
     let mut tables = merged(rt.alloc(), 2, &TWO, &[], 11)?;
-    let taken = create(&mut tables, 0x0a00_0001, 12);
-    let made = create(&mut tables, 0x8000_0001, 5);
+    let taken = create(&mut tables, 0, &[0x0a00_0001], 12);
+    let made = create(&mut tables, 0, &[0x8000_0001], 5);
     assert_eq!(rt; taken, Some(Created::Taken));
     assert!(rt; matches!(made, Some(Created::Made(_))));
     assert_eq!(rt;
-        found(&tables, 0x8000_0001).and_then(|i| tables.stamp(0, i)),
+        found(&tables, 0x8000_0001).and_then(|i| stamp(&tables, 0, i)),
         Some(11)
     );
     Ok(())

@@ -3,8 +3,8 @@ use crate::function_tests::repeated;
 use nf_base::packet::Field;
 use nf_syntax::{ParseFault, SyntaxKind, parse};
 use nf_tokens::Place;
-use nf_tree::{Block, Declaration, Ending, Expr, Operation, Part, Question};
-use std::alloc::Global;
+use nf_tree::{Block, Declaration, Ending, Expr, Operation, Part, Question, Tree};
+use std::alloc::{AllocError, Global};
 use std::test::*;
 
 fn stands(place: Place, line: u32, column: u32) -> bool {
@@ -20,52 +20,54 @@ set ttl = 9; forward 1; }\n\
 }\n\
 # the end";
 
-#[test]
-fn declarations_have_their_places(rt: HostRuntime) {
-    let Ok(tree) = parse(rt.alloc(), PLACES) else {
-        assert!(rt; false);
-        return;
-    };
-    assert!(rt; tree.name.bytes.as_slice() == b"fw".as_slice());
-    assert!(rt; stands(tree.name.place, 1, 4));
-    assert_eq!(rt; tree.ports.value, 2);
-    assert!(rt; stands(tree.ports.place, 2, 7));
-    assert!(rt; stands(tree.end, 7, 1));
+/// Whether each of these places is this line and column.
+fn all_stand(places: &[(Place, u32, u32)]) -> bool {
+    places
+        .iter()
+        .all(|(place, line, column)| stands(*place, *line, *column))
+}
+
+/// Whether the declarations stand where they do in `PLACES`.
+fn has_declarations(tree: &Tree) -> bool {
     let [Declaration::Chain(chain)] = tree.declarations.as_slice() else {
-        assert!(rt; false);
-        return;
+        return false;
     };
-    assert!(rt; stands(chain.place, 3, 1));
-    assert!(rt; stands(chain.name.place, 3, 7));
-    assert!(rt; stands(chain.size.place, 3, 13));
-    assert!(rt; stands(chain.lifetime.place, 3, 24));
     let [Part::Map(map)] = chain.parts.as_slice() else {
-        assert!(rt; false);
-        return;
+        return false;
     };
-    assert!(rt; stands(map.place, 3, 29));
-    assert!(rt; stands(map.name.place, 3, 33));
-    assert!(rt; stands(map.close, 3, 53));
     let [_, label] = map.labels.as_slice() else {
-        assert!(rt; false);
-        return;
+        return false;
     };
-    assert!(rt; stands(label.name.place, 3, 48));
-    assert!(rt; stands(label.width.place, 3, 51));
+    all_stand(&[
+        (tree.name.place, 1, 4),
+        (tree.ports.place, 2, 7),
+        (tree.end, 7, 1),
+        (chain.place, 3, 1),
+        (chain.name.place, 3, 7),
+        (chain.size.place, 3, 13),
+        (chain.lifetime.place, 3, 24),
+        (map.place, 3, 29),
+        (map.name.place, 3, 33),
+        (map.close, 3, 53),
+        (label.name.place, 3, 48),
+        (label.width.place, 3, 51),
+    ])
 }
 
 #[test]
-fn statements_have_their_places(rt: HostRuntime) {
-    let Ok(tree) = parse(rt.alloc(), PLACES) else {
-        assert!(rt; false);
-        return;
-    };
-    let [handler] = tree.handlers.as_slice() else {
-        assert!(rt; false);
-        return;
-    };
-    assert!(rt; stands(handler.place, 4, 1));
-    assert!(rt; stands(handler.port.place, 4, 4));
+fn declarations_have_their_places(rt: HostRuntime) {
+    match parse(rt.alloc(), PLACES) {
+        Ok(tree) => {
+            assert!(rt; tree.name.bytes.as_slice() == b"fw".as_slice());
+            assert_eq!(rt; tree.ports.value, 2);
+            assert!(rt; has_declarations(&tree));
+        }
+        Err(_) => assert!(rt; false),
+    }
+}
+
+/// Whether a block begins with the look-up of `PLACES`: what follows it.
+fn behind_lookup(block: &Block) -> Option<&Block> {
     let Block::Ask {
         question: Question::Get {
             place,
@@ -77,16 +79,22 @@ fn statements_have_their_places(rt: HostRuntime) {
         },
         next,
         ..
-    } = &handler.block
+    } = block
     else {
-        assert!(rt; false);
-        return;
+        return None;
     };
-    assert!(rt; stands(*place, 4, 14));
-    assert!(rt; stands(variable.place, 4, 18));
-    assert!(rt; stands(chain.place, 4, 22));
-    assert!(rt; stands(map.place, 4, 28));
-    assert!(rt; stands(*close, 4, 45));
+    let is_there = all_stand(&[
+        (*place, 4, 14),
+        (variable.place, 4, 18),
+        (chain.place, 4, 22),
+        (map.place, 4, 28),
+        (*close, 4, 45),
+    ]);
+    if is_there { Some(&**next) } else { None }
+}
+
+/// Whether a block is the setting and the end of `PLACES`.
+fn is_rest(block: &Block) -> bool {
     let Block::Do {
         operation: Operation::Set {
             field,
@@ -94,25 +102,34 @@ fn statements_have_their_places(rt: HostRuntime) {
             value: Expr::Number(value),
         },
         next,
-    } = &**next
+    } = block
     else {
-        assert!(rt; false);
-        return;
+        return false;
     };
-    assert!(rt; *field == Field::Ttl);
-    assert!(rt; stands(*place, 6, 5));
-    assert!(rt; stands(value.place, 6, 11));
     let Block::End(Ending::Forward(Expr::Number(port))) = &**next else {
-        assert!(rt; false);
-        return;
+        return false;
     };
-    assert!(rt; stands(port.place, 6, 22));
+    *field == Field::Ttl && all_stand(&[(*place, 6, 5), (value.place, 6, 11), (port.place, 6, 22)])
+}
+
+fn has_statements(tree: &Tree) -> bool {
+    let [handler] = tree.handlers.as_slice() else {
+        return false;
+    };
+    all_stand(&[(handler.place, 4, 1), (handler.port.place, 4, 4)])
+        && behind_lookup(&handler.block).is_some_and(is_rest)
 }
 
 #[test]
-fn every_form_is_read(rt: HostRuntime) {
-    let texts: [&[u8]; 5] = [
-        b"nf nat {\n\
+fn statements_have_their_places(rt: HostRuntime) {
+    match parse(rt.alloc(), PLACES) {
+        Ok(tree) => assert!(rt; has_statements(&tree)),
+        Err(_) => assert!(rt; false),
+    }
+}
+
+static FORMS: [&[u8]; 5] = [
+    b"nf nat {\n\
 ports 2;\n\
 chain conns 60000 lifetime 60000000000 {\n\
 map by_in(sip: 32, sp: 16, dip: 32, dp: 16);\n\
@@ -137,10 +154,9 @@ touch e; set dst_ip = e.sip; set dst_port = e.sp; forward 0;\n\
 drop;\n\
 }\n\
 }\n\
-"
-            .as_slice(),
-        b"nf six { ports 1; array src_ip6 1: 8; on 0 { src_ip6[0] = dst_ip6[1] + six.six; } }".as_slice(),
-        b"nf policer {\n\
+",
+    b"nf six { ports 1; array src_ip6 1: 8; on 0 { src_ip6[0] = dst_ip6[1] + six.six; } }",
+    b"nf policer {\n\
 ports 2;\n\
 chain hosts 5 lifetime 10 { map by_dst(d: 32); free used: 64; }\n\
 on 0 { forward 1; }\n\
@@ -155,10 +171,9 @@ new f = hosts(d = dst_ip) { f.used = length; forward 0; }\n\
 drop;\n\
 }\n\
 }\n\
-"
-            .as_slice(),
-        b"nf count { ports 1; array hits 65536 : 64; on 0 { hits[dst_port] = hits[dst_port] + 1; forward 0; } }".as_slice(),
-        b"nf all {\n\
+",
+    b"nf count { ports 1; array hits 65536 : 64; on 0 { hits[dst_port] = hits[dst_port] + 1; forward 0; } }",
+    b"nf all {\n\
 ports 2;\n\
 array seen 4: 8 = { 1, 0x2, 0.0.0.3 };\n\
 chain c 8 lifetime 0 { map m(a: 32, b: 16); map n(a: 32); fixed f: 8; free u: 16; }\n\
@@ -174,12 +189,22 @@ e.u = ((7));\n\
 forward e.u + 1 - 2;\n\
 }\n\
 }\n\
-"
-            .as_slice(),
-    ];
-    for text in texts.iter() {
-        assert!(rt; parse(rt.alloc(), text).is_ok());
+",
+];
+
+fn forms() -> &'static [&'static [u8]] {
+    &FORMS
+}
+
+#[test]
+fn every_form_is_read(rt: HostRuntime) {
+    for text in forms() {
+        assert!(rt; is_read(rt.alloc(), text));
     }
+}
+
+fn is_read(alloc: Global, text: &[u8]) -> bool {
+    parse(alloc, text).is_ok()
 }
 
 #[test]
@@ -206,18 +231,22 @@ fn is_too_long(alloc: Global, text: &[u8]) -> bool {
     }
 }
 
-#[test]
-fn a_block_as_long_as_the_text_is_read(rt: HostRuntime) {
+/// A text whose one block has so many statements, and so many spaces behind it.
+fn long(alloc: Global, spaces: u32) -> Result<Vec<u8>, AllocError> {
     let front = b"nf x { ports 1; on 0 { get e = c.m(src_ip) { ";
-    let Ok(mut text) = repeated(rt.alloc(), front, b"touch e;", 131065, b"} } }") else {
-        assert!(rt; false);
-        return;
-    };
-    for _ in 0..6 {
-        assert!(rt; text.push(b' ').is_ok());
+    let mut text = repeated(alloc, front, b"touch e;", 131065, b"} } }")?;
+    for _ in 0..spaces {
+        text.push(b' ')?;
     }
+    Ok(text)
+}
+
+#[test]
+fn a_block_as_long_as_the_text_is_read(rt: HostRuntime) -> Result<(), AllocError> {
+    let text = long(rt.alloc(), 6)?;
     assert_eq!(rt; text.len(), 1048576);
-    assert!(rt; parse(rt.alloc(), text.as_slice()).is_ok());
-    assert!(rt; text.push(b' ').is_ok());
+    assert!(rt; is_read(rt.alloc(), text.as_slice()));
+    let text = long(rt.alloc(), 7)?;
     assert!(rt; is_too_long(rt.alloc(), text.as_slice()));
+    Ok(())
 }

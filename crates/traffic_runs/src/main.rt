@@ -4,13 +4,12 @@
 //! and the frame; and last a digest of all packets. `fuzz/traffic.py` prints the same.
 #![tactic(auto)]
 
-mod digest;
 #[cfg(test)]
 mod tests;
 
-use digest::Digest;
 use gen_traffic::Traffic;
 use nf_base::packet::PacketId;
+use run_samples::digest::Digest;
 use std::io;
 
 /// How many packets are printed.

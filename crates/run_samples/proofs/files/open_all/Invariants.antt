@@ -1,6 +1,6 @@
 use Rattle.std.proofs.Common.{◌≡◌, ◌+◌, ℕ, length, Some, slice_get}
 use Rattle.packet_feed.specs.Told.{EachFile}
-use Rattle.feed_runs.proofs.calls.open_all.Given as goal
+use Rattle.run_samples.proofs.files.open_all.Given as goal
 
 -- those so far are opened, and numbered in order
 abbrev pub invariant-loop-name : goal.invariant-loop-name

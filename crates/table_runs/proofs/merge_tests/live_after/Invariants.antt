@@ -1,6 +1,0 @@
--- at most one for each index
-use Rattle.std.proofs.Common.{◌≤◌}
-use Rattle.table_runs.proofs.merge_tests.live_after.Given as goal
-
-abbrev pub invariant-loop-i : goal.invariant-loop-i
-invariant-loop-i l = l.count ≤ l.i
