@@ -30,7 +30,7 @@ IsReadFault (NotCapture port) = ⊥
 IsReadFault (File port) = Unit {0}
 IsReadFault Memory = Unit {0}
 
--- a fault of one of these files, or of none
+-- a fault of reading is of one of these files; whose header is wrong, is told where a feed starts
 abbrev pub IsOneOf : List ℕ → FeedFault → Type 0
 IsOneOf files (NotCapture port) = Unit {0}
 IsOneOf files (File port) = IsSome (slice_get files port)
