@@ -13,10 +13,11 @@ use Rattle.nf_base.specs.View.{given_of}
 use Rattle.nf_base.specs.declared.decl.MapDecl.{MapDecl}
 use Rattle.nf_sites.specs.declared.sort.Sort.{Sort}
 use Rattle.nf_sites.specs.Named.{Named, named_as, numbered}
-use Rattle.nf_sites.specs.Known.{field_given}
+use Rattle.nf_sites.specs.Known.{field_set}
 use Rattle.nf_sites.specs.Sites as text
 use Rattle.nf_sites.specs.Sites.{name_site, name_sites}
-use Rattle.hash_fields.specs.declared.hashable.Hashable.{Hashable}
+use Rattle.nf_base.specs.declared.packet.Field.{Field}
+use Rattle.nf_base.specs.declared.packet.Door.{Door}
 use Rattle.access_keys.specs.declared.site.Site.{Site}
 use Rattle.access_keys.specs.declared.access.Here.{Here}
 use Rattle.access_keys.specs.Together.{new_seen}
@@ -64,13 +65,13 @@ puts_all h a b f v xs i l p =
 
 -- the look-ups of one map more
 pub name_sites-append :
-    (port : ℕ) (n : Creation) (k : ℕ) (ms : List MapDecl) (d : MapDecl) →
-    name_sites port n k (ms ++ d ∷ []) ≡ name_sites port n k ms ++ name_site port n (k + length ms) d ∷ []
-name_sites-append port n k [] d = ap (λ m. name_site port n m d ∷ []) (omega arith)
-name_sites-append port n k (m ∷ ms) d =
-    ap (λ r. name_site port n k m ∷ r)
-    (name_sites-append port n (suc k) ms d
-    ∙ ap (λ j. name_sites port n (suc k) ms ++ name_site port n j d ∷ []) (omega arith))
+    (door : Door) (n : Creation) (k : ℕ) (ms : List MapDecl) (d : MapDecl) →
+    name_sites door n k (ms ++ d ∷ []) ≡ name_sites door n k ms ++ name_site door n (k + length ms) d ∷ []
+name_sites-append door n k [] d = ap (λ m. name_site door n m d ∷ []) (omega arith)
+name_sites-append door n k (m ∷ ms) d =
+    ap (λ r. name_site door n k m ∷ r)
+    (name_sites-append door n (suc k) ms d
+    ∙ ap (λ j. name_sites door n (suc k) ms ++ name_site door n j d ∷ []) (omega arith))
 
 -- a site at a place that is not reached
 pub puts_unreached : (h : Here) (a : List Site) (s : text.Site) → has h.places.now s.place ≡ false → Puts h a a (s ∷ [])
@@ -112,14 +113,14 @@ drop-map f (suc n) (x ∷ xs) = drop-map f n xs
 
 -- the look-up of one map more
 pub names_more :
-    (h : Here) (a b c : List Site) (port : ℕ) (n : Creation) (ms : List MapDecl) (i : ℕ) (d : MapDecl) → i < length ms → d ≡ get_or ms i d →
-    Puts h a b (name_sites port n 0 (take i ms)) → Puts h b c (name_site port n i d ∷ []) → Puts h a c (name_sites port n 0 (take (i + 1) ms))
-names_more h a b c port n ms i d l e p q =
-    let same : name_sites port n 0 (take i ms) ++ name_site port n i d ∷ [] ≡ name_sites port n 0 (take (i + 1) ms) =
+    (h : Here) (a b c : List Site) (door : Door) (n : Creation) (ms : List MapDecl) (i : ℕ) (d : MapDecl) → i < length ms → d ≡ get_or ms i d →
+    Puts h a b (name_sites door n 0 (take i ms)) → Puts h b c (name_site door n i d ∷ []) → Puts h a c (name_sites door n 0 (take (i + 1) ms))
+names_more h a b c door n ms i d l e p q =
+    let same : name_sites door n 0 (take i ms) ++ name_site door n i d ∷ [] ≡ name_sites door n 0 (take (i + 1) ms) =
     sym
-    (ap (name_sites port n 0) (taken_more ms i d l e) ∙ name_sites-append port n 0 (take i ms) d
-    ∙ ap (λ j. name_sites port n 0 (take i ms) ++ name_site port n j d ∷ []) (ap (λ j. 0 + j) (length-take-le i ms (omega arith)) ∙ omega arith)) in
-    subst (λ r. Puts h a c r) same (puts_both h a b c (name_sites port n 0 (take i ms)) (name_site port n i d ∷ []) p q)
+    (ap (name_sites door n 0) (taken_more ms i d l e) ∙ name_sites-append door n 0 (take i ms) d
+    ∙ ap (λ j. name_sites door n 0 (take i ms) ++ name_site door n j d ∷ []) (ap (λ j. 0 + j) (length-take-le i ms (omega arith)) ∙ omega arith)) in
+    subst (λ r. Puts h a c r) same (puts_both h a b c (name_sites door n 0 (take i ms)) (name_site door n i d ∷ []) p q)
 
 -- some were put, and a call that may fail puts more
 pub puts_both_ok :
@@ -131,30 +132,30 @@ puts_both_ok r h a b c xs ys p q =
 
 -- a call that puts a site at a chain
 pub put_as :
-    {T E : Type 0} (r : Result T E) (h : Here) (a b : List Site) (port : ℕ) (way : Sort) (place chain : ℕ) (named : List (Named (Option Hashable)))
-    (xs : List (Named Given)) → map (named_as field_given) xs ≡ named →
-    OnOk r ((given : List (Named Given)) → map (named_as field_given) given ≡ named → Puts h a b (chain_site port way place chain given ∷ [])) →
-    OnOk r (Puts h a b (chain_site port way place chain xs ∷ []))
-put_as r h a b port way place chain named xs e q =
-    let at : ((given : List (Named Given)) → map (named_as field_given) given ≡ named → Puts h a b (chain_site port way place chain given ∷ [])) → Puts h a b (chain_site port way place chain xs ∷ []) =
+    {T E : Type 0} (r : Result T E) (h : Here) (a b : List Site) (door : Door) (way : Sort) (place chain : ℕ) (named : List (Named (Option Field)))
+    (xs : List (Named Given)) → map (named_as field_set) xs ≡ named →
+    OnOk r ((given : List (Named Given)) → map (named_as field_set) given ≡ named → Puts h a b (chain_site door way place chain given ∷ [])) →
+    OnOk r (Puts h a b (chain_site door way place chain xs ∷ []))
+put_as r h a b door way place chain named xs e q =
+    let at : ((given : List (Named Given)) → map (named_as field_set) given ≡ named → Puts h a b (chain_site door way place chain given ∷ [])) → Puts h a b (chain_site door way place chain xs ∷ []) =
     λ f. f xs e in
     on_ok_weaker r at q
 
 -- labels by number, with the fields that values are
 pub same_numbered :
-    (n k : ℕ) (gs : List given.Given) (fs : List (Option Hashable)) (ns : List (Named (Option Hashable))) → k ≡ n →
-    fs ≡ map (λ (g : given.Given). field_given (given_of g)) gs → ns ≡ numbered k fs →
-    map (named_as field_given) (numbered n (map given_of gs)) ≡ ns
+    (n k : ℕ) (gs : List given.Given) (fs : List (Option Field)) (ns : List (Named (Option Field))) → k ≡ n →
+    fs ≡ map (λ (g : given.Given). field_set (given_of g)) gs → ns ≡ numbered k fs →
+    map (named_as field_set) (numbered n (map given_of gs)) ≡ ns
 same_numbered n k gs fs ns e f g =
-    numbered-map field_given n (map given_of gs) ∙ ap (numbered n) (map-map field_given given_of gs ∙ sym f)
+    numbered-map field_set n (map given_of gs) ∙ ap (numbered n) (map-map field_set given_of gs ∙ sym f)
     ∙ ap (λ m. numbered m fs) (sym e) ∙ sym g
 
 -- and those of a part of them
 pub same_part :
-    (n p : ℕ) (gs : List Given) (fs key : List (Option Hashable)) (ns : List (Named (Option Hashable))) → fs ≡ map field_given gs →
-    key ≡ take p (drop n fs) → ns ≡ numbered n key → map (named_as field_given) (numbered n (take p (drop n gs))) ≡ ns
+    (n p : ℕ) (gs : List Given) (fs key : List (Option Field)) (ns : List (Named (Option Field))) → fs ≡ map field_set gs →
+    key ≡ take p (drop n fs) → ns ≡ numbered n key → map (named_as field_set) (numbered n (take p (drop n gs))) ≡ ns
 same_part n p gs fs key ns e f g =
-    numbered-map field_given n (take p (drop n gs))
+    numbered-map field_set n (take p (drop n gs))
     ∙ ap (numbered n)
-    (sym (take-map field_given p (drop n gs)) ∙ ap (take p) (sym (drop-map field_given n gs) ∙ ap (drop n) (sym e)) ∙ sym f)
+    (sym (take-map field_set p (drop n gs)) ∙ ap (take p) (sym (drop-map field_set n gs) ∙ ap (drop n) (sym e)) ∙ sym f)
     ∙ sym g

@@ -6,7 +6,7 @@ use Rattle.std.proofs.lemmas.List.Concat.{flat_map-append}
 use Rattle.std.proofs.lemmas.List.Elements.{filter_map-append}
 use Rattle.std.proofs.lemmas.List.Folds.{list_all-append}
 use Rattle.std.proofs.lemmas.List.FromFn.{get_or-map-range_with_len, length-map-range_with_len}
-use Rattle.hash_fields.specs.declared.hashable.Hashable.{Hashable}
+use Rattle.nf_base.specs.declared.packet.Field.{Field}
 use Rattle.nf_sites.specs.Named.{Named, numbered, lesser, least}
 use Rattle.access_keys.specs.declared.named.NamedField.{NamedField}
 use Rattle.access_keys.specs.Speaking.{named_seen}
@@ -85,14 +85,14 @@ kept_at h v cs ds xs i d l p q =
 
 -- one label by number more
 pub numbered_more :
-    (first : ℕ) (fields : List (Option Hashable)) (i n : ℕ) (d : Option Hashable) (all new : List NamedField) → i < length fields → n ≡ i →
+    (first : ℕ) (fields : List (Option Field)) (i n : ℕ) (d : Option Field) (all new : List NamedField) → i < length fields → n ≡ i →
     map named_seen all ≡ numbered first (take i fields) → new ≡ all ++ record { label = first + n; field = get_or fields i d } ∷ [] →
     map named_seen new ≡ numbered first (take (i + 1) fields)
 numbered_more first fields i n d all new l e p q =
     let last : NamedField = record { label = first + n; field = get_or fields i d } in
     let here : first + n ≡ first + length (take i fields) = ap (λ m. first + m) (e ∙ sym (length-take-le i fields (omega arith))) in
     ap (map named_seen) q ∙ map-append named_seen all (last ∷ []) ∙ ap (λ r. r ++ named_seen last ∷ []) p
-    ∙ ap (λ m. let x : Named (Option Hashable) = record { label = m; given = get_or fields i d } in numbered first (take i fields) ++ x ∷ []) here
+    ∙ ap (λ m. let x : Named (Option Field) = record { label = m; given = get_or fields i d } in numbered first (take i fields) ++ x ∷ []) here
     ∙ sym (ap (numbered first) (take_more fields i d l) ∙ numbered-append first (take i fields) (get_or fields i d))
 
 -- the least of one more of those behind
@@ -121,6 +121,10 @@ ports_more f v n bs cs p q =
     ∙ ap (map v)
     (ap (λ r. flat_map f (range_with_len 0 n) ++ r) (sym (append-nil (f n))) ∙ ap (λ m. flat_map f (range_with_len 0 n) ++ (f m ++ [])) (omega arith)
     ∙ sym (ap (flat_map f) (range-more 0 n) ∙ flat_map-append f (range_with_len 0 n) ((0 + n) ∷ [])))
+
+pub flat_flat : {A B C : Type 0} (g : B → List C) (h : A → List B) (xs : List A) → flat_map g (flat_map h xs) ≡ flat_map (λ x. flat_map g (h x)) xs
+flat_flat g h [] = refl
+flat_flat g h (x ∷ xs) = flat_map-append g (h x) (flat_map h xs) ∙ ap (λ r. flat_map g (h x) ++ r) (flat_flat g h xs)
 
 pub get_or-map : {A B : Type 0} (v : A → B) (xs : List A) (i : ℕ) (d : A) → get_or (map v xs) i (v d) ≡ v (get_or xs i d)
 get_or-map v [] i d = refl

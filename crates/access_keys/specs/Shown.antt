@@ -1,12 +1,13 @@
 -- Sites as they are told, with what each knows.
 use Rattle.std.specs.Prelude.{◌≡◌, ℕ, Bool, List, ◌++◌, map, filter}
 use Rattle.nf_base.specs.declared.decl.ChainDecl.{ChainDecl}
+use Rattle.nf_base.specs.declared.packet.Door.{Door}
 use Rattle.nf_base.specs.declared.decl.ObjectId.TheVariants as object
 use Rattle.nf_base.specs.Text.{Given}
 use Rattle.nf_sites.specs.declared.sort.Sort.{Sort}
 use Rattle.nf_sites.specs.Named.{Named, named_as}
 use Rattle.nf_sites.specs.Sites as text
-use Rattle.nf_sites.specs.Known.{field_given}
+use Rattle.nf_sites.specs.Known.{field_set}
 use Rattle.access_keys.specs.declared.site.Site.{Site}
 use Rattle.access_keys.specs.declared.access.Here.{Here}
 use Rattle.access_keys.specs.Together.{SetFields, new_seen}
@@ -14,10 +15,10 @@ use Rattle.access_keys.specs.Speaking.{known_by}
 use Rattle.access_keys.specs.Reached.{has}
 
 -- a site at a chain
-abbrev pub chain_site : ℕ → Sort → ℕ → ℕ → List (Named Given) → text.Site
-chain_site port way place chain given = record {
+abbrev pub chain_site : Door → Sort → ℕ → ℕ → List (Named Given) → text.Site
+chain_site door way place chain given = record {
   object = object.Chain chain;
-  port = port;
+  door = door;
   place = place;
   sort = way;
   named = given;
@@ -27,10 +28,10 @@ chain_site port way place chain given = record {
 abbrev pub shown : List SetFields → List ChainDecl → text.Site → Site
 shown all decls s = record {
   object = s.object;
-  port = s.port;
+  door = s.door;
   place = s.place;
   sort = s.sort;
-  known = known_by all decls s.object (map (named_as field_given) s.named);
+  known = known_by s.door.family all decls s.object (map (named_as field_set) s.named);
 }
 
 -- of sites, those at places that pass

@@ -9,7 +9,7 @@ use Rattle.access_keys.specs.declared.site.Site.{Site}
 abbrev pub site_told : Function → text.Site → Site
 site_told f s = record {
   object = s.object;
-  port = s.port;
+  door = s.door;
   place = s.place;
   sort = s.sort;
   known = known_labels f s;

@@ -12,35 +12,36 @@ use crate::read_order::by_first_read;
 use crate::site::Site;
 use nf_base::decl::{ChainDecl, ObjectId};
 use nf_base::expr::{Expr, Given, Guard};
+use nf_base::packet::Door;
 use nf_sites::Sort;
 use std::alloc::{AllocError, Global};
 
-/// A port's text, as far as its sites need it.
+/// A handler's text, as far as its sites need it.
 #[derive(Clone, Copy)]
 pub struct Here<'a> {
-    pub port: u32,
+    pub door: Door,
     /// The function's chains.
     pub decls: &'a [ChainDecl],
     /// The fields that each `new` of the function sets.
     pub all: &'a [NewFields],
-    /// The places that the port's feasible paths come to.
+    /// The places that the handler's feasible paths come to.
     pub places: &'a Places,
 }
 
 impl<'a> Here<'a> {
     pub fn of(
-        port: u32,
+        door: Door,
         decls: &'a [ChainDecl],
         all: &'a [NewFields],
         places: &'a Places,
     ) -> Here<'a>
-        ensures port { result.port ≡ port }
+        ensures door { result.door ≡ door }
         ensures decls { result.decls.now ≡ decls.now }
         ensures all { result.all.now ≡ all.now }
         ensures places { result.places.now ≡ places.now }
     {
         Here {
-            port,
+            door,
             decls,
             all,
             places,
@@ -59,13 +60,13 @@ pub fn put_cell(
     sites: &mut Vec<Site>,
 ) -> Result<(), AllocError>
     ensures { OnOk result (Puts here.now sites.old.items sites.new.items
-        (cell_site here.now.port sort place array (expression_of at.now) ∷ [])) }
+        (cell_site here.now.door sort place array (expression_of at.now) ∷ [])) }
 {
     if here.places.has(place) {
-        let known = index_known(alloc, at)?;
+        let known = index_known(alloc, here.door.family, at)?;
         sites.push(Site {
             object: ObjectId::Array(array),
-            port: here.port,
+            door: here.door,
             place,
             sort,
             known,
@@ -82,7 +83,7 @@ pub fn put_value(
     sites: &mut Vec<Site>,
 ) -> Result<(), AllocError>
     ensures { OnOk result (Puts here.now sites.old.items sites.new.items
-        (expression_sites here.now.port (expression_of value.now))) }
+        (expression_sites here.now.door (expression_of value.now))) }
 {
     match value {
         Expr::Number(_) => Ok(()),
@@ -109,7 +110,7 @@ pub fn put_given(
     sites: &mut Vec<Site>,
 ) -> Result<(), AllocError>
     ensures { OnOk result (Puts here.now sites.old.items sites.new.items
-        (given_sites here.now.port (map given_of given.now))) }
+        (given_sites here.now.door (map given_of given.now))) }
 {
     for one in given {
         put_value(alloc, here, &one.value, sites)?;
@@ -125,7 +126,7 @@ pub fn put_labels(
     sites: &mut Vec<Site>,
 ) -> Result<(), AllocError>
     ensures { OnOk result (Puts here.now sites.old.items sites.new.items
-        (given_sites here.now.port (by_first_read (map given_of labels.now)))) }
+        (given_sites here.now.door (by_first_read (map given_of labels.now)))) }
 {
     let values = by_first_read(alloc, labels)?;
     for one in values.as_slice() {
@@ -142,7 +143,7 @@ pub fn put_guards(
     sites: &mut Vec<Site>,
 ) -> Result<(), AllocError>
     ensures { OnOk result (Puts here.now sites.old.items sites.new.items
-        (guard_sites here.now.port (map guard_of guards.now))) }
+        (guard_sites here.now.door (map guard_of guards.now))) }
 {
     for one in guards {
         put_value(alloc, here, &one.given.value, sites)?;

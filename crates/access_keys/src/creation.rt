@@ -2,14 +2,17 @@
 ghost use Rattle.std.specs.Prelude.{◌≡◌, ◌++◌, IfOk, OnOk, map};
 ghost use Rattle.std.specs.List.{flat_map};
 ghost use Rattle.nf_base.specs.Functions.{function_of};
+ghost use Rattle.nf_base.specs.Handlers.{blocks_of};
 ghost use Rattle.nf_base.specs.View.{block_of, creation_of};
 ghost use Rattle.path_walk.specs.Order.{head_of, head_seen};
-ghost use Rattle.access_keys.specs.Together.{new_seen, set_fields, set_in, all_set, alike, are_together};
+ghost use Rattle.access_keys.specs.Together.{new_seen, set_fields, set_in, set_along, set_at, all_set, alike, are_together};
 
 use crate::field::{field_at, fields_given, same_field};
-use hash_fields::Hashable;
 use nf_base::block::{Block, Creation};
 use nf_base::func::Func;
+use nf_base::handler::Handler;
+use nf_base::packet::Field;
+use nf_base::port_handlers::PortHandlers;
 use path_walk::all_statements;
 use std::alloc::{AllocError, Global};
 
@@ -17,7 +20,7 @@ use std::alloc::{AllocError, Global};
 #[derive(Drop)]
 pub struct NewFields {
     pub chain: u32,
-    pub fields: Vec<Option<Hashable>>,
+    pub fields: Vec<Option<Field>>,
 }
 
 /// The fields of one `new`.
@@ -63,14 +66,34 @@ fn put_news(
     Ok(())
 }
 
+/// The fields of each `new` of a handler, behind others.
+fn put_handler(alloc: Global, handler: &Handler, all: &mut Vec<NewFields>) -> Result<(), AllocError>
+    ensures { OnOk result (map new_seen all.new.items ≡ map new_seen all.old.items
+        ++ set_along (block_of handler.now.block)) }
+{
+    let statements = all_statements(alloc, &handler.block)?;
+    put_news(alloc, statements.as_slice(), all)
+}
+
+/// The fields of each `new` of a port's handlers, behind others.
+fn put_port(alloc: Global, port: &PortHandlers, all: &mut Vec<NewFields>) -> Result<(), AllocError>
+    ensures { OnOk result (map new_seen all.new.items ≡ map new_seen all.old.items
+        ++ set_at (blocks_of port.now)) }
+{
+    put_handler(alloc, &port.four, all)?;
+    match &port.six {
+        Some(six) => put_handler(alloc, six, all),
+        None => Ok(()),
+    }
+}
+
 /// The fields of each `new` of a function.
 pub fn all_new(alloc: Global, func: &Func) -> Result<Vec<NewFields>, AllocError>
     ensures { IfOk result (λ all. map new_seen all.items ≡ all_set (function_of func.now)) }
 {
     let mut all = Vec::new(alloc);
-    for handler in func.handlers.as_slice() {
-        let statements = all_statements(alloc, &handler.block)?;
-        put_news(alloc, statements.as_slice(), &mut all)?;
+    for port in func.handlers.as_slice() {
+        put_port(alloc, port, &mut all)?;
     }
     Ok(all)
 }

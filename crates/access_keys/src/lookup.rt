@@ -3,7 +3,7 @@ ghost use Rattle.std.specs.Prelude.{◌≡◌, ◌≤◌, ◌∷◌, [], List, O
 ghost use Rattle.nf_base.specs.Chains.{maps_of};
 ghost use Rattle.nf_base.specs.Text as text;
 ghost use Rattle.nf_base.specs.View.{given_of, guard_of, creation_of};
-ghost use Rattle.nf_sites.specs.Known.{field_given};
+ghost use Rattle.nf_sites.specs.Known.{field_set};
 ghost use Rattle.nf_sites.specs.Named.{Named, named_as};
 ghost use Rattle.nf_sites.specs.Sites.{first_label, get_site, find_site, new_site, name_site, name_sites};
 ghost use Rattle.access_keys.specs.Shown.{chain_site, Puts};
@@ -14,10 +14,10 @@ use crate::field::{fields_given, part};
 use crate::known::{fields_known, label_count};
 use crate::named::{NamedField, guarded, numbered};
 use crate::site::Site;
-use hash_fields::Hashable;
 use nf_base::block::Creation;
 use nf_base::decl::{ChainDecl, MapDecl, ObjectId};
 use nf_base::expr::{Given, Guard};
+use nf_base::packet::Field;
 use nf_sites::Sort;
 use std::alloc::{AllocError, Global};
 
@@ -52,16 +52,16 @@ fn put_chain(
     named: &[NamedField],
     sites: &mut Vec<Site>,
 ) -> Result<(), AllocError>
-    ensures { OnOk result ((given : List (Named text.Given)) → map (named_as field_given) given
+    ensures { OnOk result ((given : List (Named text.Given)) → map (named_as field_set) given
         ≡ map named_seen named.now → Puts here.now sites.old.items sites.new.items
-        (chain_site here.now.port sort place chain given ∷ [])) }
+        (chain_site here.now.door sort place chain given ∷ [])) }
 {
     if here.places.has(place) {
         let count = label_count(here.decls, chain);
-        let known = fields_known(alloc, here.all, chain, named, count)?;
+        let known = fields_known(alloc, here.door.family, here.all, chain, named, count)?;
         sites.push(Site {
             object: ObjectId::Chain(chain),
-            port: here.port,
+            door: here.door,
             place,
             sort,
             known,
@@ -81,7 +81,7 @@ pub fn put_get(
     sites: &mut Vec<Site>,
 ) -> Result<(), AllocError>
     ensures { OnOk result (Puts here.now sites.old.items sites.new.items
-        (get_site here.now.decls.now here.now.port place chain m (map given_of key.now) ∷ [])) }
+        (get_site here.now.decls.now here.now.door place chain m (map given_of key.now) ∷ [])) }
 {
     let fields = fields_given(alloc, key)?;
     let first = first_label(here.decls, chain, m);
@@ -107,7 +107,7 @@ pub fn put_find(
     sites: &mut Vec<Site>,
 ) -> Result<(), AllocError>
     ensures { OnOk result (Puts here.now sites.old.items sites.new.items
-        (find_site here.now.port place chain (map guard_of guards.now) ∷ [])) }
+        (find_site here.now.door place chain (map guard_of guards.now) ∷ [])) }
 {
     let named = guarded(alloc, guards)?;
     put_chain(
@@ -126,14 +126,14 @@ fn put_name(
     alloc: Global,
     here: &Here<'_>,
     creation: &Creation,
-    fields: &[Option<Hashable>],
+    fields: &[Option<Field>],
     m: u32,
     decl: &MapDecl,
     sites: &mut Vec<Site>,
 ) -> Result<(), AllocError>
-    requires { fields.now ≡ map field_given (creation_of creation.now).labels }
+    requires { fields.now ≡ map field_set (creation_of creation.now).labels }
     ensures { OnOk result (Puts here.now sites.old.items sites.new.items
-        (name_site here.now.port (creation_of creation.now) m decl.now ∷ [])) }
+        (name_site here.now.door (creation_of creation.now) m decl.now ∷ [])) }
 {
     let key = part(fields, decl.first, decl.parts);
     let named = numbered(alloc, decl.first, key)?;
@@ -153,12 +153,12 @@ fn put_names(
     alloc: Global,
     here: &Here<'_>,
     creation: &Creation,
-    fields: &[Option<Hashable>],
+    fields: &[Option<Field>],
     sites: &mut Vec<Site>,
 ) -> Result<(), AllocError>
-    requires { fields.now ≡ map field_given (creation_of creation.now).labels }
+    requires { fields.now ≡ map field_set (creation_of creation.now).labels }
     ensures { OnOk result (Puts here.now sites.old.items sites.new.items
-        (name_sites here.now.port (creation_of creation.now) 0
+        (name_sites here.now.door (creation_of creation.now) 0
         (maps_of here.now.decls.now creation.now.chain))) }
 {
     let maps = maps_of(here.decls, creation.chain);
@@ -176,7 +176,7 @@ pub fn put_new(
     sites: &mut Vec<Site>,
 ) -> Result<(), AllocError>
     ensures { OnOk result (Puts here.now sites.old.items sites.new.items
-        (new_site here.now.port (creation_of creation.now) ∷ name_sites here.now.port
+        (new_site here.now.door (creation_of creation.now) ∷ name_sites here.now.door
         (creation_of creation.now) 0 (maps_of here.now.decls.now creation.now.chain))) }
 {
     let fields = fields_given(alloc, creation.labels.as_slice())?;

@@ -21,7 +21,7 @@ fn put_operation(
     sites: &mut Vec<Site>,
 ) -> Result<(), AllocError>
     ensures { OnOk result (Puts here.now sites.old.items sites.new.items
-        (operation_sites here.now.port (operation_of operation.now))) }
+        (operation_sites here.now.door (operation_of operation.now))) }
 {
     match operation {
         Operation::Touch { .. } => Ok(()),
@@ -49,7 +49,7 @@ fn put_question(
     sites: &mut Vec<Site>,
 ) -> Result<(), AllocError>
     ensures { OnOk result (Puts here.now sites.old.items sites.new.items
-        (question_sites here.now.decls.now here.now.port (question_of question.now))) }
+        (question_sites here.now.decls.now here.now.door (question_of question.now))) }
 {
     match question {
         Question::Get {
@@ -88,7 +88,7 @@ fn put_creation(
     sites: &mut Vec<Site>,
 ) -> Result<(), AllocError>
     ensures { OnOk result (Puts here.now sites.old.items sites.new.items
-        (creation_sites here.now.decls.now here.now.port (creation_of creation.now))) }
+        (creation_sites here.now.decls.now here.now.door (creation_of creation.now))) }
 {
     put_new(alloc, here, creation, sites)?;
     put_labels(alloc, here, creation.labels.as_slice(), sites)
@@ -102,7 +102,7 @@ fn put_ending(
     sites: &mut Vec<Site>,
 ) -> Result<(), AllocError>
     ensures { OnOk result (Puts here.now sites.old.items sites.new.items
-        (ending_sites here.now.port (ending_of ending.now))) }
+        (ending_sites here.now.door (ending_of ending.now))) }
 {
     match ending {
         Ending::FallsOff => Ok(()),
@@ -120,7 +120,7 @@ fn put_statement(
     sites: &mut Vec<Site>,
 ) -> Result<(), AllocError>
     ensures { OnOk result (Puts here.now sites.old.items sites.new.items
-        (statement_sites here.now.decls.now here.now.port (head_of (block_of block.now)))) }
+        (statement_sites here.now.decls.now here.now.door (head_of (block_of block.now)))) }
 {
     match block {
         Block::End(ending) => put_ending(alloc, here, ending, sites),
@@ -138,7 +138,7 @@ pub fn put_statements(
     sites: &mut Vec<Site>,
 ) -> Result<(), AllocError>
     ensures { OnOk result (Puts here.now sites.old.items sites.new.items
-        (sites_along here.now.decls.now here.now.port (map head_seen statements.now))) }
+        (sites_along here.now.decls.now here.now.door (map head_seen statements.now))) }
 {
     for one in statements {
         put_statement(alloc, here, one, sites)?;

@@ -1,12 +1,16 @@
 -- The captures under some names.
 use Rattle.std.specs.Prelude.{◌≡◌, ℕ, ◌<◌, List, slice_get, Option, Some}
+use Rattle.nf_base.specs.Text.{Function}
+use Rattle.nf_base.specs.Doors.{six_ports, six_at}
 use Rattle.nf_files.specs.Told.{Told}
 use Rattle.packet_feed.specs.Arrivals.{Arrival}
 use Rattle.packet_feed.specs.Told.{gathered, packets_in}
 
--- the packets of the captures under some names, of which the i-th is that of port i, where all are told
-abbrev pub packets_under : List (List ℕ) → Told → Option (List Arrival)
-packets_under names told = gathered (λ port n. packets_in port (told.content n)) 0 names
+-- the packets of the captures under some names, of which the i-th is that of a function's port i,
+-- where all are told
+abbrev pub packets_under : Function → List (List ℕ) → Told → Option (List Arrival)
+packets_under f names told =
+    gathered (λ port n. packets_in (six_at (six_ports f) port) port (told.content n)) 0 names
 
 -- so it is of what stands under each name below a port
 abbrev pub Below : (Option (List ℕ) → Type 0) → Told → List (List ℕ) → ℕ → Type 0

@@ -49,6 +49,7 @@ kind_text (kinds.Typing typing.ReadOnly) = codes "T05"
 kind_text (kinds.Typing typing.NotInScope) = codes "T06"
 kind_text (kinds.Typing typing.Limit) = codes "T07"
 kind_text (kinds.Typing typing.NoHandler) = codes "T08"
+kind_text (kinds.Typing typing.OtherFamily) = codes "T09"
 kind_text kinds.TooManyPaths = codes "P1"
 
 -- a packet, by its port and its number there

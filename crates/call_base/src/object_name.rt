@@ -40,16 +40,7 @@ impl ObjectName {
     pub fn in_func(func: &Func, object: ObjectId) -> ObjectName
         ensures { name_bytes result ≡ object_name (function_of func.now) object }
     {
-        match object {
-            ObjectId::Chain(chain) => match func.chains.as_slice().get(chain as usize) {
-                None => ObjectName::of(&[]),
-                Some(decl) => ObjectName::of(decl.name.as_slice()),
-            },
-            ObjectId::Array(array) => match func.arrays.as_slice().get(array as usize) {
-                None => ObjectName::of(&[]),
-                Some(decl) => ObjectName::of(decl.name.as_slice()),
-            },
-        }
+        ObjectName::of(func.object_name(object))
     }
 
     pub fn as_slice(&self) -> &[u8]

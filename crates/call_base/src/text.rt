@@ -80,6 +80,7 @@ fn kind_text(kind: Fault) -> &'static str
         Fault::Typing(TypingKind::NotInScope) => "T06",
         Fault::Typing(TypingKind::Limit) => "T07",
         Fault::Typing(TypingKind::NoHandler) => "T08",
+        Fault::Typing(TypingKind::OtherFamily) => "T09",
         Fault::TooManyPaths => "P1",
     }
 }

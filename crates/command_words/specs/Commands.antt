@@ -8,7 +8,8 @@ use Rattle.command_words.specs.declared.command.Description.TheVariants.{Check, 
 use Rattle.command_words.specs.declared.command.ModeChoice.{ModeChoice}
 use Rattle.command_words.specs.declared.command.ModeChoice.TheVariants.{Auto, Shard, Lock}
 use Rattle.command_words.specs.Grammar.{app}
-use Rattle.command_words.specs.Texts.{and_then, Endpoint, number_up_to, workers_in, flows_in, endpoint_in, key_in}
+use Rattle.command_words.specs.declared.endpoint.Ends.{Ends}
+use Rattle.command_words.specs.Texts.{and_then, number_up_to, workers_in, flows_in, endpoint_in, ends_between, key_in}
 
 -- a run: the names of the function's file and of each port's capture, the front of the names of what
 -- it leaves, how many workers handle the packets, in which mode, and the most packets that are handled
@@ -43,8 +44,7 @@ pub record Gen : Type 0 where
 
 -- a hash: the packet's two ends, the key where one is given, and the number of workers
 pub record Hash : Type 0 where
-  pub source : Endpoint
-  pub destination : Endpoint
+  pub ends : Ends
   pub key : Option (List ℕ)
   pub workers : ℕ
 
@@ -128,12 +128,17 @@ abbrev pub given_key : Option Text → Option (Option (List ℕ))
 given_key None = Some None
 given_key (Some text) = option_map (λ key. Some key) (key_in text)
 
+-- two ends whose addresses are of one version of IP
+abbrev pub ends_in : Option Text → Option Text → Option Ends
+ends_in source destination =
+    and_then (and_then source endpoint_in) (λ s.
+    and_then (and_then destination endpoint_in) (λ d. ends_between s d))
+
 abbrev pub hash_in : List Row → Option Hash
 hash_in rows =
-    and_then (and_then (first_of (codes "source") rows) endpoint_in) (λ s.
-    and_then (and_then (first_of (codes "destination") rows) endpoint_in) (λ d.
+    and_then (ends_in (first_of (codes "source") rows) (first_of (codes "destination") rows)) (λ ends.
     and_then (given_key (first_of (codes "key") rows)) (λ key.
-    option_map (λ w. record { source = s; destination = d; key = key; workers = w }) (or_default 1 workers_in (first_of (codes "workers") rows)))))
+    option_map (λ w. record { ends = ends; key = key; workers = w }) (or_default 1 workers_in (first_of (codes "workers") rows))))
 
 -- which text on a function a name asks for
 abbrev pub description_named : Text → Option Description

@@ -3,7 +3,13 @@ use Rattle.std.specs.Prelude.{ℕ, ◌+◌, ◌*◌, ◌==◌, nat_le, not, ◌&
 use Rattle.std.specs.List.{range_with_len}
 use Rattle.std.specs.Option.{option_map, option_and_then}
 use Rattle.nf_tokens.specs.Bytes.{is_hex_digit, digit_of, front_length}
-use Rattle.nf_tokens.specs.Numbers.{decimal, address, all_are}
+use Rattle.nf_tokens.specs.Numbers.{value_from, decimal, address, all_are}
+use Rattle.nf_base.specs.declared.packet.Addresses.{Addresses}
+use Rattle.nf_base.specs.declared.packet.Addresses.TheVariants as addresses
+use Rattle.command_words.specs.declared.endpoint.Address.{Address}
+use Rattle.command_words.specs.declared.endpoint.Address.TheVariants.{Four, Six}
+use Rattle.command_words.specs.declared.endpoint.Endpoint.{Endpoint}
+use Rattle.command_words.specs.declared.endpoint.Ends.{Ends}
 
 -- what comes of a value, where there is one
 abbrev pub and_then : {A B : Type 0} → Option A → (A → Option B) → Option B
@@ -25,11 +31,6 @@ workers_in text = and_then (number_up_to 16 text) (λ n. if n == 0 then None els
 abbrev pub flows_in : List ℕ → Option ℕ
 flows_in text = and_then (number_up_to 65536 text) (λ n. if n == 0 then None else Some n)
 
--- an IPv4 address and a port
-pub record Endpoint : Type 0 where
-  pub address : ℕ
-  pub port : ℕ
-
 -- a byte that is no colon
 abbrev pub in_address : ℕ → Bool
 in_address b = not (b == 58)
@@ -42,11 +43,37 @@ address_length text = front_length in_address text
 abbrev pub behind_colon : List ℕ → List ℕ
 behind_colon text = drop (address_length text + 1) text
 
+-- 32 digits of 0-9 a-f, an IPv6 address
+abbrev pub six_address : List ℕ → Option ℕ
+six_address text = if (length text == 32) && all_are is_hex_digit text then Some (value_from 16 0 text) else None
+
+-- an IPv6 address, and where there is none, an IPv4 one
+abbrev pub six_or_four : Option ℕ → Option ℕ → Option Address
+six_or_four None four = option_map (λ a. Four a) four
+six_or_four (Some six) four = Some (Six six)
+
+-- an address of either version of IP
+abbrev pub address_in : List ℕ → Option Address
+address_in text = six_or_four (six_address text) (address text)
+
 -- an address, a colon, and a port up to 65,535
 abbrev pub endpoint_in : List ℕ → Option Endpoint
 endpoint_in text =
-    and_then (address (take (address_length text) text)) (λ a.
+    and_then (address_in (take (address_length text) text)) (λ a.
     option_map (λ p. record { address = a; port = p }) (number_up_to 65535 (behind_colon text)))
+
+-- a source and a destination address, where they are of one version
+abbrev pub addresses_between : Address → Address → Option Addresses
+addresses_between (Four src) (Four dst) = Some (addresses.Four src dst)
+addresses_between (Four src) (Six dst) = None
+addresses_between (Six src) (Four dst) = None
+addresses_between (Six src) (Six dst) = Some (addresses.Six src dst)
+
+-- a source and a destination, where their addresses are of one version
+abbrev pub ends_between : Endpoint → Endpoint → Option Ends
+ends_between source destination =
+    option_map (λ found. record { addresses = found; source_port = source.port; destination_port = destination.port })
+    (addresses_between source.address destination.address)
 
 -- the byte that two hexadecimal digits make, the first one its high half
 abbrev pub byte_at : List ℕ → ℕ → ℕ

@@ -1,6 +1,5 @@
 -- What the declared commands stand for.
 use Rattle.std.specs.Prelude.{◌≤◌, map, length, string_bytes}
-use Rattle.command_words.specs.declared.endpoint.Endpoint as declared_endpoint
 use Rattle.command_words.specs.declared.command.RunCommand as declared_run
 use Rattle.command_words.specs.declared.command.ReplayCommand as declared_replay
 use Rattle.command_words.specs.declared.command.GenCommand as declared_gen
@@ -8,11 +7,7 @@ use Rattle.command_words.specs.declared.command.HashCommand as declared_hash
 use Rattle.command_words.specs.declared.command.DescribeCommand as declared_describe
 use Rattle.command_words.specs.declared.command.Command as declared_command
 use Rattle.command_words.specs.declared.command.Command.TheVariants as commands
-use Rattle.command_words.specs.Texts.{Endpoint}
 use Rattle.command_words.specs.Commands.{Run, Replay, Gen, Hash, Describe, Command, RunCommand, ReplayCommand, GenCommand, HashCommand, DescribeCommand}
-
-abbrev pub endpoint : declared_endpoint.Endpoint → Endpoint
-endpoint e = record { address = e.address; port = e.port }
 
 abbrev pub run : declared_run.RunCommand → Run
 run c = record {
@@ -45,7 +40,7 @@ gen c = record {
 }
 
 abbrev pub hash : declared_hash.HashCommand → Hash
-hash c = record { source = endpoint c.source; destination = endpoint c.destination; key = c.key; workers = c.workers }
+hash c = record { ends = c.ends; key = c.key; workers = c.workers }
 
 abbrev pub describe : declared_describe.DescribeCommand → Describe
 describe c = record { what = c.what; function = string_bytes c.function }

@@ -1,6 +1,6 @@
 //! What a command line asks for.
 
-use crate::endpoint::Endpoint;
+use crate::endpoint::Ends;
 use nf_base::workers::Workers;
 
 /// Which mode is asked for, of a run by two workers or more. One worker runs in mode `one`.
@@ -66,8 +66,8 @@ pub struct GenCommand {
 /// The hash of a packet between two ends.
 #[derive(Drop)]
 pub struct HashCommand {
-    pub source: Endpoint,
-    pub destination: Endpoint,
+    /// The packet's two ends.
+    pub ends: Ends,
     /// The key of the hash, 40 bytes, where one is given.
     pub key: Option<[u8; 40]>,
     /// How many workers the queues are for.

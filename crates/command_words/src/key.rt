@@ -1,40 +1,9 @@
 //! A key of the Toeplitz hash, as a text.
 
-ghost use Rattle.std.specs.Prelude.{◌≡◌, ◌≤◌, ◌<◌, ◌==◌, length};
-ghost use Rattle.nf_tokens.specs.Bytes.{is_hex_digit, digit_of, front_length};
+ghost use Rattle.std.specs.Prelude.{◌≡◌, ◌<◌, length};
 ghost use Rattle.command_words.specs.Texts.{byte_at, bytes_of_digits, key_in};
 
-fn is_hex_digit(b: u8) -> bool
-    ensures { result ≡ is_hex_digit b }
-{
-    (b'0' <= b && b <= b'9') || (b'a' <= b && b <= b'f')
-}
-
-/// The value of a hexadecimal digit.
-fn digit_of(b: u8) -> u8
-    ensures value { result ≡ digit_of b }
-    ensures within { result < 16 }
-{
-    if b'0' <= b && b <= b'9' {
-        b - b'0'
-    } else if b'a' <= b && b <= b'f' {
-        b - b'a' + 10
-    } else {
-        0
-    }
-}
-
-fn digits_length(text: &[u8]) -> usize
-    ensures value { result ≡ front_length is_hex_digit text.now }
-    ensures within { result ≤ length text.now }
-{
-    for (i, b) in text.iter().enumerate() {
-        if !is_hex_digit(*b) {
-            return i;
-        }
-    }
-    text.len()
-}
+use crate::digit::{are_digits, digit_of};
 
 /// The byte that the digits `2 i` and `2 i + 1` make.
 fn byte_at(digits: &[u8], i: usize) -> u8
@@ -61,7 +30,7 @@ fn bytes_of_digits(digits: &[u8]) -> [u8; 40]
 pub fn key_in(text: &[u8]) -> Option<[u8; 40]>
     ensures { result ≡ key_in text.now }
 {
-    if text.len() == 80 && digits_length(text) == text.len() {
+    if text.len() == 80 && are_digits(text) {
         Some(bytes_of_digits(text))
     } else {
         None

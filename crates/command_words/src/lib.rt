@@ -2,6 +2,7 @@
 #![tactic(auto)]
 
 mod command;
+mod digit;
 mod endpoint;
 mod grammar;
 mod key;
@@ -11,5 +12,5 @@ pub use command::{
     Command, DescribeCommand, Description, GenCommand, HashCommand, ModeChoice, ReplayCommand,
     RunCommand,
 };
-pub use endpoint::Endpoint;
+pub use endpoint::Ends;
 pub use words::command_of;

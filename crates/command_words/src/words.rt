@@ -10,7 +10,7 @@ use crate::command::{
     Command, DescribeCommand, Description, GenCommand, HashCommand, ModeChoice, ReplayCommand,
     RunCommand,
 };
-use crate::endpoint::{Endpoint, endpoint_in, number_up_to};
+use crate::endpoint::{Endpoint, Ends, endpoint_in, ends_between, number_up_to};
 use crate::grammar::all_words;
 use crate::key::key_in;
 use clap::ArgMatches;
@@ -223,9 +223,18 @@ fn gen_command(alloc: Global, matches: &ArgMatches) -> Result<Option<GenCommand>
 
 /// An address, a colon and a port, where they are there.
 fn end_in(text: Option<&str>) -> Option<Endpoint>
-    ensures { option_map view.endpoint result ≡ and_then (option_map (λ s. s.now) text.entry) endpoint_in }
+    ensures { result ≡ and_then (option_map (λ s. s.now) text.entry) endpoint_in }
 {
     endpoint_in(text?.as_bytes())
+}
+
+/// Two ends whose addresses are of one version of IP, where they are there.
+fn ends_in(source: Option<&str>, destination: Option<&str>) -> Option<Ends>
+    ensures { let from = option_map (λ s. s.now) source.entry in
+        let to = option_map (λ s. s.now) destination.entry in
+        result ≡ meant.ends_in from to }
+{
+    ends_between(end_in(source)?, end_in(destination)?)
 }
 
 /// A key, where one is given.
@@ -241,12 +250,13 @@ fn given_key(text: Option<&str>) -> Option<Option<[u8; 40]>>
 fn hash_command(matches: &ArgMatches) -> Option<HashCommand>
     ensures { option_map view.hash result ≡ meant.hash_in (rows_of (found_of matches.now)) }
 {
-    Some(HashCommand {
-        source: end_in(value(matches, "source"))?,
-        destination: end_in(value(matches, "destination"))?,
-        key: given_key(value(matches, "key"))?,
-        workers: workers_or_one(value(matches, "workers"))?,
-    })
+    let ends = ends_in(value(matches, "source"), value(matches, "destination"));
+    let key = given_key(value(matches, "key"));
+    let workers = workers_or_one(value(matches, "workers"));
+    match (ends, key, workers) {
+        (Some(ends), Some(key), Some(workers)) => Some(HashCommand { ends, key, workers }),
+        _ => None,
+    }
 }
 
 fn describe_command(

@@ -1,5 +1,5 @@
 -- What is printed of a function that is asked about.
-use Rattle.std.specs.Prelude.{◌≡◌, ℕ, List, [], ◌∷◌, ◌++◌, length, codes, decimal}
+use Rattle.std.specs.Prelude.{◌≡◌, ℕ, List, [], ◌∷◌, ◌++◌, Option, Some, None, length, codes, decimal}
 use Rattle.nf_base.specs.Text.{Function}
 use Rattle.command_words.specs.declared.command.Description.{Description}
 use Rattle.command_words.specs.declared.command.Description.TheVariants.{Check, Explain, Keys}
@@ -7,12 +7,22 @@ use Rattle.shard_rules.specs.Served.{own_sites, own_plan}
 use Rattle.key_synth.specs.declared.verdict.Verdict.{Verdict}
 use Rattle.key_synth.specs.Verdicts.{IsVerdict}
 use Rattle.verdict_text.specs.Verdict.{verdict_text, explained_whole}
+use Rattle.call_base.specs.declared.function.PathCounts.{PathCounts}
 use Rattle.call_base.specs.Source.{path_counts}
 
--- each number behind a space
-abbrev pub counts_text : List ℕ → List ℕ
+-- the number of a handler for IPv6 behind a slash, where there is one
+abbrev pub six_text : Option ℕ → List ℕ
+six_text None = []
+six_text (Some n) = codes "/" ++ decimal n
+
+-- a port's numbers behind a space
+abbrev pub count_text : PathCounts → List ℕ
+count_text counts = (codes " " ++ decimal counts.four) ++ six_text counts.six
+
+-- those of each port
+abbrev pub counts_text : List PathCounts → List ℕ
 counts_text [] = []
-counts_text (n ∷ ns) = (codes " " ++ decimal n) ++ counts_text ns
+counts_text (c ∷ cs) = count_text c ++ counts_text cs
 
 -- the name of a function, and how many ports, chains and arrays it has
 abbrev pub objects_text : Function → List ℕ
@@ -20,7 +30,7 @@ objects_text f =
     f.name ++ codes ": ports " ++ decimal (length f.handlers)
     ++ codes ", chains " ++ decimal (length f.chains) ++ codes ", arrays " ++ decimal (length f.arrays)
 
--- one line: the name, the ports, chains and arrays, and how many feasible paths each port has
+-- one line: the name, the ports, chains and arrays, and how many feasible paths each port's handlers have
 abbrev pub check_line : Function → List ℕ
 check_line f = codes "ok " ++ objects_text f ++ codes ", paths" ++ counts_text (path_counts f) ++ codes "\n"
 

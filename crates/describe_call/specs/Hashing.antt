@@ -7,26 +7,25 @@ use Rattle.toeplitz_hash.specs.declared.key.TheConstants.{DEFAULT_KEY}
 use Rattle.toeplitz_hash.specs.Toeplitz.{toeplitz_of}
 use Rattle.toeplitz_hash.specs.Packets.{input_bytes}
 use Rattle.rss_table.specs.Tables.{table_index, even_table, queue_at}
-use Rattle.command_words.specs.Texts.{Endpoint}
+use Rattle.command_words.specs.declared.endpoint.Ends.{Ends}
 use Rattle.command_words.specs.Commands.{Hash}
 
 -- the fields of a packet between two ends; the others are not hashed
-abbrev pub fields_between : Endpoint → Endpoint → Fields
-fields_between source destination = record {
+abbrev pub fields_between : Ends → Fields
+fields_between ends = record {
   length = 0;
   src_mac = 0;
   dst_mac = 0;
-  src_ip = source.address;
-  dst_ip = destination.address;
+  addresses = ends.addresses;
   proto = 0;
   ttl = 0;
-  src_port = source.port;
-  dst_port = destination.port;
+  src_port = ends.source_port;
+  dst_port = ends.destination_port;
 }
 
 -- the hash under the given key, or the default one
 abbrev pub hash_value : Hash → ℕ
-hash_value c = toeplitz_of (unwrap_or c.key DEFAULT_KEY) (input_bytes (fields_between c.source c.destination))
+hash_value c = toeplitz_of (unwrap_or c.key DEFAULT_KEY) (input_bytes (fields_between c.ends))
 
 -- 8 hexadecimal digits, the table index, and the queue of so many workers' queues
 abbrev pub line_of : ℕ → ℕ → List ℕ

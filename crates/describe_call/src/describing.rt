@@ -8,7 +8,7 @@ ghost use Rattle.describe_call.specs.Describing as meant;
 ghost use Rattle.describe_call.specs.Described.{PrintsText, DescribesTo};
 
 use crate::explaining::{explanation, verdict};
-use call_base::function::Source;
+use call_base::function::{PathCounts, Source};
 use call_base::loading::{NoFunction, read_function};
 use call_base::say::print_out;
 use call_base::status::Stop;
@@ -39,12 +39,23 @@ fn push_count(text: &mut Vec<u8>, what: &[u8], number: u32) -> Result<(), AllocE
     push_number(text, number)
 }
 
-// Each number behind a space.
-fn push_counts(text: &mut Vec<u8>, counts: &[u32]) -> Result<(), AllocError>
+// The number of a handler for IPv6 behind a slash, where there is one.
+fn push_six(text: &mut Vec<u8>, count: Option<u32>) -> Result<(), AllocError>
+    ensures { OnOk result (text.new.items ≡ text.old.items ++ meant.six_text count) }
+{
+    match count {
+        None => Ok(()),
+        Some(count) => push_count(text, b"/", count),
+    }
+}
+
+// Each port's numbers behind a space.
+fn push_counts(text: &mut Vec<u8>, counts: &[PathCounts]) -> Result<(), AllocError>
     ensures { OnOk result (text.new.items ≡ text.old.items ++ meant.counts_text counts.now) }
 {
     for count in counts {
-        push_count(text, b" ", *count)?;
+        push_count(text, b" ", count.four)?;
+        push_six(text, count.six)?;
     }
     Ok(())
 }

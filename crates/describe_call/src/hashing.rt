@@ -1,10 +1,10 @@
 //! The line of a hash.
 ghost use Rattle.std.specs.Prelude.{◌≡◌, IfOk, string_bytes};
-ghost use Rattle.command_words.specs.View.{endpoint, hash};
+ghost use Rattle.command_words.specs.View.{hash};
 ghost use Rattle.describe_call.specs.Hashing as meant;
 
 use call_base::names::push_decimal;
-use command_words::{Endpoint, HashCommand};
+use command_words::{Ends, HashCommand};
 use nf_base::mac::Mac;
 use nf_base::packet::Fields;
 use nf_base::workers::Workers;
@@ -13,19 +13,18 @@ use std::alloc::{AllocError, Global};
 use toeplitz_hash::{DEFAULT_KEY, input_of, toeplitz};
 
 // The fields of a packet between two ends.
-fn fields_between(source: Endpoint, destination: Endpoint) -> Fields
-    ensures { result ≡ meant.fields_between (endpoint source) (endpoint destination) }
+fn fields_between(ends: Ends) -> Fields
+    ensures { result ≡ meant.fields_between ends }
 {
     Fields {
         length: 0,
         src_mac: Mac::new(0),
         dst_mac: Mac::new(0),
-        src_ip: source.address,
-        dst_ip: destination.address,
+        addresses: ends.addresses,
         proto: 0,
         ttl: 0,
-        src_port: source.port,
-        dst_port: destination.port,
+        src_port: ends.source_port,
+        dst_port: ends.destination_port,
     }
 }
 
@@ -47,6 +46,10 @@ pub fn hash_line(alloc: Global, command: &HashCommand) -> Result<String, AllocEr
     ensures { IfOk result (λ line. string_bytes line ≡ meant.hash_line (hash command.now)) }
 {
     let key = command.key.unwrap_or(DEFAULT_KEY);
-    let fields = fields_between(command.source, command.destination);
-    line_of(alloc, toeplitz(&key, &input_of(&fields)), command.workers)
+    let fields = fields_between(command.ends);
+    line_of(
+        alloc,
+        toeplitz(&key, input_of(&fields).as_slice()),
+        command.workers,
+    )
 }

@@ -1,5 +1,7 @@
 // The tables and the plain interpreter, side by side.
 ghost use Rattle.std.specs.Prelude.{◌≡◌, ◌<◌, length};
+ghost use Rattle.nf_base.specs.Doors.{IsServed};
+ghost use Rattle.nf_base.specs.Functions.{function_of};
 ghost use Rattle.nf_engine.specs.View.{fixed_of};
 
 use crate::traffic::Traffic;
@@ -48,6 +50,7 @@ fn handle_both(
     requires decls { tables.old.decls ≡ func.now.chains }
     requires whole { tables.old.share.of ≡ 1 }
     requires port { packet.now.id.port < length func.now.handlers }
+    requires served { IsServed (function_of func.now) packet.now }
     ensures same { fixed_of tables.new ≡ fixed_of tables.old }
 {
     let seen = look(tables, func, packet);
@@ -70,7 +73,7 @@ pub fn compare(alloc: Global, func: &Func, count: u32) -> Result<bool, StepFault
     let mut plain = Undivided::new(alloc, func)?;
     let mut traffic = Traffic::new();
     for seq in 0..count {
-        let packet = traffic.next(func.handlers.len(), seq);
+        let packet = traffic.next(func, seq);
         if !handle_both(alloc, func, &mut tables, &mut plain, &packet)? {
             return Ok(false);
         }
@@ -89,6 +92,7 @@ fn replay_both(
     requires decls { tables.old.decls ≡ func.now.chains }
     requires whole { tables.old.share.of ≡ 1 }
     requires port { packet.now.id.port < length func.now.handlers }
+    requires served { IsServed (function_of func.now) packet.now }
     ensures same { fixed_of tables.new ≡ fixed_of tables.old }
 {
     let picks = plain.pick(alloc, func, packet)?;
@@ -121,7 +125,7 @@ pub fn replay_all(alloc: Global, func: &Func, count: u32) -> Result<bool, StepFa
     let mut plain = Undivided::new(alloc, func)?;
     let mut traffic = Traffic::new();
     for seq in 0..count {
-        let packet = traffic.next(func.handlers.len(), seq);
+        let packet = traffic.next(func, seq);
         if !replay_both(alloc, func, &mut tables, &mut plain, &packet)? {
             return Ok(false);
         }

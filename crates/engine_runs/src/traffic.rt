@@ -1,7 +1,10 @@
-ghost use Rattle.std.specs.Prelude.{◌<◌, ◌≤◌};
+ghost use Rattle.std.specs.Prelude.{◌≡◌, ◌<◌, length, Some};
+ghost use Rattle.nf_base.specs.Doors.{IsServed, six_at, six_ports, served_fields};
+ghost use Rattle.nf_base.specs.Functions.{function_of};
 
+use nf_base::func::Func;
 use nf_base::mac::Mac;
-use nf_base::packet::{Fields, Packet, PacketId};
+use nf_base::packet::{Addresses, Fields, Packet, PacketId};
 
 /// Makes packets of few hosts and ports, so that flows meet, fill their chains and expire.
 #[derive(Drop)]
@@ -20,8 +23,32 @@ const HOSTS: [u32; 5] = [
     0xcb00_7101,
 ];
 
+/// The hosts of IPv6: two of one network, and one below and one above 64 bits.
+const SIX_HOSTS: [u128; 4] = [
+    0x2001_0db8_0000_0000_0000_0000_0000_0001,
+    0x2001_0db8_0000_0000_0000_0000_0000_0002,
+    0xffff_ffff_ffff_ffff,
+    0xffff_ffff_ffff_ffff_ffff_ffff_ffff_fffe,
+];
+
 /// The ports: two of servers, two of clients, and the first two of a translator.
 const PORTS: [u16; 6] = [53, 80, 1000, 1001, 1024, 1025];
+
+/// What the handlers of a port see of a frame: nothing of an IPv6 one where none is for it.
+fn seen(func: &Func, port: u32, fields: Fields) -> Option<Fields>
+    ensures { result ≡ served_fields (six_at (six_ports (function_of func.now)) port) (Some fields) }
+{
+    match fields.addresses {
+        Addresses::Four { .. } => Some(fields),
+        Addresses::Six { .. } => {
+            if func.has_six(port) {
+                Some(fields)
+            } else {
+                None
+            }
+        }
+    }
+}
 
 impl Traffic {
     pub fn new() -> Traffic {
@@ -41,8 +68,26 @@ impl Traffic {
         HOSTS[self.draw() as usize % 5]
     }
 
+    fn six_host(&mut self) -> u128 {
+        SIX_HOSTS[self.draw() as usize % 4]
+    }
+
     fn port(&mut self) -> u16 {
         PORTS[self.draw() as usize % 6]
+    }
+
+    /// Addresses of either version of IP, one in three of IPv6.
+    fn addresses(&mut self) -> Addresses {
+        if self.draw() % 3 == 0 {
+            return Addresses::Six {
+                src: self.six_host(),
+                dst: self.six_host(),
+            };
+        }
+        Addresses::Four {
+            src: self.host(),
+            dst: self.host(),
+        }
     }
 
     fn fields(&mut self) -> Fields {
@@ -50,8 +95,7 @@ impl Traffic {
             length: 60 + u32::from(self.draw() % 1440),
             src_mac: Mac::new(u64::from(self.draw() % 3)),
             dst_mac: Mac::new(u64::from(self.draw() % 3)),
-            src_ip: self.host(),
-            dst_ip: self.host(),
+            addresses: self.addresses(),
             proto: if self.draw() % 2 == 0 { 6 } else { 17 },
             ttl: (self.draw() % 256) as u8,
             src_port: self.port(),
@@ -59,10 +103,12 @@ impl Traffic {
         }
     }
 
-    /// The next packet, at one of so many ports: one in sixteen is skipped, and now and then a pause lets flows expire.
-    pub fn next(&mut self, ports: u32, seq: u32) -> Packet
-        requires { 1 ≤ ports }
-        ensures { result.id.port < ports }
+    /// The next packet, at one of the function's ports: one in sixteen is skipped, and now and then a pause lets flows
+    /// expire.
+    #[tactic(auto, using(nf_base::proofs::Served::seen_is_served))]
+    pub fn next(&mut self, func: &Func, seq: u32) -> Packet
+        ensures port { result.id.port < length func.now.handlers }
+        ensures served { IsServed (function_of func.now) result }
     {
         let pause = if self.draw() % 32 == 0 {
             60_000_000_000
@@ -70,11 +116,11 @@ impl Traffic {
             u64::from(self.draw() % 4)
         };
         self.time = self.time.saturating_add(pause);
-        let port = u32::from(self.draw()) % ports;
+        let port = u32::from(self.draw()) % func.handlers.len();
         let fields = if self.draw() % 16 == 0 {
             None
         } else {
-            Some(self.fields())
+            seen(func, port, self.fields())
         };
         Packet {
             id: PacketId { port, seq },

@@ -1,12 +1,14 @@
 //! What captures in memory give, from the first packet to the end.
-ghost use Rattle.std.specs.Prelude.{◌≤◌, length};
+ghost use Rattle.std.specs.Prelude.{◌≡◌, ◌≤◌, length};
 ghost use Rattle.packet_feed.specs.Told.{EachFile};
 ghost use Rattle.packet_feed.specs.Sources.{files_in};
 
+use nf_base::func::Func;
 use nf_base::packet::Packet;
 use nf_files::Files;
 use packet_feed::{Fed, Feed, FeedFault};
 use run_samples::files::{holding, last, next, open_all, start, torn};
+use run_samples::functions::function;
 use std::alloc::{AllocError, Global};
 
 /// What is shown of a packet.
@@ -27,6 +29,8 @@ pub struct Line {
 pub enum End {
     End,
     TooMany,
+    /// The text is no function of as many ports as there are captures.
+    NoFunction,
     /// A capture could not be opened.
     Unopened,
     Unstarted(FeedFault),
@@ -45,9 +49,30 @@ pub struct Story {
 /// The names of the captures, by port.
 const NAMES: [&str; 4] = ["0", "1", "2", "3"];
 
-/// The packets of captures, of which there are at most four; the calls on files that are listed fail.
+/// Functions of one to four ports, each with a handler for IPv4 alone.
+pub const FUNCTIONS: [&str; 4] = [
+    "nf one { ports 1; on 0 { } }",
+    "nf two { ports 2; on 0 { } on 1 { } }",
+    "nf three { ports 3; on 0 { } on 1 { } on 2 { } }",
+    "nf four { ports 4; on 0 { } on 1 { } on 2 { } on 3 { } }",
+];
+
+/// The packets of captures, of which there are at most four, and none of whose ports has a handler for
+/// IPv6; the calls on files that are listed fail.
 pub fn read_all(
     alloc: Global,
+    captures: &[Vec<u8>],
+    fails: &[u64],
+    most: u32,
+) -> Result<Story, AllocError> {
+    let at = captures.len().max(1).min(4) - 1;
+    read_for(alloc, FUNCTIONS[at], captures, fails, most)
+}
+
+/// The same for the ports of a function.
+pub fn read_for(
+    alloc: Global,
+    text: &str,
     captures: &[Vec<u8>],
     fails: &[u64],
     most: u32,
@@ -59,7 +84,12 @@ pub fn read_all(
         end: End::Never,
         torn: None,
     };
-    read_from(alloc, &mut files, names, most, &mut told)?;
+    match function(alloc, text.as_bytes()) {
+        Some(func) if func.handlers.len() as usize == names.len() => {
+            read_from(alloc, &mut files, &func, names, most, &mut told)?;
+        }
+        _ => told.end = End::NoFunction,
+    }
     Ok(told)
 }
 
@@ -67,15 +97,17 @@ pub fn read_all(
 fn read_from<F: Files>(
     alloc: Global,
     files: &mut F,
+    func: &Func,
     names: &[&str],
     most: u32,
     told: &mut Story,
 ) -> Result<(), AllocError>
-    requires { length names.now ≤ 4 }
+    requires few { length names.now ≤ 4 }
+    requires ports_of { length names.now ≡ length func.now.handlers }
 {
     match open_all(alloc, files, names) {
         Err(_) => told.end = End::Unopened,
-        Ok(opened) => match start(alloc, files, opened.as_slice(), most) {
+        Ok(opened) => match start(alloc, files, func, opened.as_slice(), most) {
             Err(fault) => told.end = End::Unstarted(fault),
             Ok(mut feed) => tell(&mut feed, files, told)?,
         },

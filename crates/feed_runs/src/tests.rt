@@ -1,11 +1,15 @@
 //! Captures that are read as streams.
+ghost use Rattle.std.specs.Prelude.{◌≡◌, length};
+
 use crate::calls::left;
 use crate::capture;
-use crate::story::{End, Line, Story, read_all};
+use crate::story::{End, FUNCTIONS, Line, Story, read_all, read_for};
+use nf_base::func::Func;
 use nf_files::Files;
 use packet_feed::FeedFault;
 use pcap_file::{push_header, push_record};
 use run_samples::files::{holding, next, open_all, start};
+use run_samples::functions::function;
 use std::alloc::{AllocError, Global};
 use std::test::Fail;
 
@@ -237,14 +241,72 @@ fn a_skipped_frame_is_a_packet_with_a_number(rt: HostRuntime) -> Result<(), Fail
     Ok(())
 }
 
+/// A UDP segment's first bytes from ::1 to ::2, port 1 to port 2, with an IPv6 header.
+const SEGMENT_6: [u8; 62] = [
+    0x02, 0x00, 0x00, 0x00, 0x00, 0x02, 0x02, 0x00, 0x00, 0x00, 0x00, 0x01, 0x86, 0xdd, 0x60, 0x00,
+    0x00, 0x00, 0x00, 0x08, 0x11, 0x40, 0, 0, 0, 0, 0, 0, 0, 0, 0, 0, 0, 0, 0, 0, 0, 1, 0, 0, 0, 0,
+    0, 0, 0, 0, 0, 0, 0, 0, 0, 0, 0, 2, 0x00, 0x01, 0x00, 0x02, 0x00, 0x08, 0x00, 0x00,
+];
+
+/// A capture of a segment of IPv6, one of IPv4, and the first again, cut.
+fn both_families(alloc: Global, time: u64) -> Result<Vec<u8>, AllocError> {
+    let mut out = Vec::new(alloc);
+    push_header(&mut out)?;
+    let time = time.min(1_000);
+    push_record(&mut out, time, 62, &SEGMENT_6)?;
+    push_record(&mut out, time, 54, &SEGMENT)?;
+    push_record(&mut out, time, 62, &SEGMENT_6[..61])?;
+    Ok(out)
+}
+
+/// Functions of two ports, and which of the packets of two such captures they handle.
+const FAMILIES: [(&str, [bool; 6]); 4] = [
+    (
+        "nf a { ports 2; on 0 { } on 1 { } }",
+        [false, true, false, false, true, false],
+    ),
+    (
+        "nf b { ports 2; on 0 { } on 0 six { } on 1 { } }",
+        [true, true, false, false, true, false],
+    ),
+    (
+        "nf c { ports 2; on 0 { } on 1 { } on 1 six { } }",
+        [false, true, false, true, true, false],
+    ),
+    (
+        "nf d { ports 2; on 0 { } on 0 six { } on 1 { } on 1 six { } }",
+        [true, true, false, true, true, false],
+    ),
+];
+
+#[test]
+fn an_ipv6_frame_is_skipped_where_its_port_has_no_handler_for_it(
+    rt: HostRuntime,
+) -> Result<(), Fail> {
+    let alloc = rt.alloc();
+    for (text, handled) in &FAMILIES {
+        let captures = [both_families(alloc, 1)?, both_families(alloc, 2)?];
+        let told = read_for(alloc, text, &captures, &[], 9)?;
+        assert_eq!(rt; (told.end, told.lines.len()), (End::End, 6), "{text}");
+        for (line, wanted) in told.lines.iter().zip(handled) {
+            let place = (line.port, line.seq);
+            assert_eq!(rt; line.handled, *wanted, "{text} {place:?}");
+        }
+    }
+    Ok(())
+}
+
 /// How many bytes are left of two files after so many packets.
 fn left_after<F: Files>(
     alloc: Global,
     files: &mut F,
+    func: &Func,
     packets: u32,
-) -> Result<(usize, usize), Fail> {
+) -> Result<(usize, usize), Fail>
+    requires { length func.now.handlers ≡ 2 }
+{
     let opened = open_all(alloc, files, &["0", "1"])?;
-    let mut feed = start(alloc, files, opened.as_slice(), 9)?;
+    let mut feed = start(alloc, files, func, opened.as_slice(), 9)?;
     for _ in 0..packets {
         next(&mut feed, files)?;
     }
@@ -257,7 +319,10 @@ fn left_after<F: Files>(
 fn left_of(alloc: Global, packets: u32) -> Result<(usize, usize), Fail> {
     let captures = [capture(alloc, &[1, 2, 9])?, capture(alloc, &[3, 10])?];
     let mut files = holding(alloc, &["0", "1"], &captures, &[])?;
-    left_after(alloc, &mut files, packets)
+    match function(alloc, FUNCTIONS[1].as_bytes()) {
+        Some(func) if func.handlers.len() == 2 => left_after(alloc, &mut files, &func, packets),
+        _ => Ok((usize::MAX, usize::MAX)),
+    }
 }
 
 /// A record here has 17 bytes.

@@ -4,7 +4,7 @@ ghost use Rattle.std.specs.Prelude.{◌<◌};
 use frame_ip::{edit, fields, fields_of, view};
 use nf_base::done::Edits;
 use nf_base::mac::Mac;
-use nf_base::packet::{Field, Fields};
+use nf_base::packet::{Addresses, Field, Fields};
 
 /// A datagram from 10.0.0.0, port 1024, to 192.168.0.0, port 80.
 const DATAGRAM: [u8; 42] = [
@@ -26,8 +26,10 @@ fn a_datagram_has_the_fields_of_its_headers(rt: HostRuntime) {
         length: 60,
         src_mac: Mac::new(0x0200_0000_0001),
         dst_mac: Mac::new(0x0200_0000_0002),
-        src_ip: 0x0a00_0000,
-        dst_ip: 0xc0a8_0000,
+        addresses: Addresses::Four {
+            src: 0x0a00_0000,
+            dst: 0xc0a8_0000,
+        },
         proto: 17,
         ttl: 64,
         src_port: 1024,
@@ -114,7 +116,7 @@ fn one_edit(field: Field, value: u64) -> Edits {
 }
 
 // The tests edit frames through this, which promises nothing: what the answers are is compared, and not proved.
-fn edit_handled(frame: &mut [u8], original: u32, to: &Edits) {
+pub(crate) fn edit_handled(frame: &mut [u8], original: u32, to: &Edits) {
     if view(frame, original).is_some() {
         edit(frame, to);
     }
@@ -171,7 +173,13 @@ fn each_field_counts_where_it_should(rt: HostRuntime) {
             assert!(rt; written || *byte == SUMMED[i], "{field:?}, byte {i}");
         }
         let mut again = frame;
-        edit_handled(&mut again, 42, &Edits::none());
-        assert!(rt; again.as_slice() == frame.as_slice(), "no edit");
+        let mut none = Edits::none();
+        none.src_ip6 = Some(5);
+        none.dst_ip6 = Some(6);
+        edit_handled(&mut again, 42, &none);
+        assert!(rt;
+            again.as_slice() == frame.as_slice(),
+            "no edit, and none of IPv6"
+        );
     }
 }

@@ -1,5 +1,5 @@
 //! Lines of a journal, and the text of a state.
-ghost use Rattle.std.specs.Prelude.{◌≡◌, ◌≤◌, All, List, IfOk, length};
+ghost use Rattle.std.specs.Prelude.{◌≡◌, ◌≤◌, All, List, IfOk, length, None};
 ghost use Rattle.nf_base.specs.declared.decl.ChainDecl.{ChainDecl};
 ghost use Rattle.nf_base.specs.Limits.{Fits, HaveShortKeys};
 ghost use Rattle.nf_base.specs.Statements.{statements};
@@ -8,11 +8,13 @@ ghost use Rattle.nf_base.specs.View.{block_of};
 use nf_base::block::{Block, Ending};
 use nf_base::decl::{ArrayDecl, ChainDecl, ColumnDecl, ColumnId, Name, ObjectId};
 use nf_base::done::Action;
-use nf_base::func::{Func, Handler};
+use nf_base::func::Func;
+use nf_base::handler::Handler;
 use nf_base::indexed::Indexed;
 use nf_base::limited::Limited;
 use nf_base::packet::PacketId;
 use nf_base::picks::Picks;
+use nf_base::port_handlers::PortHandlers;
 use nf_base::seq::Seq;
 use nf_base::size::Size;
 use nf_base::state::{Chain, Entry, State};
@@ -118,11 +120,16 @@ fn flows(alloc: Global) -> Result<ChainDecl, AllocError>
     })
 }
 
-fn idle() -> Handler
-    ensures { (decls : List ChainDecl) → All (Fits decls) (statements (block_of result.block)) }
+fn idle() -> PortHandlers
+    ensures four { (decls : List ChainDecl) →
+        All (Fits decls) (statements (block_of result.four.block)) }
+    ensures six { result.six ≡ None }
 {
-    Handler {
-        block: Block::End(Ending::FallsOff),
+    PortHandlers {
+        four: Handler {
+            block: Block::End(Ending::FallsOff),
+        },
+        six: None,
     }
 }
 

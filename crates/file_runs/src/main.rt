@@ -19,6 +19,8 @@ mod memory_files_tests;
 mod real_files_tests;
 #[cfg(test)]
 mod script;
+#[cfg(test)]
+mod six_frame_tests;
 mod story;
 
 use pcap_file::{push_header, push_record};

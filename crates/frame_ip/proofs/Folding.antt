@@ -1,7 +1,7 @@
 -- Folding a sum to 16 bits.
 use Rattle.std.proofs.Common.{◌≡◌, ℕ, zero, suc, ◌<◌, ◌≤◌, ◌^◌, inl, inr, refl, ◌∙◌, arith}
 use Rattle.std.proofs.lemmas.Bool.{cases_lt, lt-ltb, le-ltb}
-use Rattle.frame_ip.specs.Edit.{halves, folded, fold}
+use Rattle.frame_ip.specs.Checksum.{halves, folded, fold}
 
 fits : (most sum : ℕ) → sum < 65536 → folded most sum ≡ sum
 unfolding folded

@@ -2,9 +2,10 @@
 use Rattle.std.proofs.Common.{◌≡◌, ℕ, zero, suc, ◌+◌, ◌-◌, ◌*◌, ◌/◌, ◌<◌, ◌≤◌, Bool, true, false, cond, eqb, List, [], ◌∷◌, ◌++◌, slice_index, Option, Some, None, inl, inr, refl, subst, arith}
 use Rattle.std.specs.List.{AllByRecursion}
 use Rattle.std.proofs.lemmas.Bool.{cases_lt, lt-ltb, le-ltb, eqb-true}
-use Rattle.frame_ip.specs.Frame.{number_at, transport_at}
 use Rattle.nf_base.specs.declared.done.Edits.{Edits}
-use Rattle.frame_ip.specs.Edit.{Write, halves, folded, fold, changes, updated, udp_checksum, address_words, port_words, ttl_words, ttl, addresses, ports, is_udp, checksum_at, ip_checksum, transport_checksum}
+use Rattle.frame_ip.specs.Bytes.{number_at}
+use Rattle.frame_ip.specs.Writes.{Write, port_words, ports}
+use Rattle.frame_ip.specs.Checksum.{halves, folded, fold, changes, updated, udp_checksum}
 use Rattle.frame_ip.specs.Sums.{old_words, new_words, KeepsRight}
 
 -- what a folded sum is: the sum less a multiple of 65535, within 16 bits, and 0 for 0 alone
@@ -78,17 +79,12 @@ pub words_more : (frame : List ℕ) (a b : List Write) → AreWords frame a → 
 words_more frame [] b p q = q
 words_more frame (w ∷ a) b p q = (p.0, words_more frame a b p.1 q)
 
-pub address_is : (frame : List ℕ) (at : ℕ) (value : Option ℕ) → AreBytes frame → AreWords frame (address_words at value)
-address_is frame at None bytes = tt
-address_is frame at (Some v) bytes = ((word_small frame at bytes, omega arith), ((word_small frame (at + 2) bytes, omega arith), tt))
-
 pub port_is : (frame : List ℕ) (at : ℕ) (value : Option ℕ) → AreBytes frame → AreWords frame (port_words at value)
 port_is frame at None bytes = tt
 port_is frame at (Some v) bytes = ((word_small frame at bytes, omega arith), tt)
 
-pub ttl_is : (frame : List ℕ) (value : Option ℕ) → AreBytes frame → AreWords frame (ttl_words (slice_index frame 23) value)
-ttl_is frame None bytes = tt
-ttl_is frame (Some v) bytes = ((word_small frame 22 bytes, omega (arith, bytes 23)), tt)
+pub ports_are : (e : Edits) (frame : List ℕ) (s : ℕ) → AreBytes frame → AreWords frame (ports e s)
+ports_are e frame s bytes = words_more frame (port_words s e.src_port) (port_words (s + 2) e.dst_port) (port_is frame s e.src_port bytes) (port_is frame (s + 2) e.dst_port bytes)
 
 -- 0xffff counts as 0
 right_more : (sum : ℕ) → fold sum ≡ 65535 → fold (sum + 65535) ≡ 65535
@@ -108,23 +104,6 @@ udp_kept : (frame : List ℕ) (ws : List Write) (old new : ℕ) (b : Bool) → e
 udp_kept frame ws old new true is some kept = absurd (some (eqb-true old 0 is))
 udp_kept frame ws old new false is some kept = sent frame ws old new (eqb new 0) refl kept
 
-by_protocol : (frame : List ℕ) (ws : List Write) (old new : ℕ) (b : Bool) → (b ≡ true → old ≡ 0 → ⊥) → KeepsRight frame ws old new → KeepsRight frame ws old (cond b (udp_checksum old new) new)
+pub by_protocol : (frame : List ℕ) (ws : List Write) (old new : ℕ) (b : Bool) → (b ≡ true → old ≡ 0 → ⊥) → KeepsRight frame ws old new → KeepsRight frame ws old (cond b (udp_checksum old new) new)
 by_protocol frame ws old new true some kept = udp_kept frame ws old new (eqb old 0) refl (some refl) kept
 by_protocol frame ws old new false some kept = kept
-
-pub ip_keeps : (e : Edits) (frame : List ℕ) → AreBytes frame → KeepsRight frame (ttl e frame ++ addresses e) (number_at frame 24 2) (ip_checksum e frame)
-ip_keeps e frame bytes =
-    keeps frame 24 (ttl e frame ++ addresses e)
-    (words_more frame (ttl e frame) (addresses e) (ttl_is frame e.ttl bytes) (words_more frame (address_words 26 e.src_ip) (address_words 30 e.dst_ip) (address_is frame 26 e.src_ip bytes) (address_is frame 30 e.dst_ip bytes)))
-    (word_small frame 24 bytes)
-
-pub transport_keeps : (e : Edits) (frame : List ℕ) → AreBytes frame → (is_udp frame ≡ true → number_at frame (checksum_at frame) 2 ≡ 0 → ⊥)
-    → KeepsRight frame (addresses e ++ ports e (transport_at frame)) (number_at frame (checksum_at frame) 2) (transport_checksum e frame)
-transport_keeps e frame bytes some =
-    let ws = addresses e ++ ports e (transport_at frame) in
-    let at = checksum_at frame in
-    let t = transport_at frame in
-    by_protocol frame ws (number_at frame at 2) (updated frame at ws) (is_udp frame) some
-    (keeps frame at ws
-    (words_more frame (addresses e) (ports e t) (words_more frame (address_words 26 e.src_ip) (address_words 30 e.dst_ip) (address_is frame 26 e.src_ip bytes) (address_is frame 30 e.dst_ip bytes)) (words_more frame (port_words t e.src_port) (port_words (t + 2) e.dst_port) (port_is frame t e.src_port bytes) (port_is frame (t + 2) e.dst_port bytes)))
-    (word_small frame at bytes))

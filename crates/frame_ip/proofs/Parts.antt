@@ -1,8 +1,8 @@
 -- Sums of the words of a part of a frame, into which a word is written.
 use Rattle.std.proofs.Common.{◌≡◌, ◌≢◌, ℕ, zero, suc, ◌+◌, ◌-◌, ◌*◌, ◌/◌, ◌%◌, ◌<◌, ◌≤◌, List, [], ◌∷◌, length, take, drop, set, get_or, refl, ap, sym, subst, ◌∙◌, add-zero, arith}
 use Rattle.std.proofs.lemmas.List.{length-set, length-take, length-drop, get_or-set_same, get_or-set_other, get_or-take, get_or-drop, take-set-le, drop-set-lt, drop-set-add}
-use Rattle.frame_ip.specs.Frame.{number_at}
-use Rattle.frame_ip.specs.Edit.{Write, put}
+use Rattle.frame_ip.specs.Bytes.{number_at}
+use Rattle.frame_ip.specs.Writes.{Write, put}
 use Rattle.frame_ip.specs.Sums.{word_sum, part}
 
 -- twice a number, which computes

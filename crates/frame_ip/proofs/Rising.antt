@@ -1,7 +1,7 @@
 -- Words that are written in the order in which they stand.
 use Rattle.std.proofs.Common.{◌≡◌, ℕ, ◌+◌, ◌*◌, ◌<◌, ◌≤◌, List, [], ◌∷◌, ◌++◌, length, get_or, refl, ap, ◌∙◌, arith}
-use Rattle.frame_ip.specs.Frame.{number_at}
-use Rattle.frame_ip.specs.Edit.{Write, put, put_all}
+use Rattle.frame_ip.specs.Bytes.{number_at}
+use Rattle.frame_ip.specs.Writes.{Write, put, put_all}
 use Rattle.frame_ip.specs.Sums.{old_words, new_words, word_sum, part}
 use Rattle.frame_ip.proofs.Parts.{double, word_is, part_put, part_below, part_above, part_first, byte_stays, put_long}
 

@@ -1,54 +1,26 @@
--- Which frames are handled, and what their fields are: Ethernet II, IPv4 (RFC 791 section 3.1), UDP
--- (RFC 768) and TCP (RFC 9293 section 3.1). All numbers stand in network order.
-use Rattle.std.specs.Prelude.{ℕ, zero, suc, ◌+◌, ◌*◌, ◌/◌, ◌%◌, Bool, ◌&&◌, ◌||◌, List, length, nat_eq, nat_le, slice_index, if◌then◌else◌, Option, Some, None}
+-- Which frames are handled, of which version of IP they are, and what their fields are.
+use Rattle.std.specs.Prelude.{ℕ, Bool, ◌||◌, List, if◌then◌else◌, Option, Some, None}
+use Rattle.nf_base.specs.declared.packet.Family.{Family}
+use Rattle.nf_base.specs.declared.packet.Family.TheVariants as family
 use Rattle.nf_base.specs.declared.packet.Fields.{Fields}
+use Rattle.frame_ip.specs.FourFrame as four
+use Rattle.frame_ip.specs.SixFrame as six
+pub use Rattle.frame_ip.specs.FourFrame.{is_four}
+pub use Rattle.frame_ip.specs.SixFrame.{is_six}
 
--- the number of some bytes from an offset on, the first one highest
-abbrev pub number_at : List ℕ → ℕ → ℕ → ℕ
-number_at frame offset zero = 0
-number_at frame offset (suc count) = number_at frame offset count * 256 + slice_index frame (offset + count)
-
--- The lower half of byte 14 counts the IP header's words of 4 bytes.
-abbrev pub header_words : List ℕ → ℕ
-header_words frame = slice_index frame 14 % 16
-
--- where the TCP or UDP header begins
-abbrev pub transport_at : List ℕ → ℕ
-transport_at frame = 14 + 4 * header_words frame
-
--- The first 20 bytes of TCP's header or the 8 of UDP's are captured.
-abbrev pub has_transport : List ℕ → Bool
-has_transport frame =
-    (nat_eq (slice_index frame 23) 6 && nat_le (transport_at frame + 20) (length frame))
-    || (nat_eq (slice_index frame 23) 17 && nat_le (transport_at frame + 8) (length frame))
-
--- IPv4 in Ethernet, no fragment, with a TCP or UDP header. Of the 16 bits of flags and fragment offset
--- the low 14 are the flag "more fragments" and the offset.
+-- IPv4 or IPv6 in Ethernet with a TCP or UDP header
 abbrev pub is_handled : List ℕ → Bool
-is_handled frame =
-    nat_eq (number_at frame 12 2) 0x0800
-    && (nat_eq (slice_index frame 14 / 16) 4
-    && (nat_le 5 (header_words frame)
-    && (nat_eq (number_at frame 20 2 % 0x4000) 0
-    && has_transport frame)))
+is_handled frame = is_four frame || is_six frame
 
--- the fields of a handled frame whose original length is known
-abbrev pub fields_at : List ℕ → ℕ → Fields
-fields_at frame original = record {
-  length = original;
-  src_mac = number_at frame 6 6;
-  dst_mac = number_at frame 0 6;
-  src_ip = number_at frame 26 4;
-  dst_ip = number_at frame 30 4;
-  proto = slice_index frame 23;
-  ttl = slice_index frame 22;
-  src_port = number_at frame (transport_at frame) 2;
-  dst_port = number_at frame (transport_at frame + 2) 2;
-}
+-- the version of IP of a frame, and none of one that is skipped
+abbrev pub family_in : List ℕ → Option Family
+family_in frame = if is_four frame then Some family.Four else (if is_six frame then Some family.Six else None)
 
--- the fields of a frame, and none of one that is skipped
+-- the fields of a frame whose original length is known, and none of one that is skipped
 abbrev pub fields_in : List ℕ → ℕ → Option Fields
-fields_in frame original = if is_handled frame then Some (fields_at frame original) else None
+fields_in frame original =
+    if is_four frame then Some (four.fields_at frame original)
+    else (if is_six frame then Some (six.fields_at frame original) else None)
 
 -- a frame as it is seen: its captured bytes, and how many it had
 pub record Seen : Type 0 where

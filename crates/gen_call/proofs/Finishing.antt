@@ -4,9 +4,8 @@ use Rattle.std.proofs.lemmas.Bool.{lt-leb}
 use Rattle.std.proofs.lemmas.List.{length-map}
 use Rattle.std.proofs.lemmas.List.FromFn.{map-range_with_len_more}
 use Rattle.nf_base.specs.Functions.{function_of}
-use Rattle.nf_base.specs.View.{block_of}
+use Rattle.nf_base.specs.Handlers.{blocks_of}
 use Rattle.nf_base.specs.Text.{Function}
-use Rattle.nf_base.specs.declared.func.Handler.{Handler}
 use Rattle.nf_base.specs.declared.done.Done.{Done}
 use Rattle.nf_base.specs.declared.state.State.{State}
 use Rattle.nf_files.specs.Told.{Told}
@@ -49,7 +48,7 @@ use Rattle.gen_call.proofs.Stopping.{stopped_behind, memory_behind, stopped_next
 -- ---- a run's ports
 
 pub handlers_of : (job : Job) → length (function_of job.func.now).handlers ≡ length job.func.now.handlers
-handlers_of job = length-map job.func.now.handlers (λ (h : Handler). block_of h.block)
+handlers_of job = length-map job.func.now.handlers blocks_of
 
 pub ports_are : (before : Outside) (job : Job) (run : Run) → IsJob before job → run.function ≡ function_of job.func.now → ports_of run ≡ job.naming.ports
 ports_are before job run is e = ap (λ (f : Function). length f.handlers) e ∙ handlers_of job ∙ is.handlers

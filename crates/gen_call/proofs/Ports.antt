@@ -9,7 +9,7 @@ use Rattle.nf_types.specs.declared.fault.Fault.{Fault}
 use Rattle.nf_types.specs.Faults.{length_faults}
 use Rattle.nf_types.specs.Declarations.{objects_of}
 use Rattle.nf_types.specs.DeclarationFaults.{port_faults}
-use Rattle.nf_types.specs.Function.{function, handler_at}
+use Rattle.nf_types.specs.Function.{function, port_at}
 use Rattle.nf_types.specs.TextFaults.{faults}
 use Rattle.call_base.specs.Source.{IsFunctionUnder}
 use Rattle.call_base.proofs.Handlers.{none_behind, none_if, or_false}
@@ -24,7 +24,7 @@ pub record HasFewPorts (f : Function) : Type 0 where
 
 of_tree : (t : Tree) → faults t ≡ [] → HasFewPorts (function t)
 of_tree t e =
-    let n : length (function t).handlers ≡ t.ports.value = length-map-range_with_len (handler_at (objects_of t.declarations) t.handlers) 0 t.ports.value in
+    let n : length (function t).handlers ≡ t.ports.value = length-map-range_with_len (port_at (objects_of t.declarations) t.handlers) 0 t.ports.value in
     let none : port_faults t.ports ≡ [] = none_before (port_faults t.ports) _ (none_behind (length_faults t.name) _ e) in
     let both = or_false (nat_lt t.ports.value 1) (nat_lt 4 t.ports.value) (none_if _ _ t.ports.place none) in
     record {

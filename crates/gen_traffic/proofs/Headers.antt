@@ -2,8 +2,9 @@
 use Rattle.std.proofs.Common.{◌≡◌, ℕ, ◌+◌, ◌-◌, ◌*◌, ◌/◌, ◌%◌, ◌^◌, ◌<◌, refl, sym, ap, ◌∙◌, arith}
 use Rattle.std.specs.Prelude.{Option, Some}
 use Rattle.nf_base.specs.declared.packet.Fields.{Fields}
+use Rattle.nf_base.specs.declared.packet.Addresses.TheVariants as addresses
 use Rattle.frame_ip.specs.Frame.{fields_in}
-use Rattle.frame_ip.specs.Edit.{halves, fold}
+use Rattle.frame_ip.specs.Checksum.{halves, fold}
 use Rattle.frame_ip.specs.Sums.{word_sum}
 use Rattle.frame_ip.proofs.Folding.{twice}
 use Rattle.gen_traffic.specs.declared.end.End.{End}
@@ -47,8 +48,8 @@ header_right from to h k =
 -- ---- fields
 
 fields_are : (s d p q s' d' p' q' : ℕ) → s ≡ s' → d ≡ d' → p ≡ p' → q ≡ q'
-    → (let fields : Option Fields = Some (record { length = 42; src_mac = 0x020000000001; dst_mac = 0x020000000002; src_ip = s; dst_ip = d; proto = 17; ttl = 64; src_port = p; dst_port = q }) in fields)
-    ≡ Some (record { length = 42; src_mac = 0x020000000001; dst_mac = 0x020000000002; src_ip = s'; dst_ip = d'; proto = 17; ttl = 64; src_port = p'; dst_port = q' })
+    → (let fields : Option Fields = Some (record { length = 42; src_mac = 0x020000000001; dst_mac = 0x020000000002; addresses = addresses.Four s d; proto = 17; ttl = 64; src_port = p; dst_port = q }) in fields)
+    ≡ Some (record { length = 42; src_mac = 0x020000000001; dst_mac = 0x020000000002; addresses = addresses.Four s' d'; proto = 17; ttl = 64; src_port = p'; dst_port = q' })
 fields_are s d p q s' d' p' q' a b e f = rw (a, b, e, f) refl
 
 address_read : (n : ℕ) → n < 2 ^ 32 → (((0 + n / 16777216 % 256) * 256 + n / 65536 % 256) * 256 + n / 256 % 256) * 256 + n % 256 ≡ n

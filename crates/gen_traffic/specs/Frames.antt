@@ -3,7 +3,8 @@
 use Rattle.std.specs.Prelude.{ℕ, ◌-◌, List, [], ◌∷◌, ◌++◌}
 use Rattle.std.specs.Int.{w16, w32, to_be_bytes}
 use Rattle.nf_base.specs.declared.packet.Fields.{Fields}
-use Rattle.frame_ip.specs.Edit.{fold}
+use Rattle.nf_base.specs.declared.packet.Addresses.TheVariants as addresses
+use Rattle.frame_ip.specs.Checksum.{fold}
 use Rattle.frame_ip.specs.Sums.{word_sum}
 use Rattle.gen_traffic.specs.declared.end.End.{End}
 
@@ -35,8 +36,7 @@ fields_between from to = record {
   length = 42;
   src_mac = 0x020000000001;
   dst_mac = 0x020000000002;
-  src_ip = from.address;
-  dst_ip = to.address;
+  addresses = addresses.Four from.address to.address;
   proto = 17;
   ttl = 64;
   src_port = from.port;

@@ -4,7 +4,7 @@ use Rattle.std.specs.List.Sorted.{IsSortedBy}
 use Rattle.nf_base.specs.declared.packet.Packet.{Packet}
 use Rattle.nf_base.specs.Orders.{comes_before}
 use Rattle.frame_ip.specs.Frame.{fields_in}
-use Rattle.frame_ip.specs.Sums.{IsIpRight}
+use Rattle.frame_ip.specs.FourSums.{IsIpRight}
 use Rattle.gen_traffic.specs.declared.end.End.{End}
 use Rattle.gen_traffic.specs.Ends.{client, Fits}
 use Rattle.gen_traffic.specs.Frames.{frame_between, fields_between}

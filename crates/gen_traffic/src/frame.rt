@@ -22,12 +22,12 @@
 //! All numbers stand in network order (RFC 791 section 3.1, RFC 768).
 
 ghost use Rattle.std.specs.Prelude.{◌≡◌, ◌+◌, ◌/◌, ◌%◌, ◌≤◌, ◌<◌, ◌^◌, ◌-◌};
-ghost use Rattle.frame_ip.specs.Edit.{fold};
+ghost use Rattle.frame_ip.specs.Checksum.{fold};
 ghost use Rattle.gen_traffic.specs.Frames.{header_checksum, frame_between, fields_between};
 
 use crate::end::End;
 use nf_base::mac::Mac;
-use nf_base::packet::Fields;
+use nf_base::packet::{Addresses, Fields};
 
 /// The words of the IP header that are the same in each frame, summed up.
 const SAME_WORDS: u32 = 0x4500 + 28 + 0x4011;
@@ -120,8 +120,10 @@ pub fn fields_between(from: End, to: End) -> Fields
         length: 42,
         src_mac: Mac::new(0x0200_0000_0001),
         dst_mac: Mac::new(0x0200_0000_0002),
-        src_ip: from.address,
-        dst_ip: to.address,
+        addresses: Addresses::Four {
+            src: from.address,
+            dst: to.address,
+        },
         proto: 17,
         ttl: 64,
         src_port: from.port,

@@ -1,18 +1,18 @@
 ghost use Rattle.std.specs.Prelude.{◌≡◌};
 ghost use Rattle.hash_fields.specs.Hashed.{number, width, hashable};
 
-use nf_base::packet::Field;
+use nf_base::packet::{Family, Field};
 
-/// A field that is hashed, by its place in the 96 bits of the hash's input.
+/// A field that is hashed, by its place in the input of the hash.
 #[derive(Clone, Copy, Debug, PartialEq, Eq)]
 pub enum Hashable {
-    /// The IPv4 source address: bits 0 to 31 of the input (RFC 791).
+    /// The source address.
     SrcIp,
-    /// The IPv4 destination address: bits 32 to 63 (RFC 791).
+    /// The destination address.
     DstIp,
-    /// The TCP or UDP source port: bits 64 to 79.
+    /// The TCP or UDP source port.
     SrcPort,
-    /// The TCP or UDP destination port: bits 80 to 95.
+    /// The TCP or UDP destination port.
     DstPort,
 }
 
@@ -29,28 +29,29 @@ impl Hashable {
         }
     }
 
-    /// How many bits it has: 32 or 16.
-    pub fn width(self) -> u32
-        ensures value { result ≡ width self }
+    /// How many bits it has in packets of a family: 32, 128 or 16.
+    pub fn width(self, family: Family) -> u32
+        ensures value { result ≡ width family self }
     {
-        match self {
-            Hashable::SrcIp => 32,
-            Hashable::DstIp => 32,
-            Hashable::SrcPort => 16,
-            Hashable::DstPort => 16,
+        match (self, family) {
+            (Hashable::SrcIp | Hashable::DstIp, Family::Four) => 32,
+            (Hashable::SrcIp | Hashable::DstIp, Family::Six) => 128,
+            (Hashable::SrcPort | Hashable::DstPort, _) => 16,
         }
     }
 }
 
-/// The field as one that is hashed, where it is one of the four.
-pub fn hashable_field(field: Field) -> Option<Hashable>
-    ensures value { result ≡ hashable field }
+/// The field as one that is hashed in packets of a family, where it is one of the four.
+pub fn hashable_field(family: Family, field: Field) -> Option<Hashable>
+    ensures value { result ≡ hashable family field }
 {
-    match field {
-        Field::SrcIp => Some(Hashable::SrcIp),
-        Field::DstIp => Some(Hashable::DstIp),
-        Field::SrcPort => Some(Hashable::SrcPort),
-        Field::DstPort => Some(Hashable::DstPort),
+    match (family, field) {
+        (Family::Four, Field::SrcIp) => Some(Hashable::SrcIp),
+        (Family::Four, Field::DstIp) => Some(Hashable::DstIp),
+        (Family::Six, Field::SrcIp6) => Some(Hashable::SrcIp),
+        (Family::Six, Field::DstIp6) => Some(Hashable::DstIp),
+        (_, Field::SrcPort) => Some(Hashable::SrcPort),
+        (_, Field::DstPort) => Some(Hashable::DstPort),
         _ => None,
     }
 }

@@ -2,7 +2,7 @@
 use nf_base::keys::Keys;
 use nf_base::limited::Limited;
 use nf_base::mac::Mac;
-use nf_base::packet::{Fields, Packet, PacketId};
+use nf_base::packet::{Addresses, Fields, Packet, PacketId};
 use nf_base::share::Share;
 use nf_base::workers::Workers;
 use rss_table::{Table, share, table_index};
@@ -46,13 +46,12 @@ fn share_of(queue: u32, count: u32) -> Option<Share> {
     }
 }
 
-fn packet_between(src_ip: [u8; 4], src_port: u16, dst_ip: [u8; 4], dst_port: u16) -> Packet {
+fn packet_of(addresses: Addresses, src_port: u16, dst_port: u16) -> Packet {
     let fields = Fields {
         length: 42,
         src_mac: Mac::new(0x0200_0000_0001),
         dst_mac: Mac::new(0x0200_0000_0002),
-        src_ip: u32::from_be_bytes(src_ip),
-        dst_ip: u32::from_be_bytes(dst_ip),
+        addresses,
         proto: 17,
         ttl: 64,
         src_port,
@@ -63,6 +62,12 @@ fn packet_between(src_ip: [u8; 4], src_port: u16, dst_ip: [u8; 4], dst_port: u16
         time: 0,
         fields: Some(fields),
     }
+}
+
+fn packet_between(src: [u8; 4], src_port: u16, dst: [u8; 4], dst_port: u16) -> Packet {
+    let src = u32::from_be_bytes(src);
+    let dst = u32::from_be_bytes(dst);
+    packet_of(Addresses::Four { src, dst }, src_port, dst_port)
 }
 
 fn one_key(alloc: Global, key: [u8; 40]) -> Result<Keys, AllocError> {
@@ -92,6 +97,42 @@ fn low_seven_bits_pick_the_queue(rt: HostRuntime) -> Result<(), Fail> {
     }
     assert_eq!(rt; index(0x51cc_c178), 120);
     assert_eq!(rt; index(0xc626_b0ea), 106);
+    Ok(())
+}
+
+/// The first two IPv6 rows of the same suite with ports: hashes 40207d3d and dde51bbf.
+#[test]
+fn low_seven_bits_pick_the_queue_of_ipv6(rt: HostRuntime) -> Result<(), Fail> {
+    let keys = one_key(rt.alloc(), DEFAULT_KEY)?;
+    let first = packet_of(
+        Addresses::Six {
+            src: 0x3ffe_2501_0200_1fff_0000_0000_0000_0007,
+            dst: 0x3ffe_2501_0200_0003_0000_0000_0000_0001,
+        },
+        2794,
+        1766,
+    );
+    let second = packet_of(
+        Addresses::Six {
+            src: 0x3ffe_0501_0008_0000_0260_97ff_fe40_efab,
+            dst: 0xff02_0000_0000_0000_0000_0000_0000_0001,
+        },
+        14230,
+        4739,
+    );
+    let cases = [(1, 0, 0), (2, 1, 1), (7, 5, 0), (16, 13, 15)];
+    for (workers, of_first, of_second) in cases {
+        assert_eq!(rt;
+            queue(workers, &keys, &first),
+            Some(of_first),
+            "first of {workers}"
+        );
+        assert_eq!(rt;
+            queue(workers, &keys, &second),
+            Some(of_second),
+            "second of {workers}"
+        );
+    }
     Ok(())
 }
 

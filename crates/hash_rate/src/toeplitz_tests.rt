@@ -2,7 +2,7 @@
 use nf_base::keys::Keys;
 use nf_base::limited::Limited;
 use nf_base::mac::Mac;
-use nf_base::packet::{Fields, Packet, PacketId};
+use nf_base::packet::{Addresses, Fields, Packet, PacketId};
 use std::alloc::{AllocError, Global};
 use std::test::Fail;
 use toeplitz_hash::{DEFAULT_KEY, hash_packet, input_of, toeplitz};
@@ -19,8 +19,12 @@ fn hash(input: &[u8]) -> Option<u32> {
     }
 }
 
-fn input(fields: &Fields) -> [u8; 12] {
-    input_of(fields)
+/// The hashes of fields, over the addresses alone and with the ports.
+fn hashes(fields: &Fields) -> (Option<u32>, Option<u32>) {
+    let input = input_of(fields);
+    let bytes = input.as_slice();
+    let ports = bytes.len().saturating_sub(4);
+    (hash(&bytes[..ports]), hash(bytes))
 }
 
 /// What the hash of a packet is told to be, where its port has a key.
@@ -33,18 +37,29 @@ fn packet_hash(keys: &Keys, packet: &Packet) -> Option<Option<u32>> {
 }
 
 /// Fields of which only addresses and ports are hashed.
-fn fields_of(src_ip: [u8; 4], src_port: u16, dst_ip: [u8; 4], dst_port: u16) -> Fields {
+fn fields_of(addresses: Addresses, src_port: u16, dst_port: u16) -> Fields {
     Fields {
         length: 60,
         src_mac: Mac::new(0x0200_0000_0001),
         dst_mac: Mac::new(0x0200_0000_0002),
-        src_ip: u32::from_be_bytes(src_ip),
-        dst_ip: u32::from_be_bytes(dst_ip),
+        addresses,
         proto: 17,
         ttl: 64,
         src_port,
         dst_port,
     }
+}
+
+/// The same of IPv4, from a source with its port to a destination with its port.
+fn four(src: [u8; 4], src_port: u16, dst: [u8; 4], dst_port: u16) -> Fields {
+    let src = u32::from_be_bytes(src);
+    let dst = u32::from_be_bytes(dst);
+    fields_of(Addresses::Four { src, dst }, src_port, dst_port)
+}
+
+/// The same of IPv6.
+fn six(src: u128, src_port: u16, dst: u128, dst_port: u16) -> Fields {
+    fields_of(Addresses::Six { src, dst }, src_port, dst_port)
 }
 
 /// Microsoft, "Verifying the RSS Hash Calculation": each IPv4 row with its hash over the addresses
@@ -53,39 +68,81 @@ fn fields_of(src_ip: [u8; 4], src_port: u16, dst_ip: [u8; 4], dst_port: u16) -> 
 fn the_verification_suite_is_met(rt: HostRuntime) {
     let rows = [
         (
-            fields_of([66, 9, 149, 187], 2794, [161, 142, 100, 80], 1766),
+            four([66, 9, 149, 187], 2794, [161, 142, 100, 80], 1766),
             0x323e_8fc2,
             0x51cc_c178,
         ),
         (
-            fields_of([199, 92, 111, 2], 14230, [65, 69, 140, 83], 4739),
+            four([199, 92, 111, 2], 14230, [65, 69, 140, 83], 4739),
             0xd718_262a,
             0xc626_b0ea,
         ),
         (
-            fields_of([24, 19, 198, 95], 12898, [12, 22, 207, 184], 38024),
+            four([24, 19, 198, 95], 12898, [12, 22, 207, 184], 38024),
             0xd2d0_a5de,
             0x5c2b_394a,
         ),
         (
-            fields_of([38, 27, 205, 30], 48228, [209, 142, 163, 6], 2217),
+            four([38, 27, 205, 30], 48228, [209, 142, 163, 6], 2217),
             0x8298_9176,
             0xafc7_327f,
         ),
         (
-            fields_of([153, 39, 163, 191], 44251, [202, 188, 127, 2], 1303),
+            four([153, 39, 163, 191], 44251, [202, 188, 127, 2], 1303),
             0x5d18_09c5,
             0x10e8_28a2,
         ),
     ];
     for (fields, addresses, whole) in rows {
-        let bytes = input(&fields);
-        assert_eq!(rt; hash(&bytes[..8]), Some(addresses));
-        assert_eq!(rt; hash(&bytes), Some(whole));
+        assert_eq!(rt; hashes(&fields), (Some(addresses), Some(whole)));
     }
 }
 
-/// The first IPv6 row of the same suite, which is the longest input.
+fn first_of_ipv6() -> Fields {
+    six(
+        0x3ffe_2501_0200_1fff_0000_0000_0000_0007,
+        2794,
+        0x3ffe_2501_0200_0003_0000_0000_0000_0001,
+        1766,
+    )
+}
+
+fn second_of_ipv6() -> Fields {
+    six(
+        0x3ffe_0501_0008_0000_0260_97ff_fe40_efab,
+        14230,
+        0xff02_0000_0000_0000_0000_0000_0000_0001,
+        4739,
+    )
+}
+
+fn third_of_ipv6() -> Fields {
+    six(
+        0x3ffe_1900_4545_0003_0200_f8ff_fe21_67cf,
+        44251,
+        0xfe80_0000_0000_0000_0200_f8ff_fe21_67cf,
+        38024,
+    )
+}
+
+/// Each IPv6 row of the same suite.
+#[test]
+fn the_verification_suite_is_met_by_ipv6(rt: HostRuntime) {
+    assert_eq!(rt;
+        hashes(&first_of_ipv6()),
+        (Some(0x2cc1_8cd5), Some(0x4020_7d3d))
+    );
+    assert_eq!(rt;
+        hashes(&second_of_ipv6()),
+        (Some(0x0f0c_461c), Some(0xdde5_1bbf))
+    );
+    assert_eq!(rt;
+        hashes(&third_of_ipv6()),
+        (Some(0x4b61_e985), Some(0x02d1_feef))
+    );
+}
+
+/// The first of them byte by byte, which is the longest input.
 #[test]
 fn thirty_six_bytes_are_hashed(rt: HostRuntime) {
     let bytes = [
@@ -117,16 +174,31 @@ fn two_keys(alloc: Global) -> Result<Keys, AllocError> {
 #[test]
 fn a_packet_is_hashed_with_the_key_of_its_port(rt: HostRuntime) -> Result<(), Fail> {
     let keys = two_keys(rt.alloc())?;
-    let fields = fields_of([9, 9, 9, 9], 1, [10, 0, 0, 1], 2);
+    let fields = four([9, 9, 9, 9], 1, [10, 0, 0, 1], 2);
     assert_eq!(rt;
         packet_hash(&keys, &packet_at(1, Some(fields))),
         Some(Some(0x8000_0050))
     );
     assert_eq!(rt; packet_hash(&keys, &packet_at(1, None)), Some(None));
-    let fields = fields_of([66, 9, 149, 187], 2794, [161, 142, 100, 80], 1766);
+    let fields = four([66, 9, 149, 187], 2794, [161, 142, 100, 80], 1766);
     assert_eq!(rt;
         packet_hash(&keys, &packet_at(0, Some(fields))),
         Some(Some(0x51cc_c178))
+    );
+    Ok(())
+}
+
+#[test]
+fn a_packet_of_ipv6_is_hashed_with_the_key_of_its_port(rt: HostRuntime) -> Result<(), Fail> {
+    let keys = two_keys(rt.alloc())?;
+    assert_eq!(rt;
+        packet_hash(&keys, &packet_at(0, Some(first_of_ipv6()))),
+        Some(Some(0x4020_7d3d))
+    );
+    // bits 63 down to 32 of the input: 02001fff in the source, its last bit first
+    assert_eq!(rt;
+        packet_hash(&keys, &packet_at(1, Some(first_of_ipv6()))),
+        Some(Some(0xfff8_0040))
     );
     Ok(())
 }

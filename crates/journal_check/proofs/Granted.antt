@@ -1,5 +1,7 @@
 -- A step in which no `new` answers that its chain is full is the step that stops at each full chain.
 use Rattle.std.proofs.Common.{◌≡◌, ℕ, Bool, true, false, List, [], ◌∷◌, map, Option, Some, None, slice_get, if◌then◌else◌, refl, sym, ap, ◌∙◌, subst}
+use Rattle.nf_base.specs.Doors.{handler_at}
+use Rattle.nf_base.specs.Families.{door_of}
 use Rattle.nf_base.specs.declared.packet.Packet.{Packet}
 use Rattle.nf_base.specs.declared.packet.Fields.{Fields}
 use Rattle.nf_base.specs.declared.state.State.{State}
@@ -92,7 +94,7 @@ granted_step f s packet choices r = of_fields packet.fields
 
     of_fields : (o : Option Fields) → answers_full (record_of never f s packet choices o) ≡ false → step_of never f s packet choices o ≡ Some r → step_of full_stops f s packet choices o ≡ Some r
     of_fields None told e = e
-    of_fields (Some fields) told e = of_handler fields (slice_get f.handlers packet.id.port) told e
+    of_fields (Some fields) told e = of_handler fields (handler_at f (door_of packet.id.port fields)) told e
 
 none_full : (f : Function) (s : State) (packet : Packet) (choices : List ℕ) → answers_full (record_of full_stops f s packet choices packet.fields) ≡ false
 none_full f s packet choices = of_fields packet.fields
@@ -103,7 +105,7 @@ none_full f s packet choices = of_fields packet.fields
 
     of_fields : (o : Option Fields) → answers_full (record_of full_stops f s packet choices o) ≡ false
     of_fields None = refl
-    of_fields (Some fields) = of_handler fields (slice_get f.handlers packet.id.port)
+    of_fields (Some fields) = of_handler fields (handler_at f (door_of packet.id.port fields))
 
 pub meets_none : (f : Function) (s : State) (packet : Packet) (choices : List ℕ) (r : StepResult) → step_by full_stops f s packet choices ≡ Some r → answers_full (recorded f s packet choices) ≡ false
 meets_none f s packet choices r e = ap answers_full (sym (steps_alike full_stops f s packet choices r e).told) ∙ none_full f s packet choices

@@ -1,5 +1,6 @@
 //! The judge of a journal's lines.
 ghost use Rattle.std.specs.Prelude.{◌≡◌, ◌≢◌, ◌<◌, ◌↔◌, ℕ, length, IsTrue, IfOk, IfSome, IfNone};
+ghost use Rattle.nf_base.specs.Doors.{IsServed};
 ghost use Rattle.nf_base.specs.Functions.{function_of};
 ghost use Rattle.nf_base.specs.Step.{StepResult};
 ghost use Rattle.vig_tables.specs.TablesState.{opened_tables};
@@ -44,6 +45,7 @@ fn replayed_in_share(
     requires of_func { tables.old.decls ≡ func.now.chains }
     requires whole { tables.old.share.of ≡ 1 }
     requires port { packet.now.id.port < length func.now.handlers }
+    requires served { IsServed (function_of func.now) packet.now }
     ensures replays { Replays (function_of func.now) header.now queue tables.old.state packet.now picks.now
         tables.new.state result }
     ensures stays { fixed_of tables.new ≡ fixed_of tables.old }
@@ -68,6 +70,7 @@ fn replayed(
     requires of_func { tables.old.decls ≡ func.now.chains }
     requires whole { tables.old.share.of ≡ 1 }
     requires port { packet.now.id.port < length func.now.handlers }
+    requires served { IsServed (function_of func.now) packet.now }
     ensures replays { Replays (function_of func.now) header.now queue tables.old.state packet.now picks.now
         tables.new.state result }
     ensures stays { fixed_of tables.new ≡ fixed_of tables.old }
@@ -139,6 +142,7 @@ impl Judge {
     ) -> Option<Done>
         requires of_func { self.old.tables.decls ≡ func.now.chains }
         requires port { packet.now.id.port < length func.now.handlers }
+        requires served { IsServed (function_of func.now) packet.now }
         // It is the packet's step, from the state that the lines before left.
         ensures steps { IfSome result (λ done. Steps (function_of func.now) self.old.heading queue
             self.old.tables.state packet.now

@@ -1,5 +1,5 @@
 -- Systems with more equations.
-use Rattle.std.proofs.Common.{◌≡◌, ◌↔◌, ℕ, ◌+◌, ◌*◌, ◌%◌, ◌<◌, ◌==◌, Bool, false, sym, ◌∙◌, List, [], ◌∷◌, ◌++◌, All, arith, below_more, length, get_or}
+use Rattle.std.proofs.Common.{◌≡◌, ◌↔◌, ℕ, ◌+◌, ◌*◌, ◌%◌, ◌<◌, ◌==◌, Bool, false, sym, ◌∙◌, List, [], ◌∷◌, ◌++◌, All, arith, below_more, length}
 use Rattle.std.specs.List.{HoldsAt}
 use Rattle.std.proofs.lemmas.Bool.{eq-eqb, ne_eqb, true≢false}
 use Rattle.std.proofs.lemmas.List.FromFn.{length-map-range_with_len, get_or-map-range_with_len}
@@ -11,15 +11,15 @@ use Rattle.gf2_solve.specs.Kept.{Kept, StandsFor, HasRowMore}
 use Rattle.key_rows.specs.declared.place.Object.{Object}
 use Rattle.key_rows.specs.declared.windows.Windows.{Windows}
 use Rattle.key_rows.specs.Places.{AreAdmissible}
-use Rattle.key_rows.specs.Rows.{IsWithin, sum_at, IsEvenAt, numbered_bit, bits_of, is_odd, IsRowOf}
+use Rattle.key_rows.specs.Rows.{IsWithinAt, sum_at, IsEvenAt, numbered_bit, bits_of, is_odd, IsRowOf}
 use Rattle.key_rows.specs.Systems.{IsOver, Solve, Adds, AreEquationsOf}
 
 -- the bits of keys
-pub length_bits : (ports : ℕ) (keys : Keys) → length (bits_of ports keys) ≡ 127 * ports
-length_bits ports keys = length-map-range_with_len (λ m. numbered_bit keys m == 1) 0 (127 * ports)
+pub length_bits : (ports : ℕ) (keys : Keys) → length (bits_of ports keys) ≡ 319 * ports
+length_bits ports keys = length-map-range_with_len (λ m. numbered_bit keys m == 1) 0 (319 * ports)
 
-pub bit_of_bits : (ports : ℕ) (keys : Keys) (m : ℕ) → m < 127 * ports → bit (bits_of ports keys) m ≡ (numbered_bit keys m == 1)
-bit_of_bits ports keys m within = get_or-map-range_with_len (λ k. numbered_bit keys k == 1) 0 (127 * ports) m m false within (omega arith)
+pub bit_of_bits : (ports : ℕ) (keys : Keys) (m : ℕ) → m < 319 * ports → bit (bits_of ports keys) m ≡ (numbered_bit keys m == 1)
+bit_of_bits ports keys m within = get_or-map-range_with_len (λ k. numbered_bit keys k == 1) 0 (319 * ports) m m false within (omega arith)
 
 -- no equation, for what holds by itself
 pub adds_nothing : (ports : ℕ) (Fact : Keys → Type 0) (s : Kept) → IsOver ports s → ((keys : Keys) → Fact keys) → Adds ports Fact s s
@@ -75,20 +75,20 @@ even_to n even = ne_eqb (n % 2) 1 (omega (arith, even))
 
 -- A row adds one equation.
 pub row_added : (ports : ℕ) (windows : Windows) (k u : ℕ) (old new : Kept) (row : List Bool) → IsOver ports old → windows.first < ports → windows.second < ports
-    → IsWithin (λ n. get_or windows.classes n 0) k u → IsRowOf windows k u row → HasRowMore old row new → Adds ports (λ keys. IsEvenAt keys windows k u) old new
+    → IsWithinAt windows k u → IsRowOf windows k u row → HasRowMore old row new → Adds ports (λ keys. IsEvenAt keys windows k u) old new
 row_added ports windows k u old new row over first second within is more =
-    let stands : StandsFor new (127 * ports) (over.rows ++ row ∷ []) = more.stands (127 * ports) over.rows over.stands in
+    let stands : StandsFor new (319 * ports) (over.rows ++ row ∷ []) = more.stands (319 * ports) over.rows over.stands in
     record {
       over = record { rows = over.rows ++ row ∷ []; stands = stands };
       exact = λ keys.
           let x : List Bool = bits_of ports keys in
           let sum : sum_of row (bits_of ports keys) ≡ is_odd (sum_at keys windows k u) = is.sums ports keys first second in (
             λ solved.
-                let solution : IsSolution (127 * ports) (over.rows ++ row ∷ []) x = stands.sound x solved in
+                let solution : IsSolution (319 * ports) (over.rows ++ row ∷ []) x = stands.sound x solved in
                 let both : All (λ r. sum_of r x ≡ false) over.rows × (sum_of row x ≡ false) = (with_one (λ r. sum_of r x ≡ false) over.rows row).0 solution.sums in
                 (over.stands.complete x (record { length = solution.length; sums = both.0 }), λ inside. even_from (sum_at keys windows k u) (sym sum ∙ both.1)),
             λ both.
-                let solution : IsSolution (127 * ports) over.rows x = over.stands.sound x both.0 in
+                let solution : IsSolution (319 * ports) over.rows x = over.stands.sound x both.0 in
                 stands.complete x (record {
                   length = solution.length;
                   sums = (with_one (λ r. sum_of r x ≡ false) over.rows row).1 (solution.sums, sum ∙ even_to (sum_at keys windows k u) (both.1 within));
@@ -97,7 +97,7 @@ row_added ports windows k u old new row over first second within is more =
     }
 
 -- The equations of objects one by one are those of all.
-pub all_added : (ports : ℕ) (objects : List Object) (n : ℕ) (start system : Kept) → StandsFor start (127 * ports) [] → n ≡ length objects
+pub all_added : (ports : ℕ) (objects : List Object) (n : ℕ) (start system : Kept) → StandsFor start (319 * ports) [] → n ≡ length objects
     → Adds ports (λ keys. (i : ℕ) → i < n → HoldsAt (λ object. AreAdmissible keys object.places) objects i) start system → AreEquationsOf ports objects system
 all_added ports objects n start system stands all adds = record {
   over = adds.over;

@@ -17,49 +17,49 @@ pub bit_in_byte : (bytes : List ℕ) (i : ℕ) → bit_of bytes i ≡ bit_at (ge
 unfolding bit_of
 bit_in_byte bytes i = refl
 
-pub solution_bit-lt : (bits : List Bool) (port i : ℕ) → solution_bit bits port i < 2
-solution_bit-lt bits port i = of_tests (nat_lt i 127) (get_or bits (127 * port + i) false)
+pub solution_bit-lt : (bits : List Bool) (port count i : ℕ) → solution_bit bits port count i < 2
+solution_bit-lt bits port count i = of_tests (nat_lt i count) (get_or bits (319 * port + i) false)
   where
     of_tests : (s t : Bool) → (if s then (if t then 1 else 0) else 0) < 2
     of_tests true true = omega arith
     of_tests true false = omega arith
     of_tests false t = omega arith
 
-pub past_126 : (bits : List Bool) (port i : ℕ) → 127 ≤ i → solution_bit bits port i ≡ 0
-past_126 bits port i past = ap (λ t. if t then (if bit bits (127 * port + i) then 1 else 0) else 0) (le-ltb i 127 past)
+pub none_behind : (bits : List Bool) (port count i : ℕ) → count ≤ i → solution_bit bits port count i ≡ 0
+none_behind bits port count i past = ap (λ t. if t then (if bit bits (319 * port + i) then 1 else 0) else 0) (le-ltb i count past)
 
-pub up_to_126 : (bits : List Bool) (port i : ℕ) → i < 127 → solution_bit bits port i ≡ (if bit bits (127 * port + i) then 1 else 0)
-up_to_126 bits port i below = ap (λ t. if t then (if bit bits (127 * port + i) then 1 else 0) else 0) (lt-ltb i 127 below)
+pub those_before : (bits : List Bool) (port count i : ℕ) → i < count → solution_bit bits port count i ≡ (if bit bits (319 * port + i) then 1 else 0)
+those_before bits port count i below = ap (λ t. if t then (if bit bits (319 * port + i) then 1 else 0) else 0) (lt-ltb i count below)
 
-pub long_key : (bits : List Bool) (port : ℕ) → length (key_of bits port) ≡ 40
-long_key bits port = length-map-range_with_len (byte_of bits port) 0 40
+pub long_key : (bits : List Bool) (port count : ℕ) → length (key_of bits port count) ≡ 40
+long_key bits port count = length-map-range_with_len (byte_of bits port count) 0 40
 
 -- The key of a solution has its bits.
-pub bit_of_key : (bits : List Bool) (port i : ℕ) → bit_of (key_of bits port) i ≡ solution_bit bits port i
-bit_of_key bits port i =
+pub bit_of_key : (bits : List Bool) (port count i : ℕ) → count ≤ 320 → bit_of (key_of bits port count) i ≡ solution_bit bits port count i
+bit_of_key bits port count i most =
     elim (cases_lt i 320) [
       | inl within ↦
-          let f : ℕ → ℕ = λ j. solution_bit bits port (8 * (i / 8) + j) in
+          let f : ℕ → ℕ = λ j. solution_bit bits port count (8 * (i / 8) + j) in
           let eight : 8 ≡ suc (i % 8) + (7 - i % 8) = omega arith in
           let whole : 8 * (i / 8) + i % 8 ≡ i = omega arith in
-          bit_in_byte (key_of bits port) i
-          ∙ ap (λ b. bit_at b (7 - i % 8)) (get_or-map-range_with_len (byte_of bits port) 0 40 (i / 8) (i / 8) 0 (omega arith) (omega arith))
+          bit_in_byte (key_of bits port count) i
+          ∙ ap (λ b. bit_at b (7 - i % 8)) (get_or-map-range_with_len (byte_of bits port count) 0 40 (i / 8) (i / 8) 0 (omega arith) (omega arith))
           ∙ ap (λ m. bit_at (number_of m f) (7 - i % 8)) eight
-          ∙ bit_at-number_of (i % 8) (7 - i % 8) f (λ j. solution_bit-lt bits port (8 * (i / 8) + j))
-          ∙ ap (solution_bit bits port) whole
+          ∙ bit_at-number_of (i % 8) (7 - i % 8) f (λ j. solution_bit-lt bits port count (8 * (i / 8) + j))
+          ∙ ap (solution_bit bits port count) whole
       | inr past ↦
-          bit_in_byte (key_of bits port) i
-          ∙ ap (λ b. bit_at b (7 - i % 8)) (get_or_past (key_of bits port) (i / 8) 0 (omega (arith, long_key bits port)))
+          bit_in_byte (key_of bits port count) i
+          ∙ ap (λ b. bit_at b (7 - i % 8)) (get_or_past (key_of bits port count) (i / 8) 0 (omega (arith, long_key bits port count)))
           ∙ bit_at-zero (7 - i % 8)
-          ∙ sym (past_126 bits port i (omega arith))
+          ∙ sym (none_behind bits port count i (omega (arith, most, past)))
     ]
 
-pub is_key : (bits : List Bool) (port : ℕ) → IsKey (key_of bits port)
-is_key bits port = record {
-  long = long_key bits port;
+pub is_key : (bits : List Bool) (port count : ℕ) → IsKey (key_of bits port count)
+is_key bits port count = record {
+  long = long_key bits port count;
   bytes = λ k d below.
-      let is : get_or (key_of bits port) k d ≡ byte_of bits port k = get_or-map-range_with_len (byte_of bits port) 0 40 k k d (omega (arith, long_key bits port)) (omega arith) in
-      rw is (number_of-lt 8 (λ j. solution_bit bits port (8 * k + j)) (λ j. solution_bit-lt bits port (8 * k + j)));
+      let is : get_or (key_of bits port count) k d ≡ byte_of bits port count k = get_or-map-range_with_len (byte_of bits port count) 0 40 k k d (omega (arith, long_key bits port count)) (omega arith) in
+      rw is (number_of-lt 8 (λ j. solution_bit bits port count (8 * k + j)) (λ j. solution_bit-lt bits port count (8 * k + j)));
 }
 
 -- Keys are equal where their bits are.

@@ -1,5 +1,5 @@
 -- Keyed ports, and the groups of bits of which one has to be 1.
-use Rattle.std.proofs.Common.{◌≡◌, ◌↔◌, ℕ, ◌+◌, ◌-◌, ◌*◌, ◌/◌, ◌%◌, ◌<◌, ◌≤◌, ◌==◌, Bool, true, false, refl, ap, sym, ◌∙◌, List, [], ◌∷◌, ◌++◌, All, arith, length, replicate, get_or, subst, inl, inr}
+use Rattle.std.proofs.Common.{◌≡◌, ◌↔◌, ℕ, ◌+◌, ◌-◌, ◌*◌, ◌/◌, ◌%◌, ◌<◌, ◌≤◌, ◌==◌, ◌&&◌, Bool, true, false, refl, ap, sym, ◌∙◌, List, [], ◌∷◌, ◌++◌, All, arith, length, replicate, get_or, subst, inl, inr}
 use Rattle.std.specs.List.{list_any, list_all, Any}
 use Rattle.std.proofs.lemmas.Bool.{eqb-true, eq-eqb, cases_eq, cases_lt, true≢false, and_parts, and_cases, or_left, or_right, ltb-true, ltb-false, both_ways}
 use Rattle.std.proofs.lemmas.List.{length-replicate, get_or-replicate, get_or_append_left, get_or-append_right, get_or_past, length-append}
@@ -12,10 +12,13 @@ use Rattle.gf2_solve.specs.Sums.{bit}
 use Rattle.gf2_solve.specs.Solutions.{Meets}
 use Rattle.key_rows.specs.declared.place.Place.{Place}
 use Rattle.key_rows.specs.declared.place.Object.{Object}
-use Rattle.key_rows.specs.Keyed.{is_at, is_keyed, is_before, are_at_ports, AreAtPorts}
+use Rattle.key_rows.specs.Keyed.{is_at, is_keyed, version, is_for, is_keyed_for, is_before, are_at_ports, AreAtPorts}
 use Rattle.key_rows.specs.Spread.{Spreads}
+use Rattle.key_rows.specs.Places.{input_bits}
+use Rattle.nf_base.specs.declared.packet.Family.{Family}
+use Rattle.nf_base.specs.declared.packet.Family.TheVariants.{Four, Six}
 use Rattle.key_rows.specs.Rows.{numbered_bit, bits_of}
-use Rattle.key_rows.specs.Systems.{group_of, AreGroupsOf}
+use Rattle.key_rows.specs.Systems.{group_long, group_of, AddsGroup, AreGroupsOf}
 use Rattle.key_rows.proofs.Added.{bit_of_bits, with_one}
 
 -- a place of an object at a port
@@ -99,100 +102,150 @@ keyed_past ports (o ∷ objects) none =
           record { port = found.port; past = found.past; keyed = or_right (list_any (is_at found.port) o.places) (is_keyed objects found.port) found.keyed }
     ]
 
+-- a port that is keyed for a family is keyed
+pub keyed_for_keyed : (objects : List Object) (family : Family) (port : ℕ) → is_keyed_for objects family port ≡ true → is_keyed objects port ≡ true
+keyed_for_keyed objects family port keyed =
+    let one : Any (λ object. list_any (is_for family port) object.places ≡ true) objects = Any-from_list_any (λ object. list_any (is_for family port) object.places) objects keyed in
+    let two : Any (λ place. is_for family port place ≡ true) one.1.places = Any-from_list_any (is_for family port) one.1.places one.4 in
+    let here : is_at port two.1 ≡ true = (and_parts (version two.1.family == version family) (two.1.port == port) two.4).1 in
+    let inside : list_any (is_at port) one.1.places ≡ true =
+    list_any_at (is_at port) one.1.places two.0 two.1 two.2 (subst (λ (p : Place). is_at port p ≡ true) (sym two.3) here) in
+    list_any_at (λ object. list_any (is_at port) object.places) objects one.0 one.1 one.2 (subst (λ (o : Object). list_any (is_at port) o.places ≡ true) (sym one.3) inside)
+
+pub both_true : (a b : Bool) → a ≡ true → b ≡ true → a && b ≡ true
+both_true a b e d = ap (λ x. x && b) e ∙ d
+
+-- and a keyed port is keyed for a family
+pub keyed_some : (objects : List Object) (port : ℕ) → is_keyed objects port ≡ true → (family : Family) × (is_keyed_for objects family port ≡ true)
+keyed_some objects port keyed =
+    let by : IsKeyedBy objects port = keyed_by objects port keyed in
+    let family : Family = by.place.family in
+    let here : is_for family port by.place ≡ true =
+    both_true (version family == version family) (by.place.port == port) (eq-eqb (version family) (version family) refl) (eq-eqb by.place.port port by.here) in
+    let inside : list_any (is_for family port) by.object.places ≡ true =
+    list_any_at (is_for family port) by.object.places by.j by.place by.inside (subst (λ (p : Place). is_for family port p ≡ true) (sym by.stands) here) in
+    (family, list_any_at (λ object. list_any (is_for family port) object.places) objects by.i by.object by.within (subst (λ (o : Object). list_any (is_for family port) o.places ≡ true) (sym by.is) inside))
+
+-- how long a group is
+long_is : (f : Family) → input_bits f + 31 ≡ 25 + group_long f
+long_is Four = refl
+long_is Six = refl
+
+long_most : (f : Family) → group_long f ≤ 294
+long_most Four = omega arith
+long_most Six = omega arith
+
 -- the bits of a group
-group_in : (port m : ℕ) → 127 * port + 25 ≤ m → m < 127 * port + 127 → bit (group_of port) m ≡ true
-group_in port m low high =
-    get_or-append_right (replicate (127 * port + 25) false) (replicate 102 true) (127 * port + 25) m false (length-replicate {A = Bool} (127 * port + 25) false) low
-    ∙ get_or-replicate {A = Bool} 102 (m - (127 * port + 25)) true false (omega arith)
+group_in : (f : Family) (port m : ℕ) → 319 * port + 25 ≤ m → m < 319 * port + 25 + group_long f → bit (group_of f port) m ≡ true
+group_in f port m low high =
+    get_or-append_right (replicate (319 * port + 25) false) (replicate (group_long f) true) (319 * port + 25) m false (length-replicate {A = Bool} (319 * port + 25) false) low
+    ∙ get_or-replicate {A = Bool} (group_long f) (m - (319 * port + 25)) true false (omega arith)
 
-group_before : (port m : ℕ) → m < 127 * port + 25 → bit (group_of port) m ≡ false
-group_before port m low =
-    get_or_append_left (replicate (127 * port + 25) false) (replicate 102 true) false m (omega (arith, length-replicate {A = Bool} (127 * port + 25) false))
-    ∙ get_or-replicate {A = Bool} (127 * port + 25) m false false low
+group_before : (f : Family) (port m : ℕ) → m < 319 * port + 25 → bit (group_of f port) m ≡ false
+group_before f port m low =
+    get_or_append_left (replicate (319 * port + 25) false) (replicate (group_long f) true) false m (omega (arith, length-replicate {A = Bool} (319 * port + 25) false))
+    ∙ get_or-replicate {A = Bool} (319 * port + 25) m false false low
 
-group_past : (port m : ℕ) → 127 * port + 127 ≤ m → bit (group_of port) m ≡ false
-group_past port m high =
-    let one = length-append (replicate (127 * port + 25) false) (replicate 102 true) in
-    let two = length-replicate {A = Bool} (127 * port + 25) false in
-    let three = length-replicate {A = Bool} 102 true in
-    get_or_past (group_of port) m false (omega (arith, one, two, three))
+group_past : (f : Family) (port m : ℕ) → 319 * port + 25 + group_long f ≤ m → bit (group_of f port) m ≡ false
+group_past f port m high =
+    let one = length-append (replicate (319 * port + 25) false) (replicate (group_long f) true) in
+    let two = length-replicate {A = Bool} (319 * port + 25) false in
+    let three = length-replicate {A = Bool} (group_long f) true in
+    get_or_past (group_of f port) m false (omega (arith, one, two, three))
 
 -- The bits of keys have a 1 in the group of a port exactly where its key spreads.
-pub meets_is_spreads : (ports port : ℕ) (keys : Keys) → port < ports → Meets (bits_of ports keys) (group_of port) ↔ Spreads (key_at keys port)
-meets_is_spreads ports port keys within = (spreads, meets)
+pub meets_is_spreads : (f : Family) (ports port : ℕ) (keys : Keys) → port < ports → Meets (bits_of ports keys) (group_of f port) ↔ Spreads f 7 (key_at keys port)
+meets_is_spreads f ports port keys within = (spreads, meets)
   where
-    spreads : Meets (bits_of ports keys) (group_of port) → Spreads (key_at keys port)
+    spreads : Meets (bits_of ports keys) (group_of f port) → Spreads f 7 (key_at keys port)
     spreads met =
-        elim (cases_lt met.place (127 * port + 25)) [
-          | inl low ↦ absurd (both_ways (bit (group_of port) met.place) (group_before port met.place low) met.member)
+        elim (cases_lt met.place (319 * port + 25)) [
+          | inl low ↦ absurd (both_ways (bit (group_of f port) met.place) (group_before f port met.place low) met.member)
           | inr from ↦
-              elim (cases_lt met.place (127 * port + 127)) [
-                | inr high ↦ absurd (both_ways (bit (group_of port) met.place) (group_past port met.place high) met.member)
+              elim (cases_lt met.place (319 * port + 25 + group_long f)) [
+                | inr high ↦ absurd (both_ways (bit (group_of f port) met.place) (group_past f port met.place high) met.member)
                 | inl to ↦
-                    let one : (numbered_bit keys met.place == 1) ≡ true = sym (bit_of_bits ports keys met.place (omega arith)) ∙ met.one in
-                    let there : met.place / 127 ≡ port = omega arith in
+                    let most : group_long f ≤ 294 = long_most f in
+                    let one : (numbered_bit keys met.place == 1) ≡ true = sym (bit_of_bits ports keys met.place (omega (arith, most, to, within))) ∙ met.one in
+                    let there : met.place / 319 ≡ port = omega (arith, most, to, from) in
                     record {
-                      bit = met.place % 127;
-                      low = omega arith;
-                      high = omega arith;
-                      one = ap (λ m. bit_of (key_at keys m) (met.place % 127)) (sym there) ∙ eqb-true (numbered_bit keys met.place) 1 one;
+                      bit = met.place % 319;
+                      from = omega (arith, most, to, from);
+                      to = omega (arith, most, to, from, long_is f);
+                      one = ap (λ m. bit_of (key_at keys m) (met.place % 319)) (sym there) ∙ eqb-true (numbered_bit keys met.place) 1 one;
                     }
               ]
         ]
 
-    meets : Spreads (key_at keys port) → Meets (bits_of ports keys) (group_of port)
+    meets : Spreads f 7 (key_at keys port) → Meets (bits_of ports keys) (group_of f port)
     meets some =
-        let m : ℕ = 127 * port + some.bit in
-        let low : 25 ≤ some.bit = some.low in
-        let high : some.bit ≤ 126 = some.high in
-        let there : (127 * port + some.bit) / 127 ≡ port = omega arith in
-        let place : (127 * port + some.bit) % 127 ≡ some.bit = omega arith in
-        let is : numbered_bit keys (127 * port + some.bit) ≡ 1 = ap (λ p. bit_of (key_at keys p) ((127 * port + some.bit) % 127)) there ∙ ap (bit_of (key_at keys port)) place ∙ some.one in
+        let most : group_long f ≤ 294 = long_most f in
+        let low : 25 ≤ some.bit = some.from in
+        let high : some.bit < 25 + group_long f = omega (arith, some.to, long_is f) in
+        let there : (319 * port + some.bit) / 319 ≡ port = omega (arith, most, high) in
+        let place : (319 * port + some.bit) % 319 ≡ some.bit = omega (arith, most, high) in
+        let is : numbered_bit keys (319 * port + some.bit) ≡ 1 = ap (λ p. bit_of (key_at keys p) ((319 * port + some.bit) % 319)) there ∙ ap (bit_of (key_at keys port)) place ∙ some.one in
         record {
-          place = 127 * port + some.bit;
-          member = group_in port (127 * port + some.bit) (omega arith) (omega arith);
-          one = bit_of_bits ports keys (127 * port + some.bit) (omega arith) ∙ eq-eqb (numbered_bit keys (127 * port + some.bit)) 1 is;
+          place = 319 * port + some.bit;
+          member = group_in f port (319 * port + some.bit) (omega (arith, low)) (omega (arith, high));
+          one = bit_of_bits ports keys (319 * port + some.bit) (omega (arith, most, high, within)) ∙ eq-eqb (numbered_bit keys (319 * port + some.bit)) 1 is;
         }
 
--- the groups of the first n ports
-pub record AreGroupsBelow (ports : ℕ) (objects : List Object) (n : ℕ) (groups : List (List Bool)) : Type 0 where
-  pub exact : (keys : Keys) → (All (Meets (bits_of ports keys)) groups) ↔ ((port : ℕ) → port < n → is_keyed objects port ≡ true → Spreads (key_at keys port))
-
-pub groups_none : (ports : ℕ) (objects : List Object) → AreGroupsBelow ports objects 0 []
-groups_none ports objects = record { exact = λ keys. (λ all port below keyed. absurd (omega arith), λ each. All-nil (Meets (bits_of ports keys))) }
-
-pub groups_with : (ports : ℕ) (objects : List Object) (n : ℕ) (groups : List (List Bool)) (group : List Bool) → n < ports → is_keyed objects n ≡ true → group ≡ group_of n → AreGroupsBelow ports objects n groups
-    → AreGroupsBelow ports objects (n + 1) (groups ++ group ∷ [])
-groups_with ports objects n groups group within keyed is below = record {
+-- a group is added where a port is keyed
+pub group_added :
+    (ports : ℕ) (objects : List Object) (family : Family) (port : ℕ) (groups : List (List Bool)) (group : List Bool) → port < ports → is_keyed_for objects family port ≡ true → group ≡ group_of family port
+    → AddsGroup ports objects family port groups (groups ++ group ∷ [])
+group_added ports objects family port groups group within keyed is = record {
   exact = λ keys.
       let x : List Bool = bits_of ports keys in
       let parts : (All (Meets x) (groups ++ group ∷ [])) ↔ (All (Meets x) groups × Meets x group) = with_one (Meets x) groups group in
-      let here : Meets x (group_of n) ↔ Spreads (key_at keys n) = meets_is_spreads ports n keys within in (
-        λ all port small key.
-            elim (cases_eq port n) [
-              | inl same ↦ subst (λ (m : ℕ). Spreads (key_at keys m)) (sym same) (here.0 (subst (Meets x) is (parts.0 all).1))
-              | inr other ↦ (below.exact keys).0 (parts.0 all).0 port (omega arith) key
-            ],
-        λ each. parts.1 ((below.exact keys).1 (λ port small key. each port (omega arith) key), subst (Meets x) (sym is) (here.1 (each n (omega arith) keyed))),
+      let here : Meets x (group_of family port) ↔ Spreads family 7 (key_at keys port) = meets_is_spreads family ports port keys within in (
+        λ all. ((parts.0 all).0, λ key. here.0 (subst (Meets x) is (parts.0 all).1)),
+        λ both. parts.1 (both.0, subst (Meets x) (sym is) (here.1 (both.1 keyed))),
       );
 }
 
-pub groups_without : (ports : ℕ) (objects : List Object) (n : ℕ) (groups : List (List Bool)) → is_keyed objects n ≡ false → AreGroupsBelow ports objects n groups → AreGroupsBelow ports objects (n + 1) groups
-groups_without ports objects n groups unkeyed below = record {
+-- and none where it is not
+pub group_left :
+    (ports : ℕ) (objects : List Object) (family : Family) (port : ℕ) (groups : List (List Bool)) → is_keyed_for objects family port ≡ false
+    → AddsGroup ports objects family port groups groups
+group_left ports objects family port groups unkeyed = record {
+  exact = λ keys. (λ all. (all, λ keyed. absurd (both_ways (is_keyed_for objects family port) unkeyed keyed)), λ both. both.0);
+}
+
+-- the groups of the first n ports
+pub record AreGroupsBelow (ports : ℕ) (objects : List Object) (n : ℕ) (groups : List (List Bool)) : Type 0 where
+  pub exact : (keys : Keys) → (All (Meets (bits_of ports keys)) groups)
+      ↔ ((port : ℕ) (family : Family) → port < n → is_keyed_for objects family port ≡ true → Spreads family 7 (key_at keys port))
+
+pub groups_none : (ports : ℕ) (objects : List Object) → AreGroupsBelow ports objects 0 []
+groups_none ports objects = record { exact = λ keys. (λ all port family below keyed. absurd (omega arith), λ each. All-nil (Meets (bits_of ports keys))) }
+
+of_both : (objects : List Object) (keys : Keys) (n : ℕ) → (is_keyed_for objects Four n ≡ true → Spreads Four 7 (key_at keys n)) → (is_keyed_for objects Six n ≡ true → Spreads Six 7 (key_at keys n))
+    → (family : Family) → is_keyed_for objects family n ≡ true → Spreads family 7 (key_at keys n)
+of_both objects keys n four six Four keyed = four keyed
+of_both objects keys n four six Six keyed = six keyed
+
+-- those of one port more
+pub groups_more : (ports : ℕ) (objects : List Object) (n : ℕ) (old mid new : List (List Bool)) → AreGroupsBelow ports objects n old → AddsGroup ports objects Four n old mid → AddsGroup ports objects Six n mid new
+    → AreGroupsBelow ports objects (n + 1) new
+groups_more ports objects n old mid new below four six = record {
   exact = λ keys. (
-    λ all port small key.
+    λ all port family small key.
+        let last = (six.exact keys).0 all in
+        let first = (four.exact keys).0 last.0 in
         elim (cases_eq port n) [
-          | inl same ↦ absurd (both_ways (is_keyed objects n) unkeyed (ap (is_keyed objects) (sym same) ∙ key))
-          | inr other ↦ (below.exact keys).0 all port (omega arith) key
+          | inl same ↦ subst (λ (m : ℕ). Spreads family 7 (key_at keys m)) (sym same) (of_both objects keys n first.1 last.1 family (ap (is_keyed_for objects family) (sym same) ∙ key))
+          | inr other ↦ (below.exact keys).0 first.0 port family (omega arith) key
         ],
-    λ each. (below.exact keys).1 (λ port small key. each port (omega arith) key),
+    λ each. (six.exact keys).1 ((four.exact keys).1 ((below.exact keys).1 (λ port family small key. each port family (omega arith) key), λ key. each n Four (omega arith) key), λ key. each n Six (omega arith) key),
   );
 }
 
 pub groups_all : (ports : ℕ) (objects : List Object) (n : ℕ) (groups : List (List Bool)) → n ≡ ports → All (λ object. AreAtPorts ports object.places) objects → AreGroupsBelow ports objects n groups → AreGroupsOf ports objects groups
 groups_all ports objects n groups all within below = record {
   exact = λ keys. (
-    λ met. record { each = λ port keyed. (below.exact keys).0 met port (omega (arith, all, keyed_within objects port ports within keyed)) keyed },
-    λ spreading. (below.exact keys).1 (λ port small keyed. spreading.each port keyed),
+    λ met. record { each = λ port family keyed. (below.exact keys).0 met port family (omega (arith, all, keyed_within objects port ports within (keyed_for_keyed objects family port keyed))) keyed },
+    λ spreading. (below.exact keys).1 (λ port family small keyed. spreading.each port family keyed),
   );
 }

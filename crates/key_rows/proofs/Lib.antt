@@ -11,3 +11,4 @@ pub mod Grouped
 pub mod Bytes
 pub mod Solved
 pub mod Once
+pub mod Cutting

@@ -3,17 +3,18 @@ use Rattle.std.proofs.Common.{◌≡◌, ◌↔◌, ℕ, ◌<◌, sym, List, ari
 use Rattle.std.proofs.lemmas.Bool.{cases_lt}
 use Rattle.std.proofs.lemmas.List.{get_or_read}
 use Rattle.nf_base.specs.declared.keys.Keys.{Keys}
+use Rattle.nf_base.specs.declared.packet.Family.{Family}
 use Rattle.hash_fields.specs.declared.hashable.Hashable.{Hashable}
 use Rattle.key_rows.specs.declared.place.Place.{Place}
 use Rattle.key_rows.specs.Places.{Agree, AgreeAt, AreAdmissible}
 use Rattle.key_rows.specs.Systems.{AgreeOn, AgreeFrom}
 use Rattle.key_rows.specs.Laws.{PlacesAgreeInEitherOrder}
 
-swapped : (first second : List Hashable) (key other : List ℕ) → Agree first second key other → Agree second first other key
-swapped first second key other agree = record { hashes = λ p q fits fits_too tied. sym (agree.hashes q p fits_too fits (sym tied)) }
+swapped : (f g : Family) (first second : List Hashable) (key other : List ℕ) → Agree f g first second key other → Agree g f second first other key
+swapped f g first second key other agree = record { hashes = λ p q fits fits_too tied. sym (agree.hashes q p fits_too fits (sym tied)) }
 
 pub places_agree_in_either_order : PlacesAgreeInEitherOrder
-places_agree_in_either_order keys first second = (swapped first.known second.known _ _, swapped second.known first.known _ _)
+places_agree_in_either_order keys first second = (swapped first.family second.family first.known second.known _ _, swapped second.family first.family second.known first.known _ _)
 
 pub pairs_once : (keys : Keys) (places : List Place) → ((i : ℕ) → i < length places → AgreeFrom keys places i) ↔ AreAdmissible keys places
 pairs_once keys places = (

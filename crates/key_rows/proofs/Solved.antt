@@ -1,15 +1,19 @@
 -- From a nearest solution to the given keys.
-use Rattle.std.proofs.Common.{◌≡◌, ◌↔◌, ◌⊎◌, ℕ, zero, suc, ◌+◌, ◌-◌, ◌*◌, ◌/◌, ◌%◌, ◌<◌, ◌≤◌, ◌==◌, Bool, true, false, refl, ap, sym, ◌∙◌, List, [], ◌∷◌, All, arith, length, map, get_or, subst, inl, inr, nat_lt, if◌then◌else◌, Option, Some, None, Result, Ok, Err, IfOk}
+use Rattle.std.proofs.Common.{◌≡◌, ◌↔◌, ◌⊎◌, ℕ, zero, suc, ◌+◌, ◌-◌, ◌*◌, ◌/◌, ◌%◌, ◌<◌, ◌≤◌, ◌==◌, ◌||◌, Bool, true, false, refl, ap, sym, ◌∙◌, List, [], ◌∷◌, All, arith, length, map, get_or, subst, inl, inr, nat_lt, if◌then◌else◌, Option, Some, None, Result, Ok, Err, IfOk}
 use Rattle.std.specs.declared.alloc.AllocError.{AllocError}
 use Rattle.std.specs.List.{range_with_len, list_all}
-use Rattle.std.proofs.lemmas.Bool.{eqb-true, eq-eqb, cases_eq, cases_lt, cases_Bool, and_parts, ltb-true}
+use Rattle.std.proofs.lemmas.Bool.{eqb-true, eq-eqb, cases_eq, cases_lt, cases_Bool, and_parts, ltb-true, false≢true}
 use Rattle.std.proofs.lemmas.List.{get_or_past, get_or_default, same_lists}
 use Rattle.std.proofs.lemmas.List.FromFn.{length-map-range_with_len, get_or-map-range_with_len}
 use Rattle.std.proofs.lemmas.List.Elements.{All-nil, All-cons, All-map}
 use Rattle.std.proofs.lemmas.Nat.Bits.{bit_at-zero}
 use Rattle.nf_base.specs.declared.keys.Keys.{Keys}
+use Rattle.nf_base.specs.declared.packet.Family.{Family}
+use Rattle.nf_base.specs.declared.packet.Family.TheVariants.{Four, Six}
+use Rattle.nf_base.specs.Doors.{six_at}
 use Rattle.toeplitz_hash.specs.declared.key.TheConstants.{DEFAULT_KEY}
 use Rattle.toeplitz_hash.specs.Bits.{bit_of}
+use Rattle.toeplitz_hash.specs.Packets as met
 use Rattle.toeplitz_hash.specs.Packets.{key_at}
 use Rattle.toeplitz_hash.proofs.Bytes.{bit_of-lt}
 use Rattle.gf2_solve.specs.Sums.{bit}
@@ -18,25 +22,27 @@ use Rattle.gf2_solve.specs.Kept.{Kept, Answers}
 use Rattle.key_rows.specs.declared.place.Place.{Place}
 use Rattle.key_rows.specs.declared.place.Object.{Object}
 use Rattle.key_rows.specs.Places.{Agree, AreAdmissibleForAll}
-use Rattle.key_rows.specs.Keyed.{is_keyed}
+use Rattle.key_rows.specs.Keyed.{is_keyed, is_keyed_for}
 use Rattle.key_rows.specs.Spread.{Spreads}
 use Rattle.key_rows.specs.Given as given
+use Rattle.key_rows.specs.Positions.{positions_at, AreWithin, AreCut}
 use Rattle.key_rows.specs.Given.{IsKey, AreSpreading, MayBeGiven, key_bit, AgreeBefore, AreGiven, NoneMayBeGiven, AreAnswer}
 use Rattle.key_rows.specs.Rows.{numbered_bit, bits_of}
 use Rattle.key_rows.specs.Systems.{AreEquationsOf, AreGroupsOf, default_bits}
-use Rattle.key_rows.specs.Solutions.{key_of, given_key, IsNearestFor, IsSolved}
+use Rattle.key_rows.specs.Solutions.{solution_bit, key_of, given_key, IsNearestFor, IsSolved}
 use Rattle.key_rows.proofs.Added.{length_bits, bit_of_bits}
-use Rattle.key_rows.proofs.Bytes.{past_126, up_to_126, bit_of_key, is_key}
-use Rattle.key_rows.proofs.Grouped.{keyed_at, IsKeyedPast}
+use Rattle.key_rows.proofs.Cutting.{cut_keys_are_given}
+use Rattle.key_rows.proofs.Bytes.{none_behind, those_before, bit_of_key, is_key}
+use Rattle.key_rows.proofs.Grouped.{keyed_at, keyed_for_keyed, keyed_some, IsKeyedPast}
 
 module _ (ports : ℕ) (objects : List Object) (system : Kept) (groups : List (List Bool)) (equations : AreEquationsOf ports objects system) (are : AreGroupsOf ports objects groups) where
-  both : (keys : Keys) → IsAdmissible (127 * ports) equations.over.rows groups (bits_of ports keys) ↔ (AreAdmissibleForAll keys objects × AreSpreading objects keys)
+  both : (keys : Keys) → IsAdmissible (319 * ports) equations.over.rows groups (bits_of ports keys) ↔ (AreAdmissibleForAll keys objects × AreSpreading objects keys)
   both keys = (
     λ admissible. ((equations.exact keys).0 (equations.over.stands.complete (bits_of ports keys) admissible.solution), (are.exact keys).0 admissible.met),
     λ parts. record { solution = equations.over.stands.sound (bits_of ports keys) ((equations.exact keys).1 parts.0); met = (are.exact keys).1 parts.1 },
   )
 
-  of_answer : (answer : Option (List Bool)) → IsAnswer (127 * ports) equations.over.rows groups (default_bits ports) answer → IsSolved ports objects answer
+  of_answer : (answer : Option (List Bool)) → IsAnswer (319 * ports) equations.over.rows groups (default_bits ports) answer → IsSolved ports objects answer
   of_answer None none = record { none = λ keys may. none.none (bits_of ports keys) ((both keys).1 (may.admissible, may.spreading)) }
   of_answer (Some x) nearest = record { rows = equations.over.rows; groups = groups; nearest = nearest; exact = both }
 
@@ -45,7 +51,7 @@ pub solved : (ports : ℕ) (objects : List Object) (system : Kept) (groups : Lis
     → wanted ≡ default_bits ports → Answers system groups wanted answer → IsSolved ports objects answer
 solved ports objects system groups wanted answer equations are is answers =
     of_answer ports objects system groups equations are answer
-    (subst (λ (w : List Bool). IsAnswer (127 * ports) equations.over.rows groups w answer) is (answers.is (127 * ports) equations.over.rows equations.over.stands))
+    (subst (λ (w : List Bool). IsAnswer (319 * ports) equations.over.rows groups w answer) is (answers.is (319 * ports) equations.over.rows equations.over.stands))
 
 -- a bit as a number, and back
 back : (b : Bool) (n : ℕ) → n ≡ (if b then 1 else 0) → (n == 1) ≡ b
@@ -80,12 +86,12 @@ keep_admissible : (objects : List Object) (keys other : Keys) → ((port : ℕ) 
 keep_admissible objects keys other same admissible i o within j p inside k q inside_too =
     let first : Place = get_or (get_or objects i o).places j p in
     let second : Place = get_or (get_or objects i o).places k q in
-    subst (λ (key : List ℕ). Agree first.known second.known key (key_at other second.port)) (same first.port (keyed_at objects i j o p within inside))
-    (subst (λ (key : List ℕ). Agree first.known second.known (key_at keys first.port) key) (same second.port (keyed_at objects i k o q within inside_too))
+    subst (λ (key : List ℕ). Agree first.family second.family first.known second.known key (key_at other second.port)) (same first.port (keyed_at objects i j o p within inside))
+    (subst (λ (key : List ℕ). Agree first.family second.family first.known second.known (key_at keys first.port) key) (same second.port (keyed_at objects i k o q within inside_too))
     (admissible i o within j p inside k q inside_too))
 
 keep_spreading : (objects : List Object) (keys other : Keys) → ((port : ℕ) → is_keyed objects port ≡ true → key_at keys port ≡ key_at other port) → AreSpreading objects keys → AreSpreading objects other
-keep_spreading objects keys other same spreading = record { each = λ port keyed. subst Spreads (same port keyed) (spreading.each port keyed) }
+keep_spreading objects keys other same spreading = record { each = λ port family keyed. subst (Spreads family 7) (same port (keyed_for_keyed objects family port keyed)) (spreading.each port family keyed) }
 
 small_bytes : (bytes : List ℕ) → list_all (λ b. nat_lt b 256) bytes ≡ true → All (λ b. b < 256) bytes
 small_bytes [] all = All-nil (λ b. b < 256)
@@ -97,51 +103,57 @@ default_is_key : IsKey DEFAULT_KEY
 default_is_key = record { long = refl; bytes = small_bytes DEFAULT_KEY refl }
 
 module _ (ports : ℕ) (objects : List Object) (x : List Bool) (near : IsNearestFor ports objects x) where
-  -- the keys with a solution's bits, and those that are given
+  -- the whole keys with a solution's bits, and the same with the default key where a port isn't keyed
+  abbrev whole_key : ℕ → List ℕ
+  whole_key port = key_of x port 319
+
+  abbrev wide_key : ℕ → List ℕ
+  wide_key port = given_key (λ q. 319) objects x port
+
   abbrev all_keys : Keys
-  all_keys = keys_by ports (key_of x)
+  all_keys = keys_by ports whole_key
 
   abbrev the_keys : Keys
-  the_keys = keys_by ports (given_key objects x)
+  the_keys = keys_by ports wide_key
 
-  keyed_key : (port : ℕ) → is_keyed objects port ≡ true → given_key objects x port ≡ key_of x port
-  keyed_key port keyed = ap (λ t. if t then key_of x port else DEFAULT_KEY) keyed
+  keyed_key : (positions : ℕ → ℕ) (port : ℕ) → is_keyed objects port ≡ true → given_key positions objects x port ≡ key_of x port (positions port)
+  keyed_key positions port keyed = ap (λ t. if t then key_of x port (positions port) else DEFAULT_KEY) keyed
 
-  other_key : (port : ℕ) → is_keyed objects port ≡ false → given_key objects x port ≡ DEFAULT_KEY
-  other_key port unkeyed = ap (λ t. if t then key_of x port else DEFAULT_KEY) unkeyed
+  other_key : (positions : ℕ → ℕ) (port : ℕ) → is_keyed objects port ≡ false → given_key positions objects x port ≡ DEFAULT_KEY
+  other_key positions port unkeyed = ap (λ t. if t then key_of x port (positions port) else DEFAULT_KEY) unkeyed
 
   same_keyed : (port : ℕ) → is_keyed objects port ≡ true → key_at all_keys port ≡ key_at the_keys port
   same_keyed port keyed =
       elim (cases_lt port ports) [
-        | inl within ↦ key_by ports (key_of x) port within ∙ sym (keyed_key port keyed) ∙ sym (key_by ports (given_key objects x) port within)
-        | inr past ↦ past_by ports (key_of x) (given_key objects x) port past
+        | inl within ↦ key_by ports whole_key port within ∙ sym (keyed_key (λ q. 319) port keyed) ∙ sym (key_by ports wide_key port within)
+        | inr past ↦ past_by ports whole_key wide_key port past
       ]
 
   -- a solution's bit, in the key that has its bits
-  bit_there : (m : ℕ) → m < 127 * ports → (numbered_bit all_keys m == 1) ≡ bit x m
+  bit_there : (m : ℕ) → m < 319 * ports → (numbered_bit all_keys m == 1) ≡ bit x m
   bit_there m within =
-      let port : m / 127 < ports = omega arith in
-      let low : m % 127 < 127 = omega arith in
-      let whole : 127 * (m / 127) + m % 127 ≡ m = omega arith in
+      let port : m / 319 < ports = omega arith in
+      let low : m % 319 < 319 = omega arith in
+      let whole : 319 * (m / 319) + m % 319 ≡ m = omega arith in
       back (bit x m) (numbered_bit all_keys m)
-      (ap (λ (key : List ℕ). bit_of key (m % 127)) (key_by ports (key_of x) (m / 127) port)
-      ∙ bit_of_key x (m / 127) (m % 127)
-      ∙ up_to_126 x (m / 127) (m % 127) low
+      (ap (λ (key : List ℕ). bit_of key (m % 319)) (key_by ports whole_key (m / 319) port)
+      ∙ bit_of_key x (m / 319) 319 (m % 319) (omega arith)
+      ∙ those_before x (m / 319) 319 (m % 319) low
       ∙ ap (λ n. if bit x n then 1 else 0) whole)
 
-  long_x : length x ≡ 127 * ports
+  long_x : length x ≡ 319 * ports
   long_x = near.nearest.admissible.solution.length
 
   all_bits : bits_of ports all_keys ≡ x
   all_bits =
       same_lists (bits_of ports all_keys) x (length_bits ports all_keys ∙ sym long_x)
       (λ k d below.
-      let within : k < 127 * ports = omega (arith, length_bits ports all_keys) in
+      let within : k < 319 * ports = omega (arith, length_bits ports all_keys) in
       get_or_default (bits_of ports all_keys) k d false below ∙ bit_of_bits ports all_keys k within ∙ bit_there k within
       ∙ get_or_default x k false d (omega (arith, long_x)))
 
   facts : AreAdmissibleForAll all_keys objects × AreSpreading objects all_keys
-  facts = (near.exact all_keys).0 (subst (IsAdmissible (127 * ports) near.rows near.groups) (sym all_bits) near.nearest.admissible)
+  facts = (near.exact all_keys).0 (subst (IsAdmissible (319 * ports) near.rows near.groups) (sym all_bits) near.nearest.admissible)
 
   admissible_ : AreAdmissibleForAll the_keys objects
   admissible_ = keep_admissible objects all_keys the_keys same_keyed facts.0
@@ -149,15 +161,15 @@ module _ (ports : ℕ) (objects : List Object) (x : List Bool) (near : IsNearest
   spreading_ : AreSpreading objects the_keys
   spreading_ = keep_spreading objects all_keys the_keys same_keyed facts.1
 
-  wanted_bit : (m : ℕ) → m < 127 * ports → bit (default_bits ports) m ≡ (bit_of DEFAULT_KEY (m % 127) == 1)
-  wanted_bit m within = get_or-map-range_with_len (λ k. bit_of DEFAULT_KEY (k % 127) == 1) 0 (127 * ports) m m false within (omega arith)
+  wanted_bit : (m : ℕ) → m < 319 * ports → bit (default_bits ports) m ≡ (bit_of DEFAULT_KEY (m % 319) == 1)
+  wanted_bit m within = get_or-map-range_with_len (λ k. bit_of DEFAULT_KEY (k % 319) == 1) 0 (319 * ports) m m false within (omega arith)
 
   -- The given keys have the solution's bits, at ports that are not keyed too.
-  agree : (m : ℕ) → m ≤ 127 * ports → AgreeBelow m x (bits_of ports the_keys)
+  agree : (m : ℕ) → m ≤ 319 * ports → AgreeBelow m x (bits_of ports the_keys)
   agree zero within = record { bits = λ j below. absurd (omega arith) }
   agree (suc m) within =
       let earlier : AgreeBelow m x (bits_of ports the_keys) = agree m (omega arith) in
-      let inside : m < 127 * ports = omega arith in
+      let inside : m < 319 * ports = omega arith in
       let here : bit x m ≡ bit (bits_of ports the_keys) m = one m inside earlier in
       record {
         bits = λ j below.
@@ -167,18 +179,18 @@ module _ (ports : ℕ) (objects : List Object) (x : List Bool) (near : IsNearest
             ];
       }
     where
-      one : (n : ℕ) → n < 127 * ports → AgreeBelow n x (bits_of ports the_keys) → bit x n ≡ bit (bits_of ports the_keys) n
+      one : (n : ℕ) → n < 319 * ports → AgreeBelow n x (bits_of ports the_keys) → bit x n ≡ bit (bits_of ports the_keys) n
       one n inside earlier =
-          let port : n / 127 < ports = omega arith in
-          elim (cases_Bool (is_keyed objects (n / 127))) [
+          let port : n / 319 < ports = omega arith in
+          elim (cases_Bool (is_keyed objects (n / 319))) [
             | inl keyed ↦
                 sym (bit_there n inside)
-                ∙ ap (λ (key : List ℕ). bit_of key (n % 127) == 1) (same_keyed (n / 127) keyed)
+                ∙ ap (λ (key : List ℕ). bit_of key (n % 319) == 1) (same_keyed (n / 319) keyed)
                 ∙ sym (bit_of_bits ports the_keys n inside)
             | inr unkeyed ↦
                 let default : bit (bits_of ports the_keys) n ≡ bit (default_bits ports) n =
                 bit_of_bits ports the_keys n inside
-                ∙ ap (λ (key : List ℕ). bit_of key (n % 127) == 1) (key_by ports (given_key objects x) (n / 127) port ∙ other_key (n / 127) unkeyed)
+                ∙ ap (λ (key : List ℕ). bit_of key (n % 319) == 1) (key_by ports wide_key (n / 319) port ∙ other_key (λ q. 319) (n / 319) unkeyed)
                 ∙ sym (wanted_bit n inside) in
                 elim (near.nearest.nearest n inside) [
                   | inl wanted ↦ wanted ∙ sym default
@@ -186,55 +198,55 @@ module _ (ports : ℕ) (objects : List Object) (x : List Bool) (near : IsNearest
                 ]
           ]
 
-  x_bit : (port i : ℕ) → port < ports → i < 127 → bit x (127 * port + i) ≡ (key_bit the_keys port i == 1)
+  x_bit : (port i : ℕ) → port < ports → i < 319 → bit x (319 * port + i) ≡ (key_bit the_keys port i == 1)
   x_bit port i within low =
-      let inside : 127 * port + i < 127 * ports = omega arith in
-      let p : (127 * port + i) / 127 ≡ port = omega arith in
-      let q : (127 * port + i) % 127 ≡ i = omega arith in
-      (agree (127 * ports) (omega arith)).bits (127 * port + i) inside
-      ∙ bit_of_bits ports the_keys (127 * port + i) inside
-      ∙ ap (λ n. bit_of (key_at the_keys n) ((127 * port + i) % 127) == 1) p
+      let inside : 319 * port + i < 319 * ports = omega arith in
+      let p : (319 * port + i) / 319 ≡ port = omega arith in
+      let q : (319 * port + i) % 319 ≡ i = omega arith in
+      (agree (319 * ports) (omega arith)).bits (319 * port + i) inside
+      ∙ bit_of_bits ports the_keys (319 * port + i) inside
+      ∙ ap (λ n. bit_of (key_at the_keys n) ((319 * port + i) % 319) == 1) p
       ∙ ap (λ n. bit_of (key_at the_keys port) n == 1) q
 
-  default_at : (port i : ℕ) → port < ports → i < 127 → bit (default_bits ports) (127 * port + i) ≡ (bit_of DEFAULT_KEY i == 1)
+  default_at : (port i : ℕ) → port < ports → i < 319 → bit (default_bits ports) (319 * port + i) ≡ (bit_of DEFAULT_KEY i == 1)
   default_at port i within low =
-      let inside : 127 * port + i < 127 * ports = omega arith in
-      let q : (127 * port + i) % 127 ≡ i = omega arith in
-      wanted_bit (127 * port + i) inside ∙ ap (λ n. bit_of DEFAULT_KEY n == 1) q
+      let inside : 319 * port + i < 319 * ports = omega arith in
+      let q : (319 * port + i) % 319 ≡ i = omega arith in
+      wanted_bit (319 * port + i) inside ∙ ap (λ n. bit_of DEFAULT_KEY n == 1) q
 
-  other_bit : (other : Keys) (port i : ℕ) → port < ports → i < 127 → bit (bits_of ports other) (127 * port + i) ≡ (key_bit other port i == 1)
+  other_bit : (other : Keys) (port i : ℕ) → port < ports → i < 319 → bit (bits_of ports other) (319 * port + i) ≡ (key_bit other port i == 1)
   other_bit other port i within low =
-      let inside : 127 * port + i < 127 * ports = omega arith in
-      let p : (127 * port + i) / 127 ≡ port = omega arith in
-      let q : (127 * port + i) % 127 ≡ i = omega arith in
-      bit_of_bits ports other (127 * port + i) inside
-      ∙ ap (λ n. bit_of (key_at other n) ((127 * port + i) % 127) == 1) p
+      let inside : 319 * port + i < 319 * ports = omega arith in
+      let p : (319 * port + i) / 319 ≡ port = omega arith in
+      let q : (319 * port + i) % 319 ≡ i = omega arith in
+      bit_of_bits ports other (319 * port + i) inside
+      ∙ ap (λ n. bit_of (key_at other n) ((319 * port + i) % 319) == 1) p
       ∙ ap (λ n. bit_of (key_at other port) n == 1) q
 
   -- keys that agree on all earlier bits, as vectors
-  earlier_bits : (other : Keys) (port i : ℕ) → port < ports → i < 127 → AgreeBefore port i the_keys other → AgreeBelow (127 * port + i) x (bits_of ports other)
+  earlier_bits : (other : Keys) (port i : ℕ) → port < ports → i < 319 → AgreeBefore (λ q. 319) port i the_keys other → AgreeBelow (319 * port + i) x (bits_of ports other)
   earlier_bits other port i within low before = record {
     bits = λ j below.
-        let inside : j < 127 * ports = omega arith in
-        let q : ℕ = j / 127 in
-        let whole : 127 * (j / 127) + j % 127 ≡ j = omega arith in
-        let port_there : j / 127 < ports = omega arith in
-        let bit_small : j % 127 < 127 = omega arith in
-        let same : key_bit the_keys (j / 127) (j % 127) ≡ key_bit other (j / 127) (j % 127) =
-        elim (cases_lt (j / 127) port) [
-          | inl earlier ↦ before.earlier_ports (j / 127) (j % 127) earlier bit_small
+        let inside : j < 319 * ports = omega arith in
+        let q : ℕ = j / 319 in
+        let whole : 319 * (j / 319) + j % 319 ≡ j = omega arith in
+        let port_there : j / 319 < ports = omega arith in
+        let bit_small : j % 319 < 319 = omega arith in
+        let same : key_bit the_keys (j / 319) (j % 319) ≡ key_bit other (j / 319) (j % 319) =
+        elim (cases_lt (j / 319) port) [
+          | inl earlier ↦ before.earlier_ports (j / 319) (j % 319) earlier bit_small
           | inr late ↦
-              let last : j / 127 ≡ port = omega arith in
-              let small : j % 127 < i = omega arith in
-              ap (λ n. key_bit the_keys n (j % 127)) last ∙ before.earlier_bits (j % 127) small ∙ sym (ap (λ n. key_bit other n (j % 127)) last)
+              let last : j / 319 ≡ port = omega arith in
+              let small : j % 319 < i = omega arith in
+              ap (λ n. key_bit the_keys n (j % 319)) last ∙ before.earlier_bits (j % 319) small ∙ sym (ap (λ n. key_bit other n (j % 319)) last)
         ] in
-        ap (bit x) (sym whole) ∙ x_bit (j / 127) (j % 127) port_there bit_small ∙ ap (λ b. b == 1) same ∙ sym (other_bit other (j / 127) (j % 127) port_there bit_small) ∙ ap (bit (bits_of ports other)) whole;
+        ap (bit x) (sym whole) ∙ x_bit (j / 319) (j % 319) port_there bit_small ∙ ap (λ b. b == 1) same ∙ sym (other_bit other (j / 319) (j % 319) port_there bit_small) ∙ ap (bit (bits_of ports other)) whole;
   }
 
-  nearest_ : (port i : ℕ) → port < ports → i < 127 → (key_bit the_keys port i ≡ bit_of DEFAULT_KEY i) ⊎ given.IsOutOfReach ports objects the_keys port i
+  nearest_ : (port i : ℕ) → port < ports → i < 319 → (key_bit the_keys port i ≡ bit_of DEFAULT_KEY i) ⊎ given.IsOutOfReach (λ q. 319) ports objects the_keys port i
   nearest_ port i within low =
-      let inside : 127 * port + i < 127 * ports = omega arith in
-      elim (near.nearest.nearest (127 * port + i) inside) [
+      let inside : 319 * port + i < 319 * ports = omega arith in
+      elim (near.nearest.nearest (319 * port + i) inside) [
         | inl wanted ↦
             inl (same_bits (key_bit the_keys port i) (bit_of DEFAULT_KEY i) (bit_of-lt (key_at the_keys port) i) (bit_of-lt DEFAULT_KEY i)
             (sym (x_bit port i within low) ∙ wanted ∙ default_at port i within low))
@@ -246,35 +258,91 @@ module _ (ports : ℕ) (objects : List Object) (x : List Bool) (near : IsNearest
             })
       ]
 
-  each_key : (port : ℕ) → IsKey (given_key objects x port)
-  each_key port = of_test (is_keyed objects port)
+  each_key : (positions : ℕ → ℕ) (port : ℕ) → IsKey (given_key positions objects x port)
+  each_key positions port = of_test (is_keyed objects port)
     where
-      of_test : (t : Bool) → IsKey (if t then key_of x port else DEFAULT_KEY)
-      of_test true = is_key x port
+      of_test : (t : Bool) → IsKey (if t then key_of x port (positions port) else DEFAULT_KEY)
+      of_test true = is_key x port (positions port)
       of_test false = default_is_key
 
-  given_keys : AreGiven ports objects the_keys
-  given_keys = record {
+  all_whole : (positions : ℕ → ℕ) → All IsKey (map (given_key positions objects x) (range_with_len 0 ports))
+  all_whole positions = All-map IsKey (given_key positions objects x) (range_with_len 0 ports) (λ k d below. each_key positions (get_or (range_with_len 0 ports) k d))
+
+  -- a bit of the key of a keyed port
+  keyed_bit : (positions : ℕ → ℕ) (port i : ℕ) → positions port ≤ 319 → port < ports → is_keyed objects port ≡ true → key_bit (keys_by ports (given_key positions objects x)) port i ≡ solution_bit x port (positions port) i
+  keyed_bit positions port i most within keyed =
+      ap (λ (key : List ℕ). bit_of key i) (key_by ports (given_key positions objects x) port within ∙ keyed_key positions port keyed)
+      ∙ bit_of_key x port (positions port) i (omega (arith, most))
+
+  past_bit : (positions : ℕ → ℕ) (port i : ℕ) → positions port ≤ 319 → port < ports → is_keyed objects port ≡ true → positions port ≤ i → key_bit (keys_by ports (given_key positions objects x)) port i ≡ 0
+  past_bit positions port i most within keyed high = keyed_bit positions port i most within keyed ∙ none_behind x port (positions port) i high
+
+  unkeyed_key : (positions : ℕ → ℕ) (port : ℕ) → port < ports → is_keyed objects port ≡ false → key_at (keys_by ports (given_key positions objects x)) port ≡ DEFAULT_KEY
+  unkeyed_key positions port within unkeyed = key_by ports (given_key positions objects x) port within ∙ other_key positions port unkeyed
+
+  -- The whole keys are nearest in 319 bits each.
+  wide_keys : AreGiven (λ q. 319) ports objects the_keys
+  wide_keys = record {
     may = record {
-      count = length-map-range_with_len (given_key objects x) 0 ports;
-      whole = All-map IsKey (given_key objects x) (range_with_len 0 ports) (λ k d below. each_key (get_or (range_with_len 0 ports) k d));
+      count = length-map-range_with_len wide_key 0 ports;
+      whole = all_whole (λ q. 319);
       admissible = admissible_;
       spreading = spreading_;
     };
     nearest = nearest_;
-    past = λ port i within keyed high.
-        ap (λ (key : List ℕ). bit_of key i) (key_by ports (given_key objects x) port within ∙ keyed_key port keyed) ∙ bit_of_key x port i ∙ past_126 x port i high;
-    unkeyed = λ port within unkeyed. key_by ports (given_key objects x) port within ∙ other_key port unkeyed;
+    past = λ port i within keyed high. past_bit (λ q. 319) port i (omega arith) within keyed high;
+    unkeyed = unkeyed_key (λ q. 319);
   }
 
+  -- The keys up to each port's positions are the whole ones, cut.
+  are_cut : (positions : ℕ → ℕ) → ((port : ℕ) → positions port ≤ 319) → AreCut positions ports objects the_keys (keys_by ports (given_key positions objects x))
+  are_cut positions most = record {
+    count = length-map-range_with_len (given_key positions objects x) 0 ports;
+    whole = all_whole positions;
+    same = λ port i within low.
+        elim (cases_Bool (is_keyed objects port)) [
+          | inl keyed ↦
+              keyed_bit positions port i (most port) within keyed
+              ∙ those_before x port (positions port) i low
+              ∙ sym (those_before x port 319 i (omega (arith, low, most port)))
+              ∙ sym (keyed_bit (λ q. 319) port i (omega arith) within keyed)
+          | inr unkeyed ↦ ap (λ (key : List ℕ). bit_of key i) (unkeyed_key positions port within unkeyed ∙ sym (unkeyed_key (λ q. 319) port within unkeyed))
+        ];
+    past = λ port i within keyed high. past_bit positions port i (most port) within keyed high;
+    unkeyed = unkeyed_key positions;
+  }
+
+-- what counts at each port reaches as far as its inputs do
+positions_within : (six : List Bool) (objects : List Object) → AreWithin (positions_at six objects) objects
+positions_within six objects = record {
+  least = λ port family keyed. reach (six_at six port) (is_keyed_for objects Six port) family (λ is. ap (λ (g : Family). is_keyed_for objects g port) (sym is) ∙ keyed);
+  most = λ port. at_most (six_at six port || is_keyed_for objects Six port);
+}
+  where
+    reach : (has keyed : Bool) (family : Family) → (family ≡ Six → keyed ≡ true) → met.positions family ≤ (if has || keyed then met.positions Six else met.positions Four)
+    reach true keyed Four is = omega arith
+    reach true keyed Six is = omega arith
+    reach false true Four is = omega arith
+    reach false true Six is = omega arith
+    reach false false Four is = omega arith
+    reach false false Six is = absurd (false≢true (is refl))
+
+    at_most : (t : Bool) → (if t then met.positions Six else met.positions Four) ≤ 319
+    at_most true = omega arith
+    at_most false = omega arith
+
 -- The keys of the nearest solution are the given ones.
-pub given_from : (ports : ℕ) (objects : List Object) (x : List Bool) (keys : Keys) → IsNearestFor ports objects x → keys.ports ≡ map (given_key objects x) (range_with_len 0 ports) → AreGiven ports objects keys
-given_from ports objects x keys near is =
-    let whole : keys ≡ keys_by ports (given_key objects x) = ap (λ (l : List (List ℕ)). let k : Keys = record { ports = l } in k) is in
-    subst (AreGiven ports objects) (sym whole) (given_keys ports objects x near)
+pub given_from : (six : List Bool) (ports : ℕ) (objects : List Object) (x : List Bool) (keys : Keys) → IsNearestFor ports objects x → keys.ports ≡ map (given_key (positions_at six objects) objects x) (range_with_len 0 ports)
+    → AreGiven (positions_at six objects) ports objects keys
+given_from six ports objects x keys near is =
+    let within : AreWithin (positions_at six objects) objects = positions_within six objects in
+    let whole : keys ≡ keys_by ports (given_key (positions_at six objects) objects x) = ap (λ (l : List (List ℕ)). let k : Keys = record { ports = l } in k) is in
+    subst (AreGiven (positions_at six objects) ports objects) (sym whole)
+    (cut_keys_are_given (positions_at six objects) ports objects (the_keys ports objects x near) (keys_by ports (given_key (positions_at six objects) objects x)) within (wide_keys ports objects x near)
+    (are_cut ports objects x near (positions_at six objects) within.most))
 
 -- how many bits a nearest solution has
-pub long_nearest : (ports : ℕ) (objects : List Object) (x : List Bool) → IsNearestFor ports objects x → length x ≡ 127 * ports
+pub long_nearest : (ports : ℕ) (objects : List Object) (x : List Bool) → IsNearestFor ports objects x → length x ≡ 319 * ports
 long_nearest ports objects x near = near.nearest.admissible.solution.length
 
 no_bit : (i : ℕ) → bit_of [] i ≡ 0
@@ -285,7 +353,8 @@ no_bit i = bit_at-zero (7 - i % 8)
 pub none_past : (ports : ℕ) (objects : List Object) → IsKeyedPast objects ports → NoneMayBeGiven ports objects
 none_past ports objects past = record {
   none = λ keys may.
-      let spreads : Spreads (key_at keys past.port) = may.spreading.each past.port past.keyed in
+      let found = keyed_some objects past.port past.keyed in
+      let spreads : Spreads found.0 7 (key_at keys past.port) = may.spreading.each past.port found.0 found.1 in
       let none : key_at keys past.port ≡ [] = get_or_past keys.ports past.port [] (omega (arith, may.count, past.past)) in
       let zero_ : bit_of (key_at keys past.port) spreads.bit ≡ 0 = ap (λ (key : List ℕ). bit_of key spreads.bit) none ∙ no_bit spreads.bit in
       omega (arith, zero_, spreads.one);

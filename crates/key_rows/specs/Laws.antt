@@ -1,6 +1,7 @@
 -- What the definitions say, as laws.
 use Rattle.std.specs.Prelude.{◌≡◌, ◌↔◌, ℕ, ◌+◌, List, length, map}
 use Rattle.nf_base.specs.declared.keys.Keys.{Keys}
+use Rattle.nf_base.specs.declared.packet.Family.{Family}
 use Rattle.hash_fields.specs.declared.hashable.Hashable.{Hashable}
 use Rattle.hash_fields.specs.Hashed.{number}
 use Rattle.key_rows.specs.declared.place.Place.{Place}
@@ -18,13 +19,14 @@ PlacesAgreeInEitherOrder = (keys : Keys) (first second : Place) →
 
 -- two given keys are equal
 abbrev pub GivenKeysAreOne : Type 0
-GivenKeysAreOne = (ports : ℕ) (objects : List Object) (keys other : Keys) →
-    AreGiven ports objects keys → AreGiven ports objects other → keys ≡ other
+GivenKeysAreOne =
+    (positions : ℕ → ℕ) (ports : ℕ) (objects : List Object) (keys other : Keys) →
+    AreGiven positions ports objects keys → AreGiven positions ports objects other → keys ≡ other
 
 -- Keys agree on all tied inputs exactly where the windows of each class add up to 0.
 abbrev pub RowsSayAllInputs : Type 0
-RowsSayAllInputs = (first second : List Hashable) (key other : List ℕ) →
-    length first ≡ length second → Agree first second key other ↔ Rows first second key other
+RowsSayAllInputs = (f g : Family) (first second : List Hashable) (key other : List ℕ) →
+    length first ≡ length second → Agree f g first second key other ↔ Rows f g first second key other
 
 -- eight values, equal where a label says so
 abbrev pub KeepTies : List Hashable → List Hashable → (ℕ → ℕ) → Type 0

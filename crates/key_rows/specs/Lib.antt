@@ -7,3 +7,4 @@ pub mod Systems
 pub mod Solutions
 pub mod Spread
 pub mod Laws
+pub mod Positions

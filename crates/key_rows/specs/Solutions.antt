@@ -13,29 +13,30 @@ use Rattle.key_rows.specs.Given.{AreSpreading, NoneMayBeGiven}
 use Rattle.key_rows.specs.Rows.{bits_of}
 use Rattle.key_rows.specs.Systems.{default_bits}
 
--- bit i of the key of a port: bits past 126 are 0
-abbrev pub solution_bit : List Bool → ℕ → ℕ → ℕ
-solution_bit bits port i =
-    (if nat_lt i 127 then (if bit bits (127 * port + i) then 1 else 0) else 0)
+-- bit i of the key of a port of which so many bits count: the bits past these are 0
+abbrev pub solution_bit : List Bool → ℕ → ℕ → ℕ → ℕ
+solution_bit bits port count i =
+    (if nat_lt i count then (if bit bits (319 * port + i) then 1 else 0) else 0)
 
 -- byte i of it
-abbrev pub byte_of : List Bool → ℕ → ℕ → ℕ
-byte_of bits port i = number_of 8 (λ j. solution_bit bits port (8 * i + j))
+abbrev pub byte_of : List Bool → ℕ → ℕ → ℕ → ℕ
+byte_of bits port count i = number_of 8 (λ j. solution_bit bits port count (8 * i + j))
 
 -- the key of a port
-abbrev pub key_of : List Bool → ℕ → List ℕ
-key_of bits port = map (byte_of bits port) (range_with_len 0 40)
+abbrev pub key_of : List Bool → ℕ → ℕ → List ℕ
+key_of bits port count = map (byte_of bits port count) (range_with_len 0 40)
 
 -- the same of a keyed port, and the default key of any other
-abbrev pub given_key : List Object → List Bool → ℕ → List ℕ
-given_key objects bits port = (if is_keyed objects port then key_of bits port else DEFAULT_KEY)
+abbrev pub given_key : (ℕ → ℕ) → List Object → List Bool → ℕ → List ℕ
+given_key positions objects bits port =
+    (if is_keyed objects port then key_of bits port (positions port) else DEFAULT_KEY)
 
 -- Bits that are nearest the default ones, of those whose keys are admissible and spread.
 pub record IsNearestFor (ports : ℕ) (objects : List Object) (x : List Bool) : Type 0 where
   pub rows : List (List Bool)
   pub groups : List (List Bool)
-  pub nearest : IsNearest (127 * ports) rows groups (default_bits ports) x
-  pub exact : (keys : Keys) → IsAdmissible (127 * ports) rows groups (bits_of ports keys)
+  pub nearest : IsNearest (319 * ports) rows groups (default_bits ports) x
+  pub exact : (keys : Keys) → IsAdmissible (319 * ports) rows groups (bits_of ports keys)
       ↔ (AreAdmissibleForAll keys objects × AreSpreading objects keys)
 
 -- the nearest bits, or none exactly where no admissible keys spread

@@ -1,5 +1,5 @@
 -- Systems whose solutions are the bits of keys.
-use Rattle.std.specs.Prelude.{◌↔◌, ℕ, ◌+◌, ◌*◌, ◌%◌, ◌<◌, ◌≤◌, ◌==◌, Bool, true, false, List, ◌++◌, map, length, replicate, All, slice_index_or}
+use Rattle.std.specs.Prelude.{◌≡◌, ◌↔◌, ℕ, ◌+◌, ◌*◌, ◌%◌, ◌<◌, ◌≤◌, ◌==◌, Bool, true, false, List, ◌++◌, map, length, replicate, All, slice_index_or}
 use Rattle.std.specs.List.{range_with_len}
 use Rattle.nf_base.specs.declared.keys.Keys.{Keys}
 use Rattle.toeplitz_hash.specs.declared.key.TheConstants.{DEFAULT_KEY}
@@ -10,12 +10,17 @@ use Rattle.key_rows.specs.declared.place.Place.{Place}
 use Rattle.key_rows.specs.declared.place.Object.{Object}
 use Rattle.key_rows.specs.Places.{AgreeAt, AreAdmissibleForAll}
 use Rattle.key_rows.specs.Given.{AreSpreading}
+use Rattle.nf_base.specs.declared.packet.Family.{Family}
+use Rattle.nf_base.specs.declared.packet.Family.TheVariants.{Four, Six}
+use Rattle.toeplitz_hash.specs.Packets.{key_at}
+use Rattle.key_rows.specs.Keyed.{is_keyed_for}
+use Rattle.key_rows.specs.Spread.{Spreads}
 use Rattle.key_rows.specs.Rows.{bits_of}
 
 -- a system over the bits of the keys of so many ports
 pub record IsOver (ports : ℕ) (system : Kept) : Type 0 where
   pub rows : List (List Bool)
-  pub stands : StandsFor system (127 * ports) rows
+  pub stands : StandsFor system (319 * ports) rows
 
 -- The bits of keys solve a system.
 abbrev pub Solve : ℕ → Kept → Keys → Type 0
@@ -40,9 +45,22 @@ AgreeOn keys places i j =
 abbrev pub AgreeFrom : Keys → List Place → ℕ → Type 0
 AgreeFrom keys places i = (j : ℕ) → j < length places → i ≤ j → AgreeOn keys places i j
 
--- bits 25 to 126 of the key of a port
-abbrev pub group_of : ℕ → List Bool
-group_of port = replicate (127 * port + 25) false ++ replicate 102 true
+-- how many bits of a key meet the low 7 bits of the hash
+abbrev pub group_long : Family → ℕ
+group_long Four = 102
+group_long Six = 294
+
+-- bits 25 to 126 of the key of a port, or to 318
+abbrev pub group_of : Family → ℕ → List Bool
+group_of family port = replicate (319 * port + 25) false ++ replicate (group_long family) true
+
+-- one group more, where a port is keyed for a family
+pub record AddsGroup (ports : ℕ) (objects : List Object) (family : Family) (port : ℕ)
+    (old new : List (List Bool)) : Type 0 where
+  pub exact : (keys : Keys) →
+      (All (Meets (bits_of ports keys)) new)
+      ↔ (All (Meets (bits_of ports keys)) old
+      × (is_keyed_for objects family port ≡ true → Spreads family 7 (key_at keys port)))
 
 -- The bits of keys have a 1 in each group exactly where the keys spread.
 pub record AreGroupsOf (ports : ℕ) (objects : List Object) (groups : List (List Bool))
@@ -51,4 +69,4 @@ pub record AreGroupsOf (ports : ℕ) (objects : List Object) (groups : List (Lis
 
 -- the bits of the default key, once for each of so many ports
 abbrev pub default_bits : ℕ → List Bool
-default_bits ports = map (λ m. bit_of DEFAULT_KEY (m % 127) == 1) (range_with_len 0 (127 * ports))
+default_bits ports = map (λ m. bit_of DEFAULT_KEY (m % 319) == 1) (range_with_len 0 (319 * ports))

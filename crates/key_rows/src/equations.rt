@@ -72,7 +72,7 @@ fn add_class(
     ensures { OnOk result
         (Adds ports (λ keys. AreEvenAt keys windows.now k) system.old system.new) }
 {
-    for u in 0..63 {
+    for u in 0..159 {
         add_bit(alloc, system, ports, windows, k, u)?;
     }
     Ok(())

@@ -1,11 +1,12 @@
 //! Which ports are keyed, and the bits of which one has to be 1.
-ghost use Rattle.std.specs.Prelude.{◌≡◌, ◌<◌, ◌≤◌, All, IfOk};
+ghost use Rattle.std.specs.Prelude.{◌≡◌, ◌<◌, ◌≤◌, All, IfOk, OnOk};
 ghost use Rattle.std.specs.List.{list_any, list_all};
-ghost use Rattle.key_rows.specs.Keyed.{is_at, is_keyed, is_before, are_at_ports, AreAtPorts};
-ghost use Rattle.key_rows.specs.Systems.{group_of, AreGroupsOf};
+ghost use Rattle.key_rows.specs.Keyed.{is_at, is_keyed, version, is_for, is_keyed_for, is_before, are_at_ports, AreAtPorts};
+ghost use Rattle.key_rows.specs.Systems.{group_long, group_of, AddsGroup, AreGroupsOf};
 
 use crate::place::{Object, Place};
 use gf2_solve::Bits;
+use nf_base::packet::Family;
 use nf_base::seq::Seq;
 use std::alloc::{AllocError, Global};
 
@@ -51,8 +52,48 @@ pub fn are_at_ports(objects: &[Object], ports: u32) -> bool
     objects.iter().all(|object| stands_before(object, ports))
 }
 
-/// Of each keyed port the bits of which one has to be 1.
-#[tactic(auto, using(crate::proofs::Grouped::groups_none, crate::proofs::Grouped::groups_with, crate::proofs::Grouped::groups_without, crate::proofs::Grouped::groups_all))]
+/// The version of IP as a number.
+fn version(family: Family) -> u32
+    ensures { result ≡ version family }
+{
+    match family {
+        Family::Four => 4,
+        Family::Six => 6,
+    }
+}
+
+/// Whether a place is at a port, for packets of a family.
+fn is_for(place: &Place, family: Family, port: u32) -> bool
+    ensures { result ≡ is_for family port place.now }
+{
+    version(place.family) == version(family) && place.port == port
+}
+
+/// Whether some place is.
+fn places_for(places: &[Place], family: Family, port: u32) -> bool
+    ensures { result ≡ list_any (is_for family port) places.now }
+{
+    places.iter().any(|place| is_for(place, family, port))
+}
+
+/// Whether an object has such a place.
+fn stands_for(object: &Object, family: Family, port: u32) -> bool
+    ensures { result ≡ list_any (is_for family port) object.now.places }
+{
+    places_for(object.places.as_slice(), family, port)
+}
+
+/// Whether a port is keyed for a family.
+pub fn is_keyed_for(objects: &[Object], family: Family, port: u32) -> bool
+    ensures { result ≡ is_keyed_for objects.now family port }
+{
+    objects
+        .iter()
+        .any(|object| stands_for(object, family, port))
+}
+
+/// Of each port the bits of which one has to be 1, for each family that it is keyed for.
+#[tactic(auto, using(crate::proofs::Grouped::groups_none, crate::proofs::Grouped::groups_all))]
 pub fn groups_of(alloc: Global, ports: u32, objects: &[Object]) -> Result<Seq<Bits>, AllocError>
     requires four { ports ≤ 4 }
     requires within { All (λ object. AreAtPorts ports object.places) objects.now }
@@ -60,21 +101,50 @@ pub fn groups_of(alloc: Global, ports: u32, objects: &[Object]) -> Result<Seq<Bi
 {
     let mut groups = Seq::new(alloc);
     for port in 0..ports {
-        if is_keyed(objects, port) {
-            groups.push(group(alloc, port)?)?;
-        }
+        put_group(alloc, ports, objects, Family::Four, port, &mut groups)?;
+        put_group(alloc, ports, objects, Family::Six, port, &mut groups)?;
     }
     Ok(groups)
 }
 
-/// Bits 25 to 126 of the key of a port.
-fn group(alloc: Global, port: u32) -> Result<Bits, AllocError>
-    requires { port < 4 }
-    ensures { IfOk result (λ group. group ≡ group_of port) }
+/// The bits of a port of which one has to be 1, where it is keyed for a family.
+#[tactic(auto, using(crate::proofs::Grouped::group_added, crate::proofs::Grouped::group_left))]
+fn put_group(
+    alloc: Global,
+    ports: u32,
+    objects: &[Object],
+    family: Family,
+    port: u32,
+    groups: &mut Seq<Bits>,
+) -> Result<(), AllocError>
+    requires four { ports ≤ 4 }
+    requires within { port < ports }
+    ensures { OnOk result (AddsGroup ports objects.now family port groups.old groups.new) }
 {
-    let mut bits = vec![in alloc; false; (127 * port + 25) as usize]?;
-    for _i in 0..102u32 {
+    if is_keyed_for(objects, family, port) {
+        groups.push(group(alloc, family, port)?)?;
+    }
+    Ok(())
+}
+
+/// Bits 25 to 126 of the key of a port, or to 318.
+fn group(alloc: Global, family: Family, port: u32) -> Result<Bits, AllocError>
+    requires { port < 4 }
+    ensures { IfOk result (λ group. group ≡ group_of family port) }
+{
+    let mut bits = vec![in alloc; false; (319 * port + 25) as usize]?;
+    for _i in 0..group_long(family) {
         bits.push(true)?;
     }
     Ok(Bits(bits))
+}
+
+/// How many bits of a key meet the low 7 bits of the hash.
+fn group_long(family: Family) -> u32
+    ensures { result ≡ group_long family }
+{
+    match family {
+        Family::Four => 102,
+        Family::Six => 294,
+    }
 }

@@ -13,6 +13,7 @@ pub mod laws;
 mod nearest;
 mod pairs;
 mod place;
+mod positions;
 mod solution;
 mod wanted;
 mod windows;

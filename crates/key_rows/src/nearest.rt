@@ -1,7 +1,8 @@
 //! The nearest keys.
-ghost use Rattle.std.specs.Prelude.{◌≤◌, All, IfOk};
+ghost use Rattle.std.specs.Prelude.{◌≤◌, All, IfOk, length};
 ghost use Rattle.key_rows.specs.Keyed.{AreAtPorts};
 ghost use Rattle.key_rows.specs.Given.{AreAnswer};
+ghost use Rattle.key_rows.specs.Positions.{positions_at};
 ghost use Rattle.key_rows.specs.Solutions.{IsSolved};
 
 use crate::keyed::{are_at_ports, groups_of};
@@ -14,28 +15,32 @@ use nf_base::keys::Keys;
 use nf_base::seq::Seq;
 use std::alloc::{AllocError, Global};
 
-/// The keys for so many ports, 40 bytes each, that are nearest the default key: of those under
-/// which packets that come to an object with equal labels have equal hashes, and which give each
-/// keyed port more than one table index. None where there are no such keys.
+/// The keys, 40 bytes each, for ports of each of which `six` says whether it has a handler for
+/// IPv6. They are nearest the default key: of those under which packets that come to an object with
+/// equal labels have equal hashes, and which give packets of each family that a port is keyed for
+/// more than one table index. None where there are no such keys.
 ///
-/// Ports are read in order, and of each key the bits 0 to 126 in order: each bit is the default
+/// Ports are read in order, and of each key the bits that count in order: 0 to 318 where the port
+/// has a handler for IPv6, or a place for packets of it, else 0 to 126. Each bit is the default
 /// one's unless no such keys that agree on all earlier bits have it. The bits of a keyed port past
-/// 126 are 0, and a port at which no object has a place has the whole default key.
+/// those that count are 0, and a port at which no object has a place has the whole default key.
 #[tactic(auto, using(crate::proofs::Grouped::all_at_ports, crate::proofs::Grouped::keyed_past, crate::proofs::Solved::none_past, crate::proofs::Solved::given_from, crate::proofs::Solved::long_nearest))]
 pub fn nearest_keys(
     alloc: Global,
-    ports: u32,
+    six: &[bool],
     objects: &[Object],
 ) -> Result<Option<Keys>, AllocError>
-    requires { ports ≤ 4 }
-    ensures { IfOk result (AreAnswer ports objects.now) }
+    requires { length six.now ≤ 4 }
+    ensures { IfOk result
+        (AreAnswer (positions_at six.now objects.now) (length six.now) objects.now) }
 {
+    let ports = six.len() as u32;
     // At a port past the last one no key spreads.
     if !are_at_ports(objects, ports) {
         return Ok(None);
     }
     match solved(alloc, ports, objects)? {
-        Some(bits) => Ok(Some(keys_from(alloc, ports, objects, bits.as_slice())?)),
+        Some(bits) => Ok(Some(keys_from(alloc, ports, six, objects, bits.as_slice())?)),
         None => Ok(None),
     }
 }

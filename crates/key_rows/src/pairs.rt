@@ -17,7 +17,7 @@ pub fn equations_of(alloc: Global, ports: u32, objects: &[Object]) -> Result<Sys
     requires within { All (λ object. AreAtPorts ports object.places) objects.now }
     ensures { IfOk result (AreEquationsOf ports objects.now) }
 {
-    let mut system = System::new(alloc, 127 * ports)?;
+    let mut system = System::new(alloc, 319 * ports)?;
     for object in objects {
         add_object(alloc, &mut system, ports, &object.places)?;
     }

@@ -1,4 +1,5 @@
 use hash_fields::Hashable;
+use nf_base::packet::Family;
 use nf_base::seq::Seq;
 
 /// Where packets of a port come to an object.
@@ -6,6 +7,8 @@ use nf_base::seq::Seq;
 pub struct Place {
     /// The port whose key hashes the packets that come here.
     pub port: u32,
+    /// The version of IP that they have.
+    pub family: Family,
     /// The field of a packet that each label of the object is, here. The labels are in one order at
     /// all places of an object.
     pub known: Seq<Hashable>,

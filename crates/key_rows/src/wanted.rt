@@ -7,14 +7,14 @@ use gf2_solve::Bits;
 use std::alloc::{AllocError, Global};
 use toeplitz_hash::DEFAULT_KEY;
 
-/// The first 127 bits of the default key, once for each port.
+/// The first 319 bits of the default key, once for each port.
 pub fn default_bits(alloc: Global, ports: u32) -> Result<Bits, AllocError>
     requires { ports ≤ 4 }
     ensures { IfOk result (λ bits. bits ≡ default_bits ports) }
 {
     let mut bits = Vec::new(alloc);
-    for m in 0..127 * ports {
-        bits.push(bit_of_key(&DEFAULT_KEY, (m % 127) as usize))?;
+    for m in 0..319 * ports {
+        bits.push(bit_of_key(&DEFAULT_KEY, (m % 319) as usize))?;
     }
     Ok(Bits(bits))
 }

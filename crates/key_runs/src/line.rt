@@ -2,6 +2,7 @@
 use hash_fields::Hashable;
 use key_rows::{Object, Place, nearest_keys};
 use nf_base::keys::Keys;
+use nf_base::packet::Family;
 use nf_base::seq::Seq;
 use std::alloc::{AllocError, Global};
 
@@ -11,14 +12,29 @@ pub fn answer(alloc: Global, line: &str) -> Result<String, AllocError> {
         return String::from_str(alloc, "no objects");
     };
     let objects = objects(alloc, behind)?;
-    let ports = number(ports);
-    if ports > 4 {
+    let (count, six) = handlers(ports);
+    if count > 4 {
         return String::from_str(alloc, "too many ports");
     }
-    match nearest_keys(alloc, ports, objects.as_slice())? {
+    match nearest_keys(alloc, &six[..count as usize], objects.as_slice())? {
         Some(keys) => text(alloc, &keys),
         None => String::from_str(alloc, "none"),
     }
+}
+
+/// How many ports, and of each of the first four whether it has a handler for IPv6.
+fn handlers(words: &str) -> (u32, [bool; 4]) {
+    let mut count = u32::MAX;
+    let mut six = [false; 4];
+    for (i, word) in words.split_whitespace().enumerate() {
+        let number = number(word);
+        if i == 0 {
+            count = number;
+        } else if number < 4 {
+            six[number as usize] = true;
+        }
+    }
+    (count, six)
 }
 
 /// The objects of a line.
@@ -43,6 +59,10 @@ fn place(alloc: Global, word: &str) -> Result<Place, AllocError> {
         Some(parts) => parts,
         None => (word, ""),
     };
+    let (port, family) = match port.strip_suffix("six") {
+        Some(port) => (port, Family::Six),
+        None => (port, Family::Four),
+    };
     let mut known = Seq::new(alloc);
     for name in fields.split(',') {
         if let Some(field) = field(name) {
@@ -51,6 +71,7 @@ fn place(alloc: Global, word: &str) -> Result<Place, AllocError> {
     }
     Ok(Place {
         port: number(port),
+        family,
         known,
     })
 }

@@ -1,3 +1,4 @@
+pub mod Handled
 pub mod Placed
 pub mod Tied
 pub mod Unkept

@@ -4,21 +4,14 @@ use Rattle.std.proofs.lemmas.Bool.{cases_lt}
 use Rattle.std.proofs.lemmas.Option.{slice_get_within}
 use Rattle.nf_base.specs.declared.decl.ObjectId.{ObjectId}
 use Rattle.nf_base.specs.declared.keys.Keys.{Keys}
-use Rattle.nf_base.specs.Text.{Function}
-use Rattle.key_rows.proofs.Once.{given_keys_are_one}
 use Rattle.shard_rules.specs.declared.rule.Rule.{Rule}
 use Rattle.shard_rules.specs.declared.plan.Standing.{Standing}
 use Rattle.shard_rules.specs.Served.{own_plan}
 use Rattle.key_synth.specs.declared.verdict.Cause.{Cause}
 use Rattle.key_synth.specs.declared.verdict.Cause.TheVariants as cause
-use Rattle.key_synth.specs.declared.verdict.Verdict.{Verdict}
 use Rattle.key_synth.specs.declared.verdict.Verdict.TheVariants.{Sharded, Locked}
-use Rattle.key_synth.specs.Keys.{AreGiven}
 use Rattle.key_synth.specs.Verdicts.{unkept_rule, AreKeptBefore, IsFirstUnkept, IsCause, VerdictsAreOne}
-use Rattle.key_synth.proofs.Tied.{given_from}
-
-keys_one : (f : Function) (keys other : Keys) → AreGiven f keys → AreGiven f other → keys ≡ other
-keys_one f keys other first second = given_keys_are_one (length f.handlers) (own_plan f).objects keys other (given_from f keys first) (given_from f other second)
+use Rattle.key_synth.proofs.Tied.{given_keys_one}
 
 -- an object that keeps no label isn't before the first such one
 not_before : (standings : List Standing) (i n : ℕ) (standing : Standing) (rule : Rule) → slice_get standings i ≡ Some standing → unkept_rule standing ≡ Some rule → AreKeptBefore standings n → i < n → ⊥
@@ -49,7 +42,7 @@ causes_one objects standings cause.Hash (cause.Object object rule) first second 
 causes_one objects standings cause.Hash cause.Hash first second = refl
 
 pub verdicts_are_one : VerdictsAreOne
-verdicts_are_one f (Sharded keys) (Sharded other) first second = ap (λ (k : Keys). Sharded k) (keys_one f keys other first second)
+verdicts_are_one f (Sharded keys) (Sharded other) first second = ap (λ (k : Keys). Sharded k) (given_keys_one f keys other first second)
 verdicts_are_one f (Sharded keys) (Locked why) first second = absurd (second.0.none keys first.may)
 verdicts_are_one f (Locked why) (Sharded keys) first second = absurd (first.0.none keys second.may)
 verdicts_are_one f (Locked why) (Locked other) first second = ap (λ (c : Cause). Locked c) (causes_one f.objects (own_plan f).standings why other first.1 second.1)

@@ -1,6 +1,8 @@
 -- Admissible keys of a function, and those that it is given.
-use Rattle.std.specs.Prelude.{◌≡◌, ◌≢◌, ◌⊎◌, ℕ, ◌<◌, ◌≤◌, true, length, All, Contains, Option, Some, None}
+use Rattle.std.specs.Prelude.{◌≡◌, ◌≢◌, ◌⊎◌, ℕ, ◌<◌, ◌≤◌, true, length, All, Contains, Option, Some, None, if◌then◌else◌}
 use Rattle.nf_base.specs.declared.keys.Keys.{Keys}
+use Rattle.nf_base.specs.declared.packet.Family.{Family}
+use Rattle.nf_base.specs.Doors.{six_ports, six_at}
 use Rattle.nf_base.specs.Text.{Function}
 use Rattle.nf_base.specs.Objects.{is_written}
 use Rattle.nf_sites.specs.Sites.{Site}
@@ -21,12 +23,23 @@ AreAdmissible f keys = IsAdmissibleBySites f (hash_by keys)
 pub record IsKeyed (f : Function) (port : ℕ) : Type 0 where
   pub site : Site
   pub among : Contains (sites_of f) site
-  pub here : site.port ≡ port
+  pub here : site.door.port ≡ port
   pub written : is_written f site.object ≡ true
 
--- Keys spread where the key of each keyed port gives packets more than one table index.
+-- and for a family where it has one for packets of it
+pub record IsKeyedFor (f : Function) (family : Family) (port : ℕ) : Type 0 where
+  pub site : Site
+  pub among : Contains (sites_of f) site
+  pub here : site.door.port ≡ port
+  pub of : site.door.family ≡ family
+  pub written : is_written f site.object ≡ true
+
+-- Keys spread where the key of each port gives packets of each family that it is keyed for more
+-- than one table index.
 pub record AreSpreading (f : Function) (keys : Keys) : Type 0 where
-  pub each : (port : ℕ) → IsKeyed f port → Spreads (key_at keys port)
+  pub each :
+      (port : ℕ) (family : Family) → IsKeyedFor f family port
+      → Spreads family 7 (key_at keys port)
 
 -- admissible keys that spread, one for each port
 pub record MayBeGiven (f : Function) (keys : Keys) : Type 0 where
@@ -35,19 +48,24 @@ pub record MayBeGiven (f : Function) (keys : Keys) : Type 0 where
   pub admissible : AreAdmissible f keys
   pub spreading : AreSpreading f keys
 
+-- How many bits of the key of a port count: 319 where the port has a handler for IPv6, and 127 where
+-- it has none.
+abbrev pub positions : Function → ℕ → ℕ
+positions f port = (if six_at (six_ports f) port then 319 else 127)
+
 -- No admissible keys that spread and agree on all earlier bits have the default key's bit.
 pub record IsOutOfReach (f : Function) (keys : Keys) (port i : ℕ) : Type 0 where
-  pub none : (other : Keys) → MayBeGiven f other → AgreeBefore port i keys other
+  pub none : (other : Keys) → MayBeGiven f other → AgreeBefore (positions f) port i keys other
       → key_bit other port i ≢ bit_of DEFAULT_KEY i
 
--- The given keys: ports in order and bits 0 to 126 in order, each bit is the default key's unless
--- that is out of reach. The bits past these are 0 in the key of a keyed port; the key of any other
--- port is the default key.
+-- The given keys: ports in order and of each the bits that count in order, each bit is the default
+-- key's unless that is out of reach. The bits past these are 0 in the key of a keyed port; the key
+-- of any other port is the default key.
 pub record AreGiven (f : Function) (keys : Keys) : Type 0 where
   pub may : MayBeGiven f keys
-  pub nearest : (port i : ℕ) → port < length f.handlers → i < 127
+  pub nearest : (port i : ℕ) → port < length f.handlers → i < positions f port
       → (key_bit keys port i ≡ bit_of DEFAULT_KEY i) ⊎ IsOutOfReach f keys port i
-  pub past : (port i : ℕ) → port < length f.handlers → IsKeyed f port → 127 ≤ i
+  pub past : (port i : ℕ) → port < length f.handlers → IsKeyed f port → positions f port ≤ i
       → key_bit keys port i ≡ 0
   pub unkeyed : (port : ℕ) → port < length f.handlers → (IsKeyed f port → ⊥)
       → key_at keys port ≡ DEFAULT_KEY

@@ -1,10 +1,10 @@
 -- The calls of a seat in an order, as the order grows.
-use Rattle.std.proofs.Common.{◌≡◌, ℕ, zero, suc, ◌+◌, ◌≤◌, ◌<◌, ◌==◌, Bool, true, false, List, [], ◌∷◌, ◌++◌, length, fold, if◌then◌else◌, refl, sym, ap, ◌∙◌, subst, arith, le_refl, le_trans, append_assoc}
+use Rattle.std.proofs.Common.{◌≡◌, ℕ, zero, suc, ◌+◌, ◌≤◌, ◌<◌, ◌==◌, Bool, true, false, List, [], ◌∷◌, ◌++◌, fold, if◌then◌else◌, refl, sym, ap, ◌∙◌, arith, le_refl, le_trans}
 use Rattle.lock_core.specs.declared.call.Way.{Way}
 use Rattle.lock_core.specs.declared.call.Way.TheVariants.{Look, Alone}
 use Rattle.lock_core.specs.declared.call.Call.{Call}
 use Rattle.lock_core.specs.declared.call.Ordered.{Ordered}
-use Rattle.lock_core.specs.Calls.{by_way, length_behind, call_at, calls_from, calls_of, seen_behind, seen_by, at_next, put_behind}
+use Rattle.lock_core.specs.Calls.{by_way, length_behind, call_at, calls_from, at_next, put_behind}
 use Rattle.lock_core.proofs.Orders.{longer}
 
 -- what a seat has seen behind calls, of so much before them

@@ -1,9 +1,8 @@
 -- How the state goes along an order.
-use Rattle.std.proofs.Common.{◌≡◌, ℕ, zero, suc, ◌+◌, ◌≤◌, List, [], ◌∷◌, ◌++◌, length, map, fold, take, Option, Some, None, option_and_then, refl, sym, ap, ◌∙◌, subst, arith, append_assoc, append-nil, take_all, length-append}
+use Rattle.std.proofs.Common.{◌≡◌, ℕ, zero, suc, ◌+◌, List, [], ◌∷◌, ◌++◌, length, map, fold, take, Option, Some, None, option_and_then, refl, sym, ap, ◌∙◌, subst, arith, take_all, length-append}
 use Rattle.std.proofs.lemmas.List.{map-append, length-map, take_at, append_cancel_left}
 use Rattle.std.proofs.lemmas.Option.{same_Some}
 use mathlib.Core.List.{IsPrefix}
-use Rattle.nf_base.specs.declared.packet.Packet.{Packet}
 use Rattle.nf_base.specs.declared.state.State.{State}
 use Rattle.nf_base.specs.declared.done.Done.{Done}
 use Rattle.nf_base.specs.Text.{Function}
@@ -16,9 +15,9 @@ use Rattle.lock_core.specs.declared.call.Way.{Way}
 use Rattle.lock_core.specs.declared.call.Way.TheVariants.{Look, Alone}
 use Rattle.lock_core.specs.declared.call.Entry.{Entry}
 use Rattle.lock_core.specs.declared.call.Ordered.{Ordered}
-use Rattle.lock_core.specs.Calls.{by_way, entry_behind, with_packet, history, at_next, put_behind}
+use Rattle.lock_core.specs.Calls.{by_way, entry_behind, with_packet, at_next, put_behind}
 use Rattle.lock_core.specs.Events.{handling_of, answer_of, ComesTo}
-use Rattle.lock_core.specs.Histories.{handling_in, answer_in, Runs}
+use Rattle.lock_core.specs.Histories.{handling_in, answer_in}
 use Rattle.lock_core.proofs.Orders.{left_by_look, grown_by_alone, history_prefix}
 
 -- a packet of one of the function's ports makes a step with its very answer, and a look leaves the

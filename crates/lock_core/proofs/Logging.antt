@@ -1,12 +1,12 @@
 -- What a log holds, event by event.
-use Rattle.std.proofs.Common.{◌≡◌, ℕ, zero, suc, ◌+◌, ◌<◌, ◌≤◌, Bool, true, false, if◌then◌else◌, insert, Result, Ok, Err, OnErr, take-append-drop, take_all, List, [], ◌∷◌, ◌++◌, length, map, take, drop, get_or, Some, refl, sym, ap, ◌∙◌, subst, arith, length-append, append_assoc, append-nil}
+use Rattle.std.proofs.Common.{◌≡◌, ℕ, zero, suc, ◌+◌, ◌<◌, ◌≤◌, Bool, true, false, if◌then◌else◌, insert, Result, Ok, Err, OnErr, take-append-drop, take_all, List, [], ◌∷◌, ◌++◌, length, map, take, drop, get_or, Some, refl, sym, ap, ◌∙◌, subst, length-append}
 use Rattle.std.proofs.lemmas.List.{map-append, take_more, drop_more}
 use Rattle.std.proofs.lemmas.List.Sums.{fold-append}
 use Rattle.nf_base.specs.declared.packet.Packet.{Packet}
 use Rattle.nf_base.specs.declared.state.State.{State}
 use Rattle.nf_base.specs.declared.done.Done.{Done}
 use Rattle.nf_base.specs.Text.{Function}
-use Rattle.nf_base.specs.Step.{step, opening}
+use Rattle.nf_base.specs.Step.{step}
 use Rattle.vig_tables.specs.TablesState.{TablesState}
 use Rattle.nf_engine.specs.View.{Fixed, fixed_of}
 use Rattle.lock_core.specs.declared.call.Way.{Way}
@@ -18,7 +18,7 @@ use Rattle.lock_core.specs.declared.call.Placed.{Placed}
 use Rattle.lock_core.specs.Calls.{by_way, entry_behind, with_packet, history, at_next, put_behind}
 use Rattle.lock_core.specs.Events.{ComesTo, IsValid, Answers, with_event, Turn, Plays, AreValid, PlaysAll, PlaysFirst}
 use Rattle.lock_core.specs.Logs.{LogState, with_order, GoesOn}
-use Rattle.lock_core.specs.Steps.{HavePorts, place_behind}
+use Rattle.lock_core.specs.Steps.{IsIn, AreIn, place_behind}
 use Rattle.lock_core.proofs.Going.{comes_more}
 use Rattle.lock_core.proofs.Orders.{history_put}
 use Rattle.lock_core.proofs.Places.{insert_is}
@@ -60,19 +60,19 @@ comes_alone f order x s u e comes stepped = subst (λ (es : List Entry). ComesTo
 pub long_alone : (order : List Ordered) (x : Ordered) (n : ℕ) → x.way ≡ way.Alone → n ≡ length (history order) → n + 1 ≡ length (history (order ++ x ∷ []))
 long_alone order x n e long = ap (λ (i : ℕ). i + 1) long ∙ sym (length-append (history order) (entry_behind (history order) x ∷ [])) ∙ ap length (sym (history_alone order x e))
 
-pub ports_more : (ports : ℕ) (xs : List Ordered) (x : Ordered) → HavePorts ports xs → x.packet.id.port < ports → HavePorts ports (xs ++ x ∷ [])
-ports_more ports [] x all lt = (lt, tt)
-ports_more ports (y ∷ xs) x all lt = (all.0, ports_more ports xs x all.1 lt)
+pub in_more : (f : Function) (xs : List Ordered) (x : Ordered) → AreIn f xs → IsIn f x.packet → AreIn f (xs ++ x ∷ [])
+in_more f [] x all is = (is, tt)
+in_more f (y ∷ xs) x all is = (all.0, in_more f xs x all.1 is)
 
-ports_case : (w : Way) (ports n : ℕ) (look x : Ordered) (xs : List Ordered) → look.packet.id.port < ports → x.packet.id.port < ports → HavePorts ports xs → ((m : ℕ) → HavePorts ports (put_behind m look xs))
-    → HavePorts ports (by_way w (x ∷ put_behind n look xs) (at_next n (look ∷ x ∷ xs) (λ left. x ∷ put_behind left look xs)))
-ports_case way.Look ports n look x xs lt one all ih = (one, ih n)
-ports_case way.Alone ports zero look x xs lt one all ih = (lt, (one, all))
-ports_case way.Alone ports (suc n) look x xs lt one all ih = (one, ih n)
+in_case : (w : Way) (f : Function) (n : ℕ) (look x : Ordered) (xs : List Ordered) → IsIn f look.packet → IsIn f x.packet → AreIn f xs → ((m : ℕ) → AreIn f (put_behind m look xs))
+    → AreIn f (by_way w (x ∷ put_behind n look xs) (at_next n (look ∷ x ∷ xs) (λ left. x ∷ put_behind left look xs)))
+in_case way.Look f n look x xs is one all ih = (one, ih n)
+in_case way.Alone f zero look x xs is one all ih = (is, (one, all))
+in_case way.Alone f (suc n) look x xs is one all ih = (one, ih n)
 
-pub ports_put : (xs : List Ordered) (ports n : ℕ) (look : Ordered) → HavePorts ports xs → look.packet.id.port < ports → HavePorts ports (put_behind n look xs)
-ports_put [] ports n look all lt = (lt, tt)
-ports_put (x ∷ xs) ports n look all lt = ports_case x.way ports n look x xs lt all.0 all.1 (λ m. ports_put xs ports m look all.1 lt)
+pub in_put : (xs : List Ordered) (f : Function) (n : ℕ) (look : Ordered) → AreIn f xs → IsIn f look.packet → AreIn f (put_behind n look xs)
+in_put [] f n look all is = (is, tt)
+in_put (x ∷ xs) f n look all is = in_case x.way f n look x xs is all.0 all.1 (λ m. in_put xs f m look all.1 is)
 
 -- what a log keeps, at this order and these tables
 pub record IsKept (f : Function) (order : List Ordered) (entries : ℕ) (t : TablesState) : Type 0 where
@@ -80,12 +80,12 @@ pub record IsKept (f : Function) (order : List Ordered) (entries : ℕ) (t : Tab
   pub whole : t.share.of ≡ 1
   pub comes : ComesTo f (history order) t.state
   pub long : entries ≡ length (history order)
-  pub ports : HavePorts (length f.handlers) order
+  pub packets : AreIn f order
 
 -- it is kept where a packet was handled alone
-pub alone_kept : (f : Function) (order : List Ordered) (x : Ordered) (n : ℕ) (t u : TablesState) (done : Done) (new room : List Ordered) → t.decls ≡ f.chains → t.share.of ≡ 1 → ComesTo f (history order) t.state → n ≡ length (history order) → HavePorts (length f.handlers) order → x.packet.id.port < length f.handlers
+pub alone_kept : (f : Function) (order : List Ordered) (x : Ordered) (n : ℕ) (t u : TablesState) (done : Done) (new room : List Ordered) → t.decls ≡ f.chains → t.share.of ≡ 1 → ComesTo f (history order) t.state → n ≡ length (history order) → AreIn f order → IsIn f x.packet
     → step f t.state x.packet done.picks ≡ Some (record { state = u.state; done = done }) → fixed_of u ≡ fixed_of t → x.done ≡ done → x.way ≡ way.Alone → new ≡ room ++ x ∷ [] → room ≡ order → IsKept f new (n + 1) u
-alone_kept f order x n t u done new room decls whole comes long ports port stepped same is way_is put reserved =
+alone_kept f order x n t u done new room decls whole comes long packets is_in stepped same is way_is put reserved =
     let now : new ≡ order ++ x ∷ [] = put ∙ ap (λ (xs : List Ordered). xs ++ x ∷ []) reserved in
     let its : step f t.state x.packet x.done.picks ≡ Some (record { state = u.state; done = x.done }) = subst (λ (d : Done). step f t.state x.packet d.picks ≡ Some (record { state = u.state; done = d })) (sym is) stepped in
     record {
@@ -93,28 +93,28 @@ alone_kept f order x n t u done new room decls whole comes long ports port stepp
       whole = ap (λ (z : Fixed). z.share.of) same ∙ whole;
       comes = subst (λ (xs : List Ordered). ComesTo f (history xs) u.state) (sym now) (comes_alone f order x t.state u.state way_is comes its);
       long = long_alone order x n way_is long ∙ ap (λ (xs : List Ordered). length (history xs)) (sym now);
-      ports = subst (HavePorts (length f.handlers)) (sym now) (ports_more (length f.handlers) order x ports port);
+      packets = subst (AreIn f) (sym now) (in_more f order x packets is_in);
     }
 
 -- and where one looked
-pub look_kept : (f : Function) (order : List Ordered) (look : Ordered) (n prefix : ℕ) (t : TablesState) (new : List Ordered) → ComesTo f (history order) t.state → n ≡ length (history order) → HavePorts (length f.handlers) order → look.packet.id.port < length f.handlers → look.way ≡ way.Look → new ≡ put_behind prefix look order
-    → ComesTo f (history new) t.state × (n ≡ length (history new)) × HavePorts (length f.handlers) new
-look_kept f order look n prefix t new comes long ports port way_is now =
+pub look_kept : (f : Function) (order : List Ordered) (look : Ordered) (n prefix : ℕ) (t : TablesState) (new : List Ordered) → ComesTo f (history order) t.state → n ≡ length (history order) → AreIn f order → IsIn f look.packet → look.way ≡ way.Look → new ≡ put_behind prefix look order
+    → ComesTo f (history new) t.state × (n ≡ length (history new)) × AreIn f new
+look_kept f order look n prefix t new comes long packets is_in way_is now =
     let same : history new ≡ history order = ap history now ∙ history_put order prefix look [] way_is in (
       subst (λ (es : List Entry). ComesTo f es t.state) (sym same) comes,
       long ∙ ap length (sym same),
-      subst (HavePorts (length f.handlers)) (sym now) (ports_put order (length f.handlers) prefix look ports port),
+      subst (AreIn f) (sym now) (in_put order f prefix look packets is_in),
     )
 
 -- a look that was put in, or for which there was no room
-pub look_kept_if : (b : Bool) (f : Function) (order : List Ordered) (look : Ordered) (n prefix place : ℕ) (t : TablesState) (new : List Ordered) → ComesTo f (history order) t.state → n ≡ length (history order) → HavePorts (length f.handlers) order → look.packet.id.port < length f.handlers → look.way ≡ way.Look
-    → place ≡ place_behind prefix order → new ≡ (if b then insert order place look else order) → ComesTo f (history new) t.state × (n ≡ length (history new)) × HavePorts (length f.handlers) new
-look_kept_if true f order look n prefix place t new comes long ports port way_is at now =
-    look_kept f order look n prefix t new comes long ports port way_is (now ∙ ap (λ (k : ℕ). insert order k look) at ∙ insert_is order prefix look)
-look_kept_if false f order look n prefix place t new comes long ports port way_is at now = (
+pub look_kept_if : (b : Bool) (f : Function) (order : List Ordered) (look : Ordered) (n prefix place : ℕ) (t : TablesState) (new : List Ordered) → ComesTo f (history order) t.state → n ≡ length (history order) → AreIn f order → IsIn f look.packet → look.way ≡ way.Look
+    → place ≡ place_behind prefix order → new ≡ (if b then insert order place look else order) → ComesTo f (history new) t.state × (n ≡ length (history new)) × AreIn f new
+look_kept_if true f order look n prefix place t new comes long packets is_in way_is at now =
+    look_kept f order look n prefix t new comes long packets is_in way_is (now ∙ ap (λ (k : ℕ). insert order k look) at ∙ insert_is order prefix look)
+look_kept_if false f order look n prefix place t new comes long packets is_in way_is at now = (
   subst (λ (xs : List Ordered). ComesTo f (history xs) t.state) (sym now) comes,
   long ∙ ap (λ (xs : List Ordered). length (history xs)) (sym now),
-  subst (HavePorts (length f.handlers)) (sym now) ports,
+  subst (AreIn f) (sym now) packets,
 )
 
 -- the order with a look put in, whose answer was copied

@@ -1,5 +1,5 @@
 -- How the entries of a history are numbered.
-use Rattle.std.proofs.Common.{◌≡◌, ℕ, zero, suc, ◌==◌, Bool, true, false, List, [], ◌∷◌, ◌++◌, length, fold, filter, cond, slice_get, Some, refl, sym, ap, ◌∙◌, subst, arith, append-nil, ◌⊎◌, inl, inr, ⊎_elim, eqb-true}
+use Rattle.std.proofs.Common.{◌≡◌, ℕ, zero, suc, ◌==◌, Bool, true, false, List, [], ◌∷◌, ◌++◌, length, fold, cond, slice_get, Some, refl, sym, ap, ◌∙◌, subst, append-nil, ◌⊎◌, inl, inr, ⊎_elim, eqb-true}
 use Rattle.std.proofs.lemmas.Option.{same_Some}
 use Rattle.std.proofs.lemmas.List.Elements.{filter-append}
 use Rattle.lock_core.specs.declared.call.Way.{Way}

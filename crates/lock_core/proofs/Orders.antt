@@ -1,11 +1,11 @@
 -- The history of an order, as the order grows.
-use Rattle.std.proofs.Common.{◌≡◌, ℕ, zero, suc, ◌+◌, ◌≤◌, List, [], ◌∷◌, ◌++◌, length, fold, take, refl, sym, ap, ◌∙◌, arith, length-append, append_assoc, append-nil}
+use Rattle.std.proofs.Common.{◌≡◌, ℕ, zero, suc, List, [], ◌∷◌, ◌++◌, length, fold, refl, sym, ap, ◌∙◌, length-append, append_assoc, append-nil}
 use mathlib.Core.List.{IsPrefix}
 use Rattle.lock_core.specs.declared.call.Way.{Way}
 use Rattle.lock_core.specs.declared.call.Way.TheVariants.{Look, Alone}
 use Rattle.lock_core.specs.declared.call.Entry.{Entry}
 use Rattle.lock_core.specs.declared.call.Ordered.{Ordered}
-use Rattle.lock_core.specs.Calls.{by_way, entry_behind, with_packet, history, length_behind, at_next, put_behind}
+use Rattle.lock_core.specs.Calls.{by_way, entry_behind, with_packet, length_behind, at_next, put_behind}
 
 -- the length of a history along an order
 abbrev pub longer : ℕ → List Ordered → ℕ

@@ -1,7 +1,5 @@
 -- Where a look stands in an order.
-use Rattle.std.proofs.Common.{◌≡◌, ℕ, zero, suc, ◌+◌, ◌≤◌, ◌<◌, List, [], ◌∷◌, ◌++◌, length, fold, take, drop, insert, refl, sym, ap, ◌∙◌, subst, arith, le_refl, take_all, length-append}
-use Rattle.std.proofs.lemmas.List.{take_at, take-append-le}
-use mathlib.Core.List.{IsPrefix}
+use Rattle.std.proofs.Common.{◌≡◌, ℕ, zero, suc, ◌+◌, ◌≤◌, List, [], ◌∷◌, length, fold, take, insert, refl, sym, ap, ◌∙◌, arith, le_refl, take_all, length-append}
 use Rattle.lock_core.specs.declared.call.Way.{Way}
 use Rattle.lock_core.specs.declared.call.Way.TheVariants.{Look, Alone}
 use Rattle.lock_core.specs.declared.call.Entry.{Entry}

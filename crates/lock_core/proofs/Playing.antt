@@ -1,21 +1,22 @@
 -- Events, one after another.
-use Rattle.std.proofs.Common.{◌≡◌, ℕ, ◌+◌, ◌≤◌, ◌<◌, ◌==◌, Bool, true, false, List, [], ◌∷◌, ◌++◌, length, map, fold, filter, cond, take, Option, Some, None, option_map, refl, sym, ap, ◌∙◌, subst, arith, append_assoc, append-nil, le_refl, eqb-true, ◌⊎◌, inl, inr, ⊎_elim, zero-le}
+use Rattle.std.proofs.Common.{◌≡◌, ℕ, ◌+◌, ◌≤◌, ◌<◌, ◌==◌, Bool, true, false, List, [], ◌∷◌, ◌++◌, length, map, filter, cond, take, Option, Some, None, option_map, refl, sym, ap, ◌∙◌, subst, arith, append_assoc, append-nil, le_refl, eqb-true}
 use Rattle.std.proofs.lemmas.Bool.{false≢true}
 use Rattle.std.proofs.lemmas.List.{map-append}
 use Rattle.std.proofs.lemmas.List.Elements.{filter-append}
 use Rattle.std.proofs.lemmas.List.Sums.{fold-append}
 use mathlib.Core.List.{IsPrefix}
+use Rattle.nf_base.specs.declared.packet.Fields.{Fields}
 use Rattle.nf_base.specs.declared.packet.Packet.{Packet}
 use Rattle.nf_base.specs.declared.state.State.{State}
 use Rattle.nf_base.specs.declared.done.Done.{Done}
 use Rattle.nf_base.specs.Text.{Function}
+use Rattle.nf_base.specs.Doors.{IsServed}
 use Rattle.nf_base.specs.Operations.{never}
-use Rattle.nf_base.specs.Step.{StepResult, step, quiet, opening}
-use Rattle.nf_laws.specs.Steps.{handles}
+use Rattle.nf_base.specs.Step.{StepResult, step, opening}
+use Rattle.nf_laws.specs.Steps.{HasHandler, skips, handles}
 use Rattle.nf_laws.proofs.Picked.{steps_pick}
 use Rattle.nf_laws.proofs.Chosen.{some_choices}
 use Rattle.nf_laws.proofs.Quieted.{quiet_same}
-use Rattle.lock_core.specs.declared.call.Way.{Way}
 use Rattle.lock_core.specs.declared.call.Way.TheVariants as way
 use Rattle.lock_core.specs.declared.call.Entry.{Entry}
 use Rattle.lock_core.specs.declared.call.Call.{Call}
@@ -23,12 +24,12 @@ use Rattle.lock_core.specs.declared.call.Ordered.{Ordered}
 use Rattle.lock_core.specs.declared.call.Event.{Event}
 use Rattle.lock_core.specs.declared.call.Event.TheVariants.{Look, Alone}
 use Rattle.lock_core.specs.declared.call.Placed.{Placed}
-use Rattle.lock_core.specs.Calls.{with_packet, history, call_at, calls_from, calls_of, seen_by, put_behind}
+use Rattle.lock_core.specs.Calls.{with_packet, history, call_at, calls_of, seen_by, put_behind}
 use Rattle.lock_core.specs.Events.{ComesTo, IsValid, IsValidLook, IsValidAlone, IsLook, IsStep, Answers, with_event, Turn, Plays}
 use Rattle.lock_core.specs.Histories.{seat_in, call_in, made_by, IsOneHistory, EventsAreOneHistory, ValidEventsAreAnswered, HistoriesGrow, OnlySeatsCall}
 use Rattle.lock_core.proofs.Orders.{longer, length_is, history_put, history_prefix, prefix_trans}
 use Rattle.lock_core.proofs.Calls.{own_call, calls_more, seen_within, put_other, put_own}
-use Rattle.lock_core.proofs.Going.{Steps, Goes, goes_more, goes_run, goes_history, goes_put, comes_none, comes_once}
+use Rattle.lock_core.proofs.Going.{Goes, goes_more, goes_run, goes_history, goes_put, comes_none, comes_once}
 use Rattle.lock_core.proofs.Numbers.{are_numbered, none_numbered}
 
 -- what each event keeps
@@ -88,9 +89,9 @@ put_call true order seat n look own e within seen =
 put_call false order seat n look own e within seen = put_other order seat 0 n look e own ∙ sym (append-nil (calls_of seat order))
 
 -- the state goes on as it did
-pub look_goes : (f : Function) (order : List Ordered) (t : State) (seat n : ℕ) (packet : Packet) (done : Done) → Goes f (opening f) order t → packet.id.port < length f.handlers → IsLook f (take n (history order)) packet done
+pub look_goes : (f : Function) (order : List Ordered) (t : State) (seat n : ℕ) (packet : Packet) (done : Done) → Goes f (opening f) order t → IsLook f (take n (history order)) packet done
     → Goes f (opening f) (put_behind n (record { seat = seat; way = way.Look; packet = packet; done = done }) order) t
-look_goes f order t seat n packet done g port answer =
+look_goes f order t seat n packet done g answer =
     let look : Ordered = record { seat = seat; way = way.Look; packet = packet; done = done } in
     let none : done.picks ≡ [] = steps_pick never f answer.state packet [] (record { state = answer.state; done = done }) answer.steps in
     let stepped : step f answer.state packet done.picks ≡ Some (record { state = answer.state; done = done }) = ap (step f answer.state packet) none ∙ answer.steps in
@@ -104,7 +105,7 @@ look_more f seats ts order seat n packet placed h valid place answer =
     let t : Turn = record { event = Look seat n packet; placed = placed } in
     record {
       state = h.state;
-      goes = look_goes f order h.state seat n packet placed.done h.goes valid.port answer;
+      goes = look_goes f order h.state seat n packet placed.done h.goes answer;
       calls = λ s. put_call (seat == s) order s n look refl refl valid.within valid.seen
           ∙ ap (λ (cs : List Call). cs ++ own_call (seat == s) (call_at n look)) (h.calls s)
           ∙ ap (λ (k : ℕ). made_by s ts ++ own_call (seat == s) (record { way = way.Look; place = k; packet = packet; done = placed.done })) (sym place)
@@ -118,9 +119,9 @@ not_look : way.Alone ≡ way.Look → ⊥
 not_look e = cc
 
 -- the state goes on by its step
-pub alone_goes : (f : Function) (order : List Ordered) (t u : State) (seat : ℕ) (packet : Packet) (done : Done) → Goes f (opening f) order t → packet.id.port < length f.handlers → step f t packet done.picks ≡ Some (record { state = u; done = done })
+pub alone_goes : (f : Function) (order : List Ordered) (t u : State) (seat : ℕ) (packet : Packet) (done : Done) → Goes f (opening f) order t → step f t packet done.picks ≡ Some (record { state = u; done = done })
     → Goes f (opening f) (order ++ record { seat = seat; way = way.Alone; packet = packet; done = done } ∷ []) u
-alone_goes f order t u seat packet done g port stepped = goes_more f order (opening f) t u _ g (record { steps = stepped; leaves = λ e. absurd (not_look e) })
+alone_goes f order t u seat packet done g stepped = goes_more f order (opening f) t u _ g (record { steps = stepped; leaves = λ e. absurd (not_look e) })
 
 alone_more : (f : Function) (seats : ℕ) (ts : List Turn) (order : List Ordered) (seat : ℕ) (packet : Packet) (placed : Placed) → IsHeld f seats ts order → IsValidAlone f seats seat packet → placed.place ≡ length (history order)
     → IsStep f (history order) packet placed.done → IsHeld f seats (ts ++ record { event = Alone seat packet; placed = placed } ∷ []) (order ++ record { seat = seat; way = way.Alone; packet = packet; done = placed.done } ∷ [])
@@ -132,7 +133,7 @@ alone_more f seats ts order seat packet placed h valid place answer =
     let long : longer 0 order ≡ placed.place = sym (place ∙ length_is order []) in
     record {
       state = answer.next;
-      goes = alone_goes f order h.state answer.next seat packet placed.done h.goes valid.port (ap (λ (s : State). step f s packet placed.done.picks) (sym same) ∙ answer.steps);
+      goes = alone_goes f order h.state answer.next seat packet placed.done h.goes (ap (λ (s : State). step f s packet placed.done.picks) (sym same) ∙ answer.steps);
       calls = λ s. calls_more s 0 order (x ∷ [])
           ∙ ap (λ (cs : List Call). cs ++ own_call (seat == s) (call_at (longer 0 order) x)) (h.calls s)
           ∙ ap (λ (k : ℕ). made_by s ts ++ own_call (seat == s) (call_at k x)) long
@@ -180,6 +181,11 @@ pub quiet_steps : (o : Option StepResult) (test : StepResult → Bool) → optio
 quiet_steps None test e = cc
 quiet_steps (Some r) test e = (r, refl)
 
+-- a packet that is served has its handler, where it needs one
+has_handler : (f : Function) (packet : Packet) (fields : Option Fields) → packet.fields ≡ fields → IsServed f packet → HasHandler f packet
+has_handler f packet None is served = skips is
+has_handler f packet (Some fields) is served = handles fields is (served fields is)
+
 pub answers : ValidEventsAreAnswered
 answers f seats turns order (Look seat n packet) p valid =
     let behind = valid.behind in
@@ -198,7 +204,7 @@ answers f seats turns order (Look seat n packet) p valid =
     )
 answers f seats turns order (Alone seat packet) p valid =
     let h = one_history f seats turns order p in
-    let found = some_choices f h.state packet (handles valid.port) in
+    let found = some_choices f h.state packet (has_handler f packet packet.fields refl valid.served) in
     let picks = steps_pick never f h.state packet found.0 found.1.0 found.1.1 in (
       record { place = length (history order); done = found.1.0.done },
       (

@@ -20,7 +20,7 @@ use Rattle.lock_core.specs.declared.call.Entry.{Entry}
 use Rattle.lock_core.specs.declared.call.Ordered.{Ordered}
 use Rattle.lock_core.specs.Calls.{entry_behind, with_packet, history}
 use Rattle.lock_core.specs.Events.{ComesTo, IsLook, IsQuietBehind}
-use Rattle.lock_core.specs.Steps.{HavePorts, place_behind}
+use Rattle.lock_core.specs.Steps.{IsIn, AreIn, place_behind}
 use Rattle.lock_core.specs.Replays.{StepsAlone, GoesAlone, AreBehind}
 use Rattle.lock_core.proofs.Orders.{left_by_look, grown_by_alone, history_prefix}
 use Rattle.lock_core.proofs.Going.{comes_once, comes_more, comes_split, comes_prefix}
@@ -43,16 +43,16 @@ quiet_is f es packet done l = record { state = l.state; comes = l.comes; is_quie
 
 -- ---- a packet more
 
-pub port_at : (ports : ℕ) (xs : List Ordered) (i : ℕ) (x : Ordered) → i < length xs → x ≡ get_or xs i x → HavePorts ports xs → x.packet.id.port < ports
-port_at ports [] i x lt is all = absurd (omega (arith, lt))
-port_at ports (y ∷ xs) zero x lt is all = subst (λ (z : Ordered). z.packet.id.port < ports) (sym is) all.0
-port_at ports (y ∷ xs) (suc i) x lt is all = port_at ports xs i x (omega (arith, lt)) is all.1
+pub in_at : (f : Function) (xs : List Ordered) (i : ℕ) (x : Ordered) → i < length xs → x ≡ get_or xs i x → AreIn f xs → IsIn f x.packet
+in_at f [] i x lt is all = absurd (omega (arith, lt))
+in_at f (y ∷ xs) zero x lt is all = subst (λ (z : Ordered). IsIn f z.packet) (sym is) all.0
+in_at f (y ∷ xs) (suc i) x lt is all = in_at f xs i x (omega (arith, lt)) is all.1
 
--- a part of an order has the ports, too
-pub ports_front : (k ports : ℕ) (xs : List Ordered) → HavePorts ports xs → HavePorts ports (take k xs)
-ports_front zero ports xs all = tt
-ports_front (suc k) ports [] all = tt
-ports_front (suc k) ports (x ∷ xs) all = (all.0, ports_front k ports xs all.1)
+-- so did those of a part of an order
+pub in_front : (k : ℕ) (f : Function) (xs : List Ordered) → AreIn f xs → AreIn f (take k xs)
+in_front zero f xs all = tt
+in_front (suc k) f [] all = tt
+in_front (suc k) f (x ∷ xs) all = (all.0, in_front k f xs all.1)
 
 one_on : (xs : List Ordered) (i : ℕ) (x : Ordered) → i < length xs → x ≡ get_or xs i x → history (take (i + 1) xs) ≡ with_packet (history (take i xs)) x
 one_on xs i x lt is = ap history (take_more xs i x lt ∙ ap (λ (y : Ordered). take i xs ++ y ∷ []) (sym is)) ∙ fold-append with_packet [] (take i xs) (x ∷ [])

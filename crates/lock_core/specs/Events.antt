@@ -5,6 +5,7 @@ use Rattle.nf_base.specs.declared.packet.Packet.{Packet}
 use Rattle.nf_base.specs.declared.state.State.{State}
 use Rattle.nf_base.specs.declared.done.Done.{Done}
 use Rattle.nf_base.specs.Text.{Function}
+use Rattle.nf_base.specs.Doors.{IsServed}
 use Rattle.nf_base.specs.Step.{step, quiet, opening}
 use Rattle.nf_base.specs.Runs.{Handling, run}
 use Rattle.lock_core.specs.declared.call.Way.TheVariants as way
@@ -41,14 +42,16 @@ pub record IsValidLook (f : Function) (seats : ℕ) (order : List Ordered) (seat
     (packet : Packet) : Type 0 where
   pub seat_is : seat < seats
   pub port : packet.id.port < length f.handlers
+  pub served : IsServed f packet
   pub seen : seen_by seat order ≤ prefix
   pub within : prefix ≤ length (history order)
   pub behind : IsQuietBehind f (take prefix (history order)) packet
 
--- A packet may be handled alone at any time.
+-- A packet may be handled alone at any time, where its port has a handler for it or it is skipped.
 pub record IsValidAlone (f : Function) (seats seat : ℕ) (packet : Packet) : Type 0 where
   pub seat_is : seat < seats
   pub port : packet.id.port < length f.handlers
+  pub served : IsServed f packet
 
 -- the events that may come behind an order
 abbrev pub IsValid : Function → ℕ → List Ordered → Event → Type 0

@@ -1,5 +1,5 @@
 -- What a log is seen as.
-use Rattle.std.specs.Prelude.{◌≡◌, ℕ, ◌++◌, List, [], map, Result, Ok, Err}
+use Rattle.std.specs.Prelude.{◌≡◌, ℕ, ◌++◌, List, [], map}
 use Rattle.nf_base.specs.Text.{Function}
 use Rattle.nf_base.specs.Functions.{function_of}
 use Rattle.lock_core.specs.declared.call.Ordered.{Ordered}

@@ -16,3 +16,4 @@ mod tables;
 pub use call::{Call, Entry, Event, Ordered, Placed, Way};
 pub use done::again;
 pub use log::Log;
+pub use tables::is_served;

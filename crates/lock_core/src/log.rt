@@ -6,12 +6,12 @@ ghost use Rattle.nf_base.specs.Functions.{function_of};
 ghost use Rattle.lock_core.specs.declared.call.Event.TheVariants as event;
 ghost use Rattle.lock_core.specs.Calls.{history, seen_by};
 ghost use Rattle.lock_core.specs.Events.{ComesTo, IsValid, IsValidLook, IsValidAlone, Answers, with_event, AreValid, PlaysAll, PlaysFirst};
-ghost use Rattle.lock_core.specs.Steps.{HavePorts, HavePorts-prop};
+ghost use Rattle.lock_core.specs.Steps.{AreIn, AreIn-prop};
 
 use crate::call::{Event, Ordered, Placed, Way};
 use crate::done::again;
 use crate::order::{place_behind, seen_by};
-use crate::tables::{WHOLE, handle_whole, sight};
+use crate::tables::{WHOLE, handle_whole, is_served, sight};
 use nf_base::func::Func;
 use nf_base::packet::Packet;
 use nf_engine::Look;
@@ -32,7 +32,7 @@ pub struct Log {
     ghost whole: { tables.share.of ≡ 1 },
     ghost comes: { ComesTo (function_of func) (history order.items) tables.state } by { Prim.hlevel props },
     ghost long: { entries ≡ length (history order.items) },
-    ghost ports: { HavePorts (length (function_of func).handlers) order.items } by { HavePorts-prop (length (function_of func).handlers) order.items },
+    ghost packets: { AreIn (function_of func) order.items } by { AreIn-prop (function_of func) order.items },
 }
 
 impl Log {
@@ -87,7 +87,9 @@ impl Log {
         ensures { let log = state_in self.now in
             IsTrue result ↔ IsValidAlone log.function log.seats seat packet.now }
     {
-        seat < self.seats && packet.id.port < self.func.handlers.len()
+        seat < self.seats
+            && packet.id.port < self.func.handlers.len()
+            && is_served(&self.func, packet)
     }
 
     fn may_look(

@@ -7,6 +7,7 @@ use Rattle.nf_base.specs.declared.packet.Packet.{Packet}
 use Rattle.nf_base.specs.declared.state.State.{State}
 use Rattle.nf_base.specs.declared.done.Done.{Done}
 use Rattle.nf_base.specs.Text.{Function}
+use Rattle.nf_base.specs.Doors.{IsServed}
 use Rattle.nf_base.specs.Step.{step}
 use Rattle.nf_engine.specs.View.{Fixed, fixed_of}
 use Rattle.vig_tables.specs.TablesState.{TablesState}
@@ -71,8 +72,8 @@ ran_with f g t u es new e same ran stepped fixed is = record {
   comes = subst (λ (z : List Entry). ComesTo f z u.state) (sym is) (comes_more f es e t.state u.state ran.comes (subst (λ (z : Function). step z t.state e.packet e.done.picks ≡ Some (record { state = u.state; done = e.done })) same stepped));
 }
 
-pub is_next : (f : Function) (u : TablesState) (es new : List Entry) (e : Entry) → new ≡ es ++ e ∷ [] → e.packet.id.port < length f.handlers → RanTo f u new → IsNext f new e
-is_next f u es new e is port ran = record { before = es; ends = is; port = port; state = u.state; comes = ran.comes }
+pub is_next : (f : Function) (u : TablesState) (es new : List Entry) (e : Entry) → new ≡ es ++ e ∷ [] → e.packet.id.port < length f.handlers → IsServed f e.packet → RanTo f u new → IsNext f new e
+is_next f u es new e is port served ran = record { before = es; ends = is; port = port; served = served; state = u.state; comes = ran.comes }
 
 -- an empty history's end
 pub opens_tail : (f g : Function) (seats n : ℕ) (t : TablesState) (front : List Entry) (counts : List ℕ) → g ≡ f → RanTo f t [] → front ≡ [] → n ≡ seats → counts ≡ replicate n 0 → IsTail f g seats t front counts

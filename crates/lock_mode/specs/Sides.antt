@@ -5,6 +5,7 @@ use mathlib.Core.Option.{some}
 use lib.ListN.{get_elem?}
 use Rattle.nf_base.specs.declared.state.State.{State}
 use Rattle.nf_base.specs.Text.{Function}
+use Rattle.nf_base.specs.Doors.{IsServed}
 use Rattle.vig_tables.specs.TablesState.{TablesState}
 use Rattle.lock_core.specs.declared.call.Entry.{Entry}
 use Rattle.lock_core.specs.Events.{ComesTo}
@@ -22,11 +23,13 @@ pub record Ran (f of_copy : Function) (whole : Bool) (t : TablesState) (entries 
   pub same : of_copy ≡ f
   pub ran : whole ≡ true → RanTo f t entries
 
--- a history that ends with an entry of one of the function's ports, and that has a run
+-- a history that ends with an entry of one of the function's ports, which has a handler for it, and
+-- that has a run
 pub record IsNext (f : Function) (entries : List Entry) (e : Entry) : Type 0 where
   pub before : List Entry
   pub ends : entries ≡ before ++ e ∷ []
   pub port : e.packet.id.port < length f.handlers
+  pub served : IsServed f e.packet
   pub state : State
   pub comes : ComesTo f entries state
 

@@ -1,6 +1,7 @@
 //! What lies under the writer's lock: the writer, and the end of the history.
 ghost use Rattle.std.specs.Prelude.{◌≡◌, ◌<◌, ◌≤◌, ◌+◌, ◌^◌, ◌++◌, ◌∷◌, [], length, drop, true, None, IfOk, OnErr};
 ghost use Rattle.std.specs.Bool.{OnTrue};
+ghost use Rattle.nf_base.specs.Doors.{IsServed};
 ghost use Rattle.lock_core.specs.declared.call.Way.TheVariants as way;
 ghost use Rattle.lock_core.specs.Events.{IsStep};
 ghost use mathlib.Core.List.{IsPrefix};
@@ -178,6 +179,7 @@ impl<J: Naming> Desk<J> {
         requires room { length self.front < 2 ^ 32 }
         requires seat { seat < J.seats }
         requires port { packet.now.id.port < length J.function.handlers }
+        requires served { IsServed J.function packet.now }
         ensures place { IfOk result.1 (λ placed. placed.place ≡ length self.front) }
         ensures steps { IfOk result.1 (λ placed.
             IsStep J.function self.front packet.now placed.done) }
@@ -207,6 +209,7 @@ impl<J: Naming> Desk<J> {
     ) -> Result<(Placed, Front<J>), AllocError>
         requires seat { seat < J.seats }
         requires port { packet.now.id.port < length J.function.handlers }
+        requires served { IsServed J.function packet.now }
         ensures stands { IfOk result (λ r. IsAlone J.function seen.now seat packet.now r.0 r.1) }
         ensures once { IfOk result (λ r. r.0.place ≡ length self.old.front) }
         ensures last { IfOk result (λ r. r.1 ≡ self.new.front) }
@@ -233,6 +236,7 @@ impl<J: Naming> Desk<J> {
         packet: &Packet,
     ) -> Result<Placed, AllocError>
         requires port { packet.now.id.port < length J.function.handlers }
+        requires served { IsServed J.function packet.now }
         requires room { 0 < seat.old.room }
         ensures stands { IfOk result (λ placed. IsAlone J.function seat.old.seen
             seat.old.number packet.now placed seat.new.seen) }

@@ -2,6 +2,7 @@
 ghost use Rattle.std.specs.Prelude.{◌≡◌, ◌<◌, ◌≤◌, ◌+◌, ◌++◌, ◌∷◌, [], length, OnOk};
 ghost use Rattle.std.specs.Vec.{vec_len, vec_capacity};
 ghost use mathlib.Core.List.{IsPrefix};
+ghost use Rattle.nf_base.specs.Doors.{IsServed};
 ghost use Rattle.lock_core.specs.declared.call.Way.TheVariants as way;
 ghost use Rattle.lock_core.specs.Events.{IsLook, IsQuietBehind};
 ghost use Rattle.lock_mode.specs.Alone.{IsAlone};
@@ -84,6 +85,7 @@ fn add_look(calls: &mut Vec<Call>, place: u64, packet: &Packet, looked: &Looked)
 /// A look by value.
 fn look_seat<J: Naming, G: Gate + Drop>(seat: Seat<J, G>, packet: &Packet) -> (Seat<J, G>, Looked)
     requires port { packet.now.id.port < length J.function.handlers }
+    requires served { IsServed J.function packet.now }
     requires room { 0 < seat.room }
     ensures seen { IsPrefix seat.seen result.0.seen }
     ensures done { IfDone result.1 (λ done. IsLook J.function result.0.seen packet.now done) }
@@ -235,6 +237,7 @@ impl<J: Naming, G: Gate + Drop> Seat<J, G> {
     /// `Refused` comes only where the seat's gate refused.
     pub fn look(&mut self, packet: &Packet) -> Looked
         requires port { packet.now.id.port < length J.function.handlers }
+        requires served { IsServed J.function packet.now }
         requires room { 0 < self.old.room }
         ensures seen { IsPrefix self.old.seen self.new.seen }
         // The packet's quiet step, behind the history that is then seen.

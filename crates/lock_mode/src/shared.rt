@@ -1,6 +1,7 @@
 //! The tables that seats share.
 ghost use Rattle.std.specs.Prelude.{◌≡◌, ◌<◌, ◌≤◌, ◌+◌, ◌++◌, ◌∷◌, [], length, drop, true, IfOk, IfErr, OnErr};
 ghost use mathlib.Core.List.{IsPrefix};
+ghost use Rattle.nf_base.specs.Doors.{IsServed};
 ghost use Rattle.nf_base.specs.Functions.{function_of};
 ghost use Rattle.lock_core.specs.declared.call.Way.TheVariants as way;
 ghost use Rattle.lock_mode.specs.Alone.{IsAlone};
@@ -123,6 +124,7 @@ impl<J: Naming> Shared<J> {
         packet: &Packet,
     ) -> Result<Placed, AllocError>
         requires port { packet.now.id.port < length J.function.handlers }
+        requires served { IsServed J.function packet.now }
         ensures stands { IfOk result (λ placed. IsAlone J.function seat.old.seen
             seat.old.number packet.now placed seat.new.seen) }
         ensures called { IfOk result (λ placed. seat.new.calls ≡ seat.old.calls

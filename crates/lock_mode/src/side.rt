@@ -2,6 +2,7 @@
 ghost use Rattle.std.specs.Prelude.{◌≡◌, ◌<◌, true, [], length};
 ghost use Rattle.nf_engine.specs.Looks.{IfDone, IfNeedsWrite};
 ghost use Rattle.lock_core.specs.Events.{IsLook, IsQuietBehind};
+ghost use Rattle.nf_base.specs.Doors.{IsServed};
 ghost use Rattle.nf_base.specs.Functions.{function_of};
 ghost use Rattle.lock_mode.specs.Sides.{IsNext, RanTo};
 
@@ -86,6 +87,7 @@ impl<J: Naming> Side<J> {
     pub fn look(&self, packet: &Packet) -> Look
         requires whole { self.now.1 ≡ true }
         requires port { packet.now.id.port < length J.function.handlers }
+        requires served { IsServed J.function packet.now }
         ensures done { IfDone result (λ done. IsLook J.function self.now.0 packet.now done) }
         ensures needs { IfNeedsWrite result (IsQuietBehind J.function self.now.0 packet.now → ⊥) }
     {

@@ -1,5 +1,6 @@
 //! The end of the history, where the next packet is handled.
 ghost use Rattle.std.specs.Prelude.{◌≡◌, ◌<◌, ◌+◌, ◌^◌, ◌++◌, ◌∷◌, [], length, replicate, Some, IfOk, IfSome};
+ghost use Rattle.nf_base.specs.Doors.{IsServed};
 ghost use Rattle.nf_base.specs.Functions.{function_of};
 ghost use Rattle.nf_base.specs.Step.{step};
 ghost use Rattle.nf_engine.specs.View.{fixed_of};
@@ -47,6 +48,7 @@ fn handle_whole(tables: &mut Tables, func: &Func, packet: &Packet) -> Done
     requires of_func { tables.old.decls ≡ func.now.chains }
     requires whole { tables.old.share.of ≡ 1 }
     requires port { packet.now.id.port < length func.now.handlers }
+    requires served { IsServed (function_of func.now) packet.now }
     ensures steps { step (function_of func.now) tables.old.state packet.now result.picks
         ≡ Some (record { state = tables.new.state; done = result }) }
     ensures same { fixed_of tables.new ≡ fixed_of tables.old }
@@ -115,6 +117,7 @@ impl<J: Naming> Tail<J> {
         requires room { length self < 2 ^ 62 }
         requires seat { seat < J.seats }
         requires port { packet.now.id.port < length J.function.handlers }
+        requires served { IsServed J.function packet.now }
         ensures entry { IfSome result (λ r. (r.1.seat ≡ seat) × (r.1.packet ≡ packet.now)) }
         ensures number { IfSome result (λ r. r.1.number ≡ count_of seat self) }
         ensures history { IfSome result (λ r. r.0 ≡ self ++ r.1 ∷ []) }

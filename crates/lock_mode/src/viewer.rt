@@ -2,6 +2,7 @@
 ghost use Rattle.std.specs.Prelude.{◌≡◌, ◌<◌, ◌≤◌, [], length};
 ghost use mathlib.Core.List.{IsPrefix};
 ghost use Rattle.left_right.specs.Sides.{view};
+ghost use Rattle.nf_base.specs.Doors.{IsServed};
 ghost use Rattle.lock_core.specs.Events.{IsLook, IsQuietBehind};
 ghost use Rattle.lock_mode.specs.Gates.{Rose};
 ghost use Rattle.lock_mode.specs.Looks.{IfDone, IfNeedsWrite, IfRefused};
@@ -52,6 +53,7 @@ pub fn look_by<J: Naming, G: Gate>(
     packet: &Packet,
 ) -> (Viewer<J>, Looked)
     requires port { packet.now.id.port < length J.function.handlers }
+    requires served { IsServed J.function packet.now }
     ensures seen { IsPrefix viewer.front result.0.front }
     ensures done { IfDone result.1 (λ done.
         IsLook J.function result.0.front packet.now done) }

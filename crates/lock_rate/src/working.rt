@@ -1,7 +1,10 @@
 //! Workers that share the tables of a function, or one that has them for itself.
 ghost use Rattle.std.specs.Prelude.{◌≡◌, ◌<◌, true, length, All};
+ghost use Rattle.nf_base.specs.Doors.{IsServed};
+ghost use Rattle.nf_base.specs.Functions.{function_of};
 
 use crate::gates::Shut;
+use lock_core::is_served;
 use lock_mode::{Gate, PackGate};
 use lock_workers::{Idle, Worked, run};
 use nf_base::func::Func;
@@ -17,7 +20,15 @@ fn have_ports(packets: &[Packet], ports: u32) -> bool
     packets.iter().all(|p| p.id.port < ports)
 }
 
-/// What packets come to by workers that a gate lets in, unless one has no port or there is no worker.
+/// Whether each packet is skipped, or its port has a handler for it.
+fn are_served(packets: &[Packet], func: &Func) -> bool
+    ensures { result ≡ true → All (IsServed (function_of func.now)) packets.now }
+{
+    packets.iter().all(|p| is_served(func, p))
+}
+
+/// What packets come to by workers that a gate lets in, unless one has no port or no handler there, or
+/// there is no worker.
 fn work_by<R: Threads + Wait + Sync, G: Gate + Drop + Send>(
     rt: &R,
     alloc: Global,
@@ -27,7 +38,10 @@ fn work_by<R: Threads + Wait + Sync, G: Gate + Drop + Send>(
     gate: &mut G,
 ) -> Result<Option<Worked>, AllocError> {
     let ports = func.handlers.len();
-    if workers == 0 || packets.len() > 4_294_967_296 || !have_ports(packets, ports) {
+    if workers == 0 || packets.len() > 4_294_967_296 {
+        return Ok(None);
+    }
+    if !have_ports(packets, ports) || !are_served(packets, func) {
         return Ok(None);
     }
     match run(rt, alloc, func, workers, packets, &Idle, gate) {

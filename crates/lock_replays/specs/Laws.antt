@@ -3,6 +3,7 @@ use Rattle.std.specs.Prelude.{◌≡◌, ℕ, List, map, Some}
 use Rattle.nf_base.specs.declared.done.Done.{Done}
 use Rattle.nf_base.specs.declared.state.State.{State}
 use Rattle.nf_base.specs.Text.{Function}
+use Rattle.nf_base.specs.Doors.{six_ports}
 use Rattle.nf_files.specs.Told.{Told}
 use Rattle.packet_feed.specs.Arrivals.{Arrival}
 use Rattle.packet_feed.specs.Told.{packets_of}
@@ -22,4 +23,4 @@ LockRunsAreRight = (f : Function) (workers : ℕ) (given : List Arrival) (r : Ru
 -- ones of the capture: in mode `lock` a journal may begin with them.
 abbrev pub TheirPacketsAreFirst : Type 0
 TheirPacketsAreFirst = (f : Function) (workers : ℕ) (files : List ℕ) (told : Told) (all given : List Arrival) (r : Run) →
-    packets_of files told ≡ Some all → AreFirst (Some all) given → IsLockRun f workers given r → AreFirstOfPorts (Some all) (map arrival_in r.turns)
+    packets_of (six_ports f) files told ≡ Some all → AreFirst (Some all) given → IsLockRun f workers given r → AreFirstOfPorts (Some all) (map arrival_in r.turns)

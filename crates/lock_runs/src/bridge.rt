@@ -3,7 +3,7 @@
 use lock_core::Event;
 use nf_base::func::Func;
 use nf_base::mac::Mac;
-use nf_base::packet::{Fields, Packet, PacketId};
+use nf_base::packet::{Addresses, Fields, Packet, PacketId};
 use run_samples::functions::{BRIDGE, function};
 use std::alloc::{AllocError, Global};
 
@@ -25,8 +25,7 @@ pub fn packet(port: u32) -> Packet {
             length: 60,
             src_mac: Mac::new(from),
             dst_mac: Mac::new(to),
-            src_ip: 1,
-            dst_ip: 2,
+            addresses: Addresses::Four { src: 1, dst: 2 },
             proto: 17,
             ttl: 64,
             src_port: 1000,

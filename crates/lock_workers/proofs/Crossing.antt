@@ -26,7 +26,8 @@ use Rattle.nf_base.specs.contracts.block.Block as block
 use Rattle.nf_base.specs.contracts.block.Block.TheKnot as block_knot
 use Rattle.nf_base.specs.contracts.decl.ChainDecl as chain
 use Rattle.nf_base.specs.contracts.decl.ArrayDecl as array
-use Rattle.nf_base.specs.contracts.func.Handler as handler
+use Rattle.nf_base.specs.contracts.handler.Handler as handler
+use Rattle.nf_base.specs.contracts.port_handlers.PortHandlers as port_handlers
 use Rattle.nf_base.specs.contracts.func.Func as func
 use Rattle.nf_base.specs.contracts.seq.Seq as seq
 use Rattle.nf_base.proofs.seq.Seq.TheSendSync as seq_law
@@ -105,6 +106,9 @@ block_send = variants_send block.enum (search (sendable, crosses, as_row_send, b
 handler_send : IsSend handler.the_row
 handler_send = declared_send handler.the_type (search (sendable, crosses, block_send) depth 40)
 
+port_handlers_send : IsSend port_handlers.the_row
+port_handlers_send = declared_send port_handlers.the_type (search (sendable, crosses, as_row_send, handler_send) depth 40)
+
 chain_send : IsSend chain.the_row
 chain_send = search (sendable, crosses) depth 40
 
@@ -120,7 +124,7 @@ func_send = declared_send func.the_type (
       search (sendable, crosses, as_row_send, array_send) depth 40,
       (
         search (sendable, crosses, as_row_send) depth 40,
-        (search (sendable, crosses, as_row_send, handler_send) depth 40, tt),
+        (search (sendable, crosses, as_row_send, port_handlers_send) depth 40, tt),
       ),
     ),
   ),

@@ -8,9 +8,9 @@ use Rattle.std.proofs.lemmas.Nat.{mod_below}
 use Rattle.nf_base.specs.declared.packet.Packet.{Packet}
 use Rattle.nf_base.specs.declared.state.State.{State}
 use Rattle.nf_base.specs.Text.{Function}
+use Rattle.nf_base.specs.Doors.{IsServed}
 use Rattle.nf_base.specs.declared.func.Func.{Func}
-use Rattle.nf_base.specs.declared.func.Handler.{Handler}
-use Rattle.nf_base.specs.View.{block_of}
+use Rattle.nf_base.specs.Handlers.{blocks_of}
 use Rattle.nf_base.specs.Functions.{function_of}
 use Rattle.vig_tables.specs.TablesState.{TablesState}
 use Rattle.lock_core.specs.declared.call.Call.{Call}
@@ -69,11 +69,12 @@ places_below workers w place (p ∷ ps) =
     front_below (worker_of workers p == w) (place + length (p ∷ ps)) place (places_from workers w (place + 1) ps) (omega arith)
     (wider (place + 1 + length ps) (place + length (p ∷ ps)) (places_from workers w (place + 1) ps) (omega arith) (places_below workers w (place + 1) ps))
 
-pub are_workers : (ports count : ℕ) (packets : List Packet) (own : List (List ℕ)) (seats : List SeatState) → AreNew count seats → AreDealt count packets own → All (λ (p : Packet). p.id.port < ports) packets → AreWorkers ports packets own seats
-are_workers ports count packets own seats new dealt all = record {
+pub are_workers : (f : Function) (count : ℕ) (packets : List Packet) (own : List (List ℕ)) (seats : List SeatState) → AreNew count seats → AreDealt count packets own → All (λ (p : Packet). p.id.port < length f.handlers) packets → All (IsServed f) packets → AreWorkers f packets own seats
+are_workers f count packets own seats new dealt all served = record {
   as_many = dealt.many ∙ sym new.many;
   of = λ w places at. record {
     ports_are = all;
+    served_are = served;
     within =
         subst (All (λ (place : ℕ). place < length packets)) (sym (dealt.each w places at))
         (All-weaker (λ (place : ℕ). place < 0 + length packets) (λ (place : ℕ). place < length packets) (λ k lt. omega (arith, lt)) (own_places count w packets)
@@ -304,4 +305,4 @@ alone_of f packets own order t dealt runs ordered =
 
 -- a function's ports, as they are counted
 pub counted : (func : Func) → length func.handlers ≡ length (function_of func).handlers
-counted func = sym (length-map func.handlers (λ (h : Handler). block_of h.block))
+counted func = sym (length-map func.handlers blocks_of)

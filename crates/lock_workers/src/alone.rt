@@ -1,5 +1,6 @@
 // One worker handles all packets, in their order.
 ghost use Rattle.std.specs.Prelude.{◌≡◌, ◌<◌, ◌++◌, ◌∷◌, [], length, map, All, Some, IfOk, OnOk};
+ghost use Rattle.nf_base.specs.Doors.{IsServed};
 ghost use Rattle.nf_base.specs.Functions.{function_of};
 ghost use Rattle.nf_base.specs.Step.{step, opening};
 ghost use Rattle.nf_engine.specs.View.{fixed_of};
@@ -20,6 +21,7 @@ fn handle_whole(tables: &mut Tables, func: &Func, packet: &Packet) -> Done
     requires of_func { tables.old.decls ≡ func.now.chains }
     requires whole { tables.old.share.of ≡ 1 }
     requires port { packet.now.id.port < length func.now.handlers }
+    requires served { IsServed (function_of func.now) packet.now }
     ensures steps { step (function_of func.now) tables.old.state packet.now result.picks
         ≡ Some (record { state = tables.new.state; done = result }) }
     ensures same { fixed_of tables.new ≡ fixed_of tables.old }
@@ -43,6 +45,7 @@ pub(crate) fn handle_all(
     requires whole { tables.old.share.of ≡ 1 }
     requires opens { tables.old.state ≡ opening (function_of func.now) }
     requires ports { All (λ p. p.id.port < length func.now.handlers) packets.now }
+    requires served { All (IsServed (function_of func.now)) packets.now }
     ensures runs { IfOk result (λ order.
         Runs (function_of func.now) order.items tables.new.state) }
     ensures all { IfOk result (λ order. AreInOrder packets.now order.items) }

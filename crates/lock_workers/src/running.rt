@@ -1,5 +1,6 @@
 //! Workers that share tables, or one where they can't.
 ghost use Rattle.std.specs.Prelude.{◌≡◌, ◌<◌, ◌≤◌, ◌⊎◌, ◌^◌, length, All, IfOk};
+ghost use Rattle.nf_base.specs.Doors.{IsServed};
 ghost use Rattle.nf_base.specs.Functions.{function_of};
 ghost use Rattle.lock_mode.specs.Gates.{Rose};
 ghost use Rattle.lock_mode.specs.Opening.{AreOpening};
@@ -51,6 +52,7 @@ fn share_anew<R: Threads + Wait + Sync, T: Turns + Sync, G: Gate + Drop + Send>(
     requires some { 0 < workers }
     requires dealt { AreDealt workers packets.now own.now }
     requires ports { All (λ p. p.id.port < length func.now.handlers) packets.now }
+    requires served { All (IsServed (function_of func.now)) packets.now }
     ensures together { let f = function_of func.now in IfOk result (λ met. IfTogether met (λ closed.
         IsShared f packets.now own.now closed.order.items closed.tables)) }
     ensures alone { let f = function_of func.now in IfOk result (λ met. IfAlone met (λ tables.
@@ -101,6 +103,7 @@ fn work_alone(
     requires opens { AreOpening (function_of func.now) tables }
     requires few { length packets.now ≤ 2 ^ 32 }
     requires ports { All (λ p. p.id.port < length func.now.handlers) packets.now }
+    requires served { All (IsServed (function_of func.now)) packets.now }
     ensures handled { IfOk result (λ all. AreHandled (function_of func.now) all.workers
         packets.now all.order.items all.places.items all.state) }
     ensures one { IfOk result (λ all. all.workers ≡ 1) }
@@ -130,6 +133,7 @@ pub fn run<R: Threads + Wait + Sync, T: Turns + Sync, G: Gate + Drop + Send>(
     requires some { 0 < workers }
     requires few { length packets.now ≤ 2 ^ 32 }
     requires ports { All (λ p. p.id.port < length func.now.handlers) packets.now }
+    requires served { All (IsServed (function_of func.now)) packets.now }
     ensures handled { IfOk result (λ all. AreHandled (function_of func.now) all.workers
         packets.now all.order.items all.places.items all.state) }
     // One worker did only where the gate's count rose or stands at its end.

@@ -1,6 +1,7 @@
 // Workers in tables that they share.
 ghost use Rattle.std.specs.Prelude.{◌≡◌, ◌<◌, ◌≤◌, [], length, All, IfOk};
 ghost use Rattle.std.specs.Bool.{OnTrue};
+ghost use Rattle.nf_base.specs.Doors.{IsServed};
 ghost use Rattle.nf_base.specs.Functions.{function_of};
 ghost use Rattle.lock_mode.specs.Gates.{Rose};
 ghost use Rattle.lock_mode.specs.Opening.{AreNew, AreOpening};
@@ -51,6 +52,7 @@ fn work_shared<
     requires new { AreNew J.seats seats.items }
     requires dealt { AreDealt J.seats packets.now own.now }
     requires ports { All (λ p. p.id.port < length J.function.handlers) packets.now }
+    requires served { All (IsServed J.function) packets.now }
     ensures { IfOk result (λ closed.
         IsShared J.function packets.now own.now closed.order.items closed.tables) }
 {
@@ -106,6 +108,7 @@ pub(crate) fn share<
     requires book { book.seen.book ≡ J.book }
     requires dealt { AreDealt workers packets.now own.now }
     requires ports { All (λ p. p.id.port < length func.now.handlers) packets.now }
+    requires served { All (IsServed (function_of func.now)) packets.now }
     ensures together { let f = function_of func.now in IfOk result (λ met. IfTogether met (λ closed.
         IsShared f packets.now own.now closed.order.items closed.tables)) }
     ensures alone { let f = function_of func.now in IfOk result (λ met. IfAlone met (λ tables.

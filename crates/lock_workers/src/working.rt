@@ -1,5 +1,6 @@
 // Each worker handles its packets, in a thread of its own.
 ghost use Rattle.std.specs.Prelude.{◌≡◌, ◌<◌, ◌≤◌, ◌++◌, ◌∷◌, [], length, OnOk, OnErr, slice_index_or};
+ghost use Rattle.nf_base.specs.Doors.{IsServed};
 ghost use Rattle.lock_mode.specs.Seats.{SeatState};
 ghost use Rattle.lock_workers.specs.Working.{packets_in, AreAtPlaces, AreOf, HasWorked, AllHaveWorked, CanWork, AreWorkers};
 
@@ -20,6 +21,7 @@ fn handle<J: Naming, R: Wait, G: Gate + Drop>(
     packet: &Packet,
 ) -> Result<(), AllocError>
     requires port { packet.now.id.port < length J.function.handlers }
+    requires served { IsServed J.function packet.now }
     requires room { 0 < seat.old.room }
     ensures ok { OnOk result (
         packets_in seat.new.calls ≡ packets_in seat.old.calls ++ packet.now ∷ []) }
@@ -44,6 +46,7 @@ fn work_one<J: Naming, R: Wait, G: Gate + Drop, T: Turns>(
     turns: &T,
 ) -> Result<(), AllocError>
     requires port { packet.now.id.port < length J.function.handlers }
+    requires served { IsServed J.function packet.now }
     ensures ok { OnOk result (
         packets_in seat.new.calls ≡ packets_in seat.old.calls ++ packet.now ∷ []) }
     ensures err { OnErr result (seat.new.calls ≡ seat.old.calls) }
@@ -66,7 +69,7 @@ fn work_own<J: Naming, R: Wait, G: Gate + Drop, T: Turns>(
     places: &Seq<u32>,
     turns: &T,
 )
-    requires of { AreOf (length J.function.handlers) packets.now places.now }
+    requires of { AreOf J.function packets.now places.now }
     requires none { seat.old.calls ≡ [] }
     ensures { HasWorked packets.now places.now seat.old seat.new }
 {
@@ -98,11 +101,11 @@ pub(crate) fn work_each<
     own: &Seq<Seq<u32>>,
     turns: &T,
 )
-    requires workers { AreWorkers (length J.function.handlers) packets.now own.now seats.old.items }
+    requires workers { AreWorkers J.function packets.now own.now seats.old.items }
     ensures { AllHaveWorked packets.now own.now seats.old.items seats.new.items }
 {
     let work = |i: usize, seat: &mut Seat<J, G>|
-        requires { CanWork (length J.function.handlers) packets.now own.now i seat.now }
+        requires { CanWork J.function packets.now own.now i seat.now }
         ensures { HasWorked packets.entry.now (slice_index_or own.entry.now i [])
             seat.entry.now seat.exit.now }
     { work_own(rt, shared, seat, packets, own.item(i), turns) };

@@ -10,7 +10,7 @@ use Rattle.nf_base.specs.Step.{opening}
 use Rattle.nf_files.specs.Told.{Told, IsToldAs, IsEmptyIfTold}
 use Rattle.packet_feed.specs.Arrivals.{Arrival, packet_of}
 use Rattle.packet_feed.specs.Told.{packets_of}
-use Rattle.packet_feed.specs.Sources.{files_in}
+use Rattle.packet_feed.specs.Sources.{files_in, sixes_in}
 use Rattle.packet_feed.specs.Feeding.{Feeding, StandsFor, AreAll}
 use Rattle.run_history.specs.declared.line.Mode.{Mode}
 use Rattle.run_history.specs.declared.line.Mode.TheVariants.{One, Shard, Lock}
@@ -140,17 +140,19 @@ given_within ports begun feed start now batch none g =
     let m = g.same_most in
     omega (arith, c, w, m)
 
-first_of : (ports : ℕ) (begun feed : Feeding) (start now before : Told) (batch : List Arrival) → Gathers ports begun feed start now batch → StandsFor before [] begun start → AreFirst (packets_of (files_in begun.sources) before) batch
-first_of ports begun feed start now before batch g b = first_given before batch feed begun now g.same_files (g.given before [] b)
+first_of : (ports : ℕ) (begun feed : Feeding) (start now before : Told) (batch : List Arrival) → Gathers ports begun feed start now batch → StandsFor before [] begun start → AreFirst (packets_of (sixes_in begun.sources) (files_in begun.sources) before) batch
+first_of ports begun feed start now before batch g b = first_given before batch feed begun now g.same_files g.same_six (g.given before [] b)
 
 how_read : (e : Ending) (ports : ℕ) (begun feed : Feeding) (start now before : Told) (batch : List Arrival) → begun.given ≡ 0 → Gathers ports begun feed start now batch → IsOver e begun start feed batch → StandsFor before [] begun start
-    → ((e ≡ ending.All) × AreAll (packets_of (files_in begun.sources) before) batch) ⊎ ((e ≡ ending.TooMany) × (length batch ≡ begun.most))
-how_read ending.All ports begun feed start now before batch none g over b = inl (refl, subst (λ (fs : List ℕ). AreAll (packets_of fs before) batch) g.same_files (over before [] b).0)
+    → ((e ≡ ending.All) × AreAll (packets_of (sixes_in begun.sources) (files_in begun.sources) before) batch) ⊎ ((e ≡ ending.TooMany) × (length batch ≡ begun.most))
+how_read ending.All ports begun feed start now before batch none g over b =
+    let by_file = subst (λ (fs : List ℕ). AreAll (packets_of (sixes_in feed.sources) fs before) batch) g.same_files (over before [] b).0 in
+    inl (refl, subst (λ (bs : List Bool). AreAll (packets_of bs (files_in begun.sources) before) batch) g.same_six by_file)
 how_read ending.TooMany ports begun feed start now before batch none g over b = inr (refl, sym (count_of ports begun feed start now batch none g) ∙ over.0 ∙ g.same_most)
 
-the_first : (e : Ending) (ports : ℕ) (begun feed : Feeding) (start now before : Told) (batch : List Arrival) → begun.given ≡ 0 → Gathers ports begun feed start now batch → IsOver e begun start feed batch → StandsFor before [] begun start → AreTheFirst begun.most (packets_of (files_in begun.sources) before) batch
+the_first : (e : Ending) (ports : ℕ) (begun feed : Feeding) (start now before : Told) (batch : List Arrival) → begun.given ≡ 0 → Gathers ports begun feed start now batch → IsOver e begun start feed batch → StandsFor before [] begun start → AreTheFirst begun.most (packets_of (sixes_in begun.sources) (files_in begun.sources) before) batch
 the_first e ports begun feed start now before batch none g over b =
-    first_most e (packets_of (files_in begun.sources) before) batch (length batch) begun.most (first_of ports begun feed start now before batch g b) (given_within ports begun feed start now batch none g) refl (how_read e ports begun feed start now before batch none g over b)
+    first_most e (packets_of (sixes_in begun.sources) (files_in begun.sources) before) batch (length batch) begun.most (first_of ports begun feed start now before batch g b) (given_within ports begun feed start now batch none g) refl (how_read e ports begun feed start now before batch none g over b)
 
 ends_so : (e : Ending) (ports : ℕ) (begun feed : Feeding) (start now before : Told) (batch : List Arrival) → begun.given ≡ 0 → Gathers ports begun feed start now batch → IsOver e begun start feed batch → StandsFor before [] begun start → EndsSo e feed before batch
 ends_so ending.All ports begun feed start now before batch none g over b = over before [] b
@@ -171,6 +173,7 @@ finished_of f workers Refused n ports begun feed start read now files batch e se
       packets = λ before b. the_first e ports begun feed start read before batch none g over b;
       ending = λ before b. ends_so e ports begun feed start read before batch none g over b;
       same_files = g.same_files;
+      same_six = g.same_six;
       same_most = g.same_most;
       count = length-map w.hs turn_of ∙ same_count mode workers Refused batch w.hs w.are.in_mode ∙ sym (count_of ports begun feed start read batch none g) ∙ sym count;
       left = (map (λ (x : Handled). x.done) w.hs, ran_of f mode workers w.hs settled.state u);
@@ -178,7 +181,7 @@ finished_of f workers Refused n ports begun feed start read now files batch e se
     }
 
 cut_at : (f : Function) (workers : ℕ) (Refused : Type 0) (n : ℕ) (begun : Feeding) (start now : Told) (files : List ℕ) (batch : List Arrival) → n ≡ length f.handlers → (h : IsHalted f workers Refused n batch now files) → length h.given ≤ begun.most
-    → ((before : Told) → StandsFor before [] begun start → AreFirst (packets_of (files_in begun.sources) before) h.given) → IsCutShort f workers Refused begun start now files
+    → ((before : Told) → StandsFor before [] begun start → AreFirst (packets_of (sixes_in begun.sources) (files_in begun.sources) before) h.given) → IsCutShort f workers Refused begun start now files
 cut_at f workers Refused n begun start now files batch same h within first =
     let u = h.are.undivided in
     record {
@@ -197,15 +200,15 @@ unfolding halted_none
 cut_none f workers Refused n begun start now files same empty =
     let h = halted_none f workers Refused n [] now files empty in
     let none : length h.given ≡ 0 = refl in
-    cut_at f workers Refused n begun start now files [] same h (omega (arith, none)) (λ before b. first_none (packets_of (files_in begun.sources) before))
+    cut_at f workers Refused n begun start now files [] same h (omega (arith, none)) (λ before b. first_none (packets_of (sixes_in begun.sources) (files_in begun.sources) before))
 
 -- it was stopped behind that
 pub cut_short_of : (f : Function) (workers : ℕ) (Refused : Type 0) (n ports : ℕ) (begun feed : Feeding) (start read now : Told) (files : List ℕ) (batch : List Arrival) → n ≡ length f.handlers → begun.given ≡ 0 → Gathers ports begun feed start read batch → IsHalted f workers Refused n batch now files → IsCutShort f workers Refused begun start now files
 cut_short_of f workers Refused n ports begun feed start read now files batch same none g h =
     cut_at f workers Refused n begun start now files batch same h
     (⊎_elim (λ (e : h.given ≡ []). let l = ap (λ (xs : List Arrival). length xs) e in omega (arith, l)) (λ (e : h.given ≡ batch). let l = ap (λ (xs : List Arrival). length xs) e in let w = given_within ports begun feed start read batch none g in omega (arith, l, w)) h.some)
-    (λ before b. ⊎_elim (λ (e : h.given ≡ []). subst (AreFirst (packets_of (files_in begun.sources) before)) (sym e) (first_none (packets_of (files_in begun.sources) before)))
-    (λ (e : h.given ≡ batch). subst (AreFirst (packets_of (files_in begun.sources) before)) (sym e) (first_of ports begun feed start read before batch g b)) h.some)
+    (λ before b. ⊎_elim (λ (e : h.given ≡ []). subst (AreFirst (packets_of (sixes_in begun.sources) (files_in begun.sources) before)) (sym e) (first_none (packets_of (sixes_in begun.sources) (files_in begun.sources) before)))
+    (λ (e : h.given ≡ batch). subst (AreFirst (packets_of (sixes_in begun.sources) (files_in begun.sources) before)) (sym e) (first_of ports begun feed start read before batch g b)) h.some)
 
 -- nothing was given to a file that is still empty
 pub still_empty : (old new : Told) (files : List ℕ) → KeepsBut [] old new → ((k file : ℕ) → slice_get files k ≡ Some file → IsEmptyIfTold (old.given file)) → (k file : ℕ) → slice_get files k ≡ Some file → IsEmptyIfTold (new.given file)

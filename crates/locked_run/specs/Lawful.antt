@@ -5,7 +5,7 @@ use Rattle.nf_base.specs.Text.{Function}
 use Rattle.nf_files.specs.Told.{Told, IsToldAs}
 use Rattle.packet_feed.specs.Arrivals.{Arrival}
 use Rattle.packet_feed.specs.Told.{packets_of}
-use Rattle.packet_feed.specs.Sources.{files_in}
+use Rattle.packet_feed.specs.Sources.{files_in, sixes_in}
 use Rattle.packet_feed.specs.Feeding.{Feeding, StandsFor}
 use Rattle.run_history.specs.declared.line.Mode.{Mode}
 use Rattle.stream_run.specs.declared.stop.Stop.{Stop}
@@ -24,9 +24,10 @@ pub record IsFinished (f : Function) (workers : ℕ) (Refused : Type 0) (begun :
   pub given : List Arrival
   pub is_run : IsRunIn came.mode f workers Refused given run
   pub within : length given ≤ begun.most
-  pub packets : (before : Told) → StandsFor before [] begun start → AreTheFirst begun.most (packets_of (files_in begun.sources) before) given
+  pub packets : (before : Told) → StandsFor before [] begun start → AreTheFirst begun.most (packets_of (sixes_in begun.sources) (files_in begun.sources) before) given
   pub ending : (before : Told) → StandsFor before [] begun start → EndsSo came.ran.ending feed before given
   pub same_files : files_in feed.sources ≡ files_in begun.sources
+  pub same_six : sixes_in feed.sources ≡ sixes_in begun.sources
   pub same_most : feed.most ≡ begun.most
   pub count : length run.turns ≡ came.ran.packets
   pub left : (answers : List Done) × (course_of run ≡ Some (record { state = came.ran.state; answers = answers }))
@@ -40,7 +41,7 @@ pub record IsCutShort (f : Function) (workers : ℕ) (Refused : Type 0) (begun :
   pub mode : Mode
   pub is_run : IsRunIn mode f workers Refused given run
   pub within : length given ≤ begun.most
-  pub packets : (before : Told) → StandsFor before [] begun start → AreFirst (packets_of (files_in begun.sources) before) given
+  pub packets : (before : Told) → StandsFor before [] begun start → AreFirst (packets_of (sixes_in begun.sources) (files_in begun.sources) before) given
   pub fronts : (k file : ℕ) → slice_get files k ≡ Some file → IsFrontIfTold (file_bytes run k) (now.given file)
 
 -- what a run comes to

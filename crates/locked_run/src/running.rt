@@ -1,10 +1,11 @@
 //! A whole run in mode `lock`.
 ghost use Rattle.std.specs.Prelude.{◌≡◌, ◌^◌, ◌+◌, ◌<◌, ◌≤◌, ◌⊎◌, ℕ, List, [], Some, length, map, slice_get, All, IfOk};
+ghost use Rattle.nf_base.specs.Doors.{six_ports, IsServed};
 ghost use Rattle.nf_base.specs.Functions.{function_of};
 ghost use Rattle.nf_files.specs.Told.{Told, IsEmptyIfTold};
 ghost use Rattle.packet_feed.specs.Arrivals.{Arrival, packet_of};
 ghost use Rattle.packet_feed.specs.Told.{EachFile, IsApart};
-ghost use Rattle.packet_feed.specs.Sources.{files_in};
+ghost use Rattle.packet_feed.specs.Sources.{files_in, sixes_in};
 ghost use Rattle.stream_run.specs.Writing.{KeepsBut, IsStopCause, StopsAmong};
 ghost use Rattle.lock_mode.specs.Gates.{Rose};
 ghost use Rattle.run_history.specs.Headings.{IsHeading};
@@ -54,6 +55,7 @@ fn work<R: Threads + Wait + Sync, T: Turns + Sync, G: Gate + Drop + Send>(
     requires few { length batch.now ≤ 2 ^ 32 }
     requires ports { let ports = length func.now.handlers in
         All (λ p. p.id.port < ports) (map packet_of batch.now) }
+    requires served { All (IsServed (function_of func.now)) (map packet_of batch.now) }
     ensures handled { IfOk result (λ all. AreHandled (function_of func.now) all.workers
         (map packet_of batch.now) all.order.items all.places.items all.state) }
     ensures as_many { IfOk result (λ all. (all.workers ≡ workers)
@@ -123,6 +125,7 @@ fn settle<R: Threads + Wait + Sync, F: Files, T: Turns + Sync, G: Gate + Drop + 
     requires few_packets { length batch.now ≤ 2 ^ 32 }
     requires ports { let ports = length func.now.handlers in
         All (λ p. p.id.port < ports) (map packet_of batch.now) }
+    requires served { All (IsServed (function_of func.now)) (map packet_of batch.now) }
     requires created { EachFile (F.is_written files.old) targets.now }
     requires apart { IsApart targets.now }
     requires few { length targets.now ≤ 2 ^ 32 }
@@ -160,9 +163,10 @@ fn settle<R: Threads + Wait + Sync, F: Files, T: Turns + Sync, G: Gate + Drop + 
 /// three copies of the tables and what each packet came to. Where the gate refuses a reader one worker
 /// handles them in capture order, in mode `one`.
 ///
-/// The captures are those of the feed, which gave no packet yet. The targets are the outputs in the
-/// order of their ports, and the journal behind them; nothing was given to them yet. After an `Err` each
-/// of them holds a front of what a run over some first packets leaves there.
+/// The captures are those of the feed, which gave no packet yet, and was started for the function's
+/// ports. The targets are the outputs in the order of their ports, and the journal behind them; nothing
+/// was given to them yet. After an `Err` each of them holds a front of what a run over some first
+/// packets leaves there.
 pub fn run<R: Threads + Wait + Sync, F: Files, T: Turns + Sync, G: Gate + Drop + Send>(
     rt: &R,
     alloc: Global,
@@ -177,6 +181,7 @@ pub fn run<R: Threads + Wait + Sync, F: Files, T: Turns + Sync, G: Gate + Drop +
 ) -> Result<Came, Stop>
     requires several { 1 < workers }
     requires captures { files_in feed.old.sources ≡ captures.now }
+    requires six { sixes_in feed.old.sources ≡ six_ports (function_of func.now) }
     requires ports { length captures.now ≡ length func.now.handlers }
     requires new { feed.old.given ≡ 0 }
     requires opened { EachFile (F.is_read files.old) captures.now }

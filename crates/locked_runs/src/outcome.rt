@@ -1,8 +1,10 @@
 //! Runs of the bridge over files in memory, and what they come to.
 ghost use Rattle.std.specs.Prelude.{◌≡◌, ◌≤◌, length};
+ghost use Rattle.nf_base.specs.Doors.{six_ports};
+ghost use Rattle.nf_base.specs.Functions.{function_of};
 ghost use Rattle.nf_files.specs.Told.{IsEmptyIfTold};
 ghost use Rattle.packet_feed.specs.Told.{EachFile, IsApart};
-ghost use Rattle.packet_feed.specs.Sources.{files_in};
+ghost use Rattle.packet_feed.specs.Sources.{files_in, sixes_in};
 
 use crate::calls::{create_all, open_all, run_all, start};
 use lock_mode::Gate;
@@ -112,6 +114,7 @@ fn run_made<R: Threads + Wait + Sync, F: Files, T: Turns + Sync, G: Gate + Drop 
     outcome: &mut Outcome,
 ) -> Result<(), AllocError>
     requires captures { files_in feed.old.sources ≡ opened.now }
+    requires six { sixes_in feed.old.sources ≡ six_ports (function_of func.now) }
     requires ports { length opened.now ≡ length func.now.handlers }
     requires new { feed.old.given ≡ 0 }
     requires readable { EachFile (F.is_read files.old) opened.now }
@@ -149,7 +152,7 @@ fn run_over<R: Threads + Wait + Sync, F: Files, T: Turns + Sync, G: Gate + Drop 
 {
     match open_all(alloc, files, &CAPTURES) {
         Err(_) => outcome.end = End::Unopened,
-        Ok(opened) => match start(alloc, files, opened.as_slice(), most) {
+        Ok(opened) => match start(alloc, files, func, opened.as_slice(), most) {
             Err(fault) => outcome.end = End::Unstarted(fault),
             Ok(mut feed) => match create_all(alloc, files, &OUTPUTS) {
                 Err(_) => outcome.end = End::Uncreated,

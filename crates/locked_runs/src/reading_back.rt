@@ -1,5 +1,6 @@
 //! A seat that looks at the packet that it put.
-ghost use Rattle.std.specs.Prelude.{◌≡◌, ◌<◌, length};
+ghost use Rattle.std.specs.Prelude.{◌≡◌, ◌<◌, Bool, length};
+ghost use Rattle.nf_base.specs.Doors.{served_fields, IsServed};
 ghost use Rattle.nf_base.specs.Functions.{function_of};
 
 use crate::outcome::function;
@@ -7,7 +8,7 @@ use lock_mode::{Blank, CloseRefused, Gate, Looked, Naming, Opened, PackGate, Sea
 use nf_base::done::Action;
 use nf_base::func::Func;
 use nf_base::mac::Mac;
-use nf_base::packet::{Fields, Packet, PacketId};
+use nf_base::packet::{Addresses, Fields, Packet, PacketId};
 use std::alloc::{AllocError, Global};
 use std::marker::Brand;
 use std::sync::Wait;
@@ -23,7 +24,9 @@ pub struct Seen {
 
 /// A packet of port 0, of the first station to the second.
 fn packet() -> Packet
-    ensures { result.id.port ≡ 0 }
+    ensures port { result.id.port ≡ 0 }
+    // It is no IPv6 packet.
+    ensures fields { (six : Bool) → result.fields ≡ served_fields six result.fields }
 {
     Packet {
         id: PacketId { port: 0, seq: 0 },
@@ -32,8 +35,10 @@ fn packet() -> Packet
             length: 42,
             src_mac: Mac::new(10),
             dst_mac: Mac::new(11),
-            src_ip: 16_843_009,
-            dst_ip: 33_686_018,
+            addresses: Addresses::Four {
+                src: 16_843_009,
+                dst: 33_686_018,
+            },
             proto: 17,
             ttl: 64,
             src_port: 1,
@@ -48,7 +53,8 @@ fn look_twice<J: Naming, R: Wait>(
     seat: &mut Seat<J, PackGate>,
     packet: &Packet,
 ) -> Result<Seen, AllocError>
-    requires { packet.now.id.port < length J.function.handlers }
+    requires port { packet.now.id.port < length J.function.handlers }
+    requires served { IsServed J.function packet.now }
 {
     let mut seen = Seen {
         needs_write: false,

@@ -1,12 +1,12 @@
 -- What writes to the outputs of a run and to its journal do to what is told beside made captures.
-use Rattle.std.proofs.Common.{◌≡◌, ◌≢◌, ℕ, zero, suc, ◌+◌, ◌-◌, ◌%◌, ◌^◌, ◌<◌, ◌≤◌, ◌⊎◌, inl, inr, Bool, true, false, cond, leb, ltb, List, [], ◌∷◌, ◌++◌, length, refl, sym, ap, ap₂, subst, ◌∙◌, arith, Result, Err, leb-true, ltb-true, eq-eqb, ne_eqb}
+use Rattle.std.proofs.Common.{◌≡◌, ◌≢◌, ℕ, zero, suc, ◌+◌, ◌%◌, ◌^◌, ◌<◌, ◌≤◌, ◌⊎◌, inl, inr, Bool, true, false, cond, leb, ltb, List, length, refl, sym, ap, ap₂, subst, ◌∙◌, arith, Err, leb-true, ltb-true, eq-eqb, ne_eqb}
 use Rattle.std.specs.Prelude.{Option, Some, None, option_map, nat_eq}
 use Rattle.std.proofs.lemmas.Bool.{cases_eq, lt-ltb, le-leb}
 use Rattle.std.proofs.lemmas.List.{length-append}
-use Rattle.nf_files.specs.Told.{Told, Same, IsCurrent}
+use Rattle.nf_files.specs.Told.{Told, Same}
 use Rattle.nf_files.specs.Pieces.{Gains}
 use Rattle.nf_files.specs.Writes.{Writes}
-use Rattle.nf_files.specs.Causes.{Counted, Faulted, FirstAfter, HasCause}
+use Rattle.nf_files.specs.Causes.{Counted, FirstAfter, HasCause}
 use Rattle.nf_files.specs.declared.fault.FilesFault.{FilesFault}
 use Rattle.nf_files.specs.declared.fault.FilesFault.TheVariants.{Failed, Memory}
 use Rattle.made_captures.specs.Told.{with_made}

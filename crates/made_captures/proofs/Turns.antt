@@ -5,6 +5,7 @@ use Rattle.std.proofs.lemmas.Bool.{cases_lt, eqb-true, eqb-false}
 use Rattle.std.proofs.lemmas.Nat.{div-mul-add, mod-mul-add, div-add-mod', mod_below}
 use Rattle.nf_base.specs.declared.packet.Packet.{Packet}
 use Rattle.nf_base.specs.declared.packet.Fields.{Fields}
+use Rattle.nf_base.specs.Doors.{served_fields}
 use Rattle.frame_ip.specs.Frame.{fields_in}
 use Rattle.pcap_file.specs.declared.form.TimeUnit.TheVariants.{Nanoseconds}
 use Rattle.pcap_file.specs.Record.{record_at, time_of}
@@ -90,43 +91,43 @@ with_parts : (port port' seq seq' time time' : ℕ) (fields fields' : Option Fie
     → arrival_with port seq time fields original frame ≡ arrival_with port' seq' time' fields' original frame
 with_parts port port' seq seq' time time' fields fields' original frame p q t f = rw (p, q, t, f) refl
 
-arrival_is : (r : Recipe) (port seq time k : ℕ) → EachIsHandled → k % r.ports ≡ port → k / r.ports ≡ seq → time ≡ 1000 * k
-    → arrivals.arrival_of port seq time (length (frame_at r k)) (frame_at r k) ≡ arrival_of (sent_at r k)
+arrival_is : (r : Recipe) (six : Bool) (port seq time k : ℕ) → EachIsHandled → k % r.ports ≡ port → k / r.ports ≡ seq → time ≡ 1000 * k
+    → arrivals.arrival_of six port seq time (length (frame_at r k)) (frame_at r k) ≡ arrival_of (sent_at r k)
 unfolding arrivals.arrival_of
-arrival_is r port seq time k handled p q t =
+arrival_is r six port seq time k handled p q t =
     let frame : List ℕ = frame_at r k in
-    with_parts port (k % r.ports) seq (k / r.ports) time (1000 * k) (fields_in frame (length frame)) (packet_at r k).fields (length frame) frame (sym p) (sym q) t (handled r k)
+    with_parts port (k % r.ports) seq (k / r.ports) time (1000 * k) (served_fields six (fields_in frame (length frame))) (packet_at r k).fields (length frame) frame (sym p) (sym q) t (ap (served_fields six) (handled r k))
 
 -- ---- all of a port
 
 -- the packets of records that are read one after another, and those that they were made of
-abbrev ReadAgain : Recipe → ℕ → ℕ → ℕ → ℕ → List (Packet × List ℕ) → Type 0
-ReadAgain r port seq latest k sents = arrivals_from port Nanoseconds seq latest (map record_of sents) ≡ map arrival_of sents
+abbrev ReadAgain : Recipe → Bool → ℕ → ℕ → ℕ → ℕ → List (Packet × List ℕ) → Type 0
+ReadAgain r six port seq latest k sents = arrivals_from six port Nanoseconds seq latest (map record_of sents) ≡ map arrival_of sents
 
-one_more : (r : Recipe) (port k n seq latest : ℕ) → EachIsHandled → 1 ≤ r.ports → port < r.ports → k < 2 ^ 32 → Came r.ports port k seq → latest ≤ 1000 * k → (b : Bool) → ((id_at r k).port == port) ≡ b
-    → ((seq' latest' : ℕ) → Came r.ports port (suc k) seq' → latest' ≤ 1000 * suc k → ReadAgain r port seq' latest' (suc k) (at_port port (sent_from r (suc k) n)))
-    → ReadAgain r port seq latest k (at_port port (sent_from r k (suc n)))
-one_more r port k n seq latest handled some lt few came le true e go =
+one_more : (r : Recipe) (six : Bool) (port k n seq latest : ℕ) → EachIsHandled → 1 ≤ r.ports → port < r.ports → k < 2 ^ 32 → Came r.ports port k seq → latest ≤ 1000 * k → (b : Bool) → ((id_at r k).port == port) ≡ b
+    → ((seq' latest' : ℕ) → Came r.ports port (suc k) seq' → latest' ≤ 1000 * suc k → ReadAgain r six port seq' latest' (suc k) (at_port port (sent_from r (suc k) n)))
+    → ReadAgain r six port seq latest k (at_port port (sent_from r k (suc n)))
+one_more r six port k n seq latest handled some lt few came le true e go =
     let s = sent_at r k in
     let later = at_port port (sent_from r (suc k) n) in
     let is : k % r.ports ≡ port = eqb-true (k % r.ports) port e in
     let now : max latest (time_of Nanoseconds (record_of s)) ≡ 1000 * k = omega (arith, timed (1000 * k) (frame_at r k) (omega arith), le) in
     let after = came_here r.ports port k seq some lt came is (cases_lt (k % r.ports + 1) r.ports) in
     let t : ℕ = max latest (time_of Nanoseconds (record_of s)) in
-    ap (λ (sents : List (Packet × List ℕ)). arrivals_from port Nanoseconds seq latest (map record_of sents)) (here port s (sent_from r (suc k) n) e)
-    ∙ ap (λ (a : Arrival). a ∷ arrivals_from port Nanoseconds (seq + 1) t (map record_of later)) (arrival_is r port seq t k handled is (sym (came.not_yet (omega (arith, is)))) now)
+    ap (λ (sents : List (Packet × List ℕ)). arrivals_from six port Nanoseconds seq latest (map record_of sents)) (here port s (sent_from r (suc k) n) e)
+    ∙ ap (λ (a : Arrival). a ∷ arrivals_from six port Nanoseconds (seq + 1) t (map record_of later)) (arrival_is r six port seq t k handled is (sym (came.not_yet (omega (arith, is)))) now)
     ∙ ap (λ (xs : List Arrival). arrival_of s ∷ xs) (go (seq + 1) t after (omega (arith, now)))
     ∙ sym (ap (λ (sents : List (Packet × List ℕ)). map arrival_of sents) (here port s (sent_from r (suc k) n) e))
-one_more r port k n seq latest handled some lt few came le false e go =
+one_more r six port k n seq latest handled some lt few came le false e go =
     let s = sent_at r k in
     let after = came_elsewhere r.ports port k seq some lt came (eqb-false (k % r.ports) port e) (cases_lt (k % r.ports + 1) r.ports) in
-    ap (λ (sents : List (Packet × List ℕ)). arrivals_from port Nanoseconds seq latest (map record_of sents)) (elsewhere port s (sent_from r (suc k) n) e)
+    ap (λ (sents : List (Packet × List ℕ)). arrivals_from six port Nanoseconds seq latest (map record_of sents)) (elsewhere port s (sent_from r (suc k) n) e)
     ∙ go seq latest after (omega (arith, le))
     ∙ sym (ap (λ (sents : List (Packet × List ℕ)). map arrival_of sents) (elsewhere port s (sent_from r (suc k) n) e))
 
-pub read_again : (r : Recipe) (port k n seq latest : ℕ) → EachIsHandled → 1 ≤ r.ports → port < r.ports → k + n ≤ 2 ^ 32 → Came r.ports port k seq → latest ≤ 1000 * k
-    → ReadAgain r port seq latest k (at_port port (sent_from r k n))
-read_again r port k zero seq latest handled some lt few came le = refl
-read_again r port k (suc n) seq latest handled some lt few came le =
-    one_more r port k n seq latest handled some lt (omega (arith, few)) came le ((id_at r k).port == port) refl
-    (λ seq' latest' came' le'. read_again r port (suc k) n seq' latest' handled some lt (omega (arith, few)) came' le')
+pub read_again : (r : Recipe) (six : Bool) (port k n seq latest : ℕ) → EachIsHandled → 1 ≤ r.ports → port < r.ports → k + n ≤ 2 ^ 32 → Came r.ports port k seq → latest ≤ 1000 * k
+    → ReadAgain r six port seq latest k (at_port port (sent_from r k n))
+read_again r six port k zero seq latest handled some lt few came le = refl
+read_again r six port k (suc n) seq latest handled some lt few came le =
+    one_more r six port k n seq latest handled some lt (omega (arith, few)) came le ((id_at r k).port == port) refl
+    (λ seq' latest' came' le'. read_again r six port (suc k) n seq' latest' handled some lt (omega (arith, few)) came' le')

@@ -5,6 +5,7 @@ use Rattle.std.specs.List.{flat_map, AllByRecursion}
 use Rattle.std.proofs.lemmas.Bool.{le-leb}
 use Rattle.std.proofs.lemmas.List.{length-append}
 use Rattle.nf_base.specs.declared.packet.Packet.{Packet}
+use Rattle.nf_base.specs.Doors.{six_at}
 use Rattle.nf_files.specs.Told.{Told}
 use Rattle.pcap_file.specs.Record.{Record, Fits, record_at}
 use Rattle.pcap_file.specs.Capture.{Capture, capture_from, capture_within, capture_of, behind}
@@ -96,10 +97,10 @@ numbers_more number n = let one : n + 1 ≡ suc n = omega arith in ap (numbers_f
 
 -- ---- all of them
 
-packets_are : (r : Recipe) (port : ℕ) → EachIsHandled → IsRecipe r → port < r.ports → packets_in port (Some (made_bytes r port)) ≡ Some (of_port r port 0 r.count)
-packets_are r port handled is lt =
-    ap (option_map (λ (c : Capture). arrivals_from port c.form.unit 0 0 c.records)) (are_whole r port is)
-    ∙ ap (λ (xs : List Arrival). Some xs) (read_again r port 0 r.count 0 0 handled is.some_port lt (omega (arith, is.few)) (none_came r.ports port is.some_port) (omega arith))
+packets_are : (r : Recipe) (six : Bool) (port : ℕ) → EachIsHandled → IsRecipe r → port < r.ports → packets_in six port (Some (made_bytes r port)) ≡ Some (of_port r port 0 r.count)
+packets_are r six port handled is lt =
+    ap (option_map (λ (c : Capture). arrivals_from six port c.form.unit 0 0 c.records)) (are_whole r port is)
+    ∙ ap (λ (xs : List Arrival). Some xs) (read_again r six port 0 r.count 0 0 handled is.some_port lt (omega (arith, is.few)) (none_came r.ports port is.some_port) (omega arith))
 
 pub captures_long : (r : Recipe) (port n : ℕ) → length (captures_from r port n) ≡ n
 captures_long r port zero = refl
@@ -122,20 +123,20 @@ rest_is r mark told port number lt e =
     let here : 0 + port ≡ port = omega arith in
     ap (λ (left : Option (List ℕ)). first_of left (told.rest number)) (left_here (captures_of r) r.ports port number (captures_long r 0 r.ports) e ∙ capture_at r 0 r.ports port lt ∙ ap (λ (p : ℕ). Some (made_bytes r p)) here)
 
-gathered_are : (r : Recipe) (mark : List ℕ) (told : Told) (port n number : ℕ) → EachIsHandled → IsRecipe r → port + n ≡ r.ports → number ≡ first_number r.ports + port
-    → gathered (λ (p file : ℕ). packets_in p ((with_made (captures_of r) mark told).rest file)) port (numbers_from number n) ≡ Some (of_ports r port n 0 r.count)
-gathered_are r mark told port zero number handled is e f = refl
-gathered_are r mark told port (suc n) number handled is e f =
+gathered_are : (six : List Bool) (r : Recipe) (mark : List ℕ) (told : Told) (port n number : ℕ) → EachIsHandled → IsRecipe r → port + n ≡ r.ports → number ≡ first_number r.ports + port
+    → gathered (λ (p file : ℕ). packets_in (six_at six p) p ((with_made (captures_of r) mark told).rest file)) port (numbers_from number n) ≡ Some (of_ports r port n 0 r.count)
+gathered_are six r mark told port zero number handled is e f = refl
+gathered_are six r mark told port (suc n) number handled is e f =
     let lt : port < r.ports = omega (arith, e) in
     let others : List Arrival = of_ports r (port + 1) n 0 r.count in
-    let here : packets_in port ((with_made (captures_of r) mark told).rest number) ≡ Some (of_port r port 0 r.count) = ap (packets_in port) (rest_is r mark told port number lt f) ∙ packets_are r port handled is lt in
-    let more = gathered_are r mark told (port + 1) n (number + 1) handled is (omega (arith, e)) (omega (arith, f)) in
-    ap (both (packets_in port ((with_made (captures_of r) mark told).rest number))) more
+    let here : packets_in (six_at six port) port ((with_made (captures_of r) mark told).rest number) ≡ Some (of_port r port 0 r.count) = ap (packets_in (six_at six port) port) (rest_is r mark told port number lt f) ∙ packets_are r (six_at six port) port handled is lt in
+    let more = gathered_are six r mark told (port + 1) n (number + 1) handled is (omega (arith, e)) (omega (arith, f)) in
+    ap (both (packets_in (six_at six port) port ((with_made (captures_of r) mark told).rest number))) more
     ∙ ap (λ (first : Option (List Arrival)). both first (Some others)) here
 
 pub are_traffic : EachIsHandled → CapturesAreTraffic
-are_traffic handled r mark told is = record {
+are_traffic handled six r mark told is = record {
   all = of_ports r 0 r.ports 0 r.count;
-  packets = gathered_are r mark told 0 r.ports (first_number r.ports) handled is (omega arith) (omega arith);
+  packets = gathered_are six r mark told 0 r.ports (first_number r.ports) handled is (omega arith) (omega arith);
   order = merged r is.some_port 0 r.count;
 }

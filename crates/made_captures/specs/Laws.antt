@@ -1,5 +1,5 @@
 -- Laws of made captures: read again, they are the traffic that they were made of.
-use Rattle.std.specs.Prelude.{◌≡◌, ℕ, ◌≤◌, ◌<◌, ◌^◌, List, map, length, Some, None}
+use Rattle.std.specs.Prelude.{◌≡◌, ℕ, Bool, ◌≤◌, ◌<◌, ◌^◌, List, map, length, Some, None}
 use Rattle.nf_base.specs.declared.packet.Packet.{Packet}
 use Rattle.nf_files.specs.Told.{Told}
 use Rattle.pcap_file.specs.Capture.{capture_of}
@@ -33,11 +33,11 @@ CapturesAreWhole = (r : Recipe) (port : ℕ) → IsRecipe r →
     ≡ Some (record { form = written_form; records = map record_of (at_port port (traffic r)); torn = None })
 
 -- Beside whatever files: the packets of the captures are all of the traffic, with their frames, and in
--- capture order they come as they are made.
-pub record IsTraffic (r : Recipe) (mark : List ℕ) (told : Told) : Type 0 where
+-- capture order they come as they are made, whichever ports have a handler for IPv6.
+pub record IsTraffic (six : List Bool) (r : Recipe) (mark : List ℕ) (told : Told) : Type 0 where
   pub all : List Arrival
-  pub packets : packets_of (numbers_of r.ports) (with_made (captures_of r) mark told) ≡ Some all
+  pub packets : packets_of six (numbers_of r.ports) (with_made (captures_of r) mark told) ≡ Some all
   pub order : in_order all ≡ arrivals_of r
 
 abbrev pub CapturesAreTraffic : Type 0
-CapturesAreTraffic = (r : Recipe) (mark : List ℕ) (told : Told) → IsRecipe r → IsTraffic r mark told
+CapturesAreTraffic = (six : List Bool) (r : Recipe) (mark : List ℕ) (told : Told) → IsRecipe r → IsTraffic six r mark told

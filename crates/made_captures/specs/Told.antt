@@ -1,5 +1,5 @@
 -- What is told of files beside which captures are made.
-use Rattle.std.specs.Prelude.{ℕ, zero, suc, ◌+◌, ◌-◌, ◌^◌, ◌<◌, ◌≡◌, Bool, List, [], ◌∷◌, Option, Some, None, nat_lt, if◌then◌else◌}
+use Rattle.std.specs.Prelude.{ℕ, zero, suc, ◌+◌, ◌-◌, ◌^◌, ◌<◌, ◌≡◌, Bool, List, Option, Some, None, nat_lt, if◌then◌else◌}
 use Rattle.std.proofs.Common.{ap, ◌∙◌, cond, arith}
 use Rattle.std.proofs.lemmas.Bool.{lt-ltb}
 use Rattle.nf_files.specs.Told.{Told}

@@ -1,6 +1,6 @@
 //! Calls on files, feeds and runs. They promise what further calls ask for and no more: what the answers are is
 //! compared, and not proved.
-ghost use Rattle.std.specs.Prelude.{◌≡◌, ◌+◌, ◌≤◌, ◌^◌, ℕ, length, IfOk};
+ghost use Rattle.std.specs.Prelude.{◌≡◌, ◌+◌, ◌≤◌, ℕ, length, IfOk};
 ghost use Rattle.nf_base.specs.Functions.{function_of};
 ghost use Rattle.nf_files.specs.Told.{IsEmptyIfTold};
 ghost use Rattle.packet_feed.specs.Told.{EachFile, IsApart};
@@ -30,15 +30,17 @@ pub fn captures_of(alloc: Global, numbers: [u32; 4]) -> Result<Captures, AllocEr
 pub fn start<F: Files>(
     alloc: Global,
     files: &mut F,
+    func: &Func,
     captures: &[u32],
     most: u32,
 ) -> Result<Feed, FeedFault>
     requires readable { EachFile (F.is_read files.old) captures.now }
     requires apart { IsApart captures.now }
-    requires ports { length captures.now ≤ 2 ^ 32 }
+    requires ports { length captures.now ≡ length func.now.handlers }
+    requires few { length captures.now ≤ 4 }
     ensures readable { IfOk result (λ feed. EachFile (F.is_read files.new) (files_in feed.sources)) }
 {
-    Feed::start(alloc, files, captures, most)
+    Feed::start(alloc, files, func, captures, most)
 }
 
 pub fn next<F: Files>(feed: &mut Feed, files: &mut F) -> Result<Fed, FeedFault>

@@ -37,3 +37,14 @@ pub const WIDE: &str = "nf fw {\n\
   }\n\
 }\n\
 ";
+
+/// A function that drops all packets at so many ports, one to four.
+pub fn dropping(ports: u32) -> &'static str {
+    match ports {
+        0 => "nf x { ports 1; on 0 { } }",
+        1 => "nf x { ports 1; on 0 { } }",
+        2 => "nf x { ports 2; on 0 { } on 1 { } }",
+        3 => "nf x { ports 3; on 0 { } on 1 { } on 2 { } }",
+        _ => "nf x { ports 4; on 0 { } on 1 { } on 2 { } on 3 { } }",
+    }
+}

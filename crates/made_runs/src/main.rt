@@ -1,5 +1,5 @@
 //! Reads captures of made-up traffic beside files, and prints their packets, a line each: seed, how many
-//! packets, of how many flows, at how many ports.
+//! packets, of how many flows, at how many ports, one to four.
 //!
 //! Of each of the first eight packets in capture order it prints the port, the number there, the time in
 //! nanoseconds and the frame; and last a digest of all packets. `fuzz/traffic.py` prints the same.
@@ -19,9 +19,12 @@ mod verdict;
 
 use calls::{captures_of, next, shown, start};
 use digest::Digest;
+use functions::dropping;
 use made_captures::{MadeCaptures, Outputs};
+use nf_base::func::Func;
 use nf_base::packet::PacketId;
 use nf_files::{Files, MemoryFiles};
+use outcome::function;
 use packet_feed::{Fed, Feed};
 use std::alloc::Global;
 use std::io;
@@ -73,28 +76,36 @@ fn tell_from<F: Files>(
     rt: &HostRuntime,
     alloc: Global,
     files: &mut F,
+    func: &Func,
     captures: &[u32],
     count: u32,
 ) -> io::Result<()>
     requires readable { EachFile (F.is_read files.old) captures.now }
     requires apart { IsApart captures.now }
 {
-    if captures.len() > 65_536 {
+    if captures.len() > 4 || captures.len() != func.handlers.len() as usize {
         return Ok(());
     }
-    match start(alloc, files, captures, count) {
+    match start(alloc, files, func, captures, count) {
         Err(fault) => println!(rt; "{fault}"),
         Ok(mut feed) => tell(rt, &mut feed, files, count),
     }
 }
 
-fn show_all(rt: &HostRuntime, alloc: Global, numbers: [u32; 4]) -> io::Result<()> {
+fn show_for(rt: &HostRuntime, alloc: Global, func: &Func, numbers: [u32; 4]) -> io::Result<()> {
     let mut captures = captures_of(alloc, numbers)?;
     let all = captures.numbers(alloc)?;
     let mut files = MemoryFiles::new(alloc, Vec::new(alloc));
     let outputs = Outputs::new(2, 0);
     let mut beside = MadeCaptures::beside(&mut files, &mut captures, outputs);
-    tell_from(rt, alloc, &mut beside, all.as_slice(), numbers[1])
+    tell_from(rt, alloc, &mut beside, func, all.as_slice(), numbers[1])
+}
+
+fn show_all(rt: &HostRuntime, alloc: Global, numbers: [u32; 4]) -> io::Result<()> {
+    match function(alloc, dropping(numbers[3]).as_bytes()) {
+        Some(func) => show_for(rt, alloc, &func, numbers),
+        None => Ok(()),
+    }
 }
 
 fn main(rt: HostRuntime) -> io::Result<()> {

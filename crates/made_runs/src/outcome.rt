@@ -61,7 +61,7 @@ pub struct Outcome {
 const NAMES: [&str; 3] = ["0", "1", "journal"];
 
 /// The function that a text is.
-fn function(alloc: Global, text: &[u8]) -> Option<Func> {
+pub fn function(alloc: Global, text: &[u8]) -> Option<Func> {
     let tree = parse(alloc, text).ok()?;
     check(alloc, &tree).ok()
 }

@@ -9,6 +9,7 @@ mod firewall;
 mod forms;
 mod functions;
 mod gates;
+mod ipv6;
 mod language;
 mod large;
 mod long;

@@ -155,7 +155,7 @@ may_not_lock choice.Lock may = absurd may
 record IsHandled (Refused : Type 0) (c : RunAsked) (told : Told) (packets : List Arrival) (r : Run) : Type 0 where
   handled : AreHandled Refused c.mode c.workers packets r
   legal : IsLegal r
-  first : AreFirst (packets_under c.captures told) packets
+  first : AreFirst (packets_under r.function c.captures told) packets
 
 ported : (Refused : Type 0) (f : Function) (workers : ℕ) (packets : List Arrival) (r : Run) → IsLockRun f workers packets r ⊎ (Refused × IsLoneRun f workers packets r) → InPortOrder workers packets r ⊎ WhereRefused Refused packets r
 ported Refused f workers packets r (inl k) = inl (record { each_once_in_port_order = k.order; by_their_ports = k.own })
@@ -169,7 +169,7 @@ handled_so : (alike : MeetingPacketsHashAlike) (Refused : Type 0) (c : RunAsked)
 handled_so alike Refused c told packets r (inl k) = record {
   handled = inl (record { one = k.alone; each_once_in_capture_order = k.order; by_worker_0 = k.is_run.alone });
   legal = k.is_run.legal;
-  first = are_first c.most (packets_under c.captures told) packets (subst (AreTheFirst c.most (packets_under c.captures told)) k.order k.is_run.packets);
+  first = are_first c.most (packets_under r.function c.captures told) packets (subst (AreTheFirst c.most (packets_under r.function c.captures told)) k.order k.is_run.packets);
 }
 handled_so alike Refused c told packets r (inr (inl k)) = record {
   handled = inr (inl (record {
@@ -182,7 +182,7 @@ handled_so alike Refused c told packets r (inr (inl k)) = record {
     by_their_queues = k.is_run.queues;
   }));
   legal = k.is_run.legal;
-  first = subst (AreFirst (packets_under c.captures told)) k.order k.first;
+  first = subst (AreFirst (packets_under r.function c.captures told)) k.order k.first;
 }
 handled_so alike Refused c told packets r (inr (inr k)) = record {
   handled = inr (inr (record {
@@ -195,9 +195,9 @@ handled_so alike Refused c told packets r (inr (inr k)) = record {
 }
 
 abbrev packets_at : Status → RunAsked → Told → Function → List Arrival → Type 0
-packets_at status c told f packets = ArePackets status c.most (packets_under c.captures told) packets
+packets_at status c told f packets = ArePackets status c.most (packets_under f c.captures told) packets
 
-of_files : (alike : MeetingPacketsHashAlike) (Refused : Type 0) (c : RunAsked) (before now : Told) (status : Status) (packets : List Arrival) (r : Run) → IsRunOf Refused c before packets r → ArePackets status c.most (packets_under c.captures before) packets
+of_files : (alike : MeetingPacketsHashAlike) (Refused : Type 0) (c : RunAsked) (before now : Told) (status : Status) (packets : List Arrival) (r : Run) → IsRunOf Refused c before packets r → ArePackets status c.most (packets_under r.function c.captures before) packets
     → Left before now (before.next + 1 + length c.captures) (name_at c.out (length c.captures)) (bytes_at r) (length c.captures + 2) (length c.captures + 2)
     → Headline (packets_at status c before) Refused c.mode c.workers c.function c.out (before.next + 1 + length c.captures) before now
 of_files alike Refused c before now status packets r is gave left =
@@ -210,7 +210,7 @@ of_end alike Refused c before now (ends.Torn port offset) k done = of_files alik
 of_end alike Refused c before now (ends.TooMany most) k done =
     let first = (handled_so alike Refused c before.told k.arrivals k.run k.is_run.handled).first in
     of_files alike Refused c before.told now.told (TooMany most) k.arrivals k.run k.is_run
-    (k.ending.0, k.ending.1 ∙ k.ending.0, first, subst (HasMore (packets_under c.captures before.told)) k.ending.0 k.ending.2)
+    (k.ending.0, k.ending.1 ∙ k.ending.0, first, subst (HasMore (packets_under k.run.function c.captures before.told)) k.ending.0 k.ending.2)
     k.files
 of_end alike Refused c before now (ends.ShareFull full) k done = absurd done
 

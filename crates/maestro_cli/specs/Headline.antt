@@ -137,11 +137,12 @@ pub record Holds (Gave : Function → List Arrival → Type 0) (Refused : Type 0
 
 -- ---- the statements
 
--- Of `run`: the packets are those of the captures that stood under their names. The files that it creates
--- are numbered behind the text and the captures.
+-- Of `run`: the packets are those of the captures that stood under their names, of which IPv6 frames are
+-- skipped at ports without a handler for them. The files that it creates are numbered behind the text and
+-- the captures.
 abbrev pub HeadlineOfRun : Type 0
 HeadlineOfRun = (was is : ℕ) (c : RunAsked) (before after : Outside) (status : Status) → Answers (Rose was is) (Some (RunCommand c)) before after status → IsDone status →
-    Holds (λ f packets. ArePackets status c.most (packets_under c.captures before.told) packets) (Rose was is) c.mode c.workers c.function c.out (before.told.next + 1 + length c.captures) before after status
+    Holds (λ f packets. ArePackets status c.most (packets_under f c.captures before.told) packets) (Rose was is) c.mode c.workers c.function c.out (before.told.next + 1 + length c.captures) before after status
 
 -- Of `gen`: the packets are those of the traffic that is asked for.
 abbrev pub HeadlineOfGen : Type 0

@@ -3,6 +3,7 @@ pub mod View
 pub mod Laid
 pub mod Functions
 pub mod Names
+pub mod Handlers
 pub mod Statements
 pub mod Limits
 pub mod FitsOnce
@@ -21,3 +22,5 @@ pub mod Locations
 pub mod Shares
 pub mod Orders
 pub mod Runs
+pub mod Families
+pub mod Doors

@@ -1,9 +1,10 @@
 -- Objects, chains and arrays, and which of them a function's text writes.
-use Rattle.std.specs.Prelude.{◌≡◌, ℕ, Bool, false, ◌==◌, List, length, Option, Some, None}
+use Rattle.std.specs.Prelude.{◌≡◌, ℕ, Bool, false, ◌==◌, length, Option, Some, None}
 use Rattle.std.specs.List.{list_any, filter_map, range_with_len}
 use Rattle.nf_base.specs.declared.decl.ObjectId.{ObjectId}
 use Rattle.nf_base.specs.declared.decl.ObjectId.TheVariants as object
 use Rattle.nf_base.specs.Text.{Operation, Touch, Free, Set, Write, Store, Function}
+use Rattle.nf_base.specs.Doors.{blocks}
 use Rattle.nf_base.specs.Statements.{Statement, Ends, Does, Asks, Makes, statements}
 
 -- whether a statement makes entries of a chain
@@ -35,7 +36,7 @@ writes (object.Array array) s = stores_in array s
 
 -- whether a function's text writes an object, at any depth
 abbrev pub is_written : Function → ObjectId → Bool
-is_written f object = list_any (λ block. list_any (writes object) (statements block)) f.handlers
+is_written f object = list_any (λ block. list_any (writes object) (statements block)) (blocks f)
 
 -- the number of a chain among the chains
 abbrev pub chain_number : ObjectId → Option ℕ

@@ -2,9 +2,9 @@
 use Rattle.std.specs.Prelude.{ℕ, ◌==◌, ◌&&◌, Bool, false, List, [], ◌∷◌, ◌++◌, take, drop, Option, Some, None, if◌then◌else◌, map, slice_get, slice_set}
 use Rattle.std.specs.Option.{option_map, option_and_then}
 use Rattle.nf_base.specs.Text.{Guard, Operation, Touch, Free, Set, Write, Store, Question, Get, Find, Test, Creation}
-use Rattle.nf_base.specs.declared.width.Width.TheVariants.{W16}
+use Rattle.nf_base.specs.declared.width.Width.TheVariants.{W8, W16, W32, W48, W128}
 use Rattle.nf_base.specs.declared.packet.Field.{Field}
-use Rattle.nf_base.specs.declared.packet.Field.TheVariants.{Time, Length, SrcMac, DstMac, SrcIp, DstIp, Proto, Ttl, SrcPort, DstPort}
+use Rattle.nf_base.specs.declared.packet.Field.TheVariants.{Time, Length, SrcMac, DstMac, SrcIp, DstIp, SrcIp6, DstIp6, Proto, Ttl, SrcPort, DstPort}
 use Rattle.nf_base.specs.declared.done.Edits.{Edits}
 use Rattle.nf_base.specs.declared.state.Entry.{Entry}
 use Rattle.nf_base.specs.declared.state.Chain.{Chain}
@@ -102,15 +102,17 @@ abbrev pub without : Var → List Var → List Var
 without None vars = vars
 without (Some gone) vars = map (unless_at gone) vars
 
--- the edits with a value for a field; fields that may not be set have none
+-- the edits with a value of so many bits for a field; fields that may not be set have none
 abbrev pub edited : Field → ℕ → Edits → Edits
-edited SrcMac v edits = record edits { src_mac = Some v }
-edited DstMac v edits = record edits { dst_mac = Some v }
-edited SrcIp v edits = record edits { src_ip = Some v }
-edited DstIp v edits = record edits { dst_ip = Some v }
-edited Ttl v edits = record edits { ttl = Some v }
-edited SrcPort v edits = record edits { src_port = Some v }
-edited DstPort v edits = record edits { dst_port = Some v }
+edited SrcMac v edits = record edits { src_mac = Some (narrowed W48 v) }
+edited DstMac v edits = record edits { dst_mac = Some (narrowed W48 v) }
+edited SrcIp v edits = record edits { src_ip = Some (narrowed W32 v) }
+edited DstIp v edits = record edits { dst_ip = Some (narrowed W32 v) }
+edited SrcIp6 v edits = record edits { src_ip6 = Some (narrowed W128 v) }
+edited DstIp6 v edits = record edits { dst_ip6 = Some (narrowed W128 v) }
+edited Ttl v edits = record edits { ttl = Some (narrowed W8 v) }
+edited SrcPort v edits = record edits { src_port = Some (narrowed W16 v) }
+edited DstPort v edits = record edits { dst_port = Some (narrowed W16 v) }
 edited Time v edits = edits
 edited Length v edits = edits
 edited Proto v edits = edits

@@ -8,8 +8,9 @@ use Rattle.nf_base.specs.declared.state.State.{State}
 use Rattle.nf_base.specs.Text.{Function}
 use Rattle.nf_base.specs.Operations.{Stops}
 use Rattle.nf_base.specs.Course.{StoppedAt}
+use Rattle.nf_base.specs.Families.{door_of}
+use Rattle.nf_base.specs.Doors.{handler_at}
 use Rattle.nf_base.specs.Step.{completes}
-use Rattle.std.specs.Prelude.{slice_get}
 
 -- of every chain, the indices that are the queue mod the number of queues
 abbrev pub owns : Share → ℕ → Bool
@@ -36,7 +37,7 @@ pub record IsShareStop (share : Share) (f : Function) (s : State) (packet : Pack
   pub handled : packet.fields ≡ Some fields
   pub own : AreOwn share choices
   pub stops :
-      completes (share_stops share) f s packet.time fields choices (slice_get f.handlers packet.id.port)
+      completes (share_stops share) f s packet.time fields choices (handler_at f (door_of packet.id.port fields))
       ≡ StoppedAt chain []
 
 -- a list that is the first one where the index is own, and else the opening value

@@ -1,5 +1,5 @@
--- One packet's step: expiry, then the handler of its port.
-use Rattle.std.specs.Prelude.{ℕ, Bool, true, ◌&&◌, List, [], ◌∷◌, length, replicate, Option, Some, None, map, slice_get}
+-- One packet's step: expiry, then the handler of its port and family.
+use Rattle.std.specs.Prelude.{ℕ, Bool, true, ◌&&◌, List, [], ◌∷◌, length, replicate, Option, Some, None, map}
 use Rattle.std.specs.Option.{option_map}
 use Rattle.nf_base.specs.declared.decl.ChainDecl.{ChainDecl}
 use Rattle.nf_base.specs.declared.decl.ArrayDecl.{ArrayDecl}
@@ -12,6 +12,8 @@ use Rattle.nf_base.specs.declared.done.Action.{Action}
 use Rattle.nf_base.specs.declared.done.Action.TheVariants.{Skip, Drop}
 use Rattle.nf_base.specs.declared.done.Edits.{Edits}
 use Rattle.nf_base.specs.declared.done.Done.{Done}
+use Rattle.nf_base.specs.Families.{door_of}
+use Rattle.nf_base.specs.Doors.{handler_at}
 use Rattle.nf_base.specs.Chains.{expired, lifetime_of, all_none_due}
 use Rattle.nf_base.specs.Context.{Context, Input}
 use Rattle.nf_base.specs.Operations.{Stops, never}
@@ -32,6 +34,8 @@ no_edits = record {
   dst_mac = None;
   src_ip = None;
   dst_ip = None;
+  src_ip6 = None;
+  dst_ip6 = None;
   ttl = None;
   src_port = None;
   dst_port = None;
@@ -70,7 +74,7 @@ abbrev pub skipped : State → List ℕ → Option StepResult
 skipped s [] = Some (record { state = s; done = record { action = Skip; edits = no_edits; picks = [] } })
 skipped s (i ∷ choices) = None
 
--- how a port's handler goes over the context that it begins with
+-- how a handler goes over the context that it begins with
 abbrev pub completes : Stops → Function → State → ℕ → Fields → List ℕ → Option Block → Completion
 completes stops f s time fields choices None = NoStep
 completes stops f s time fields choices (Some block) =
@@ -92,19 +96,19 @@ routes stops f s time fields choices (Some block) =
 abbrev pub step_of : Stops → Function → State → Packet → List ℕ → Option Fields → Option StepResult
 step_of stops f s packet choices None = skipped s choices
 step_of stops f s packet choices (Some fields) =
-    step_result choices (completes stops f s packet.time fields choices (slice_get f.handlers packet.id.port))
+    step_result choices (completes stops f s packet.time fields choices (handler_at f (door_of packet.id.port fields)))
 
 -- what it does
 abbrev pub record_of : Stops → Function → State → Packet → List ℕ → Option Fields → List Event
 record_of stops f s packet choices None = []
 record_of stops f s packet choices (Some fields) =
-    records stops f s packet.time fields choices (slice_get f.handlers packet.id.port)
+    records stops f s packet.time fields choices (handler_at f (door_of packet.id.port fields))
 
 -- the path that it takes
 abbrev pub route_of : Stops → Function → State → Packet → List ℕ → Option Fields → List PathStep
 route_of stops f s packet choices None = []
 route_of stops f s packet choices (Some fields) =
-    routes stops f s packet.time fields choices (slice_get f.handlers packet.id.port)
+    routes stops f s packet.time fields choices (handler_at f (door_of packet.id.port fields))
 
 -- The step of a packet with these choices, the indices of the entries that it makes. There is none
 -- where a choice is not vacant, is missing or is left over, or where a `new` stops.

@@ -1,5 +1,5 @@
 -- A network function's text, as the definitions see it: the declared `Func` without its boxes.
-use Rattle.std.specs.Prelude.{ℕ, List}
+use Rattle.std.specs.Prelude.{ℕ, List, Option}
 use Rattle.nf_base.specs.declared.packet.Field.{Field}
 use Rattle.nf_base.specs.declared.width.Width.{Width}
 use Rattle.nf_base.specs.declared.expr.Operator.{Operator}
@@ -60,10 +60,15 @@ pub data Block : Type 0 where
   Ask : Question → (hit miss next : Block) → Block
   Make : Creation → (made taken full next : Block) → Block
 
--- a checked function: its declarations, its objects in text order, and one handler a port
+-- a port's handlers: for IPv4, and for IPv6 where it has one
+pub record PortBlocks : Type 0 where
+  pub four : Block
+  pub six : Option Block
+
+-- a checked function: its declarations, its objects in text order, and the handlers of each port
 pub record Function : Type 0 where
   pub name : List ℕ
   pub chains : List ChainDecl
   pub arrays : List ArrayDecl
   pub objects : List ObjectId
-  pub handlers : List Block
+  pub handlers : List PortBlocks

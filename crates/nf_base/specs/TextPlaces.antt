@@ -3,6 +3,7 @@ use Rattle.std.specs.Prelude.{◌≢◌, ℕ, List, [], ◌∷◌, ◌++◌, All
 use Rattle.std.specs.List.{flat_map}
 use Rattle.std.specs.List.Sorted.{IsStrictlyIncreasing}
 use Rattle.nf_base.specs.Text.{Expression, Number, Read, Index, Label, Column, Cell, Both, Given, Guard, Ending, FallsOff, Forward, Flood, Discard, Operation, Touch, Free, Set, Write, Store, Question, Get, Find, Test, Block, Function}
+use Rattle.nf_base.specs.Doors.{blocks}
 use Rattle.nf_base.specs.Statements.{Statement, Ends, Does, Asks, Makes, statements}
 
 -- the cells that an expression reads, each behind those of its index
@@ -78,12 +79,12 @@ places_in s = own_place s ++ statement_reads s
 
 -- the statements of a function, in text order
 abbrev pub all_statements : Function → List Statement
-all_statements f = flat_map statements f.handlers
+all_statements f = flat_map statements (blocks f)
 
 -- The places of a function's text: those of statements rise along each handler, and no two places are
 -- the same. Handlers stand by port, and may stand in another order in the text, which the places
 -- count along.
 pub record HasPlaces (f : Function) : Type 0 where
   pub rising :
-      All (λ (b : Block). IsStrictlyIncreasing (flat_map own_place (statements b))) f.handlers
+      All (λ (b : Block). IsStrictlyIncreasing (flat_map own_place (statements b))) (blocks f)
   pub different : AllPairs (λ a b. a ≢ b) (flat_map places_in (all_statements f))

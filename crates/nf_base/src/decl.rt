@@ -63,7 +63,7 @@ pub struct ArrayDecl {
     pub name: Name,
     pub width: Width,
     /// What the cells hold before the first packet.
-    pub cells: Indexed<u64>,
+    pub cells: Indexed<u128>,
 }
 
 impl ColumnDecl {

@@ -1,21 +1,17 @@
 ghost use Rattle.std.specs.Prelude.{◌≡◌, ◌≤◌, length, map, IfOk};
 ghost use Rattle.nf_base.specs.FitsOnce.{AllFit, AllFit-prop};
-ghost use Rattle.nf_base.specs.Limits.{IsWithinLimits, maps_in, HaveAllShortKeys};
+ghost use Rattle.nf_base.specs.Limits.{maps_in, HaveAllShortKeys};
+ghost use Rattle.std.specs.List.{flat_map};
 ghost use Rattle.nf_base.specs.View.{block_of};
+ghost use Rattle.nf_base.specs.Handlers.{blocks_of};
+ghost use Rattle.nf_base.specs.Doors.{port_blocks};
 
-use crate::block::Block;
-use crate::copy::copied;
 use crate::decl::{ArrayDecl, ChainDecl, Name, ObjectId};
+use crate::handler::Handler;
 use crate::limited::Limited;
+use crate::packet::{Door, Family};
+use crate::port_handlers::{PortHandlers, copied_handlers};
 use std::alloc::{AllocError, Global};
-
-/// What a port does with its packets: at most 32 `get`, `find` and `new`, at most 16 `new`, and at
-/// most 64 blocks open in one another.
-#[derive(Drop)]
-pub struct Handler {
-    pub block: Block,
-    pub ghost within: { IsWithinLimits block },
-}
 
 /// A checked network function. Ports, chains and arrays go by number, from 0, in text order.
 #[derive(Drop)]
@@ -26,35 +22,11 @@ pub struct Func {
     /// The chains and arrays in text order.
     pub objects: Limited<ObjectId, 16>,
     /// One for each port.
-    pub handlers: Limited<Handler, 4>,
+    pub handlers: Limited<PortHandlers, 4>,
     pub ghost some_port: { 1 ≤ length handlers },
     pub ghost maps: { maps_in chains ≤ 16 },
     pub ghost keys: { HaveAllShortKeys chains },
-    pub ghost fits: { AllFit chains (map (λ h. block_of h.block) handlers) } by { AllFit-prop chains (map (λ h. block_of h.block) handlers) },
-}
-
-impl Handler {
-    pub fn copy(&self, alloc: Global) -> Result<Handler, AllocError>
-        ensures { IfOk result (λ copy. block_of copy.block ≡ block_of self.now.block) }
-    {
-        let block = copied(alloc, &self.block)?;
-        Ok(Handler { block })
-    }
-}
-
-fn copied_handlers(
-    alloc: Global,
-    handlers: &Limited<Handler, 4>,
-) -> Result<Limited<Handler, 4>, AllocError>
-    ensures same { IfOk result (λ copy.
-        map (λ h. block_of h.block) copy ≡ map (λ h. block_of h.block) handlers.now) }
-    ensures all { IfOk result (λ copy. length copy ≡ length handlers.now) }
-{
-    let mut all = Limited::new(alloc);
-    for one in handlers.as_slice() {
-        all.push(one.copy(alloc)?)?;
-    }
-    Ok(all)
+    pub ghost fits: { AllFit chains (flat_map port_blocks (map blocks_of handlers)) } by { AllFit-prop chains (flat_map port_blocks (map blocks_of handlers)) },
 }
 
 fn copied_chains(
@@ -84,12 +56,14 @@ fn copied_arrays(
 }
 
 impl Func {
+    ghost use Rattle.std.specs.Prelude.{IfSome, IfNone, None, Some};
     ghost use Rattle.nf_base.specs.Functions.{function_of};
     ghost use Rattle.nf_base.specs.Names.{object_name};
 
     /// The name of a chain or an array: no bytes where there is none of that number.
     pub fn object_name(&self, object: ObjectId) -> &[u8]
-        ensures { result.now ≡ object_name (function_of self.now) object }
+        ensures name { result.now ≡ object_name (function_of self.now) object }
+        ensures short { length result.now ≤ 32 }
     {
         match object {
             ObjectId::Chain(chain) => match self.chains.as_slice().get(chain as usize) {
@@ -100,6 +74,33 @@ impl Func {
                 None => &[],
                 Some(decl) => decl.name.as_slice(),
             },
+        }
+    }
+
+    ghost use Rattle.nf_base.specs.Doors.{handler_at, six_ports, six_at};
+
+    /// The handler of a port for packets of a family, if there is one.
+    pub fn handler_at(&self, door: Door) -> Option<&Handler>
+        ensures some { IfSome result (λ h. handler_at (function_of self.now) door ≡ Some (block_of h.now.block)) }
+        ensures none { IfNone result (handler_at (function_of self.now) door ≡ None) }
+    {
+        if door.port >= self.handlers.len() {
+            return None;
+        }
+        let port = self.handlers.item(door.port);
+        match door.family {
+            Family::Four => Some(&port.four),
+            Family::Six => port.six.as_ref(),
+        }
+    }
+
+    /// Whether a port has a handler for IPv6; not where there is no such port.
+    pub fn has_six(&self, port: u32) -> bool
+        ensures { result ≡ six_at (six_ports (function_of self.now)) port }
+    {
+        match self.handlers.as_slice().get(port as usize) {
+            Some(handlers) => handlers.six.is_some(),
+            None => false,
         }
     }
 

@@ -3,9 +3,12 @@ use Rattle.std.proofs.Common.{◌≡◌, ◌∙◌, ℕ, zero, suc, ◌≤◌, �
 use Rattle.std.proofs.Math.Seq.{take-length, drop-length}
 use Rattle.std.proofs.lemmas.List.Sums.{AllPass-from_list_all, list_all-from_AllPass}
 use Rattle.std.proofs.lemmas.List.{length-map}
+use Rattle.nf_base.specs.Handlers.{blocks_of}
+use Rattle.nf_base.specs.Doors.{handler_at}
+use Rattle.nf_base.specs.Families.{door_of}
 use Rattle.nf_base.specs.declared.done.Done.{Done}
 use Rattle.nf_base.specs.declared.func.Func.{Func}
-use Rattle.nf_base.specs.declared.func.Handler.{Handler}
+use Rattle.nf_base.specs.declared.handler.Handler.{Handler}
 use Rattle.nf_base.specs.Functions.{function_of}
 use Rattle.nf_base.specs.View.{block_of}
 use Rattle.nf_base.specs.declared.packet.Packet.{Packet}
@@ -29,20 +32,19 @@ use Rattle.nf_engine.specs.Stops.{stops_of}
 use Rattle.nf_engine.specs.Course.{Goes}
 use Rattle.nf_engine.specs.Handlings.{Finishes, Runs, StopsAt, completes_for, finished}
 use Rattle.nf_engine.specs.View.{context_of, input_of, completion_of, action_of}
-use Rattle.nf_engine.proofs.Rooms.{handler_at}
 use Rattle.nf_engine.proofs.Vacant.{owns_all}
 
 -- what the run of a handler begins with
 pub record Begins (p : Input) (f : Function) (s : State) (packet : Packet) (fields : Fields) (b : Block) (t : TablesState) (start : Context) : Type 0 where
   pub input_is : input_of p ≡ input f packet.time fields
-  pub handler : slice_get f.handlers packet.id.port ≡ Some b
+  pub handler : handler_at f (door_of packet.id.port fields) ≡ Some b
   pub picks : start.picks ≡ []
   pub context : (left : List ℕ) → context_of t left start ≡ start_context f s packet.time left
 
-pub begins : (p : Input) (f : Func) (s : State) (packet : Packet) (fields : Fields) (h : Handler) (t : TablesState) (start : Context) → p.decls.now ≡ f.chains → p.ports ≡ length f.handlers → p.time ≡ packet.time → p.fields ≡ fields → packet.id.port < length f.handlers → h ≡ get_or f.handlers packet.id.port h → start ≡ record { vars = []; edits = no_edits; picks = [] } → t.state ≡ expired_state (function_of f) packet.time s → Begins p (function_of f) s packet fields (block_of h.block) t start
-begins p f s packet fields h t start decls ports time handled lt is fresh expired = record {
-  input_is = rw (decls, ports, time, handled, length-map f.handlers (λ (g : Handler). block_of g.block)) refl;
-  handler = handler_at f.handlers packet.id.port h lt is;
+pub begins : (p : Input) (f : Func) (s : State) (packet : Packet) (fields : Fields) (h : Handler) (t : TablesState) (start : Context) → p.decls.now ≡ f.chains → p.ports ≡ length f.handlers → p.time ≡ packet.time → p.fields ≡ fields → handler_at (function_of f) (door_of packet.id.port fields) ≡ Some (block_of h.block) → start ≡ record { vars = []; edits = no_edits; picks = [] } → t.state ≡ expired_state (function_of f) packet.time s → Begins p (function_of f) s packet fields (block_of h.block) t start
+begins p f s packet fields h t start decls ports time handled at fresh expired = record {
+  input_is = rw (decls, ports, time, handled, length-map f.handlers blocks_of) refl;
+  handler = at;
   picks = ap (λ (c : Context). c.picks) fresh;
   context = λ left. rw (fresh, expired) refl;
 }

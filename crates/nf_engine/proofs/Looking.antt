@@ -1,6 +1,8 @@
 -- What is run without a write is a packet's step.
 use Rattle.std.proofs.Common.{◌≡◌, ◌∙◌, ap, ap₂, sym, refl, ℕ, suc, Bool, true, false, not, List, [], ◌∷◌, map, Option, Some, None, slice_get, if◌then◌else◌}
 use Rattle.std.proofs.lemmas.Bool.{and_parts}
+use Rattle.nf_base.specs.Doors.{handler_at}
+use Rattle.nf_base.specs.Families.{door_of}
 use Rattle.nf_base.specs.declared.done.Done.{Done}
 use Rattle.nf_base.specs.declared.done.Action.TheVariants.{Skip}
 use Rattle.nf_base.specs.declared.packet.Packet.{Packet}
@@ -51,7 +53,7 @@ pub state_stays : (f : Function) (time : ℕ) (s : State) → all_none_due time 
 state_stays f time s e = ap (λ chains. record s { chains = chains }) (chains_stay time (lifetime_of f.chains) s.chains e)
 
 -- how a handler completes in the undivided step, and its record
-completes_as : (p : Input) (f : Function) (s : State) (packet : Packet) (fields : Fields) (b : Block) (t : TablesState) (start : Context) (choices : List ℕ) → Begins p f s packet fields b t start → completes never f s packet.time fields choices (slice_get f.handlers packet.id.port) ≡ exec never (input_of p) b (context_of t choices start)
+completes_as : (p : Input) (f : Function) (s : State) (packet : Packet) (fields : Fields) (b : Block) (t : TablesState) (start : Context) (choices : List ℕ) → Begins p f s packet fields b t start → completes never f s packet.time fields choices (handler_at f (door_of packet.id.port fields)) ≡ exec never (input_of p) b (context_of t choices start)
 completes_as p f s packet fields b t start choices h =
     rw h.handler
     (ap (λ (q : meant.Input). exec never q b (start_context f s packet.time choices)) (sym h.input_is)

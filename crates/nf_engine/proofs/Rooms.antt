@@ -6,8 +6,14 @@ use Rattle.std.proofs.lemmas.List.Elements.{recursion_from_All}
 use Rattle.std.proofs.lemmas.Option.{slice_get_read, slice_get-map}
 use Rattle.std.proofs.Math.ListN.{get_or-map}
 use Rattle.std.proofs.lemmas.List.{length-map}
+use Rattle.std.proofs.lemmas.List.Elements.{All-contains}
+use Rattle.nf_laws.proofs.Doors.{at_door}
+use Rattle.nf_base.specs.Functions.{function_of}
+use Rattle.nf_base.specs.declared.func.Func.{Func}
+use Rattle.nf_base.specs.declared.packet.Door.{Door}
+use Rattle.nf_base.specs.Doors.{blocks, handler_at}
 use Rattle.nf_base.specs.declared.decl.ChainDecl.{ChainDecl}
-use Rattle.nf_base.specs.declared.func.Handler.{Handler}
+use Rattle.nf_base.specs.declared.handler.Handler.{Handler}
 use Rattle.nf_base.specs.FitsOnce.{AllFit}
 use Rattle.nf_base.specs.Limits.{Fits}
 use Rattle.nf_base.specs.Statements.{Statement, Does, Asks, Makes, statements, is_new, is_lookup, is_entry_question}
@@ -104,16 +110,8 @@ room_at h c no_vars no_picks =
       picks = rw no_picks (omega (arith, few_news, news_is));
     }
 
--- the handler of a port
-pub handler_at : (handlers : List Handler) (i : ℕ) (h : Handler) → i < length handlers → h ≡ get_or handlers i h → slice_get (map (λ (g : Handler). block_of g.block) handlers) i ≡ Some (block_of h.block)
-handler_at handlers i h lt is =
-    let at : slice_get handlers i ≡ Some h = slice_get_read handlers (length handlers) i h refl lt is in
-    rw (slice_get-map (λ (g : Handler). block_of g.block) handlers i, at) refl
-
--- the handler of a port fits where all do
-pub fits_at : (decls : List ChainDecl) (handlers : List Handler) (i : ℕ) (h : Handler) → i < length handlers → h ≡ get_or handlers i h → AllFit decls (map (λ (g : Handler). block_of g.block) handlers) → BlockFits decls (block_of h.block)
-fits_at decls handlers i h lt is all =
-    let blocks = map (λ (g : Handler). block_of g.block) handlers in
-    let inside : i < length blocks = rw (length-map handlers (λ (g : Handler). block_of g.block)) lt in
-    let here : get_or blocks i (block_of h.block) ≡ block_of h.block = get_or-map (λ (g : Handler). block_of g.block) handlers i h ∙ ap (λ (g : Handler). block_of g.block) (sym is) in
-    fits_by decls (block_of h.block) (recursion_from_All (Fits decls) (statements (block_of h.block)) (subst (λ b. All (Fits decls) (statements b)) here (all i (block_of h.block) inside)))
+-- a handler fits where all do
+pub fits_at : (f : Func) (door : Door) (h : Handler) → handler_at (function_of f) door ≡ Some (block_of h.block) → BlockFits f.chains (block_of h.block)
+fits_at f door h at =
+    let all = All-contains (λ (b : Block). All (Fits f.chains) (statements b)) (blocks (function_of f)) (block_of h.block) f.fits (at_door (function_of f) door (block_of h.block) at) in
+    fits_by f.chains (block_of h.block) (recursion_from_All (Fits f.chains) (statements (block_of h.block)) all)

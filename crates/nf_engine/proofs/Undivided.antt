@@ -1,6 +1,8 @@
 -- A share's course is the undivided one, up to where it stops.
 use Rattle.std.proofs.Common.{◌≡◌, ℕ, Bool, true, false, List, map, Option, Some, None, IfNone, if◌then◌else◌, refl, ap, sym, ◌∙◌, ◌⊎◌, inl, inr, ◌&&◌, nat_lt, slice_get}
 use Rattle.std.proofs.lemmas.Bool.{true≢false}
+use Rattle.nf_base.specs.Doors.{handler_at}
+use Rattle.nf_base.specs.Families.{door_of}
 use Rattle.nf_base.specs.Text.{Block, End, Do, Ask, Make}
 use Rattle.nf_base.specs.Chains.{chain_at, is_taken, is_full, maps_of}
 use Rattle.nf_base.specs.Context.{Context, Input, given}
@@ -96,7 +98,7 @@ undivided_step stops f s packet choices r = of_fields packet.fields
 
     of_fields : (o : Option Fields) → step_of stops f s packet choices o ≡ Some r → step_of never f s packet choices o ≡ Some r
     of_fields None e = e
-    of_fields (Some fields) e = of_handler fields (slice_get f.handlers packet.id.port) e
+    of_fields (Some fields) e = of_handler fields (handler_at f (door_of packet.id.port fields)) e
 
 whole_stops_nowhere : (share : Share) → share.of ≡ 1 → (chain : ℕ) (state : Chain) → share_stops share chain state ≡ never chain state
 whole_stops_nowhere share whole chain state = ap (λ n. nat_lt 1 n && none_vacant (owns share) state.slots) whole

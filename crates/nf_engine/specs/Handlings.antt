@@ -1,5 +1,7 @@
 -- What is answered of a whole packet.
 use Rattle.std.specs.Prelude.{◌≡◌, ℕ, Bool, IsTrue, List, [], length, take, drop, Option, Result, Ok, Err, slice_get}
+use Rattle.nf_base.specs.Doors.{handler_at}
+use Rattle.nf_base.specs.Families.{door_of}
 use Rattle.nf_base.specs.declared.packet.Packet.{Packet}
 use Rattle.nf_base.specs.declared.packet.Fields.{Fields}
 use Rattle.nf_base.specs.declared.share.Share.{Share}
@@ -37,7 +39,7 @@ pub record StopsAt (share : Share) (f : Function) (s : State) (packet : Packet) 
 abbrev pub completes_for : Bool → Share → Function → State → Packet → Fields → List ℕ → Completion
 completes_for strict share f s packet fields choices =
     completes (halts strict share) f s packet.time fields choices
-    (slice_get f.handlers packet.id.port)
+    (handler_at f (door_of packet.id.port fields))
 
 -- the step of a handler that came to this answer and this state, where these choices are left
 abbrev pub finished : List ℕ → List ℕ → State → answered.Done → Option StepResult

@@ -19,10 +19,10 @@ use nf_base::done::Action;
 use vig_tables::Tables;
 
 /// A packet goes out at a port that there is.
-fn sent(ports: u32, port: u64) -> Action
+fn sent(ports: u32, port: u128) -> Action
     ensures { result ≡ sent ports port }
 {
-    if port < u64::from(ports) {
+    if port < u128::from(ports) {
         Action::To(port as u32)
     } else {
         Action::Drop

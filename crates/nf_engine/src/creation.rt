@@ -41,7 +41,7 @@ fn without_vacant(p: &Input) -> NewResult
 }
 
 /// Makes an entry at an index that the tables choose.
-fn make_anywhere(tables: &mut Tables, p: &Input, chain: u32, labels: &[u64]) -> NewResult
+fn make_anywhere(tables: &mut Tables, p: &Input, chain: u32, labels: &[u128]) -> NewResult
     requires over { fixed_of tables.old ≡ fixed_in p.now }
     requires each { AreFor (length labels.now) (slice_get p.now.decls.now chain) }
     ensures cause { Finds result p.now chain labels.now (slots_at tables.old chain) }
@@ -61,7 +61,7 @@ fn make_at(
     p: &Input,
     next: Option<u32>,
     chain: u32,
-    labels: &[u64],
+    labels: &[u128],
 ) -> NewResult
     requires over { fixed_of tables.old ≡ fixed_in p.now }
     requires each { AreFor (length labels.now) (slice_get p.now.decls.now chain) }
@@ -94,7 +94,7 @@ fn next_choice(choices: &Picks, picks: &Picks) -> Option<u32>
 
 /// Makes an entry with these labels, if one can be made: at the next of the choices where they are
 /// given.
-fn enter(tables: &mut Tables, p: &Input, picks: &Picks, chain: u32, labels: &[u64]) -> NewResult
+fn enter(tables: &mut Tables, p: &Input, picks: &Picks, chain: u32, labels: &[u128]) -> NewResult
     requires over { fixed_of tables.old ≡ fixed_in p.now }
     requires each { AreFor (length labels.now) (slice_get p.now.decls.now chain) }
     ensures comes { let meant = result_with p.now chain labels.now tables.old.state.chains in

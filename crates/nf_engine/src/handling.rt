@@ -1,5 +1,8 @@
 // The steps of packets, in place on tables.
-ghost use Rattle.std.specs.Prelude.{◌≡◌, ◌<◌, ◌≤◌, [], length, Some, None, IfSome, IfNone};
+ghost use Rattle.std.specs.Prelude.{◌≡◌, ◌<◌, ◌≤◌, [], length, Some, None, IsSome, IfSome, IfNone};
+ghost use Rattle.nf_base.specs.Doors.{IsServed, handler_at};
+ghost use Rattle.nf_base.specs.Families.{door_of};
+ghost use Rattle.nf_base.specs.View.{block_of};
 ghost use Rattle.nf_base.specs.Functions.{function_of};
 ghost use Rattle.nf_base.specs.Shares.{AreOwn, share_stops};
 ghost use Rattle.nf_base.specs.Step.{step, step_by, no_edits};
@@ -12,8 +15,10 @@ use crate::block::exec;
 use crate::context::{Context, Flow, Halt, Input};
 use nf_base::done::{Action, Done, Edits};
 use nf_base::func::Func;
+use nf_base::handler::Handler;
 use nf_base::packet::{Fields, Packet};
 use nf_base::picks::Picks;
+use nf_base::value::door_of;
 use vig_tables::Tables;
 
 /// What the handling of a packet came to.
@@ -34,6 +39,7 @@ pub enum Handled {
 pub fn handle(tables: &mut Tables, func: &Func, packet: &Packet) -> Handled
     requires of_func { tables.old.decls ≡ func.now.chains }
     requires port { packet.now.id.port < length func.now.handlers }
+    requires served { IsServed (function_of func.now) packet.now }
     // It is the undivided step with the indices that were taken, and the share's own step too.
     ensures done { IfDone result (λ done.
         step (function_of func.now) tables.old.state packet.now done.picks
@@ -65,6 +71,7 @@ pub fn handle(tables: &mut Tables, func: &Func, packet: &Packet) -> Handled
 pub fn replay(tables: &mut Tables, func: &Func, packet: &Packet, picks: &Picks) -> Option<Done>
     requires of_func { tables.old.decls ≡ func.now.chains }
     requires port { packet.now.id.port < length func.now.handlers }
+    requires served { IsServed (function_of func.now) packet.now }
     // It is the undivided step, and the share's own step too.
     ensures done { IfSome result (λ done.
         step (function_of func.now) tables.old.state packet.now picks.now
@@ -96,6 +103,7 @@ pub fn replay_granted(
     requires of_func { tables.old.decls ≡ func.now.chains }
     requires whole { tables.old.share.of ≡ 1 }
     requires port { packet.now.id.port < length func.now.handlers }
+    requires served { IsServed (function_of func.now) packet.now }
     ensures done { IfSome result (λ done.
         step (function_of func.now) tables.old.state packet.now picks.now
         ≡ Some (record { state = tables.new.state; done = done })) }
@@ -120,6 +128,7 @@ fn replay_by(
 ) -> Option<Done>
     requires of_func { tables.old.decls ≡ func.now.chains }
     requires port { packet.now.id.port < length func.now.handlers }
+    requires served { IsServed (function_of func.now) packet.now }
     ensures done { IfSome result (λ done.
         step (function_of func.now) tables.old.state packet.now picks.now
         ≡ Some (record { state = tables.new.state; done = done })) }
@@ -153,6 +162,19 @@ fn replay_by(
     }
 }
 
+/// The handler of a port for packets with these fields, where there is one.
+pub fn handler_of<'a>(func: &'a Func, port: u32, fields: &Fields) -> &'a Handler
+    requires { IsSome (handler_at (function_of func.now) (door_of port fields.now)) }
+    ensures { handler_at (function_of func.now) (door_of port fields.now)
+        ≡ Some (block_of result.now.block) }
+{
+    match func.handler_at(door_of(port, fields)) {
+        Some(handler) => handler,
+        // There is one.
+        None => unreachable!(),
+    }
+}
+
 /// Runs the handler of a packet's port, after expiry.
 fn run(
     tables: &mut Tables,
@@ -164,12 +186,14 @@ fn run(
 ) -> Result<Done, Halt>
     requires of_func { tables.old.decls ≡ func.now.chains }
     requires port { packet.now.id.port < length func.now.handlers }
+    requires served { IsServed (function_of func.now) packet.now }
+    requires handled { packet.now.fields ≡ Some fields }
     ensures runs { let old = tables.old in
         let meant = completes_for strict old.share (function_of func.now) old.state packet.now fields in
         Runs result strict old.share choices.entry meant tables.new.state }
     ensures stays { fixed_of tables.new ≡ fixed_of tables.old }
 {
-    let handler = func.handlers.item(packet.id.port);
+    let handler = handler_of(func, packet.id.port, &fields);
     let p = Input {
         decls: func.chains.as_slice(),
         ports: func.handlers.len(),

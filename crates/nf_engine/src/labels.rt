@@ -5,7 +5,7 @@ use std::marker::Model;
 /// The labels of a new entry, at most 136: 8 parts for each of 16 maps, and 8 fixed columns.
 #[derive(Drop)]
 pub struct Labels {
-    values: [u64; 136],
+    values: [u128; 136],
     len: u32,
 }
 
@@ -29,7 +29,7 @@ impl Labels {
         }
     }
 
-    pub fn push(&mut self, value: u64)
+    pub fn push(&mut self, value: u128)
         requires { length self.old < 136 }
         ensures { self.new ≡ self.old ++ value ∷ [] }
     {
@@ -37,7 +37,7 @@ impl Labels {
         self.len += 1;
     }
 
-    pub fn as_slice(&self) -> &[u64]
+    pub fn as_slice(&self) -> &[u128]
         ensures { result.now ≡ self.now }
     {
         &self.values[..self.len as usize]

@@ -28,7 +28,7 @@ fn touch(tables: &mut Tables, time: u64, var: Option<EntryRef>)
     }
 }
 
-fn write(tables: &mut Tables, var: Option<EntryRef>, column: u32, v: u64)
+fn write(tables: &mut Tables, var: Option<EntryRef>, column: u32, v: u128)
     ensures { let chains = on_var (written column v) var tables.old.state.chains in
         tables.new ≡ with_chains chains tables.old }
 {
@@ -59,17 +59,19 @@ fn forget(vars: &mut Vars, var: &Option<EntryRef>)
     }
 }
 
-pub fn set(edits: &mut Edits, field: Field, v: u64)
+pub fn set(edits: &mut Edits, field: Field, v: u128)
     ensures { edits.new ≡ edited field v edits.old }
 {
     match field {
-        Field::SrcMac => edits.src_mac = Some(v),
-        Field::DstMac => edits.dst_mac = Some(v),
-        Field::SrcIp => edits.src_ip = Some(v),
-        Field::DstIp => edits.dst_ip = Some(v),
-        Field::Ttl => edits.ttl = Some(v),
-        Field::SrcPort => edits.src_port = Some(v),
-        Field::DstPort => edits.dst_port = Some(v),
+        Field::SrcMac => edits.src_mac = Some((v % 0x1_0000_0000_0000) as u64),
+        Field::DstMac => edits.dst_mac = Some((v % 0x1_0000_0000_0000) as u64),
+        Field::SrcIp => edits.src_ip = Some((v % 0x1_0000_0000) as u64),
+        Field::DstIp => edits.dst_ip = Some((v % 0x1_0000_0000) as u64),
+        Field::SrcIp6 => edits.src_ip6 = Some(v),
+        Field::DstIp6 => edits.dst_ip6 = Some(v),
+        Field::Ttl => edits.ttl = Some((v % 0x100) as u64),
+        Field::SrcPort => edits.src_port = Some((v % 0x1_0000) as u64),
+        Field::DstPort => edits.dst_port = Some((v % 0x1_0000) as u64),
         Field::Time => {}
         Field::Length => {}
         Field::Proto => {}

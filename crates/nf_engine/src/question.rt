@@ -44,7 +44,7 @@ fn search(
     context: &Context,
     p: &Input,
     chain: u32,
-    i: u64,
+    i: u128,
     guards: &[Guard],
 ) -> Option<u32>
     ensures { let c = context_of tables.now [] context.now in

@@ -46,7 +46,7 @@ fn restamps(tables: &Tables, time: u64, var: Option<EntryRef>) -> bool
 }
 
 /// Whether a write would change a column of a variable's entry.
-fn rewrites(tables: &Tables, var: Option<EntryRef>, column: u32, v: u64) -> bool
+fn rewrites(tables: &Tables, var: Option<EntryRef>, column: u32, v: u128) -> bool
     ensures { result ≡ rewrites column v (entry_in tables.now.state.chains var) }
 {
     match var {
@@ -56,7 +56,7 @@ fn rewrites(tables: &Tables, var: Option<EntryRef>, column: u32, v: u64) -> bool
 }
 
 /// Whether a value is another than the one that stands in a cell, if one does.
-fn differs(v: u64, cell: Option<u64>) -> bool
+fn differs(v: u128, cell: Option<u128>) -> bool
     ensures { result ≡ differs v cell }
 {
     match cell {

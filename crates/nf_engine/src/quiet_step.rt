@@ -1,11 +1,12 @@
 // Packets that are handled without a write.
 ghost use Rattle.std.specs.Prelude.{◌≡◌, ◌<◌, length, Some, true, IfSome, IfNone};
 ghost use Rattle.nf_base.specs.Chains.{all_none_due, lifetime_of};
+ghost use Rattle.nf_base.specs.Doors.{IsServed};
 ghost use Rattle.nf_base.specs.Functions.{function_of};
 ghost use Rattle.nf_engine.specs.Looks.{IfDone, IfNeedsWrite, IsQuietStep, AlwaysWrites};
 
 use crate::context::{Context, Input, Look};
-use crate::handling::{action_of, skipped};
+use crate::handling::{action_of, handler_of, skipped};
 use crate::quiet_block::exec_quietly;
 use nf_base::done::Done;
 use nf_base::func::Func;
@@ -22,6 +23,7 @@ pub fn look(tables: &Tables, func: &Func, packet: &Packet) -> Look
     requires of_func { tables.now.decls ≡ func.now.chains }
     requires whole { tables.now.share.of ≡ 1 }
     requires port { packet.now.id.port < length func.now.handlers }
+    requires served { IsServed (function_of func.now) packet.now }
     // The step makes no entry, and leaves this very state.
     ensures done { IfDone result (λ done.
         IsQuietStep (function_of func.now) tables.now.state packet.now done) }
@@ -45,6 +47,7 @@ fn run(tables: &Tables, func: &Func, packet: &Packet, fields: Fields) -> Option<
     requires of_func { tables.now.decls ≡ func.now.chains }
     requires whole { tables.now.share.of ≡ 1 }
     requires port { packet.now.id.port < length func.now.handlers }
+    requires served { IsServed (function_of func.now) packet.now }
     requires handled { packet.now.fields ≡ Some fields }
     requires none_due { let lifetimes = lifetime_of tables.now.decls in
         all_none_due packet.now.time lifetimes tables.now.state.chains ≡ true }
@@ -53,7 +56,7 @@ fn run(tables: &Tables, func: &Func, packet: &Packet, fields: Fields) -> Option<
     ensures needs { IfNone result
         (AlwaysWrites (function_of func.now) tables.now.state packet.now) }
 {
-    let handler = func.handlers.item(packet.id.port);
+    let handler = handler_of(func, packet.id.port, &fields);
     let p = Input {
         decls: func.chains.as_slice(),
         ports: func.handlers.len(),

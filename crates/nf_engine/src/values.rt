@@ -13,16 +13,16 @@ use nf_base::value::{field_of, narrowed, result_of};
 use nf_base::width::Width;
 use vig_tables::Tables;
 
-fn index(vars: &Vars, var: u32) -> u64
+fn index(vars: &Vars, var: u32) -> u128
     ensures { result ≡ index_of (var_at vars.now var) }
 {
     match vars.at(var) {
         None => 0,
-        Some(at) => u64::from(at.index()),
+        Some(at) => u128::from(at.index()),
     }
 }
 
-fn label(tables: &Tables, vars: &Vars, var: u32, label: u32) -> u64
+fn label(tables: &Tables, vars: &Vars, var: u32, label: u32) -> u128
     ensures { result ≡ label_of label (entry_in tables.now.state.chains (var_at vars.now var)) }
 {
     match vars.at(var) {
@@ -31,7 +31,7 @@ fn label(tables: &Tables, vars: &Vars, var: u32, label: u32) -> u64
     }
 }
 
-fn column(tables: &Tables, vars: &Vars, var: u32, column: u32) -> u64
+fn column(tables: &Tables, vars: &Vars, var: u32, column: u32) -> u128
     ensures { result ≡ column_of column (entry_in tables.now.state.chains (var_at vars.now var)) }
 {
     match vars.at(var) {
@@ -40,12 +40,12 @@ fn column(tables: &Tables, vars: &Vars, var: u32, column: u32) -> u64
     }
 }
 
-pub fn value(tables: &Tables, context: &Context, p: &Input, e: &Expr) -> u64
+pub fn value(tables: &Tables, context: &Context, p: &Input, e: &Expr) -> u128
     ensures { let c = context_of tables.now [] context.now in
         result ≡ value (input_of p.now) c (expression_of e.now) }
 {
     match e {
-        Expr::Number(n) => *n,
+        Expr::Number(n) => u128::from(*n),
         Expr::Read(field) => field_of(p.time, &p.fields, *field),
         Expr::Index { var } => index(&context.vars, *var),
         Expr::Label { var, label: k } => label(tables, &context.vars, *var, *k),
@@ -67,7 +67,7 @@ pub fn value(tables: &Tables, context: &Context, p: &Input, e: &Expr) -> u64
 }
 
 /// A value taken to the width of what it is given to.
-pub fn given(tables: &Tables, context: &Context, p: &Input, g: &Given) -> u64
+pub fn given(tables: &Tables, context: &Context, p: &Input, g: &Given) -> u128
     ensures { let c = context_of tables.now [] context.now in
         result ≡ given (input_of p.now) c (given_of g.now) }
 {

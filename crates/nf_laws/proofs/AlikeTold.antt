@@ -1,6 +1,8 @@
 -- Where a share doesn't stop, its record and its path are the undivided ones.
 use Rattle.std.proofs.Common.{◌≡◌, ℕ, Bool, true, false, nat_lt, List, [], ◌∷◌, map, Option, Some, None, slice_get, refl, ap, ap₂, sym, ◌∙◌, subst, ◌⊎◌, inl, inr, ◌≤◌, ◌&&◌, ◌<◌, arith}
 use Rattle.std.proofs.lemmas.Bool.{ltb-true}
+use Rattle.nf_base.specs.Doors.{handler_at}
+use Rattle.nf_base.specs.Families.{door_of}
 use Rattle.nf_base.specs.declared.packet.Packet.{Packet}
 use Rattle.nf_base.specs.declared.packet.Fields.{Fields}
 use Rattle.nf_base.specs.declared.share.Share.{Share}
@@ -139,7 +141,7 @@ whole_goes (Ended a c) e = refl
 whole_goes NoStep e = cc
 whole_goes (StoppedAt chain left) e = cc
 
-at_handler : (stops : Stops) (f : Function) (s : State) (packet : Packet) (fields : Fields) (choices : List ℕ) (r : StepResult) (handler : Option Block) → slice_get f.handlers packet.id.port ≡ handler →
+at_handler : (stops : Stops) (f : Function) (s : State) (packet : Packet) (fields : Fields) (choices : List ℕ) (r : StepResult) (handler : Option Block) → handler_at f (door_of packet.id.port fields) ≡ handler →
     step_result choices (completes stops f s packet.time fields choices handler) ≡ Some r →
     (step_of never f s packet choices (Some fields) ≡ Some r) × (record_of stops f s packet choices (Some fields) ≡ record_of never f s packet choices (Some fields)) × (route_of stops f s packet choices (Some fields) ≡ route_of never f s packet choices (Some fields))
 at_handler stops f s packet fields choices r None at e = cc
@@ -154,7 +156,7 @@ at_handler stops f s packet fields choices r (Some block) at e =
 of_fields : (stops : Stops) (f : Function) (s : State) (packet : Packet) (choices : List ℕ) (r : StepResult) (o : Option Fields) → step_of stops f s packet choices o ≡ Some r →
     (step_of never f s packet choices o ≡ Some r) × (record_of stops f s packet choices o ≡ record_of never f s packet choices o) × (route_of stops f s packet choices o ≡ route_of never f s packet choices o)
 of_fields stops f s packet choices r None e = (e, refl, refl)
-of_fields stops f s packet choices r (Some fields) e = at_handler stops f s packet fields choices r (slice_get f.handlers packet.id.port) refl e
+of_fields stops f s packet choices r (Some fields) e = at_handler stops f s packet fields choices r (handler_at f (door_of packet.id.port fields)) refl e
 
 pub steps_alike : SharesStepAlike
 steps_alike stops f s packet choices r e = let w = of_fields stops f s packet choices r packet.fields e in record { stepped = w.0; told = w.1; path = w.2 }

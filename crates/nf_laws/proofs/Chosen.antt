@@ -1,6 +1,9 @@
 -- At every state some choices are legal: a free index at each `new` that is to make an entry.
-use Rattle.std.proofs.Common.{◌≡◌, ℕ, suc, Bool, true, false, ◌&&◌, List, [], ◌∷◌, map, Option, Some, None, slice_get, slice_set, if◌then◌else◌, refl, ap, ap₂, sym, ◌∙◌}
+use Rattle.std.proofs.Common.{◌≡◌, ℕ, suc, Bool, true, false, ◌&&◌, List, [], ◌∷◌, map, Option, Some, None, slice_get, slice_set, if◌then◌else◌, refl, ap, ap₂, sym, ◌∙◌, subst}
 use Rattle.std.specs.Option.{option_map}
+use Rattle.std.proofs.lemmas.Option.{same_Some}
+use Rattle.nf_base.specs.Doors.{handler_at}
+use Rattle.nf_base.specs.Families.{door_of}
 use Rattle.nf_base.specs.declared.state.Entry.{Entry}
 use Rattle.nf_base.specs.declared.state.State.{State}
 use Rattle.nf_base.specs.declared.packet.Packet.{Packet}
@@ -15,7 +18,7 @@ use Rattle.nf_base.specs.Course.{Completion, Normal, NoStep, StoppedAt, and_then
 use Rattle.nf_base.specs.Step.{StepResult, step_of, input, start_context, completes}
 use Rattle.nf_laws.specs.Steps.{HasHandler, skips, handles, SomeChoicesAreLegal}
 use Rattle.nf_laws.proofs.Consumed.{left_of, then_then}
-use Rattle.nf_laws.proofs.Legal.{block_at, settles_back, then_normal}
+use Rattle.nf_laws.proofs.Legal.{has_some, settles_back, then_normal}
 
 -- a context with other choices left
 abbrev pub leaving : List ℕ → Context → Context
@@ -143,8 +146,9 @@ legal p (Make n made taken full next) c g h =
 on_port : (f : Function) (s : State) (packet : Packet) (fields : Option Fields) → HasHandler f packet → packet.fields ≡ fields → (choices : List ℕ) × ((r : StepResult) × (step_of never f s packet choices fields ≡ Some r))
 on_port f s packet None h q = ([], (_, refl))
 on_port f s packet (Some fields) (skips none) q = cc
-on_port f s packet (Some fields) (handles lt) q =
-    let there = block_at f.handlers packet.id.port lt in
+on_port f s packet (Some fields) (handles fs q2 has) q =
+    let same : fs ≡ fields = same_Some _ _ (sym q2 ∙ q) in
+    let there = subst (λ (x : Fields). (block : Block) × (handler_at f (door_of packet.id.port x) ≡ Some block)) same (has_some (handler_at f (door_of packet.id.port fs)) has) in
     let block = there.0 in
     let at = there.1 in
     let w = legal (input f packet.time fields) block (start_context f s packet.time []) Normal (λ d. ([], refl)) in

@@ -4,11 +4,11 @@ use Rattle.std.proofs.lemmas.Option.{same_Some}
 use Rattle.std.proofs.lemmas.Bool.{ltb-true, ltb-false}
 use Rattle.nf_base.specs.declared.decl.ChainDecl.{ChainDecl}
 use Rattle.nf_base.specs.declared.packet.Field.{Field}
-use Rattle.nf_base.specs.declared.packet.Field.TheVariants.{Time, Length, SrcMac, DstMac, SrcIp, DstIp, Proto, Ttl, SrcPort, DstPort}
+use Rattle.nf_base.specs.declared.packet.Field.TheVariants.{Time, Length, SrcMac, DstMac, SrcIp, DstIp, SrcIp6, DstIp6, Proto, Ttl, SrcPort, DstPort}
 use Rattle.nf_base.specs.declared.width.Width.TheVariants.{W16}
 use Rattle.nf_base.specs.declared.done.Action.TheVariants.{Drop, To}
 use Rattle.nf_base.specs.declared.done.Edits.{Edits}
-use Rattle.nf_base.specs.Values.{narrowed, is_settable}
+use Rattle.nf_base.specs.Values.{field_width, narrowed, is_settable}
 use Rattle.nf_base.specs.Chains.{no_chain, array_at}
 use Rattle.nf_base.specs.Context.{Context, value, given}
 use Rattle.nf_base.specs.Operations.{stored, edited}
@@ -42,11 +42,13 @@ pub stores_give : StoresGiveCells
 stores_give p c place array at g = stores array (narrowed W16 (value p c at)) (given p c g) c
 
 -- an edit
-edit_here : (field : Field) (v : ℕ) (edits : Edits) → is_settable field ≡ true → edit_of field (edited field v edits) ≡ Some v
+edit_here : (field : Field) (v : ℕ) (edits : Edits) → is_settable field ≡ true → edit_of field (edited field v edits) ≡ Some (narrowed (field_width field) v)
 edit_here SrcMac v edits e = refl
 edit_here DstMac v edits e = refl
 edit_here SrcIp v edits e = refl
 edit_here DstIp v edits e = refl
+edit_here SrcIp6 v edits e = refl
+edit_here DstIp6 v edits e = refl
 edit_here Ttl v edits e = refl
 edit_here SrcPort v edits e = refl
 edit_here DstPort v edits e = refl
@@ -62,6 +64,8 @@ no_edit SrcMac v edits e = cc
 no_edit DstMac v edits e = cc
 no_edit SrcIp v edits e = cc
 no_edit DstIp v edits e = cc
+no_edit SrcIp6 v edits e = cc
+no_edit DstIp6 v edits e = cc
 no_edit Ttl v edits e = cc
 no_edit SrcPort v edits e = cc
 no_edit DstPort v edits e = cc
@@ -71,6 +75,8 @@ edit_other SrcMac SrcMac v edits d = absurd (d refl)
 edit_other DstMac DstMac v edits d = absurd (d refl)
 edit_other SrcIp SrcIp v edits d = absurd (d refl)
 edit_other DstIp DstIp v edits d = absurd (d refl)
+edit_other SrcIp6 SrcIp6 v edits d = absurd (d refl)
+edit_other DstIp6 DstIp6 v edits d = absurd (d refl)
 edit_other Ttl Ttl v edits d = absurd (d refl)
 edit_other SrcPort SrcPort v edits d = absurd (d refl)
 edit_other DstPort DstPort v edits d = absurd (d refl)

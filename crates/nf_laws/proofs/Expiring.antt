@@ -3,6 +3,8 @@ use Rattle.std.proofs.Common.{◌≡◌, ◌<◌, ◌≤◌, ◌+◌, ℕ, zero,
 use Rattle.std.proofs.lemmas.Option.{same_Some}
 use Rattle.std.proofs.lemmas.List.{length-map}
 use Rattle.std.proofs.lemmas.Bool.{cases_Bool, ltb-true, ltb-false}
+use Rattle.nf_base.specs.Doors.{handler_at}
+use Rattle.nf_base.specs.Families.{door_of}
 use Rattle.nf_base.specs.declared.decl.MapDecl.{MapDecl}
 use Rattle.nf_base.specs.declared.packet.Fields.{Fields}
 use Rattle.nf_base.specs.declared.state.Entry.{Entry}
@@ -132,5 +134,5 @@ at_handler f s time fields choices (Some block) = ap (λ (t : State). exec never
 pub expire_first : StepsExpireFirst
 expire_first f s packet fields choices e =
     ap (step_of never f (expired_state f packet.time s) packet choices) e
-    ∙ ap (step_result choices) (at_handler f s packet.time fields choices (slice_get f.handlers packet.id.port))
+    ∙ ap (step_result choices) (at_handler f s packet.time fields choices (handler_at f (door_of packet.id.port fields)))
     ∙ sym (ap (step_of never f s packet choices) e)

@@ -2,6 +2,8 @@
 use Rattle.std.proofs.Common.{◌≡◌, ℕ, Bool, true, false, List, [], ◌∷◌, map, Contains, Option, Some, None, slice_get, if◌then◌else◌, refl, ap, sym, subst}
 use Rattle.std.specs.Option.{option_map}
 use Rattle.std.proofs.lemmas.Option.{same_Some}
+use Rattle.nf_base.specs.Doors.{blocks, handler_at}
+use Rattle.nf_base.specs.Families.{door_of}
 use Rattle.nf_base.specs.declared.packet.Packet.{Packet}
 use Rattle.nf_base.specs.declared.packet.Fields.{Fields}
 use Rattle.nf_base.specs.declared.state.State.{State}
@@ -13,7 +15,8 @@ use Rattle.nf_base.specs.Context.{Context, Input, value, given}
 use Rattle.nf_base.specs.Operations.{Stops, NewResult, Made, Taken, Full, Illegal, Stopped, new_result, with_new, answer, after, bound, key_found, index_found}
 use Rattle.nf_base.specs.Course.{Completion, Normal, Ended, NoStep, StoppedAt, and_then, if_hit, if_new, exec}
 use Rattle.nf_base.specs.Step.{StepResult, if_none_left, step_result, skipped, input, start_context, expired_state, completes, step_of}
-use Rattle.nf_laws.proofs.Listed.{here, at_index}
+use Rattle.nf_laws.proofs.Listed.{here}
+use Rattle.nf_laws.proofs.Doors.{at_door}
 use Rattle.nf_laws.proofs.Within.{in_next, in_hit, in_miss, after_ask, in_made, in_taken, in_full, after_make}
 
 -- a fact of states that what these statements do keeps
@@ -99,14 +102,14 @@ handler_keeps stops f s time fields choices None ok P kept among h = tt
 handler_keeps stops f s time fields choices (Some block) ok P kept among h = exec_keeps stops (input f time fields) ok P kept block (start_context f s time choices) (among block refl) h
 
 fields_keep : (stops : Stops) (f : Function) (s : State) (packet : Packet) (choices : List ℕ) (r : StepResult) (ok : Statement → Type 0) (P : State → Type 0) (o : Option Fields) →
-    ((fields : Fields) → IsKept stops (input f packet.time fields) ok P) → ((block : Block) → Contains f.handlers block → (t : Statement) → Contains (statements block) t → ok t) →
+    ((fields : Fields) → IsKept stops (input f packet.time fields) ok P) → ((block : Block) → Contains (blocks f) block → (t : Statement) → Contains (statements block) t → ok t) →
     P s → P (expired_state f packet.time s) → step_of stops f s packet choices o ≡ Some r → P r.state
 fields_keep stops f s packet choices r ok P None kept among h x e = skip_keeps P s choices r h e
 fields_keep stops f s packet choices r ok P (Some fields) kept among h x e =
-    result_keeps P choices (completes stops f s packet.time fields choices (slice_get f.handlers packet.id.port)) r
-    (handler_keeps stops f s packet.time fields choices (slice_get f.handlers packet.id.port) ok P (kept fields) (λ block at. among block (at_index f.handlers packet.id.port block at)) x) e
+    result_keeps P choices (completes stops f s packet.time fields choices (handler_at f (door_of packet.id.port fields))) r
+    (handler_keeps stops f s packet.time fields choices (handler_at f (door_of packet.id.port fields)) ok P (kept fields) (λ block at. among block (at_door f (door_of packet.id.port fields) block at)) x) e
 
 pub step_keeps : (stops : Stops) (f : Function) (s : State) (packet : Packet) (choices : List ℕ) (r : StepResult) (ok : Statement → Type 0) (P : State → Type 0) →
-    ((fields : Fields) → IsKept stops (input f packet.time fields) ok P) → ((block : Block) → Contains f.handlers block → (t : Statement) → Contains (statements block) t → ok t) →
+    ((fields : Fields) → IsKept stops (input f packet.time fields) ok P) → ((block : Block) → Contains (blocks f) block → (t : Statement) → Contains (statements block) t → ok t) →
     P s → P (expired_state f packet.time s) → step_of stops f s packet choices packet.fields ≡ Some r → P r.state
 step_keeps stops f s packet choices r ok P kept among h x e = fields_keep stops f s packet choices r ok P packet.fields kept among h x e

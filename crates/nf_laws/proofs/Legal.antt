@@ -1,8 +1,11 @@
 -- A step is there exactly where its record is legal and takes each choice.
-use Rattle.std.proofs.Common.{◌≡◌, ◌<◌, ◌≤◌, length, zero, suc, ℕ, true, ◌==◌, List, [], ◌∷◌, ◌++◌, Option, Some, None, slice_get, refl, ap, sym, ◌∙◌, subst, arith, eq-eqb, eqb-true, append-nil, inl, inr}
+use Rattle.std.proofs.Common.{◌≡◌, ◌<◌, ◌≤◌, length, zero, suc, ℕ, true, ◌==◌, List, [], ◌∷◌, ◌++◌, Option, Some, None, slice_get, refl, ap, sym, ◌∙◌, subst, IsSome, arith, eq-eqb, eqb-true, append-nil, inl, inr}
 use Rattle.std.specs.Option.{option_and_then}
 use Rattle.std.proofs.lemmas.Option.{same_Some}
 use Rattle.std.proofs.lemmas.Bool.{cases_Bool}
+use Rattle.nf_laws.proofs.Doors.{none_past}
+use Rattle.nf_base.specs.Doors.{handler_at}
+use Rattle.nf_base.specs.Families.{door_of}
 use Rattle.nf_base.specs.declared.packet.Packet.{Packet}
 use Rattle.nf_base.specs.declared.packet.Fields.{Fields}
 use Rattle.nf_base.specs.declared.state.State.{State}
@@ -83,30 +86,28 @@ leaves f s time fields choices block =
     ap left_of (sym (then_normal (exec never (input f time fields) block (start_context f s time choices))))
     ∙ consumes never (input f time fields) block (start_context f s time choices) Normal (λ _. []) (λ d. refl)
 
-legal : (f : Function) (s : State) (packet : Packet) (choices : List ℕ) (fields : Option Fields) (handler : Option Block) (r : StepResult) → slice_get f.handlers packet.id.port ≡ handler →
-    step_of never f s packet choices fields ≡ Some r → IsLegalRecord (record_of never f s packet choices fields) choices
-legal f s packet [] None handler r at e = record { legal = refl; made = refl }
-legal f s packet (i ∷ choices) None handler r at e = cc
-legal f s packet choices (Some fields) None r at e = let e = rw at at e in cc
-legal f s packet choices (Some fields) (Some block) r at e =
+legal_on : (f : Function) (s : State) (packet : Packet) (choices : List ℕ) (fields : Fields) (handler : Option Block) (r : StepResult) → handler_at f (door_of packet.id.port fields) ≡ handler →
+    step_of never f s packet choices (Some fields) ≡ Some r → IsLegalRecord (record_of never f s packet choices (Some fields)) choices
+legal_on f s packet choices fields None r at e = let e = rw at at e in cc
+legal_on f s packet choices fields (Some block) r at e =
     let told = says (records never f s packet.time fields choices (Some block)) choices [] (sym (leaves f s packet.time fields choices block) ∙ settles choices (completes never f s packet.time fields choices (Some block)) r (rw at at e)) in
     rw at (record { legal = told.0; made = sym (append-nil _) ∙ sym told.1 })
 
+legal : (f : Function) (s : State) (packet : Packet) (choices : List ℕ) (fields : Option Fields) (r : StepResult) →
+    step_of never f s packet choices fields ≡ Some r → IsLegalRecord (record_of never f s packet choices fields) choices
+legal f s packet [] None r e = record { legal = refl; made = refl }
+legal f s packet (i ∷ choices) None r e = cc
+legal f s packet choices (Some fields) r e = legal_on f s packet choices fields (handler_at f (door_of packet.id.port fields)) r refl e
+
 pub steps_legal : StepsAreLegal
-steps_legal f s packet choices r e = legal f s packet choices packet.fields (slice_get f.handlers packet.id.port) r refl e
+steps_legal f s packet choices r e = legal f s packet choices packet.fields r e
 
--- a port of the function has a block
-pub block_at : (blocks : List Block) (port : ℕ) → port < length blocks → (block : Block) × (slice_get blocks port ≡ Some block)
-block_at [] port lt = absurd (omega (arith, lt))
-block_at (b ∷ blocks) zero lt = (b, refl)
-block_at (b ∷ blocks) (suc port) lt = block_at blocks port (omega (arith, lt))
+-- a handler that is there
+pub has_some : {A : Type 0} (o : Option A) → IsSome o → (x : A) × (o ≡ Some x)
+has_some None has = cc
+has_some (Some x) has = (x, refl)
 
-pub no_block : (blocks : List Block) (port : ℕ) → length blocks ≤ port → slice_get blocks port ≡ None
-no_block [] port le = refl
-no_block (b ∷ blocks) zero le = absurd (omega (arith, le))
-no_block (b ∷ blocks) (suc port) le = no_block blocks port (omega (arith, le))
-
-at_port : (f : Function) (s : State) (packet : Packet) (choices : List ℕ) (fields : Fields) (block : Block) → slice_get f.handlers packet.id.port ≡ Some block →
+at_port : (f : Function) (s : State) (packet : Packet) (choices : List ℕ) (fields : Fields) (block : Block) → handler_at f (door_of packet.id.port fields) ≡ Some block →
     IsLegalRecord (record_of never f s packet choices (Some fields)) choices → (r : StepResult) × (step_of never f s packet choices (Some fields) ≡ Some r)
 at_port f s packet choices fields block at h =
     let es = records never f s packet.time fields choices (Some block) in
@@ -120,10 +121,13 @@ back : (f : Function) (s : State) (packet : Packet) (choices : List ℕ) (fields
 back f s packet [] None h q l = (_, refl)
 back f s packet (j ∷ choices) None h q l = let made = l.made in cc
 back f s packet choices (Some fields) (skips none) q l = cc
-back f s packet choices (Some fields) (handles lt) q l = let at = block_at f.handlers packet.id.port lt in at_port f s packet choices fields at.0 at.1 l
+back f s packet choices (Some fields) (handles fs q2 has) q l =
+    let same : fs ≡ fields = same_Some _ _ (sym q2 ∙ q) in
+    let there = subst (λ (x : Fields). (block : Block) × (handler_at f (door_of packet.id.port x) ≡ Some block)) same (has_some (handler_at f (door_of packet.id.port fs)) has) in
+    at_port f s packet choices fields there.0 there.1 l
 
 pub legal_steps : LegalStepsAre
 legal_steps f s packet choices h l = back f s packet choices packet.fields h refl l
 
 pub other_ports : OtherPortsHaveNone
-other_ports f s packet fields choices e le = rw (e, no_block f.handlers packet.id.port le) refl
+other_ports f s packet fields choices e le = rw (e, none_past f.handlers packet.id.port le) refl

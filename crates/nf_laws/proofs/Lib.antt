@@ -1,3 +1,4 @@
+pub mod Doors
 pub mod Listed
 pub mod Plain
 pub mod Consumed

@@ -1,6 +1,8 @@
 -- What a step picks.
 use Rattle.std.proofs.Common.{◌≡◌, ℕ, List, [], ◌∷◌, Option, Some, None, slice_get, refl, ap, sym, ◌∙◌}
 use Rattle.std.proofs.lemmas.Option.{same_Some}
+use Rattle.nf_base.specs.Doors.{handler_at}
+use Rattle.nf_base.specs.Families.{door_of}
 use Rattle.nf_base.specs.declared.packet.Packet.{Packet}
 use Rattle.nf_base.specs.declared.packet.Fields.{Fields}
 use Rattle.nf_base.specs.declared.state.State.{State}
@@ -25,7 +27,7 @@ of_completion choices (StoppedAt chain left) r e = cc
 of_fields : (stops : Stops) (f : Function) (s : State) (packet : Packet) (choices : List ℕ) (fields : Option Fields) (r : StepResult) → step_of stops f s packet choices fields ≡ Some r → r.done.picks ≡ choices
 of_fields stops f s packet [] None r e = ap (λ (x : StepResult). x.done.picks) (sym (same_Some _ _ e))
 of_fields stops f s packet (i ∷ choices) None r e = cc
-of_fields stops f s packet choices (Some fields) r e = of_completion choices (completes stops f s packet.time fields choices (slice_get f.handlers packet.id.port)) r e
+of_fields stops f s packet choices (Some fields) r e = of_completion choices (completes stops f s packet.time fields choices (handler_at f (door_of packet.id.port fields))) r e
 
 pub steps_pick : StepsPickTheirChoices
 steps_pick stops f s packet choices r e = of_fields stops f s packet choices packet.fields r e

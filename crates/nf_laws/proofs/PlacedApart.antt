@@ -6,6 +6,7 @@ use Rattle.std.proofs.lemmas.List.Concat.{flat_map-cons}
 use Rattle.std.proofs.lemmas.Grind.{flat_map-append}
 use Rattle.std.proofs.lemmas.List.Kept.{AllPairs-from_increasing}
 use Rattle.std.proofs.lemmas.List.Elements.{All-contains, Contains-append_right}
+use Rattle.nf_base.specs.Doors.{blocks}
 use Rattle.nf_base.specs.Text.{Block}
 use Rattle.nf_base.specs.Statements.{Statement, statements}
 use Rattle.nf_base.specs.TextPlaces.{own_place, places_in, all_statements}
@@ -46,5 +47,5 @@ of_one_statement f earlier later s t place h e i a b = two (λ x y. x ≢ y) pla
 
 pub places_rise : PlacesRise
 places_rise f block earlier later s t a b h in_text e i x y =
-    let rising = All-contains (λ (b : Block). IsStrictlyIncreasing (flat_map own_place (statements b))) f.handlers block h.rising in_text in
+    let rising = All-contains (λ (b : Block). IsStrictlyIncreasing (flat_map own_place (statements b))) (blocks f) block h.rising in_text in
     two (λ m n. m < n) own_place (statements block) earlier later s t a b (AllPairs-from_increasing (flat_map own_place (statements block)) rising) e i x y

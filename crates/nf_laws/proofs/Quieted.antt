@@ -3,6 +3,8 @@ use Rattle.std.proofs.Common.{◌≡◌, ℕ, suc, Bool, true, false, ◌&&◌, 
 use Rattle.std.specs.Option.{option_map}
 use Rattle.std.proofs.lemmas.Option.{same_Some}
 use Rattle.std.proofs.lemmas.Bool.{and_parts}
+use Rattle.nf_base.specs.Doors.{handler_at}
+use Rattle.nf_base.specs.Families.{door_of}
 use Rattle.nf_base.specs.declared.packet.Packet.{Packet}
 use Rattle.nf_base.specs.declared.packet.Fields.{Fields}
 use Rattle.nf_base.specs.declared.state.Entry.{Entry}
@@ -78,7 +80,7 @@ of_fields : (f : Function) (s : State) (packet : Packet) (choices : List ℕ) (r
 of_fields f s packet [] r None e q = ap (λ (x : StepResult). x.state) (sym (same_Some _ _ q))
 of_fields f s packet (i ∷ choices) r None e q = cc
 of_fields f s packet choices r (Some fields) e q =
-    let handler = slice_get f.handlers packet.id.port in
+    let handler = handler_at f (door_of packet.id.port fields) in
     let w = and_parts (all_none_due packet.time (lifetime_of f.chains) s.chains) (is_quiet (records never f s packet.time fields choices handler)) e in
     result_same (expired_state f packet.time s) choices (completes never f s packet.time fields choices handler) r (handler_same f s packet.time fields choices handler w.1) q ∙ state_stays f packet.time s w.0
 

@@ -2,6 +2,7 @@
 use Rattle.std.proofs.Common.{◌≡◌, ℕ, zero, suc, List, [], ◌∷◌, length, map, replicate, All, Contains, Option, Some, None, slice_get, slice_set, refl, ap, sym, ◌∙◌, subst, inl, inr}
 use Rattle.std.proofs.lemmas.Option.{same_Some}
 use Rattle.std.proofs.lemmas.List.{length-map, length-replicate}
+use Rattle.nf_base.specs.Doors.{blocks}
 use Rattle.nf_base.specs.declared.decl.ColumnDecl.{ColumnDecl}
 use Rattle.nf_base.specs.declared.decl.ChainDecl.{ChainDecl}
 use Rattle.nf_base.specs.declared.decl.ArrayDecl.{ArrayDecl}
@@ -168,7 +169,7 @@ at_element P xs x all h = subst P h.2 (all h.0 x h.1)
 pub step_shape : StepsKeepTheShape
 step_shape stops f s packet choices r fit h e =
     step_keeps stops f s packet choices r (Fits f.chains) (HasShape f) (kept stops f packet.time)
-    (λ block i t j. at_element (Fits f.chains) (statements block) t (at_element (λ (b : Block). All (Fits f.chains) (statements b)) f.handlers block fit i) j) h (expired_shape f packet.time s h) e
+    (λ block i t j. at_element (Fits f.chains) (statements block) t (at_element (λ (b : Block). All (Fits f.chains) (statements b)) (blocks f) block fit i) j) h (expired_shape f packet.time s h) e
 
 -- the opening state
 no_entry : (n i : ℕ) (entry : Entry) → IsLive (replicate n None) i entry → ⊥

@@ -2,6 +2,8 @@
 use Rattle.std.proofs.Common.{◌≡◌, ◌↔◌, ℕ, true, List, [], ◌∷◌, ◌++◌, drop, map, Option, Some, None, slice_get, refl, ap, ap₂, sym, ◌∙◌, subst}
 use Rattle.std.specs.Option.{option_and_then}
 use Rattle.std.proofs.lemmas.Option.{same_Some}
+use Rattle.nf_base.specs.Doors.{handler_at}
+use Rattle.nf_base.specs.Families.{door_of}
 use Rattle.nf_base.specs.declared.packet.Fields.{Fields}
 use Rattle.nf_base.specs.declared.share.Share.{Share}
 use Rattle.nf_base.specs.declared.state.State.{State}
@@ -183,7 +185,7 @@ at_handler share f s time fields choices chain left (Some block) = stops_are_tol
 
 pub share_stops_told : ShareStopsAreTold
 share_stops_told share f s packet fields choices chain e =
-    let handler = slice_get f.handlers packet.id.port in
+    let handler = handler_at f (door_of packet.id.port fields) in
     let at = at_handler share f s packet.time fields choices chain [] handler in
     let same : recorded_by (share_stops share) f s packet choices ≡ records (share_stops share) f s packet.time fields choices handler = ap (record_of (share_stops share) f s packet choices) e in (
       λ h. (h.own, subst (λ es. ToldStop es choices chain []) (sym same) (at.0 h.stops)),

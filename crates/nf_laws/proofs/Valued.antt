@@ -5,7 +5,7 @@ use Rattle.std.proofs.Math.Nat.{mod-lt, mod-eq_of_lt, add-mod_right, div-le_self
 use Rattle.std.proofs.lemmas.Nat.{div-add-mod', and_le_l}
 use Rattle.std.proofs.lemmas.Nat.Bits.{bit_at_and}
 use Rattle.nf_base.specs.declared.width.Width.{Width}
-use Rattle.nf_base.specs.declared.width.Width.TheVariants.{W8, W16, W32, W48, W64}
+use Rattle.nf_base.specs.declared.width.Width.TheVariants.{W8, W16, W32, W48, W64, W128}
 use Rattle.nf_base.specs.declared.expr.Operator.TheVariants.{Plus, Minus, Times, Over, Modulo, And}
 use Rattle.nf_base.specs.Values.{bits, result_of}
 use Rattle.nf_laws.specs.Values.{HaveTheirWidths, FieldsAreRead, ValuesAreNarrowed, Saturates, Divides, OperatorsCompute, ValuesStayInBounds, ComparisonsCompare}
@@ -23,6 +23,7 @@ positive W16 = omega arith
 positive W32 = omega arith
 positive W48 = omega arith
 positive W64 = omega arith
+positive W128 = omega arith
 
 pub values_narrowed : ValuesAreNarrowed
 values_narrowed w v = record { below = mod-lt v (positive w); fits = λ lt. mod-eq_of_lt lt; round = add-mod_right v (2 ^ bits w) }
@@ -38,10 +39,10 @@ saturates a b = record {
   most_product = λ le. of_most (a * b) le;
 }
   where
-    of_product : (n : ℕ) → n < 2 ^ 64 → min n (2 ^ 64 - 1) ≡ n
+    of_product : (n : ℕ) → n < 2 ^ 128 → min n (2 ^ 128 - 1) ≡ n
     of_product n lt = omega (arith, lt)
 
-    of_most : (n : ℕ) → 2 ^ 64 ≤ n → min n (2 ^ 64 - 1) ≡ 2 ^ 64 - 1
+    of_most : (n : ℕ) → 2 ^ 128 ≤ n → min n (2 ^ 128 - 1) ≡ 2 ^ 128 - 1
     of_most n le = omega (arith, le)
 
 by_some : (b : ℕ) → 0 < b → (b == 0) ≡ false
@@ -67,14 +68,14 @@ divides a b = record {
 pub operators_compute : OperatorsCompute
 operators_compute a b = record { saturates = saturates a b; divides = divides a b; common = λ i. bit_at_and a b i }
 
-if_bound : (c : Bool) (x : ℕ) → x < 2 ^ 64 → (if c then 0 else x) < 2 ^ 64
+if_bound : (c : Bool) (x : ℕ) → x < 2 ^ 128 → (if c then 0 else x) < 2 ^ 128
 if_bound true x lt = omega arith
 if_bound false x lt = lt
 
-under : (x a : ℕ) → x ≤ a → a < 2 ^ 64 → x < 2 ^ 64
+under : (x a : ℕ) → x ≤ a → a < 2 ^ 128 → x < 2 ^ 128
 under x a le lt = omega (arith, le, lt)
 
-at_most : (n : ℕ) → min n (2 ^ 64 - 1) < 2 ^ 64
+at_most : (n : ℕ) → min n (2 ^ 128 - 1) < 2 ^ 128
 at_most n = omega arith
 
 pub values_stay : ValuesStayInBounds

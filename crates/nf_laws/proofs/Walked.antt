@@ -2,6 +2,8 @@
 use Rattle.std.proofs.Common.{◌≡◌, ℕ, Bool, true, false, List, [], ◌∷◌, ◌++◌, map, Contains, Option, Some, None, slice_get, if◌then◌else◌, refl, ap, sym, ◌∙◌, subst, inl, inr}
 use Rattle.std.specs.Option.{option_map}
 use Rattle.std.proofs.lemmas.List.Elements.{Contains-append_left, Contains-append_right}
+use Rattle.nf_base.specs.Doors.{handler_at}
+use Rattle.nf_base.specs.Families.{door_of}
 use Rattle.nf_base.specs.declared.packet.Packet.{Packet}
 use Rattle.nf_base.specs.declared.packet.Fields.{Fields}
 use Rattle.nf_base.specs.declared.state.State.{State}
@@ -158,7 +160,7 @@ at_handler f s time fields choices (Some block) = along never (input f time fiel
 
 of_fields : (f : Function) (s : State) (packet : Packet) (choices : List ℕ) (fields : Option Fields) → Along (record_of never f s packet choices fields) (route_of never f s packet choices fields)
 of_fields f s packet choices None = record { told = λ legal. refl }
-of_fields f s packet choices (Some fields) = at_handler f s packet.time fields choices (slice_get f.handlers packet.id.port)
+of_fields f s packet choices (Some fields) = at_handler f s packet.time fields choices (handler_at f (door_of packet.id.port fields))
 
 pub outcomes_walk : OutcomesAreAlongPaths
 outcomes_walk f s packet choices = (of_fields f s packet choices packet.fields).told

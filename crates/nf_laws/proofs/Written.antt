@@ -2,6 +2,9 @@
 use Rattle.std.proofs.Common.{◌≡◌, ℕ, Bool, true, false, ◌||◌, List, [], ◌∷◌, Contains, Option, Some, None, slice_get, refl, ap, ◌∙◌, subst, ◌⊎◌, inl, inr, eq-eqb, eqb-true}
 use Rattle.std.specs.List.{list_any}
 use Rattle.std.proofs.lemmas.Option.{same_Some}
+use Rattle.nf_base.specs.declared.packet.Door.{Door}
+use Rattle.nf_base.specs.Doors.{blocks, handler_at}
+use Rattle.nf_base.specs.Families.{door_of}
 use Rattle.nf_base.specs.declared.decl.ObjectId.{ObjectId}
 use Rattle.nf_base.specs.declared.decl.ObjectId.TheVariants as object
 use Rattle.nf_base.specs.declared.packet.Packet.{Packet}
@@ -16,7 +19,8 @@ use Rattle.nf_base.specs.Events.{Event, Tested, LookedUp, Found, AskedNew, Entry
 use Rattle.nf_base.specs.Step.{input, start_context, records, record_of}
 use Rattle.nf_laws.specs.Telling.{Reads, by_index, by_label, by_column, by_cell, in_index, in_left, in_right, DoesThen, touches, frees_it, set_reads, write_reads, writes_it, store_index, store_reads, stores_it, AsksThen, key_reads, looks_up, index_reads, guard_reads, finds, left_reads, right_reads, tests, Tells, ends, does, asks, label_reads, makes, ToldBy}
 use Rattle.nf_laws.specs.Objects.{Writes, by_new, by_store, Writer, WrittenIsByTheText, PacketsWriteWhatIsWritten}
-use Rattle.nf_laws.proofs.Listed.{here, there, has, has_none, at_index}
+use Rattle.nf_laws.proofs.Listed.{here, there, has, has_none}
+use Rattle.nf_laws.proofs.Doors.{at_door}
 use Rattle.nf_laws.proofs.Within.{stands_in, in_stands}
 use Rattle.nf_laws.proofs.Numbered.{only_news}
 use Rattle.nf_laws.proofs.Coming.{nothing_else, courses_of_text}
@@ -68,12 +72,12 @@ writes_test : (o : ObjectId) (s : Statement) → Writes o s → writes o s ≡ t
 writes_test o s (by_new n) = eq-eqb n.chain n.chain refl
 writes_test o s (by_store place array at g) = eq-eqb array array refl
 
-written_by : (f : Function) (block : Block) (s : Statement) (o : ObjectId) → Contains f.handlers block → Contains (statements block) s → Writes o s → is_written f o ≡ true
-written_by f block s o h i w = any_of (λ b. list_any (writes o) (statements b)) f.handlers block h (any_of (writes o) (statements block) s i (writes_test o s w))
+written_by : (f : Function) (block : Block) (s : Statement) (o : ObjectId) → Contains (blocks f) block → Contains (statements block) s → Writes o s → is_written f o ≡ true
+written_by f block s o h i w = any_of (λ b. list_any (writes o) (statements b)) (blocks f) block h (any_of (writes o) (statements block) s i (writes_test o s w))
 
 writer : (f : Function) (o : ObjectId) → is_written f o ≡ true → Writer f o
 writer f o e =
-    let b = some_of (λ block. list_any (writes o) (statements block)) f.handlers e in
+    let b = some_of (λ block. list_any (writes o) (statements block)) (blocks f) e in
     let s = some_of (writes o) (statements b.0) b.2 in
     record { block = b.0; statement = s.0; handler = b.1; stands = in_stands s.0 b.0 s.1; writes = test_writes o s.0 s.2 }
 
@@ -134,17 +138,17 @@ tells_gives stops p c s e o (label_reads n v d h r) g = not_read p c v.value d o
 tells_gives stops p c s e o (makes n) g = subst (λ (x : ObjectId). Writes x (Makes n)) (same_Some _ _ g) (by_new n)
 
 -- what a packet gives something is written by the text
-in_block : (f : Function) (p : Input) (block : Block) (c : Context) (e : Event) (o : ObjectId) → Contains f.handlers block → ToldBy never p block c e → given_object e ≡ Some o → is_written f o ≡ true
+in_block : (f : Function) (p : Input) (block : Block) (c : Context) (e : Event) (o : ObjectId) → Contains (blocks f) block → ToldBy never p block c e → given_object e ≡ Some o → is_written f o ≡ true
 in_block f p block c e o h t g = written_by f block t.statement o h (courses_of_text never p block c t.statement t.context t.comes) (tells_gives never p t.context t.statement e o t.tells g)
 
-at_handler : (f : Function) (s : State) (time : ℕ) (fields : Fields) (choices : List ℕ) (port : ℕ) (handler : Option Block) (e : Event) (o : ObjectId) → slice_get f.handlers port ≡ handler →
+at_handler : (f : Function) (s : State) (time : ℕ) (fields : Fields) (choices : List ℕ) (door : Door) (handler : Option Block) (e : Event) (o : ObjectId) → handler_at f door ≡ handler →
     Contains (records never f s time fields choices handler) e → given_object e ≡ Some o → is_written f o ≡ true
-at_handler f s time fields choices port None e o at h g = absurd (has_none e h)
-at_handler f s time fields choices port (Some block) e o at h g = in_block f (input f time fields) block (start_context f s time choices) e o (at_index f.handlers port block at) (nothing_else never (input f time fields) block _ e h) g
+at_handler f s time fields choices door None e o at h g = absurd (has_none e h)
+at_handler f s time fields choices door (Some block) e o at h g = in_block f (input f time fields) block (start_context f s time choices) e o (at_door f door block at) (nothing_else never (input f time fields) block _ e h) g
 
 of_fields : (f : Function) (s : State) (packet : Packet) (choices : List ℕ) (fields : Option Fields) (e : Event) (o : ObjectId) → Contains (record_of never f s packet choices fields) e → given_object e ≡ Some o → is_written f o ≡ true
 of_fields f s packet choices None e o h g = absurd (has_none e h)
-of_fields f s packet choices (Some fields) e o h g = at_handler f s packet.time fields choices packet.id.port (slice_get f.handlers packet.id.port) e o refl h g
+of_fields f s packet choices (Some fields) e o h g = at_handler f s packet.time fields choices (door_of packet.id.port fields) (handler_at f (door_of packet.id.port fields)) e o refl h g
 
 pub packets_write : PacketsWriteWhatIsWritten
 packets_write f s packet choices = record {

@@ -16,7 +16,9 @@
 --     flood;
 --   }
 -- }
-use Rattle.std.specs.Prelude.{◌≡◌, ℕ, ◌+◌, [], ◌∷◌, Option, Some}
+use Rattle.std.specs.Prelude.{◌≡◌, ℕ, ◌+◌, [], ◌∷◌, Option, Some, map}
+use Rattle.nf_base.specs.Doors.{only_four}
+use Rattle.nf_base.specs.declared.packet.Addresses.TheVariants as addresses
 use Rattle.nf_base.specs.declared.width.Width.TheVariants.{W8, W48}
 use Rattle.nf_base.specs.declared.decl.ObjectId.TheVariants as object
 use Rattle.nf_base.specs.declared.packet.Field.TheVariants.{SrcMac, DstMac}
@@ -59,7 +61,7 @@ bridge = record {
   } ∷ [];
   arrays = [];
   objects = object.Chain 0 ∷ [];
-  handlers = bridged 0 0 ∷ bridged 3 1 ∷ [];
+  handlers = map only_four (bridged 0 0 ∷ bridged 3 1 ∷ []);
 }
 
 -- a frame from a MAC address to another
@@ -68,8 +70,7 @@ between a b = Some (record {
   length = 42;
   src_mac = a;
   dst_mac = b;
-  src_ip = 0;
-  dst_ip = 0;
+  addresses = addresses.Four 0 0;
   proto = 17;
   ttl = 64;
   src_port = 0;

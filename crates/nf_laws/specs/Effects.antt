@@ -3,14 +3,14 @@ use Rattle.std.specs.Prelude.{◌≡◌, ◌≢◌, ◌<◌, ◌≤◌, ℕ, max
 use Rattle.nf_base.specs.declared.decl.ChainDecl.{ChainDecl}
 use Rattle.nf_base.specs.declared.decl.ColumnDecl.{ColumnDecl}
 use Rattle.nf_base.specs.declared.packet.Field.{Field}
-use Rattle.nf_base.specs.declared.packet.Field.TheVariants.{Time, Length, SrcMac, DstMac, SrcIp, DstIp, Proto, Ttl, SrcPort, DstPort}
+use Rattle.nf_base.specs.declared.packet.Field.TheVariants.{Time, Length, SrcMac, DstMac, SrcIp, DstIp, SrcIp6, DstIp6, Proto, Ttl, SrcPort, DstPort}
 use Rattle.nf_base.specs.declared.width.Width.TheVariants.{W16}
 use Rattle.nf_base.specs.declared.done.Action.TheVariants.{Drop, Flood, To}
 use Rattle.nf_base.specs.declared.done.Edits.{Edits}
 use Rattle.nf_base.specs.declared.state.Entry.{Entry}
 use Rattle.nf_base.specs.declared.state.Chain.{Chain}
 use Rattle.nf_base.specs.declared.state.State.{State}
-use Rattle.nf_base.specs.Values.{narrowed, is_settable}
+use Rattle.nf_base.specs.Values.{field_width, narrowed, is_settable}
 use Rattle.nf_base.specs.Text.{Expression, Given, FallsOff, Forward, Discard, Touch, Free, Set, Write, Store, Creation, End}
 use Rattle.nf_base.specs.Text as text
 use Rattle.nf_base.specs.Chains.{chain_at, array_at, maps_of, zeros_of, lifetime_of}
@@ -129,6 +129,8 @@ edit_of SrcMac edits = edits.src_mac
 edit_of DstMac edits = edits.dst_mac
 edit_of SrcIp edits = edits.src_ip
 edit_of DstIp edits = edits.dst_ip
+edit_of SrcIp6 edits = edits.src_ip6
+edit_of DstIp6 edits = edits.dst_ip6
 edit_of Ttl edits = edits.ttl
 edit_of SrcPort edits = edits.src_port
 edit_of DstPort edits = edits.dst_port
@@ -136,10 +138,10 @@ edit_of Time edits = None
 edit_of Length edits = None
 edit_of Proto edits = None
 
--- a field that may be set has the value, and all other fields, the state, the variables and the
+-- a field that may be set has the value in its width, and all other fields, the state, the variables and the
 -- choices are as before
 pub record Sets (field : Field) (v : ℕ) (c d : Context) : Type 0 where
-  pub value_now : is_settable field ≡ true → edit_of field d.edits ≡ Some v
+  pub value_now : is_settable field ≡ true → edit_of field d.edits ≡ Some (narrowed (field_width field) v)
   pub none : is_settable field ≡ false → d.edits ≡ c.edits
   pub fields : (other : Field) → other ≢ field → edit_of other d.edits ≡ edit_of other c.edits
   pub state : d.state ≡ c.state

@@ -13,7 +13,8 @@
 --     drop;
 --   }
 -- }
-use Rattle.std.specs.Prelude.{◌≡◌, ℕ, Bool, true, false, List, [], ◌∷◌, Option, Some, None}
+use Rattle.std.specs.Prelude.{◌≡◌, ℕ, Bool, true, false, List, [], ◌∷◌, Option, Some, None, map}
+use Rattle.nf_base.specs.Doors.{only_four}
 use Rattle.nf_base.specs.declared.width.Width.TheVariants.{W16, W32}
 use Rattle.nf_base.specs.declared.decl.ObjectId.TheVariants as object
 use Rattle.nf_base.specs.declared.packet.Field.TheVariants.{SrcIp, DstIp, SrcPort, DstPort}
@@ -63,7 +64,7 @@ firewall size = record {
   } ∷ [];
   arrays = [];
   objects = object.Chain 0 ∷ [];
-  handlers = outward ∷ inward ∷ [];
+  handlers = map only_four (outward ∷ inward ∷ []);
 }
 
 -- one packet out, and its answer

@@ -25,7 +25,8 @@
 --     drop;
 --   }
 -- }
-use Rattle.std.specs.Prelude.{◌≡◌, List, [], ◌∷◌, Option, Some}
+use Rattle.std.specs.Prelude.{◌≡◌, List, [], ◌∷◌, Option, Some, map}
+use Rattle.nf_base.specs.Doors.{only_four}
 use Rattle.nf_base.specs.declared.width.Width.TheVariants.{W16, W32}
 use Rattle.nf_base.specs.declared.expr.Operator.TheVariants.{Plus, Minus}
 use Rattle.nf_base.specs.declared.expr.Comparison.TheVariants.{Less}
@@ -95,7 +96,7 @@ nat = record {
   } ∷ [];
   arrays = [];
   objects = object.Chain 0 ∷ [];
-  handlers = outward ∷ inward ∷ [];
+  handlers = map only_four (outward ∷ inward ∷ []);
 }
 
 -- out, an answer back, a packet from somebody else, and one to a port that no entry has

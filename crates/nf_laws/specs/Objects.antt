@@ -1,5 +1,6 @@
 -- Which objects a text writes, and which an event is on.
 use Rattle.std.specs.Prelude.{◌≡◌, ◌↔◌, ℕ, Bool, true, List, Option, Some, Contains}
+use Rattle.nf_base.specs.Doors.{blocks}
 use Rattle.nf_base.specs.declared.decl.ChainDecl.{ChainDecl}
 use Rattle.nf_base.specs.declared.decl.ObjectId.{ObjectId}
 use Rattle.nf_base.specs.declared.decl.ObjectId.TheVariants as object
@@ -52,7 +53,7 @@ pub data Writes : ObjectId → Statement → Type 0 where
 pub record Writer (f : Function) (o : ObjectId) : Type 0 where
   pub block : Block
   pub statement : Statement
-  pub handler : Contains f.handlers block
+  pub handler : Contains (blocks f) block
   pub stands : Stands statement block
   pub writes : Writes o statement
 

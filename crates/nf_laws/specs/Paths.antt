@@ -1,5 +1,7 @@
 -- The path that a course takes, and the paths of its text.
 use Rattle.std.specs.Prelude.{◌≡◌, ℕ, Bool, true, false, ◌&&◌, List, [], ◌∷◌, Some, Contains, slice_get}
+use Rattle.nf_base.specs.Doors.{handler_at}
+use Rattle.nf_base.specs.Families.{door_of}
 use Rattle.nf_base.specs.declared.packet.Packet.{Packet}
 use Rattle.nf_base.specs.declared.packet.Fields.{Fields}
 use Rattle.nf_base.specs.declared.state.State.{State}
@@ -27,7 +29,7 @@ abbrev pub PacketsTakePaths : Type 0
 PacketsTakePaths =
     (f : Function) (s : State) (packet : Packet) (fields : Fields) (choices : List ℕ)
     (block : Block) →
-    packet.fields ≡ Some fields → slice_get f.handlers packet.id.port ≡ Some block →
+    packet.fields ≡ Some fields → handler_at f (door_of packet.id.port fields) ≡ Some block →
     IsPathOf block (path_taken f s packet choices)
 
 -- where each `new` got an answer, the outcomes of the record are those along the path

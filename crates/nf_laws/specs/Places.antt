@@ -1,6 +1,7 @@
 -- The text places of events.
 use Rattle.std.specs.Prelude.{◌≡◌, ◌↔◌, ◌<◌, ℕ, Bool, List, [], ◌∷◌, ◌++◌, Option, Some, Contains}
 use Rattle.std.specs.List.{flat_map}
+use Rattle.nf_base.specs.Doors.{blocks}
 use Rattle.nf_base.specs.Text.{Block, Function}
 use Rattle.nf_base.specs.Statements.{Statement, statements}
 use Rattle.nf_base.specs.Context.{Context, Input}
@@ -44,5 +45,5 @@ PlacesAreOfOneStatement =
 abbrev pub PlacesRise : Type 0
 PlacesRise =
     (f : Function) (block : Block) (earlier later : List Statement) (s t : Statement) (a b : ℕ) →
-    HasPlaces f → Contains f.handlers block → statements block ≡ earlier ++ s ∷ later →
+    HasPlaces f → Contains (blocks f) block → statements block ≡ earlier ++ s ∷ later →
     Contains later t → Contains (own_place s) a → Contains (own_place t) b → a < b

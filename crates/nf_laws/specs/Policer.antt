@@ -15,7 +15,8 @@
 --     drop;
 --   }
 -- }
-use Rattle.std.specs.Prelude.{◌≡◌, ℕ, List, [], ◌∷◌, Option, Some, None}
+use Rattle.std.specs.Prelude.{◌≡◌, ℕ, List, [], ◌∷◌, Option, Some, None, map}
+use Rattle.nf_base.specs.Doors.{only_four}
 use Rattle.nf_base.specs.declared.width.Width.TheVariants.{W32, W64}
 use Rattle.nf_base.specs.declared.expr.Operator.TheVariants.{Plus}
 use Rattle.nf_base.specs.declared.expr.Comparison.TheVariants.{Greater}
@@ -53,7 +54,7 @@ policer = record {
   } ∷ [];
   arrays = [];
   objects = object.Chain 0 ∷ [];
-  handlers = forwards 1 ∷ policed ∷ [];
+  handlers = map only_four (forwards 1 ∷ policed ∷ []);
 }
 
 -- a packet to a host

@@ -1,6 +1,7 @@
 -- Runs, their reports and their numbers.
 use Rattle.std.specs.Prelude.{◌≡◌, ◌↔◌, true, List, [], ◌∷◌, ◌++◌, length, map, All, Contains, Option, Some, None}
 use Rattle.std.specs.Option.{option_and_then}
+use Rattle.nf_base.specs.Doors.{blocks}
 use Rattle.nf_base.specs.declared.packet.Packet.{Packet}
 use Rattle.nf_base.specs.declared.state.State.{State}
 use Rattle.nf_base.specs.declared.done.Done.{Done}
@@ -52,7 +53,7 @@ RunsKeepSoundness =
 -- the same of the shape, where each `new` gives as many labels as its chain has
 abbrev pub RunsKeepTheShape : Type 0
 RunsKeepTheShape = (stops : Stops) (f : Function) (s : State) (hs : List Handling) (r : RunResult) →
-    AllFit f.chains f.handlers → HasShape f s → run_by stops f s hs ≡ Some r → HasShape f r.state
+    AllFit f.chains (blocks f) → HasShape f s → run_by stops f s hs ≡ Some r → HasShape f r.state
 
 -- reports part where a run does
 abbrev pub ReportsPart : Type 0

@@ -1,5 +1,6 @@
 -- Words for worked rows: declarations without names, texts, packets, and what is asked of a run.
 use Rattle.std.specs.Prelude.{ℕ, List, [], Option, Some, None, map}
+use Rattle.nf_base.specs.declared.packet.Addresses.TheVariants as addresses
 use Rattle.nf_base.specs.declared.width.Width.{Width}
 use Rattle.nf_base.specs.declared.decl.ColumnDecl.{ColumnDecl}
 use Rattle.nf_base.specs.declared.decl.MapDecl.{MapDecl}
@@ -52,8 +53,7 @@ frame a p b q = Some (record {
   length = 42;
   src_mac = 2199023255553;
   dst_mac = 2199023255554;
-  src_ip = a;
-  dst_ip = b;
+  addresses = addresses.Four a b;
   proto = 17;
   ttl = 64;
   src_port = p;

@@ -1,5 +1,6 @@
 -- What holds of the states of a function.
 use Rattle.std.specs.Prelude.{◌≡◌, ◌≤◌, ℕ, List, length, Some, slice_get}
+use Rattle.nf_base.specs.Doors.{blocks}
 use Rattle.nf_base.specs.declared.decl.MapDecl.{MapDecl}
 use Rattle.nf_base.specs.declared.decl.ChainDecl.{ChainDecl}
 use Rattle.nf_base.specs.declared.decl.ArrayDecl.{ArrayDecl}
@@ -77,5 +78,5 @@ abbrev pub StepsKeepTheShape : Type 0
 StepsKeepTheShape =
     (stops : Stops) (f : Function) (s : State) (packet : Packet) (choices : List ℕ)
     (r : StepResult) →
-    AllFit f.chains f.handlers → HasShape f s → step_by stops f s packet choices ≡ Some r →
+    AllFit f.chains (blocks f) → HasShape f s → step_by stops f s packet choices ≡ Some r →
     HasShape f r.state

@@ -1,5 +1,7 @@
 -- A packet's step, and the record of it.
-use Rattle.std.specs.Prelude.{◌≡◌, ◌<◌, ◌≤◌, ℕ, true, List, [], length, Some, None}
+use Rattle.std.specs.Prelude.{◌≡◌, ◌<◌, ◌≤◌, ℕ, true, List, [], length, Some, None, IsSome}
+use Rattle.nf_base.specs.Doors.{handler_at}
+use Rattle.nf_base.specs.Families.{door_of}
 use Rattle.nf_base.specs.declared.packet.Packet.{Packet}
 use Rattle.nf_base.specs.declared.packet.Fields.{Fields}
 use Rattle.nf_base.specs.declared.state.State.{State}
@@ -11,10 +13,11 @@ use Rattle.nf_base.specs.Record.{is_legal, indices_made}
 use Rattle.nf_base.specs.Step.{StepResult, no_edits, step, step_by, recorded}
 use Rattle.nf_base.specs.Locations.{Numbers, locations, all_numbers}
 
--- a packet that is skipped, or came in at a port of the function
+-- a packet that is skipped, or for which its port has a handler
 pub data HasHandler (f : Function) (packet : Packet) : Type 0 where
   skips : packet.fields ≡ None → HasHandler f packet
-  handles : packet.id.port < length f.handlers → HasHandler f packet
+  handles : (fields : Fields) → packet.fields ≡ Some fields →
+      IsSome (handler_at f (door_of packet.id.port fields)) → HasHandler f packet
 
 -- a record in which each `new` got an answer, with entries made at these indices
 pub record IsLegalRecord (es : List Event) (choices : List ℕ) : Type 0 where

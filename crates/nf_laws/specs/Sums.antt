@@ -12,7 +12,9 @@
 --   on 1 { forward length % ttl; }
 --   on 2 { forward length - 40 - ttl; }
 -- }
-use Rattle.std.specs.Prelude.{◌≡◌, ℕ, true, List, [], ◌∷◌, Some, Option}
+use Rattle.std.specs.Prelude.{◌≡◌, ℕ, true, List, [], ◌∷◌, Some, Option, map}
+use Rattle.nf_base.specs.Doors.{only_four}
+use Rattle.nf_base.specs.declared.packet.Addresses.TheVariants as addresses
 use Rattle.nf_base.specs.declared.width.Width.TheVariants.{W8}
 use Rattle.nf_base.specs.declared.expr.Operator.TheVariants.{Plus, Minus, Over, Modulo}
 use Rattle.nf_base.specs.declared.decl.ObjectId.TheVariants as object
@@ -40,7 +42,7 @@ counters = record {
   chains = [];
   arrays = record { name = []; width = W8; cells = 254 ∷ 7 ∷ [] } ∷ [];
   objects = object.Array 0 ∷ [];
-  handlers = counted ∷ [];
+  handlers = map only_four (counted ∷ []);
 }
 
 -- packets from a port to another: cell 0 twice, and a cell past the end
@@ -79,11 +81,10 @@ sums = record {
   chains = [];
   arrays = [];
   objects = [];
-  handlers =
-      sends (Both Over (Read Length) (Read Ttl))
+  handlers = map only_four (sends (Both Over (Read Length) (Read Ttl))
       ∷ sends (Both Modulo (Read Length) (Read Ttl))
       ∷ sends (Both Minus (Both Minus (Read Length) (Number 40)) (Read Ttl))
-      ∷ [];
+      ∷ []);
 }
 
 -- a frame of 42 bytes with a time to live
@@ -92,8 +93,7 @@ living ttl = Some (record {
   length = 42;
   src_mac = 0;
   dst_mac = 0;
-  src_ip = 0;
-  dst_ip = 0;
+  addresses = addresses.Four 0 0;
   proto = 17;
   ttl = ttl;
   src_port = 0;

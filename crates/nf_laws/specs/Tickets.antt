@@ -13,7 +13,9 @@
 --   }
 --   on 2 { drop; }
 -- }
-use Rattle.std.specs.Prelude.{◌≡◌, ℕ, List, [], ◌∷◌, Option, Some, None}
+use Rattle.std.specs.Prelude.{◌≡◌, ℕ, List, [], ◌∷◌, Option, Some, None, map}
+use Rattle.nf_base.specs.Doors.{only_four}
+use Rattle.nf_base.specs.declared.packet.Addresses.TheVariants as addresses
 use Rattle.nf_base.specs.declared.width.Width.TheVariants.{W32}
 use Rattle.nf_base.specs.declared.decl.ObjectId.TheVariants as object
 use Rattle.nf_base.specs.declared.packet.Field.TheVariants.{SrcIp, DstIp}
@@ -58,7 +60,7 @@ tickets size = record {
   } ∷ [];
   arrays = [];
   objects = object.Chain 0 ∷ [];
-  handlers = gives ∷ takes_back ∷ drops ∷ [];
+  handlers = map only_four (gives ∷ takes_back ∷ drops ∷ []);
 }
 
 -- a packet that asks for a ticket with two keys
@@ -119,8 +121,7 @@ asking a b = record {
   length = 42;
   src_mac = 0;
   dst_mac = 0;
-  src_ip = a;
-  dst_ip = b;
+  addresses = addresses.Four a b;
   proto = 17;
   ttl = 64;
   src_port = 0;

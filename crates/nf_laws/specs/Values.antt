@@ -1,11 +1,12 @@
 -- The values of a text at their edges.
 use Rattle.std.specs.Prelude.{◌≡◌, ◌≢◌, ◌↔◌, ◌<◌, ◌≤◌, ℕ, ◌+◌, ◌-◌, ◌*◌, ◌^◌, min, true, false, List, [], ◌∷◌, map, Some, None, slice_get}
 use Rattle.std.specs.Int.{bit_at}
+use Rattle.nf_base.specs.Families.{source, destination}
 use Rattle.nf_base.specs.declared.packet.Field.{Field}
-use Rattle.nf_base.specs.declared.packet.Field.TheVariants.{Time, Length, SrcMac, DstMac, SrcIp, DstIp, Proto, Ttl, SrcPort, DstPort}
+use Rattle.nf_base.specs.declared.packet.Field.TheVariants.{Time, Length, SrcMac, DstMac, SrcIp, DstIp, SrcIp6, DstIp6, Proto, Ttl, SrcPort, DstPort}
 use Rattle.nf_base.specs.declared.packet.Fields.{Fields}
 use Rattle.nf_base.specs.declared.width.Width.{Width}
-use Rattle.nf_base.specs.declared.width.Width.TheVariants.{W8, W16, W32, W48, W64}
+use Rattle.nf_base.specs.declared.width.Width.TheVariants.{W8, W16, W32, W48, W64, W128}
 use Rattle.nf_base.specs.declared.expr.Operator.{Operator}
 use Rattle.nf_base.specs.declared.expr.Operator.TheVariants.{Plus, Minus, Times, Over, Modulo, And}
 use Rattle.nf_base.specs.declared.expr.Comparison.TheVariants.{Equal, NotEqual, Less, LessOrEqual, Greater, GreaterOrEqual}
@@ -20,23 +21,23 @@ use Rattle.nf_laws.specs.Telling.{Names, HasCell}
 -- the fields, in the order in which they are declared
 abbrev pub all_fields : List Field
 all_fields =
-    Time ∷ Length ∷ SrcMac ∷ DstMac ∷ SrcIp ∷ DstIp ∷ Proto ∷ Ttl ∷ SrcPort ∷ DstPort ∷ []
+    Time ∷ Length ∷ SrcMac ∷ DstMac ∷ SrcIp ∷ DstIp ∷ SrcIp6 ∷ DstIp6 ∷ Proto ∷ Ttl ∷ SrcPort ∷ DstPort ∷ []
 
 -- how many bits each width and each field has, and which fields may be set and hashed
 pub record HaveTheirWidths : Type 0 where
-  pub widths : map bits (W8 ∷ W16 ∷ W32 ∷ W48 ∷ W64 ∷ []) ≡ 8 ∷ 16 ∷ 32 ∷ 48 ∷ 64 ∷ []
+  pub widths : map bits (W8 ∷ W16 ∷ W32 ∷ W48 ∷ W64 ∷ W128 ∷ []) ≡ 8 ∷ 16 ∷ 32 ∷ 48 ∷ 64 ∷ 128 ∷ []
   pub fields : map (λ field. bits (field_width field)) all_fields
-      ≡ 64 ∷ 32 ∷ 48 ∷ 48 ∷ 32 ∷ 32 ∷ 8 ∷ 8 ∷ 16 ∷ 16 ∷ []
+      ≡ 64 ∷ 32 ∷ 48 ∷ 48 ∷ 32 ∷ 32 ∷ 128 ∷ 128 ∷ 8 ∷ 8 ∷ 16 ∷ 16 ∷ []
   pub settable : map is_settable all_fields
-      ≡ false ∷ false ∷ true ∷ true ∷ true ∷ true ∷ false ∷ true ∷ true ∷ true ∷ []
+      ≡ false ∷ false ∷ true ∷ true ∷ true ∷ true ∷ true ∷ true ∷ false ∷ true ∷ true ∷ true ∷ []
   pub hashable : map is_hashable all_fields
-      ≡ false ∷ false ∷ false ∷ false ∷ true ∷ true ∷ false ∷ false ∷ true ∷ true ∷ []
+      ≡ false ∷ false ∷ false ∷ false ∷ true ∷ true ∷ true ∷ true ∷ false ∷ false ∷ true ∷ true ∷ []
 
 -- what is read of a packet that came at a time
 abbrev pub FieldsAreRead : Type 0
 FieldsAreRead = (time : ℕ) (p : Fields) →
     map (field_of time p) all_fields
-    ≡ time ∷ p.length ∷ p.src_mac ∷ p.dst_mac ∷ p.src_ip ∷ p.dst_ip ∷ p.proto ∷ p.ttl ∷ p.src_port
+    ≡ time ∷ p.length ∷ p.src_mac ∷ p.dst_mac ∷ source p ∷ destination p ∷ source p ∷ destination p ∷ p.proto ∷ p.ttl ∷ p.src_port
     ∷ p.dst_port ∷ []
 
 -- a value taken to a width: itself where it fits, and the same again one round of the width later
@@ -51,12 +52,12 @@ ValuesAreNarrowed = (w : Width) (v : ℕ) → IsNarrowed w v
 
 -- sums and products stop at the largest value, and differences at 0
 pub record Saturates (a b : ℕ) : Type 0 where
-  pub sum : a + b < 2 ^ 64 → result_of Plus a b ≡ a + b
-  pub most : 2 ^ 64 ≤ a + b → result_of Plus a b ≡ 2 ^ 64 - 1
+  pub sum : a + b < 2 ^ 128 → result_of Plus a b ≡ a + b
+  pub most : 2 ^ 128 ≤ a + b → result_of Plus a b ≡ 2 ^ 128 - 1
   pub difference : b ≤ a → result_of Minus a b + b ≡ a
   pub least : a ≤ b → result_of Minus a b ≡ 0
-  pub product : a * b < 2 ^ 64 → result_of Times a b ≡ a * b
-  pub most_product : 2 ^ 64 ≤ a * b → result_of Times a b ≡ 2 ^ 64 - 1
+  pub product : a * b < 2 ^ 128 → result_of Times a b ≡ a * b
+  pub most_product : 2 ^ 128 ≤ a * b → result_of Times a b ≡ 2 ^ 128 - 1
 
 -- a quotient is rounded down, and leaves the remainder; by 0 both are 0
 pub record Divides (a b : ℕ) : Type 0 where
@@ -79,10 +80,10 @@ pub record ComesTo (a b : ℕ) : Type 0 where
 abbrev pub OperatorsCompute : Type 0
 OperatorsCompute = (a b : ℕ) → ComesTo a b
 
--- values of 64 bits come to one of 64 bits
+-- values of 128 bits come to one of 128 bits
 abbrev pub ValuesStayInBounds : Type 0
 ValuesStayInBounds = (operator : Operator) (a b : ℕ) →
-    a < 2 ^ 64 → b < 2 ^ 64 → result_of operator a b < 2 ^ 64
+    a < 2 ^ 128 → b < 2 ^ 128 → result_of operator a b < 2 ^ 128
 
 -- each comparison holds exactly where its sign says so
 pub record Compares (a b : ℕ) : Type 0 where

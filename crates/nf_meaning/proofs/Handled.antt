@@ -2,7 +2,6 @@
 use Rattle.std.proofs.Common.{◌≡◌, ◌||◌, Bool, true, false, ℕ, zero, suc, ◌<◌, List, [], ◌∷◌, length, drop, get_or, map, Some, None, Err, refl, ap, sym, ◌∙◌, arith, slice_get}
 use Rattle.std.proofs.lemmas.Option.{slice_get_read, slice_get-map}
 use Rattle.nf_base.specs.declared.done.Action.{Action}
-use Rattle.nf_base.specs.declared.func.Handler.{Handler}
 use Rattle.nf_base.specs.declared.packet.Fields.{Fields}
 use Rattle.nf_base.specs.declared.state.State.{State}
 use Rattle.nf_base.specs.Context as meant
@@ -75,9 +74,3 @@ tells_full f s time fields b p start new flow all same begins tells =
     ∙ tells
     ∙ ap (λ es. new.full || answers_full es) (nothing_after flow)
     ∙ or_nothing new.full
-
--- the handler of a port
-pub handler_at : (handlers : List Handler) (i : ℕ) (h : Handler) → i < length handlers → h ≡ get_or handlers i h → slice_get (map (λ (g : Handler). block_of g.block) handlers) i ≡ Some (block_of h.block)
-handler_at handlers i h lt is =
-    let at : slice_get handlers i ≡ Some h = slice_get_read handlers (length handlers) i h refl lt is in
-    rw (slice_get-map (λ (g : Handler). block_of g.block) handlers i, at) refl

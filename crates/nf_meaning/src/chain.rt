@@ -34,17 +34,17 @@ pub fn maps_of(decls: &[ChainDecl], chain: u32) -> &[MapDecl]
 }
 
 /// A zero for each column of a chain.
-pub fn zeros_of(alloc: Global, decls: &[ChainDecl], chain: u32) -> Result<Vec<u64>, AllocError>
+pub fn zeros_of(alloc: Global, decls: &[ChainDecl], chain: u32) -> Result<Vec<u128>, AllocError>
     ensures { IfOk result (λ v. v.items ≡ zeros_of decls.now chain) }
 {
     match decls.get(chain as usize) {
         None => Ok(Vec::new(alloc)),
-        Some(decl) => decl.columns.as_slice().iter().map(|_| 0u64).collect(alloc),
+        Some(decl) => decl.columns.as_slice().iter().map(|_| 0u128).collect(alloc),
     }
 }
 
 /// The numbers from a place on, as many as there are up to a count.
-fn part(numbers: &[u64], first: u32, count: u32) -> &[u64]
+fn part(numbers: &[u128], first: u32, count: u32) -> &[u128]
     ensures { result.now ≡ take count (drop first numbers.now) }
 {
     let start = (first as usize).min(numbers.len());
@@ -53,7 +53,7 @@ fn part(numbers: &[u64], first: u32, count: u32) -> &[u64]
     &rest[..end]
 }
 
-fn has_key(m: &MapDecl, key: &[u64], slot: &Option<Entry>) -> bool
+fn has_key(m: &MapDecl, key: &[u128], slot: &Option<Entry>) -> bool
     ensures { result ≡ has_key m.now key.now slot.now }
 {
     match slot {
@@ -63,7 +63,7 @@ fn has_key(m: &MapDecl, key: &[u64], slot: &Option<Entry>) -> bool
 }
 
 /// The first index whose entry has a key.
-pub fn found(m: &MapDecl, key: &[u64], slots: &[Option<Entry>]) -> Option<u32>
+pub fn found(m: &MapDecl, key: &[u128], slots: &[Option<Entry>]) -> Option<u32>
     requires { length slots.now ≤ 65536 }
     ensures { result ≡ found m.now key.now slots.now }
 {
@@ -78,7 +78,7 @@ pub fn found(m: &MapDecl, key: &[u64], slots: &[Option<Entry>]) -> Option<u32>
 }
 
 /// Whether one of these labels' keys is bound in its map.
-pub fn is_taken(maps: &[MapDecl], labels: &[u64], slots: &[Option<Entry>]) -> bool
+pub fn is_taken(maps: &[MapDecl], labels: &[u128], slots: &[Option<Entry>]) -> bool
     requires { length slots.now ≤ 65536 }
     ensures { result ≡ is_taken maps.now labels.now slots.now }
 {
@@ -127,7 +127,7 @@ pub fn is_vacant(slots: &[Option<Entry>], i: u32) -> bool
 }
 
 /// Puts a new entry at an index.
-pub fn put(chain: &mut Chain, time: u64, i: u32, labels: Seq<u64>, columns: Seq<u64>)
+pub fn put(chain: &mut Chain, time: u64, i: u32, labels: Seq<u128>, columns: Seq<u128>)
     requires { i < length chain.old.slots }
     ensures { chain.new ≡ stamped time i (fresh labels columns) chain.old }
 {
@@ -167,7 +167,7 @@ pub fn free(chain: &mut Chain, i: u32)
     }
 }
 
-pub fn write(chain: &mut Chain, i: u32, column: u32, v: u64)
+pub fn write(chain: &mut Chain, i: u32, column: u32, v: u128)
     ensures { chain.new ≡ written column v i chain.old }
 {
     if i >= chain.slots.len() {
@@ -179,7 +179,7 @@ pub fn write(chain: &mut Chain, i: u32, column: u32, v: u64)
     }
 }
 
-fn write_column(entry: &mut Entry, column: u32, v: u64)
+fn write_column(entry: &mut Entry, column: u32, v: u128)
     ensures { entry.new ≡ record entry.old { columns = slice_set entry.old.columns column v } }
 {
     if (column as usize) < entry.columns.len() {

@@ -8,7 +8,7 @@ use nf_base::seq::Seq;
 use nf_base::state::{Chain, Entry};
 use std::alloc::{AllocError, Global};
 
-fn copy_numbers(alloc: Global, xs: &Seq<u64>) -> Result<Seq<u64>, AllocError>
+fn copy_numbers(alloc: Global, xs: &Seq<u128>) -> Result<Seq<u128>, AllocError>
     ensures { IfOk result (λ v. v ≡ xs.now) }
 {
     Ok(Seq::from_vec(Vec::from_slice(alloc, xs.as_slice())?))
@@ -84,7 +84,10 @@ pub fn copy_expired(
     Ok(out)
 }
 
-pub fn copy_arrays(alloc: Global, arrays: &[Indexed<u64>]) -> Result<Seq<Indexed<u64>>, AllocError>
+pub fn copy_arrays(
+    alloc: Global,
+    arrays: &[Indexed<u128>],
+) -> Result<Seq<Indexed<u128>>, AllocError>
     ensures { IfOk result (λ v. v ≡ arrays.now) }
 {
     let mut out = Seq::new(alloc);

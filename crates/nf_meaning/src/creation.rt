@@ -46,7 +46,7 @@ fn next_choice(choices: Option<&Picks>, picks: &Picks, slots: &[Option<Entry>]) 
 
 /// What a `new` with these labels comes to.
 #[tactic(auto, using(crate::proofs::Vacant::chain_there, crate::proofs::Vacant::vacant_index))]
-fn new_result(context: &Context, p: &Input, chain: u32, labels: &[u64]) -> NewResult
+fn new_result(context: &Context, p: &Input, chain: u32, labels: &[u128]) -> NewResult
     ensures comes { ComesTo result p.now.choices context.now.picks
         (result_with (input_of p.now) (context_of [] context.now) chain labels.now) }
     ensures there { IfMade result (λ i.
@@ -79,7 +79,7 @@ fn enter(
     p: &Input,
     creation: &Creation,
     i: u32,
-    labels: Vec<u64>,
+    labels: Vec<u128>,
 ) -> Result<(), AllocError>
     requires chain { creation.now.chain < length context.old.state.chains }
     requires index { i < length (chain_at context.old.state.chains creation.now.chain).slots }

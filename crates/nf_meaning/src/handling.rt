@@ -1,5 +1,7 @@
 // The steps of packets, from one state to another.
-ghost use Rattle.std.specs.Prelude.{◌≡◌, ℕ, ◌≤◌, ◌<◌, [], List, length, drop, IfOk, Some};
+ghost use Rattle.std.specs.Prelude.{◌≡◌, ℕ, ◌≤◌, ◌<◌, [], List, length, drop, IfOk, IsSome, Some};
+ghost use Rattle.nf_base.specs.Doors.{handler_at};
+ghost use Rattle.nf_base.specs.Families.{door_of};
 ghost use Rattle.nf_base.specs.Functions.{function_of};
 ghost use Rattle.nf_base.specs.Operations.{never};
 ghost use Rattle.nf_base.specs.Step.{no_edits, start_context, step_of, record_of};
@@ -15,11 +17,13 @@ use crate::context::{Context, Flow, Input};
 use crate::copies::{copy_arrays, copy_expired};
 use crate::fault::StepFault;
 use nf_base::done::{Action, Done, Edits};
-use nf_base::func::{Func, Handler};
+use nf_base::func::Func;
+use nf_base::handler::Handler;
 use nf_base::packet::{Fields, Packet};
 use nf_base::picks::Picks;
 use nf_base::seq::Seq;
 use nf_base::state::State;
+use nf_base::value::door_of;
 use std::alloc::{AllocError, Global};
 
 /// One packet's step: the state after it, and what it answers.
@@ -107,7 +111,7 @@ pub fn step_with(
         (step_of never (function_of func.now) state.now packet.now picks.now (Some fields))
         (record_of never (function_of func.now) state.now packet.now picks.now (Some fields)) }
 {
-    let Some(handler) = func.handlers.as_slice().get(packet.id.port as usize) else {
+    let Some(handler) = func.handler_at(door_of(packet.id.port, &fields)) else {
         return Err(StepFault::BadChoice);
     };
     let ran = run(
@@ -158,12 +162,14 @@ pub fn step_at_least(
     packet: &Packet,
     fields: Fields,
 ) -> Result<Step, AllocError>
-    requires port { packet.now.id.port < length func.now.handlers }
+    requires served { IsSome (handler_at (function_of func.now) (door_of packet.now.id.port fields)) }
     ensures { IfOk result (λ s.
         step_of never (function_of func.now) state.now packet.now s.done.picks (Some fields)
         ≡ Some (record { state = s.state; done = s.done })) }
 {
-    let handler = func.handlers.item(packet.id.port);
+    let Some(handler) = func.handler_at(door_of(packet.id.port, &fields)) else {
+        unreachable!();
+    };
     let ran = match run(alloc, func, handler, state, packet.time, fields, None) {
         Ok(ran) => ran,
         Err(StepFault::BadChoice) => unreachable!(),
@@ -196,6 +202,8 @@ fn no_edits() -> Edits
         dst_mac: None,
         src_ip: None,
         dst_ip: None,
+        src_ip6: None,
+        dst_ip6: None,
         ttl: None,
         src_port: None,
         dst_port: None,

@@ -30,7 +30,7 @@ pub fn opening_chains(alloc: Global, decls: &[ChainDecl]) -> Result<Seq<Chain>, 
     Ok(chains)
 }
 
-pub fn opening_arrays(alloc: Global, decls: &[ArrayDecl]) -> Result<Seq<Indexed<u64>>, AllocError>
+pub fn opening_arrays(alloc: Global, decls: &[ArrayDecl]) -> Result<Seq<Indexed<u128>>, AllocError>
     ensures { IfOk result (λ v. v ≡ map opening_cells decls.now) }
 {
     let mut arrays = Seq::new(alloc);

@@ -31,7 +31,7 @@ fn touch(chains: &mut Seq<Chain>, time: u64, var: Option<EntryRef>)
     }
 }
 
-fn write(chains: &mut Seq<Chain>, var: Option<EntryRef>, column: u32, v: u64)
+fn write(chains: &mut Seq<Chain>, var: Option<EntryRef>, column: u32, v: u128)
     ensures { chains.new ≡ on_var (written column v) var chains.old }
 {
     let Some(at) = var else {
@@ -79,32 +79,34 @@ fn without(
     Ok(())
 }
 
-fn set(edits: &mut Edits, field: Field, v: u64)
+fn set(edits: &mut Edits, field: Field, v: u128)
     ensures { edits.new ≡ edited field v edits.old }
 {
     match field {
-        Field::SrcMac => edits.src_mac = Some(v),
-        Field::DstMac => edits.dst_mac = Some(v),
-        Field::SrcIp => edits.src_ip = Some(v),
-        Field::DstIp => edits.dst_ip = Some(v),
-        Field::Ttl => edits.ttl = Some(v),
-        Field::SrcPort => edits.src_port = Some(v),
-        Field::DstPort => edits.dst_port = Some(v),
+        Field::SrcMac => edits.src_mac = Some((v % 0x1_0000_0000_0000) as u64),
+        Field::DstMac => edits.dst_mac = Some((v % 0x1_0000_0000_0000) as u64),
+        Field::SrcIp => edits.src_ip = Some((v % 0x1_0000_0000) as u64),
+        Field::DstIp => edits.dst_ip = Some((v % 0x1_0000_0000) as u64),
+        Field::SrcIp6 => edits.src_ip6 = Some(v),
+        Field::DstIp6 => edits.dst_ip6 = Some(v),
+        Field::Ttl => edits.ttl = Some((v % 0x100) as u64),
+        Field::SrcPort => edits.src_port = Some((v % 0x1_0000) as u64),
+        Field::DstPort => edits.dst_port = Some((v % 0x1_0000) as u64),
         Field::Time => {}
         Field::Length => {}
         Field::Proto => {}
     }
 }
 
-fn store_in(cells: &mut Indexed<u64>, i: u64, v: u64)
+fn store_in(cells: &mut Indexed<u128>, i: u128, v: u128)
     ensures { cells.new ≡ slice_set cells.old i v }
 {
-    if i < u64::from(cells.len()) {
+    if i < u128::from(cells.len()) {
         cells.set(i as u32, v);
     }
 }
 
-fn store(arrays: &mut Seq<Indexed<u64>>, array: u32, i: u64, v: u64)
+fn store(arrays: &mut Seq<Indexed<u128>>, array: u32, i: u128, v: u128)
     ensures { arrays.new ≡ slice_set arrays.old array (slice_set (array_at arrays.old array) i v) }
 {
     if (array as usize) < arrays.len() {

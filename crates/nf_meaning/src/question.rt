@@ -17,7 +17,7 @@ use nf_base::value::compares;
 use std::alloc::{AllocError, Global};
 
 /// The index that a key has in a map of a chain.
-fn key_found(context: &Context, p: &Input, chain: u32, map: u32, key: &[u64]) -> Option<u32>
+fn key_found(context: &Context, p: &Input, chain: u32, map: u32, key: &[u128]) -> Option<u32>
     ensures { result ≡ key_found (input_of p.now) (context_of [] context.now) chain map key.now }
 {
     let m = maps_of(p.decls, chain).get(map as usize)?;
@@ -55,7 +55,7 @@ fn has_labels(context: &Context, p: &Input, guards: &[Guard], entry: &Entry) -> 
     true
 }
 
-fn has_label(entry: &Entry, label: u32, v: u64) -> bool
+fn has_label(entry: &Entry, label: u32, v: u128) -> bool
     ensures { result ≡ is_given v (slice_get entry.now.labels label) }
 {
     match entry.labels.as_slice().get(label as usize) {
@@ -73,6 +73,9 @@ fn search(context: &Context, p: &Input, chain: u32, at: &Expr, guards: &[Guard])
 {
     let i = value(context, p, at);
     let slots = slots_of(context.state.chains.as_slice(), chain);
+    if i >= slots.len() as u128 {
+        return None;
+    }
     match slots.get(i as usize) {
         None => None,
         Some(None) => None,

@@ -3,6 +3,7 @@ ghost use Rattle.std.specs.Prelude.{◌≡◌, ◌<◌, length, IfOk, OnErr, Som
 ghost use Rattle.nf_base.specs.Step.{step, recorded, skipped, opening};
 ghost use Rattle.nf_base.specs.Record.{answers_full};
 ghost use Rattle.nf_base.specs.declared.state.State as states;
+ghost use Rattle.nf_base.specs.Doors.{IsServed};
 ghost use Rattle.nf_base.specs.Functions.{function_of};
 ghost use Rattle.nf_meaning.specs.Answers.{Answers};
 
@@ -110,7 +111,7 @@ impl Undivided {
         func: &Func,
         packet: &Packet,
     ) -> Result<Done, AllocError>
-        requires port { packet.now.id.port < length func.now.handlers }
+        requires served { IsServed (function_of func.now) packet.now }
         ensures step { IfOk result (λ done.
             step (function_of func.now) self.old packet.now done.picks
             ≡ Some (record { state = self.new; done = done })) }
@@ -130,7 +131,7 @@ impl Undivided {
 
     /// Choices with which the packet has a step.
     pub fn pick(&self, alloc: Global, func: &Func, packet: &Packet) -> Result<Picks, AllocError>
-        requires port { packet.now.id.port < length func.now.handlers }
+        requires served { IsServed (function_of func.now) packet.now }
         ensures legal { IfOk result (λ picks.
             IsSome (step (function_of func.now) self.now packet.now picks)) }
     {

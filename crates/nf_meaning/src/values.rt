@@ -13,16 +13,16 @@ use nf_base::value::{field_of, narrowed, result_of};
 use nf_base::width::Width;
 use std::alloc::{AllocError, Global};
 
-fn index(context: &Context, var: u32) -> u64
+fn index(context: &Context, var: u32) -> u128
     ensures { result ≡ index_of (var_at context.now.vars var) }
 {
     match var_at(context.vars.as_slice(), var) {
         None => 0,
-        Some(at) => u64::from(at.index()),
+        Some(at) => u128::from(at.index()),
     }
 }
 
-fn label(context: &Context, var: u32, label: u32) -> u64
+fn label(context: &Context, var: u32, label: u32) -> u128
     ensures { result
         ≡ label_of label (entry_in context.now.state.chains (var_at context.now.vars var)) }
 {
@@ -39,7 +39,7 @@ fn label(context: &Context, var: u32, label: u32) -> u64
     }
 }
 
-fn column(context: &Context, var: u32, column: u32) -> u64
+fn column(context: &Context, var: u32, column: u32) -> u128
     ensures { result
         ≡ column_of column (entry_in context.now.state.chains (var_at context.now.vars var)) }
 {
@@ -57,7 +57,7 @@ fn column(context: &Context, var: u32, column: u32) -> u64
 }
 
 /// The cells of the array of a number; past the last one there are none.
-fn cells_of(arrays: &[Indexed<u64>], array: u32) -> &[u64]
+fn cells_of(arrays: &[Indexed<u128>], array: u32) -> &[u128]
     ensures { result.now ≡ array_at arrays.now array }
 {
     match arrays.get(array as usize) {
@@ -66,20 +66,24 @@ fn cells_of(arrays: &[Indexed<u64>], array: u32) -> &[u64]
     }
 }
 
-fn cell(context: &Context, array: u32, i: u64) -> u64
+fn cell(context: &Context, array: u32, i: u128) -> u128
     ensures { result ≡ or_zero (slice_get (array_at context.now.state.arrays array) i) }
 {
-    match cells_of(context.state.arrays.as_slice(), array).get(i as usize) {
+    let cells = cells_of(context.state.arrays.as_slice(), array);
+    if i >= cells.len() as u128 {
+        return 0;
+    }
+    match cells.get(i as usize) {
         None => 0,
         Some(v) => *v,
     }
 }
 
-pub fn value(context: &Context, p: &Input, e: &Expr) -> u64
+pub fn value(context: &Context, p: &Input, e: &Expr) -> u128
     ensures { result ≡ value (input_of p.now) (context_of [] context.now) (expression_of e.now) }
 {
     match e {
-        Expr::Number(n) => *n,
+        Expr::Number(n) => u128::from(*n),
         Expr::Read(field) => field_of(p.time, &p.fields, *field),
         Expr::Index { var } => index(context, *var),
         Expr::Label { var, label: k } => label(context, *var, *k),
@@ -101,7 +105,7 @@ pub fn value(context: &Context, p: &Input, e: &Expr) -> u64
 }
 
 /// A value taken to the width of what it is given to.
-pub fn given(context: &Context, p: &Input, g: &Given) -> u64
+pub fn given(context: &Context, p: &Input, g: &Given) -> u128
     ensures { result ≡ given (input_of p.now) (context_of [] context.now) (given_of g.now) }
 {
     narrowed(g.width, value(context, p, &g.value))
@@ -112,7 +116,7 @@ pub fn all_given(
     context: &Context,
     p: &Input,
     gs: &[Given],
-) -> Result<Vec<u64>, AllocError>
+) -> Result<Vec<u128>, AllocError>
     ensures { IfOk result (λ v.
         v.items ≡ map (given (input_of p.now) (context_of [] context.now)) (map given_of gs.now)) }
 {

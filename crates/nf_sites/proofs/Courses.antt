@@ -3,6 +3,7 @@ use Rattle.std.proofs.Common.{◌≡◌, ℕ, suc, ◌+◌, Bool, true, false, L
 use Rattle.std.specs.Option.{option_map, option_and_then}
 use Rattle.std.proofs.lemmas.Option.{same_Some}
 use Rattle.std.proofs.lemmas.List.Elements.{Contains-append_left, Contains-append_right}
+use Rattle.nf_base.specs.declared.packet.Door.{Door}
 use Rattle.nf_base.specs.declared.state.Entry.{Entry}
 use Rattle.nf_base.specs.declared.state.Chain.{Chain}
 use Rattle.nf_base.specs.declared.decl.MapDecl.{MapDecl}
@@ -59,7 +60,7 @@ IsOfText v (Closing e) = Unit {0}
 
 abbrev pub On : View → List PathStep → Type 0
 On v [] = Unit {0}
-On v (s ∷ ss) = In v.all (statement_sites v.f.chains v.port (statement_of s)) × IsOfText v s × On v ss
+On v (s ∷ ss) = In v.all (statement_sites v.f.chains v.door (statement_of s)) × IsOfText v s × On v ss
 
 abbrev pub AllCovered : View → List Event → Event → List Location → Type 0
 AllCovered v before e [] = Unit {0}
@@ -104,13 +105,13 @@ frees_ahead v before ns c w var es a g = by_var (var_at c.vars var) (λ at q. (a
         let r = g (before ++ e ∷ []) (past v before ns c.state.chains c.vars e refl a) t.1 in
         (((record { touched = (h at refl).covered; stands = (h at refl).binder }, tt), r.0), r.1)
 
-abbrev read_covered : (v : View) (c : Context) (place array : ℕ) (at : Expression) → Contains v.all (cell_site v.port sort.Load place array at) → Covered v (CellAt array (narrowed W16 (value (input_of v) c at)))
-read_covered v c place array at h = record { site = cell_site v.port sort.Load place array at; is_site = h; port = refl; object = refl; context = c; fits = (refl, (refl, tt)) }
+abbrev read_covered : (v : View) (c : Context) (place array : ℕ) (at : Expression) → Contains v.all (cell_site v.door sort.Load place array at) → Covered v (CellAt array (narrowed W16 (value (input_of v) c at)))
+read_covered v c place array at h = record { site = cell_site v.door sort.Load place array at; is_site = h; door = refl; object = refl; context = c; fits = (refl, (refl, tt)) }
 
-abbrev write_covered : (v : View) (c : Context) (place array : ℕ) (at : Expression) → Contains v.all (cell_site v.port sort.Store place array at) → Covered v (CellAt array (narrowed W16 (value (input_of v) c at)))
-write_covered v c place array at h = record { site = cell_site v.port sort.Store place array at; is_site = h; port = refl; object = refl; context = c; fits = (refl, (refl, tt)) }
+abbrev write_covered : (v : View) (c : Context) (place array : ℕ) (at : Expression) → Contains v.all (cell_site v.door sort.Store place array at) → Covered v (CellAt array (narrowed W16 (value (input_of v) c at)))
+write_covered v c place array at h = record { site = cell_site v.door sort.Store place array at; is_site = h; door = refl; object = refl; context = c; fits = (refl, (refl, tt)) }
 
-loads_ahead : (v : View) (before : List Event) (ns : Numbers) (c : Context) (w : Completion) (place array : ℕ) (at : Expression) (cell : Option ℕ) (es : List Event) → Keeping v before ns c.state.chains c.vars → Contains v.all (cell_site v.port sort.Load place array at) → Then v ns c w es →
+loads_ahead : (v : View) (before : List Event) (ns : Numbers) (c : Context) (w : Completion) (place array : ℕ) (at : Expression) (cell : Option ℕ) (es : List Event) → Keeping v before ns c.state.chains c.vars → Contains v.all (cell_site v.door sort.Load place array at) → Then v ns c w es →
     Good v before ns w (loads place array (narrowed W16 (value (input_of v) c at)) cell es)
 loads_ahead v before ns c w place array at None es a h g = g before a
 loads_ahead v before ns c w place array at (Some x) es a h g = λ t.
@@ -118,7 +119,7 @@ loads_ahead v before ns c w place array at (Some x) es a h g = λ t.
     let r = g (before ++ e ∷ []) (past v before ns c.state.chains c.vars e refl a) t.1 in
     (((record { touched = read_covered v c place array at h; stands = record { place = refl; own = refl } }, tt), r.0), r.1)
 
-stores_ahead : (v : View) (before : List Event) (ns : Numbers) (c : Context) (w : Completion) (place array : ℕ) (at : Expression) (x : ℕ) (cell : Option ℕ) (es : List Event) → Keeping v before ns c.state.chains c.vars → Contains v.all (cell_site v.port sort.Store place array at) → Then v ns c w es →
+stores_ahead : (v : View) (before : List Event) (ns : Numbers) (c : Context) (w : Completion) (place array : ℕ) (at : Expression) (x : ℕ) (cell : Option ℕ) (es : List Event) → Keeping v before ns c.state.chains c.vars → Contains v.all (cell_site v.door sort.Store place array at) → Then v ns c w es →
     Good v before ns w (stores place array (narrowed W16 (value (input_of v) c at)) x cell es)
 stores_ahead v before ns c w place array at x None es a h g = g before a
 stores_ahead v before ns c w place array at x (Some old) es a h g = λ t.
@@ -126,7 +127,7 @@ stores_ahead v before ns c w place array at x (Some old) es a h g = λ t.
     let r = g (before ++ e ∷ []) (past v before ns c.state.chains c.vars e refl a) t.1 in
     (((record { touched = write_covered v c place array at h; stands = record { place = refl; own = refl } }, tt), r.0), r.1)
 
-reads_ahead : (v : View) (before : List Event) (ns : Numbers) (c : Context) (w : Completion) (e : Expression) (es : List Event) → Keeping v before ns c.state.chains c.vars → In v.all (expression_sites v.port e) → Then v ns c w es → Good v before ns w (reads (input_of v) c e es)
+reads_ahead : (v : View) (before : List Event) (ns : Numbers) (c : Context) (w : Completion) (e : Expression) (es : List Event) → Keeping v before ns c.state.chains c.vars → In v.all (expression_sites v.door e) → Then v ns c w es → Good v before ns w (reads (input_of v) c e es)
 reads_ahead v before ns c w (Number n) es a h g = g before a
 reads_ahead v before ns c w (Read field) es a h g = g before a
 reads_ahead v before ns c w (Index var) es a h g = used_ahead v before ns c w false var es a g
@@ -134,30 +135,30 @@ reads_ahead v before ns c w (Label var label) es a h g = used_ahead v before ns 
 reads_ahead v before ns c w (Column var column) es a h g = used_ahead v before ns c w false var es a g
 reads_ahead v before ns c w (Cell place array at) es a h g =
     let i = narrowed W16 (value (input_of v) c at) in
-    let site = cell_site v.port sort.Load place array at in
-    reads_ahead v before ns c w at (loads place array i (slice_get (array_at c.state.arrays array) i) es) a (rest_in v.all site (expression_sites v.port at) h)
-    (λ later b. loads_ahead v later ns c w place array at (slice_get (array_at c.state.arrays array) i) es b (first_in_all v.all site (expression_sites v.port at) h) g)
+    let site = cell_site v.door sort.Load place array at in
+    reads_ahead v before ns c w at (loads place array i (slice_get (array_at c.state.arrays array) i) es) a (rest_in v.all site (expression_sites v.door at) h)
+    (λ later b. loads_ahead v later ns c w place array at (slice_get (array_at c.state.arrays array) i) es b (first_in_all v.all site (expression_sites v.door at) h) g)
 reads_ahead v before ns c w (Both operator l r) es a h g =
-    reads_ahead v before ns c w l (reads (input_of v) c r es) a (left_in v.all (expression_sites v.port l) (expression_sites v.port r) h)
-    (λ later b. reads_ahead v later ns c w r es b (right_in v.all (expression_sites v.port l) (expression_sites v.port r) h) g)
+    reads_ahead v before ns c w l (reads (input_of v) c r es) a (left_in v.all (expression_sites v.door l) (expression_sites v.door r) h)
+    (λ later b. reads_ahead v later ns c w r es b (right_in v.all (expression_sites v.door l) (expression_sites v.door r) h) g)
 
-all_ahead : (v : View) (before : List Event) (ns : Numbers) (c : Context) (w : Completion) (gs : List Given) (es : List Event) → Keeping v before ns c.state.chains c.vars → In v.all (given_sites v.port gs) → Then v ns c w es → Good v before ns w (reads_all (input_of v) c gs es)
+all_ahead : (v : View) (before : List Event) (ns : Numbers) (c : Context) (w : Completion) (gs : List Given) (es : List Event) → Keeping v before ns c.state.chains c.vars → In v.all (given_sites v.door gs) → Then v ns c w es → Good v before ns w (reads_all (input_of v) c gs es)
 all_ahead v before ns c w [] es a h g = g before a
 all_ahead v before ns c w (x ∷ gs) es a h g =
-    reads_ahead v before ns c w x.value (reads_all (input_of v) c gs es) a (left_in v.all (expression_sites v.port x.value) (given_sites v.port gs) h)
-    (λ later b. all_ahead v later ns c w gs es b (right_in v.all (expression_sites v.port x.value) (given_sites v.port gs) h) g)
+    reads_ahead v before ns c w x.value (reads_all (input_of v) c gs es) a (left_in v.all (expression_sites v.door x.value) (given_sites v.door gs) h)
+    (λ later b. all_ahead v later ns c w gs es b (right_in v.all (expression_sites v.door x.value) (given_sites v.door gs) h) g)
 
 -- those of values in the order of their reads
-values_in : (all : List Site) (port : ℕ) (gs : List Given) → In all (given_sites port (by_first_read gs)) → In all (given_sites port gs)
-values_in all port gs h = λ x i. h x (sorted_to (λ (g : Given). expression_sites port g.value) gs x i)
+values_in : (all : List Site) (door : Door) (gs : List Given) → In all (given_sites door (by_first_read gs)) → In all (given_sites door gs)
+values_in all door gs h = λ x i. h x (sorted_to (λ (g : Given). expression_sites door g.value) gs x i)
 
-guards_ahead : (v : View) (before : List Event) (ns : Numbers) (c : Context) (w : Completion) (gs : List Guard) (es : List Event) → Keeping v before ns c.state.chains c.vars → In v.all (guard_sites v.port gs) → Then v ns c w es → Good v before ns w (reads_guards (input_of v) c gs es)
+guards_ahead : (v : View) (before : List Event) (ns : Numbers) (c : Context) (w : Completion) (gs : List Guard) (es : List Event) → Keeping v before ns c.state.chains c.vars → In v.all (guard_sites v.door gs) → Then v ns c w es → Good v before ns w (reads_guards (input_of v) c gs es)
 guards_ahead v before ns c w [] es a h g = g before a
 guards_ahead v before ns c w (x ∷ gs) es a h g =
-    reads_ahead v before ns c w x.given.value (reads_guards (input_of v) c gs es) a (left_in v.all (expression_sites v.port x.given.value) (guard_sites v.port gs) h)
-    (λ later b. guards_ahead v later ns c w gs es b (right_in v.all (expression_sites v.port x.given.value) (guard_sites v.port gs) h) g)
+    reads_ahead v before ns c w x.given.value (reads_guards (input_of v) c gs es) a (left_in v.all (expression_sites v.door x.given.value) (guard_sites v.door gs) h)
+    (λ later b. guards_ahead v later ns c w gs es b (right_in v.all (expression_sites v.door x.given.value) (guard_sites v.door gs) h) g)
 
-did_ahead : (v : View) (before : List Event) (ns : Numbers) (c : Context) (w : Completion) (op : Operation) (es : List Event) → Keeping v before ns c.state.chains c.vars → In v.all (operation_sites v.port op) → Then v ns c w es → Good v before ns w (did (input_of v) c op es)
+did_ahead : (v : View) (before : List Event) (ns : Numbers) (c : Context) (w : Completion) (op : Operation) (es : List Event) → Keeping v before ns c.state.chains c.vars → In v.all (operation_sites v.door op) → Then v ns c w es → Good v before ns w (did (input_of v) c op es)
 did_ahead v before ns c w (Touch var) es a h g = used_ahead v before ns c w (restamps_at v.time c.state.chains (var_at c.vars var)) var es a g
 did_ahead v before ns c w (Free var) es a h g = frees_ahead v before ns c w var es a g
 did_ahead v before ns c w (Set field x) es a h g = reads_ahead v before ns c w x.value es a h g
@@ -167,12 +168,12 @@ did_ahead v before ns c w (Write var column x) es a h g =
 did_ahead v before ns c w (Store place array at x) es a h g =
     let p = input_of v in
     let i = narrowed W16 (value p c at) in
-    let site = cell_site v.port sort.Store place array at in
-    let reads_of = expression_sites v.port at ++ expression_sites v.port x.value in
+    let site = cell_site v.door sort.Store place array at in
+    let reads_of = expression_sites v.door at ++ expression_sites v.door x.value in
     let stored = stores place array i (given p c x) (slice_get (array_at c.state.arrays array) i) es in
     let rest = rest_in v.all site reads_of h in
-    reads_ahead v before ns c w at (reads p c x.value stored) a (left_in v.all (expression_sites v.port at) (expression_sites v.port x.value) rest)
-    (λ later b. reads_ahead v later ns c w x.value stored b (right_in v.all (expression_sites v.port at) (expression_sites v.port x.value) rest)
+    reads_ahead v before ns c w at (reads p c x.value stored) a (left_in v.all (expression_sites v.door at) (expression_sites v.door x.value) rest)
+    (λ later b. reads_ahead v later ns c w x.value stored b (right_in v.all (expression_sites v.door at) (expression_sites v.door x.value) rest)
     (λ last d. stores_ahead v last ns c w place array at (given p c x) (slice_get (array_at c.state.arrays array) i) es d (first_in_all v.all site reads_of h) g))
 
 -- what a `get` and a `find` find
@@ -198,15 +199,15 @@ hit_live v before ns chains chain i e entry is covered touches stands = record {
 abbrev lookup : View → Context → (place chain m : ℕ) → List Given → Event
 lookup v c place chain m key = LookedUp place chain m (map (given (input_of v) c) key) (key_found (input_of v) c chain m (map (given (input_of v) c) key))
 
-abbrev get_covered : (v : View) (before : List Event) (ns : Numbers) (c : Context) (place chain m : ℕ) (key : List Given) (i : ℕ) → Keeping v before ns c.state.chains c.vars → Contains v.all (get_site v.f.chains v.port place chain m key) →
+abbrev get_covered : (v : View) (before : List Event) (ns : Numbers) (c : Context) (place chain m : ℕ) (key : List Given) (i : ℕ) → Keeping v before ns c.state.chains c.vars → Contains v.all (get_site v.f.chains v.door place chain m key) →
     key_found (input_of v) c chain m (map (given (input_of v) c) key) ≡ Some i → Covered v (EntryNo chain (ns.entry_no chain i))
 get_covered v before ns c place chain m key i a site h =
     let p = input_of v in
     let k = key_at (slice_get (maps_of v.f.chains chain) m) (chain_at c.state.chains chain).slots (map (given p c) key) i h in
     record {
-      site = get_site v.f.chains v.port place chain m key;
+      site = get_site v.f.chains v.door place chain m key;
       is_site = site;
-      port = refl;
+      door = refl;
       object = refl;
       context = c;
       fits = (
@@ -216,7 +217,7 @@ get_covered v before ns c place chain m key i a site h =
       );
     }
 
-get_live : (v : View) (before : List Event) (ns : Numbers) (c : Context) (place chain m : ℕ) (key : List Given) (i : ℕ) → Keeping v before ns c.state.chains c.vars → Contains v.all (get_site v.f.chains v.port place chain m key) →
+get_live : (v : View) (before : List Event) (ns : Numbers) (c : Context) (place chain m : ℕ) (key : List Given) (i : ℕ) → Keeping v before ns c.state.chains c.vars → Contains v.all (get_site v.f.chains v.door place chain m key) →
     key_found (input_of v) c chain m (map (given (input_of v) c) key) ≡ Some i → Live v (before ++ lookup v c place chain m key ∷ []) ns c.state.chains (record { chain = chain; index = i })
 get_live v before ns c place chain m key i a site h =
     let p = input_of v in
@@ -236,21 +237,21 @@ found_entry p c guards i j None h = cc
 found_entry p c guards i j (Some None) h = cc
 found_entry p c guards i j (Some (Some e)) h = let q = labelled_if (has_labels p c guards e) i j h in (q.0, e, refl, q.1)
 
-abbrev find_covered : (v : View) (before : List Event) (ns : Numbers) (c : Context) (place chain i : ℕ) (guards : List Guard) → Keeping v before ns c.state.chains c.vars → Contains v.all (find_site v.port place chain guards) →
+abbrev find_covered : (v : View) (before : List Event) (ns : Numbers) (c : Context) (place chain i : ℕ) (guards : List Guard) → Keeping v before ns c.state.chains c.vars → Contains v.all (find_site v.door place chain guards) →
     (e : Entry) → slot c.state.chains chain i ≡ Some (Some e) → has_labels (input_of v) c guards e ≡ true → Covered v (EntryNo chain (ns.entry_no chain i))
 find_covered v before ns c place chain i guards a site e at has = record {
-  site = find_site v.port place chain guards;
+  site = find_site v.door place chain guards;
   is_site = site;
-  port = refl;
+  door = refl;
   object = refl;
   context = c;
   fits = (
     refl,
-    fits_labels v.f (input_of v) c chain (v.table chain (ns.entry_no chain i)) e.labels (find_site v.port place chain guards).named (a.entries chain i e at) (given_guards (input_of v) c guards e has),
+    fits_labels v.f (input_of v) c chain (v.table chain (ns.entry_no chain i)) e.labels (find_site v.door place chain guards).named (a.entries chain i e at) (given_guards (input_of v) c guards e has),
   );
 }
 
-find_live : (v : View) (before : List Event) (ns : Numbers) (c : Context) (place chain i : ℕ) (guards : List Guard) (j : ℕ) → Keeping v before ns c.state.chains c.vars → Contains v.all (find_site v.port place chain guards) → index_found (input_of v) c chain i guards ≡ Some j →
+find_live : (v : View) (before : List Event) (ns : Numbers) (c : Context) (place chain i : ℕ) (guards : List Guard) (j : ℕ) → Keeping v before ns c.state.chains c.vars → Contains v.all (find_site v.door place chain guards) → index_found (input_of v) c chain i guards ≡ Some j →
     Live v (before ++ Found place chain (index_found (input_of v) c chain i guards) ∷ []) ns c.state.chains (record { chain = chain; index = j })
 find_live v before ns c place chain i guards j a site h =
     let hit = index_found (input_of v) c chain i guards in
@@ -259,7 +260,7 @@ find_live v before ns c place chain i guards j a site h =
     (hit_live v before ns c.state.chains chain i (Found place chain hit) k.1 k.2 (find_covered v before ns c place chain i guards a site k.1 k.2 k.3)
     (in_entry ns (all_numbers v.start before) chain i hit a.count (h ∙ ap Some (sym k.0))) (record { place = refl; own = refl }))
 
-find_seen : (v : View) (before : List Event) (ns : Numbers) (c : Context) (place chain i : ℕ) (guards : List Guard) (j : ℕ) → Keeping v before ns c.state.chains c.vars → Contains v.all (find_site v.port place chain guards) → index_found (input_of v) c chain i guards ≡ Some j →
+find_seen : (v : View) (before : List Event) (ns : Numbers) (c : Context) (place chain i : ℕ) (guards : List Guard) (j : ℕ) → Keeping v before ns c.state.chains c.vars → Contains v.all (find_site v.door place chain guards) → index_found (input_of v) c chain i guards ≡ Some j →
     CoveredBy v before (Found place chain (index_found (input_of v) c chain i guards)) (EntryNo chain (ns.entry_no chain j))
 find_seen v before ns c place chain i guards j a site h =
     let k = found_entry (input_of v) c guards i j (slot c.state.chains chain i) h in
@@ -275,37 +276,37 @@ abbrev Asked : View → Numbers → Context → Completion → Question → List
 Asked v ns c w q es = (before : List Event) → Keeping v before ns c.state.chains c.vars → Good v (before ++ question_event (input_of v) c q ∷ []) ns w es
 
 -- the sites of a question that its locations are touched at
-asked_ahead : (v : View) (before : List Event) (ns : Numbers) (c : Context) (w : Completion) (q : Question) (es : List Event) → Keeping v before ns c.state.chains c.vars → In v.all (question_sites v.f.chains v.port q) → Asked v ns c w q es → Good v before ns w (asked (input_of v) c q es)
+asked_ahead : (v : View) (before : List Event) (ns : Numbers) (c : Context) (w : Completion) (q : Question) (es : List Event) → Keeping v before ns c.state.chains c.vars → In v.all (question_sites v.f.chains v.door q) → Asked v ns c w q es → Good v before ns w (asked (input_of v) c q es)
 asked_ahead v before ns c w (Get place chain m key var) es a h g =
     let p = input_of v in
-    let site = get_site v.f.chains v.port place chain m key in
+    let site = get_site v.f.chains v.door place chain m key in
     let keys = map (given p c) key in
     let hit = key_found p c chain m keys in
     let e = LookedUp place chain m keys hit in
-    let own = first_in_all v.all site (given_sites v.port key) h in
-    all_ahead v before ns c w key (e ∷ es) a (rest_in v.all site (given_sites v.port key) h)
+    let own = first_in_all v.all site (given_sites v.door key) h in
+    all_ahead v before ns c w key (e ∷ es) a (rest_in v.all site (given_sites v.door key) h)
     (λ later b t.
     let name : CoveredBy v later e (KeyOf chain m keys) = record {
-      touched = record { site = site; is_site = own; port = refl; object = refl; context = c; fits = (eq-eqb m m refl, map_numbered (given p c) (first_label v.f.chains chain m) key) };
+      touched = record { site = site; is_site = own; door = refl; object = refl; context = c; fits = (eq-eqb m m refl, map_numbered (given p c) (first_label v.f.chains chain m) key) };
       stands = record { place = refl; own = eq-eqb m m refl };
     } in
     let r = g later b t.1 in
     (((name, entry_covered v later ns e chain hit (λ i q. record { touched = get_covered v later ns c place chain m key i b own q; stands = record { place = refl; own = eq-eqb m m refl } })), r.0), r.1))
 asked_ahead v before ns c w (Find place chain at guards var) es a h g =
     let p = input_of v in
-    let site = find_site v.port place chain guards in
-    let reads_of = expression_sites v.port at ++ guard_sites v.port guards in
+    let site = find_site v.door place chain guards in
+    let reads_of = expression_sites v.door at ++ guard_sites v.door guards in
     let hit = index_found p c chain (value p c at) guards in
     let own = first_in_all v.all site reads_of h in
     let rest = rest_in v.all site reads_of h in
-    reads_ahead v before ns c w at (reads_guards p c guards (Found place chain hit ∷ es)) a (left_in v.all (expression_sites v.port at) (guard_sites v.port guards) rest)
-    (λ later b. guards_ahead v later ns c w guards (Found place chain hit ∷ es) b (right_in v.all (expression_sites v.port at) (guard_sites v.port guards) rest)
+    reads_ahead v before ns c w at (reads_guards p c guards (Found place chain hit ∷ es)) a (left_in v.all (expression_sites v.door at) (guard_sites v.door guards) rest)
+    (λ later b. guards_ahead v later ns c w guards (Found place chain hit ∷ es) b (right_in v.all (expression_sites v.door at) (guard_sites v.door guards) rest)
     (λ last d t. let r = g last d t.1 in ((entry_covered v last ns (Found place chain hit) chain hit (λ i q. find_seen v last ns c place chain (value p c at) guards i d own q), r.0), r.1)))
 asked_ahead v before ns c w (Test place comparison l r) es a h g =
     let p = input_of v in
     let e = Tested place (compares comparison (value p c l) (value p c r)) in
-    reads_ahead v before ns c w l (reads p c r (e ∷ es)) a (left_in v.all (expression_sites v.port l) (expression_sites v.port r) h)
-    (λ later b. reads_ahead v later ns c w r (e ∷ es) b (right_in v.all (expression_sites v.port l) (expression_sites v.port r) h) (λ last d t. let x = g last d t.1 in ((tt, x.0), x.1)))
+    reads_ahead v before ns c w l (reads p c r (e ∷ es)) a (left_in v.all (expression_sites v.door l) (expression_sites v.door r) h)
+    (λ later b. reads_ahead v later ns c w r (e ∷ es) b (right_in v.all (expression_sites v.door l) (expression_sites v.door r) h) (λ last d t. let x = g last d t.1 in ((tt, x.0), x.1)))
 
 bound_keeps : (v : View) (before : List Event) (ns : Numbers) (c d : Context) (var chain : ℕ) (o : Option ℕ) → Keeping v before ns c.state.chains c.vars → ((i : ℕ) → o ≡ Some i → Live v before ns c.state.chains (record { chain = chain; index = i })) → option_map (bound var chain c) o ≡ Some d → Keeping v before ns d.state.chains d.vars
 bound_keeps v before ns c d var chain None a h e = cc
@@ -320,13 +321,13 @@ no_entry_asked p c (Get place chain m key var) = refl
 no_entry_asked p c (Find place chain at guards var) = refl
 no_entry_asked p c (Test place comparison l r) = refl
 
-answer_keeps : (v : View) (before : List Event) (ns : Numbers) (c d : Context) (q : Question) → Keeping v before ns c.state.chains c.vars → In v.all (question_sites v.f.chains v.port q) → answer (input_of v) c q ≡ Some d → Keeping v (before ++ question_event (input_of v) c q ∷ []) ns d.state.chains d.vars
+answer_keeps : (v : View) (before : List Event) (ns : Numbers) (c d : Context) (q : Question) → Keeping v before ns c.state.chains c.vars → In v.all (question_sites v.f.chains v.door q) → answer (input_of v) c q ≡ Some d → Keeping v (before ++ question_event (input_of v) c q ∷ []) ns d.state.chains d.vars
 answer_keeps v before ns c d (Get place chain m key var) a h e =
-    let own = first_in_all v.all (get_site v.f.chains v.port place chain m key) (given_sites v.port key) h in
+    let own = first_in_all v.all (get_site v.f.chains v.door place chain m key) (given_sites v.door key) h in
     let asked_now = lookup v c place chain m key in
     bound_keeps v (before ++ asked_now ∷ []) ns c d var chain (key_found (input_of v) c chain m (map (given (input_of v) c) key)) (past v before ns c.state.chains c.vars asked_now refl a) (λ i q. get_live v before ns c place chain m key i a own q) e
 answer_keeps v before ns c d (Find place chain at guards var) a h e =
-    let own = first_in_all v.all (find_site v.port place chain guards) (expression_sites v.port at ++ guard_sites v.port guards) h in
+    let own = first_in_all v.all (find_site v.door place chain guards) (expression_sites v.door at ++ guard_sites v.door guards) h in
     let hit = index_found (input_of v) c chain (value (input_of v) c at) guards in
     bound_keeps v (before ++ Found place chain hit ∷ []) ns c d var chain hit (past v before ns c.state.chains c.vars (Found place chain hit) refl a) (λ i q. find_live v before ns c place chain (value (input_of v) c at) guards i a own q) e
 answer_keeps v before ns c d (Test place comparison l r) a h e =
@@ -340,20 +341,20 @@ hit_good v before ns None x y on es fs h m = m refl
 
 -- the keys of a `new`
 keys_covered : (v : View) (before : List Event) (c : Context) (n : Creation) (to : NewResult) (m : ℕ) (key : ℕ → List ℕ → Location) (maps : List MapDecl) → ((j : ℕ) (ks : List ℕ) → key j ks ≡ KeyOf n.chain (m + j) ks) → drop m (maps_of v.f.chains n.chain) ≡ maps →
-    In v.all (name_sites v.port n m maps) → AllCovered v before (AskedNew n.place n.chain (map (given (input_of v) c) n.labels) to) (keys_from key maps (map (given (input_of v) c) n.labels))
+    In v.all (name_sites v.door n m maps) → AllCovered v before (AskedNew n.place n.chain (map (given (input_of v) c) n.labels) to) (keys_from key maps (map (given (input_of v) c) n.labels))
 keys_covered v before c n to m key [] is e h = tt
 keys_covered v before c n to m key (decl ∷ maps) is e h =
     let p = input_of v in
     let labels = map (given p c) n.labels in
-    let site = name_site v.port n m decl in
+    let site = name_site v.door n m decl in
     let q = drop_at m (maps_of v.f.chains n.chain) maps decl e in
     let parts = key_in decl labels in
     let zero_on : m + 0 ≡ m = omega arith in
     let one : CoveredBy v before (AskedNew n.place n.chain labels to) (KeyOf n.chain m parts) = record {
       touched = record {
         site = site;
-        is_site = first_in_all v.all site (name_sites v.port n (suc m) maps) h;
-        port = refl;
+        is_site = first_in_all v.all site (name_sites v.door n (suc m) maps) h;
+        door = refl;
         object = refl;
         context = c;
         fits = (eq-eqb m m refl, key_given p c decl n.labels ∙ ap (λ (o : Option MapDecl). numbered (first_in o) parts) (sym q.0));
@@ -361,14 +362,14 @@ keys_covered v before c n to m key (decl ∷ maps) is e h =
       stands = record { place = refl; own = refl };
     } in (
       subst (λ (x : Location). CoveredBy v before (AskedNew n.place n.chain labels to) x) (sym (is 0 parts ∙ ap (λ k. KeyOf n.chain k parts) zero_on)) one,
-      keys_covered v before c n to (suc m) (λ j. key (suc j)) maps (λ j ks. let step : m + suc j ≡ suc m + j = omega arith in is (suc j) ks ∙ ap (λ k. KeyOf n.chain k ks) step) q.1 (rest_in v.all site (name_sites v.port n (suc m) maps) h),
+      keys_covered v before c n to (suc m) (λ j. key (suc j)) maps (λ j ks. let step : m + suc j ≡ suc m + j = omega arith in is (suc j) ks ∙ ap (λ k. KeyOf n.chain k ks) step) q.1 (rest_in v.all site (name_sites v.door n (suc m) maps) h),
     )
 
-abbrev new_covered : (v : View) (c : Context) (n : Creation) (k : ℕ) → Contains v.all (new_site v.port n) → AreTogether v.f n.chain (map (given (input_of v) c) n.labels) → MadeAs (v.table n.chain k) (map (given (input_of v) c) n.labels) → Covered v (EntryNo n.chain k)
+abbrev new_covered : (v : View) (c : Context) (n : Creation) (k : ℕ) → Contains v.all (new_site v.door n) → AreTogether v.f n.chain (map (given (input_of v) c) n.labels) → MadeAs (v.table n.chain k) (map (given (input_of v) c) n.labels) → Covered v (EntryNo n.chain k)
 new_covered v c n k h together made = record {
-  site = new_site v.port n;
+  site = new_site v.door n;
   is_site = h;
-  port = refl;
+  door = refl;
   object = refl;
   context = c;
   fits = (
@@ -400,7 +401,7 @@ abbrev asked_for : View → Stops → Context → Creation → Event
 asked_for v stops c n = AskedNew n.place n.chain (map (given (input_of v) c) n.labels) (new_result stops (input_of v) c n)
 
 new_keeps : (v : View) (before : List Event) (ns : Numbers) (stops : Stops) (c : Context) (n : Creation) (i : ℕ) → Keeping v before ns c.state.chains c.vars → new_result stops (input_of v) c n ≡ Made i → MadeAs (v.table n.chain (ns.made n.chain)) (map (given (input_of v) c) n.labels) →
-    AreTogether v.f n.chain (map (given (input_of v) c) n.labels) → Contains v.all (new_site v.port n) →
+    AreTogether v.f n.chain (map (given (input_of v) c) n.labels) → Contains v.all (new_site v.door n) →
     Keeping v (before ++ asked_for v stops c n ∷ []) (one_more n.chain i ns) (with_new (input_of v) c n i).state.chains (with_new (input_of v) c n i).vars
 new_keeps v before ns stops c n i a e made together own =
     let p = input_of v in
@@ -441,7 +442,7 @@ pub covers : (v : View) (stops : Stops) (b : Block) (before : List Event) (ns : 
 covers v stops (End FallsOff) before ns c g k r a on h = h c ns before a on
 covers v stops (End Flood) before ns c g k r a on h = λ t. (tt, a.entries)
 covers v stops (End Discard) before ns c g k r a on h = λ t. (tt, a.entries)
-covers v stops (End (Forward port)) before ns c g k r a on h = reads_ahead v before ns c (and_then (exec stops (input_of v) (End (Forward port)) c) g) port [] a on.0 (λ later b t. (tt, b.entries))
+covers v stops (End (Forward door)) before ns c g k r a on h = reads_ahead v before ns c (and_then (exec stops (input_of v) (End (Forward door)) c) g) door [] a on.0 (λ later b t. (tt, b.entries))
 covers v stops (Do op next) before ns c g k r a on h =
     let p = input_of v in
     did_ahead v before ns c (and_then (exec stops p (Do op next) c) g) op (events stops p next (after p c op) k) a on.0 (λ later b. covers v stops next later ns (after p c op) g k r (keeping_op v later ns c op b) on.2 h)
@@ -466,17 +467,17 @@ covers v stops (Make n made taken full next) before ns c g k r a on h =
     let labels = map (given p c) n.labels in
     let event = AskedNew n.place n.chain labels to in
     let maps = maps_of v.f.chains n.chain in
-    let names = name_sites v.port n 0 maps in
+    let names = name_sites v.door n 0 maps in
     let follows : (d : Context) (ms : Numbers) (later : List Event) → Keeping v later ms d.state.chains d.vars → On v (path d) → Good v later ms (then_ d) (go d) = λ d ms later b s. covers v stops next later ms d g k r b s h in
-    let reads_of = given_sites v.port (by_first_read n.labels) in
-    let own = first_in_all v.all (new_site v.port n) (names ++ reads_of) on.0 in
-    let rest = rest_in v.all (new_site v.port n) (names ++ reads_of) on.0 in
+    let reads_of = given_sites v.door (by_first_read n.labels) in
+    let own = first_in_all v.all (new_site v.door n) (names ++ reads_of) on.0 in
+    let rest = rest_in v.all (new_site v.door n) (names ++ reads_of) on.0 in
     let goes : (x : NewResult) → to ≡ x → On v (if_new x (λ i. route stops p made (with_new p c n i) path) (route stops p taken c path) (route stops p full c path) (route stops p full c path) (route stops p full c path)) = λ x e.
     subst (λ (x : NewResult). On v (if_new x (λ i. route stops p made (with_new p c n i) path) (route stops p taken c path) (route stops p full c path) (route stops p full c path) (route stops p full c path))) e on.2 in
     let tail = if_new to (λ i. events stops p made (with_new p c n i) go) (events stops p taken c go) (events stops p full c go) [] [] in
     let whole = if_new to (λ i. exec stops p made (with_new p c n i)) (exec stops p taken c) (exec stops p full c) NoStep (StoppedAt n.chain c.left) in
     subst (λ (w : Completion). Good v before ns w (events stops p (Make n made taken full next) c k)) (sym (then_then whole (exec stops p next) g))
-    (all_ahead v before ns c (and_then whole then_) n.labels (event ∷ tail) a (values_in v.all v.port n.labels (right_in v.all names reads_of rest))
+    (all_ahead v before ns c (and_then whole then_) n.labels (event ∷ tail) a (values_in v.all v.door n.labels (right_in v.all names reads_of rest))
     (λ last b. new_good v last ns n.place n.chain labels c.left to (λ i. exec stops p made (with_new p c n i)) (exec stops p taken c) (exec stops p full c) then_ (λ i. events stops p made (with_new p c n i) go) (events stops p taken c go) (events stops p full c go)
     (keys_covered v last c n to 0 (KeyOf n.chain) maps (λ j ks. let e : 0 + j ≡ j = omega arith in ap (λ k. KeyOf n.chain k ks) (sym e)) refl (left_in v.all names reads_of rest))
     (λ i e table. (

@@ -2,6 +2,9 @@
 use Rattle.std.proofs.Common.{append_assoc, append-nil, sym, ◌≡◌, ℕ, List, [], ◌∷◌, ◌++◌, Contains, Option, Some, None, slice_get, refl, ap, subst, inl, inr}
 use Rattle.std.proofs.lemmas.Option.{same_Some}
 use Rattle.std.proofs.lemmas.List.Elements.{Contains-append_cases}
+use Rattle.nf_base.specs.declared.packet.Door.{Door}
+use Rattle.nf_base.specs.Doors.{handler_at}
+use Rattle.nf_base.specs.Families.{door_of, door_for}
 use Rattle.nf_base.specs.declared.packet.Packet.{Packet}
 use Rattle.nf_base.specs.declared.packet.Fields.{Fields}
 use Rattle.nf_base.specs.declared.state.State.{State}
@@ -57,28 +60,28 @@ result_labelled v ns choices NoStep r h e = cc
 result_labelled v ns choices (StoppedAt chain left) r h e = cc
 
 abbrev view : Function → List Site → Numbers → Table → Packet → Fields → View
-view f all ns table packet fields = record { f = f; all = all; start = ns; table = table; port = packet.id.port; time = packet.time; fields = fields }
+view f all ns table packet fields = record { f = f; all = all; start = ns; table = table; door = door_of packet.id.port fields; time = packet.time; fields = fields }
 
-handled : (f : Function) (table : Table) (s : State) (ns : Numbers) (packet : Packet) (choices : List ℕ) (fields : Fields) (handler : Option Block) → AllLabelled f table ns s.chains → slice_get f.handlers packet.id.port ≡ handler →
-    Good (view f (path_sites f.chains packet.id.port (routes never f s packet.time fields choices handler)) ns table packet fields) [] ns (completes never f s packet.time fields choices handler) (records never f s packet.time fields choices handler)
+handled : (f : Function) (table : Table) (s : State) (ns : Numbers) (packet : Packet) (choices : List ℕ) (fields : Fields) (handler : Option Block) → AllLabelled f table ns s.chains → handler_at f (door_of packet.id.port fields) ≡ handler →
+    Good (view f (path_sites f.chains (door_of packet.id.port fields) (routes never f s packet.time fields choices handler)) ns table packet fields) [] ns (completes never f s packet.time fields choices handler) (records never f s packet.time fields choices handler)
 handled f table s ns packet choices fields None a at = λ t. (tt, tt)
 handled f table s ns packet choices fields (Some block) a at =
     let c = start_context f s packet.time choices in
-    let v = view f (path_sites f.chains packet.id.port (route never (input f packet.time fields) block c (λ _. []))) ns table packet fields in
+    let v = view f (path_sites f.chains (door_of packet.id.port fields) (route never (input f packet.time fields) block c (λ _. []))) ns table packet fields in
     let first : Keeping v [] ns c.state.chains c.vars = record { count = refl; entries = λ chain i e h. a chain i e (slot_alive packet.time (lifetime_of f.chains) s.chains chain i e h); live = λ k w h. cc } in
     subst (λ (w : Completion). Good v [] ns w (records never f s packet.time fields choices (Some block))) (then_normal (exec never (input_of v) block c))
     (covers v never block [] ns c Normal (λ _. []) (λ _. []) first (on_route v block c at refl) (λ d ms later b o t. (tt, b.entries)))
 
 -- the sites on the path of a packet
 abbrev pub Taken : Function → State → Packet → List ℕ → Option Fields → Site → Type 0
-Taken f s packet choices fields site = Contains (path_sites f.chains packet.id.port (route_of never f s packet choices fields)) site
+Taken f s packet choices fields site = Contains (path_sites f.chains (door_for packet.id.port fields) (route_of never f s packet choices fields)) site
 
 -- one packet
 pub record Went (f : Function) (table : Table) (s : State) (ns : Numbers) (packet : Packet) (choices : List ℕ) (o : Option Fields) : Type 0 where
   pub seen : (q : Fields) → o ≡ Some q → (x : Location) → Contains (locations f.chains ns (record_of never f s packet choices o)) x →
-      TouchedAt (Taken f s packet choices o) f table (input f packet.time q) packet.id.port x
+      TouchedAt (Taken f s packet choices o) f table (input f packet.time q) (door_of packet.id.port q) x
   pub each : (q : Fields) → o ≡ Some q → (es fs : List Event) (e : Event) (x : Location) → record_of never f s packet choices o ≡ es ++ e ∷ fs → Contains (locations_of f.chains (all_numbers ns es) e) x →
-      TouchedBy (Taken f s packet choices o) f table (input f packet.time q) packet.id.port ns es e x
+      TouchedBy (Taken f s packet choices o) f table (input f packet.time q) (door_of packet.id.port q) ns es e x
   pub kept : (r : StepResult) → step_of never f s packet choices o ≡ Some r → AllLabelled f table (all_numbers ns (record_of never f s packet choices o)) r.state.chains
 
 skip_state : (s : State) (choices : List ℕ) (r : StepResult) → skipped s choices ≡ Some r → s ≡ r.state
@@ -92,25 +95,25 @@ went f table s ns packet choices None a l = record {
   kept = λ r e. subst (λ (x : State). AllLabelled f table ns x.chains) (skip_state s choices r e) a;
 }
 went f table s ns packet choices (Some w) a l =
-    let handler = slice_get f.handlers packet.id.port in
+    let handler = handler_at f (door_of packet.id.port w) in
     let told = records never f s packet.time w choices handler in
-    let v = view f (path_sites f.chains packet.id.port (routes never f s packet.time w choices handler)) ns table packet w in
+    let v = view f (path_sites f.chains (door_of packet.id.port w) (routes never f s packet.time w choices handler)) ns table packet w in
     let good = handled f table s ns packet choices w handler a refl l in
     record {
-      seen = λ q e x h. subst (λ (z : Fields). TouchedAt (Taken f s packet choices (Some w)) f table (input f packet.time z) packet.id.port x) (same_Some w q e) (record_covered v [] ns told x good.0 h);
-      each = λ q e es fs d x is h. subst (λ (z : Fields). TouchedBy (Taken f s packet choices (Some w)) f table (input f packet.time z) packet.id.port ns es d x) (same_Some w q e)
+      seen = λ q e x h. subst (λ (z : Fields). TouchedAt (Taken f s packet choices (Some w)) f table (input f packet.time z) (door_of packet.id.port z) x) (same_Some w q e) (record_covered v [] ns told x good.0 h);
+      each = λ q e es fs d x is h. subst (λ (z : Fields). TouchedBy (Taken f s packet choices (Some w)) f table (input f packet.time z) (door_of packet.id.port z) ns es d x) (same_Some w q e)
           (event_covered v [] ns es fs d x (subst (λ (r : List Event). EachCovered v [] ns r) is good.0) h);
       kept = λ r e. result_labelled v (all_numbers ns told) choices (completes never f s packet.time w choices handler) r good.1 e;
     }
 
 -- touched at more sites
-pub wider : (ok more : Site → Type 0) (f : Function) (table : Table) (packet : Packet) (q : Fields) (x : Location) → ((s : Site) → ok s → more s) → TouchedAt ok f table (input f packet.time q) packet.id.port x → TouchedAt more f table (input f packet.time q) packet.id.port x
-wider ok more f table packet q x h t = record { site = t.site; is_site = h t.site t.is_site; port = t.port; object = t.object; context = t.context; fits = t.fits }
+pub wider : (ok more : Site → Type 0) (f : Function) (table : Table) (packet : Packet) (q : Fields) (x : Location) → ((s : Site) → ok s → more s) → TouchedAt ok f table (input f packet.time q) (door_of packet.id.port q) x → TouchedAt more f table (input f packet.time q) (door_of packet.id.port q) x
+wider ok more f table packet q x h t = record { site = t.site; is_site = h t.site t.is_site; door = t.door; object = t.object; context = t.context; fits = t.fits }
 
-pub wider_by : (ok more : Site → Type 0) (f : Function) (table : Table) (packet : Packet) (q : Fields) (ns : Numbers) (es : List Event) (e : Event) (x : Location) → ((s : Site) → ok s → more s) → TouchedBy ok f table (input f packet.time q) packet.id.port ns es e x →
-    TouchedBy more f table (input f packet.time q) packet.id.port ns es e x
+pub wider_by : (ok more : Site → Type 0) (f : Function) (table : Table) (packet : Packet) (q : Fields) (ns : Numbers) (es : List Event) (e : Event) (x : Location) → ((s : Site) → ok s → more s) → TouchedBy ok f table (input f packet.time q) (door_of packet.id.port q) ns es e x →
+    TouchedBy more f table (input f packet.time q) (door_of packet.id.port q) ns es e x
 wider_by ok more f table packet q ns es e x h t = record {
-  touched = record { site = t.touched.site; is_site = h t.touched.site t.touched.is_site; port = t.touched.port; object = t.touched.object; context = t.touched.context; fits = t.touched.fits };
+  touched = record { site = t.touched.site; is_site = h t.touched.site t.touched.is_site; door = t.touched.door; object = t.touched.object; context = t.touched.context; fits = t.touched.fits };
   stands = t.stands;
 }
 

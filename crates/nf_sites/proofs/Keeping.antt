@@ -2,6 +2,7 @@
 use Rattle.std.proofs.Common.{append_assoc, ◌≡◌, ℕ, Bool, true, false, ◌==◌, ◌&&◌, List, [], ◌∷◌, ◌++◌, map, take, Option, Some, None, slice_set, if◌then◌else◌, refl, ap, sym, ◌∙◌, subst, inl, inr, eq-eqb, eqb-true, Contains}
 use Rattle.std.specs.Option.{option_map}
 use Rattle.std.proofs.lemmas.Option.{same_Some}
+use Rattle.nf_base.specs.declared.packet.Door.{Door}
 use Rattle.nf_base.specs.declared.packet.Fields.{Fields}
 use Rattle.nf_base.specs.declared.state.Entry.{Entry}
 use Rattle.nf_base.specs.declared.state.Chain.{Chain}
@@ -26,7 +27,7 @@ pub record View : Type 0 where
   pub all : List Site
   pub start : Numbers
   pub table : Table
-  pub port : ℕ
+  pub door : Door
   pub time : ℕ
   pub fields : Fields
 
@@ -34,10 +35,10 @@ abbrev pub input_of : View → Input
 input_of v = input v.f v.time v.fields
 
 abbrev pub Covered : View → Location → Type 0
-Covered v x = TouchedAt (λ s. Contains v.all s) v.f v.table (input_of v) v.port x
+Covered v x = TouchedAt (λ s. Contains v.all s) v.f v.table (input_of v) v.door x
 
 abbrev pub CoveredBy : View → List Event → Event → Location → Type 0
-CoveredBy v before e x = TouchedBy (λ s. Contains v.all s) v.f v.table (input_of v) v.port v.start before e x
+CoveredBy v before e x = TouchedBy (λ s. Contains v.all s) v.f v.table (input_of v) v.door v.start before e x
 
 -- labels that are told, given where the entry's own are
 pub fits_labels : (f : Function) (p : Input) (c : Context) (chain : ℕ) (told : Option (List ℕ)) (labels : List ℕ) (named : List (Named Given)) → IsLabelled f chain told labels → AllGiven p c (label_value labels) named → FitsLabels f p c chain told named

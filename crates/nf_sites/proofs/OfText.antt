@@ -33,7 +33,7 @@ pub steps_of_text : (P : Statement → Type 0) (b : Block) (rest : List (List Pa
 steps_of_text P (End FallsOff) rest a h path i = h path i
 steps_of_text P (End Flood) rest a h path i = only_step P (Closing Flood) path (a (Ends Flood) (here (Ends Flood) [])) i
 steps_of_text P (End Discard) rest a h path i = only_step P (Closing Discard) path (a (Ends Discard) (here (Ends Discard) [])) i
-steps_of_text P (End (Forward port)) rest a h path i = only_step P (Closing (Forward port)) path (a (Ends (Forward port)) (here (Ends (Forward port)) [])) i
+steps_of_text P (End (Forward door)) rest a h path i = only_step P (Closing (Forward door)) path (a (Ends (Forward door)) (here (Ends (Forward door)) [])) i
 steps_of_text P (Do op next) rest a h path i =
     after_step P (Doing op) (paths next rest) path (a (Does op) (here (Does op) (statements next))) (steps_of_text P next rest (λ s j. a s (there (Does op) (statements next) s j)) h) i
 steps_of_text P (Ask q hit miss next) rest a h path i =

@@ -4,6 +4,8 @@ use Rattle.std.specs.List.{flat_map}
 use Rattle.std.proofs.lemmas.List.Kept.{AllPairs-from_increasing}
 use Rattle.std.specs.List.Sorted.{IsStrictlyIncreasing}
 use Rattle.std.proofs.lemmas.List.Elements.{Contains-append_cases, All-contains}
+use Rattle.nf_base.specs.Doors.{handler_at}
+use Rattle.nf_base.specs.declared.packet.Door.{Door}
 use Rattle.nf_base.specs.declared.decl.MapDecl.{MapDecl}
 use Rattle.nf_base.specs.declared.decl.ChainDecl.{ChainDecl}
 use Rattle.nf_base.specs.Text.{Expression, Number, Read, Index, Label, Column, Cell, Both, Given, Guard, FallsOff, Flood, Discard, Forward, Touch, Free, Set, Write, Store, Get, Find, Test, Creation, Block, Function}
@@ -33,108 +35,108 @@ Rising ns = Pairs Below ns
 abbrev InOrder : List Site → Type 0
 InOrder xs = Pairs Behind xs
 
-both : (port : ℕ) (us vs : List ℕ) (xs ys : List Site) → Rising (us ++ vs) → ((x : Site) → Contains xs x → IsOf port us x) → ((y : Site) → Contains ys y → IsOf port vs y) → (Rising us → InOrder xs) → (Rising vs → InOrder ys) → InOrder (xs ++ ys)
-both port us vs xs ys h of_xs of_ys f g =
+both : (door : Door) (us vs : List ℕ) (xs ys : List Site) → Rising (us ++ vs) → ((x : Site) → Contains xs x → IsOf door us x) → ((y : Site) → Contains ys y → IsOf door vs y) → (Rising us → InOrder xs) → (Rising vs → InOrder ys) → InOrder (xs ++ ys)
+both door us vs xs ys h of_xs of_ys f g =
     joined Behind xs ys (f (left Below us vs h)) (g (right Below us vs h))
     (λ x y i j. let lt = across Below us vs x.place y.place h (of_xs x i).place (of_ys y j).place in omega (arith, lt))
 
-first : (port place : ℕ) (us : List ℕ) (s : Site) (xs : List Site) → s.place ≡ place → Rising (place ∷ us) → ((x : Site) → Contains xs x → IsOf port us x) → (Rising us → InOrder xs) → InOrder (s ∷ xs)
-first port place us s xs e h of_xs f = (λ y i. let lt = h.0 y.place (of_xs y i).place in let q = e in omega (arith, lt, q), f h.1)
+first : (door : Door) (place : ℕ) (us : List ℕ) (s : Site) (xs : List Site) → s.place ≡ place → Rising (place ∷ us) → ((x : Site) → Contains xs x → IsOf door us x) → (Rising us → InOrder xs) → InOrder (s ∷ xs)
+first door place us s xs e h of_xs f = (λ y i. let lt = h.0 y.place (of_xs y i).place in let q = e in omega (arith, lt, q), f h.1)
 
-of_reads : (port : ℕ) (e : Expression) → Rising (expression_places e) → InOrder (expression_sites port e)
-of_reads port (Number n) h = tt
-of_reads port (Read field) h = tt
-of_reads port (Index var) h = tt
-of_reads port (Label var label) h = tt
-of_reads port (Column var column) h = tt
-of_reads port (Cell place array at) h = first port place (expression_places at) (cell_site port sort.Load place array at) (expression_sites port at) refl h (of_expression port at) (of_reads port at)
-of_reads port (Both operator l r) h = both port (expression_places l) (expression_places r) (expression_sites port l) (expression_sites port r) h (of_expression port l) (of_expression port r) (of_reads port l) (of_reads port r)
+of_reads : (door : Door) (e : Expression) → Rising (expression_places e) → InOrder (expression_sites door e)
+of_reads door (Number n) h = tt
+of_reads door (Read field) h = tt
+of_reads door (Index var) h = tt
+of_reads door (Label var label) h = tt
+of_reads door (Column var column) h = tt
+of_reads door (Cell place array at) h = first door place (expression_places at) (cell_site door sort.Load place array at) (expression_sites door at) refl h (of_expression door at) (of_reads door at)
+of_reads door (Both operator l r) h = both door (expression_places l) (expression_places r) (expression_sites door l) (expression_sites door r) h (of_expression door l) (of_expression door r) (of_reads door l) (of_reads door r)
 
-of_values : (port : ℕ) (gs : List Given) → Rising (given_places gs) → InOrder (given_sites port gs)
-of_values port [] h = tt
-of_values port (g ∷ gs) h = both port (expression_places g.value) (given_places gs) (expression_sites port g.value) (given_sites port gs) h (of_expression port g.value) (of_givens port gs) (of_reads port g.value) (of_values port gs)
+of_values : (door : Door) (gs : List Given) → Rising (given_places gs) → InOrder (given_sites door gs)
+of_values door [] h = tt
+of_values door (g ∷ gs) h = both door (expression_places g.value) (given_places gs) (expression_sites door g.value) (given_sites door gs) h (of_expression door g.value) (of_givens door gs) (of_reads door g.value) (of_values door gs)
 
-of_asked : (port : ℕ) (gs : List Guard) → Rising (guard_places gs) → InOrder (guard_sites port gs)
-of_asked port [] h = tt
-of_asked port (g ∷ gs) h = both port (expression_places g.given.value) (guard_places gs) (expression_sites port g.given.value) (guard_sites port gs) h (of_expression port g.given.value) (of_guards port gs) (of_reads port g.given.value) (of_asked port gs)
+of_asked : (door : Door) (gs : List Guard) → Rising (guard_places gs) → InOrder (guard_sites door gs)
+of_asked door [] h = tt
+of_asked door (g ∷ gs) h = both door (expression_places g.given.value) (guard_places gs) (expression_sites door g.given.value) (guard_sites door gs) h (of_expression door g.given.value) (of_guards door gs) (of_reads door g.given.value) (of_asked door gs)
 
-names_in_order : (port : ℕ) (n : Creation) (m : ℕ) (decls : List MapDecl) → InOrder (name_sites port n m decls)
-names_in_order port n m [] = tt
-names_in_order port n m (decl ∷ decls) = (λ y i. let e = (of_names port n (suc m) decls y i).place in omega (arith, e), names_in_order port n (suc m) decls)
+names_in_order : (door : Door) (n : Creation) (m : ℕ) (decls : List MapDecl) → InOrder (name_sites door n m decls)
+names_in_order door n m [] = tt
+names_in_order door n m (decl ∷ decls) = (λ y i. let e = (of_names door n (suc m) decls y i).place in omega (arith, e), names_in_order door n (suc m) decls)
 
-each_in_order : (port : ℕ) (gs : List Given) → ((g : Given) → Contains gs g → Rising (expression_places g.value)) → Pairs Follow gs → InOrder (given_sites port gs)
-each_in_order port [] r p = tt
-each_in_order port (g ∷ gs) r p =
+each_in_order : (door : Door) (gs : List Given) → ((g : Given) → Contains gs g → Rising (expression_places g.value)) → Pairs Follow gs → InOrder (given_sites door gs)
+each_in_order door [] r p = tt
+each_in_order door (g ∷ gs) r p =
     let lower = before_all (λ (h : Given). expression_places h.value) (expression_places g.value) gs (λ h i. follow_before g h (p.0 h i)) in
-    joined Behind (expression_sites port g.value) (given_sites port gs) (of_reads port g.value (r g (here g gs))) (each_in_order port gs (λ h i. r h (there g gs h i)) p.1)
-    (λ x y i j. let lt = lower x.place y.place (of_expression port g.value x i).place (of_givens port gs y j).place in omega (arith, lt))
+    joined Behind (expression_sites door g.value) (given_sites door gs) (of_reads door g.value (r g (here g gs))) (each_in_order door gs (λ h i. r h (there g gs h i)) p.1)
+    (λ x y i j. let lt = lower x.place y.place (of_expression door g.value x i).place (of_givens door gs y j).place in omega (arith, lt))
 
 rises : (ns : List ℕ) → IsStrictlyIncreasing ns → Rising ns
 rises ns h = from_all Below ns (AllPairs-from_increasing ns h)
 
-of_new : (decls : List ChainDecl) (port : ℕ) (n : Creation) → NewRises n → InOrder (statement_sites decls port (Makes n))
-of_new decls port n h =
-    let names = name_sites port n 0 (maps_of decls n.chain) in
-    let reads = given_sites port (by_first_read n.labels) in
-    let later : (y : Site) → Contains reads y → n.place < y.place = λ y j. h.first n.place y.place (here n.place []) (of_sorted port n.labels y j).place in (
+of_new : (decls : List ChainDecl) (door : Door) (n : Creation) → NewRises n → InOrder (statement_sites decls door (Makes n))
+of_new decls door n h =
+    let names = name_sites door n 0 (maps_of decls n.chain) in
+    let reads = given_sites door (by_first_read n.labels) in
+    let later : (y : Site) → Contains reads y → n.place < y.place = λ y j. h.first n.place y.place (here n.place []) (of_sorted door n.labels y j).place in (
       λ y i. elim (Contains-append_cases names reads y i) [
-        | inl j ↦ let e = (of_names port n 0 (maps_of decls n.chain) y j).place in omega (arith, e)
+        | inl j ↦ let e = (of_names door n 0 (maps_of decls n.chain) y j).place in omega (arith, e)
         | inr j ↦ let lt = later y j in omega (arith, lt)
       ],
-      joined Behind names reads (names_in_order port n 0 (maps_of decls n.chain))
-          (each_in_order port (by_first_read n.labels)
+      joined Behind names reads (names_in_order door n 0 (maps_of decls n.chain))
+          (each_in_order door (by_first_read n.labels)
           (λ g i. rises (expression_places g.value) (All-contains (λ (x : Given). IsStrictlyIncreasing (expression_places x.value)) n.labels g h.each (sorted_of n.labels g i)))
           (sorted_follow n.labels (from_all StandApart n.labels h.apart)))
-          (λ x y i j. let e = (of_names port n 0 (maps_of decls n.chain) x i).place in let lt = later y j in omega (arith, e, lt)),
+          (λ x y i j. let e = (of_names door n 0 (maps_of decls n.chain) x i).place in let lt = later y j in omega (arith, e, lt)),
     )
 
-in_statement : (decls : List ChainDecl) (port : ℕ) (s : Statement) → StatementRises s → InOrder (statement_sites decls port s)
-in_statement decls port (Ends FallsOff) h = tt
-in_statement decls port (Ends Flood) h = tt
-in_statement decls port (Ends Discard) h = tt
-in_statement decls port (Ends (Forward to)) h = of_reads port to (rises (expression_places to) h)
-in_statement decls port (Does (Touch var)) h = tt
-in_statement decls port (Does (Free var)) h = tt
-in_statement decls port (Does (Set field g)) h = of_reads port g.value (rises (expression_places g.value) h)
-in_statement decls port (Does (Write var column g)) h = of_reads port g.value (rises (expression_places g.value) h)
-in_statement decls port (Does (Store place array at g)) h =
-    first port place (expression_places at ++ expression_places g.value) (cell_site port sort.Store place array at) (expression_sites port at ++ expression_sites port g.value) refl (rises (place ∷ (expression_places at ++ expression_places g.value)) h)
-    (λ x. either_of port (expression_places at) (expression_places g.value) (expression_sites port at) (expression_sites port g.value) x (of_expression port at x) (of_expression port g.value x))
-    (λ r. both port (expression_places at) (expression_places g.value) (expression_sites port at) (expression_sites port g.value) r (of_expression port at) (of_expression port g.value) (of_reads port at) (of_reads port g.value))
-in_statement decls port (Asks (Get place chain m key var)) h = first port place (given_places key) (get_site decls port place chain m key) (given_sites port key) refl (rises (place ∷ given_places key) h) (of_givens port key) (of_values port key)
-in_statement decls port (Asks (Find place chain at guards var)) h =
-    first port place (expression_places at ++ guard_places guards) (find_site port place chain guards) (expression_sites port at ++ guard_sites port guards) refl (rises (place ∷ (expression_places at ++ guard_places guards)) h)
-    (λ x. either_of port (expression_places at) (guard_places guards) (expression_sites port at) (guard_sites port guards) x (of_expression port at x) (of_guards port guards x))
-    (λ r. both port (expression_places at) (guard_places guards) (expression_sites port at) (guard_sites port guards) r (of_expression port at) (of_guards port guards) (of_reads port at) (of_asked port guards))
-in_statement decls port (Asks (Test place comparison l r)) h =
-    both port (expression_places l) (expression_places r) (expression_sites port l) (expression_sites port r) (rises (place ∷ (expression_places l ++ expression_places r)) h).1 (of_expression port l) (of_expression port r) (of_reads port l) (of_reads port r)
-in_statement decls port (Makes n) h = of_new decls port n h
+in_statement : (decls : List ChainDecl) (door : Door) (s : Statement) → StatementRises s → InOrder (statement_sites decls door s)
+in_statement decls door (Ends FallsOff) h = tt
+in_statement decls door (Ends Flood) h = tt
+in_statement decls door (Ends Discard) h = tt
+in_statement decls door (Ends (Forward to)) h = of_reads door to (rises (expression_places to) h)
+in_statement decls door (Does (Touch var)) h = tt
+in_statement decls door (Does (Free var)) h = tt
+in_statement decls door (Does (Set field g)) h = of_reads door g.value (rises (expression_places g.value) h)
+in_statement decls door (Does (Write var column g)) h = of_reads door g.value (rises (expression_places g.value) h)
+in_statement decls door (Does (Store place array at g)) h =
+    first door place (expression_places at ++ expression_places g.value) (cell_site door sort.Store place array at) (expression_sites door at ++ expression_sites door g.value) refl (rises (place ∷ (expression_places at ++ expression_places g.value)) h)
+    (λ x. either_of door (expression_places at) (expression_places g.value) (expression_sites door at) (expression_sites door g.value) x (of_expression door at x) (of_expression door g.value x))
+    (λ r. both door (expression_places at) (expression_places g.value) (expression_sites door at) (expression_sites door g.value) r (of_expression door at) (of_expression door g.value) (of_reads door at) (of_reads door g.value))
+in_statement decls door (Asks (Get place chain m key var)) h = first door place (given_places key) (get_site decls door place chain m key) (given_sites door key) refl (rises (place ∷ given_places key) h) (of_givens door key) (of_values door key)
+in_statement decls door (Asks (Find place chain at guards var)) h =
+    first door place (expression_places at ++ guard_places guards) (find_site door place chain guards) (expression_sites door at ++ guard_sites door guards) refl (rises (place ∷ (expression_places at ++ guard_places guards)) h)
+    (λ x. either_of door (expression_places at) (guard_places guards) (expression_sites door at) (guard_sites door guards) x (of_expression door at x) (of_guards door guards x))
+    (λ r. both door (expression_places at) (guard_places guards) (expression_sites door at) (guard_sites door guards) r (of_expression door at) (of_guards door guards) (of_reads door at) (of_asked door guards))
+in_statement decls door (Asks (Test place comparison l r)) h =
+    both door (expression_places l) (expression_places r) (expression_sites door l) (expression_sites door r) (rises (place ∷ (expression_places l ++ expression_places r)) h).1 (of_expression door l) (of_expression door r) (of_reads door l) (of_reads door r)
+in_statement decls door (Makes n) h = of_new decls door n h
 
-pub along : (decls : List ChainDecl) (port : ℕ) (ss : List Statement) (x : Site) → Contains (sites_along decls port ss) x → IsOf port (flat_map places_in ss) x
-along decls port [] x h = absurd (has_none x h)
-along decls port (s ∷ ss) x h = either_of port (places_in s) (flat_map places_in ss) (statement_sites decls port s) (sites_along decls port ss) x (of_statement decls port s x) (along decls port ss x) h
+pub along : (decls : List ChainDecl) (door : Door) (ss : List Statement) (x : Site) → Contains (sites_along decls door ss) x → IsOf door (flat_map places_in ss) x
+along decls door [] x h = absurd (has_none x h)
+along decls door (s ∷ ss) x h = either_of door (places_in s) (flat_map places_in ss) (statement_sites decls door s) (sites_along decls door ss) x (of_statement decls door s x) (along decls door ss x) h
 
 -- the places of one statement stand before those of another
 abbrev Lower : Statement → Statement → Type 0
 Lower s t = StandBefore (places_in s) (places_in t)
 
-all_in_order : (decls : List ChainDecl) (port : ℕ) (ss : List Statement) → ((s : Statement) → Contains ss s → StatementRises s) → Pairs Lower ss → InOrder (sites_along decls port ss)
-all_in_order decls port [] r p = tt
-all_in_order decls port (s ∷ ss) r p =
+all_in_order : (decls : List ChainDecl) (door : Door) (ss : List Statement) → ((s : Statement) → Contains ss s → StatementRises s) → Pairs Lower ss → InOrder (sites_along decls door ss)
+all_in_order decls door [] r p = tt
+all_in_order decls door (s ∷ ss) r p =
     let lower = before_all places_in (places_in s) ss p.0 in
-    joined Behind (statement_sites decls port s) (sites_along decls port ss) (in_statement decls port s (r s (here s ss))) (all_in_order decls port ss (λ t i. r t (there s ss t i)) p.1)
-    (λ x y i j. let lt = lower x.place y.place (of_statement decls port s x i).place (along decls port ss y j).place in omega (arith, lt))
+    joined Behind (statement_sites decls door s) (sites_along decls door ss) (in_statement decls door s (r s (here s ss))) (all_in_order decls door ss (λ t i. r t (there s ss t i)) p.1)
+    (λ x y i j. let lt = lower x.place y.place (of_statement decls door s x i).place (along decls door ss y j).place in omega (arith, lt))
 
 pub in_text_order : SitesStandInTextOrder
-in_text_order f port block e h =
+in_text_order f door block e h =
     let ss = statements block in
-    let all = all_in_order f.chains port ss (λ s i. All-contains StatementRises ss s h.each i) (from_all Lower ss h.between) in
-    subst (λ (o : Option Block). AllPairs Behind (handler_sites f port o)) (sym e)
-    (to_all Behind (handler_sites f port (Some block)) (filtered Behind (λ (x : Site). is_reached f port x.place) (text_sites f.chains port block) all))
+    let all = all_in_order f.chains door ss (λ s i. All-contains StatementRises ss s h.each i) (from_all Lower ss h.between) in
+    subst (λ (o : Option Block). AllPairs Behind (handler_sites f door o)) (sym e)
+    (to_all Behind (handler_sites f door (Some block)) (filtered Behind (λ (x : Site). is_reached f door x.place) (text_sites f.chains door block) all))
 
-at_handler : (f : Function) (port : ℕ) (o : Option Block) (x : Site) → Contains (handler_sites f port o) x → x.port ≡ port
-at_handler f port None x h = absurd (has_none x h)
-at_handler f port (Some block) x h = (along f.chains port (statements block) x (was (λ (x : Site). is_reached f port x.place) (text_sites f.chains port block) x h)).port
+at_handler : (f : Function) (door : Door) (o : Option Block) (x : Site) → Contains (handler_sites f door o) x → x.door ≡ door
+at_handler f door None x h = absurd (has_none x h)
+at_handler f door (Some block) x h = (along f.chains door (statements block) x (was (λ (x : Site). is_reached f door x.place) (text_sites f.chains door block) x h)).door
 
 pub of_their_port : SitesAreOfTheirPort
-of_their_port f port x h = at_handler f port (slice_get f.handlers port) x h
+of_their_port f door x h = at_handler f door (handler_at f door) x h

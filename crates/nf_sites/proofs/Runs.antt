@@ -3,6 +3,7 @@ use Rattle.std.proofs.Common.{◌≡◌, ℕ, zero, suc, Bool, true, false, ◌=
 use Rattle.std.specs.Option.{option_and_then}
 use Rattle.std.proofs.lemmas.Option.{same_Some}
 use Rattle.std.proofs.lemmas.List.{get_or_at}
+use Rattle.nf_base.specs.Families.{door_of}
 use Rattle.nf_base.specs.declared.packet.Packet.{Packet}
 use Rattle.nf_base.specs.declared.packet.Fields.{Fields}
 use Rattle.nf_base.specs.declared.decl.ChainDecl.{ChainDecl}
@@ -76,7 +77,7 @@ next_report (Some r) go a P h f = f r refl h
 record Seen (f : Function) (table : Table) (packet : Packet) (x : Location) : Type 0 where
   pub fields : Fields
   pub handled : packet.fields ≡ Some fields
-  pub touched : TouchedAt (IsOf f) f table (input f packet.time fields) packet.id.port x
+  pub touched : TouchedAt (IsOf f) f table (input f packet.time fields) (door_of packet.id.port fields) x
 
 -- a packet that touches something is handled
 of_handled : (f : Function) (s : State) (ns : Numbers) (packet : Packet) (choices : List ℕ) (o : Option Fields) (x : Location) → Contains (locations f.chains ns (record_of never f s packet choices o)) x → (q : Fields) × (o ≡ Some q)

@@ -3,12 +3,16 @@ use Rattle.std.proofs.Common.{◌≡◌, ◌≤◌, ℕ, ◌==◌, eq-eqb, eqb-t
 use Rattle.std.specs.List.{list_all}
 use Rattle.std.proofs.lemmas.Option.{same_Some}
 use Rattle.std.proofs.lemmas.Bool.{ltb-true, ltb-false}
+use Rattle.std.specs.Option.{option_and_then}
+use Rattle.nf_base.specs.Doors.{blocks}
+use Rattle.nf_base.specs.declared.packet.Family.{Family}
 use Rattle.nf_base.specs.declared.packet.Field.{Field}
 use Rattle.nf_base.specs.Text.{Expression, Number, Read, Index, Label, Column, Cell, Both, Given, Creation}
 use Rattle.nf_base.specs.Values.{bits}
 use Rattle.nf_base.specs.Statements.{Statement, Ends, Does, Asks, Makes, statements}
+use Rattle.path_walk.specs.Tests.{field_number}
 use Rattle.hash_fields.specs.declared.hashable.Hashable.{Hashable}
-use Rattle.hash_fields.specs.Hashed.{number, width, hashable}
+use Rattle.hash_fields.specs.Hashed.{width, hashable}
 use Rattle.nf_sites.specs.Named.{Named, lesser, least, or_else}
 use Rattle.nf_sites.specs.Known.{of_width, plain_field, field_given, same_field, field_at, sets_alike}
 use Rattle.nf_sites.specs.KnownLaws.{IsPlainField, FieldsAreGiven, SetsOneField, TogetherIs, Speaks, NoneSpeaks, SpeakersSpeak, NoneSpeaksWhere}
@@ -17,33 +21,34 @@ use Rattle.nf_sites.proofs.Lists.{all_has, all_true}
 use Rattle.nf_sites.proofs.Fields.{width_is, one_field}
 
 -- plain fields
-is_read : (e : Expression) (h : Hashable) → plain_field e ≡ Some h → (field : Field) × (e ≡ Read field) × (hashable field ≡ Some h)
-is_read (Read field) h e = (field, refl, e)
-is_read (Number n) h e = cc
-is_read (Index var) h e = cc
-is_read (Label var label) h e = cc
-is_read (Column var column) h e = cc
-is_read (Cell place array at) h e = cc
-is_read (Both operator l r) h e = cc
+is_read : (family : Family) (e : Expression) (h : Hashable) → option_and_then (hashable family) (plain_field e) ≡ Some h → (field : Field) × (e ≡ Read field) × (hashable family field ≡ Some h)
+is_read family (Read field) h e = (field, refl, e)
+is_read family (Number n) h e = cc
+is_read family (Index var) h e = cc
+is_read family (Label var label) h e = cc
+is_read family (Column var column) h e = cc
+is_read family (Cell place array at) h e = cc
+is_read family (Both operator l r) h e = cc
 
-to_plain : (g : Given) (h : Hashable) → field_given g ≡ Some h → IsPlainField g h
-to_plain g h e =
-    let w = width_is (bits g.width) (plain_field g.value) h e in
-    let r = is_read g.value h w.0 in
+to_plain : (family : Family) (g : Given) (h : Hashable) → field_given family g ≡ Some h → IsPlainField family g h
+to_plain family g h e =
+    let w = width_is family (bits g.width) (option_and_then (hashable family) (plain_field g.value)) h e in
+    let r = is_read family g.value h w.0 in
     record { field = r.0; plain = r.1; hashed = r.2; fits = w.1 }
 
-has_width : (w : ℕ) (h : Hashable) → w ≡ width h → of_width w (Some h) ≡ Some h
-has_width w h e = ap (λ b. if b then Some h else None) (eq-eqb w (width h) e)
+has_width : (family : Family) (w : ℕ) (h : Hashable) → w ≡ width family h → of_width family w (Some h) ≡ Some h
+has_width family w h e = ap (λ b. if b then Some h else None) (eq-eqb w (width family h) e)
 
-from_plain : (g : Given) (h : Hashable) → IsPlainField g h → field_given g ≡ Some h
-from_plain g h p = ap (of_width (bits g.width)) (ap plain_field p.plain ∙ p.hashed) ∙ has_width (bits g.width) h p.fits
+from_plain : (family : Family) (g : Given) (h : Hashable) → IsPlainField family g h → field_given family g ≡ Some h
+from_plain family g h p =
+    ap (of_width family (bits g.width)) (ap (λ (e : Expression). option_and_then (hashable family) (plain_field e)) p.plain ∙ p.hashed) ∙ has_width family (bits g.width) h p.fits
 
 pub fields_given : FieldsAreGiven
-fields_given g h = (to_plain g h, from_plain g h)
+fields_given family g h = (to_plain family g h, from_plain family g h)
 
 -- labels that are together
-one_and_one : (a b : Option Hashable) (h : Hashable) → a ≡ Some h → b ≡ Some h → same_field a b ≡ true
-one_and_one a b h e q = ap (λ x. same_field x b) e ∙ ap (same_field (Some h)) q ∙ eq-eqb (number h) (number h) refl
+one_and_one : (a b : Option Field) (h : Field) → a ≡ Some h → b ≡ Some h → same_field a b ≡ true
+one_and_one a b h e q = ap (λ x. same_field x b) e ∙ ap (same_field (Some h)) q ∙ eq-eqb (field_number h) (field_number h) refl
 
 when_chain : (b x : Bool) → b ≡ true → (if b then x else true) ≡ true → x ≡ true
 when_chain true x t e = e
@@ -62,10 +67,10 @@ alike_by chain l r (Makes n) h = if_chain (n.chain == chain) (same_field (field_
 pub together_is : TogetherIs
 together_is f chain l r = (
   λ e block n hb hn same.
-      let one = all_has (sets_alike chain l r) (statements block) (Makes n) (all_has (λ b. list_all (sets_alike chain l r) (statements b)) f.handlers block e hb) hn in
+      let one = all_has (sets_alike chain l r) (statements block) (Makes n) (all_has (λ b. list_all (sets_alike chain l r) (statements b)) (blocks f) block e hb) hn in
       let w = one_field (field_at n.labels l) (field_at n.labels r) (when_chain (n.chain == chain) _ (eq-eqb n.chain chain same) one) in
       record { field = w.0; first = w.1; second = w.2 },
-  λ h. all_true (λ b. list_all (sets_alike chain l r) (statements b)) f.handlers (λ block hb.
+  λ h. all_true (λ b. list_all (sets_alike chain l r) (statements b)) (blocks f) (λ block hb.
       all_true (sets_alike chain l r) (statements block) (λ s hs. alike_by chain l r s (λ n e same. h block n hb (subst (λ (t : Statement). Contains (statements block) t) e hs) same))),
 )
 

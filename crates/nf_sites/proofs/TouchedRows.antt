@@ -1,5 +1,6 @@
 -- What sites of some functions are given.
 use Rattle.std.proofs.Common.{true, ◌≡◌, ◌^◌, ◌%◌, ◌⊎◌, ℕ, suc, List, [], ◌∷◌, ◌++◌, Contains, Some, None, refl, ap, sym, ◌∙◌, subst, inl, inr}
+use Rattle.nf_base.specs.Families.{source, destination}
 use Rattle.nf_base.specs.declared.decl.ChainDecl.{ChainDecl}
 use Rattle.nf_base.specs.declared.packet.Fields.{Fields}
 use Rattle.nf_base.specs.Context.{Context}
@@ -10,6 +11,7 @@ use Rattle.nf_base.specs.Step.{input}
 use Rattle.nf_laws.specs.Policer.{policer}
 use Rattle.nf_laws.specs.Sums.{counters}
 use Rattle.nf_laws.proofs.Listed.{has, has_none}
+use Rattle.nf_sites.specs.Samples.{four_at}
 use Rattle.nf_sites.specs.Named.{Named, numbered}
 use Rattle.nf_sites.specs.Sites.{Site}
 use Rattle.nf_sites.specs.OnPaths.{sites_of}
@@ -35,32 +37,32 @@ back : (n : ℕ) (key : List ℕ) → first_given (numbered n key) ≡ key
 back n [] = refl
 back n (x ∷ key) = ap (λ ks. x ∷ ks) (back (suc n) key)
 
-at_key : (table : Table) (fields : Fields) (key : List ℕ) (c : Context) → Every (λ site. Fits policer table (input policer 0 fields) c site (KeyOf 0 0 key) → key ≡ fields.dst_ip % 2 ^ 32 ∷ []) (sites_of policer)
+at_key : (table : Table) (fields : Fields) (key : List ℕ) (c : Context) → Every (λ site. Fits policer table (input policer 0 fields) c site (KeyOf 0 0 key) → key ≡ destination fields % 2 ^ 32 ∷ []) (sites_of policer)
 at_key table fields key c = (λ f. sym (ap first_given f.1 ∙ back 0 key), ((λ f. let no = f.0 in cc), ((λ f. sym (ap first_given f.1 ∙ back 0 key)), tt)))
 
-key_row : (table : Table) (fields : Fields) (key : List ℕ) → PolicerTouches table fields 1 (KeyOf 0 0 key) → key ≡ fields.dst_ip % 2 ^ 32 ∷ []
-key_row table fields key t = every_at (λ site. Fits policer table (input policer 0 fields) t.context site (KeyOf 0 0 key) → key ≡ fields.dst_ip % 2 ^ 32 ∷ []) (sites_of policer) t.site (at_key table fields key t.context) t.is_site t.fits
+key_row : (table : Table) (fields : Fields) (key : List ℕ) → PolicerTouches table fields 1 (KeyOf 0 0 key) → key ≡ destination fields % 2 ^ 32 ∷ []
+key_row table fields key t = every_at (λ site. Fits policer table (input policer 0 fields) t.context site (KeyOf 0 0 key) → key ≡ destination fields % 2 ^ 32 ∷ []) (sites_of policer) t.site (at_key table fields key t.context) t.is_site t.fits
 
-at_entry : (labels : (chain k : ℕ) → List ℕ) (fields : Fields) (k : ℕ) (c : Context) → Every (λ site. Fits policer (told labels) (input policer 0 fields) c site (EntryNo 0 k) → label_value (labels 0 k) 0 ≡ fields.dst_ip % 2 ^ 32) (sites_of policer)
+at_entry : (labels : (chain k : ℕ) → List ℕ) (fields : Fields) (k : ℕ) (c : Context) → Every (λ site. Fits policer (told labels) (input policer 0 fields) c site (EntryNo 0 k) → label_value (labels 0 k) 0 ≡ destination fields % 2 ^ 32) (sites_of policer)
 at_entry labels fields k c = ((λ f. sym f.1.0.0), ((λ f. sym f.1.0.0), ((λ f. let no = f.0 in cc), tt)))
 
-entry_row : (labels : (chain k : ℕ) → List ℕ) (fields : Fields) (k : ℕ) → PolicerTouches (told labels) fields 1 (EntryNo 0 k) → label_value (labels 0 k) 0 ≡ fields.dst_ip % 2 ^ 32
+entry_row : (labels : (chain k : ℕ) → List ℕ) (fields : Fields) (k : ℕ) → PolicerTouches (told labels) fields 1 (EntryNo 0 k) → label_value (labels 0 k) 0 ≡ destination fields % 2 ^ 32
 entry_row labels fields k t =
-    every_at (λ site. Fits policer (told labels) (input policer 0 fields) t.context site (EntryNo 0 k) → label_value (labels 0 k) 0 ≡ fields.dst_ip % 2 ^ 32) (sites_of policer) t.site (at_entry labels fields k t.context) t.is_site t.fits
+    every_at (λ site. Fits policer (told labels) (input policer 0 fields) t.context site (EntryNo 0 k) → label_value (labels 0 k) 0 ≡ destination fields % 2 ^ 32) (sites_of policer) t.site (at_entry labels fields k t.context) t.is_site t.fits
 
-all_at_port_1 : Every (λ (site : Site). (site.port ≡ 1) × (site.object ≡ object.Chain 0)) (sites_of policer)
+all_at_port_1 : Every (λ (site : Site). (site.door ≡ four_at 1) × (site.object ≡ object.Chain 0)) (sites_of policer)
 all_at_port_1 = ((refl, refl), ((refl, refl), ((refl, refl), tt)))
 
 port_row : (table : Table) (fields : Fields) (x : Location) → PolicerTouches table fields 0 x → ⊥
-port_row table fields x t = let one = (every_at (λ (site : Site). (site.port ≡ 1) × (site.object ≡ object.Chain 0)) (sites_of policer) t.site all_at_port_1 t.is_site).0 in let none = t.port in cc
+port_row table fields x t = let one = (every_at (λ (site : Site). (site.door ≡ four_at 1) × (site.object ≡ object.Chain 0)) (sites_of policer) t.site all_at_port_1 t.is_site).0 in let none = t.door in cc
 
 chain_row : (table : Table) (fields : Fields) (k : ℕ) → PolicerTouches table fields 1 (EntryNo 1 k) → ⊥
-chain_row table fields k t = let one = (every_at (λ (site : Site). (site.port ≡ 1) × (site.object ≡ object.Chain 0)) (sites_of policer) t.site all_at_port_1 t.is_site).1 in let other = t.object in cc
+chain_row table fields k t = let one = (every_at (λ (site : Site). (site.door ≡ four_at 1) × (site.object ≡ object.Chain 0)) (sites_of policer) t.site all_at_port_1 t.is_site).1 in let other = t.object in cc
 
 at_cell : (table : Table) (fields : Fields) (i : ℕ) (c : Context) → Every (λ site. Fits counters table (input counters 0 fields) c site (CellAt 0 i) → (fields.src_port % 2 ^ 16 ≡ i) ⊎ (fields.dst_port % 2 ^ 16 ≡ i)) (sites_of counters)
 at_cell table fields i c = ((λ f. inl f.1.0), ((λ f. inl f.1.0), ((λ f. inr f.1.0), tt)))
 
-cell_row : (table : Table) (fields : Fields) (i : ℕ) → TouchedAt (IsOf counters) counters table (input counters 0 fields) 0 (CellAt 0 i) → (fields.src_port % 2 ^ 16 ≡ i) ⊎ (fields.dst_port % 2 ^ 16 ≡ i)
+cell_row : (table : Table) (fields : Fields) (i : ℕ) → TouchedAt (IsOf counters) counters table (input counters 0 fields) (four_at 0) (CellAt 0 i) → (fields.src_port % 2 ^ 16 ≡ i) ⊎ (fields.dst_port % 2 ^ 16 ≡ i)
 cell_row table fields i t =
     every_at (λ site. Fits counters table (input counters 0 fields) t.context site (CellAt 0 i) → (fields.src_port % 2 ^ 16 ≡ i) ⊎ (fields.dst_port % 2 ^ 16 ≡ i)) (sites_of counters) t.site (at_cell table fields i t.context) t.is_site t.fits
 

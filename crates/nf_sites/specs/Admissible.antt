@@ -1,5 +1,7 @@
 -- What a hash for each port promises to the sites of a function.
 use Rattle.std.specs.Prelude.{◌≡◌, ℕ, IsTrue, Option, Some, None, Contains}
+use Rattle.nf_base.specs.Families.{family_of}
+use Rattle.nf_base.specs.declared.packet.Door.{Door}
 use Rattle.nf_base.specs.declared.packet.Fields.{Fields}
 use Rattle.nf_base.specs.Text.{Function}
 use Rattle.nf_base.specs.Objects.{is_written}
@@ -20,20 +22,25 @@ abbrev pub Agree : Function → (x y : Site) → (p q : Fields) → Type 0
 Agree f x y p q =
     (l : ℕ) → Contains (kept f x.object) l → AreEqual p q (known f x l) (known f y l)
 
+-- an input within its widths, of a site's family
+pub record IsAt (x : Site) (p : Fields) : Type 0 where
+  pub family : family_of p ≡ x.door.family
+  pub input : IsInput p
+
 -- A hash of each port's input is admissible where inputs that agree at two sites of a written
 -- object have one hash, each by its site's port.
-abbrev pub IsAdmissibleBySites : Function → (hash : ℕ → Fields → ℕ) → Type 0
+abbrev pub IsAdmissibleBySites : Function → (hash : Door → Fields → ℕ) → Type 0
 IsAdmissibleBySites f hash =
     (x y : Site) → Contains (sites_of f) x → Contains (sites_of f) y → x.object ≡ y.object →
-    IsTrue (is_written f x.object) → (p q : Fields) → IsInput p → IsInput q → Agree f x y p q →
-    hash x.port p ≡ hash y.port q
+    IsTrue (is_written f x.object) → (p q : Fields) → IsAt x p → IsAt y q → Agree f x y p q →
+    hash x.door p ≡ hash y.door q
 
 -- The same, as it stands: at the sites on feasible paths, and by the labels that are known at each
 -- of them.
-abbrev pub IsAdmissible : Function → (hash : ℕ → Fields → ℕ) → Type 0
+abbrev pub IsAdmissible : Function → (hash : Door → Fields → ℕ) → Type 0
 IsAdmissible f hash =
     (x y : Site) → IsSite f x → IsSite f y → x.object ≡ y.object →
-    IsTrue (is_written f x.object) → (p q : Fields) → IsInput p → IsInput q →
+    IsTrue (is_written f x.object) → (p q : Fields) → IsAt x p → IsAt y q →
     ((l : ℕ) → Contains (labels_of f x.object) l → IsKept f x.object l →
     AreEqual p q (known f x l) (known f y l)) →
-    hash x.port p ≡ hash y.port q
+    hash x.door p ≡ hash y.door q

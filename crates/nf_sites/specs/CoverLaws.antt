@@ -1,5 +1,6 @@
 -- Cover: what a packet touches, it touches at a site.
 use Rattle.std.specs.Prelude.{◌≡◌, ℕ, List, ◌∷◌, ◌++◌, Some, Contains}
+use Rattle.nf_base.specs.Families.{door_of, door_for}
 use Rattle.nf_base.specs.declared.packet.Packet.{Packet}
 use Rattle.nf_base.specs.declared.packet.Fields.{Fields}
 use Rattle.nf_base.specs.declared.state.State.{State}
@@ -16,7 +17,7 @@ use Rattle.nf_sites.specs.Labelled.{AllLabelled, Listed, table_of}
 -- the sites on the path that a packet takes
 abbrev pub IsOnPath : Function → State → Packet → List ℕ → Site → Type 0
 IsOnPath f s packet choices site =
-    Contains (path_sites f.chains packet.id.port (path_taken f s packet choices)) site
+    Contains (path_sites f.chains (door_for packet.id.port packet.fields) (path_taken f s packet choices)) site
 
 -- the sites of a function
 abbrev pub IsOf : Function → Site → Type 0
@@ -31,7 +32,7 @@ Covers f ok =
     (es fs : List Event) (e : Event) (x : Location) → packet.fields ≡ Some fields →
     recorded f s packet choices ≡ es ++ e ∷ fs →
     Contains (locations_of f.chains (all_numbers ns es) e) x →
-    TouchedBy ok f no_table (input f packet.time fields) packet.id.port ns es e x
+    TouchedBy ok f no_table (input f packet.time fields) (door_of packet.id.port fields) ns es e x
 
 -- the sites of a function are such
 abbrev pub SitesCover : Type 0
@@ -46,7 +47,7 @@ RecordsAreCovered =
     packet.fields ≡ Some fields → AllLabelled f table ns s.chains →
     Listed table ns (recorded f s packet choices) →
     Contains (locations f.chains ns (recorded f s packet choices)) x →
-    TouchedAt (IsOnPath f s packet choices) f table (input f packet.time fields) packet.id.port x
+    TouchedAt (IsOnPath f s packet choices) f table (input f packet.time fields) (door_of packet.id.port fields) x
 
 -- and so does each event
 abbrev pub EventsAreCovered : Type 0
@@ -56,7 +57,7 @@ EventsAreCovered =
     packet.fields ≡ Some fields → AllLabelled f table ns s.chains →
     Listed table ns (recorded f s packet choices) → recorded f s packet choices ≡ es ++ e ∷ fs →
     Contains (locations_of f.chains (all_numbers ns es) e) x →
-    TouchedBy (IsOnPath f s packet choices) f table (input f packet.time fields) packet.id.port ns
+    TouchedBy (IsOnPath f s packet choices) f table (input f packet.time fields) (door_of packet.id.port fields) ns
     es e x
 
 -- each live entry of a run has the labels that its `new` gave, and those that are together are
@@ -71,7 +72,7 @@ pub record TouchedInRun (f : Function) (hs : List Handling) (packet : Packet)
     (x : Location) : Type 0 where
   pub fields : Fields
   pub handled : packet.fields ≡ Some fields
-  pub touched : TouchedAt (IsOf f) f (table_of f hs) (input f packet.time fields) packet.id.port x
+  pub touched : TouchedAt (IsOf f) f (table_of f hs) (input f packet.time fields) (door_of packet.id.port fields) x
 
 -- so is each location touched that a packet of a run touches, up to and with the first packet that
 -- has no step

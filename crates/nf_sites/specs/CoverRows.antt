@@ -1,5 +1,6 @@
 -- Worked rows: which sites an event's locations are at, and what is given there.
 use Rattle.std.specs.Prelude.{◌≡◌, ◌^◌, ◌%◌, ◌⊎◌, ℕ, Bool, true, false, List, [], ◌∷◌, map, Some, None}
+use Rattle.nf_base.specs.Families.{source, destination}
 use Rattle.nf_base.specs.declared.decl.ChainDecl.{ChainDecl}
 use Rattle.nf_base.specs.declared.packet.Fields.{Fields}
 use Rattle.nf_base.specs.Operations.{Made}
@@ -8,6 +9,7 @@ use Rattle.nf_base.specs.Locations.{Location, EntryNo, KeyOf, CellAt, Numbers}
 use Rattle.nf_base.specs.Step.{input}
 use Rattle.nf_laws.specs.Policer.{policer}
 use Rattle.nf_laws.specs.Sums.{counters}
+use Rattle.nf_sites.specs.Samples.{four_at}
 use Rattle.nf_sites.specs.declared.sort.Sort.{Sort}
 use Rattle.nf_sites.specs.declared.sort.Sort.TheVariants as sort
 use Rattle.nf_sites.specs.Sites.{Site}
@@ -79,17 +81,17 @@ pub record EntriesAreFoundFirst : Type 0 where
 -- a packet with some fields touches a location at a port of a policer
 abbrev pub PolicerTouches : Table → Fields → (port : ℕ) → Location → Type 0
 PolicerTouches table fields port x =
-    TouchedAt (IsOf policer) policer table (input policer 0 fields) port x
+    TouchedAt (IsOf policer) policer table (input policer 0 fields) (four_at port) x
 
 -- what the sites of a policer and of an array are given
 pub record ValuesAreGiven : Type 0 where
   -- a policer touches a key with the packet's destination
   pub key : (table : Table) (fields : Fields) (key : List ℕ) →
-      PolicerTouches table fields 1 (KeyOf 0 0 key) → key ≡ fields.dst_ip % 2 ^ 32 ∷ []
+      PolicerTouches table fields 1 (KeyOf 0 0 key) → key ≡ destination fields % 2 ^ 32 ∷ []
   -- and an entry whose label is the destination
   pub entry : (labels : (chain k : ℕ) → List ℕ) (fields : Fields) (k : ℕ) →
       PolicerTouches (told labels) fields 1 (EntryNo 0 k) →
-      label_value (labels 0 k) 0 ≡ fields.dst_ip % 2 ^ 32
+      label_value (labels 0 k) 0 ≡ destination fields % 2 ^ 32
   -- and nothing at a port without sites, nor in another chain
   pub port : (table : Table) (fields : Fields) (x : Location) →
       PolicerTouches table fields 0 x → ⊥
@@ -97,5 +99,5 @@ pub record ValuesAreGiven : Type 0 where
       PolicerTouches table fields 1 (EntryNo 1 k) → ⊥
   -- a cell is touched by the index that an access gives
   pub cell : (table : Table) (fields : Fields) (i : ℕ) →
-      TouchedAt (IsOf counters) counters table (input counters 0 fields) 0 (CellAt 0 i) →
+      TouchedAt (IsOf counters) counters table (input counters 0 fields) (four_at 0) (CellAt 0 i) →
       (fields.src_port % 2 ^ 16 ≡ i) ⊎ (fields.dst_port % 2 ^ 16 ≡ i)

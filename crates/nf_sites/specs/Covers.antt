@@ -1,5 +1,6 @@
 -- What it is for a packet to touch a location at a site.
 use Rattle.std.specs.Prelude.{◌≡◌, ℕ, ◌==◌, Bool, true, false, List, [], ◌∷◌, ◌++◌, map, Option, Some, None, slice_get, Contains}
+use Rattle.nf_base.specs.declared.packet.Door.{Door}
 use Rattle.nf_base.specs.declared.decl.ChainDecl.{ChainDecl}
 use Rattle.nf_base.specs.declared.decl.ObjectId.TheVariants as object
 use Rattle.nf_base.specs.Text.{Given, Function}
@@ -84,11 +85,11 @@ Fits f table p c site (CellAt array i) =
     (accesses site.sort ≡ true) × AllGiven p c (λ l. i) site.named
 
 -- a location that is touched at a site of a port, one of some sites
-pub record TouchedAt (ok : Site → Type 0) (f : Function) (table : Table) (p : Input) (of : ℕ)
+pub record TouchedAt (ok : Site → Type 0) (f : Function) (table : Table) (p : Input) (of : Door)
     (x : Location) : Type 0 where
   pub site : Site
   pub is_site : ok site
-  pub port : site.port ≡ of
+  pub door : site.door ≡ of
   pub object : site.object ≡ object_of x
   pub context : Context
   pub fits : Fits f table p context site x
@@ -136,7 +137,7 @@ Stands decls ns before (EntryFreed chain i) x site = Binder decls ns before x si
 Stands decls ns before e x site = StandsBy e site
 
 -- a location that an event touches at one of some sites, behind other events of its record
-pub record TouchedBy (ok : Site → Type 0) (f : Function) (table : Table) (p : Input) (of : ℕ)
+pub record TouchedBy (ok : Site → Type 0) (f : Function) (table : Table) (p : Input) (of : Door)
     (ns : Numbers) (before : List Event) (e : Event) (x : Location) : Type 0 where
   pub touched : TouchedAt ok f table p of x
   pub stands : Stands f.chains ns before e x touched.site

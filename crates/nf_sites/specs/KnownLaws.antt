@@ -1,5 +1,7 @@
 -- Laws of labels that are together, and of what speaks for a label.
 use Rattle.std.specs.Prelude.{◌≡◌, ◌≢◌, ◌↔◌, ◌≤◌, ℕ, Bool, true, false, List, Some, None, Contains}
+use Rattle.nf_base.specs.Doors.{blocks}
+use Rattle.nf_base.specs.declared.packet.Family.{Family}
 use Rattle.nf_base.specs.declared.decl.ObjectId.TheVariants as object
 use Rattle.nf_base.specs.declared.packet.Field.{Field}
 use Rattle.nf_base.specs.Text.{Read, Given, Creation, Block, Function}
@@ -11,26 +13,27 @@ use Rattle.nf_sites.specs.Named.{Named, speaker}
 use Rattle.nf_sites.specs.Known.{field_given, field_at, together}
 
 -- a value is a plain field that is hashed, of the width of what it is given to
-pub record IsPlainField (g : Given) (h : Hashable) : Type 0 where
+pub record IsPlainField (family : Family) (g : Given) (h : Hashable) : Type 0 where
   pub field : Field
   pub plain : g.value ≡ Read field
-  pub hashed : hashable field ≡ Some h
-  pub fits : bits g.width ≡ width h
+  pub hashed : hashable family field ≡ Some h
+  pub fits : bits g.width ≡ width family h
 
 -- what a value is known by
 abbrev pub FieldsAreGiven : Type 0
-FieldsAreGiven = (g : Given) (h : Hashable) → (field_given g ≡ Some h) ↔ IsPlainField g h
+FieldsAreGiven =
+    (family : Family) (g : Given) (h : Hashable) → (field_given family g ≡ Some h) ↔ IsPlainField family g h
 
 -- a `new` sets two labels from one field
 pub record SetsOneField (n : Creation) (l r : ℕ) : Type 0 where
-  pub field : Hashable
+  pub field : Field
   pub first : field_at n.labels l ≡ Some field
   pub second : field_at n.labels r ≡ Some field
 
 -- so does each `new` of a chain in the whole text
 abbrev pub AllSetOneField : Function → (chain l r : ℕ) → Type 0
 AllSetOneField f chain l r =
-    (block : Block) (n : Creation) → Contains f.handlers block →
+    (block : Block) (n : Creation) → Contains (blocks f) block →
     Contains (statements block) (Makes n) → n.chain ≡ chain → SetsOneField n l r
 
 -- these labels are together

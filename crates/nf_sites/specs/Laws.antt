@@ -2,6 +2,8 @@
 use Rattle.std.specs.Prelude.{◌≡◌, ◌↔◌, ◌≤◌, ℕ, true, Some, slice_get, Contains, AllPairs}
 use Rattle.std.specs.List.{flat_map}
 use Rattle.std.specs.List.Sorted.{IsStrictlyIncreasing}
+use Rattle.nf_base.specs.Doors.{handler_at}
+use Rattle.nf_base.specs.declared.packet.Door.{Door}
 use Rattle.nf_base.specs.declared.decl.ObjectId.{ObjectId}
 use Rattle.nf_base.specs.declared.packet.Fields.{Fields}
 use Rattle.nf_base.specs.Text.{Block, Function}
@@ -9,7 +11,7 @@ use Rattle.nf_base.specs.Statements.{statements}
 use Rattle.nf_base.specs.TextPlaces.{places_in, HasPlaces}
 use Rattle.nf_sites.specs.Sites.{Site}
 use Rattle.nf_sites.specs.TextOrder.{PlacesRise}
-use Rattle.nf_sites.specs.OnPaths.{port_sites, sites_of, IsSite}
+use Rattle.nf_sites.specs.OnPaths.{door_sites, sites_of, IsSite}
 use Rattle.nf_sites.specs.Known.{is_kept, IsKept}
 use Rattle.nf_sites.specs.Admissible.{IsAdmissibleBySites, IsAdmissible}
 
@@ -25,15 +27,15 @@ ListedSitesAreOnPaths =
 -- the sites of a port are of that port
 abbrev pub SitesAreOfTheirPort : Type 0
 SitesAreOfTheirPort =
-    (f : Function) (port : ℕ) (x : Site) → Contains (port_sites f port) x → x.port ≡ port
+    (f : Function) (door : Door) (x : Site) → Contains (door_sites f door) x → x.door ≡ door
 
 -- and stand as their places do, where those rise along the text, in whatever order a `new` is given
 -- its labels; it has one place with its look-ups
 abbrev pub SitesStandInTextOrder : Type 0
 SitesStandInTextOrder =
-    (f : Function) (port : ℕ) (block : Block) → slice_get f.handlers port ≡ Some block →
+    (f : Function) (door : Door) (block : Block) → handler_at f door ≡ Some block →
     PlacesRise block →
-    AllPairs (λ (x y : Site). x.place ≤ y.place) (port_sites f port)
+    AllPairs (λ (x y : Site). x.place ≤ y.place) (door_sites f door)
 
 -- which they do where all places rise, a `new`'s too, as the chain has its labels
 abbrev pub RisingTextsRise : Type 0
@@ -54,5 +56,5 @@ LabelsKnownAreKept =
 -- by sites that are listed, a hash is admissible exactly where it is so by those on feasible paths
 abbrev pub ListsSayWhatIsAdmissible : Type 0
 ListsSayWhatIsAdmissible =
-    (f : Function) (hash : ℕ → Fields → ℕ) → HasPlaces f →
+    (f : Function) (hash : Door → Fields → ℕ) → HasPlaces f →
     IsAdmissibleBySites f hash ↔ IsAdmissible f hash

@@ -14,7 +14,7 @@ use Rattle.nf_sites.specs.declared.sort.Sort.TheVariants as sort
 use Rattle.nf_sites.specs.OnPaths.{text_sites}
 use Rattle.nf_sites.specs.ReadOrder.{by_first_read}
 use Rattle.nf_sites.specs.TextOrder.{PlacesRise}
-use Rattle.nf_sites.specs.Samples.{makes, every_chain}
+use Rattle.nf_sites.specs.Samples.{makes, every_chain, four_at}
 use Rattle.nf_sites.specs.Rows.{gives, src, port_0, access}
 
 -- what the text gives x: the last read
@@ -39,7 +39,7 @@ pub record LabelsInAnyOrder : Type 0 where
       ≡ src ∷ first_cells ∷ next_cells ∷ last_cell ∷ []
   -- so the sites of the cells stand as the text has them
   pub sites :
-      text_sites (every_chain ∷ []) 0 out_of_order
+      text_sites (every_chain ∷ []) (four_at 0) out_of_order
       ≡ port_0 (object.Chain 0) 0 sort.New
       (gives 0 last_cell ∷ gives 1 src ∷ gives 2 first_cells ∷ gives 3 next_cells ∷ [])
       ∷ port_0 (object.Chain 0) 0 (sort.Name 0) (gives 0 last_cell ∷ [])

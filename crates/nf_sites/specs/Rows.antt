@@ -1,5 +1,7 @@
 -- Worked rows: the sites of some functions, which labels are known at them, and which are kept.
 use Rattle.std.specs.Prelude.{◌≡◌, ℕ, zero, suc, Bool, true, false, List, [], ◌∷◌, map, Option, Some, None}
+use Rattle.nf_base.specs.Families.{source, destination}
+use Rattle.nf_base.specs.declared.packet.Door.{Door}
 use Rattle.nf_base.specs.declared.decl.ObjectId.{ObjectId}
 use Rattle.nf_base.specs.declared.decl.ObjectId.TheVariants as object
 use Rattle.nf_base.specs.declared.packet.Field.TheVariants.{SrcIp, DstIp, SrcPort, DstPort}
@@ -21,12 +23,12 @@ use Rattle.nf_sites.specs.Sites.{Site}
 use Rattle.nf_sites.specs.OnPaths.{text_sites, sites_of}
 use Rattle.nf_sites.specs.Known.{together, known_labels, kept}
 use Rattle.nf_sites.specs.Admissible.{IsAdmissibleBySites}
-use Rattle.nf_sites.specs.Samples.{over, two_maps, hidden, makes, looks, guard_on, unreached, every_kind, every_chain, read_only, two_chains}
+use Rattle.nf_sites.specs.Samples.{over, two_maps, hidden, makes, looks, guard_on, unreached, every_kind, every_chain, read_only, two_chains, four_at}
 
 -- a site of a function, and by which field each label of its object is known there
 pub record Row : Type 0 where
   pub object : ObjectId
-  pub port : ℕ
+  pub door : Door
   pub place : ℕ
   pub sort : Sort
   pub known : List (Option Hashable)
@@ -35,7 +37,7 @@ pub record Row : Type 0 where
 abbrev pub row_of : Function → Site → Row
 row_of f x = record {
   object = x.object;
-  port = x.port;
+  door = x.door;
   place = x.place;
   sort = x.sort;
   known = known_labels f x;
@@ -49,7 +51,7 @@ rows_of f = map (row_of f) (sites_of f)
 abbrev pub chain_row : ℕ → ℕ → Sort → List (Option Hashable) → Row
 chain_row port place way known = record {
   object = object.Chain 0;
-  port = port;
+  door = four_at port;
   place = place;
   sort = way;
   known = known;
@@ -59,7 +61,7 @@ chain_row port place way known = record {
 abbrev pub array_row : ℕ → Sort → Option Hashable → Row
 array_row place way index = record {
   object = object.Array 0;
-  port = 0;
+  door = four_at 0;
   place = place;
   sort = way;
   known = index ∷ [];
@@ -186,7 +188,7 @@ gives l g = record { label = l; given = g }
 -- a site of port 0
 abbrev pub port_0 : ObjectId → ℕ → Sort → List (Named Given) → Site
 port_0 o place way named =
-    record { object = o; port = 0; place = place; sort = way; named = named }
+    record { object = o; door = four_at 0; place = place; sort = way; named = named }
 
 -- an access to a cell of an array
 abbrev pub access : ℕ → Sort → ℕ → Expression → Site
@@ -200,7 +202,7 @@ pub record TextsHaveSites : Type 0 where
       ≡ port_0 (object.Chain 0) 3 (sort.Get 0) (gives 0 dst ∷ []) ∷ []
   -- every kind of site, in text order
   pub every_kind_in_order :
-      text_sites (every_chain ∷ []) 0 every_kind
+      text_sites (every_chain ∷ []) (four_at 0) every_kind
       ≡ port_0 (object.Chain 0) 0 (sort.Get 1)
       (gives 1 (valued W32 (Cell 1 0 (Read DstPort))) ∷ gives 2 (read W16 SrcPort) ∷ [])
       ∷ access 1 sort.Load 0 (Read DstPort)
@@ -227,23 +229,29 @@ pub record TextsHaveSites : Type 0 where
       ∷ []
 
 -- a hash of the source at port 0, and another one of the destination at other ports
-abbrev pub two_hashes : ℕ → Fields → ℕ
-two_hashes zero p = p.src_ip
-two_hashes (suc port) p = suc p.dst_ip
+abbrev pub two_by : ℕ → Fields → ℕ
+two_by zero p = source p
+two_by (suc port) p = suc (destination p)
+
+abbrev pub two_hashes : Door → Fields → ℕ
+two_hashes door p = two_by door.port p
 
 -- a hash of the destination at port 0, and of the source at other ports: of the far end
-abbrev pub far_hash : ℕ → Fields → ℕ
-far_hash zero p = p.dst_ip
-far_hash (suc port) p = p.src_ip
+abbrev pub far_by : ℕ → Fields → ℕ
+far_by zero p = destination p
+far_by (suc port) p = source p
+
+abbrev pub far_hash : Door → Fields → ℕ
+far_hash door p = far_by door.port p
 
 -- which hashes are admissible
 pub record HashesAreAdmissible : Type 0 where
   -- a policer's port may hash the destination, and not the source
-  pub by_destination : IsAdmissibleBySites policer (λ port (p : Fields). p.dst_ip)
-  pub not_by_source : IsAdmissibleBySites policer (λ port (p : Fields). p.src_ip) → ⊥
+  pub by_destination : IsAdmissibleBySites policer (λ door (p : Fields). destination p)
+  pub not_by_source : IsAdmissibleBySites policer (λ door (p : Fields). source p) → ⊥
   -- a NAT's two ports may hash the far end's address
   pub by_far_end : IsAdmissibleBySites nat far_hash
   -- what is never written asks for nothing
-  pub read_only_is_free : IsAdmissibleBySites read_only (λ port (p : Fields). p.dst_ip)
+  pub read_only_is_free : IsAdmissibleBySites read_only (λ door (p : Fields). destination p)
   -- and the sites of one chain for nothing at those of another
   pub each_object_alone : IsAdmissibleBySites two_chains two_hashes

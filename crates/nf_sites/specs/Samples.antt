@@ -8,7 +8,10 @@
 --     forward 0;
 --   }
 -- }
-use Rattle.std.specs.Prelude.{ℕ, List, [], ◌∷◌}
+use Rattle.std.specs.Prelude.{ℕ, List, [], ◌∷◌, map}
+use Rattle.nf_base.specs.Doors.{only_four}
+use Rattle.nf_base.specs.declared.packet.Family.TheVariants as family
+use Rattle.nf_base.specs.declared.packet.Door.{Door}
 use Rattle.nf_base.specs.declared.decl.ObjectId.TheVariants as object
 use Rattle.nf_base.specs.declared.decl.ColumnDecl.{ColumnDecl}
 use Rattle.nf_base.specs.declared.decl.MapDecl.{MapDecl}
@@ -39,7 +42,7 @@ over labels maps handlers = record {
   chains = chain_of labels maps ∷ [];
   arrays = [];
   objects = object.Chain 0 ∷ [];
-  handlers = handlers;
+  handlers = map only_four handlers;
 }
 
 -- two maps of one label each
@@ -124,5 +127,9 @@ two_chains = record {
       ∷ [];
   arrays = [];
   objects = object.Chain 0 ∷ object.Chain 1 ∷ [];
-  handlers = makes_in 0 0 (read W32 SrcIp) ∷ makes_in 1 1 (read W32 DstIp) ∷ [];
+  handlers = map only_four (makes_in 0 0 (read W32 SrcIp) ∷ makes_in 1 1 (read W32 DstIp) ∷ []);
 }
+
+-- the door of a port for IPv4
+abbrev pub four_at : ℕ → Door
+four_at port = record { port = port; family = family.Four }

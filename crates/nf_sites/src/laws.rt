@@ -12,7 +12,7 @@ pub fn sites_are_on_feasible_paths()
 /// The sites of a port are of that port, in the order of the text's places, whatever order the text
 /// gives the labels of a `new` in.
 pub fn sites_stand_in_text_order()
-    ensures port { SitesAreOfTheirPort }
+    ensures door { SitesAreOfTheirPort }
     ensures rising { SitesStandInTextOrder }
     ensures whole { RisingTextsRise }
 {}

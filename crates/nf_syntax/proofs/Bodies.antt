@@ -1,7 +1,7 @@
 -- The statements of a body, read one by one.
 use Rattle.std.proofs.Common.{◌≡◌, ◌∙◌, ◌≤◌, ℕ, suc, List, ap, sym, subst, arith}
 use Rattle.nf_tokens.specs.declared.token.Placed.{Placed}
-use Rattle.nf_tree.specs.Tree.{Ending, FallsOff, Missing, Flood, Discard, Forward, Block, End, Do, Ask, Make}
+use Rattle.nf_tree.specs.Tree.{Ending, Block, End, Do, Ask, Make}
 use Rattle.nf_tree.specs.Depth.{depth}
 use Rattle.nf_syntax.specs.declared.fault.Stop.{Stop}
 use Rattle.nf_syntax.specs.Statements.{Statement, turned}

@@ -1,5 +1,7 @@
 -- What declarations and a whole text are spelled like goes through.
 use Rattle.std.proofs.Common.{◌≡◌, ◌∙◌, ◌∷◌, ◌++◌, Some, List, [], refl, ap, sym, append_assoc, append-nil}
+use Rattle.nf_base.specs.declared.packet.Family.{Family}
+use Rattle.nf_base.specs.declared.packet.Family.TheVariants as families
 use Rattle.nf_tokens.specs.declared.token.Place as places
 use Rattle.nf_tokens.specs.declared.token.Sign.TheVariants as signs
 use Rattle.nf_tree.specs.declared.place.Name.{Name}
@@ -16,10 +18,10 @@ use Rattle.nf_syntax.specs.declared.head.ChainHead.{ChainHead}
 use Rattle.nf_syntax.specs.declared.head.ArrayHead.{ArrayHead}
 use Rattle.nf_syntax.specs.declared.head.TextHead.{TextHead}
 use Rattle.nf_syntax.specs.Items.{Marked, name, number, sign, word}
-use Rattle.nf_syntax.specs.Grammar.{Required, IsPart, AreParts, IsDeclaration, AreDeclarations, AreHandlers, IsText, labels, braced, body, column_word, part, parts, declaration, declarations, handlers, spelling}
-use Rattle.nf_syntax.specs.Machine.{Place, TextEnd, CloseAt, SignAt, BlockAt, PartsAt, DeclarationsAt, HandlersAt, labels_at, map_one, column_one, chain_one, array_one, tree_one, whole}
+use Rattle.nf_syntax.specs.Grammar.{Required, IsPart, AreParts, IsDeclaration, AreDeclarations, AreHandlers, IsText, labels, braced, body, column_word, part, parts, declaration, declarations, family, handlers, spelling}
+use Rattle.nf_syntax.specs.Machine.{Place, TextEnd, CloseAt, SignAt, BlockAt, PartsAt, DeclarationsAt, FamilyAt, HandlersAt, labels_at, map_one, column_one, chain_one, array_one, handler_one, tree_one, whole}
 use Rattle.nf_syntax.specs.Reads.{without_end}
-use Rattle.nf_syntax.proofs.Going.{goes, IsFirm, skip_declarations}
+use Rattle.nf_syntax.proofs.Going.{goes, IsFirm, skip_family, skip_declarations}
 use Rattle.nf_syntax.proofs.CompleteLists.{all_labels, all_contents}
 use Rattle.nf_syntax.proofs.Complete.{block, complete}
 
@@ -62,11 +64,19 @@ all_declarations (d ∷ ds) g done k w f =
     ∙ all_declarations ds g.1 (done ++ d ∷ []) k w f
     ∙ ap (λ x. goes (k x) w) (append_assoc done (d ∷ []) ds)
 
+one_family : (x : Family) (k : Family → Place) (w : List Marked) → IsFirm w → goes (FamilyAt k) (family x ++ w) ≡ goes (k x) w
+one_family families.Four k w f = skip_family k w f
+one_family families.Six k w f = refl
+
 all_handlers : (hs : List Handler) → AreHandlers hs → (done : List Handler) (k : List Handler → Place) (w : List Marked) → goes (HandlersAt done k) (handlers hs ++ sign signs.CloseBrace ∷ w) ≡ goes (k (done ++ hs)) w
 all_handlers [] g done k w = ap (λ x. goes (k x) w) (sym (append-nil done))
 all_handlers (h ∷ hs) g done k w =
-    let k1 = λ (b : Block). HandlersAt (done ++ record { place = h.place; port = h.port; block = b } ∷ []) k in
-    ap (goes (BlockAt 64 k1)) (append_assoc (braced 64 (body 63 h.block)) (handlers hs) (sign signs.CloseBrace ∷ w))
+    let k1 = λ (b : Block). HandlersAt (done ++ handler_one h.place h.port h.family b ∷ []) k in
+    let k2 = λ (x : Family). BlockAt 64 (λ b. HandlersAt (done ++ handler_one h.place h.port x b ∷ []) k) in
+    let inner = braced 64 (body 63 h.block) in
+    ap (goes (FamilyAt k2)) (append_assoc (family h.family ++ inner) (handlers hs) (sign signs.CloseBrace ∷ w)
+    ∙ append_assoc (family h.family) inner (handlers hs ++ sign signs.CloseBrace ∷ w))
+    ∙ one_family h.family k2 (inner ++ (handlers hs ++ sign signs.CloseBrace ∷ w)) tt
     ∙ block h.block (complete Required h.block g.0) 64 k1 (handlers hs ++ sign signs.CloseBrace ∷ w)
     ∙ all_handlers hs g.1 (done ++ h ∷ []) k w
     ∙ ap (λ x. goes (k x) w) (append_assoc done (h ∷ []) hs)

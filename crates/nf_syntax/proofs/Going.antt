@@ -1,5 +1,7 @@
 -- The table of what may come, over marked items.
 use Rattle.std.proofs.Common.{◌≡◌, ◌∙◌, ◌∷◌, ℕ, Bool, true, false, Option, Some, None, List, [], refl, ap, nat_eq}
+use Rattle.nf_base.specs.declared.packet.Family.{Family}
+use Rattle.nf_base.specs.declared.packet.Family.TheVariants as families
 use Rattle.nf_tokens.specs.Signs.{number_of}
 use Rattle.nf_tokens.specs.declared.token.Placed.{Placed}
 use Rattle.nf_tokens.specs.declared.token.Sign.{Sign}
@@ -10,7 +12,7 @@ use Rattle.nf_tree.specs.declared.tree.Declaration.{Declaration}
 use Rattle.nf_tree.specs.Tree.{Tree, Expression, Given, Guards, Unguarded, Block, End, Missing}
 use Rattle.nf_syntax.specs.Items.{Item, AWord, AJoin, item, Marked, unmarked}
 use Rattle.nf_syntax.specs.Expressions.{sum_operator, product_operator}
-use Rattle.nf_syntax.specs.Machine.{Place, FactorsAt, TermsAt, MoreAt, MoreGivenAt, MoreLabelsAt, MoreNumbersAt, WhereAt, OptionalAt, BlockAt, DeclarationsAt, factor_at, term_at, Row, Go, No, go_or, go_some, step, finished, ended, judged, run, Verdict, Accepted}
+use Rattle.nf_syntax.specs.Machine.{Place, FactorsAt, TermsAt, MoreAt, MoreGivenAt, MoreLabelsAt, MoreNumbersAt, WhereAt, OptionalAt, BlockAt, DeclarationsAt, FamilyAt, factor_at, term_at, Row, Go, No, go_or, go_some, step, finished, ended, judged, run, Verdict, Accepted}
 
 abbrev pub agree : Bool → Bool → Option Tree → Option Tree
 agree true true o = o
@@ -123,6 +125,10 @@ step_where : (k : Guards → Place) (i : Item) → IsFirmItem i → step (WhereA
 step_where k (AJoin t) h = absurd h
 step_where k i h = refl
 
+step_family : (k : Family → Place) (i : Item) → IsFirmItem i → step (FamilyAt k) i ≡ step (k families.Four) i
+step_family k (AJoin t) h = absurd h
+step_family k i h = refl
+
 step_declarations : (ds : List Declaration) (k : List Declaration → Place) (i : Item) → IsFirmItem i → step (DeclarationsAt ds k) i ≡ step (k ds) i
 step_declarations ds k (AWord signs.Chain at) h = absurd h
 step_declarations ds k (AWord signs.Array at) h = absurd h
@@ -163,6 +169,10 @@ skip_terms room n e k (m ∷ ms) h = alike (TermsAt room n e k) (k e) m ms (step
 pub skip_where : (k : Guards → Place) (ms : List Marked) → IsFirm ms → goes (WhereAt k) ms ≡ goes (k Unguarded) ms
 skip_where k [] h = refl
 skip_where k (m ∷ ms) h = alike (WhereAt k) (k Unguarded) m ms (step_where k m.item h)
+
+pub skip_family : (k : Family → Place) (ms : List Marked) → IsFirm ms → goes (FamilyAt k) ms ≡ goes (k families.Four) ms
+skip_family k [] h = refl
+skip_family k (m ∷ ms) h = alike (FamilyAt k) (k families.Four) m ms (step_family k m.item h)
 
 pub skip_declarations : (ds : List Declaration) (k : List Declaration → Place) (ms : List Marked) → IsFirm ms → goes (DeclarationsAt ds k) ms ≡ goes (k ds) ms
 skip_declarations ds k [] h = refl

@@ -2,6 +2,7 @@
 use Rattle.std.proofs.Common.{◌≡◌, ◌∙◌, ◌∷◌, false, Some, List, [], refl, ap, eq-eqb, nat_le, ◌==◌}
 use Rattle.nf_base.specs.declared.expr.Comparison.TheVariants as comparisons
 use Rattle.nf_base.specs.declared.packet.Field.TheVariants as fields
+use Rattle.nf_base.specs.declared.packet.Family.TheVariants as families
 use Rattle.nf_tokens.specs.Signs.{number_of}
 use Rattle.nf_tokens.specs.Tokens.{start}
 use Rattle.nf_tokens.specs.declared.token.Sign.{Sign}
@@ -12,8 +13,8 @@ use Rattle.nf_tree.specs.Tree.{Tree, Expression, Number, Index, Unguarded, Write
 use Rattle.nf_syntax.specs.declared.head.SetHead.{SetHead}
 use Rattle.nf_syntax.specs.Items.{ANumber, Marked, name, number, field, sign, word, opening, operand}
 use Rattle.nf_syntax.specs.Statements.{Does}
-use Rattle.nf_syntax.specs.Machine.{Place, TextEnd, NameAt, NumberAt, FieldAt, SignAt, CloseAt, AtomAt, NamedAt, ColumnAt, FactorsAt, TermsAt, ComparisonAt, MoreAt, GivenAt, MoreGivenAt, MoreLabelsAt, MoreNumbersAt, ContentsAt, WhereAt, BlockAt, BodyAt, WrittenAt, OptionalAt, PartsAt, DeclarationsAt, HandlersAt, go_if, giving}
-use Rattle.nf_syntax.proofs.Going.{goes, on_row, agree_itself, IsFirm, misses, no_factor, no_term, skip_optional, skip_more, skip_more_given, skip_more_labels, skip_more_numbers, skip_factors, skip_terms, skip_where, skip_declarations}
+use Rattle.nf_syntax.specs.Machine.{Place, TextEnd, NameAt, NumberAt, FieldAt, SignAt, CloseAt, AtomAt, NamedAt, ColumnAt, FactorsAt, TermsAt, ComparisonAt, MoreAt, GivenAt, MoreGivenAt, MoreLabelsAt, MoreNumbersAt, ContentsAt, WhereAt, BlockAt, BodyAt, WrittenAt, OptionalAt, PartsAt, DeclarationsAt, FamilyAt, HandlersAt, go_if, giving}
+use Rattle.nf_syntax.proofs.Going.{goes, on_row, agree_itself, IsFirm, misses, no_factor, no_term, skip_optional, skip_more, skip_more_given, skip_more_labels, skip_more_numbers, skip_factors, skip_terms, skip_where, skip_family, skip_declarations}
 
 -- an end that can be reached
 pub record Ending (place : Place) : Type 0 where
@@ -86,4 +87,5 @@ live (OptionalAt s room k) = let e = live (k (End Missing)) in record {
 }
 live (PartsAt ps k) = let e = live (k ps) in record { more = sign signs.CloseBrace ∷ e.more; tree = e.tree; firm = tt; reached = e.reached }
 live (DeclarationsAt ds k) = let e = live (k ds) in record { more = e.more; tree = e.tree; firm = e.firm; reached = skip_declarations ds k e.more e.firm ∙ e.reached }
+live (FamilyAt k) = let e = live (k families.Four) in record { more = e.more; tree = e.tree; firm = e.firm; reached = skip_family k e.more e.firm ∙ e.reached }
 live (HandlersAt hs k) = let e = live (k hs) in record { more = sign signs.CloseBrace ∷ e.more; tree = e.tree; firm = tt; reached = e.reached }

@@ -5,7 +5,7 @@ use Rattle.nf_tokens.specs.declared.token.Sign.TheVariants as signs
 use Rattle.nf_tokens.specs.Signs.{number_of}
 
 all_signs : List Sign
-all_signs = signs.OpenBrace ∷ signs.CloseBrace ∷ signs.OpenParenthesis ∷ signs.CloseParenthesis ∷ signs.OpenBracket ∷ signs.CloseBracket ∷ signs.Semicolon ∷ signs.Colon ∷ signs.Comma ∷ signs.Dot ∷ signs.Assign ∷ signs.Equal ∷ signs.NotEqual ∷ signs.Less ∷ signs.LessOrEqual ∷ signs.Greater ∷ signs.GreaterOrEqual ∷ signs.Plus ∷ signs.Minus ∷ signs.Times ∷ signs.Over ∷ signs.Modulo ∷ signs.And ∷ signs.Nf ∷ signs.Ports ∷ signs.Chain ∷ signs.Lifetime ∷ signs.Map ∷ signs.Fixed ∷ signs.Free ∷ signs.Array ∷ signs.On ∷ signs.Get ∷ signs.Else ∷ signs.Find ∷ signs.Where ∷ signs.New ∷ signs.Taken ∷ signs.Full ∷ signs.If ∷ signs.Touch ∷ signs.Set ∷ signs.Forward ∷ signs.Flood ∷ signs.Discard ∷ signs.Index ∷ []
+all_signs = signs.OpenBrace ∷ signs.CloseBrace ∷ signs.OpenParenthesis ∷ signs.CloseParenthesis ∷ signs.OpenBracket ∷ signs.CloseBracket ∷ signs.Semicolon ∷ signs.Colon ∷ signs.Comma ∷ signs.Dot ∷ signs.Assign ∷ signs.Equal ∷ signs.NotEqual ∷ signs.Less ∷ signs.LessOrEqual ∷ signs.Greater ∷ signs.GreaterOrEqual ∷ signs.Plus ∷ signs.Minus ∷ signs.Times ∷ signs.Over ∷ signs.Modulo ∷ signs.And ∷ signs.Nf ∷ signs.Ports ∷ signs.Chain ∷ signs.Lifetime ∷ signs.Map ∷ signs.Fixed ∷ signs.Free ∷ signs.Array ∷ signs.On ∷ signs.Get ∷ signs.Else ∷ signs.Find ∷ signs.Where ∷ signs.New ∷ signs.Taken ∷ signs.Full ∷ signs.If ∷ signs.Touch ∷ signs.Set ∷ signs.Forward ∷ signs.Flood ∷ signs.Discard ∷ signs.Index ∷ signs.Six ∷ []
 
 numbered : (s : Sign) → get_or all_signs (number_of s) signs.Index ≡ s
 unfolding all_signs
@@ -55,6 +55,7 @@ numbered signs.Forward = refl
 numbered signs.Flood = refl
 numbered signs.Discard = refl
 numbered signs.Index = refl
+numbered signs.Six = refl
 
 pub same_sign : (s t : Sign) → nat_eq (number_of t) (number_of s) ≡ true → t ≡ s
 same_sign s t h = sym (numbered t) ∙ ap (λ n. get_or all_signs n signs.Index) (eqb-true (number_of t) (number_of s) h) ∙ numbered s

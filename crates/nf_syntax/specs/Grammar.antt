@@ -2,6 +2,8 @@
 use Rattle.std.specs.Prelude.{ℕ, ◌-◌, Option, Some, None, List, [], ◌∷◌, ◌++◌}
 use Rattle.nf_base.specs.declared.expr.Comparison.{Comparison}
 use Rattle.nf_base.specs.declared.expr.Comparison.TheVariants as comparisons
+use Rattle.nf_base.specs.declared.packet.Family.{Family}
+use Rattle.nf_base.specs.declared.packet.Family.TheVariants as families
 use Rattle.nf_tokens.specs.declared.token.Sign.{Sign}
 use Rattle.nf_tokens.specs.declared.token.Sign.TheVariants as signs
 use Rattle.nf_tree.specs.declared.place.Name.{Name}
@@ -251,10 +253,16 @@ abbrev pub declarations : List Declaration → List Marked
 declarations [] = []
 declarations (d ∷ ds) = declaration d ++ declarations ds
 
+-- a handler is for IPv4, unless it is said that it is for IPv6
+abbrev pub family : Family → List Marked
+family families.Four = []
+family families.Six = join signs.Six ∷ []
+
 -- at most 64 blocks are open
 abbrev pub handlers : List Handler → List Marked
 handlers [] = []
-handlers (h ∷ hs) = word signs.On h.place ∷ number h.port ∷ braced 64 (body 63 h.block) ++ handlers hs
+handlers (h ∷ hs) = word signs.On h.place ∷ number h.port
+    ∷ (family h.family ++ braced 64 (body 63 h.block)) ++ handlers hs
 
 abbrev pub text_head : Name → Literal → List Marked
 text_head x ports = sign signs.Nf ∷ name x ∷ sign signs.OpenBrace ∷ sign signs.Ports ∷ number ports ∷ sign signs.Semicolon ∷ []

@@ -42,6 +42,7 @@ class_of signs.Else = Joins
 class_of signs.Taken = Joins
 class_of signs.Full = Joins
 class_of signs.Where = Joins
+class_of signs.Six = Joins
 class_of s = Plain
 
 -- a token, as the grammar sees it

@@ -1,6 +1,8 @@
 -- What may still come, read token by token.
 use Rattle.std.specs.Prelude.{ℕ, suc, ◌-◌, ◌==◌, nat_eq, nat_le, Bool, true, false, Option, Some, None, List, [], ◌∷◌, ◌++◌}
 use Rattle.nf_base.specs.declared.expr.Comparison.{Comparison}
+use Rattle.nf_base.specs.declared.packet.Family.{Family}
+use Rattle.nf_base.specs.declared.packet.Family.TheVariants as families
 use Rattle.nf_tokens.specs.Signs.{number_of}
 use Rattle.nf_tokens.specs.Tokens.{start}
 use Rattle.nf_tokens.specs.declared.token.Sign.{Sign}
@@ -62,6 +64,7 @@ pub data Place : Type 0 where
   OptionalAt : Sign → ℕ → (Block → Place) → Place
   PartsAt : List Part → (List Part → Place) → Place
   DeclarationsAt : List Declaration → (List Declaration → Place) → Place
+  FamilyAt : (Family → Place) → Place
   HandlersAt : List Handler → (List Handler → Place) → Place
 
 -- where nothing is read yet
@@ -266,11 +269,12 @@ abbrev pub array_at : places.Place → (ArrayTree → Place) → Place
 array_at at k = array_head_at (λ h. ContentsAt (λ ns. k (array_one at h ns)))
 
 -- behind `on`
-abbrev pub handler_one : places.Place → Literal → Block → Handler
-handler_one at n b = record { place = at; port = n; block = b }
+abbrev pub handler_one : places.Place → Literal → Family → Block → Handler
+handler_one at n family b = record { place = at; port = n; family = family; block = b }
 
 abbrev pub handler_at : places.Place → (Handler → Place) → Place
-handler_at at k = NumberAt (λ n. BlockAt 64 (λ b. k (handler_one at n b)))
+handler_at at k =
+    NumberAt (λ n. FamilyAt (λ family. BlockAt 64 (λ b. k (handler_one at n family b))))
 
 abbrev pub text_head_at : (TextHead → Place) → Place
 text_head_at k = SignAt signs.Nf (name_before_at signs.OpenBrace (λ x. SignAt signs.Ports (number_before_at signs.Semicolon (λ n. k (record { name = x; ports = n })))))
@@ -340,6 +344,8 @@ step (PartsAt ps k) (ASign signs.CloseBrace) = Go false (k ps)
 step (DeclarationsAt ds k) (AWord signs.Chain at) = Go false (chain_at at (λ c. DeclarationsAt (ds ++ declared.Chain c ∷ []) k))
 step (DeclarationsAt ds k) (AWord signs.Array at) = Go false (array_at at (λ a. DeclarationsAt (ds ++ declared.Array a ∷ []) k))
 step (DeclarationsAt ds k) i = step (k ds) i
+step (FamilyAt k) (AJoin signs.Six) = Go false (k families.Six)
+step (FamilyAt k) i = step (k families.Four) i
 step (HandlersAt hs k) (AWord signs.On at) = Go false (handler_at at (λ h. HandlersAt (hs ++ h ∷ []) k))
 step (HandlersAt hs k) (ASign signs.CloseBrace) = Go false (k hs)
 step place i = No
@@ -363,6 +369,7 @@ finished (MoreNumbersAt ns k) = finished (k ns)
 finished (WhereAt k) = finished (k Unguarded)
 finished (OptionalAt s room k) = finished (k (End Missing))
 finished (DeclarationsAt ds k) = finished (k ds)
+finished (FamilyAt k) = finished (k families.Four)
 finished place = None
 
 abbrev pub ended : Option Tree → Verdict

@@ -1,5 +1,6 @@
 -- What a function of the parser answers, beside the table of what may come.
 use Rattle.std.specs.Prelude.{◌≡◌, ◌<◌, ◌≤◌, length, List, [], ◌∷◌, ◌++◌, ℕ, Option, Some, None, Result, Ok, Err}
+use Rattle.nf_base.specs.declared.packet.Family.{Family}
 use Rattle.nf_tokens.specs.Tokens.{start}
 use Rattle.nf_tokens.specs.declared.token.Placed.{Placed}
 use Rattle.nf_tree.specs.declared.place.Literal.{Literal}
@@ -11,7 +12,7 @@ use Rattle.nf_syntax.specs.declared.fault.Stop.{Stop}
 use Rattle.nf_syntax.specs.declared.fault.Stop.TheVariants as stops
 use Rattle.nf_syntax.specs.Expressions.{operands}
 use Rattle.nf_syntax.specs.Statements.{Statement, turned}
-use Rattle.nf_syntax.specs.Machine.{Place, NumberAt, FactorsAt, TermsAt, MoreAt, MoreGivenAt, MoreLabelsAt, MoreNumbersAt, BodyAt, behind, Verdict, Accepted, Stuck, Past, Short, factor_at, term_at, value_at, one_given_at, one_label_at, run, whole}
+use Rattle.nf_syntax.specs.Machine.{Place, NumberAt, FactorsAt, TermsAt, MoreAt, MoreGivenAt, MoreLabelsAt, MoreNumbersAt, BodyAt, FamilyAt, behind, Verdict, Accepted, Stuck, Past, Short, factor_at, term_at, value_at, one_given_at, one_label_at, run, whole}
 use Rattle.nf_syntax.specs.Language.{last_place}
 
 abbrev pub Fails : Stop → Verdict → Type 0
@@ -77,6 +78,11 @@ PassesFactor operator rest None ps = (room n : ℕ) (e : Expression) (k : Expres
 abbrev pub PassesTerm : {X : Type 0} → (X → SumOperator) → (X → List Placed) → Option X → List Placed → Type 0
 PassesTerm operator rest (Some x) ps = (length (rest x) < length ps) × ((room n : ℕ) (e : Expression) (k : Expression → Place) → run (TermsAt room n e k) ps ≡ run (term_at room n e k (operator x)) (rest x))
 PassesTerm operator rest None ps = (room n : ℕ) (e : Expression) (k : Expression → Place) → run (TermsAt room n e k) ps ≡ run (k e) ps
+
+-- the family of a handler was read, or is not written and IPv4 stands in
+pub record ReadsFamily (family : Family) (rest ps : List Placed) : Type 0 where
+  pub shorter : length rest ≤ length ps
+  pub read : (k : Family → Place) → run (FamilyAt k) ps ≡ run (k family) rest
 
 -- so many operands stand up to the end of an expression with so many before it
 abbrev pub Counts : ℕ → Expression → ℕ → Type 0

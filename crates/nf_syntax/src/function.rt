@@ -5,13 +5,14 @@ ghost use Rattle.nf_tokens.specs.Tokens.{start};
 ghost use Rattle.nf_tree.specs.View.{handler_of, tree_of};
 ghost use Rattle.nf_syntax.specs.Language.{last_place};
 ghost use Rattle.nf_syntax.specs.Machine.{handler_at, text_head_at, no_handlers_yet};
-ghost use Rattle.nf_syntax.specs.Reads.{Reads, Answers};
+ghost use Rattle.nf_syntax.specs.Reads.{Reads, ReadsFamily, Answers};
 
 use crate::block::block;
 use crate::declaration::declarations;
 use crate::fault::{Stop, stuck};
 use crate::head::TextHead;
 use crate::single::{name_before, number, number_before, sign};
+use nf_base::packet::Family;
 use nf_base::seq::Seq;
 use nf_tokens::{Place, Placed, Sign, Token};
 use nf_tree::{HandlerTree, Tree};
@@ -20,15 +21,30 @@ use std::alloc::Global;
 /// How many blocks may be open.
 const DEEPEST: u32 = 64;
 
+/// The family of a handler, behind its port: IPv6 where `six` is written.
+fn family(tokens: &[Placed]) -> (Family, &[Placed])
+    ensures { ReadsFamily result.0 result.1.now tokens.now }
+{
+    match tokens {
+        [first, rest @ ..] => match &first.token {
+            Token::Sign(Sign::Six) => (Family::Six, rest),
+            _ => (Family::Four, tokens),
+        },
+        [] => (Family::Four, tokens),
+    }
+}
+
 /// A handler behind its word, which stands at `place`.
 fn handler(alloc: Global, place: Place, tokens: &[Placed]) -> Result<(HandlerTree, &[Placed]), Stop>
     ensures { Reads (λ k. handler_at place k) (λ x. handler_of x.0) (λ x. x.1.now) result tokens.now }
 {
     let (port, rest) = number(tokens)?;
+    let (family, rest) = family(rest);
     let (block, rest) = block(alloc, rest, DEEPEST)?;
     let handler = HandlerTree {
         place,
         port,
+        family,
         block: Box::into_inner(block),
     };
     Ok((handler, rest))

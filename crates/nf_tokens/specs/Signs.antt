@@ -50,3 +50,4 @@ number_of signs.Forward = 42
 number_of signs.Flood = 43
 number_of signs.Discard = 44
 number_of signs.Index = 45
+number_of signs.Six = 46

@@ -20,6 +20,7 @@ declaring w =
     if bytes_eq w (codes "free") then Some signs.Free else
     if bytes_eq w (codes "array") then Some signs.Array else
     if bytes_eq w (codes "on") then Some signs.On else
+    if bytes_eq w (codes "six") then Some signs.Six else
     None
 
 -- the words of statements with blocks
@@ -55,6 +56,8 @@ field_of_word w =
     if bytes_eq w (codes "dst_mac") then Some fields.DstMac else
     if bytes_eq w (codes "src_ip") then Some fields.SrcIp else
     if bytes_eq w (codes "dst_ip") then Some fields.DstIp else
+    if bytes_eq w (codes "src_ip6") then Some fields.SrcIp6 else
+    if bytes_eq w (codes "dst_ip6") then Some fields.DstIp6 else
     if bytes_eq w (codes "proto") then Some fields.Proto else
     if bytes_eq w (codes "ttl") then Some fields.Ttl else
     if bytes_eq w (codes "src_port") then Some fields.SrcPort else

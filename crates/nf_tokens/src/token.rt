@@ -55,6 +55,7 @@ pub enum Sign {
     Flood,
     Discard,
     Index,
+    Six,
 }
 
 impl Sign {
@@ -109,6 +110,7 @@ impl Sign {
             Sign::Flood => 43,
             Sign::Discard => 44,
             Sign::Index => 45,
+            Sign::Six => 46,
         }
     }
 }

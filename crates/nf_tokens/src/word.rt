@@ -33,6 +33,8 @@ fn declaring(word: &[u8]) -> Option<Sign>
         Some(Sign::Array)
     } else if word == b"on".as_slice() {
         Some(Sign::On)
+    } else if word == b"six".as_slice() {
+        Some(Sign::Six)
     } else {
         None
     }
@@ -100,6 +102,10 @@ fn field_of_word(word: &[u8]) -> Option<Field>
         Some(Field::SrcIp)
     } else if word == b"dst_ip".as_slice() {
         Some(Field::DstIp)
+    } else if word == b"src_ip6".as_slice() {
+        Some(Field::SrcIp6)
+    } else if word == b"dst_ip6".as_slice() {
+        Some(Field::DstIp6)
     } else if word == b"proto".as_slice() {
         Some(Field::Proto)
     } else if word == b"ttl".as_slice() {

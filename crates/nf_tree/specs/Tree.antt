@@ -3,6 +3,7 @@
 use Rattle.std.specs.Prelude.{List}
 use Rattle.nf_base.specs.declared.expr.Comparison.{Comparison}
 use Rattle.nf_base.specs.declared.packet.Field.{Field}
+use Rattle.nf_base.specs.declared.packet.Family.{Family}
 use Rattle.nf_tokens.specs.declared.token.Place.{Place}
 use Rattle.nf_tree.specs.declared.place.Name.{Name}
 use Rattle.nf_tree.specs.declared.place.Literal.{Literal}
@@ -66,10 +67,11 @@ pub data Block : Type 0 where
   Ask : Question → (hit miss next : Block) → Block
   Make : Creation → (made taken full next : Block) → Block
 
--- the handler of a port; its place is that of its word
+-- a handler of a port for a family; its place is that of its word
 pub record Handler : Type 0 where
   pub place : Place
   pub port : Literal
+  pub family : Family
   pub block : Block
 
 -- a whole text; its end is where its last brace stands

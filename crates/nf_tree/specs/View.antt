@@ -7,7 +7,12 @@ pub use Rattle.nf_tree.specs.BlockView.{expression_of, given_of, guards_of, endi
 
 -- a handler with its block
 abbrev pub handler_of : HandlerTree → Handler
-handler_of h = record { place = h.place; port = h.port; block = block_of h.block }
+handler_of h = record {
+  place = h.place;
+  port = h.port;
+  family = h.family;
+  block = block_of h.block;
+}
 
 -- a whole text
 abbrev pub tree_of : declared_tree.Tree → Tree

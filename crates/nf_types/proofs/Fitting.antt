@@ -2,7 +2,8 @@
 use Rattle.std.proofs.Common.{◌≡◌, ℕ, suc, ◌+◌, ◌≤◌, List, [], ◌∷◌, ◌++◌, Bool, true, false, ◌==◌, ◌||◌, Option, Some, None, length, map, nat_le, arith, refl, sym, subst}
 use Rattle.std.specs.Prelude.{All, slice_get, if◌then◌else◌}
 use Rattle.std.specs.Str.{bytes_eq}
-use Rattle.std.specs.List.{range_with_len}
+use Rattle.std.specs.List.{flat_map, range_with_len}
+use Rattle.std.specs.Option.{option_map}
 use Rattle.std.proofs.lemmas.List.{length-map, length-take}
 use Rattle.std.proofs.lemmas.List.Elements.{All-head, All-tail, All-nil, All-cons, All-append}
 use Rattle.nf_base.specs.declared.decl.ColumnDecl.{ColumnDecl}
@@ -12,6 +13,9 @@ use Rattle.nf_base.specs.Text.{Block, FallsOff}
 use Rattle.nf_base.specs.Statements.{Ends, Does, Asks, Makes, statements}
 use Rattle.nf_base.specs.Limits.{AreFor, QuestionFits, CreationFits, Fits}
 use Rattle.nf_base.specs.FitsOnce.{AllFit}
+use Rattle.nf_base.specs.declared.packet.Family.{Family}
+use Rattle.nf_base.specs.declared.packet.Family.TheVariants.{Four, Six}
+use Rattle.nf_base.specs.Doors.{listed, port_blocks}
 use Rattle.nf_tokens.specs.declared.token.Place.{Place}
 use Rattle.nf_tree.specs.declared.place.Name.{Name}
 use Rattle.nf_tree.specs.Tree as tree
@@ -28,7 +32,7 @@ use Rattle.nf_types.specs.Statements.{parts_of, key_of, asked, chain_named, map_
 use Rattle.nf_types.specs.StatementFaults.{binding_faults, make_in_faults, making_faults}
 use Rattle.nf_types.specs.Blocks.{bound, bound_by, checked_ending, checked_operation, checked_get_in, checked_get, checked_find, checked_question, checked_creation, checked_block}
 use Rattle.nf_types.specs.BlockFaults.{operation_faults, creation_faults, block_faults}
-use Rattle.nf_types.specs.Function.{is_at, block_at, checked_at, handler_at, handlers_of}
+use Rattle.nf_types.specs.Function.{is_at, block_at, checked_found, checked_at, four_at, six_at, port_at, handlers_of}
 use Rattle.nf_types.specs.TextFaults.{handler_faults, is_handled}
 use Rattle.nf_types.proofs.First.{front_none, back_none}
 use Rattle.nf_types.proofs.Faultless.{ask_faultless, make_faultless}
@@ -98,61 +102,61 @@ question_fits place o xs (tree.Find at x c i gs) all = find_fits place o xs (cha
 question_fits place o xs (tree.Test l comparison r) all = tt
 
 -- what a `new` makes has a value for each label of its chain
-labels_fit : (place : ℕ) (o : Objects) (xs : List Variable) (found : Option (ℕ × ChainDecl)) (c : Name) (gs : List tree.Given) (close : Place) →
-    Stands 0 o.chains found → Holds IsSized found → first (make_in_faults o xs found c gs close) ≡ None →
+labels_fit : (family : Family) (place : ℕ) (o : Objects) (xs : List Variable) (found : Option (ℕ × ChainDecl)) (c : Name) (gs : List tree.Given) (close : Place) →
+    Stands 0 o.chains found → Holds IsSized found → first (make_in_faults family o xs found c gs close) ≡ None →
     (length (labels_in place o xs found gs) ≤ 136) × AreFor (length (labels_in place o xs found gs)) (slice_get o.chains (number_of found))
-labels_fit place o xs None c gs close at h e = cc
-labels_fit place o xs (Some found) c gs close at h e =
+labels_fit family place o xs None c gs close at h e = cc
+labels_fit family place o xs (Some found) c gs close at h e =
     let all : length (map (value_for place o xs gs) found.1.labels) ≡ length found.1.labels = length-map found.1.labels (value_for place o xs gs) in
     let same : at.0 ≡ found.0 = omega (arith, at.1.0) in
     let here : slice_get o.chains found.0 ≡ Some found.1 = subst (λ (k : ℕ). slice_get o.chains k ≡ Some found.1) same at.1.1 in
     (omega (arith, all, h.labels), subst (AreFor (length (map (value_for place o xs gs) found.1.labels))) (sym here) all)
 
-creation_fits : (place : ℕ) (room : Room) (o : Objects) (xs : List Variable) (n : tree.Creation) →
-    All IsSized o.chains → first (creation_faults room o xs n) ≡ None → CreationFits o.chains (checked_creation place o xs n)
+creation_fits : (family : Family) (place : ℕ) (room : Room) (o : Objects) (xs : List Variable) (n : tree.Creation) →
+    All IsSized o.chains → first (creation_faults family room o xs n) ≡ None → CreationFits o.chains (checked_creation place o xs n)
 unfolding creation_faults
-creation_fits place room o xs n all e =
+creation_fits family place room o xs n all e =
     let front = fault_if (room.lookups == 0 || room.news == 0) Limit n.place in
-    let making = making_faults o xs n.chain n.given n.close in
+    let making = making_faults family o xs n.chain n.given n.close in
     let none = back_none (binding_faults o xs n.variable) making (back_none front (binding_faults o xs n.variable ++ making) e) in
-    labels_fit (place + 1) o xs (chain_named o.chains n.chain.bytes) n.chain n.given n.close
+    labels_fit family (place + 1) o xs (chain_named o.chains n.chain.bytes) n.chain n.given n.close
     (named_stands 0 (λ (d : ChainDecl). d.name) n.chain.bytes o.chains)
     (named_holds IsSized 0 (λ (d : ChainDecl). d.name) n.chain.bytes o.chains all) none
 
 -- each statement of a block in which nothing is wrong
-fitting : (place : ℕ) (room : Room) (o : Objects) (xs : List Variable) (b : tree.Block) →
-    All IsSized o.chains → first (block_faults room o xs b) ≡ None → All (Fits o.chains) (statements (checked_block place o xs b))
-fitting place room o xs (tree.End end) all e =
+fitting : (family : Family) (place : ℕ) (room : Room) (o : Objects) (xs : List Variable) (b : tree.Block) →
+    All IsSized o.chains → first (block_faults family room o xs b) ≡ None → All (Fits o.chains) (statements (checked_block place o xs b))
+fitting family place room o xs (tree.End end) all e =
     All-cons (Fits o.chains) (Ends (checked_ending place o xs end)) [] tt (All-nil (Fits o.chains))
-fitting place room o xs (tree.Do op next) all e =
+fitting family place room o xs (tree.Do op next) all e =
     All-cons (Fits o.chains) (Does (checked_operation place o xs op))
     (statements (checked_block (place + operation_places op) o xs next)) tt
-    (fitting (place + operation_places op) room o xs next all (back_none (operation_faults o xs op) (block_faults room o xs next) e))
-fitting place room o xs (tree.Ask q hit miss next) all e =
+    (fitting family (place + operation_places op) room o xs next all (back_none (operation_faults family o xs op) (block_faults family room o xs next) e))
+fitting family place room o xs (tree.Ask q hit miss next) all e =
     let at = place + question_places q in
     let inner = behind_question room q in
-    let none = ask_faultless room o xs q hit miss next e in
+    let none = ask_faultless family room o xs q hit miss next e in
     let h = statements (checked_block at o (bound_by o xs q) hit) in
     let m = statements (checked_block (at + places hit) o xs miss) in
     let n = statements (checked_block (at + places hit + places miss) o xs next) in
     All-cons (Fits o.chains) (Asks (checked_question place o xs q)) (h ++ (m ++ n)) (question_fits place o xs q all)
-    (All-append (Fits o.chains) h (m ++ n) (fitting at inner o (bound_by o xs q) hit all none.hit)
-    (All-append (Fits o.chains) m n (fitting (at + places hit) (behind inner hit) o xs miss all none.miss)
-    (fitting (at + places hit + places miss) (behind (behind inner hit) miss) o xs next all none.next)))
-fitting place room o xs (tree.Make c made taken full next) all e =
+    (All-append (Fits o.chains) h (m ++ n) (fitting family at inner o (bound_by o xs q) hit all none.hit)
+    (All-append (Fits o.chains) m n (fitting family (at + places hit) (behind inner hit) o xs miss all none.miss)
+    (fitting family (at + places hit + places miss) (behind (behind inner hit) miss) o xs next all none.next)))
+fitting family place room o xs (tree.Make c made taken full next) all e =
     let at = place + creation_places c in
     let inner = behind_new room in
-    let none = make_faultless room o xs c made taken full next e in
+    let none = make_faultless family room o xs c made taken full next e in
     let m = statements (checked_block at o (bound o xs c.variable c.chain) made) in
     let t = statements (checked_block (at + places made) o xs taken) in
     let f = statements (checked_block (at + places made + places taken) o xs full) in
     let n = statements (checked_block (at + places made + places taken + places full) o xs next) in
     All-cons (Fits o.chains) (Makes (checked_creation place o xs c)) (m ++ (t ++ (f ++ n)))
-    (creation_fits place room o xs c all none.creation)
-    (All-append (Fits o.chains) m (t ++ (f ++ n)) (fitting at inner o (bound o xs c.variable c.chain) made all none.made)
-    (All-append (Fits o.chains) t (f ++ n) (fitting (at + places made) (behind inner made) o xs taken all none.taken)
-    (All-append (Fits o.chains) f n (fitting (at + places made + places taken) (behind (behind inner made) taken) o xs full all none.full)
-    (fitting (at + places made + places taken + places full) (behind (behind (behind inner made) taken) full) o xs next all none.next))))
+    (creation_fits family place room o xs c all none.creation)
+    (All-append (Fits o.chains) m (t ++ (f ++ n)) (fitting family at inner o (bound o xs c.variable c.chain) made all none.made)
+    (All-append (Fits o.chains) t (f ++ n) (fitting family (at + places made) (behind inner made) o xs taken all none.taken)
+    (All-append (Fits o.chains) f n (fitting family (at + places made + places taken) (behind (behind inner made) taken) o xs full all none.full)
+    (fitting family (at + places made + places taken + places full) (behind (behind (behind inner made) taken) full) o xs next all none.next))))
 
 -- a block in which each statement fits
 abbrev BlockFits : List ChainDecl → Block → Type 0
@@ -163,32 +167,39 @@ handler_fits : (place ports : ℕ) (o : Objects) (before : List tree.Handler) (h
     All IsSized o.chains → first (handler_faults ports o before h) ≡ None → BlockFits o.chains (checked_block place o [] h.block)
 unfolding handler_faults
 handler_fits place ports o before h all e =
-    let twice = fault_if (is_handled h.port.value before) Twice h.port.place in
+    let twice = fault_if (is_handled h.port.value h.family before) Twice h.port.place in
     let limit = fault_if (nat_le ports h.port.value) Limit h.port.place in
-    let inner = block_faults whole_room o [] h.block in
-    fitting place whole_room o [] h.block all (back_none limit inner (back_none twice (limit ++ inner) e))
+    let inner = block_faults h.family whole_room o [] h.block in
+    fitting h.family place whole_room o [] h.block all (back_none limit inner (back_none twice (limit ++ inner) e))
 
--- the handler of a port, if there is one
-port_fits : (port place ports : ℕ) (o : Objects) (before hs : List tree.Handler) →
-    All IsSized o.chains → first (each_behind (handler_faults ports o) before hs) ≡ None → BlockFits o.chains (checked_at o (block_at port place hs))
-port_fits port place ports o before [] all e = All-cons (Fits o.chains) (Ends FallsOff) [] tt (All-nil (Fits o.chains))
-port_fits port place ports o before (h ∷ hs) all e =
+-- the handler of a port for a version of IP, if there is one
+port_fits : (port : ℕ) (family : Family) (place ports : ℕ) (o : Objects) (before hs : List tree.Handler) →
+    All IsSized o.chains → first (each_behind (handler_faults ports o) before hs) ≡ None → BlockFits o.chains (checked_at o (block_at port family place hs))
+port_fits port family place ports o before [] all e = All-cons (Fits o.chains) (Ends FallsOff) [] tt (All-nil (Fits o.chains))
+port_fits port family place ports o before (h ∷ hs) all e =
     let rest = each_behind (handler_faults ports o) (before ++ h ∷ []) hs in
-    one_of (λ (found : Option (ℕ × tree.Block)). BlockFits o.chains (checked_at o found)) (is_at port h) (Some (place, h.block)) (block_at port (place + places h.block) hs)
+    one_of (λ (found : Option (ℕ × tree.Block)). BlockFits o.chains (checked_at o found)) (is_at port family h) (Some (place, h.block)) (block_at port family (place + places h.block) hs)
     (handler_fits place ports o before h all (front_none (handler_faults ports o before h) rest e))
-    (port_fits port (place + places h.block) ports o (before ++ h ∷ []) hs all (back_none (handler_faults ports o before h) rest e))
+    (port_fits port family (place + places h.block) ports o (before ++ h ∷ []) hs all (back_none (handler_faults ports o before h) rest e))
 
-at_fits : (ports : ℕ) (o : Objects) (hs : List tree.Handler) (port : ℕ) →
-    All IsSized o.chains → first (each_behind (handler_faults ports o) [] hs) ≡ None → BlockFits o.chains (handler_at o hs port)
-unfolding handler_at
-at_fits ports o hs port all e = port_fits port 0 ports o [] hs all e
+-- what holds of the block of a handler, if there is one
+listed_holds : (P : Block → Type 0) (o : Objects) (found : Option (ℕ × tree.Block)) → P (checked_at o found) → All P (listed (option_map (checked_found o) found))
+listed_holds P o None p = All-nil P
+listed_holds P o (Some found) p = All-cons P (checked_found o found) [] p (All-nil P)
 
-pub All-map : {A B : Type 0} (P : B → Type 0) (f : A → B) (xs : List A) → ((x : A) → P (f x)) → All P (map f xs)
-All-map P f [] each = All-nil P
-All-map P f (x ∷ xs) each = All-cons P (f x) (map f xs) (each x) (All-map P f xs each)
+-- what holds of the block for each port and version of IP holds of all blocks of these ports
+pub ports_hold : (P : Block → Type 0) (o : Objects) (hs : List tree.Handler) → ((port : ℕ) (family : Family) → P (checked_at o (block_at port family 0 hs))) →
+    (ports : List ℕ) → All P (flat_map port_blocks (map (port_at o hs) ports))
+unfolding four_at six_at
+ports_hold P o hs each [] = All-nil P
+ports_hold P o hs each (port ∷ ports) =
+    let rest = flat_map port_blocks (map (port_at o hs) ports) in
+    All-cons P (four_at o hs port) (listed (six_at o hs port) ++ rest) (each port Four)
+    (All-append P (listed (six_at o hs port)) rest (listed_holds P o (block_at port Six 0 hs) (each port Six)) (ports_hold P o hs each ports))
 
 -- the handlers of a text, by port
 pub all_fit : (count ports : ℕ) (o : Objects) (hs : List tree.Handler) →
-    All IsSized o.chains → first (each_behind (handler_faults ports o) [] hs) ≡ None → AllFit o.chains (handlers_of o count hs)
+    All IsSized o.chains → first (each_behind (handler_faults ports o) [] hs) ≡ None →
+    AllFit o.chains (flat_map port_blocks (handlers_of o count hs))
 all_fit count ports o hs all e =
-    All-map (BlockFits o.chains) (handler_at o hs) (range_with_len 0 count) (λ port. at_fits ports o hs port all e)
+    ports_hold (BlockFits o.chains) o hs (λ port family. port_fits port family 0 ports o [] hs all e) (range_with_len 0 count)

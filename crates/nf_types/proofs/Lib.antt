@@ -3,7 +3,6 @@ pub mod Behind
 pub mod Ended
 pub mod Maps
 pub mod Ranges
-pub mod Few
 pub mod Faultless
 pub mod Small
 pub mod Counted

@@ -32,7 +32,7 @@ port_faults n = fault_if (nat_lt n.value 1 || nat_lt 4 n.value) Limit n.place
 abbrev pub size_faults : Literal → List Fault
 size_faults n = fault_if (nat_lt n.value 1 || nat_lt 65536 n.value) Limit n.place
 
--- one of the five widths
+-- one of the widths
 abbrev pub width_faults : Literal → List Fault
 width_faults n = fault_if (not (is_width n.value)) Limit n.place
 

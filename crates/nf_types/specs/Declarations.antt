@@ -1,7 +1,7 @@
 -- What the declarations of a text stand for.
 use Rattle.std.specs.Prelude.{ℕ, ◌==◌, ◌-◌, Bool, ◌||◌, List, [], ◌∷◌, ◌++◌, if◌then◌else◌, length, map, take, replicate, fold}
 use Rattle.nf_base.specs.declared.width.Width.{Width}
-use Rattle.nf_base.specs.declared.width.Width.TheVariants.{W8, W16, W32, W48, W64}
+use Rattle.nf_base.specs.declared.width.Width.TheVariants.{W8, W16, W32, W48, W64, W128}
 use Rattle.nf_base.specs.declared.decl.ColumnDecl.{ColumnDecl}
 use Rattle.nf_base.specs.declared.decl.ColumnId.TheVariants as ids
 use Rattle.nf_base.specs.declared.decl.ObjectId.TheVariants as object
@@ -21,9 +21,9 @@ use Rattle.nf_tree.specs.declared.tree.ArrayTree.{ArrayTree}
 use Rattle.nf_tree.specs.declared.tree.Declaration.{Declaration}
 use Rattle.nf_tree.specs.declared.tree.Declaration.TheVariants as declarations
 
--- the five widths, in bits
+-- the widths, in bits
 abbrev pub is_width : ℕ → Bool
-is_width n = n == 8 || n == 16 || n == 32 || n == 48 || n == 64
+is_width n = n == 8 || n == 16 || n == 32 || n == 48 || n == 64 || n == 128
 
 -- the width of so many bits
 abbrev pub width_of : ℕ → Width
@@ -31,7 +31,8 @@ width_of n =
     if n == 8 then W8 else
     if n == 16 then W16 else
     if n == 32 then W32 else
-    if n == 48 then W48 else W64
+    if n == 48 then W48 else
+    if n == 64 then W64 else W128
 
 -- a label or a column, with its width
 abbrev pub column_of : Name → Literal → ColumnDecl

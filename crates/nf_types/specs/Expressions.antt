@@ -2,6 +2,7 @@
 use Rattle.std.specs.Prelude.{ℕ, ◌+◌, true, List, [], ◌∷◌, ◌++◌, Option, Some, None}
 use Rattle.nf_base.specs.Text.{Expression, Number, Read, Index, Label, Column, Cell, Both, Given}
 use Rattle.nf_base.specs.declared.width.Width.{Width}
+use Rattle.nf_base.specs.declared.packet.Family.{Family}
 use Rattle.nf_base.specs.declared.expr.Operator.{Operator}
 use Rattle.nf_base.specs.declared.expr.Operator.TheVariants as operators
 use Rattle.nf_base.specs.declared.decl.ColumnId.{ColumnId}
@@ -18,6 +19,7 @@ use Rattle.nf_types.specs.declared.fault.TypingKind.TheVariants.{Unknown, NotInS
 use Rattle.nf_types.specs.declared.fault.Fault.{Fault}
 use Rattle.nf_types.specs.Names.{named}
 use Rattle.nf_types.specs.Faults.{fault_if}
+use Rattle.nf_types.specs.Fields.{field_faults}
 use Rattle.nf_types.specs.declared.objects.Objects.{Objects}
 use Rattle.nf_types.specs.Variables.{Variable, variable_of, variable_named, column_named}
 
@@ -107,22 +109,25 @@ abbrev pub scope_faults : Option (Option ChainDecl) → Name → List Fault
 scope_faults None x = fault_if true NotInScope x.place
 scope_faults (Some chain) x = []
 
--- a value
-abbrev pub value_faults : Objects → List Variable → tree.Expression → List Fault
-value_faults o xs (tree.Number n) = []
-value_faults o xs (tree.Read field at) = []
-value_faults o xs (tree.Column x y) = read_faults (variable_named xs x.bytes) x y
-value_faults o xs (tree.Index x) = scope_faults (variable_named xs x.bytes) x
-value_faults o xs (tree.Cell a i) =
-    array_faults_at (array_named o.arrays a.bytes) a ++ value_faults o xs i
-value_faults o xs (tree.Group e close) = value_faults o xs e
-value_faults o xs (tree.Sum operator l r) = value_faults o xs l ++ value_faults o xs r
-value_faults o xs (tree.Product operator l r) = value_faults o xs l ++ value_faults o xs r
+-- a value in a handler for a version of IP
+abbrev pub value_faults : Family → Objects → List Variable → tree.Expression → List Fault
+value_faults family o xs (tree.Number n) = []
+value_faults family o xs (tree.Read field at) = field_faults family field at
+value_faults family o xs (tree.Column x y) = read_faults (variable_named xs x.bytes) x y
+value_faults family o xs (tree.Index x) = scope_faults (variable_named xs x.bytes) x
+value_faults family o xs (tree.Cell a i) =
+    array_faults_at (array_named o.arrays a.bytes) a ++ value_faults family o xs i
+value_faults family o xs (tree.Group e close) = value_faults family o xs e
+value_faults family o xs (tree.Sum operator l r) =
+    value_faults family o xs l ++ value_faults family o xs r
+value_faults family o xs (tree.Product operator l r) =
+    value_faults family o xs l ++ value_faults family o xs r
 
 -- some values, one by one
-abbrev pub each_value_faults : Objects → List Variable → List tree.Expression → List Fault
-each_value_faults o xs [] = []
-each_value_faults o xs (v ∷ vs) = value_faults o xs v ++ each_value_faults o xs vs
+abbrev pub each_value_faults : Family → Objects → List Variable → List tree.Expression → List Fault
+each_value_faults family o xs [] = []
+each_value_faults family o xs (v ∷ vs) =
+    value_faults family o xs v ++ each_value_faults family o xs vs
 
 -- a value of a width
 abbrev pub given_to : ℕ → Objects → List Variable → Width → tree.Expression → Given

@@ -1,5 +1,6 @@
 pub mod Names
 pub mod Faults
+pub mod Fields
 pub mod Declarations
 pub mod DeclarationFaults
 pub mod Variables
@@ -19,3 +20,4 @@ pub mod Parts
 pub mod Roomy
 pub mod Rows
 pub mod Samples
+pub mod FamilyRows

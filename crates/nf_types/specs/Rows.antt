@@ -1,6 +1,8 @@
 -- Worked rows: trees of texts, what is wrong with them, and what they stand for.
 use Rattle.std.specs.Prelude.{◌≡◌, ℕ, List, [], ◌∷◌, codes}
 use Rattle.nf_base.specs.Text as code
+use Rattle.nf_base.specs.Doors.{only_four}
+use Rattle.nf_base.specs.declared.packet.Family.TheVariants.{Four, Six}
 use Rattle.nf_base.specs.declared.width.Width.{Width}
 use Rattle.nf_base.specs.declared.width.Width.TheVariants.{W8, W16, W32}
 use Rattle.nf_base.specs.declared.packet.Field.{Field}
@@ -52,7 +54,21 @@ text ports ds hs end =
 
 -- a handler of which no fault is at its word
 abbrev pub handler : ℕ → Place → tree.Block → tree.Handler
-handler port place b = record { place = at 1 1; port = number port place; block = b }
+handler port place b = record {
+  place = at 1 1;
+  port = number port place;
+  family = Four;
+  block = b;
+}
+
+-- the same for IPv6
+abbrev pub six_handler : ℕ → Place → tree.Block → tree.Handler
+six_handler port place b = record {
+  place = at 1 1;
+  port = number port place;
+  family = Six;
+  block = b;
+}
 
 -- a block that is empty, and one that is left out
 abbrev pub empty : tree.Block
@@ -114,7 +130,7 @@ AnyPortMayBeForwardedTo =
       chains = [];
       arrays = [];
       objects = [];
-      handlers = code.End (code.Forward (code.Number 7)) ∷ [];
+      handlers = only_four (code.End (code.Forward (code.Number 7))) ∷ [];
     })
 
 -- a label of the text, a map with its labels and a column
@@ -326,7 +342,7 @@ firewall = record {
   } ∷ [];
   arrays = [];
   objects = object.Chain 0 ∷ [];
-  handlers = outward ∷ inward ∷ [];
+  handlers = only_four outward ∷ only_four inward ∷ [];
 }
 
 abbrev pub TheFirewallIsAFunction : Type 0
@@ -352,4 +368,5 @@ found place n =
 
 abbrev pub HandlersStandByPort : Type 0
 HandlersStandByPort =
-    (faults exchanged ≡ []) × ((function exchanged).handlers ≡ found 1 8 ∷ found 0 7 ∷ [])
+    (faults exchanged ≡ [])
+    × ((function exchanged).handlers ≡ only_four (found 1 8) ∷ only_four (found 0 7) ∷ [])

@@ -1,6 +1,7 @@
 -- Worked rows: functions with free columns, guards, arrays and several chains.
 use Rattle.std.specs.Prelude.{◌≡◌, ℕ, List, [], ◌∷◌, codes}
 use Rattle.nf_base.specs.Text as code
+use Rattle.nf_base.specs.Doors.{only_four}
 use Rattle.nf_base.specs.declared.width.Width.TheVariants.{W8, W16, W32, W48, W64}
 use Rattle.nf_base.specs.declared.expr.Operator.TheVariants as operators
 use Rattle.nf_base.specs.declared.expr.Comparison.TheVariants.{Less, Greater}
@@ -88,7 +89,7 @@ ThePolicerIsAFunction =
       } ∷ [];
       arrays = [];
       objects = object.Chain 0 ∷ [];
-      handlers = code.End (code.Forward (code.Number 1)) ∷ policed ∷ [];
+      handlers = only_four (code.End (code.Forward (code.Number 1))) ∷ only_four policed ∷ [];
     })
 
 -- array v 3: 16; chain d 1 lifetime 0 { } chain c 8 lifetime 0 { fixed r: 16; map m(a: 32); free t: 8; map n(s: 48, p: 16); free u: 64; }
@@ -199,7 +200,7 @@ PlacesCountAlongTheText =
       cells = 0 ∷ 0 ∷ 0 ∷ [];
     } ∷ [])
     × ((function mixed_tree).objects ≡ object.Array 0 ∷ object.Chain 0 ∷ object.Chain 1 ∷ [])
-    × ((function mixed_tree).handlers ≡ mixed_code ∷ [])
+    × ((function mixed_tree).handlers ≡ only_four mixed_code ∷ [])
 
 -- set time = e.a; set length = x[0]; set proto = 1; set ttl = 0;
 abbrev pub AFieldIsSet : Type 0
@@ -256,4 +257,5 @@ answered =
 
 abbrev pub TheTranslatorIsAFunction : Type 0
 TheTranslatorIsAFunction =
-    (faults translator_text ≡ []) × ((function translator_text).handlers ≡ answered ∷ [])
+    (faults translator_text ≡ [])
+    × ((function translator_text).handlers ≡ only_four answered ∷ [])

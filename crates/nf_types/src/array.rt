@@ -37,12 +37,12 @@ fn contents(size: u32, contents: &[Literal]) -> Result<(), Fault>
 }
 
 /// Numbers taken to a width.
-fn all_narrowed(alloc: Global, width: Width, contents: &[Literal]) -> Result<Vec<u64>, AllocError>
+fn all_narrowed(alloc: Global, width: Width, contents: &[Literal]) -> Result<Vec<u128>, AllocError>
     ensures { IfOk result (λ all. all.items ≡ map (λ n. narrowed width n.value) contents.now) }
 {
     let mut all = Vec::new(alloc);
     for one in contents {
-        all.push(narrowed(width, one.value))?;
+        all.push(narrowed(width, u128::from(one.value)))?;
     }
     Ok(all)
 }
@@ -53,7 +53,7 @@ fn cells(
     width: Width,
     size: u32,
     contents: &[Literal],
-) -> Result<Indexed<u64>, AllocError>
+) -> Result<Indexed<u128>, AllocError>
     requires few { length contents.now ≤ size }
     requires size { size ≤ 65536 }
     ensures { IfOk result (λ cells. cells ≡ map (λ n. narrowed width n.value) contents.now

@@ -13,16 +13,22 @@ use crate::room::Room;
 use crate::statement_rules::{binding, find, look_up, make, set, store, write};
 use crate::value_rules::{in_scope, value};
 use crate::variables::{Variables, bound, bound_by};
+use nf_base::packet::Family;
 use nf_tree::{Block, Creation, Ending, Operation, Question};
 
 /// The first fault of an end.
-fn ending(objects: &Objects, scope: &Variables, ending: &Ending) -> Result<(), Fault>
-    ensures { first (ending_faults objects.now (variables_of scope.now)
+fn ending(
+    family: Family,
+    objects: &Objects,
+    scope: &Variables,
+    ending: &Ending,
+) -> Result<(), Fault>
+    ensures { first (ending_faults family objects.now (variables_of scope.now)
         (syntax.ending_of ending.now))
         ≡ fault_in result }
 {
     match ending {
-        Ending::Forward(port) => value(objects, scope, port),
+        Ending::Forward(port) => value(family, objects, scope, port),
         Ending::FallsOff => Ok(()),
         Ending::Missing => Ok(()),
         Ending::Flood => Ok(()),
@@ -31,8 +37,13 @@ fn ending(objects: &Objects, scope: &Variables, ending: &Ending) -> Result<(), F
 }
 
 /// The first fault of a statement with no block.
-fn operation(objects: &Objects, scope: &Variables, operation: &Operation) -> Result<(), Fault>
-    ensures { first (operation_faults objects.now (variables_of scope.now)
+fn operation(
+    family: Family,
+    objects: &Objects,
+    scope: &Variables,
+    operation: &Operation,
+) -> Result<(), Fault>
+    ensures { first (operation_faults family objects.now (variables_of scope.now)
         (syntax.operation_of operation.now))
         ≡ fault_in result }
 {
@@ -43,29 +54,30 @@ fn operation(objects: &Objects, scope: &Variables, operation: &Operation) -> Res
             field,
             place,
             value,
-        } => set(objects, scope, *field, *place, value),
+        } => set(family, objects, scope, *field, *place, value),
         Operation::Write {
             variable,
             column,
             value,
-        } => write(objects, scope, variable, column, value),
+        } => write(family, objects, scope, variable, column, value),
         Operation::Store {
             array,
             index,
             value,
-        } => store(objects, scope, array, index, value),
+        } => store(family, objects, scope, array, index, value),
     }
 }
 
 /// The first fault of a question, without its blocks.
 #[tactic(auto, using(crate::proofs::First::first_append), unfolding(crate::specs::BlockFaults::get_faults, crate::specs::BlockFaults::find_faults))]
 fn question(
+    family: Family,
     objects: &Objects,
     room: Room,
     scope: &Variables,
     question: &Question,
 ) -> Result<(), Fault>
-    ensures { first (question_faults room objects.now (variables_of scope.now)
+    ensures { first (question_faults family room objects.now (variables_of scope.now)
         (syntax.question_of question.now))
         ≡ fault_in result }
 {
@@ -80,7 +92,7 @@ fn question(
         } => {
             refuse_if(room.lookups == 0, TypingKind::Limit, *place)?;
             binding(objects, scope, variable)?;
-            look_up(objects, scope, chain, map, key.as_slice(), *close)
+            look_up(family, objects, scope, chain, map, key.as_slice(), *close)
         }
         Question::Find {
             place,
@@ -91,32 +103,46 @@ fn question(
         } => {
             refuse_if(room.lookups == 0, TypingKind::Limit, *place)?;
             binding(objects, scope, variable)?;
-            find(objects, scope, chain, index, guards)
+            find(family, objects, scope, chain, index, guards)
         }
         Question::Test { left, right, .. } => {
-            value(objects, scope, left)?;
-            value(objects, scope, right)
+            value(family, objects, scope, left)?;
+            value(family, objects, scope, right)
         }
     }
 }
 
 /// The first fault of a `new`, without its blocks.
 #[tactic(auto, using(crate::proofs::First::first_append), unfolding(crate::specs::BlockFaults::creation_faults))]
-fn creation(objects: &Objects, room: Room, scope: &Variables, one: &Creation) -> Result<(), Fault>
-    ensures { first (creation_faults room objects.now (variables_of scope.now)
+fn creation(
+    family: Family,
+    objects: &Objects,
+    room: Room,
+    scope: &Variables,
+    one: &Creation,
+) -> Result<(), Fault>
+    ensures { first (creation_faults family room objects.now (variables_of scope.now)
         (syntax.creation_of one.now))
         ≡ fault_in result }
 {
     let is_full = room.lookups == 0 || room.news == 0;
     refuse_if(is_full, TypingKind::Limit, one.place)?;
     binding(objects, scope, &one.variable)?;
-    make(objects, scope, &one.chain, one.given.as_slice(), one.close)
+    make(
+        family,
+        objects,
+        scope,
+        &one.chain,
+        one.given.as_slice(),
+        one.close,
+    )
 }
 
 /// A question with its blocks: its first fault, or what may still come behind it.
 #[cycle(rules)]
 #[tactic(auto, using(crate::proofs::First::first_append))]
 fn ask(
+    family: Family,
     objects: &Objects,
     room: Room,
     scope: &Variables,
@@ -124,23 +150,24 @@ fn ask(
     hit: &Block,
     miss: &Block,
 ) -> Result<Room, Fault>
-    ensures fault { first (asked_faults room objects.now (variables_of scope.now)
+    ensures fault { first (asked_faults family room objects.now (variables_of scope.now)
         (syntax.question_of asked.now) (syntax.block_of hit.now) (syntax.block_of miss.now))
         ≡ fault_in result }
     ensures left { IfOk result (λ left. left
         ≡ behind_asked room (syntax.question_of asked.now) (syntax.block_of hit.now)
         (syntax.block_of miss.now)) }
 {
-    question(objects, room, scope, asked)?;
+    question(family, objects, room, scope, asked)?;
     let inner = bound_by(&*objects, &*scope, &*asked);
-    let left = block(objects, room.behind_question(asked), &inner, hit)?;
-    block(objects, left, scope, miss)
+    let left = block(family, objects, room.behind_question(asked), &inner, hit)?;
+    block(family, objects, left, scope, miss)
 }
 
 /// A `new` with its blocks: its first fault, or what may still come behind it.
 #[cycle(rules)]
 #[tactic(auto, using(crate::proofs::First::first_append))]
 fn make_in(
+    family: Family,
     objects: &Objects,
     room: Room,
     scope: &Variables,
@@ -149,7 +176,7 @@ fn make_in(
     taken: &Block,
     full: &Block,
 ) -> Result<Room, Fault>
-    ensures fault { first (made_faults room objects.now (variables_of scope.now)
+    ensures fault { first (made_faults family room objects.now (variables_of scope.now)
         (syntax.creation_of one.now) (syntax.block_of made.now) (syntax.block_of taken.now)
         (syntax.block_of full.now))
         ≡ fault_in result }
@@ -157,19 +184,25 @@ fn make_in(
         ≡ behind_made room (syntax.block_of made.now) (syntax.block_of taken.now)
         (syntax.block_of full.now)) }
 {
-    creation(objects, room, scope, one)?;
+    creation(family, objects, room, scope, one)?;
     let inner = bound(&*objects, &*scope, &one.variable, &one.chain);
-    let left = block(objects, room.behind_new(), &inner, made)?;
-    let left = block(objects, left, scope, taken)?;
-    block(objects, left, scope, full)
+    let left = block(family, objects, room.behind_new(), &inner, made)?;
+    let left = block(family, objects, left, scope, taken)?;
+    block(family, objects, left, scope, full)
 }
 
 /// The first fault of a block, or what may still come behind it, in a loop along its statements.
 #[cycle(rules)]
 #[tactic(auto, using(crate::proofs::First::first_append, crate::proofs::Rooms::behind_ask, crate::proofs::Rooms::behind_make))]
-pub fn block(objects: &Objects, room: Room, scope: &Variables, block: &Block) -> Result<Room, Fault>
+pub fn block(
+    family: Family,
+    objects: &Objects,
+    room: Room,
+    scope: &Variables,
+    block: &Block,
+) -> Result<Room, Fault>
     ensures fault { first
-        (block_faults room objects.now (variables_of scope.now) (syntax.block_of block.now))
+        (block_faults family room objects.now (variables_of scope.now) (syntax.block_of block.now))
         ≡ fault_in result }
     ensures left { IfOk result (λ left. left ≡ behind room (syntax.block_of block.now)) }
 {
@@ -178,14 +211,14 @@ pub fn block(objects: &Objects, room: Room, scope: &Variables, block: &Block) ->
     loop {
         match rest {
             Block::End(end) => {
-                ending(objects, scope, end)?;
+                ending(family, objects, scope, end)?;
                 return Ok(left);
             }
             Block::Do {
                 operation: one,
                 next,
             } => {
-                operation(objects, scope, one)?;
+                operation(family, objects, scope, one)?;
                 rest = next
             }
             Block::Ask {
@@ -194,7 +227,7 @@ pub fn block(objects: &Objects, room: Room, scope: &Variables, block: &Block) ->
                 miss,
                 next,
             } => {
-                left = ask(objects, left, scope, asked, hit, miss)?;
+                left = ask(family, objects, left, scope, asked, hit, miss)?;
                 rest = next
             }
             Block::Make {
@@ -204,7 +237,7 @@ pub fn block(objects: &Objects, room: Room, scope: &Variables, block: &Block) ->
                 full,
                 next,
             } => {
-                left = make_in(objects, left, scope, one, made, taken, full)?;
+                left = make_in(family, objects, left, scope, one, made, taken, full)?;
                 rest = next
             }
         }

@@ -34,6 +34,7 @@ pub fn width(bits: &Literal) -> Result<Width, Stop>
         32 => Ok(Width::W32),
         48 => Ok(Width::W48),
         64 => Ok(Width::W64),
+        128 => Ok(Width::W128),
         _ => Err(Stop::Broken(Fault {
             kind: TypingKind::Limit,
             place: bits.place,

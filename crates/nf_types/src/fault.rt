@@ -14,7 +14,8 @@ pub enum TypingKind {
     /// A chain, array, map, label or column that is not declared.
     #[error("T01")]
     Unknown,
-    /// A name declared twice, a label given twice, or a second handler of a port.
+    /// A name declared twice, a label given twice, or a second handler of a port for one version of
+    /// IP.
     #[error("T02")]
     Twice,
     /// A wrong number of key parts in a `get`, or labels missing in a `new`.
@@ -33,9 +34,13 @@ pub enum TypingKind {
     /// is not declared.
     #[error("T07")]
     Limit,
-    /// A declared port without a handler.
+    /// A declared port without a handler for IPv4.
     #[error("T08")]
     NoHandler,
+    /// A field of the other version of IP: `src_ip6` or `dst_ip6` in a handler for IPv4, `src_ip` or
+    /// `dst_ip` in one for IPv6.
+    #[error("T09")]
+    OtherFamily,
 }
 
 /// Why a tree gives no checked function.

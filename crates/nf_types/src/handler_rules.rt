@@ -1,6 +1,6 @@
 //! What is wrong with the handlers of a function.
 
-ghost use Rattle.std.specs.Prelude.{◌≡◌, ◌≤◌, ◌++◌, [], length, map, IfOk};
+ghost use Rattle.std.specs.Prelude.{◌≡◌, ◌++◌, [], map, IfOk};
 ghost use Rattle.nf_tree.specs.View as syntax;
 ghost use Rattle.nf_types.specs.declared.fault.TypingKind.TheVariants.{NoHandler};
 ghost use Rattle.nf_types.specs.Faults.{first, fault_in, fault_if, each_behind};
@@ -9,18 +9,20 @@ ghost use Rattle.nf_types.specs.TextFaults.{is_handled, lacks_handler, handler_f
 
 use crate::block_rules::block;
 use crate::fault::{Fault, TypingKind, refuse_if};
+use crate::handler::is_at;
 use crate::objects::Objects;
 use crate::room::Room;
 use crate::variables::Variables;
+use nf_base::packet::Family;
 use nf_tokens::Place;
 use nf_tree::HandlerTree;
 
-/// Whether a port has a handler among these.
-fn is_handled(handlers: &[HandlerTree], port: u64) -> bool
-    ensures { result ≡ is_handled port (map syntax.handler_of handlers.now) }
+/// Whether a port has a handler for a version of IP among these.
+fn is_handled(handlers: &[HandlerTree], port: u64, family: Family) -> bool
+    ensures { result ≡ is_handled port family (map syntax.handler_of handlers.now) }
 {
     for one in handlers {
-        if one.port.value == port {
+        if is_at(one, port, family) {
             return true;
         }
     }
@@ -39,9 +41,16 @@ fn handler(
         (syntax.handler_of one.now)) ≡ fault_in result }
 {
     let port = one.port.value;
-    refuse_if(is_handled(before, port), TypingKind::Twice, one.port.place)?;
+    let is_second = is_handled(before, port, one.family);
+    refuse_if(is_second, TypingKind::Twice, one.port.place)?;
     refuse_if(ports <= port, TypingKind::Limit, one.port.place)?;
-    block(objects, Room::whole(), &Variables::Empty, &one.block)?;
+    block(
+        one.family,
+        objects,
+        Room::whole(),
+        &Variables::Empty,
+        &one.block,
+    )?;
     Ok(())
 }
 
@@ -56,20 +65,20 @@ fn each_handler(ports: u64, objects: &Objects, handlers: &[HandlerTree]) -> Resu
     Ok(())
 }
 
-/// Whether some port has no handler.
+/// Whether some port has no handler for IPv4.
 fn lacks_handler(ports: u64, handlers: &[HandlerTree]) -> bool
     ensures { result ≡ lacks_handler ports (map syntax.handler_of handlers.now) }
 {
     for port in 0..ports {
-        if !is_handled(handlers, port) {
+        if !is_handled(handlers, port, Family::Four) {
             return true;
         }
     }
     false
 }
 
-/// The handlers of a function: one for each port.
-#[tactic(auto, using(crate::proofs::First::first_append, crate::proofs::Small::are_small, crate::proofs::Few::few_handlers))]
+/// The handlers of a function: one for IPv4 at each port, and one for IPv6 at most.
+#[tactic(auto, using(crate::proofs::First::first_append, crate::proofs::Small::are_small))]
 pub fn handlers(
     ports: u64,
     objects: &Objects,
@@ -81,7 +90,6 @@ pub fn handlers(
         ++ fault_if (lacks_handler ports (map syntax.handler_of handlers.now)) NoHandler end)
         ≡ fault_in result }
     ensures small { IfOk result (λ _. AreSmall (map syntax.handler_of handlers.now)) }
-    ensures few { IfOk result (λ _. length handlers.now ≤ ports) }
 {
     each_handler(ports, objects, handlers)?;
     refuse_if(lacks_handler(ports, handlers), TypingKind::NoHandler, end)

@@ -1,6 +1,7 @@
 //! Worked rows: what the definitions make of a few trees.
 
 ghost use Rattle.nf_types.specs.Rows.{NoPortIsTooFew, APortHasNoHandler, AVariableIsNotInScope, FaultsStandInTextOrder, AnyPortMayBeForwardedTo, AGetLooksWhereItCan, ANewGivesEachLabelOnce, AFindAsksLabels, NumbersPastTheSizeAreTooMany, ContentsAreTakenToTheWidth, TheFirewallIsAFunction, HandlersStandByPort};
+ghost use Rattle.nf_types.specs.FamilyRows.{HandlersStandByFamily, AFieldIsOfTheHandlersFamily};
 ghost use Rattle.nf_types.specs.Samples.{ThePolicerIsAFunction, PlacesCountAlongTheText, AFieldIsSet, TheTranslatorIsAFunction};
 
 /// `nf x { ports 0; }` has its fault at the number.
@@ -81,4 +82,14 @@ pub fn a_field_is_set()
 /// A translator of addresses sets fields.
 pub fn the_translator_is_a_function()
     ensures { TheTranslatorIsAFunction }
+{}
+
+/// A port's handlers stand by their version of IP, and that for IPv6 may be missing.
+pub fn handlers_stand_by_family()
+    ensures { HandlersStandByFamily }
+{}
+
+/// Each version of IP has addresses of its own, and needs one handler at most.
+pub fn a_field_is_of_the_handlers_family()
+    ensures { AFieldIsOfTheHandlersFamily }
 {}

@@ -15,10 +15,10 @@ use crate::name::{Named, first_named, is_among};
 use crate::objects::{Objects, chain_named, is_object};
 use crate::question::{asked, parts};
 use crate::value::column_named;
-use crate::value_rules::{array, value, values, wrong};
+use crate::value_rules::{array, named_field, value, values, wrong};
 use crate::variables::{Variables, chain_of, is_in_scope};
 use nf_base::decl::{ChainDecl, ColumnDecl, ColumnId};
-use nf_base::packet::Field;
+use nf_base::packet::{Family, Field};
 use nf_tokens::Place;
 use nf_tree::{Expr as Value, Given as Assigned, Guards, Name};
 
@@ -60,6 +60,7 @@ fn amount(chain: &ChainDecl, wanted: &Name, values: usize, close: Place) -> Resu
 /// Where a `get` looks.
 #[tactic(auto, using(crate::proofs::First::first_append))]
 pub fn look_up(
+    family: Family,
     objects: &Objects,
     scope: &Variables,
     chain: &Name,
@@ -67,14 +68,14 @@ pub fn look_up(
     key: &[Value],
     close: Place,
 ) -> Result<(), Fault>
-    ensures { first (look_up_faults objects.now (variables_of scope.now) chain.now wanted.now
+    ensures { first (look_up_faults family objects.now (variables_of scope.now) chain.now wanted.now
         (map syntax.expression_of key.now) close) ≡ fault_in result }
 {
     match chain_named(objects, chain) {
         None => wrong(TypingKind::Unknown, chain),
         Some((_, found)) => {
             map_of(found, wanted)?;
-            values(objects, scope, key)?;
+            values(family, objects, scope, key)?;
             amount(found, wanted, key.len(), close)
         }
     }
@@ -94,13 +95,14 @@ fn is_given(given: &[Assigned], name: &[u8]) -> bool
 /// A name that a `new` or a `where` gives is a label's, and stands once.
 #[tactic(auto, using(crate::proofs::First::first_append), unfolding(crate::specs::StatementFaults::given_faults))]
 fn given(
+    family: Family,
     objects: &Objects,
     scope: &Variables,
     chain: &ChainDecl,
     before: &[Assigned],
     one: &Assigned,
 ) -> Result<(), Fault>
-    ensures { first (given_faults objects.now (variables_of scope.now) chain.now
+    ensures { first (given_faults family objects.now (variables_of scope.now) chain.now
         (map syntax.given_of before.now) (syntax.given_of one.now)) ≡ fault_in result }
 {
     let name = one.name.bytes.as_slice();
@@ -110,21 +112,22 @@ fn given(
     refuse_if(!is_label && !is_free, TypingKind::Unknown, place)?;
     refuse_if(is_given(before, name), TypingKind::Twice, place)?;
     refuse_if(!is_label && is_free, TypingKind::FreeColumn, place)?;
-    value(objects, scope, &one.value)
+    value(family, objects, scope, &one.value)
 }
 
 /// What a `new` or a `where` gives, one by one.
 fn each_given(
+    family: Family,
     objects: &Objects,
     scope: &Variables,
     chain: &ChainDecl,
     all: &[Assigned],
 ) -> Result<(), Fault>
-    ensures { first (each_behind (given_faults objects.now (variables_of scope.now) chain.now) []
+    ensures { first (each_behind (given_faults family objects.now (variables_of scope.now) chain.now) []
         (map syntax.given_of all.now)) ≡ fault_in result }
 {
     for (i, one) in all.iter().enumerate() {
-        given(objects, scope, chain, &all[..i], one)?;
+        given(family, objects, scope, chain, &all[..i], one)?;
     }
     Ok(())
 }
@@ -144,19 +147,20 @@ fn lacks_label(given: &[Assigned], labels: &[ColumnDecl]) -> bool
 /// What a `new` makes.
 #[tactic(auto, using(crate::proofs::First::first_append))]
 pub fn make(
+    family: Family,
     objects: &Objects,
     scope: &Variables,
     chain: &Name,
     given: &[Assigned],
     close: Place,
 ) -> Result<(), Fault>
-    ensures { first (making_faults objects.now (variables_of scope.now) chain.now
+    ensures { first (making_faults family objects.now (variables_of scope.now) chain.now
         (map syntax.given_of given.now) close) ≡ fault_in result }
 {
     match chain_named(objects, chain) {
         None => wrong(TypingKind::Unknown, chain),
         Some((_, found)) => {
-            each_given(objects, scope, found, given)?;
+            each_given(family, objects, scope, found, given)?;
             let lacks = lacks_label(given, found.labels.as_slice());
             refuse_if(lacks, TypingKind::Amount, close)
         }
@@ -166,38 +170,42 @@ pub fn make(
 /// What a `find` looks for.
 #[tactic(auto, using(crate::proofs::First::first_append))]
 pub fn find(
+    family: Family,
     objects: &Objects,
     scope: &Variables,
     chain: &Name,
     index: &Value,
     guards: &Guards,
 ) -> Result<(), Fault>
-    ensures { first (finding_faults objects.now (variables_of scope.now) chain.now
+    ensures { first (finding_faults family objects.now (variables_of scope.now) chain.now
         (syntax.expression_of index.now) (syntax.guards_of guards.now)) ≡ fault_in result }
 {
     match chain_named(objects, chain) {
         None => wrong(TypingKind::Unknown, chain),
         Some((_, found)) => {
-            value(objects, scope, index)?;
-            each_given(objects, scope, found, asked(guards))
+            value(family, objects, scope, index)?;
+            each_given(family, objects, scope, found, asked(guards))
         }
     }
 }
 
-/// A field that is set is none of the time, the length and the protocol.
+/// A field that is set is none of the time, the length and the protocol, and one of the handler's
+/// packets.
 #[tactic(auto, using(crate::proofs::First::first_append))]
 pub fn set(
+    family: Family,
     objects: &Objects,
     scope: &Variables,
     field: Field,
     place: Place,
     given: &Value,
 ) -> Result<(), Fault>
-    ensures { first (set_faults objects.now (variables_of scope.now) field place
+    ensures { first (set_faults family objects.now (variables_of scope.now) field place
         (syntax.expression_of given.now)) ≡ fault_in result }
 {
     refuse_if(!is_settable(field), TypingKind::ReadOnly, place)?;
-    value(objects, scope, given)
+    named_field(family, field, place)?;
+    value(family, objects, scope, given)
 }
 
 /// A column that is written is a free one of a variable's entry.
@@ -219,32 +227,34 @@ fn written(scope: &Variables, variable: &Name, column: &Name) -> Result<(), Faul
 /// A free column of a variable's entry is given a value.
 #[tactic(auto, using(crate::proofs::First::first_append))]
 pub fn write(
+    family: Family,
     objects: &Objects,
     scope: &Variables,
     variable: &Name,
     column: &Name,
     given: &Value,
 ) -> Result<(), Fault>
-    ensures { first (write_faults objects.now (variables_of scope.now) variable.now column.now
+    ensures { first (write_faults family objects.now (variables_of scope.now) variable.now column.now
         (syntax.expression_of given.now)) ≡ fault_in result }
 {
     written(scope, variable, column)?;
-    value(objects, scope, given)
+    value(family, objects, scope, given)
 }
 
 /// A cell of an array is given a value.
 #[tactic(auto, using(crate::proofs::First::first_append))]
 pub fn store(
+    family: Family,
     objects: &Objects,
     scope: &Variables,
     name: &Name,
     index: &Value,
     given: &Value,
 ) -> Result<(), Fault>
-    ensures { first (store_faults objects.now (variables_of scope.now) name.now
+    ensures { first (store_faults family objects.now (variables_of scope.now) name.now
         (syntax.expression_of index.now) (syntax.expression_of given.now)) ≡ fault_in result }
 {
     array(objects, name)?;
-    value(objects, scope, index)?;
-    value(objects, scope, given)
+    value(family, objects, scope, index)?;
+    value(family, objects, scope, given)
 }

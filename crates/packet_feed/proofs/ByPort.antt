@@ -1,5 +1,5 @@
 -- What stands of captures of which each port's packets are given by themselves.
-use Rattle.std.proofs.Common.{◌≡◌, ◌≢◌, ℕ, zero, suc, ◌+◌, ◌≤◌, ◌<◌, Bool, true, false, cond, List, [], ◌∷◌, ◌++◌, length, map, set, filter, Option, Some, None, inl, inr, refl, sym, ap, ◌∙◌, subst, append_assoc, append-nil, max, arith}
+use Rattle.std.proofs.Common.{◌≡◌, ◌≢◌, ℕ, zero, suc, ◌+◌, ◌≤◌, ◌<◌, Bool, true, false, cond, List, [], ◌∷◌, ◌++◌, length, set, filter, Option, Some, None, inl, inr, refl, sym, ap, ◌∙◌, subst, append_assoc, append-nil, max, arith}
 use Rattle.std.specs.List.{AllByRecursion, slice_get}
 use Rattle.std.specs.Option.{option_map}
 use Rattle.std.proofs.lemmas.Bool.{eq-eqb, ne_eqb, cases_lt}
@@ -7,6 +7,7 @@ use Rattle.std.proofs.lemmas.List.{length-set, length-map, length-append}
 use Rattle.std.proofs.lemmas.List.Elements.{filter-append}
 use Rattle.std.proofs.lemmas.Option.{same_Some, slice_get_within}
 use Rattle.nf_base.specs.declared.packet.Packet.{Packet}
+use Rattle.nf_base.specs.Doors.{six_at}
 use Rattle.nf_base.proofs.Mixes.{got_set}
 use Rattle.nf_files.specs.Told.{Told}
 use Rattle.nf_files.specs.Reads.{Keeps}
@@ -18,13 +19,13 @@ use Rattle.packet_feed.specs.declared.ahead.Ahead.TheVariants.{Unread, Held, End
 use Rattle.packet_feed.specs.Arrivals.{Arrival, arrivals_from}
 use Rattle.packet_feed.specs.Told.{Carries, both, gathered, packets_in, packets_of, IsTear, IsApart}
 use Rattle.packet_feed.specs.Streams.{Stream, last_read, packets_left, tear_left, time_in, is_held, IsSettled}
-use Rattle.packet_feed.specs.Sources.{files_in, SourceStands, IsFilled, IsGiven, given_away}
-use Rattle.packet_feed.specs.Feeding.{Feeding, IsShown, shown}
+use Rattle.packet_feed.specs.Sources.{files_in, sixes_in, SourceStands, IsFilled, IsGiven, given_away}
+use Rattle.packet_feed.specs.Feeding.{shown}
 use Rattle.packet_feed.specs.Ports.{is_of, AreFirstOfPorts, AreAllOf, FollowsAt, SourcesStandByPort, StandsByPort, IsSettledAt, IsHeldAt}
 use Rattle.packet_feed.proofs.Gathering.{AllIn, IsHeadOf}
 use Rattle.packet_feed.proofs.Taking.{taken_more, taken_given, taken_other}
 use Rattle.packet_feed.proofs.Streaming.{head_given, tear_given, none_given, came_in, came_with}
-use Rattle.packet_feed.proofs.Standing.{file_at, tear_on, rest_other, source_stands, source_stays}
+use Rattle.packet_feed.proofs.Standing.{file_at, six_is, tear_on, rest_other, source_stands, source_stays}
 use Rattle.packet_feed.proofs.Starting.{AreOpenedSoFar, opened_all}
 use Rattle.packet_feed.proofs.Nexts.{shown_is}
 
@@ -92,30 +93,32 @@ follows_at_other port a (Some all) given (Some x) other h = h ∙ ap (λ (t : Li
 
 -- ---- the headers were read
 
-pub opened_by_port : (captures : List ℕ) (port : ℕ) (start : Told) (sources : List Stream) (now : Told) → length captures ≤ port → AreOpenedSoFar captures port start sources now → SourcesStandByPort start [] sources now
-opened_by_port captures port start sources now past h = record {
+pub opened_by_port : (captures : List ℕ) (six : List Bool) (port : ℕ) (start : Told) (sources : List Stream) (now : Told) → length captures ≤ port → AreOpenedSoFar captures six port start sources now → SourcesStandByPort start [] sources now
+opened_by_port captures six port start sources now past h = record {
   among = tt;
-  follows = λ p s e. follows_at_none p (packets_in p (start.rest s.reading.file)) (packets_left p s (now.rest s.reading.file)) ((h.each p s e).packets p);
-  each = (opened_all captures port start sources now past h).each;
+  follows = λ p s e. follows_at_none p (packets_in s.six p (start.rest s.reading.file)) (packets_left p s (now.rest s.reading.file)) ((h.each p s e).packets p);
+  each = (opened_all captures six port start sources now past h).each;
 }
 
 -- ---- the next record of one capture is read
 
-pub filled_by_port : (start : Told) (given : List Arrival) (sources : List Stream) (k : ℕ) (s new_s : Stream) (old new : Told) → IsApart (files_in sources) → slice_get sources k ≡ Some s → new_s.reading.file ≡ s.reading.file
+pub filled_by_port : (start : Told) (given : List Arrival) (sources : List Stream) (k : ℕ) (s new_s : Stream) (old new : Told) → IsApart (files_in sources) → slice_get sources k ≡ Some s → new_s.reading.file ≡ s.reading.file → new_s.six ≡ s.six
     → IsFilled s new_s (old.rest s.reading.file) (new.rest s.reading.file) → Keeps old new s.reading.file → SourcesStandByPort start given sources old → SourcesStandByPort start given (set sources k new_s) new
-filled_by_port start given sources k s new_s old new apart e same filled kept h = record {
+filled_by_port start given sources k s new_s old new apart e same same_six filled kept h = record {
   among = subst (λ (n : ℕ). AllByRecursion (λ (a : Arrival). a.packet.id.port < n) given) (sym (length-set sources k new_s)) h.among;
   follows = λ (j : ℕ) (y : Stream) q. elim (got_set sources k j new_s y q) [
     | inl here ↦
         let f = s.reading.file in
-        let now : FollowsAt k (packets_in k (start.rest f)) given (packets_left k new_s (new.rest f)) =
-        follows_at_on k (packets_in k (start.rest f)) given (packets_left k s (old.rest f)) (packets_left k new_s (new.rest f)) (h.follows k s e) (filled.packets k) in
-        let by_file : FollowsAt k (packets_in k (start.rest new_s.reading.file)) given (packets_left k new_s (new.rest new_s.reading.file)) =
-        subst (λ (n : ℕ). FollowsAt k (packets_in k (start.rest n)) given (packets_left k new_s (new.rest n))) (sym same) now in
-        subst (λ (n : ℕ). FollowsAt n (packets_in n (start.rest y.reading.file)) given (packets_left n y (new.rest y.reading.file))) (sym here.0)
-        (subst (λ (t : Stream). FollowsAt k (packets_in k (start.rest t.reading.file)) given (packets_left k t (new.rest t.reading.file))) here.1 by_file)
+        let now : FollowsAt k (packets_in s.six k (start.rest f)) given (packets_left k new_s (new.rest f)) =
+        follows_at_on k (packets_in s.six k (start.rest f)) given (packets_left k s (old.rest f)) (packets_left k new_s (new.rest f)) (h.follows k s e) (filled.packets k) in
+        let by_six : FollowsAt k (packets_in new_s.six k (start.rest f)) given (packets_left k new_s (new.rest f)) =
+        subst (λ (b : Bool). FollowsAt k (packets_in b k (start.rest f)) given (packets_left k new_s (new.rest f))) (sym same_six) now in
+        let by_file : FollowsAt k (packets_in new_s.six k (start.rest new_s.reading.file)) given (packets_left k new_s (new.rest new_s.reading.file)) =
+        subst (λ (n : ℕ). FollowsAt k (packets_in new_s.six k (start.rest n)) given (packets_left k new_s (new.rest n))) (sym same) by_six in
+        subst (λ (n : ℕ). FollowsAt n (packets_in y.six n (start.rest y.reading.file)) given (packets_left n y (new.rest y.reading.file))) (sym here.0)
+        (subst (λ (t : Stream). FollowsAt k (packets_in t.six k (start.rest t.reading.file)) given (packets_left k t (new.rest t.reading.file))) here.1 by_file)
     | inr there ↦
-        subst (λ (r : Option (List ℕ)). FollowsAt j (packets_in j (start.rest y.reading.file)) given (packets_left j y r)) (sym (rest_other sources k j s y old new apart e there.1 there.0 kept)) (h.follows j y there.1)
+        subst (λ (r : Option (List ℕ)). FollowsAt j (packets_in y.six j (start.rest y.reading.file)) given (packets_left j y r)) (sym (rest_other sources k j s y old new apart e there.1 there.0 kept)) (h.follows j y there.1)
   ];
   each = λ (j : ℕ) (y : Stream) q. elim (got_set sources k j new_s y q) [
     | inl here ↦
@@ -154,7 +157,7 @@ none_held (Torn offset) latest e = refl
 pub given_by_port : (start : Told) (given : List Arrival) (now : Told) (sources : List Stream) (k : ℕ) (s : Stream) → slice_get sources k ≡ Some s → s.ahead ≡ Held → SourcesStandByPort start given sources now → SourcesStandByPort start (given ++ last_read k s ∷ []) (set sources k (given_away s)) now
 given_by_port start given now sources k s e held h =
     let a = last_read k s in
-    let in_port = came_in k s.seq s.latest s.original s.frame in
+    let in_port = came_in s.six k s.seq s.latest s.original s.frame in
     let inside : k < length sources = slice_get_within sources k s e in
     record {
       among = subst (λ (n : ℕ). AllByRecursion (λ (x : Arrival). x.packet.id.port < n) (given ++ a ∷ [])) (sym (length-set sources k (given_away s)))
@@ -162,12 +165,12 @@ given_by_port start given now sources k s e held h =
       follows = λ (j : ℕ) (y : Stream) q. elim (got_set sources k j (given_away s) y q) [
         | inl here ↦
             let f = s.reading.file in
-            let one : FollowsAt k (packets_in k (start.rest f)) (given ++ a ∷ []) (packets_left k (given_away s) (now.rest f)) =
-            follows_at_given _ k a (packets_in k (start.rest f)) given (packets_left k s (now.rest f)) (packets_left k (given_away s) (now.rest f)) in_port (h.follows k s e) (head_given k s (now.rest f) held) in
-            subst (λ (n : ℕ). FollowsAt n (packets_in n (start.rest y.reading.file)) (given ++ a ∷ []) (packets_left n y (now.rest y.reading.file))) (sym here.0)
-            (subst (λ (t : Stream). FollowsAt k (packets_in k (start.rest t.reading.file)) (given ++ a ∷ []) (packets_left k t (now.rest t.reading.file))) here.1 one)
+            let one : FollowsAt k (packets_in s.six k (start.rest f)) (given ++ a ∷ []) (packets_left k (given_away s) (now.rest f)) =
+            follows_at_given _ k a (packets_in s.six k (start.rest f)) given (packets_left k s (now.rest f)) (packets_left k (given_away s) (now.rest f)) in_port (h.follows k s e) (head_given k s (now.rest f) held) in
+            subst (λ (n : ℕ). FollowsAt n (packets_in y.six n (start.rest y.reading.file)) (given ++ a ∷ []) (packets_left n y (now.rest y.reading.file))) (sym here.0)
+            (subst (λ (t : Stream). FollowsAt k (packets_in t.six k (start.rest t.reading.file)) (given ++ a ∷ []) (packets_left k t (now.rest t.reading.file))) here.1 one)
         | inr there ↦
-            follows_at_other j a (packets_in j (start.rest y.reading.file)) given (packets_left j y (now.rest y.reading.file)) (λ same. there.0 (sym same ∙ in_port)) (h.follows j y there.1)
+            follows_at_other j a (packets_in y.six j (start.rest y.reading.file)) given (packets_left j y (now.rest y.reading.file)) (λ same. there.0 (sym same ∙ in_port)) (h.follows j y there.1)
       ];
       each = λ (j : ℕ) (y : Stream) q. elim (got_set sources k j (given_away s) y q) [
         | inl here ↦
@@ -175,7 +178,7 @@ given_by_port start given now sources k s e held h =
             let f = s.reading.file in
             let now_stands : SourceStands start (given ++ a ∷ []) now k (given_away s) = record {
               torn = subst (IsTear (start.rest f)) (tear_given s (now.rest f) held) before.torn;
-              taken = taken_given k given a s (given_away s) (start.rest f) (now.rest f) held refl in_port (came_with k s.seq s.latest s.original s.frame) before.taken;
+              taken = taken_given k given a s (given_away s) (start.rest f) (now.rest f) held refl in_port (came_with s.six k s.seq s.latest s.original s.frame) before.taken;
             } in
             subst (λ (n : ℕ). SourceStands start (given ++ a ∷ []) now n y) (sym here.0) (subst (SourceStands start (given ++ a ∷ []) now k) here.1 now_stands)
         | inr there ↦
@@ -203,7 +206,7 @@ next_by_port start given now k count most packet sources new h held long stands 
 pub same_port : (k : ℕ) (packet : Packet) (sources new : List Stream) → IsGiven k packet sources new → packet.id.port ≡ k
 same_port k packet sources new h =
     let s = h.source in
-    ap (λ (p : Packet). p.id.port) h.packet_is ∙ came_in k s.seq s.latest s.original s.frame
+    ap (λ (p : Packet). p.id.port) h.packet_is ∙ came_in s.six k s.seq s.latest s.original s.frame
 
 -- ---- among the packets of all captures
 
@@ -270,23 +273,24 @@ gathered_at give place (x ∷ xs) all own e port (suc j) y is q =
           ∙ later.filtered;
     }
 
-own_from : (port : ℕ) (unit : TimeUnit) (seq latest : ℕ) (rs : List Record) → AllByRecursion (λ (a : Arrival). a.packet.id.port ≡ port) (arrivals_from port unit seq latest rs)
-own_from port unit seq latest [] = tt
-own_from port unit seq latest (r ∷ rs) =
+own_from : (six : Bool) (port : ℕ) (unit : TimeUnit) (seq latest : ℕ) (rs : List Record) → AllByRecursion (λ (a : Arrival). a.packet.id.port ≡ port) (arrivals_from six port unit seq latest rs)
+own_from six port unit seq latest [] = tt
+own_from six port unit seq latest (r ∷ rs) =
     let time = max latest (time_of unit r) in
-    (came_in port seq time r.original r.frame, own_from port unit (seq + 1) time rs)
+    (came_in six port seq time r.original r.frame, own_from six port unit (seq + 1) time rs)
 
-own_of : (port : ℕ) (c : Option Capture) → AllIn (λ (a : Arrival). a.packet.id.port ≡ port) (option_map (λ (c : Capture). arrivals_from port c.form.unit 0 0 c.records) c)
-own_of port None = tt
-own_of port (Some c) = own_from port c.form.unit 0 0 c.records
+own_of : (six : Bool) (port : ℕ) (c : Option Capture) → AllIn (λ (a : Arrival). a.packet.id.port ≡ port) (option_map (λ (c : Capture). arrivals_from six port c.form.unit 0 0 c.records) c)
+own_of six port None = tt
+own_of six port (Some c) = own_from six port c.form.unit 0 0 c.records
 
-own_in : (port : ℕ) (bytes : Option (List ℕ)) → AllIn (λ (a : Arrival). a.packet.id.port ≡ port) (packets_in port bytes)
-own_in port None = tt
-own_in port (Some bytes) = own_of port (capture_of bytes)
+own_in : (six : Bool) (port : ℕ) (bytes : Option (List ℕ)) → AllIn (λ (a : Arrival). a.packet.id.port ≡ port) (packets_in six port bytes)
+own_in six port None = tt
+own_in six port (Some bytes) = own_of six port (capture_of bytes)
 
-has_port : (start : Told) (sources : List Stream) (all : List Arrival) → packets_of (files_in sources) start ≡ Some all → (k : ℕ) (s : Stream) → slice_get sources k ≡ Some s → Has k (packets_in k (start.rest s.reading.file)) all
+has_port : (start : Told) (sources : List Stream) (all : List Arrival) → packets_of (sixes_in sources) (files_in sources) start ≡ Some all → (k : ℕ) (s : Stream) → slice_get sources k ≡ Some s → Has k (packets_in s.six k (start.rest s.reading.file)) all
 has_port start sources all e k s at =
-    gathered_at (λ port (file : ℕ). packets_in port (start.rest file)) 0 (files_in sources) all (λ q file. own_in q (start.rest file)) e k k s.reading.file (omega arith) (file_at sources k s at)
+    subst (λ (b : Bool). Has k (packets_in b k (start.rest s.reading.file)) all) (six_is sources k s at)
+    (gathered_at (λ port (file : ℕ). packets_in (six_at (sixes_in sources) port) port (start.rest file)) 0 (files_in sources) all (λ q file. own_in (six_at (sixes_in sources) q) q (start.rest file)) e k k s.reading.file (omega arith) (file_at sources k s at))
 
 stream_at : (xs : List Stream) (p : ℕ) → p < length xs → (x : Stream) × (slice_get xs p ≡ Some x)
 stream_at [] p lt = absurd (omega (arith, lt))
@@ -305,39 +309,39 @@ follows_all port (Some all) (Some left) given own e none h =
     sym (same_Some _ _ e) ∙ h ∙ ap (λ (t : List Arrival). filter (is_of port) given ++ t) (same_Some _ _ none) ∙ append-nil (filter (is_of port) given)
 
 -- these are the first packets of each port
-pub first_of_ports : (start : Told) (given : List Arrival) (sources : List Stream) (now : Told) → SourcesStandByPort start given sources now → AreFirstOfPorts (packets_of (files_in sources) start) given
-first_of_ports start given sources now h = of_all (packets_of (files_in sources) start) refl
+pub first_of_ports : (start : Told) (given : List Arrival) (sources : List Stream) (now : Told) → SourcesStandByPort start given sources now → AreFirstOfPorts (packets_of (sixes_in sources) (files_in sources) start) given
+first_of_ports start given sources now h = of_all (packets_of (sixes_in sources) (files_in sources) start) refl
   where
-    of_port : (all : List Arrival) → packets_of (files_in sources) start ≡ Some all → (port : ℕ) → (later : List Arrival) × (filter (is_of port) all ≡ filter (is_of port) given ++ later)
+    of_port : (all : List Arrival) → packets_of (sixes_in sources) (files_in sources) start ≡ Some all → (port : ℕ) → (later : List Arrival) × (filter (is_of port) all ≡ filter (is_of port) given ++ later)
     of_port all e port = elim (cases_lt port (length sources)) [
       | inl lt ↦
           let s = stream_at sources port lt in
           let has = has_port start sources all e port s.0 s.1 in
-          let first = follows_first port (packets_in port (start.rest s.0.reading.file)) (packets_left port s.0 (now.rest s.0.reading.file)) given has.own has.is (h.follows port s.0 s.1) in
+          let first = follows_first port (packets_in s.0.six port (start.rest s.0.reading.file)) (packets_left port s.0 (now.rest s.0.reading.file)) given has.own has.is (h.follows port s.0 s.1) in
           (first.0, has.filtered ∙ first.1)
       | inr past ↦
           let none : filter (is_of port) all ≡ [] =
-          gathered_past (λ q (file : ℕ). packets_in q (start.rest file)) 0 (files_in sources) all (λ q file. own_in q (start.rest file)) e port
+          gathered_past (λ q (file : ℕ). packets_in (six_at (sixes_in sources) q) q (start.rest file)) 0 (files_in sources) all (λ q file. own_in (six_at (sixes_in sources) q) q (start.rest file)) e port
           (λ j lt same. absurd (omega (arith, lt, same, past, length-map sources (λ (s : Stream). s.reading.file)))) in
           ([], none ∙ ap (λ (t : List Arrival). t ++ []) (sym (keeps_none_past port (length sources) given past h.among)))
     ]
 
-    of_all : (o : Option (List Arrival)) → packets_of (files_in sources) start ≡ o → AreFirstOfPorts o given
+    of_all : (o : Option (List Arrival)) → packets_of (sixes_in sources) (files_in sources) start ≡ o → AreFirstOfPorts o given
     of_all None e = tt
     of_all (Some all) e = of_port all e
 
 -- of a port of which nothing is left all were given
 pub all_of_port : (start : Told) (given : List Arrival) (sources : List Stream) (now : Told) (k : ℕ) → k < length sources → IsSettledAt k sources → IsHeldAt k sources false → SourcesStandByPort start given sources now
-    → AreAllOf k (packets_of (files_in sources) start) given
-all_of_port start given sources now k lt settled held h = of_all (packets_of (files_in sources) start) refl
+    → AreAllOf k (packets_of (sixes_in sources) (files_in sources) start) given
+all_of_port start given sources now k lt settled held h = of_all (packets_of (sixes_in sources) (files_in sources) start) refl
   where
-    of_all : (o : Option (List Arrival)) → packets_of (files_in sources) start ≡ o → AreAllOf k o given
+    of_all : (o : Option (List Arrival)) → packets_of (sixes_in sources) (files_in sources) start ≡ o → AreAllOf k o given
     of_all None e = tt
     of_all (Some all) e =
         let found = stream_at sources k lt in
         let s = found.0 in
         let has = has_port start sources all e k s found.1 in
-        has.filtered ∙ follows_all k (packets_in k (start.rest s.reading.file)) (packets_left k s (now.rest s.reading.file)) given has.own has.is
+        has.filtered ∙ follows_all k (packets_in s.six k (start.rest s.reading.file)) (packets_left k s (now.rest s.reading.file)) given has.own has.is
         (none_given k s (now.rest s.reading.file) (settled s found.1) (none_held s.ahead s.latest (held s found.1))) (h.follows k s found.1)
 
 -- ---- other files are read
@@ -345,6 +349,6 @@ all_of_port start given sources now k lt settled held h = of_all (packets_of (fi
 pub by_port_among : (start : Told) (given : List Arrival) (sources : List Stream) (old new : Told) → ((port : ℕ) (s : Stream) → slice_get sources port ≡ Some s → new.rest s.reading.file ≡ old.rest s.reading.file) → SourcesStandByPort start given sources old → SourcesStandByPort start given sources new
 by_port_among start given sources old new same h = record {
   among = h.among;
-  follows = λ port s e. subst (λ (r : Option (List ℕ)). FollowsAt port (packets_in port (start.rest s.reading.file)) given (packets_left port s r)) (sym (same port s e)) (h.follows port s e);
+  follows = λ port s e. subst (λ (r : Option (List ℕ)). FollowsAt port (packets_in s.six port (start.rest s.reading.file)) given (packets_left port s r)) (sym (same port s e)) (h.follows port s e);
   each = λ port s e. source_stays start given old new port s (same port s e) (h.each port s e);
 }

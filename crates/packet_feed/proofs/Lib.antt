@@ -8,3 +8,4 @@ pub mod Firsts
 pub mod Nexts
 pub mod Times
 pub mod ByPort
+pub mod Served

@@ -1,5 +1,5 @@
 -- The next packet of captures, the end, and more packets than were asked for.
-use Rattle.std.proofs.Common.{◌≡◌, ℕ, zero, suc, ◌+◌, ◌≤◌, ◌<◌, List, [], ◌∷◌, ◌++◌, length, set, Option, Some, None, refl, sym, ap, ◌∙◌, subst, append-nil, arith}
+use Rattle.std.proofs.Common.{◌≡◌, ℕ, zero, suc, ◌+◌, ◌≤◌, ◌<◌, Bool, List, [], ◌∷◌, ◌++◌, length, set, Option, Some, None, refl, sym, ap, ◌∙◌, subst, append-nil, arith}
 use Rattle.std.specs.List.{All, slice_get}
 use Rattle.std.specs.Option.{option_map}
 use Rattle.std.proofs.lemmas.List.{length-set, length-append, get_or-set_same, map-set}
@@ -7,6 +7,7 @@ use Rattle.std.proofs.lemmas.List.Elements.{All-weaker, All-set}
 use Rattle.std.proofs.lemmas.List.Sorted.{length_permutation}
 use Rattle.std.proofs.lemmas.Option.{slice_get-get_or, slice_get-map, slice_get_within}
 use Rattle.nf_base.specs.declared.packet.Packet.{Packet}
+use Rattle.nf_base.specs.Doors.{served_fields}
 use Rattle.nf_files.specs.Told.{Told}
 use Rattle.pcap_file.specs.Capture.{Capture}
 use Rattle.frame_ip.specs.Frame.{fields_in}
@@ -17,22 +18,22 @@ use Rattle.packet_feed.specs.Arrivals.{Arrival, arrival_of}
 use Rattle.packet_feed.specs.Order.{in_order}
 use Rattle.packet_feed.specs.Told.{packets_of, IsTear, IsApart}
 use Rattle.packet_feed.specs.Streams.{Stream, last_read, tear_in, time_in, IsSettled, unread}
-use Rattle.packet_feed.specs.Sources.{files_in, counts_in, all_left, Follows, SourcesStand, AreSettled, IsFirst, IsGiven, given_away}
+use Rattle.packet_feed.specs.Sources.{files_in, sixes_in, counts_in, all_left, Follows, SourcesStand, AreSettled, IsFirst, IsGiven, given_away}
 use Rattle.packet_feed.specs.Feeding.{IsFeeding, StandsFor, HasMore, AreAll, AreTorn, IsShown, shown, frame_in, original_in}
 use Rattle.packet_feed.proofs.Ordering.{IsBehind, is_ordered}
 use Rattle.packet_feed.proofs.Gathering.{Picks, map_kept}
 use Rattle.packet_feed.proofs.Streaming.{came_in}
-use Rattle.packet_feed.proofs.Standing.{given_stands, first_picked, all_given, at_file, same_length, none_left_at}
+use Rattle.packet_feed.proofs.Standing.{given_stands, first_picked, all_given, at_file, same_length, none_left_at, six_is}
 
 -- ---- a packet
 
-came_from : (port seq time original : ℕ) (frame : List ℕ) → (arrival_of port seq time original frame).packet.fields ≡ fields_in frame original
+came_from : (six : Bool) (port seq time original : ℕ) (frame : List ℕ) → (arrival_of six port seq time original frame).packet.fields ≡ served_fields six (fields_in frame original)
 unfolding arrival_of
-came_from port seq time original frame = refl
+came_from six port seq time original frame = refl
 
-arrival_is : (packet : Packet) (port seq time original : ℕ) (frame : List ℕ) → packet ≡ (arrival_of port seq time original frame).packet → record { packet = packet; original = original; frame = frame } ≡ arrival_of port seq time original frame
+arrival_is : (packet : Packet) (six : Bool) (port seq time original : ℕ) (frame : List ℕ) → packet ≡ (arrival_of six port seq time original frame).packet → record { packet = packet; original = original; frame = frame } ≡ arrival_of six port seq time original frame
 unfolding arrival_of
-arrival_is packet port seq time original frame e = ap (λ (p : Packet). let a : Arrival = record { packet = p; original = original; frame = frame } in a) e
+arrival_is packet six port seq time original frame e = ap (λ (p : Packet). let a : Arrival = record { packet = p; original = original; frame = frame } in a) e
 
 got_same : (sources : List Stream) (k : ℕ) (s : Stream) → k < length sources → slice_get (set sources k s) k ≡ Some s
 got_same sources k s lt = slice_get-get_or (set sources k s) k s (omega (arith, length-set sources k s)) ∙ ap (λ (x : Stream). Some x) (get_or-set_same sources k s s lt)
@@ -53,7 +54,7 @@ shown_is k count most packet sources new h =
     let s = h.source in
     let see = seen k packet sources new h in
     let here : (original : ℕ) (frame : List ℕ) → original ≡ s.original → frame ≡ s.frame → record { packet = packet; original = original; frame = frame } ≡ last_read k s =
-    λ original frame e f. rw (e, f) (arrival_is packet k s.seq s.latest s.original s.frame h.packet_is) in
+    λ original frame e f. rw (e, f) (arrival_is packet s.six k s.seq s.latest s.original s.frame h.packet_is) in
     here (original_in (slice_get new k)) (frame_in (slice_get new k)) see.original see.frame
 
 pub next_stands : (start : Told) (given : List Arrival) (now : Told) (k time count most : ℕ) (packet : Packet) (sources new : List Stream) → IsGiven k packet sources new → AreSettled sources
@@ -74,15 +75,18 @@ next_shown k count most packet sources new h =
     let s = h.source in
     let see = seen k packet sources new h in
     record {
-      port = ap (λ (p : Packet). p.id.port) h.packet_is ∙ came_in k s.seq s.latest s.original s.frame;
+      port = ap (λ (p : Packet). p.id.port) h.packet_is ∙ came_in s.six k s.seq s.latest s.original s.frame;
       inside = slice_get_within new k (given_away s) see.at;
-      fields = ap (λ (p : Packet). p.fields) h.packet_is ∙ came_from k s.seq s.latest s.original s.frame ∙ rw (see.frame, see.original) refl;
+      fields = ap (λ (p : Packet). p.fields) h.packet_is ∙ came_from s.six k s.seq s.latest s.original s.frame ∙ rw (see.frame, see.original, six_is new k (given_away s) see.at) refl;
       time = h.time;
       captured = omega (arith, ap (λ (xs : List ℕ). length xs) see.frame, h.captured);
     }
 
 pub next_files : (k : ℕ) (packet : Packet) (sources new : List Stream) → IsGiven k packet sources new → files_in new ≡ files_in sources
 next_files k packet sources new h = ap files_in h.new_is ∙ map_kept (λ (x : Stream). x.reading.file) sources k h.source (given_away h.source) h.at refl
+
+pub next_sixes : (k : ℕ) (packet : Packet) (sources new : List Stream) → IsGiven k packet sources new → sixes_in new ≡ sixes_in sources
+next_sixes k packet sources new h = ap sixes_in h.new_is ∙ map_kept (λ (x : Stream). x.six) sources k h.source (given_away h.source) h.at refl
 
 pub next_feeding : (k : ℕ) (packet : Packet) (old sources new : List Stream) (given most : ℕ) → IsGiven k packet sources new → given < most → files_in sources ≡ files_in old → counts_in sources ≡ counts_in old → IsFeeding old given most → IsFeeding new (given + 1) most
 next_feeding k packet old sources new given most h lt files counts f =
@@ -112,9 +116,9 @@ more_left (Some all) given a (Some x) (Some y) h k =
     omega (arith, ap (λ (t : List Arrival). length t) h, length-append given (in_order x))
 
 pub has_more : (start : Told) (given : List Arrival) (now : Told) (sources : List Stream) (first : First) → AreSettled sources → IsFirst sources (length sources) (Some first) → (s : Stream) → slice_get sources first.port ≡ Some s
-    → SourcesStand start given sources now → HasMore (packets_of (files_in sources) start) (length given)
+    → SourcesStand start given sources now → HasMore (packets_of (sixes_in sources) (files_in sources) start) (length given)
 has_more start given now sources first settled is s e h =
-    more_left (packets_of (files_in sources) start) given (last_read first.port s) (all_left sources now) (all_left (set sources first.port (given_away s)) now) h.order (first_picked now sources first.port first.time s e settled is)
+    more_left (packets_of (sixes_in sources) (files_in sources) start) given (last_read first.port s) (all_left sources now) (all_left (set sources first.port (given_away s)) now) h.order (first_picked now sources first.port first.time s e settled is)
 
 stream_at : (xs : List Stream) (p : ℕ) → p < length xs → (x : Stream) × (slice_get xs p ≡ Some x)
 stream_at [] p lt = absurd (omega arith)
@@ -130,8 +134,8 @@ all_are (Some all) given (Some x) e h =
     let none : x ≡ [] = cc in
     h ∙ ap (λ (t : List Arrival). given ++ in_order t) none ∙ append-nil given
 
-pub are_all : (start : Told) (given : List Arrival) (now : Told) (sources : List Stream) → AreSettled sources → IsFirst sources (length sources) None → SourcesStand start given sources now → AreAll (packets_of (files_in sources) start) given
-are_all start given now sources settled none h = all_are (packets_of (files_in sources) start) given (all_left sources now) (all_given sources now settled none) h.order
+pub are_all : (start : Told) (given : List Arrival) (now : Told) (sources : List Stream) → AreSettled sources → IsFirst sources (length sources) None → SourcesStand start given sources now → AreAll (packets_of (sixes_in sources) (files_in sources) start) given
+are_all start given now sources settled none h = all_are (packets_of (sixes_in sources) (files_in sources) start) given (all_left sources now) (all_given sources now settled none) h.order
 
 torn_ahead : (ahead : Ahead) (s : Stream) (rest : Option (List ℕ)) → IsSettled ahead → time_in ahead s.latest ≡ None → option_map (λ (c : Capture). c.torn) (unread ahead s.reading rest) ≡ Some (tear_in ahead)
 torn_ahead Unread s rest settled e = absurd settled
@@ -144,7 +148,7 @@ are_torn start given now sources settled none h = λ port s e.
     subst (IsTear (start.rest s.reading.file)) (torn_ahead s.ahead s (now.rest s.reading.file) (settled port s e) (none_left_at sources port s e none)) (h.each port s e).torn
 
 pub has_more_at : (start : Told) (given : List Arrival) (now : Told) (sources : List Stream) (first : First) → AreSettled sources → IsFirst sources (length sources) (Some first)
-    → SourcesStand start given sources now → HasMore (packets_of (files_in sources) start) (length given)
+    → SourcesStand start given sources now → HasMore (packets_of (sixes_in sources) (files_in sources) start) (length given)
 has_more_at start given now sources first settled is h =
     let found = stream_at sources first.port is.0 in
     has_more start given now sources first settled is found.0 found.1 h

@@ -1,5 +1,5 @@
 -- What stands of captures that are read side by side, through each step.
-use Rattle.std.proofs.Common.{◌≡◌, ◌≢◌, ℕ, ◌+◌, ◌≤◌, ◌<◌, List, [], ◌∷◌, ◌++◌, length, set, Option, Some, None, Err, inl, inr, refl, sym, ap, ◌∙◌, subst, append_assoc, arith, max}
+use Rattle.std.proofs.Common.{◌≡◌, ◌≢◌, ℕ, ◌+◌, ◌≤◌, ◌<◌, Bool, false, List, [], ◌∷◌, ◌++◌, length, set, Option, Some, None, Err, inl, inr, refl, sym, ap, ◌∙◌, subst, append_assoc, arith, max}
 use Rattle.std.specs.List.{All, AllByRecursion, slice_get}
 use Rattle.std.specs.Option.{option_map, option_and_then}
 use Rattle.std.proofs.lemmas.List.{length-set, length-map}
@@ -13,6 +13,7 @@ use Rattle.pcap_file.specs.declared.fault.CapFault.{CapFault}
 use Rattle.pcap_file.specs.declared.fault.CapFault.TheVariants.{NotCapture, File, Memory}
 use Rattle.packet_feed.specs.declared.fault.FeedFault.{FeedFault}
 use Rattle.packet_feed.specs.Faults.{fault_at, FaultedAt, IsCause}
+use Rattle.nf_base.specs.Doors.{six_at}
 use Rattle.nf_base.proofs.Mixes.{got_set}
 use Rattle.packet_feed.specs.declared.ahead.Ahead.TheVariants.{Held}
 use Rattle.pcap_file.specs.declared.form.TimeUnit.{TimeUnit}
@@ -22,7 +23,7 @@ use Rattle.packet_feed.specs.Arrivals.{Arrival, arrivals_from}
 use Rattle.packet_feed.specs.Order.{in_order}
 use Rattle.packet_feed.specs.Told.{Carries, packets_of, IsTear, IsApart, KeepsOthers, packets_in}
 use Rattle.packet_feed.specs.Streams.{Stream, last_read, packets_left, tear_left, time_in, IsSettled}
-use Rattle.packet_feed.specs.Sources.{files_in, all_left, Follows, SourceStands, SourcesStand, IsFilled, AreSettled, IsFirst, time_at, given_away}
+use Rattle.packet_feed.specs.Sources.{files_in, sixes_in, all_left, Follows, SourceStands, SourcesStand, IsFilled, AreSettled, IsFirst, time_at, given_away}
 use Rattle.packet_feed.specs.Taken.{IsTaken}
 use Rattle.packet_feed.proofs.Ordering.{IsBehind, comes_first}
 use Rattle.packet_feed.proofs.Gathering.{gathered_carries, gathered_none, gathered_picks, Picks, carries_is, map_kept, AllIn, gathered_all}
@@ -32,6 +33,12 @@ use Rattle.packet_feed.proofs.Streaming.{other_behind, head_given, tear_given, h
 -- the file of the capture of a port
 pub file_at : (sources : List Stream) (port : ℕ) (s : Stream) → slice_get sources port ≡ Some s → slice_get (files_in sources) port ≡ Some (s.reading.file)
 file_at sources port s e = slice_get-map (λ (x : Stream). x.reading.file) sources port ∙ ap (option_map (λ (x : Stream). x.reading.file)) e
+
+-- whether the port of a capture has a handler for IPv6
+pub six_is : (sources : List Stream) (port : ℕ) (s : Stream) → slice_get sources port ≡ Some s → six_at (sixes_in sources) port ≡ s.six
+six_is sources port s e =
+    let at : slice_get (sixes_in sources) port ≡ Some (s.six) = slice_get-map (λ (x : Stream). x.six) sources port ∙ ap (option_map (λ (x : Stream). x.six)) e in
+    get_or_from_slice_get (sixes_in sources) port s.six false at
 
 -- ---- the next record of one capture is read
 
@@ -84,13 +91,15 @@ source_stays start given old new port s same h = record {
   taken = subst (λ (r : Option (List ℕ)). IsTaken port given s (start.rest s.reading.file) r) (sym same) h.taken;
 }
 
-pub filled_stands : (start : Told) (given : List Arrival) (sources : List Stream) (k : ℕ) (s new_s : Stream) (old new : Told) → IsApart (files_in sources) → slice_get sources k ≡ Some s → new_s.reading.file ≡ s.reading.file
+pub filled_stands : (start : Told) (given : List Arrival) (sources : List Stream) (k : ℕ) (s new_s : Stream) (old new : Told) → IsApart (files_in sources) → slice_get sources k ≡ Some s → new_s.reading.file ≡ s.reading.file → new_s.six ≡ s.six
     → IsFilled s new_s (old.rest s.reading.file) (new.rest s.reading.file) → Keeps old new s.reading.file → SourcesStand start given sources old → SourcesStand start given (set sources k new_s) new
-filled_stands start given sources k s new_s old new apart e same filled kept h = record {
+filled_stands start given sources k s new_s old new apart e same same_six filled kept h = record {
   order =
       let files : files_in (set sources k new_s) ≡ files_in sources = map_kept (λ (x : Stream). x.reading.file) sources k s new_s e same in
-      subst (λ (fs : List ℕ). Follows (packets_of fs start) given (all_left (set sources k new_s) new)) (sym files)
-      (follows_on (packets_of (files_in sources) start) given (all_left sources old) (all_left (set sources k new_s) new) h.order (filled_left sources k s new_s old new apart e same filled kept));
+      let sixes : sixes_in (set sources k new_s) ≡ sixes_in sources = map_kept (λ (x : Stream). x.six) sources k s new_s e same_six in
+      subst (λ (bs : List Bool). Follows (packets_of bs (files_in (set sources k new_s)) start) given (all_left (set sources k new_s) new)) (sym sixes)
+      (subst (λ (fs : List ℕ). Follows (packets_of (sixes_in sources) fs start) given (all_left (set sources k new_s) new)) (sym files)
+      (follows_on (packets_of (sixes_in sources) (files_in sources) start) given (all_left sources old) (all_left (set sources k new_s) new) h.order (filled_left sources k s new_s old new apart e same filled kept)));
   each = λ (j : ℕ) (y : Stream) q. elim (got_set sources k j new_s y q) [
     | inl here ↦
         let before = h.each k s e in
@@ -109,8 +118,8 @@ others_behind : (sources : List Stream) (k time : ℕ) (s : Stream) (told : Told
     → (j : ℕ) (x : Stream) → slice_get sources j ≡ Some x → j ≢ k → AllIn (IsBehind (last_read k s)) (packets_left j x (told.rest x.reading.file))
 others_behind sources k time s told e same settled first j x p ne =
     let inside : j < length sources = slice_get_within sources j x p in
-    let t = came_at k s.seq s.latest s.original s.frame in
-    let q = came_in k s.seq s.latest s.original s.frame in
+    let t = came_at s.six k s.seq s.latest s.original s.frame in
+    let q = came_in s.six k s.seq s.latest s.original s.frame in
     other_behind (last_read k s) j x (told.rest x.reading.file) (settled j x p) (λ held.
     let here : time_at sources j ≡ Some x.latest = ap (λ (o : Option Stream). option_and_then (λ (y : Stream). time_in y.ahead y.latest) o) p ∙ held in
     let least = first.2 j x.latest inside here in
@@ -145,19 +154,21 @@ pub given_stands : (start : Told) (given : List Arrival) (now : Told) (sources :
 given_stands start given now sources k time s e settled first h =
     let a = last_read k s in
     let held = held_first sources k time s e first in
-    let in_port = came_in k s.seq s.latest s.original s.frame in
+    let in_port = came_in s.six k s.seq s.latest s.original s.frame in
     record {
       order =
           let files : files_in (set sources k (given_away s)) ≡ files_in sources = map_kept (λ (x : Stream). x.reading.file) sources k s (given_away s) e refl in
-          subst (λ (fs : List ℕ). Follows (packets_of fs start) (given ++ a ∷ []) (all_left (set sources k (given_away s)) now)) (sym files)
-          (follows_pick (packets_of (files_in sources) start) given a (all_left sources now) (all_left (set sources k (given_away s)) now) h.order (first_picked now sources k time s e settled first));
+          let sixes : sixes_in (set sources k (given_away s)) ≡ sixes_in sources = map_kept (λ (x : Stream). x.six) sources k s (given_away s) e refl in
+          subst (λ (bs : List Bool). Follows (packets_of bs (files_in (set sources k (given_away s))) start) (given ++ a ∷ []) (all_left (set sources k (given_away s)) now)) (sym sixes)
+          (subst (λ (fs : List ℕ). Follows (packets_of (sixes_in sources) fs start) (given ++ a ∷ []) (all_left (set sources k (given_away s)) now)) (sym files)
+          (follows_pick (packets_of (sixes_in sources) (files_in sources) start) given a (all_left sources now) (all_left (set sources k (given_away s)) now) h.order (first_picked now sources k time s e settled first)));
       each = λ (j : ℕ) (y : Stream) q. elim (got_set sources k j (given_away s) y q) [
         | inl here ↦
             let before = h.each k s e in
             let f = s.reading.file in
             let now_stands : SourceStands start (given ++ a ∷ []) now k (given_away s) = record {
               torn = subst (IsTear (start.rest f)) (tear_given s (now.rest f) held.0) before.torn;
-              taken = taken_given k given a s (given_away s) (start.rest f) (now.rest f) held.0 refl in_port (came_with k s.seq s.latest s.original s.frame) before.taken;
+              taken = taken_given k given a s (given_away s) (start.rest f) (now.rest f) held.0 refl in_port (came_with s.six k s.seq s.latest s.original s.frame) before.taken;
             } in
             subst (λ (n : ℕ). SourceStands start (given ++ a ∷ []) now n y) (sym here.0) (subst (SourceStands start (given ++ a ∷ []) now k) here.1 now_stands)
         | inr there ↦
@@ -218,7 +229,7 @@ faulted_at T U before old new files port f File is e at same h =
 
 pub stands_among : (start : Told) (given : List Arrival) (sources : List Stream) (old new : Told) → ((port : ℕ) (s : Stream) → slice_get sources port ≡ Some s → new.rest s.reading.file ≡ old.rest s.reading.file) → SourcesStand start given sources old → SourcesStand start given sources new
 stands_among start given sources old new same h = record {
-  order = follows_on (packets_of (files_in sources) start) given (all_left sources old) (all_left sources new) h.order
+  order = follows_on (packets_of (sixes_in sources) (files_in sources) start) given (all_left sources old) (all_left sources new) h.order
       (gathered_carries (λ port (x : Stream). packets_left port x (old.rest x.reading.file)) (λ port (x : Stream). packets_left port x (new.rest x.reading.file)) sources sources refl
       (λ (j : ℕ) (x y : Stream) p q.
       let is : x ≡ y = one_is x y (sym p ∙ q) in
@@ -232,21 +243,21 @@ stands_kept start given sources old new same h = stands_among start given source
 
 -- ---- each packet came in at the port of its capture
 
-at_port : (port n : ℕ) (unit : TimeUnit) (seq latest : ℕ) (rs : List Record) → port < n → AllByRecursion (λ (a : Arrival). a.packet.id.port < n) (arrivals_from port unit seq latest rs)
-at_port port n unit seq latest [] lt = tt
-at_port port n unit seq latest (r ∷ rs) lt =
+at_port : (six : Bool) (port n : ℕ) (unit : TimeUnit) (seq latest : ℕ) (rs : List Record) → port < n → AllByRecursion (λ (a : Arrival). a.packet.id.port < n) (arrivals_from six port unit seq latest rs)
+at_port six port n unit seq latest [] lt = tt
+at_port six port n unit seq latest (r ∷ rs) lt =
     let time = max latest (time_of unit r) in
-    (omega (arith, came_in port seq time r.original r.frame), at_port port n unit (seq + 1) time rs lt)
+    (omega (arith, came_in six port seq time r.original r.frame), at_port six port n unit (seq + 1) time rs lt)
 
-at_ports : (port n : ℕ) (c : Option Capture) → port < n → AllIn (λ (a : Arrival). a.packet.id.port < n) (option_map (λ (c : Capture). arrivals_from port c.form.unit 0 0 c.records) c)
-at_ports port n None lt = tt
-at_ports port n (Some c) lt = at_port port n c.form.unit 0 0 c.records lt
+at_ports : (six : Bool) (port n : ℕ) (c : Option Capture) → port < n → AllIn (λ (a : Arrival). a.packet.id.port < n) (option_map (λ (c : Capture). arrivals_from six port c.form.unit 0 0 c.records) c)
+at_ports six port n None lt = tt
+at_ports six port n (Some c) lt = at_port six port n c.form.unit 0 0 c.records lt
 
-in_port : (port n : ℕ) (bytes : Option (List ℕ)) → port < n → AllIn (λ (a : Arrival). a.packet.id.port < n) (packets_in port bytes)
-in_port port n None lt = tt
-in_port port n (Some bytes) lt = at_ports port n (capture_of bytes) lt
+in_port : (six : Bool) (port n : ℕ) (bytes : Option (List ℕ)) → port < n → AllIn (λ (a : Arrival). a.packet.id.port < n) (packets_in six port bytes)
+in_port six port n None lt = tt
+in_port six port n (Some bytes) lt = at_ports six port n (capture_of bytes) lt
 
-pub all_ports : (files : List ℕ) (told : Told) → AllIn (λ (a : Arrival). a.packet.id.port < length files) (packets_of files told)
-all_ports files told =
-    gathered_all (λ (a : Arrival). a.packet.id.port < length files) (λ port file. packets_in port (told.rest file)) files
-    (λ (j f : ℕ) e. in_port j (length files) (told.rest f) (slice_get_within files j f e))
+pub all_ports : (six : List Bool) (files : List ℕ) (told : Told) → AllIn (λ (a : Arrival). a.packet.id.port < length files) (packets_of six files told)
+all_ports six files told =
+    gathered_all (λ (a : Arrival). a.packet.id.port < length files) (λ port file. packets_in (six_at six port) port (told.rest file)) files
+    (λ (j f : ℕ) e. in_port (six_at six j) j (length files) (told.rest f) (slice_get_within files j f e))

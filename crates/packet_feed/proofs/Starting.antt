@@ -1,10 +1,14 @@
 -- The headers of captures are read, one after the other.
-use Rattle.std.proofs.Common.{◌≡◌, ℕ, zero, suc, ◌+◌, ◌^◌, ◌≤◌, ◌<◌, List, [], ◌∷◌, ◌++◌, length, map, take, Option, Some, None, Err, ◌⊎◌, inl, inr, refl, sym, ap, ◌∙◌, subst, arith}
+use Rattle.std.proofs.Common.{◌≡◌, ℕ, zero, suc, ◌+◌, ◌^◌, ◌≤◌, ◌<◌, Bool, false, List, [], ◌∷◌, ◌++◌, length, map, take, Option, Some, None, Err, ◌⊎◌, inl, inr, refl, sym, ap, ◌∙◌, subst, arith}
 use Rattle.std.specs.List.{All, slice_get}
 use Rattle.std.proofs.lemmas.List.Elements.{All-map, All-from_get_or}
 use Rattle.std.specs.Option.{option_map}
 use Rattle.std.proofs.lemmas.List.{length-map, length-take-le, map_push, take_more, take_all}
 use Rattle.std.proofs.lemmas.Option.{slice_get_within, get_or_from_slice_get}
+use Rattle.nf_base.specs.declared.func.Func.{Func}
+use Rattle.nf_base.specs.Handlers.{blocks_of}
+use Rattle.nf_base.specs.Functions.{function_of}
+use Rattle.nf_base.specs.Doors.{has_six, six_ports, six_at}
 use Rattle.nf_files.specs.Told.{Told}
 use Rattle.nf_files.specs.Reads.{Keeps}
 use Rattle.pcap_file.specs.Capture.{Capture, capture_of}
@@ -17,23 +21,29 @@ use Rattle.packet_feed.specs.Order.{in_order}
 use Rattle.packet_feed.specs.Told.{Carries, packets_in, packets_of, IsTear, IsNoCapture, IsCapture, IsApart, KeepsOthers}
 use Rattle.packet_feed.specs.Streams.{Stream, packets_left, tear_left}
 use Rattle.packet_feed.specs.Taken.{IsAhead}
-use Rattle.packet_feed.specs.Sources.{files_in, counts_in, all_left, Follows, SourcesStand, IsOpened, IsLeastBad, Opens, AreOpened}
+use Rattle.packet_feed.specs.Sources.{files_in, sixes_in, counts_in, all_left, Follows, SourcesStand, IsOpened, IsLeastBad, Opens, AreOpened}
 use Rattle.packet_feed.specs.Feeding.{IsFeeding}
 use Rattle.packet_feed.proofs.Gathering.{gathered_carries}
-use Rattle.packet_feed.proofs.Standing.{file_at, kept_more, kept_none}
+use Rattle.packet_feed.proofs.Standing.{file_at, six_is, kept_more, kept_none}
+
+-- each port is told of once
+pub length_sixes : (f : Func) → length (six_ports (function_of f)) ≡ length f.handlers
+length_sixes f = length-map (map blocks_of f.handlers) has_six ∙ length-map f.handlers blocks_of
 
 -- The headers of the first captures were read.
-pub record AreOpenedSoFar (captures : List ℕ) (port : ℕ) (start : Told) (sources : List Stream) (now : Told) : Type 0 where
+pub record AreOpenedSoFar (captures : List ℕ) (six : List Bool) (port : ℕ) (start : Told) (sources : List Stream) (now : Told) : Type 0 where
   pub files : files_in sources ≡ take port captures
   pub counts : counts_in sources ≡ map (λ (file : ℕ). 0) (take port captures)
-  pub each : (p : ℕ) (s : Stream) → slice_get sources p ≡ Some s → IsOpened s.reading.file (start.rest s.reading.file) s (now.rest s.reading.file)
+  pub sixes : sixes_in sources ≡ take port six
+  pub each : (p : ℕ) (s : Stream) → slice_get sources p ≡ Some s → IsOpened s.reading.file s.six (start.rest s.reading.file) s (now.rest s.reading.file)
   pub later : (p f : ℕ) → port ≤ p → slice_get captures p ≡ Some f → now.rest f ≡ start.rest f
   pub kept : KeepsOthers captures start now
 
-pub opened_none : (captures : List ℕ) (start : Told) → AreOpenedSoFar captures 0 start [] start
-opened_none captures start = record {
+pub opened_none : (captures : List ℕ) (six : List Bool) (start : Told) → AreOpenedSoFar captures six 0 start [] start
+opened_none captures six start = record {
   files = refl;
   counts = refl;
+  sixes = refl;
   each = λ p s e. absurd cc;
   later = λ p f le e. refl;
   kept = kept_none captures start;
@@ -56,24 +66,27 @@ got_take (x ∷ xs) (suc n) (suc j) z e = let later = got_take xs n j z e in (om
 file_among : (captures : List ℕ) (port : ℕ) (sources : List Stream) (p : ℕ) (s : Stream) → files_in sources ≡ take port captures → slice_get sources p ≡ Some s → (p < port) × (slice_get captures p ≡ Some s.reading.file)
 file_among captures port sources p s files e = got_take captures port p s.reading.file (sym (ap (λ (fs : List ℕ). slice_get fs p) files) ∙ file_at sources p s e)
 
-pub opened_more : (captures : List ℕ) (port f : ℕ) (start old new : Told) (sources : List Stream) (s : Stream) → IsApart captures → slice_get captures port ≡ Some f
-    → IsOpened f (old.rest f) s (new.rest f) → Keeps old new f → AreOpenedSoFar captures port start sources old → AreOpenedSoFar captures (port + 1) start (sources ++ s ∷ []) new
-opened_more captures port f start old new sources s apart e opened kept h =
+pub opened_more : (captures : List ℕ) (six : List Bool) (port f : ℕ) (start old new : Told) (sources : List Stream) (s : Stream) → IsApart captures → slice_get captures port ≡ Some f → length captures ≡ length six
+    → IsOpened f (six_at six port) (old.rest f) s (new.rest f) → Keeps old new f → AreOpenedSoFar captures six port start sources old → AreOpenedSoFar captures six (port + 1) start (sources ++ s ∷ []) new
+opened_more captures six port f start old new sources s apart e as_many opened kept h =
     let inside : port < length captures = slice_get_within captures port f e in
     let more : take (port + 1) captures ≡ take port captures ++ f ∷ [] = take_more captures port f inside ∙ ap (λ (x : ℕ). take port captures ++ x ∷ []) (get_or_from_slice_get captures port f f e) in
     record {
       files = map_push (λ (x : Stream). x.reading.file) sources s ∙ ap (λ (xs : List ℕ). xs ++ s.reading.file ∷ []) h.files ∙ ap (λ (x : ℕ). take port captures ++ x ∷ []) opened.file_is ∙ sym more;
       counts = map_push (λ (x : Stream). x.seq) sources s ∙ ap (λ (xs : List ℕ). xs ++ s.seq ∷ []) h.counts ∙ ap (λ (x : ℕ). map (λ (file : ℕ). 0) (take port captures) ++ x ∷ []) opened.none_given
           ∙ sym (map_push (λ (file : ℕ). 0) (take port captures) f) ∙ ap (map (λ (file : ℕ). 0)) (sym more);
+      sixes = map_push (λ (x : Stream). x.six) sources s ∙ ap (λ (bs : List Bool). bs ++ s.six ∷ []) h.sixes ∙ ap (λ (b : Bool). take port six ++ b ∷ []) opened.six_is
+          ∙ sym (take_more six port false (omega (arith, inside, as_many)));
       each = λ p x q. elim (got_push sources s p x q) [
         | inl here ↦
-            let now : IsOpened f (start.rest f) s (new.rest f) = subst (λ (r : Option (List ℕ)). IsOpened f r s (new.rest f)) (h.later port f (omega arith) e) opened in
-            let by_file : IsOpened s.reading.file (start.rest s.reading.file) s (new.rest s.reading.file) = subst (λ (n : ℕ). IsOpened n (start.rest n) s (new.rest n)) (sym opened.file_is) now in
-            subst (λ (t : Stream). IsOpened t.reading.file (start.rest t.reading.file) t (new.rest t.reading.file)) here by_file
+            let now : IsOpened f (six_at six port) (start.rest f) s (new.rest f) = subst (λ (r : Option (List ℕ)). IsOpened f (six_at six port) r s (new.rest f)) (h.later port f (omega arith) e) opened in
+            let by_six : IsOpened f s.six (start.rest f) s (new.rest f) = subst (λ (b : Bool). IsOpened f b (start.rest f) s (new.rest f)) (sym opened.six_is) now in
+            let by_file : IsOpened s.reading.file s.six (start.rest s.reading.file) s (new.rest s.reading.file) = subst (λ (n : ℕ). IsOpened n s.six (start.rest n) s (new.rest n)) (sym opened.file_is) by_six in
+            subst (λ (t : Stream). IsOpened t.reading.file t.six (start.rest t.reading.file) t (new.rest t.reading.file)) here by_file
         | inr there ↦
             let file = file_among captures port sources p x h.files there in
             let same : new.rest x.reading.file ≡ old.rest x.reading.file = kept.rests x.reading.file (apart p port x.reading.file f file.1 e (λ is. absurd (omega (arith, file.0)))) in
-            subst (λ (r : Option (List ℕ)). IsOpened x.reading.file (start.rest x.reading.file) x r) (sym same) (h.each p x there)
+            subst (λ (r : Option (List ℕ)). IsOpened x.reading.file x.six (start.rest x.reading.file) x r) (sym same) (h.each p x there)
       ];
       later = λ p x le q. kept.rests x (apart p port x f q e (λ is. absurd (omega (arith, le)))) ∙ h.later p x (omega (arith, le)) q;
       kept = kept_more captures port f start old new e h.kept kept;
@@ -90,18 +103,19 @@ one_is : (x y : ℕ) → Some x ≡ Some y → x ≡ y
 one_is x y e = cc
 
 started : (captures : List ℕ) (start : Told) (sources : List Stream) (now : Told) → files_in sources ≡ captures
-    → ((p : ℕ) (s : Stream) → slice_get sources p ≡ Some s → IsOpened s.reading.file (start.rest s.reading.file) s (now.rest s.reading.file)) → Carries (packets_of (files_in sources) start) (all_left sources now)
+    → ((p : ℕ) (s : Stream) → slice_get sources p ≡ Some s → IsOpened s.reading.file s.six (start.rest s.reading.file) s (now.rest s.reading.file)) → Carries (packets_of (sixes_in sources) (files_in sources) start) (all_left sources now)
 started captures start sources now files each =
-    gathered_carries (λ port (file : ℕ). packets_in port (start.rest file)) (λ port (s : Stream). packets_left port s (now.rest s.reading.file)) (files_in sources) sources (length-map sources (λ (s : Stream). s.reading.file))
+    gathered_carries (λ port (file : ℕ). packets_in (six_at (sixes_in sources) port) port (start.rest file)) (λ port (s : Stream). packets_left port s (now.rest s.reading.file)) (files_in sources) sources (length-map sources (λ (s : Stream). s.reading.file))
     (λ (j f : ℕ) (s : Stream) p q.
     let same : s.reading.file ≡ f = one_is s.reading.file f (sym (file_at sources j s q) ∙ p) in
-    subst (λ (n : ℕ). Carries (packets_in j (start.rest n)) (packets_left j s (now.rest s.reading.file))) same ((each j s q).packets j))
+    subst (λ (b : Bool). Carries (packets_in b j (start.rest f)) (packets_left j s (now.rest s.reading.file))) (sym (six_is sources j s q))
+    (subst (λ (n : ℕ). Carries (packets_in s.six j (start.rest n)) (packets_left j s (now.rest s.reading.file))) same ((each j s q).packets j)))
 
-pub opened_all : (captures : List ℕ) (port : ℕ) (start : Told) (sources : List Stream) (now : Told) → length captures ≤ port → AreOpenedSoFar captures port start sources now → SourcesStand start [] sources now
-opened_all captures port start sources now past h =
+pub opened_all : (captures : List ℕ) (six : List Bool) (port : ℕ) (start : Told) (sources : List Stream) (now : Told) → length captures ≤ port → AreOpenedSoFar captures six port start sources now → SourcesStand start [] sources now
+opened_all captures six port start sources now past h =
     let files : files_in sources ≡ captures = h.files ∙ take_all port captures past in
     record {
-      order = follows_none (packets_of (files_in sources) start) (all_left sources now) (started captures start sources now files h.each);
+      order = follows_none (packets_of (sixes_in sources) (files_in sources) start) (all_left sources now) (started captures start sources now files h.each);
       each = λ p s e.
           let one = h.each p s e in
           record {
@@ -126,9 +140,9 @@ get_inside [] p lt = absurd (omega arith)
 get_inside (x ∷ xs) zero lt = (x, refl)
 get_inside (x ∷ xs) (suc p) lt = get_inside xs p (omega arith)
 
-lesser_are : (captures : List ℕ) (port f : ℕ) (start old : Told) (sources : List Stream) → slice_get captures port ≡ Some f → AreOpenedSoFar captures port start sources old
+lesser_are : (captures : List ℕ) (six : List Bool) (port f : ℕ) (start old : Told) (sources : List Stream) → slice_get captures port ≡ Some f → AreOpenedSoFar captures six port start sources old
     → (p x : ℕ) → p < port → slice_get captures p ≡ Some x → IsCapture (start.rest x)
-lesser_are captures port f start old sources e h p x lt q =
+lesser_are captures six port f start old sources e h p x lt q =
     let inside : port < length captures = slice_get_within captures port f e in
     let long : length sources ≡ port = omega (arith, ap (λ (t : List ℕ). length t) h.files, length-map sources (λ (s : Stream). s.reading.file), length-take-le port captures (omega arith)) in
     let found = get_inside sources p (omega (arith, long)) in
@@ -136,20 +150,20 @@ lesser_are captures port f start old sources e h p x lt q =
     let same : found.0.reading.file ≡ x = one_is found.0.reading.file x (sym file.1 ∙ q) in
     subst (λ (n : ℕ). IsCapture (start.rest n)) same (is_capture (start.rest found.0.reading.file) (tear_left found.0 (old.rest found.0.reading.file)) (h.each p found.0 found.1).torn)
 
-pub least_bad : (captures : List ℕ) (port f : ℕ) (start old : Told) (sources : List Stream) → slice_get captures port ≡ Some f → IsNoCapture (old.rest f) → AreOpenedSoFar captures port start sources old → IsLeastBad captures start port
-least_bad captures port f start old sources e none h = record {
+pub least_bad : (captures : List ℕ) (six : List Bool) (port f : ℕ) (start old : Told) (sources : List Stream) → slice_get captures port ≡ Some f → IsNoCapture (old.rest f) → AreOpenedSoFar captures six port start sources old → IsLeastBad captures start port
+least_bad captures six port f start old sources e none h = record {
   file = f;
   at = e;
   none = subst (λ (r : Option (List ℕ)). IsNoCapture r) (h.later port f (omega arith) e) none;
-  lesser = lesser_are captures port f start old sources e h;
+  lesser = lesser_are captures six port f start old sources e h;
 }
 
 -- what a fault at one header is for all
-pub opens_bad : (captures : List ℕ) (port f : ℕ) (start old new : Told) (sources : List Stream) (fault : CapFault) (is : FeedFault) (now : Option (List ℕ)) → is ≡ fault_at port fault → slice_get captures port ≡ Some f
-    → Opens f (old.rest f) now (Err fault) → AreOpenedSoFar captures port start sources old → AreOpened captures start new (Err is)
-opens_bad captures port f start old new sources NotCapture is now at e opens h = subst (λ (x : FeedFault). AreOpened captures start new (Err x)) (sym at) (least_bad captures port f start old sources e opens h)
-opens_bad captures port f start old new sources File is now at e opens h = subst (λ (x : FeedFault). AreOpened captures start new (Err x)) (sym at) (lesser_are captures port f start old sources e h)
-opens_bad captures port f start old new sources Memory is now at e opens h = subst (λ (x : FeedFault). AreOpened captures start new (Err x)) (sym at) tt
+pub opens_bad : (captures : List ℕ) (six : List Bool) (port f : ℕ) (start old new : Told) (sources : List Stream) (fault : CapFault) (is : FeedFault) (now : Option (List ℕ)) → is ≡ fault_at port fault → slice_get captures port ≡ Some f
+    → Opens f (six_at six port) (old.rest f) now (Err fault) → AreOpenedSoFar captures six port start sources old → AreOpened captures six start new (Err is)
+opens_bad captures six port f start old new sources NotCapture is now at e opens h = subst (λ (x : FeedFault). AreOpened captures six start new (Err x)) (sym at) (least_bad captures six port f start old sources e opens h)
+opens_bad captures six port f start old new sources File is now at e opens h = subst (λ (x : FeedFault). AreOpened captures six start new (Err x)) (sym at) (lesser_are captures six port f start old sources e h)
+opens_bad captures six port f start old new sources Memory is now at e opens h = subst (λ (x : FeedFault). AreOpened captures six start new (Err x)) (sym at) tt
 
 -- ---- a feed that gave nothing
 

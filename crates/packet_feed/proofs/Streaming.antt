@@ -1,5 +1,5 @@
 -- One capture that is read as a stream.
-use Rattle.std.proofs.Common.{◌≡◌, ℕ, ◌+◌, ◌≤◌, max, List, [], ◌∷◌, Option, Some, None, refl, arith}
+use Rattle.std.proofs.Common.{◌≡◌, ℕ, ◌+◌, ◌≤◌, max, Bool, List, [], ◌∷◌, Option, Some, None, refl, arith}
 use Rattle.std.specs.List.{AllByRecursion}
 use Rattle.std.specs.Option.{option_map}
 use Rattle.nf_base.specs.declared.packet.Packet.{Packet}
@@ -17,30 +17,30 @@ use Rattle.packet_feed.proofs.Gathering.{AllIn, IsHeadOf}
 
 -- ---- what an arrival is
 
-pub came_at : (port seq time original : ℕ) (frame : List ℕ) → (arrival_of port seq time original frame).packet.time ≡ time
+pub came_at : (six : Bool) (port seq time original : ℕ) (frame : List ℕ) → (arrival_of six port seq time original frame).packet.time ≡ time
 unfolding arrival_of
-came_at port seq time original frame = refl
+came_at six port seq time original frame = refl
 
-pub came_in : (port seq time original : ℕ) (frame : List ℕ) → (arrival_of port seq time original frame).packet.id.port ≡ port
+pub came_in : (six : Bool) (port seq time original : ℕ) (frame : List ℕ) → (arrival_of six port seq time original frame).packet.id.port ≡ port
 unfolding arrival_of
-came_in port seq time original frame = refl
+came_in six port seq time original frame = refl
 
-pub came_as : (port seq time original : ℕ) (frame : List ℕ) → (arrival_of port seq time original frame).packet.id.seq ≡ seq
+pub came_as : (six : Bool) (port seq time original : ℕ) (frame : List ℕ) → (arrival_of six port seq time original frame).packet.id.seq ≡ seq
 unfolding arrival_of
-came_as port seq time original frame = refl
+came_as six port seq time original frame = refl
 
-pub came_with : (port seq time original : ℕ) (frame : List ℕ) → (arrival_of port seq time original frame).frame ≡ frame
+pub came_with : (six : Bool) (port seq time original : ℕ) (frame : List ℕ) → (arrival_of six port seq time original frame).frame ≡ frame
 unfolding arrival_of
-came_with port seq time original frame = refl
+came_with six port seq time original frame = refl
 
 -- ---- all later packets of a capture come behind what comes before the next
 
-one_behind : (a : Arrival) (port seq time original : ℕ) (frame : List ℕ) → IsEarly a.packet time port seq → IsBehind a (arrival_of port seq time original frame)
-one_behind a port seq time original frame early =
-    let b = arrival_of port seq time original frame in
-    let t = came_at port seq time original frame in
-    let p = came_in port seq time original frame in
-    let n = came_as port seq time original frame in
+one_behind : (a : Arrival) (six : Bool) (port seq time original : ℕ) (frame : List ℕ) → IsEarly a.packet time port seq → IsBehind a (arrival_of six port seq time original frame)
+one_behind a six port seq time original frame early =
+    let b = arrival_of six port seq time original frame in
+    let t = came_at six port seq time original frame in
+    let p = came_in six port seq time original frame in
+    let n = came_as six port seq time original frame in
     early_before a.packet b.packet (record {
       time_le = omega (arith, early.time_le, t);
       port_le = λ le. let down : time ≤ a.packet.time = omega arith in let q = early.port_le down in omega arith;
@@ -61,12 +61,12 @@ next_early a time port seq more early = record {
   seq_lt = λ le lo. let down : time ≤ a.time = omega arith in early.seq_lt down lo;
 }
 
-pub all_behind : (a : Arrival) (port : ℕ) (unit : TimeUnit) (seq latest : ℕ) (rs : List Record) → IsEarly a.packet latest port seq → AllByRecursion (IsBehind a) (arrivals_from port unit seq latest rs)
-all_behind a port unit seq latest [] early = tt
-all_behind a port unit seq latest (r ∷ rs) early =
+pub all_behind : (a : Arrival) (six : Bool) (port : ℕ) (unit : TimeUnit) (seq latest : ℕ) (rs : List Record) → IsEarly a.packet latest port seq → AllByRecursion (IsBehind a) (arrivals_from six port unit seq latest rs)
+all_behind a six port unit seq latest [] early = tt
+all_behind a six port unit seq latest (r ∷ rs) early =
     let time = max latest (time_of unit r) in (
-      one_behind a port seq time r.original r.frame (next_early a.packet latest port seq (time_of unit r) early),
-      all_behind a port unit (seq + 1) time rs (later_early a.packet latest port seq (time_of unit r) early),
+      one_behind a six port seq time r.original r.frame (next_early a.packet latest port seq (time_of unit r) early),
+      all_behind a six port unit (seq + 1) time rs (later_early a.packet latest port seq (time_of unit r) early),
     )
 
 -- the packets of another capture of which it is known what comes next
@@ -74,7 +74,7 @@ other_held : (a : Arrival) (port : ℕ) (s : Stream) (o : Option Capture) → Is
 other_held a port s None early = tt
 other_held a port s (Some c) early =
     let later : IsEarly a.packet s.latest port (s.seq + 1) = record { time_le = early.time_le; port_le = early.port_le; seq_lt = λ le lo. let q = early.seq_lt le lo in omega arith } in
-    (one_behind a port s.seq s.latest s.original s.frame early, all_behind a port c.form.unit (s.seq + 1) s.latest c.records later)
+    (one_behind a s.six port s.seq s.latest s.original s.frame early, all_behind a s.six port c.form.unit (s.seq + 1) s.latest c.records later)
 
 other_ahead : (ahead : Ahead) (a : Arrival) (port : ℕ) (s : Stream) (rest : Option (List ℕ)) → IsSettled ahead → (time_in ahead s.latest ≡ Some s.latest → IsEarly a.packet s.latest port s.seq)
     → AllIn (IsBehind a) (option_map (to_give ahead port s) (unread ahead s.reading rest))
@@ -91,10 +91,10 @@ other_behind a port s rest settled early = other_ahead s.ahead a port s rest set
 head_told : (port : ℕ) (s : Stream) (o : Option Capture) → IsHeadOf (IsBehind (last_read port s)) (last_read port s) (option_map (to_give Held port s) o) (option_map (to_give Unread port (given_away s)) o)
 head_told port s None = tt
 head_told port s (Some c) =
-    let t = came_at port s.seq s.latest s.original s.frame in
-    let p = came_in port s.seq s.latest s.original s.frame in
-    let n = came_as port s.seq s.latest s.original s.frame in
-    (refl, all_behind (last_read port s) port c.form.unit (s.seq + 1) s.latest c.records (record { time_le = omega arith; port_le = λ le. omega arith; seq_lt = λ le lo. omega arith }))
+    let t = came_at s.six port s.seq s.latest s.original s.frame in
+    let p = came_in s.six port s.seq s.latest s.original s.frame in
+    let n = came_as s.six port s.seq s.latest s.original s.frame in
+    (refl, all_behind (last_read port s) s.six port c.form.unit (s.seq + 1) s.latest c.records (record { time_le = omega arith; port_le = λ le. omega arith; seq_lt = λ le lo. omega arith }))
 
 head_ahead : (ahead : Ahead) (port : ℕ) (s : Stream) (rest : Option (List ℕ)) → ahead ≡ Held
     → IsHeadOf (IsBehind (last_read port s)) (last_read port s) (option_map (to_give ahead port s) (unread ahead s.reading rest)) (packets_left port (given_away s) rest)

@@ -1,7 +1,8 @@
 -- Captures that are read side by side and given in capture order, up to a number of packets.
-use Rattle.std.specs.Prelude.{◌≡◌, ℕ, ◌+◌, ◌^◌, ◌≤◌, ◌<◌, List, [], ◌∷◌, ◌++◌, length, map, slice_get, Option, Some, None, Result, Ok, Err}
+use Rattle.std.specs.Prelude.{◌≡◌, ℕ, ◌+◌, ◌^◌, ◌≤◌, ◌<◌, Bool, List, [], ◌∷◌, ◌++◌, length, map, slice_get, Option, Some, None, Result, Ok, Err}
 use Rattle.std.specs.List.{All}
 use Rattle.nf_base.specs.declared.packet.Packet.{Packet}
+use Rattle.nf_base.specs.Doors.{six_at, served_fields}
 use Rattle.nf_files.specs.Told.{Told}
 use Rattle.pcap_file.specs.Record.{greatest_time}
 use Rattle.frame_ip.specs.Frame.{fields_in}
@@ -13,7 +14,7 @@ use Rattle.packet_feed.specs.Arrivals.{Arrival}
 use Rattle.packet_feed.specs.Order.{in_order}
 use Rattle.packet_feed.specs.Told.{IsTear, IsApart, packets_of}
 use Rattle.packet_feed.specs.Streams.{Stream, tear_in}
-use Rattle.packet_feed.specs.Sources.{files_in, counts_in, SourcesStand, AreFrom, AreLesserCaptures, IsLeastBad}
+use Rattle.packet_feed.specs.Sources.{files_in, sixes_in, counts_in, SourcesStand, AreFrom, AreLesserCaptures, IsLeastBad}
 
 -- The captures, the port of the packet that was given last, how many were given, and how many are
 -- asked for at most.
@@ -76,17 +77,17 @@ AreTorn start sources =
 abbrev pub Feeds : Told → List Arrival → Feeding → Told → Result Fed FeedFault → Type 0
 Feeds start given v now (Ok (next.Packet packet)) = StandsFor start (given ++ shown packet v ∷ []) v now
 Feeds start given v now (Ok next.End) =
-    StandsFor start given v now × AreAll (packets_of (files_in v.sources) start) given × AreTorn start v.sources
+    StandsFor start given v now × AreAll (packets_of (sixes_in v.sources) (files_in v.sources) start) given × AreTorn start v.sources
 Feeds start given v now (Ok next.TooMany) =
-    StandsFor start given v now × HasMore (packets_of (files_in v.sources) start) (length given)
+    StandsFor start given v now × HasMore (packets_of (sixes_in v.sources) (files_in v.sources) start) (length given)
 Feeds start given v now (Err fault) = Unit {0}
 
--- A packet came in at a port, its fields are those of its frame, and neither its time nor its frame
--- is more than a record can hold.
+-- A packet came in at a port, its fields are those of its frame as the port's handlers see them, and
+-- neither its time nor its frame is more than a record can hold.
 pub record IsShown (packet : Packet) (v : Feeding) : Type 0 where
   pub port : packet.id.port ≡ v.shown
   pub inside : v.shown < length v.sources
-  pub fields : packet.fields ≡ fields_in (frame_of v) (original_of v)
+  pub fields : packet.fields ≡ served_fields (six_at (sixes_in v.sources) v.shown) (fields_in (frame_of v) (original_of v))
   pub time : packet.time ≤ greatest_time
   pub captured : length (frame_of v) ≤ 262144
 
@@ -107,12 +108,12 @@ GoesFrom time sources (Ok next.TooMany) = AreFrom time sources
 GoesFrom time sources (Err fault) = Unit {0}
 
 -- what starting comes to
-abbrev pub Starts : List ℕ → ℕ → Told → Told → Result Feeding FeedFault → Type 0
-Starts files most start now (Ok v) =
-    StandsFor start [] v now × (files_in v.sources ≡ files) × (v.most ≡ most)
-Starts files most start now (Err (NotCapture port)) = IsLeastBad files start port
-Starts files most start now (Err (File port)) = AreLesserCaptures files start port
-Starts files most start now (Err Memory) = Unit {0}
+abbrev pub Starts : List ℕ → List Bool → ℕ → Told → Told → Result Feeding FeedFault → Type 0
+Starts files six most start now (Ok v) =
+    StandsFor start [] v now × (files_in v.sources ≡ files) × (v.most ≡ most) × (sixes_in v.sources ≡ six)
+Starts files six most start now (Err (NotCapture port)) = IsLeastBad files start port
+Starts files six most start now (Err (File port)) = AreLesserCaptures files start port
+Starts files six most start now (Err Memory) = Unit {0}
 
 -- the first port from one on whose capture is torn, and the offset
 abbrev pub first_tear : ℕ → List (Option ℕ) → Option (ℕ × ℕ)

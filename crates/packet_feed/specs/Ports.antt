@@ -8,7 +8,7 @@ use Rattle.packet_feed.specs.declared.fault.FeedFault.{FeedFault}
 use Rattle.packet_feed.specs.Arrivals.{Arrival}
 use Rattle.packet_feed.specs.Told.{packets_in, packets_of}
 use Rattle.packet_feed.specs.Streams.{Stream, packets_left, is_held, IsSettled}
-use Rattle.packet_feed.specs.Sources.{files_in, SourceStands, IsGiven}
+use Rattle.packet_feed.specs.Sources.{files_in, sixes_in, SourceStands, IsGiven}
 use Rattle.packet_feed.specs.Feeding.{Feeding, IsShown, shown}
 
 -- a packet came in at a port
@@ -35,7 +35,7 @@ FollowsAt port None given left = Unit {0}
 -- Since the start these packets were given, each of one of the captures.
 pub record SourcesStandByPort (start : Told) (given : List Arrival) (sources : List Stream) (now : Told) : Type 0 where
   pub among : AllByRecursion (λ (a : Arrival). a.packet.id.port < length sources) given
-  pub follows : (port : ℕ) (s : Stream) → slice_get sources port ≡ Some s → FollowsAt port (packets_in port (start.rest s.reading.file)) given (packets_left port s (now.rest s.reading.file))
+  pub follows : (port : ℕ) (s : Stream) → slice_get sources port ≡ Some s → FollowsAt port (packets_in s.six port (start.rest s.reading.file)) given (packets_left port s (now.rest s.reading.file))
   pub each : (port : ℕ) (s : Stream) → slice_get sources port ≡ Some s → SourceStands start given now port s
 
 -- This value stands for the captures' bytes at a start and for the packets that were given since.
@@ -60,7 +60,7 @@ IsGivenAt port old new (Some packet) = IsGiven port packet old new × IsHeldAt p
 abbrev pub FeedsAt : ℕ → Told → List Arrival → Feeding → Told → Result (Option Packet) FeedFault → Type 0
 FeedsAt port start given v now (Ok (Some packet)) = StandsByPort start (given ++ shown packet v ∷ []) v now
 FeedsAt port start given v now (Ok None) =
-    StandsByPort start given v now × AreAllOf port (packets_of (files_in v.sources) start) given
+    StandsByPort start given v now × AreAllOf port (packets_of (sixes_in v.sources) (files_in v.sources) start) given
 FeedsAt port start given v now (Err fault) = Unit {0}
 
 -- How many packets were given: one more, or no more.

@@ -1,5 +1,5 @@
 -- Captures that are read side by side, of which the i-th is that of port i.
-use Rattle.std.specs.Prelude.{◌≡◌, ℕ, ◌+◌, ◌≤◌, ◌<◌, List, [], ◌++◌, length, map, slice_get, slice_set, Option, Some, None, option_and_then, nat_le, if◌then◌else◌, Result, Ok, Err}
+use Rattle.std.specs.Prelude.{◌≡◌, ℕ, ◌+◌, ◌≤◌, ◌<◌, Bool, List, [], ◌++◌, length, map, slice_get, slice_set, Option, Some, None, option_and_then, nat_le, if◌then◌else◌, Result, Ok, Err}
 use Rattle.nf_base.specs.declared.packet.Packet.{Packet}
 use Rattle.nf_files.specs.Told.{Told}
 use Rattle.pcap_file.specs.Record.{greatest_time}
@@ -19,6 +19,10 @@ use Rattle.packet_feed.specs.Taken.{IsTaken, TakesAhead}
 -- the files of captures, by port
 abbrev pub files_in : List Stream → List ℕ
 files_in sources = map (λ s. s.reading.file) sources
+
+-- whether the ports of captures have handlers for IPv6
+abbrev pub sixes_in : List Stream → List Bool
+sixes_in sources = map (λ s. s.six) sources
 
 -- how many packets of each capture were given
 abbrev pub counts_in : List Stream → List ℕ
@@ -42,24 +46,25 @@ pub record SourceStands (start : Told) (given : List Arrival) (now : Told) (port
 -- Since the start these packets were given: the first ones in capture order of all captures, where
 -- their bytes were told.
 pub record SourcesStand (start : Told) (given : List Arrival) (sources : List Stream) (now : Told) : Type 0 where
-  pub order : Follows (packets_of (files_in sources) start) given (all_left sources now)
+  pub order : Follows (packets_of (sixes_in sources) (files_in sources) start) given (all_left sources now)
   pub each : (port : ℕ) (s : Stream) → slice_get sources port ≡ Some s → SourceStands start given now port s
 
 -- what is known of a capture whose header was read
-pub record IsOpened (file : ℕ) (start : Option (List ℕ)) (s : Stream) (now : Option (List ℕ)) : Type 0 where
+pub record IsOpened (file : ℕ) (six : Bool) (start : Option (List ℕ)) (s : Stream) (now : Option (List ℕ)) : Type 0 where
   pub file_is : s.reading.file ≡ file
+  pub six_is : s.six ≡ six
   pub unread : s.ahead ≡ Unread
   pub none_given : s.seq ≡ 0
-  pub packets : (port : ℕ) → Carries (packets_in port start) (packets_left port s now)
+  pub packets : (port : ℕ) → Carries (packets_in s.six port start) (packets_left port s now)
   pub torn : IsTear start (tear_left s now)
   pub taken : AreTaken 24 start now
 
 -- reading a header, and why there is none
-abbrev pub Opens : ℕ → Option (List ℕ) → Option (List ℕ) → Result Stream CapFault → Type 0
-Opens file start now (Ok s) = IsOpened file start s now
-Opens file start now (Err NotCapture) = IsNoCapture start
-Opens file start now (Err File) = Unit {0}
-Opens file start now (Err Memory) = Unit {0}
+abbrev pub Opens : ℕ → Bool → Option (List ℕ) → Option (List ℕ) → Result Stream CapFault → Type 0
+Opens file six start now (Ok s) = IsOpened file six start s now
+Opens file six start now (Err NotCapture) = IsNoCapture start
+Opens file six start now (Err File) = Unit {0}
+Opens file six start now (Err Memory) = Unit {0}
 
 -- what is left of a capture is as before, and it is known what comes next
 pub record IsFilled (old new : Stream) (before now : Option (List ℕ)) : Type 0 where
@@ -107,12 +112,13 @@ pub record IsLeastBad (files : List ℕ) (start : Told) (port : ℕ) : Type 0 wh
 
 -- The headers of captures were read, and nothing was given; or one is wrong, or could not be read
 -- behind those of all lesser ports.
-abbrev pub AreOpened : List ℕ → Told → Told → Result (List Stream) FeedFault → Type 0
-AreOpened files start now (Ok sources) =
+abbrev pub AreOpened : List ℕ → List Bool → Told → Told → Result (List Stream) FeedFault → Type 0
+AreOpened files six start now (Ok sources) =
     SourcesStand start [] sources now × (files_in sources ≡ files) × (counts_in sources ≡ map (λ file. 0) files)
-AreOpened files start now (Err (feed.NotCapture port)) = IsLeastBad files start port
-AreOpened files start now (Err (feed.File port)) = AreLesserCaptures files start port
-AreOpened files start now (Err feed.Memory) = Unit {0}
+    × (sixes_in sources ≡ six)
+AreOpened files six start now (Err (feed.NotCapture port)) = IsLeastBad files start port
+AreOpened files six start now (Err (feed.File port)) = AreLesserCaptures files start port
+AreOpened files six start now (Err feed.Memory) = Unit {0}
 
 -- a stream whose record that was read ahead was given
 abbrev pub given_away : Stream → Stream

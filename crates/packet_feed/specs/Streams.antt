@@ -7,10 +7,12 @@ use Rattle.packet_feed.specs.declared.ahead.Ahead.{Ahead}
 use Rattle.packet_feed.specs.declared.ahead.Ahead.TheVariants.{Unread, Held, Ended, Torn}
 use Rattle.packet_feed.specs.Arrivals.{Arrival, arrival_of, arrivals_from}
 
--- a reader, what was read ahead, how many records were given, the latest time of the records that
--- were read, and of the last one the original length and the captured bytes
+-- a reader, whether the port of its capture has a handler for IPv6, what was read ahead, how many
+-- records were given, the latest time of the records that were read, and of the last one the original
+-- length and the captured bytes
 pub record Stream : Type 0 where
   pub reading : Reading
+  pub six : Bool
   pub ahead : Ahead
   pub seq : ℕ
   pub latest : ℕ
@@ -30,14 +32,14 @@ unread (Torn offset) r rest = Some (none_left r.form (Some offset))
 
 -- the packet of the record that was read last, had it come in at a port
 abbrev pub last_read : ℕ → Stream → Arrival
-last_read port s = arrival_of port s.seq s.latest s.original s.frame
+last_read port s = arrival_of s.six port s.seq s.latest s.original s.frame
 
 -- the packets that are still to be given, where a capture is still to be read
 abbrev pub to_give : Ahead → ℕ → Stream → Capture → List Arrival
-to_give Held port s c = last_read port s ∷ arrivals_from port c.form.unit (s.seq + 1) s.latest c.records
-to_give Unread port s c = arrivals_from port c.form.unit s.seq s.latest c.records
-to_give Ended port s c = arrivals_from port c.form.unit s.seq s.latest c.records
-to_give (Torn offset) port s c = arrivals_from port c.form.unit s.seq s.latest c.records
+to_give Held port s c = last_read port s ∷ arrivals_from s.six port c.form.unit (s.seq + 1) s.latest c.records
+to_give Unread port s c = arrivals_from s.six port c.form.unit s.seq s.latest c.records
+to_give Ended port s c = arrivals_from s.six port c.form.unit s.seq s.latest c.records
+to_give (Torn offset) port s c = arrivals_from s.six port c.form.unit s.seq s.latest c.records
 
 -- the same, where the rest of the file is told
 abbrev pub packets_left : ℕ → Stream → Option (List ℕ) → Option (List Arrival)

@@ -1,6 +1,7 @@
 -- What is told of the files of captures.
-use Rattle.std.specs.Prelude.{◌≡◌, ◌≢◌, ℕ, ◌+◌, List, [], ◌∷◌, ◌++◌, slice_get, Option, Some, None, option_map}
+use Rattle.std.specs.Prelude.{◌≡◌, ◌≢◌, ℕ, ◌+◌, Bool, List, [], ◌∷◌, ◌++◌, slice_get, Option, Some, None, option_map}
 use Rattle.std.specs.List.{All}
+use Rattle.nf_base.specs.Doors.{six_at}
 use Rattle.nf_files.specs.Told.{Told}
 use Rattle.pcap_file.specs.Capture.{Capture, capture_of}
 use Rattle.packet_feed.specs.Arrivals.{Arrival, arrivals_from}
@@ -39,14 +40,18 @@ abbrev pub gathered : {X A : Type 0} → (ℕ → X → Option (List A)) → ℕ
 gathered give place [] = Some []
 gathered give place (x ∷ xs) = both (give place x) (gathered give (place + 1) xs)
 
--- the packets of a port's capture, where its bytes are told and are one
-abbrev pub packets_in : ℕ → Option (List ℕ) → Option (List Arrival)
-packets_in port None = None
-packets_in port (Some bytes) = option_map (λ c. arrivals_from port c.form.unit 0 0 c.records) (capture_of bytes)
+-- the packets of a port's capture, where its bytes are told and are one; of the port it is said
+-- whether it has a handler for IPv6
+abbrev pub packets_in : Bool → ℕ → Option (List ℕ) → Option (List Arrival)
+packets_in six port None = None
+packets_in six port (Some bytes) =
+    option_map (λ c. arrivals_from six port c.form.unit 0 0 c.records) (capture_of bytes)
 
--- the packets of the captures in files, of which the i-th is that of port i
-abbrev pub packets_of : List ℕ → Told → Option (List Arrival)
-packets_of files told = gathered (λ port file. packets_in port (told.rest file)) 0 files
+-- The packets of the captures in files, of which the i-th is that of port i; of each port it is said
+-- whether it has a handler for IPv6.
+abbrev pub packets_of : List Bool → List ℕ → Told → Option (List Arrival)
+packets_of six files told =
+    gathered (λ port file. packets_in (six_at six port) port (told.rest file)) 0 files
 
 -- bytes, where they are told, are a capture that is torn so
 abbrev pub IsTear : Option (List ℕ) → Option (Option ℕ) → Type 0

@@ -1,5 +1,7 @@
 //! The packets of captures in capture order.
 ghost use Rattle.std.specs.Prelude.{◌≡◌, ◌^◌, ◌<◌, ◌≤◌, ◌+◌, ℕ, List, [], length, IfOk, IfErr, OnErr};
+ghost use Rattle.nf_base.specs.Doors.{six_ports};
+ghost use Rattle.nf_base.specs.Functions.{function_of};
 ghost use Rattle.nf_files.specs.Told.{Told};
 ghost use Rattle.pcap_file.specs.Record.{greatest_time};
 ghost use Rattle.packet_feed.specs.Arrivals.{Arrival};
@@ -7,7 +9,7 @@ ghost use Rattle.packet_feed.specs.Order.{in_order, IsOrdered};
 ghost use Rattle.packet_feed.specs.Faults.{IsCause, IsNoHeaderFault, IsOneOf};
 ghost use Rattle.packet_feed.specs.Told.{EachFile, IsApart, KeepsOthers};
 ghost use Rattle.packet_feed.specs.Streams.{last_read};
-ghost use Rattle.packet_feed.specs.Sources.{files_in, AreFrom};
+ghost use Rattle.packet_feed.specs.Sources.{files_in, sixes_in, AreFrom};
 ghost use Rattle.packet_feed.specs.Feeding.{StandsFor, Starts, Feeds, GoesFrom, Counts, frame_of, original_of, first_tear, tears_in};
 ghost use Rattle.packet_feed.specs.Ports.{StandsByPort, FeedsAt, CountsAt};
 
@@ -16,6 +18,7 @@ use crate::fed::Fed;
 use crate::first::earliest;
 use crate::source::Source;
 use crate::sources::{fill_all, fill_at, give, give_at, open_all, torn};
+use nf_base::func::Func;
 use nf_base::packet::Packet;
 use nf_base::seq::Seq;
 use nf_files::Files;
@@ -56,10 +59,12 @@ impl Feed {
     /// Reads the headers of captures, which were all opened to be read and of which nothing was read
     /// yet; at most so many packets will be given.
     ///
-    /// The capture at index `i` is that of port `i`. Nothing behind the headers is taken.
+    /// The capture at index `i` is that of the function's port `i`. Nothing behind the headers is
+    /// taken. An IPv6 frame at a port without a handler for IPv6 is a skipped packet.
     pub fn start<F: Files>(
         alloc: Global,
         files: &mut F,
+        func: &Func,
         captures: &[u32],
         most: u32,
     ) -> Result<Feed, FeedFault>
@@ -67,9 +72,12 @@ impl Feed {
         // No file stands there twice.
         requires apart { IsApart captures.now }
         requires ports { length captures.now ≤ 2 ^ 32 }
-        // The feed stands for what the files hold, and for no packet; or this header is the first
-        // that is short or wrong, or could not be read behind those of all lesser ports.
-        ensures starts { Starts captures.now most (F.told files.old) (F.told files.new) result }
+        requires ports_of { length captures.now ≡ length func.now.handlers }
+        // The feed stands for what the files hold, and for no packet, and knows which ports have a
+        // handler for IPv6; or this header is the first that is short or wrong, or could not be read
+        // behind those of all lesser ports.
+        ensures starts { let six = six_ports (function_of func.now) in
+            Starts captures.now six most (F.told files.old) (F.told files.new) result }
         // So it does where each port's packets are asked for by themselves.
         ensures by_port { IfOk result (λ feed.
             StandsByPort (F.told files.old) [] feed (F.told files.new)) }
@@ -81,7 +89,7 @@ impl Feed {
         // The order in which packets are given is the capture order.
         ensures ordered { (arrivals : List Arrival) → IsOrdered arrivals (in_order arrivals) }
     {
-        let sources = open_all(alloc, files, captures)?;
+        let sources = open_all(alloc, files, func, captures)?;
         Ok(Feed {
             sources,
             shown: 0,
@@ -108,6 +116,7 @@ impl Feed {
         ensures times { (time : ℕ) → AreFrom time self.old.sources →
             GoesFrom time self.new.sources result }
         ensures same_files { files_in self.new.sources ≡ files_in self.old.sources }
+        ensures same_six { sixes_in self.new.sources ≡ sixes_in self.old.sources }
         ensures same_most { self.new.most ≡ self.old.most }
         ensures kept { let all = files_in self.old.sources in
             KeepsOthers all (F.told files.old) (F.told files.new) }
@@ -153,6 +162,7 @@ impl Feed {
             FeedsAt port start given self.new (F.told files.new) result }
         ensures counts { CountsAt port self.old self.new result }
         ensures same_files { files_in self.new.sources ≡ files_in self.old.sources }
+        ensures same_six { sixes_in self.new.sources ≡ sixes_in self.old.sources }
         ensures same_most { self.new.most ≡ self.old.most }
         ensures kept { let all = files_in self.old.sources in
             KeepsOthers all (F.told files.old) (F.told files.new) }

@@ -1,5 +1,6 @@
 //! One capture that is read as a stream.
 ghost use Rattle.std.specs.Prelude.{◌≡◌, ◌+◌, ◌-◌, ◌^◌, ◌<◌, ◌≤◌, ℕ, length, OnOk};
+ghost use Rattle.nf_base.specs.Doors.{served_fields};
 ghost use Rattle.nf_files.specs.Reads.{Keeps};
 ghost use Rattle.pcap_file.specs.Causes.{IsCause, IsNoHeaderFault};
 ghost use Rattle.pcap_file.specs.Record.{greatest_time};
@@ -10,7 +11,8 @@ ghost use Rattle.packet_feed.specs.Sources.{Opens, IsFilled};
 
 use crate::ahead::Ahead;
 use frame_ip::fields_of;
-use nf_base::packet::{Packet, PacketId};
+use nf_base::packet::{Family, Fields, Packet, PacketId};
+use nf_base::value::family_of;
 use nf_files::Files;
 use pcap_file::{CapFault, Next, Reader};
 use std::alloc::Global;
@@ -20,6 +22,8 @@ use std::marker::Model;
 #[derive(Drop)]
 pub(crate) struct Source {
     reader: Reader,
+    /// Whether the capture's port has a handler for IPv6.
+    six: bool,
     ahead: Ahead,
     /// How many records were given.
     seq: u32,
@@ -28,6 +32,19 @@ pub(crate) struct Source {
     /// Of the record that was read last: the frame's length on the wire, and its captured bytes.
     original: u32,
     frame: Vec<u8>,
+}
+
+// The fields of a frame as its port's handlers see them.
+fn served(six: bool, fields: Option<Fields>) -> Option<Fields>
+    ensures { result ≡ served_fields six fields }
+{
+    match fields {
+        None => None,
+        Some(fields) => match family_of(&fields) {
+            Family::Six if !six => None,
+            _ => Some(fields),
+        },
+    }
 }
 
 impl Model for Source {
@@ -40,6 +57,7 @@ impl Model for Source {
 
     ghost view = { λ s. record {
       reading = s.reader;
+      six = s.six;
       ahead = s.ahead;
       seq = s.seq;
       latest = s.latest;
@@ -52,15 +70,16 @@ impl Model for Source {
 }
 
 impl Source {
-    /// Reads the header of a capture.
+    /// Reads the header of a capture, whose port has a handler for IPv6 or has none.
     pub(crate) fn open<F: Files>(
         alloc: Global,
         files: &mut F,
         file: u32,
+        six: bool,
     ) -> Result<Source, CapFault>
         requires opened { F.is_read files.old file }
         ensures opens { let before = (F.told files.old).rest file in
-            Opens file before ((F.told files.new).rest file) result }
+            Opens file six before ((F.told files.new).rest file) result }
         ensures kept { Keeps (F.told files.old) (F.told files.new) file }
         ensures cause { IsCause (F.counted files.old) (F.counted files.new) file result }
         ensures reads { (g : ℕ) → F.is_read files.old g → F.is_read files.new g }
@@ -69,6 +88,7 @@ impl Source {
         let reader = Reader::header(alloc, files, file)?;
         Ok(Source {
             reader,
+            six,
             ahead: Ahead::Unread,
             seq: 0,
             latest: 0,
@@ -132,6 +152,7 @@ impl Source {
             OnOk result (IsFrom time self.new.ahead self.new.latest) }
         ensures same_file { self.new.reading.file ≡ self.old.reading.file }
         ensures same_count { self.new.seq ≡ self.old.seq }
+        ensures same_six { self.new.six ≡ self.old.six }
         ensures kept { Keeps (F.told files.old) (F.told files.new) self.old.reading.file }
         ensures cause { let file = self.old.reading.file in
             IsCause (F.counted files.old) (F.counted files.new) file result }
@@ -161,6 +182,7 @@ impl Source {
             OnOk result (IsFrom time self.new.ahead self.new.latest) }
         ensures same_file { self.new.reading.file ≡ self.old.reading.file }
         ensures same_count { self.new.seq ≡ self.old.seq }
+        ensures same_six { self.new.six ≡ self.old.six }
         ensures kept { Keeps (F.told files.old) (F.told files.new) self.old.reading.file }
         ensures cause { let file = self.old.reading.file in
             IsCause (F.counted files.old) (F.counted files.new) file result }
@@ -189,7 +211,7 @@ impl Source {
                 seq: self.seq,
             },
             time: self.latest,
-            fields: fields_of(self.frame.as_slice(), self.original),
+            fields: served(self.six, fields_of(self.frame.as_slice(), self.original)),
         };
         self.ahead = Ahead::Unread;
         self.seq += 1;

@@ -1,32 +1,38 @@
 //! Captures that are read side by side.
 ghost use Rattle.std.specs.Prelude.{◌≡◌, ◌-◌, ◌^◌, ◌<◌, ◌≤◌, ℕ, List, length, OnOk, IfOk, Some, []};
 ghost use Rattle.std.specs.List.{All};
+ghost use Rattle.nf_base.specs.Doors.{six_ports};
+ghost use Rattle.nf_base.specs.Functions.{function_of};
 ghost use Rattle.nf_files.specs.Told.{Told};
 ghost use Rattle.packet_feed.specs.Arrivals.{Arrival};
 ghost use Rattle.packet_feed.specs.Faults.{IsCause, IsNoHeaderFault};
 ghost use Rattle.packet_feed.specs.Told.{EachFile, IsApart, KeepsOthers};
-ghost use Rattle.packet_feed.specs.Sources.{files_in, counts_in, SourcesStand, AreSettled, AreFrom, AreOpened, IsFirst, IsGiven};
+ghost use Rattle.packet_feed.specs.Sources.{files_in, sixes_in, counts_in, SourcesStand, AreSettled, AreFrom, AreOpened, IsFirst, IsGiven};
 ghost use Rattle.packet_feed.specs.Feeding.{first_tear, tears_in};
 ghost use Rattle.packet_feed.specs.Ports.{SourcesStandByPort, IsSettledAt, IsGivenAt};
 
 use crate::fault::FeedFault;
 use crate::first::First;
 use crate::source::Source;
+use nf_base::func::Func;
 use nf_base::packet::Packet;
 use nf_base::seq::Seq;
 use nf_files::Files;
 use std::alloc::Global;
 
-/// Reads the headers of captures, in the order of their ports.
+/// Reads the headers of captures, in the order of a function's ports.
 pub(crate) fn open_all<F: Files>(
     alloc: Global,
     files: &mut F,
+    func: &Func,
     captures: &[u32],
 ) -> Result<Seq<Source>, FeedFault>
     requires opened { EachFile (F.is_read files.old) captures.now }
     requires apart { IsApart captures.now }
     requires ports { length captures.now ≤ 2 ^ 32 }
-    ensures opens { AreOpened captures.now (F.told files.old) (F.told files.new) result }
+    requires ports_of { length captures.now ≡ length func.now.handlers }
+    ensures opens { let six = six_ports (function_of func.now) in
+        AreOpened captures.now six (F.told files.old) (F.told files.new) result }
     ensures by_port { IfOk result (λ sources.
         SourcesStandByPort (F.told files.old) [] sources (F.told files.new)) }
     ensures kept { KeepsOthers captures.now (F.told files.old) (F.told files.new) }
@@ -36,7 +42,7 @@ pub(crate) fn open_all<F: Files>(
 {
     let mut sources = Seq::new(alloc);
     for (port, file) in captures.iter().enumerate() {
-        match Source::open(alloc, files, *file) {
+        match Source::open(alloc, files, *file, func.has_six(port as u32)) {
             Ok(source) => match sources.push(source) {
                 Ok(()) => {}
                 Err(_) => return Err(FeedFault::Memory),
@@ -58,6 +64,7 @@ pub(crate) fn fill_all<F: Files>(sources: &mut Seq<Source>, files: &mut F) -> Re
     ensures settled { OnOk result (AreSettled sources.new) }
     ensures later { (time : ℕ) → AreFrom time sources.old → OnOk result (AreFrom time sources.new) }
     ensures same_files { files_in sources.new ≡ files_in sources.old }
+    ensures same_six { sixes_in sources.new ≡ sixes_in sources.old }
     ensures same_counts { counts_in sources.new ≡ counts_in sources.old }
     ensures kept { KeepsOthers (files_in sources.old) (F.told files.old) (F.told files.new) }
     ensures cause { let all = files_in sources.old in
@@ -100,6 +107,7 @@ pub(crate) fn fill_at<F: Files>(
         OnOk result (SourcesStandByPort start given sources.new (F.told files.new)) }
     ensures settled { OnOk result (IsSettledAt port sources.new) }
     ensures same_files { files_in sources.new ≡ files_in sources.old }
+    ensures same_six { sixes_in sources.new ≡ sixes_in sources.old }
     ensures same_counts { counts_in sources.new ≡ counts_in sources.old }
     ensures kept { KeepsOthers (files_in sources.old) (F.told files.old) (F.told files.new) }
     ensures cause { let all = files_in sources.old in

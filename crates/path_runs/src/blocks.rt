@@ -2,9 +2,11 @@
 
 use nf_base::block::{Block, Ending, Question};
 use nf_base::expr::{Comparison, Expr};
-use nf_base::func::{Func, Handler};
+use nf_base::func::Func;
+use nf_base::handler::Handler;
 use nf_base::limited::Limited;
 use nf_base::packet::Field;
+use nf_base::port_handlers::PortHandlers;
 use std::alloc::{AllocError, Global};
 
 /// `src_port COMPARISON NUMBER`, in front of what follows.
@@ -75,11 +77,14 @@ pub fn nested(alloc: Global, depth: u64) -> Result<Block, AllocError> {
     Ok(block)
 }
 
-/// A function of one port, which floods each packet.
+/// A function of one port, which floods each IPv4 packet.
 pub fn hub(alloc: Global) -> Result<Func, AllocError> {
     let mut handlers = Limited::new(alloc);
-    handlers.push(Handler {
-        block: Block::End(Ending::Flood),
+    handlers.push(PortHandlers {
+        four: Handler {
+            block: Block::End(Ending::Flood),
+        },
+        six: None,
     })?;
     Ok(Func {
         name: Limited::new(alloc),

@@ -6,6 +6,7 @@ mod blocks;
 
 use blocks::{hub, nested, numbers, tests};
 use nf_base::block::Block;
+use nf_base::packet::{Door, Family};
 use path_walk::{
     WalkFault, all_statements, block_path_count, block_paths, count_paths, paths, reached,
 };
@@ -19,10 +20,18 @@ fn count(alloc: Global, block: Result<Block, AllocError>) -> Result<usize, WalkF
     Ok(all.len())
 }
 
+/// The handler of a port for IPv4.
+fn door_at(port: u32) -> Door {
+    Door {
+        port,
+        family: Family::Four,
+    }
+}
+
 /// How many paths a port of a function has.
 fn count_port(alloc: Global, port: u32) -> Result<usize, WalkFault> {
     let func = hub(alloc)?;
-    let all = paths(alloc, &func, port)?;
+    let all = paths(alloc, &func, door_at(port))?;
     Ok(all.len())
 }
 
@@ -35,7 +44,7 @@ fn number(alloc: Global, block: Result<Block, AllocError>) -> Result<usize, Walk
 /// And of a port's.
 fn port_number(alloc: Global, port: u32) -> Result<usize, WalkFault> {
     let func = hub(alloc)?;
-    Ok(count_paths(alloc, &func, port)? as usize)
+    Ok(count_paths(alloc, &func, door_at(port))? as usize)
 }
 
 fn print_count(rt: &HostRuntime, name: &str, count: Result<usize, WalkFault>) -> io::Result<()> {

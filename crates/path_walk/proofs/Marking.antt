@@ -3,7 +3,7 @@ use Rattle.std.proofs.Common.{◌≡◌, ◌≢◌, ◌<◌, arith, ℕ, zero, s
 use Rattle.std.proofs.lemmas.Bool.{cases_eq, cases_lt}
 use Rattle.std.proofs.lemmas.List.{length-set, length-replicate, get_or-set_same, get_or-set_other, get_or-replicate, get_or_past}
 use Rattle.nf_base.specs.declared.packet.Field.{Field}
-use Rattle.nf_base.specs.declared.packet.Field.TheVariants.{Time, Length, SrcMac, DstMac, SrcIp, DstIp, Proto, Ttl, SrcPort, DstPort}
+use Rattle.nf_base.specs.declared.packet.Field.TheVariants.{Time, Length, SrcMac, DstMac, SrcIp, DstIp, SrcIp6, DstIp6, Proto, Ttl, SrcPort, DstPort}
 use Rattle.nf_laws.proofs.Listed.{here, there, has, has_none}
 use Rattle.path_walk.specs.declared.test.FieldIs.{FieldIs}
 use Rattle.path_walk.specs.declared.known.Mark.TheVariants.{Unknown}
@@ -23,7 +23,7 @@ pub record Says (before : List Told) (field : Field) (k : ℕ) : Type 0 where
 
 pub record Represents (texts : List TestText) (m : Marks) (before : List Told) : Type 0 where
   pub marks : length m.marks ≡ length texts
-  pub numbers : length m.numbers ≡ 10
+  pub numbers : length m.numbers ≡ 12
   pub marked : (n : ℕ) (b : Bool) → mark_at m n ≡ Some b → Contains before (tell (text_at texts n) b)
   pub only_mark : (a : Told) (n : ℕ) → n < length texts → Contains before a → a.text ≡ text_at texts n → mark_at m n ≡ Some a.holds
   pub numbered : (field : Field) (k : ℕ) → number_at m field ≡ Some k → Says before field k
@@ -49,10 +49,10 @@ none_at {A} n i = elim (cases_lt i n) [
 pub nothing : (texts : List TestText) → Represents texts (nothing_known (length texts)) []
 nothing texts = record {
   marks = length-replicate (length texts) (no {A = Bool});
-  numbers = length-replicate 10 (no {A = ℕ});
+  numbers = length-replicate 12 (no {A = ℕ});
   marked = λ n b e. let h = none_at {A = Bool} (length texts) n in cc;
   only_mark = λ a n w i e. absurd (has_none a i);
-  numbered = λ field k e. let h = none_at {A = ℕ} 10 (field_number field) in cc;
+  numbered = λ field k e. let h = none_at {A = ℕ} 12 (field_number field) in cc;
   only_number = λ a field k i e h. absurd (has_none a i);
 }
 
@@ -70,17 +70,19 @@ again texts m before t r i = record {
     among : (a : Told) → Contains (t ∷ before) a → Contains before a
     among a j = elim (has t before a j) [ inl e ↦ subst (λ (x : Told). Contains before x) e i | inr k ↦ k ]
 
-below_ten : (field : Field) → field_number field < 10
-below_ten Time = omega arith
-below_ten Length = omega arith
-below_ten SrcMac = omega arith
-below_ten DstMac = omega arith
-below_ten SrcIp = omega arith
-below_ten DstIp = omega arith
-below_ten Proto = omega arith
-below_ten Ttl = omega arith
-below_ten SrcPort = omega arith
-below_ten DstPort = omega arith
+below_twelve : (field : Field) → field_number field < 12
+below_twelve Time = omega arith
+below_twelve Length = omega arith
+below_twelve SrcMac = omega arith
+below_twelve DstMac = omega arith
+below_twelve SrcIp = omega arith
+below_twelve DstIp = omega arith
+below_twelve SrcIp6 = omega arith
+below_twelve DstIp6 = omega arith
+below_twelve Proto = omega arith
+below_twelve Ttl = omega arith
+below_twelve SrcPort = omega arith
+below_twelve DstPort = omega arith
 
 -- whether a field is known to be another number
 same_unless : (m : Marks) (x : TestText) (field : Field) (k l : ℕ) → excludes (equals_of x) m ≡ false → equals_of x ≡ is field l → number_at m field ≡ Some k → k ≡ l
@@ -206,7 +208,7 @@ new_numbered texts m before n true None r h field k e = says_later (tell (text_a
 new_numbered texts m before n true (Some x) r h field k e = elim (cases_eq (field_number field) (field_number x.field)) [
   | inl q ↦
       let f : field ≡ x.field = one_field field x.field q in
-      let l : field_number x.field < length m.numbers = let y = r.numbers in let z = below_ten x.field in omega arith in
+      let l : field_number x.field < length m.numbers = let y = r.numbers in let z = below_twelve x.field in omega arith in
       let u : number_at (told_mark m n (Some x) true) x.field ≡ Some x.number = number_same m n (Some x) x.field x.number l refl in
       let v : number_at (told_mark m n (Some x) true) x.field ≡ Some k = sym (ap (number_at (told_mark m n (Some x) true)) f) ∙ e in
       let same : x.number ≡ k = cc in
@@ -226,7 +228,7 @@ new_only_number texts m before n false o r h free a field k i e t = elim (has (t
   | inr j ↦ r.only_number a field k j e t
 ]
 new_only_number texts m before n true o r h free a field k i e t =
-    let l : field_number field < length m.numbers = let y = r.numbers in let z = below_ten field in omega arith in
+    let l : field_number field < length m.numbers = let y = r.numbers in let z = below_twelve field in omega arith in
     elim (has (tell (text_at texts n) true) before a i) [
       | inl q ↦ number_same m n o field k l (sym h ∙ ap (λ (t : Told). equals_of t.text) q ∙ e)
       | inr j ↦ kept o h (r.only_number a field k j e t)
@@ -239,7 +241,7 @@ new_only_number texts m before n true o r h free a field k i e t =
           let f : field ≡ x.field = one_field field x.field q in
           let at : equals_of (text_at texts n) ≡ is field x.number = g ∙ ap (λ (y : Field). is y x.number) (sym f) in
           let same : k ≡ x.number = same_unless m (text_at texts n) field k x.number (free refl) at v in
-          let l : field_number field < length m.numbers = let y = r.numbers in let z = below_ten field in omega arith in
+          let l : field_number field < length m.numbers = let y = r.numbers in let z = below_twelve field in omega arith in
           number_same m n (Some x) field k l (ap₂ is (sym f) (sym same))
       | inr q ↦ number_other m n x field q ∙ v
     ]

@@ -2,6 +2,8 @@
 use Rattle.std.proofs.Common.{◌≡◌, ◌<◌, ◌≤◌, arith, ℕ, Bool, true, false, ◌==◌, ◌&&◌, nat_lt, nat_le, not, cond, eqb-true, ◌⊎◌, List, [], ◌∷◌, Contains, Option, Some, None, IsSome, slice_get, if◌then◌else◌, map, refl, ap, sym, ◌∙◌, subst, inl, inr}
 use Rattle.std.specs.List.{filter}
 use Rattle.std.proofs.lemmas.Bool.{and_parts, cases_Bool, ltb-true, ltb-false, le-leb, leb-true}
+use Rattle.nf_base.specs.Doors.{handler_at}
+use Rattle.nf_base.specs.Families.{door_of}
 use Rattle.nf_base.specs.declared.packet.Field.{Field}
 use Rattle.nf_base.specs.declared.packet.Packet.{Packet}
 use Rattle.nf_base.specs.declared.packet.Fields.{Fields}
@@ -26,7 +28,7 @@ use Rattle.path_walk.specs.declared.test.Sign.TheVariants.{Equal, Less, AtMost}
 use Rattle.path_walk.specs.Tests.{TestText, Told, told, test_of, test_in_front, tests, sign_of, is_exchanged, is_hit, flipped}
 use Rattle.path_walk.specs.Laws.{PacketsTakeFeasiblePaths, OutcomesAreListed}
 use Rattle.path_walk.specs.declared.test.FieldIs.{FieldIs}
-use Rattle.path_walk.specs.Feasible.{handler_paths, port_paths, field_is, is_feasible, feasible_paths}
+use Rattle.path_walk.specs.Feasible.{handler_paths, door_paths, field_is, is_feasible, feasible_paths}
 use Rattle.path_walk.proofs.Agreeing.{is, number_in, Agree, consistent}
 
 -- whether a test holds, so brought
@@ -198,8 +200,8 @@ at_handler f s time fields choices (Some block) h = courses_feasible never (inpu
 
 pub packets_feasible : PacketsTakeFeasiblePaths
 packets_feasible f s packet fields choices e h =
-    subst (λ (o : Option Fields). Contains (port_paths f packet.id.port) (route_of never f s packet choices o)) (sym e)
-    (at_handler f s packet.time fields choices (slice_get f.handlers packet.id.port) h)
+    subst (λ (o : Option Fields). Contains (door_paths f (door_of packet.id.port fields)) (route_of never f s packet choices o)) (sym e)
+    (at_handler f s packet.time fields choices (handler_at f (door_of packet.id.port fields)) h)
 
 -- a packet that has a step came in at a port of the function
 has_handler : (f : Function) (s : State) (packet : Packet) (fields : Fields) (choices : List ℕ) (block : Option Block) (r : StepResult) →
@@ -210,8 +212,8 @@ has_handler f s packet fields choices (Some block) r e = refl
 pub outcomes_listed : OutcomesAreListed
 outcomes_listed f s packet fields choices r e h =
     let g : step_of never f s packet choices (Some fields) ≡ Some r = sym (ap (step_of never f s packet choices) e) ∙ h in
-    let is = has_handler f s packet fields choices (slice_get f.handlers packet.id.port) r g in
+    let is = has_handler f s packet fields choices (handler_at f (door_of packet.id.port fields)) r g in
     let path = packets_feasible f s packet fields choices e is in
     let same = outcomes_walk f s packet choices (steps_legal f s packet choices r h).legal in
-    subst (λ (x : List Outcome). Contains (map outcomes_along (port_paths f packet.id.port)) x) (sym same)
-    (mapped outcomes_along (port_paths f packet.id.port) (path_taken f s packet choices) path)
+    subst (λ (x : List Outcome). Contains (map outcomes_along (door_paths f (door_of packet.id.port fields))) x) (sym same)
+    (mapped outcomes_along (door_paths f (door_of packet.id.port fields)) (path_taken f s packet choices) path)

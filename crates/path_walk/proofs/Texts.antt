@@ -2,7 +2,7 @@
 use Rattle.std.proofs.Common.{◌≡◌, ℕ, true, List, [], ◌∷◌, ◌++◌, get_or, refl, ap, sym, ◌∙◌, append_assoc}
 use Rattle.std.proofs.lemmas.Slice.Eq.{bytes_eq-Decides}
 use Rattle.nf_base.specs.declared.packet.Field.{Field}
-use Rattle.nf_base.specs.declared.packet.Field.TheVariants.{Time, Length, SrcMac, DstMac, SrcIp, DstIp, Proto, Ttl, SrcPort, DstPort}
+use Rattle.nf_base.specs.declared.packet.Field.TheVariants.{Time, Length, SrcMac, DstMac, SrcIp, DstIp, SrcIp6, DstIp6, Proto, Ttl, SrcPort, DstPort}
 use Rattle.nf_base.specs.declared.expr.Operator.{Operator}
 use Rattle.nf_base.specs.declared.expr.Operator.TheVariants.{Plus, Minus, Times, Over, Modulo, And}
 use Rattle.nf_base.specs.Text.{Expression, Number, Read, Index, Label, Column, Cell, Both}
@@ -11,7 +11,7 @@ use Rattle.path_walk.specs.declared.test.Sign.TheVariants.{Equal, Less, AtMost}
 use Rattle.path_walk.specs.Tests.{TestText, field_number, operator_number, sign_number, tokens, test_tokens, same_text}
 
 abbrev fields : List Field
-fields = Time ∷ Length ∷ SrcMac ∷ DstMac ∷ SrcIp ∷ DstIp ∷ Proto ∷ Ttl ∷ SrcPort ∷ DstPort ∷ []
+fields = Time ∷ Length ∷ SrcMac ∷ DstMac ∷ SrcIp ∷ DstIp ∷ Proto ∷ Ttl ∷ SrcPort ∷ DstPort ∷ SrcIp6 ∷ DstIp6 ∷ []
 
 field_back : (f : Field) → get_or fields (field_number f) Time ≡ f
 field_back Time = refl
@@ -20,6 +20,8 @@ field_back SrcMac = refl
 field_back DstMac = refl
 field_back SrcIp = refl
 field_back DstIp = refl
+field_back SrcIp6 = refl
+field_back DstIp6 = refl
 field_back Proto = refl
 field_back Ttl = refl
 field_back SrcPort = refl

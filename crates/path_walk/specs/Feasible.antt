@@ -1,6 +1,8 @@
 -- Paths that some packet may take, as far as the tests of the packet alone say.
 use Rattle.std.specs.Prelude.{◌≡◌, ℕ, Bool, true, false, ◌&&◌, ◌||◌, ◌==◌, not, List, [], ◌∷◌, Option, Some, None, Contains, map, slice_get}
 use Rattle.std.specs.List.{filter, list_any}
+use Rattle.nf_base.specs.Doors.{handler_at}
+use Rattle.nf_base.specs.declared.packet.Door.{Door}
 use Rattle.nf_base.specs.declared.packet.Field.{Field}
 use Rattle.nf_base.specs.Text.{Expression, Number, Read, Block, Function}
 use Rattle.nf_base.specs.Paths.{Branch, PathStep, paths, Outcome, outcomes_along}
@@ -55,9 +57,9 @@ abbrev pub handler_paths : Option Block → List (List PathStep)
 handler_paths None = []
 handler_paths (Some block) = feasible_paths block
 
--- the feasible paths of a port; a port that the function doesn't have has none
-abbrev pub port_paths : Function → ℕ → List (List PathStep)
-port_paths f port = handler_paths (slice_get f.handlers port)
+-- the feasible paths of a port's handler for a family; there are none where there is no handler
+abbrev pub door_paths : Function → Door → List (List PathStep)
+door_paths f door = handler_paths (handler_at f door)
 
 -- how each outcome branches
 abbrev pub branches : List Outcome → List Branch

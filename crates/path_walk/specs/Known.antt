@@ -26,7 +26,7 @@ known_seen k = record { marks = map mark_seen k.marks.items; numbers = k.numbers
 
 -- nothing is known of so many texts
 abbrev pub nothing_known : ℕ → Marks
-nothing_known texts = record { marks = replicate texts None; numbers = replicate 10 None }
+nothing_known texts = record { marks = replicate texts None; numbers = replicate 12 None }
 
 abbrev pub mark_at : Marks → ℕ → Option Bool
 mark_at m n = get_or m.marks n None

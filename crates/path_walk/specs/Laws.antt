@@ -1,5 +1,7 @@
 -- Laws of tests and paths.
 use Rattle.std.specs.Prelude.{◌≡◌, ℕ, true, List, Some, IsSome, Contains, map, slice_get}
+use Rattle.nf_base.specs.Doors.{handler_at}
+use Rattle.nf_base.specs.Families.{door_of}
 use Rattle.nf_base.specs.declared.packet.Packet.{Packet}
 use Rattle.nf_base.specs.declared.packet.Fields.{Fields}
 use Rattle.nf_base.specs.declared.state.State.{State}
@@ -8,7 +10,7 @@ use Rattle.nf_base.specs.Paths.{PathStep, outcomes_along}
 use Rattle.nf_base.specs.Record.{outcomes}
 use Rattle.nf_base.specs.Step.{StepResult, step, recorded, path_taken}
 use Rattle.path_walk.specs.Tests.{TestText, same_text}
-use Rattle.path_walk.specs.Feasible.{is_feasible, IsFeasible, feasible_paths, port_paths, branches_along}
+use Rattle.path_walk.specs.Feasible.{is_feasible, IsFeasible, feasible_paths, door_paths, branches_along}
 use Rattle.path_walk.specs.Once.{EachOnce}
 
 -- tests of one text are those with the same sign and the same sides
@@ -26,15 +28,15 @@ IsFeasibleWhere = (path : List PathStep) → IsFeasible path → is_feasible pat
 abbrev pub PacketsTakeFeasiblePaths : Type 0
 PacketsTakeFeasiblePaths =
     (f : Function) (s : State) (packet : Packet) (fields : Fields) (choices : List ℕ) →
-    packet.fields ≡ Some fields → IsSome (slice_get f.handlers packet.id.port) →
-    Contains (port_paths f packet.id.port) (path_taken f s packet choices)
+    packet.fields ≡ Some fields → IsSome (handler_at f (door_of packet.id.port fields)) →
+    Contains (door_paths f (door_of packet.id.port fields)) (path_taken f s packet choices)
 
 -- and the outcomes of its step are those along one
 abbrev pub OutcomesAreListed : Type 0
 OutcomesAreListed =
     (f : Function) (s : State) (packet : Packet) (fields : Fields) (choices : List ℕ) (r : StepResult) →
     packet.fields ≡ Some fields → step f s packet choices ≡ Some r →
-    Contains (map outcomes_along (port_paths f packet.id.port)) (outcomes (recorded f s packet choices))
+    Contains (map outcomes_along (door_paths f (door_of packet.id.port fields))) (outcomes (recorded f s packet choices))
 
 -- no two feasible paths of a block branch alike
 abbrev pub PathsAreListedOnce : Type 0

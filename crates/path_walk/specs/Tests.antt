@@ -2,7 +2,7 @@
 use Rattle.std.specs.Prelude.{ℕ, Bool, true, false, ◌&&◌, not, List, [], ◌∷◌, ◌++◌, Option, Some, None, if◌then◌else◌}
 use Rattle.std.specs.Str.{bytes_eq}
 use Rattle.nf_base.specs.declared.packet.Field.{Field}
-use Rattle.nf_base.specs.declared.packet.Field.TheVariants.{Time, Length, SrcMac, DstMac, SrcIp, DstIp, Proto, Ttl, SrcPort, DstPort}
+use Rattle.nf_base.specs.declared.packet.Field.TheVariants.{Time, Length, SrcMac, DstMac, SrcIp, DstIp, SrcIp6, DstIp6, Proto, Ttl, SrcPort, DstPort}
 use Rattle.nf_base.specs.declared.expr.Operator.{Operator}
 use Rattle.nf_base.specs.declared.expr.Operator.TheVariants.{Plus, Minus, Times, Over, Modulo, And}
 use Rattle.nf_base.specs.declared.expr.Comparison.{Comparison}
@@ -45,6 +45,8 @@ field_number SrcMac = 2
 field_number DstMac = 3
 field_number SrcIp = 4
 field_number DstIp = 5
+field_number SrcIp6 = 10
+field_number DstIp6 = 11
 field_number Proto = 6
 field_number Ttl = 7
 field_number SrcPort = 8

@@ -32,9 +32,9 @@ fn unknown(alloc: Global, texts: usize) -> Result<Vec<Mark>, AllocError>
 
 /// No number for each of the ten fields.
 fn no_numbers(alloc: Global) -> Result<Vec<Option<u64>>, AllocError>
-    ensures { IfOk result (λ numbers. numbers.items ≡ replicate 10 None) }
+    ensures { IfOk result (λ numbers. numbers.items ≡ replicate 12 None) }
 {
-    vec![in alloc; None; 10]
+    vec![in alloc; None; 12]
 }
 
 /// The mark of a text that went so.

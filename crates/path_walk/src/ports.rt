@@ -3,7 +3,7 @@ ghost use Rattle.std.specs.Prelude.{◌≡◌, ◌≤◌, IfOk, OnOk, IfErr, len
 ghost use Rattle.nf_base.specs.View.{block_of};
 ghost use Rattle.nf_base.specs.Functions.{function_of};
 ghost use Rattle.path_walk.specs.Once.{EachOnce};
-ghost use Rattle.path_walk.specs.Listed.{block_branches, port_branches, IsCause, HasEachTaken};
+ghost use Rattle.path_walk.specs.Listed.{block_branches, door_branches, IsCause, HasEachTaken};
 ghost use Rattle.path_walk.specs.Lines.{IsLaid};
 ghost use Rattle.path_walk.specs.Known.{HasEquals};
 ghost use Rattle.path_walk.specs.Walks.{paths_from};
@@ -16,6 +16,7 @@ use crate::numbering::{Numbered, numbered_lines};
 use crate::walk::{Path, listed};
 use nf_base::block::Block;
 use nf_base::func::Func;
+use nf_base::packet::Door;
 use std::alloc::{AllocError, Global};
 
 /// A block as numbered lines, and the number of the line that it begins at.
@@ -56,19 +57,18 @@ pub fn block_path_count(alloc: Global, block: &Block) -> Result<u32, WalkFault>
 ///
 /// The work is bounded by the paths times the length of a path, and by the text's length times its
 /// logarithm.
-pub fn paths(alloc: Global, func: &Func, port: u32) -> Result<Vec<Path>, WalkFault>
-    ensures all { IfOk result (λ all. all.items ≡ port_branches (function_of func.now) port) }
+pub fn paths(alloc: Global, func: &Func, door: Door) -> Result<Vec<Path>, WalkFault>
+    ensures all { IfOk result (λ all. all.items ≡ door_branches (function_of func.now) door) }
     ensures once { IfOk result (λ all. EachOnce all.items) }
     // More than 4,096 are refused, and no fewer.
-    ensures most { OnOk result (length (port_branches (function_of func.now) port) ≤ 4096) }
-    ensures many { IfErr result (IsCause (port_branches (function_of func.now) port)) }
+    ensures most { OnOk result (length (door_branches (function_of func.now) door) ≤ 4096) }
+    ensures many { IfErr result (IsCause (door_branches (function_of func.now) door)) }
     // What a packet of this port does, at any state and with any choices, is one of them.
-    ensures taken { IfOk result (λ all. HasEachTaken (function_of func.now) port all.items) }
+    ensures taken { IfOk result (λ all. HasEachTaken (function_of func.now) door all.items) }
 {
-    if port < func.handlers.len() {
-        block_paths(alloc, &func.handlers.item(port).block)
-    } else {
-        Ok(Vec::new(alloc))
+    match func.handler_at(door) {
+        Some(handler) => block_paths(alloc, &handler.block),
+        None => Ok(Vec::new(alloc)),
     }
 }
 
@@ -78,15 +78,14 @@ pub fn paths(alloc: Global, func: &Func, port: u32) -> Result<Vec<Path>, WalkFau
 /// it, each of which can go one way alone, as its text went some way on the path already, or as its
 /// field is known to be another number. The memory is that of the text and of the tests of the paths
 /// that branch off one path.
-pub fn count_paths(alloc: Global, func: &Func, port: u32) -> Result<u32, WalkFault>
-    ensures count { IfOk result (λ n. n ≡ length (port_branches (function_of func.now) port)) }
+pub fn count_paths(alloc: Global, func: &Func, door: Door) -> Result<u32, WalkFault>
+    ensures count { IfOk result (λ n. n ≡ length (door_branches (function_of func.now) door)) }
     // More than 4,096 are refused, and no fewer.
     ensures most { IfOk result (λ n. n ≤ 4096) }
-    ensures many { IfErr result (IsCause (port_branches (function_of func.now) port)) }
+    ensures many { IfErr result (IsCause (door_branches (function_of func.now) door)) }
 {
-    if port < func.handlers.len() {
-        block_path_count(alloc, &func.handlers.item(port).block)
-    } else {
-        Ok(0)
+    match func.handler_at(door) {
+        Some(handler) => block_path_count(alloc, &handler.block),
+        None => Ok(0),
     }
 }

@@ -20,6 +20,8 @@ pub fn number_of_field(field: Field) -> u64
         Field::DstMac => 3,
         Field::SrcIp => 4,
         Field::DstIp => 5,
+        Field::SrcIp6 => 10,
+        Field::DstIp6 => 11,
         Field::Proto => 6,
         Field::Ttl => 7,
         Field::SrcPort => 8,

@@ -3,6 +3,7 @@ use Rattle.std.proofs.Common.{◌≡◌, ◌≢◌, inl, inr, ℕ, ◌+◌, ◌-
 use Rattle.std.specs.List.{slice_get}
 use Rattle.std.proofs.lemmas.List.{length-map}
 use Rattle.std.proofs.lemmas.Option.{slice_get_within}
+use Rattle.nf_base.specs.Doors.{six_ports}
 use Rattle.nf_base.specs.Functions.{function_of}
 use Rattle.nf_base.specs.Text.{Function}
 use Rattle.nf_files.specs.Told.{Told}
@@ -174,7 +175,7 @@ untouched_fed before a b job captures h kept = record {
   standard = λ g lt. kept.givens g ∙ h.only.untouched.standard g lt;
 }
 
-pub has_fed : (before a b : Outside) (job : Job) (captures : List ℕ) (v : Feeding) → HasOpened before a job captures → Starts captures (asked job).most a.told b.told (Ok v) → StandsByPort a.told [] v b.told → KeepsOthers captures a.told b.told → b.counted ≡ a.counted → HasFed before b job captures v
+pub has_fed : (before a b : Outside) (job : Job) (captures : List ℕ) (v : Feeding) → HasOpened before a job captures → Starts captures (six_ports (function_of job.func.now)) (asked job).most a.told b.told (Ok v) → StandsByPort a.told [] v b.told → KeepsOthers captures a.told b.told → b.counted ≡ a.counted → HasFed before b job captures v
 has_fed before a b job captures v h starts by_port kept counted = record {
   start = a.told;
   rests = h.rests;
@@ -216,7 +217,7 @@ failed_at before a b job captures (Some file) port is sized h untouched lesser e
     (λ next. below_names IsCapture a.told before.told captures (asked job).captures port h.all h.rests (λ p f lt e. lesser p f lt e)))
     (due_inputs before job is))
 
-pub is_unfed : (before a b : Outside) (job : Job) (captures : List ℕ) (fault : FeedFault) → IsJob before job → IsSized job → HasOpened before a job captures → Starts captures (asked job).most a.told b.told (Err fault) → KeepsOthers captures a.told b.told → feeding.IsCause {T = Unit {0}} a.counted b.counted captures (Err fault) → ReplaysTo (asked job) before b (Err (unfed job.numbers captures fault))
+pub is_unfed : (before a b : Outside) (job : Job) (captures : List ℕ) (fault : FeedFault) → IsJob before job → IsSized job → HasOpened before a job captures → Starts captures (six_ports (function_of job.func.now)) (asked job).most a.told b.told (Err fault) → KeepsOthers captures a.told b.told → feeding.IsCause {T = Unit {0}} a.counted b.counted captures (Err fault) → ReplaysTo (asked job) before b (Err (unfed job.numbers captures fault))
 unfolding memory_behind
 is_unfed before a b job captures (feed.NotCapture port) is sized h starts kept cause =
     (no_capture before a job captures port is h starts, record { untouched = untouched_fed before a b job captures h kept; asked = cause ∙ h.only.asked })

@@ -1,10 +1,11 @@
 -- A replay whose journal and outputs were opened and judged.
-use Rattle.std.proofs.Common.{◌≡◌, ◌≢◌, ◌⊎◌, inl, inr, ℕ, zero, suc, ◌+◌, ◌<◌, ◌≤◌, List, [], ◌∷◌, ◌++◌, length, map, get_or, Option, Some, None, Result, Ok, Err, refl, ap, sym, subst, ◌∙◌, append-nil, arith}
+use Rattle.std.proofs.Common.{◌≡◌, ◌≢◌, ◌⊎◌, inl, inr, ℕ, zero, suc, ◌+◌, ◌<◌, ◌≤◌, Bool, List, [], ◌∷◌, ◌++◌, length, map, get_or, Option, Some, None, Result, Ok, Err, refl, ap, ap₂, sym, subst, ◌∙◌, append-nil, arith}
 use Rattle.std.specs.List.{slice_get, range_with_len}
 use Rattle.std.specs.Option.{option_map, option_and_then}
 use Rattle.std.proofs.lemmas.List.{length-map}
 use Rattle.std.proofs.lemmas.List.FromFn.{get_or-range_with_len, length-range_with_len}
 use Rattle.std.proofs.lemmas.Option.{slice_get_within, slice_get-map, slice_get-get_or}
+use Rattle.nf_base.specs.Doors.{six_at, six_ports}
 use Rattle.nf_base.specs.Functions.{function_of}
 use Rattle.nf_base.specs.Text.{Function}
 use Rattle.nf_base.specs.declared.keys.Keys.{Keys}
@@ -14,7 +15,7 @@ use Rattle.nf_files.specs.Causes.{Counted, Faulted, Asked, asking}
 use Rattle.nf_files.specs.Pieces.{Gains}
 use Rattle.packet_feed.specs.Arrivals.{Arrival}
 use Rattle.packet_feed.specs.Told.{both, gathered, packets_in, packets_of, KeepsOthers}
-use Rattle.packet_feed.specs.Sources.{files_in}
+use Rattle.packet_feed.specs.Sources.{files_in, sixes_in}
 use Rattle.packet_feed.specs.Feeding.{Feeding}
 use Rattle.run_history.specs.StateText.{state_text}
 use Rattle.stream_run.specs.declared.stop.Stop.{Stop as NumberStop}
@@ -92,24 +93,24 @@ has_ready before a b job captures v opened journal outputs h opens same all unto
 
 -- ---- what was judged, by what stood under the names
 
-same_packets : (start before : Told) (port : ℕ) (captures : List ℕ) (names : List (List ℕ)) → length captures ≡ length names → ((i f : ℕ) (n : List ℕ) → slice_get captures i ≡ Some f → slice_get names i ≡ Some n → start.rest f ≡ before.content n)
-    → gathered (λ (p : ℕ) (f : ℕ). packets_in p (start.rest f)) port captures ≡ gathered (λ (p : ℕ) (n : List ℕ). packets_in p (before.content n)) port names
-same_packets start before port [] [] e h = refl
-same_packets start before port [] (n ∷ names) e h = absurd (omega (arith, e))
-same_packets start before port (f ∷ captures) [] e h = absurd (omega (arith, e))
-same_packets start before port (f ∷ captures) (n ∷ names) e h =
-    ap (λ (o : Option (List ℕ)). both (packets_in port o) (gathered (λ (p : ℕ) (g : ℕ). packets_in p (start.rest g)) (port + 1) captures)) (h 0 f n refl refl)
-    ∙ ap (both (packets_in port (before.content n))) (same_packets start before (port + 1) captures names (omega (arith, e)) (λ i g m p q. h (suc i) g m p q))
+same_packets : (six : List Bool) (start before : Told) (port : ℕ) (captures : List ℕ) (names : List (List ℕ)) → length captures ≡ length names → ((i f : ℕ) (n : List ℕ) → slice_get captures i ≡ Some f → slice_get names i ≡ Some n → start.rest f ≡ before.content n)
+    → gathered (λ (p : ℕ) (f : ℕ). packets_in (six_at six p) p (start.rest f)) port captures ≡ gathered (λ (p : ℕ) (n : List ℕ). packets_in (six_at six p) p (before.content n)) port names
+same_packets six start before port [] [] e h = refl
+same_packets six start before port [] (n ∷ names) e h = absurd (omega (arith, e))
+same_packets six start before port (f ∷ captures) [] e h = absurd (omega (arith, e))
+same_packets six start before port (f ∷ captures) (n ∷ names) e h =
+    ap (λ (o : Option (List ℕ)). both (packets_in (six_at six port) port o) (gathered (λ (p : ℕ) (g : ℕ). packets_in (six_at six p) p (start.rest g)) (port + 1) captures)) (h 0 f n refl refl)
+    ∙ ap (both (packets_in (six_at six port) port (before.content n))) (same_packets six start before (port + 1) captures names (omega (arith, e)) (λ i g m p q. h (suc i) g m p q))
 
 file_there : (files : List ℕ) (k : ℕ) → k < length files → (file : ℕ) × (slice_get files k ≡ Some file)
 file_there [] k lt = absurd (omega (arith, lt))
 file_there (file ∷ files) zero lt = (file, refl)
 file_there (file ∷ files) (suc k) lt = file_there files k (omega (arith, lt))
 
-pub has_come : (before a b : Outside) (job : Job) (captures : List ℕ) (v : Feeding) (journal : ℕ) (outputs : List ℕ) (came : Replayed) → IsJob before job → IsSized job → HasReady before a job captures v journal outputs → files_in v.sources ≡ captures → length captures ≡ job.numbers.ports → length outputs ≡ job.numbers.ports
+pub has_come : (before a b : Outside) (job : Job) (captures : List ℕ) (v : Feeding) (journal : ℕ) (outputs : List ℕ) (came : Replayed) → IsJob before job → IsSized job → HasReady before a job captures v journal outputs → files_in v.sources ≡ captures → sixes_in v.sources ≡ six_ports (function_of job.func.now) → length captures ≡ job.numbers.ports → length outputs ≡ job.numbers.ports
     → ((start : Told) → IsStarted start v a.told → Comes {E = NumberStop} (function_of job.func.now) (lent job.keys) (length captures) (beside_of v start (a.told.rest journal) outputs a.told job.command.now.most) (Ok came))
     → KeepsOthers (captures ++ journal ∷ outputs) a.told b.told → b.counted ≡ a.counted → HasCome before b job came
-has_come before a b job captures v journal outputs came is sized h files all as_many comes kept counted =
+has_come before a b job captures v journal outputs came is sized h files six all as_many comes kept counted =
     let c = asked job in
     let f = function_of job.func.now in
     let ports : job.numbers.ports ≡ length c.captures = sym (length-map job.command.now.captures.items _ ∙ sized.captures) in
@@ -123,8 +124,8 @@ has_come before a b job captures v journal outputs came is sized h files all as_
         captures = headers_of h.start before.told a.told v captures c.captures files long h.rests h.started;
         verdict = is.keys.verdict;
         is_verdict = is.keys.is_verdict;
-        comes = comes_as f (keys_by is.keys.verdict) (length c.captures) one (beside_under c before.told) (Ok came)
-            (sym (ap (λ (fs : List ℕ). packets_of fs h.start) files ∙ same_packets h.start before.told 0 captures c.captures long h.rests))
+        comes = comes_as f (keys_by is.keys.verdict) (length c.captures) one (beside_under f c before.told) (Ok came)
+            (sym (ap₂ (λ (ports : List Bool) (fs : List ℕ). packets_of ports fs h.start) six files ∙ same_packets (six_ports f) h.start before.told 0 captures c.captures long h.rests))
             (sym h.journal_is)
             refl
             (λ port lt.

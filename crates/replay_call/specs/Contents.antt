@@ -42,10 +42,11 @@ abbrev pub keys_by : Verdict → Option Keys
 keys_by (Sharded keys) = Some keys
 keys_by (Locked cause) = None
 
--- what the journal under its name is read beside: the captures and the outputs under theirs
-abbrev pub beside_under : Replay → Told → Beside
-beside_under c told = record {
-  packets = packets_under c.captures told;
+-- what the journal under its name is read beside: the captures of a function's ports, and the outputs,
+-- under theirs
+abbrev pub beside_under : Function → Replay → Told → Beside
+beside_under f c told = record {
+  packets = packets_under f c.captures told;
   journal = told.content c.journal;
   outputs = λ port. told.content (output_name c.out port);
   most = c.most;
@@ -59,4 +60,4 @@ pub record HasReplayed (c : Replay) (told : Told) (f : Function) (came : Replaye
   pub captures : Below IsCapture told c.captures (length c.captures)
   pub verdict : Verdict
   pub is_verdict : IsVerdict f verdict
-  pub comes : Comes {E = Stop} f (keys_by verdict) (length c.captures) (beside_under c told) (Ok came)
+  pub comes : Comes {E = Stop} f (keys_by verdict) (length c.captures) (beside_under f c told) (Ok came)

@@ -3,8 +3,9 @@
 //! Each function goes on from where a replay came, whatever was there before it began.
 ghost use Rattle.std.specs.Prelude.{◌≡◌, ◌+◌, ◌≤◌, ◌++◌, [], ◌∷◌, length, map, IfSome, string_bytes};
 ghost use Rattle.nf_base.specs.Functions.{function_of};
+ghost use Rattle.nf_base.specs.Doors.{six_ports};
 ghost use Rattle.packet_feed.specs.Told.{EachFile, IsApart};
-ghost use Rattle.packet_feed.specs.Sources.{files_in};
+ghost use Rattle.packet_feed.specs.Sources.{files_in, sixes_in};
 ghost use Rattle.replay_run.specs.Queues.{lent};
 ghost use Rattle.replay_run.specs.declared.replayed.Replayed.TheVariants.{Same};
 ghost use Rattle.command_words.specs.View as view;
@@ -85,6 +86,7 @@ fn replay_ready<F: Files>(
 ) -> Result<Checked, Halt>
     requires sized { IsSized job.now }
     requires captures { files_in feed.old.sources ≡ captures.now }
+    requires six { sixes_in feed.old.sources ≡ six_ports (function_of job.now.func.now) }
     requires new { feed.old.given ≡ 0 }
     requires most { feed.old.most ≡ job.now.command.now.most }
     requires all { length captures.now ≡ job.now.numbers.ports }
@@ -119,6 +121,7 @@ fn replay_named<F: Files>(
 ) -> Result<Checked, Halt>
     requires sized { IsSized job.now }
     requires captures { files_in feed.old.sources ≡ captures.now }
+    requires six { sixes_in feed.old.sources ≡ six_ports (function_of job.now.func.now) }
     requires new { feed.old.given ≡ 0 }
     requires most { feed.old.most ≡ job.now.command.now.most }
     requires all { length captures.now ≡ job.now.numbers.ports }
@@ -153,6 +156,7 @@ fn replay_fed<F: Files>(
 ) -> Result<Checked, Halt>
     requires sized { IsSized job.now }
     requires captures { files_in feed.old.sources ≡ captures.now }
+    requires six { sixes_in feed.old.sources ≡ six_ports (function_of job.now.func.now) }
     requires new { feed.old.given ≡ 0 }
     requires most { feed.old.most ≡ job.now.command.now.most }
     requires all { length captures.now ≡ job.now.numbers.ports }
@@ -202,7 +206,7 @@ fn replay_opened<F: Files>(
         (before : Outside) → IsJob before job.now → HasOpened before now job.now captures.now →
         ReplaysTo (asked job.now) before (seen (F.told files.new) (F.counted files.new)) result }
 {
-    match Feed::start(alloc, files, captures, job.command.most) {
+    match Feed::start(alloc, files, job.func, captures, job.command.most) {
         Ok(mut feed) => replay_fed(alloc, files, job, &mut feed, captures),
         Err(fault) => Err(unfed(job.numbers, captures, fault)),
     }

@@ -8,8 +8,7 @@ use Rattle.nf_base.specs.declared.state.State.{State}
 use Rattle.nf_files.specs.Told.{Told}
 use Rattle.packet_feed.specs.Arrivals.{Arrival}
 use Rattle.packet_feed.specs.Order.{in_order}
-use Rattle.packet_feed.specs.Told.{packets_of}
-use Rattle.packet_feed.specs.Sources.{files_in}
+use Rattle.packet_feed.specs.Sources.{files_in, sixes_in}
 use Rattle.packet_feed.specs.Feeding.{Feeding, shown, frame_of, original_of}
 use Rattle.packet_feed.specs.Ports.{is_of, AreFirstOfPorts}
 use Rattle.packet_feed.proofs.ByPort.{filter_same, first_of_ports}
@@ -36,6 +35,7 @@ use Rattle.replay_run.specs.Turns.{IsStarted, StandsIn, packets_at, IsNoneFor, I
 use Rattle.replay_run.specs.declared.lines.End.{End}
 use Rattle.replay_run.specs.declared.lines.End.TheVariants as end
 use Rattle.replay_run.proofs.Compared.{found_still}
+use Rattle.replay_run.proofs.Fetching.{same_packets}
 use Rattle.replay_run.proofs.Kept.{stands_while, by_port_while}
 use Rattle.replay_run.proofs.Runs.{same_next, none_next, lines_more}
 
@@ -117,10 +117,10 @@ started_in Shard start feed now h = h.in_order
 started_in Lock start feed now h = h.by_port
 
 -- what was given are the first packets
-pub first_in : (mode : Mode) (start : Told) (given : List Arrival) (feed begun : Feeding) (now : Told) → files_in feed.sources ≡ files_in begun.sources → StandsIn mode start given feed now → AreFirstIn mode (packets_at begun start) given
-first_in One start given feed begun now same h = first_given start given feed begun now same h
-first_in Shard start given feed begun now same h = first_given start given feed begun now same h
-first_in Lock start given feed begun now same h = subst (λ (fs : List ℕ). AreFirstOfPorts (packets_of fs start) given) same (first_of_ports start given feed.sources now h.sources)
+pub first_in : (mode : Mode) (start : Told) (given : List Arrival) (feed begun : Feeding) (now : Told) → files_in feed.sources ≡ files_in begun.sources → sixes_in feed.sources ≡ sixes_in begun.sources → StandsIn mode start given feed now → AreFirstIn mode (packets_at begun start) given
+first_in One start given feed begun now same sixes h = first_given start given feed begun now same sixes h
+first_in Shard start given feed begun now same sixes h = first_given start given feed begun now same sixes h
+first_in Lock start given feed begun now same sixes h = subst (λ (all : Option (List Arrival)). AreFirstOfPorts all given) (same_packets feed begun start same sixes) (first_of_ports start given feed.sources now h.sources)
 
 -- ---- what was reached
 
@@ -171,36 +171,36 @@ module _ (Run : RunKind) (heading : Heading) (ports : ℕ) (start : Told) (bytes
   beside = beside_of begun start bytes files first most
 
   pub right_of : (now : Told) (feed : Feeding) (journal : Reading) (file : ℕ) (found : List Comparing) (state : State)
-      → (r : Reaches Run heading ports start bytes first.rest feed journal file now found state) → files_in feed.sources ≡ files_in begun.sources → feed.given ≤ most → IsRight Run heading beside r.hs state
-  right_of now feed journal file found state r same within = record {
+      → (r : Reaches Run heading ports start bytes first.rest feed journal file now found state) → files_in feed.sources ≡ files_in begun.sources → sixes_in feed.sources ≡ sixes_in begun.sources → feed.given ≤ most → IsRight Run heading beside r.hs state
+  right_of now feed journal file found state r same sixes within = record {
     run = r.run;
     within = omega (arith, r.count, within);
     lines = r.are_lines;
-    first = first_in heading.mode start (map arrival_of r.hs) feed begun now same r.captures;
+    first = first_in heading.mode start (map arrival_of r.hs) feed begun now same sixes r.captures;
   }
 
   pub over_at : (old new : Told) (feed : Feeding) (journal : Reading) (file : ℕ) (held : List Comparing) (state : State)
-      → Reaches Run heading ports start bytes first.rest feed journal file old held state → files_in feed.sources ≡ files_in begun.sources → feed.given ≤ most
+      → Reaches Run heading ports start bytes first.rest feed journal file old held state → files_in feed.sources ≡ files_in begun.sources → sixes_in feed.sources ≡ sixes_in begun.sources → feed.given ≤ most
       → ((at : Option (List ℕ)) (lines : List JournalLine) → Stands at lines journal (old.rest file) → AreAllLines at lines)
       → ((k : ℕ) (c : Comparing) → slice_get held k ≡ Some c → new.rest c.file ≡ old.rest c.file)
       → IsOver Run heading ports beside first.rest new held state
-  over_at old new feed journal file held state r same within all outputs = record {
+  over_at old new feed journal file held state r same sixes within all outputs = record {
     hs = r.hs;
     journal_is = record {
-      right = right_of old feed journal file held state r same within;
+      right = right_of old feed journal file held state r same sixes within;
       whole = all bytes (journal_lines heading r.hs) r.lines;
     };
     compared = found_still (sent heading ports r.hs) first.rest held old new outputs r.compared;
   }
 
   pub too_many_at : (old : Told) (feed : Feeding) (journal : Reading) (file : ℕ) (held : List Comparing) (state : State)
-      → Reaches Run heading ports start bytes first.rest feed journal file old held state → files_in feed.sources ≡ files_in begun.sources → feed.given ≡ most
+      → Reaches Run heading ports start bytes first.rest feed journal file old held state → files_in feed.sources ≡ files_in begun.sources → sixes_in feed.sources ≡ sixes_in begun.sources → feed.given ≡ most
       → ((at : Option (List ℕ)) (lines : List JournalLine) → Stands at lines journal (old.rest file) → AreMoreLines at lines)
       → IsTooMany Run heading beside
-  too_many_at old feed journal file held state r same as_many more = record {
+  too_many_at old feed journal file held state r same sixes as_many more = record {
     hs = r.hs;
     state = state;
-    right = right_of old feed journal file held state r same (omega (arith, as_many));
+    right = right_of old feed journal file held state r same sixes (omega (arith, as_many));
     count = r.count ∙ as_many;
     more = more bytes (journal_lines heading r.hs) r.lines;
   }
@@ -241,44 +241,44 @@ module _ (Run : RunKind) (heading : Heading) (ports : ℕ) (start : Told) (bytes
   read_beside = beside_of begun start bytes files first most
 
   pub wrong_at : (old : Told) (feed : Feeding) (journal : Reading) (file : ℕ) (held : List Comparing) (state : State) (number : ℕ)
-      → Reaches Run heading ports start bytes first.rest feed journal file old held state → files_in feed.sources ≡ files_in begun.sources → feed.given < most → number ≡ feed.given + 2
+      → Reaches Run heading ports start bytes first.rest feed journal file old held state → files_in feed.sources ≡ files_in begun.sources → sixes_in feed.sources ≡ sixes_in begun.sources → feed.given < most → number ≡ feed.given + 2
       → ((at : Option (List ℕ)) (lines : List JournalLine) → Stands at lines journal (old.rest file) → journals.IsWrong at lines)
       → IsFirstWrong Run heading read_beside number
-  wrong_at old feed journal file held state number r same fewer is wrong = record {
+  wrong_at old feed journal file held state number r same sixes fewer is wrong = record {
     hs = r.hs;
     state = state;
-    right = right_of Run heading ports start bytes begun files first most old feed journal file held state r same (omega (arith, fewer));
+    right = right_of Run heading ports start bytes begun files first most old feed journal file held state r same sixes (omega (arith, fewer));
     fewer = omega (arith, fewer, r.count);
     number = omega (arith, is, r.count);
     wrong = no_line_wrong Run heading (packets_at begun start) r.hs bytes (wrong bytes (journal_lines heading r.hs) r.lines);
   }
 
   pub wrong_turn : (old mid : Told) (feed : Feeding) (journal read : Reading) (file : ℕ) (held : List Comparing) (state : State) (line : JournalLine) (number : ℕ)
-      → Reaches Run heading ports start bytes first.rest feed journal file old held state → files_in feed.sources ≡ files_in begun.sources → feed.given < most → number ≡ feed.given + 2
+      → Reaches Run heading ports start bytes first.rest feed journal file old held state → files_in feed.sources ≡ files_in begun.sources → sixes_in feed.sources ≡ sixes_in begun.sources → feed.given < most → number ≡ feed.given + 2
       → ((at : Option (List ℕ)) (lines : List JournalLine) → Stands at lines journal (old.rest file) → IsLine line × Stands at (lines ++ line ∷ []) read (mid.rest file))
       → ((port f : ℕ) → slice_get (files_in feed.sources) port ≡ Some f → mid.rest f ≡ old.rest f)
       → ((before : Told) (hs : List Handled) → Run hs state → StandsIn heading.mode before (map arrival_of hs) feed mid → NoneGoesOn Run heading.mode (packets_at feed before) hs (λ l. l ≡ line))
       → IsFirstWrong Run heading read_beside number
-  wrong_turn old mid feed journal read file held state line number r same fewer is gives captures none = record {
+  wrong_turn old mid feed journal read file held state line number r same sixes fewer is gives captures none = record {
     hs = r.hs;
     state = state;
-    right = right_of Run heading ports start bytes begun files first most old feed journal file held state r same (omega (arith, fewer));
+    right = right_of Run heading ports start bytes begun files first most old feed journal file held state r same sixes (omega (arith, fewer));
     fewer = omega (arith, fewer, r.count);
     number = omega (arith, is, r.count);
     wrong =
         let on = gives bytes (journal_lines heading r.hs) r.lines in
         let no = none start r.hs r.run (stands_in_while heading.mode start (map arrival_of r.hs) feed old mid captures r.captures) in
         line_wrong Run heading (packets_at begun start) r.hs bytes (mid.rest file) line read on.0 on.1
-        (subst (λ (fs : List ℕ). NoneGoesOn Run heading.mode (packets_of fs start) r.hs (λ l. l ≡ line)) same no);
+        (subst (λ (all : Option (List Arrival)). NoneGoesOn Run heading.mode all r.hs (λ l. l ≡ line)) (same_packets feed begun start same sixes) no);
   }
 
   -- as many lines as were asked for were read
   pub ends_at : (E : Type 0) (old new : Told) (feed : Feeding) (journal : Reading) (file : ℕ) (held : List Comparing) (state : State) (result : Result End E)
-      → Reaches Run heading ports start bytes first.rest feed journal file old held state → files_in feed.sources ≡ files_in begun.sources → feed.given ≡ most
+      → Reaches Run heading ports start bytes first.rest feed journal file old held state → files_in feed.sources ≡ files_in begun.sources → sixes_in feed.sources ≡ sixes_in begun.sources → feed.given ≡ most
       → ((at : Option (List ℕ)) (lines : List JournalLine) → Stands at lines journal (old.rest file) → IsEnd at lines result) → IsNotWrong result
       → ((k : ℕ) (c : Comparing) → slice_get held k ≡ Some c → new.rest c.file ≡ old.rest c.file)
       → Reads Run heading ports read_beside first.rest new held state result
-  ends_at E old new feed journal file held state (Ok end.Over) r same as_many ends right outputs = over_at Run heading ports start bytes begun files first most old new feed journal file held state r same (omega (arith, as_many)) ends outputs
-  ends_at E old new feed journal file held state (Ok end.TooMany) r same as_many ends right outputs = too_many_at Run heading ports start bytes begun files first most old feed journal file held state r same as_many ends
-  ends_at E old new feed journal file held state (Ok (end.Wrong line)) r same as_many ends right outputs = absurd right
-  ends_at E old new feed journal file held state (Err e) r same as_many ends right outputs = tt
+  ends_at E old new feed journal file held state (Ok end.Over) r same sixes as_many ends right outputs = over_at Run heading ports start bytes begun files first most old new feed journal file held state r same sixes (omega (arith, as_many)) ends outputs
+  ends_at E old new feed journal file held state (Ok end.TooMany) r same sixes as_many ends right outputs = too_many_at Run heading ports start bytes begun files first most old feed journal file held state r same sixes as_many ends
+  ends_at E old new feed journal file held state (Ok (end.Wrong line)) r same sixes as_many ends right outputs = absurd right
+  ends_at E old new feed journal file held state (Err e) r same sixes as_many ends right outputs = tt

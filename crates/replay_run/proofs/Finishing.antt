@@ -13,7 +13,6 @@ use Rattle.file_match.specs.Comparing.{Comparing, IsOtherIfTold}
 use Rattle.replay_run.specs.Outputs.{AreToldBelow, IsLeastOther}
 use Rattle.journal_read.specs.Journals.{Reading}
 use Rattle.stream_run.specs.declared.stop.Stop.{Stop}
-use Rattle.stream_run.specs.Runs.{Handled}
 use Rattle.replay_run.specs.Replaying.{RunKind, IsRun, IsJournal, Replays, Finishes, AreSent, IsLeastUnsent, sent}
 use Rattle.replay_run.specs.Turns.{Begins, Reads, IsOver, rest_at, beside_of}
 use Rattle.replay_run.specs.declared.lines.End.{End}

@@ -1,12 +1,12 @@
 -- The first line of a journal.
-use Rattle.std.proofs.Common.{◌≡◌, ◌≢◌, ℕ, ◌<◌, List, [], ◌∷◌, ◌++◌, map, Option, Some, None, Result, Ok, Err, inl, inr, refl, sym, ap, ◌∙◌, subst, append_assoc, append-nil, arith}
+use Rattle.std.proofs.Common.{◌≡◌, ℕ, ◌<◌, List, [], ◌∷◌, ◌++◌, map, Option, Some, None, Result, Ok, Err, inl, inr, sym, ap, ◌∙◌, subst, append_assoc, append-nil, arith}
 use Rattle.nf_base.specs.declared.keys.Keys.{Keys}
 use Rattle.nf_base.specs.declared.state.State.{State}
 use Rattle.nf_base.specs.Text.{Function}
 use Rattle.packet_feed.specs.Arrivals.{Arrival}
 use Rattle.run_history.specs.Headings.{Heading, IsHeading}
 use Rattle.run_history.specs.declared.line.Mode.{Mode}
-use Rattle.run_history.specs.declared.line.Mode.TheVariants.{One, Shard, Lock}
+use Rattle.run_history.specs.declared.line.Mode.TheVariants.{One}
 use Rattle.run_history.specs.declared.line.JournalLine.{JournalLine}
 use Rattle.run_history.specs.declared.line.JournalLine.TheVariants.{Header, Packet}
 use Rattle.run_history.specs.Line.{line_bytes}
@@ -19,7 +19,7 @@ use Rattle.nf_files.specs.Told.{IsToldAs}
 use Rattle.file_match.specs.Comparing.{IsOtherIfTold}
 use Rattle.replay_run.specs.Queues.{keys_or_none, IsKeyedBy}
 use Rattle.replay_run.specs.Replaying.{RunKind, Beside, IsRun, AreFirstIn, IsWrong, IsRight, IsJournal, Replays, AreSent, journal_lines, sent}
-use Rattle.replay_run.specs.Heads.{HasNoHeaderFor, HeadsFor, IsHeaded, Comes}
+use Rattle.replay_run.specs.Heads.{HasNoHeaderFor, IsHeaded, Comes}
 use Rattle.replay_run.specs.declared.replayed.Replayed.{Replayed}
 use Rattle.replay_run.specs.declared.replayed.Replayed.TheVariants.{Same, TooMany, Line, Output}
 

@@ -1,23 +1,21 @@
 -- Capture order keeps the packets of each port in their order.
-use Rattle.std.proofs.Common.{◌≡◌, ◌≢◌, ℕ, ◌+◌, ◌<◌, ◌≤◌, ◌==◌, max, Bool, true, false, cond, List, [], ◌∷◌, ◌++◌, length, filter, Option, Some, None, inl, inr, refl, sym, ap, ◌∙◌, subst, append_assoc, append-nil, arith}
+use Rattle.std.proofs.Common.{◌≡◌, ◌≢◌, ℕ, ◌+◌, ◌<◌, ◌≤◌, ◌==◌, max, Bool, true, false, cond, List, [], ◌∷◌, ◌++◌, filter, Option, Some, None, inl, inr, refl, sym, ap, ◌∙◌, subst, append-nil, arith}
 use Rattle.std.specs.List.{AllByRecursion}
 use Rattle.std.specs.Option.{option_map}
-use Rattle.std.proofs.lemmas.Bool.{eq-eqb, ne_eqb, cases_eq}
+use Rattle.std.proofs.lemmas.Bool.{cases_eq}
 use Rattle.std.proofs.lemmas.List.Elements.{filter-append}
-use Rattle.std.proofs.lemmas.Option.{same_Some}
 use Rattle.nf_base.specs.Orders.{comes_before}
+use Rattle.nf_base.specs.Doors.{six_at}
 use Rattle.nf_files.specs.Told.{Told}
 use Rattle.pcap_file.specs.declared.form.TimeUnit.{TimeUnit}
 use Rattle.pcap_file.specs.Record.{Record, time_of}
 use Rattle.pcap_file.specs.Capture.{Capture, capture_of}
 use Rattle.packet_feed.specs.Arrivals.{Arrival, arrival_of, arrivals_from}
 use Rattle.packet_feed.specs.Order.{put_in, in_order}
-use Rattle.packet_feed.specs.Told.{both, gathered, packets_in, packets_of}
-use Rattle.packet_feed.specs.Ports.{is_of, AreFirstOfPorts}
-use Rattle.packet_feed.proofs.Gathering.{AllIn}
+use Rattle.packet_feed.specs.Told.{both, gathered, packets_in}
+use Rattle.packet_feed.specs.Ports.{is_of}
 use Rattle.packet_feed.proofs.Ordering.{IsEarly, IsBehind}
 use Rattle.packet_feed.proofs.Streaming.{came_at, came_in, came_as, all_behind}
-use Rattle.stream_run.specs.Streaming.{AreFirst}
 use Rattle.replay_run.specs.Laws.{FirstAreOfPorts, OthersMayBeFirst, NoneIsPassedOver}
 use Rattle.replay_run.proofs.Ports.{keep_head, drop_head}
 
@@ -94,24 +92,24 @@ own_behind q (x ∷ xs) ys h k mine others = (
   own_behind q xs ys h.1 k mine.1 others,
 )
 
-own_from : (port : ℕ) (unit : TimeUnit) (seq latest : ℕ) (rs : List Record) → AreOwnOrdered (arrivals_from port unit seq latest rs)
-own_from port unit seq latest [] = tt
-own_from port unit seq latest (r ∷ rs) =
+own_from : (six : Bool) (port : ℕ) (unit : TimeUnit) (seq latest : ℕ) (rs : List Record) → AreOwnOrdered (arrivals_from six port unit seq latest rs)
+own_from six port unit seq latest [] = tt
+own_from six port unit seq latest (r ∷ rs) =
     let time = max latest (time_of unit r) in
-    let a = arrival_of port seq time r.original r.frame in
-    let t = came_at port seq time r.original r.frame in
-    let p = came_in port seq time r.original r.frame in
-    let n = came_as port seq time r.original r.frame in
+    let a = arrival_of six port seq time r.original r.frame in
+    let t = came_at six port seq time r.original r.frame in
+    let p = came_in six port seq time r.original r.frame in
+    let n = came_as six port seq time r.original r.frame in
     let early : IsEarly a.packet time port (seq + 1) = record { time_le = omega (arith, t); port_le = λ le. omega (arith, p); seq_lt = λ le lo. omega (arith, n) } in (
-      weaker (IsBehind a) (IsBeforeOwn a) (arrivals_from port unit (seq + 1) time rs) (λ x behind same. behind) (all_behind a port unit (seq + 1) time rs early),
-      own_from port unit (seq + 1) time rs,
+      weaker (IsBehind a) (IsBeforeOwn a) (arrivals_from six port unit (seq + 1) time rs) (λ x behind same. behind) (all_behind a six port unit (seq + 1) time rs early),
+      own_from six port unit (seq + 1) time rs,
     )
 
-ports_from : (port : ℕ) (unit : TimeUnit) (seq latest : ℕ) (rs : List Record) → AllByRecursion (λ (a : Arrival). a.packet.id.port ≡ port) (arrivals_from port unit seq latest rs)
-ports_from port unit seq latest [] = tt
-ports_from port unit seq latest (r ∷ rs) =
+ports_from : (six : Bool) (port : ℕ) (unit : TimeUnit) (seq latest : ℕ) (rs : List Record) → AllByRecursion (λ (a : Arrival). a.packet.id.port ≡ port) (arrivals_from six port unit seq latest rs)
+ports_from six port unit seq latest [] = tt
+ports_from six port unit seq latest (r ∷ rs) =
     let time = max latest (time_of unit r) in
-    (came_in port seq time r.original r.frame, ports_from port unit (seq + 1) time rs)
+    (came_in six port seq time r.original r.frame, ports_from six port unit (seq + 1) time rs)
 
 -- what one capture gives
 record IsOwn (port : ℕ) (xs : List Arrival) : Type 0 where
@@ -122,13 +120,13 @@ abbrev IsOwnIf : ℕ → Option (List Arrival) → Type 0
 IsOwnIf port None = Unit {0}
 IsOwnIf port (Some xs) = IsOwn port xs
 
-own_of : (port : ℕ) (c : Option Capture) → IsOwnIf port (option_map (λ (c : Capture). arrivals_from port c.form.unit 0 0 c.records) c)
-own_of port None = tt
-own_of port (Some c) = record { ordered = own_from port c.form.unit 0 0 c.records; ports = ports_from port c.form.unit 0 0 c.records }
+own_of : (six : Bool) (port : ℕ) (c : Option Capture) → IsOwnIf port (option_map (λ (c : Capture). arrivals_from six port c.form.unit 0 0 c.records) c)
+own_of six port None = tt
+own_of six port (Some c) = record { ordered = own_from six port c.form.unit 0 0 c.records; ports = ports_from six port c.form.unit 0 0 c.records }
 
-own_in : (port : ℕ) (bytes : Option (List ℕ)) → IsOwnIf port (packets_in port bytes)
-own_in port None = tt
-own_in port (Some bytes) = own_of port (capture_of bytes)
+own_in : (six : Bool) (port : ℕ) (bytes : Option (List ℕ)) → IsOwnIf port (packets_in six port bytes)
+own_in six port None = tt
+own_in six port (Some bytes) = own_of six port (capture_of bytes)
 
 -- what captures from a port on give
 record AreFromPort (port : ℕ) (xs : List Arrival) : Type 0 where
@@ -149,16 +147,16 @@ both_from port (Some u) (Some v) h k = record {
       (weaker (λ (a : Arrival). port + 1 ≤ a.packet.id.port) (λ (a : Arrival). port ≤ a.packet.id.port) v (λ x le. omega (arith, le)) k.ports);
 }
 
-gathered_from : (told : Told) (port : ℕ) (files : List ℕ) → AreFromPortIf port (gathered (λ (p : ℕ) (file : ℕ). packets_in p (told.rest file)) port files)
-gathered_from told port [] = record { ordered = tt; ports = tt }
-gathered_from told port (file ∷ files) =
-    both_from port (packets_in port (told.rest file)) (gathered (λ (p : ℕ) (file : ℕ). packets_in p (told.rest file)) (port + 1) files) (own_in port (told.rest file)) (gathered_from told (port + 1) files)
+gathered_from : (six : List Bool) (told : Told) (port : ℕ) (files : List ℕ) → AreFromPortIf port (gathered (λ (p : ℕ) (file : ℕ). packets_in (six_at six p) p (told.rest file)) port files)
+gathered_from six told port [] = record { ordered = tt; ports = tt }
+gathered_from six told port (file ∷ files) =
+    both_from port (packets_in (six_at six port) port (told.rest file)) (gathered (λ (p : ℕ) (file : ℕ). packets_in (six_at six p) p (told.rest file)) (port + 1) files) (own_in (six_at six port) port (told.rest file)) (gathered_from six told (port + 1) files)
 
 -- ---- the laws
 
 pub first_are : FirstAreOfPorts
-first_are files told all given is first = λ port.
-    let from : AreFromPort 0 all = subst (AreFromPortIf 0) is (gathered_from told 0 files) in (
+first_are six files told all given is first = λ port.
+    let from : AreFromPort 0 all = subst (AreFromPortIf 0) is (gathered_from six told 0 files) in (
       filter (is_of port) first.0,
       sym (order_keeps port all from.ordered) ∙ ap (filter (is_of port)) first.1 ∙ filter-append (is_of port) given first.0,
     )

@@ -1,5 +1,5 @@
 -- What a run leaves is what a replay takes for right.
-use Rattle.std.specs.Prelude.{◌≡◌, ◌≢◌, ◌%◌, ◌<◌, ◌≤◌, ℕ, List, [], ◌∷◌, length, map, Option, Some, Ok}
+use Rattle.std.specs.Prelude.{◌≡◌, ◌≢◌, ◌%◌, ◌<◌, ◌≤◌, ℕ, Bool, List, [], ◌∷◌, length, map, Option, Some, Ok}
 use Rattle.std.specs.List.{AllByRecursion}
 use Rattle.nf_base.specs.declared.keys.Keys.{Keys}
 use Rattle.nf_base.specs.declared.done.Done.{Done}
@@ -99,8 +99,8 @@ TakenAreShardRuns = (f : Function) (keys : Keys) (workers : ℕ) (hs : List Hand
 
 -- The first packets of captures in capture order are the first ones of each port.
 abbrev pub FirstAreOfPorts : Type 0
-FirstAreOfPorts = (files : List ℕ) (told : Told) (all given : List Arrival) →
-    packets_of files told ≡ Some all → AreFirst (Some all) given → AreFirstOfPorts (Some all) given
+FirstAreOfPorts = (six : List Bool) (files : List ℕ) (told : Told) (all given : List Arrival) →
+    packets_of six files told ≡ Some all → AreFirst (Some all) given → AreFirstOfPorts (Some all) given
 
 -- A packet of another port may come before it in capture order, ..
 abbrev pub OthersMayBeFirst : Type 0

@@ -7,7 +7,7 @@ use Rattle.nf_base.specs.declared.state.State.{State}
 use Rattle.nf_files.specs.Told.{Told}
 use Rattle.packet_feed.specs.Arrivals.{Arrival}
 use Rattle.packet_feed.specs.Told.{packets_of}
-use Rattle.packet_feed.specs.Sources.{files_in}
+use Rattle.packet_feed.specs.Sources.{files_in, sixes_in}
 use Rattle.packet_feed.specs.Feeding.{Feeding, StandsFor, AreAll, IsShown, shown}
 use Rattle.packet_feed.specs.Ports.{StandsByPort, AreAllOf}
 use Rattle.run_history.specs.Headings.{Heading}
@@ -47,7 +47,7 @@ StandsIn Lock start given feed now = StandsByPort start given feed now
 
 -- the packets of the captures at a start, in the order of their ports
 abbrev pub packets_at : Feeding → Told → Option (List Arrival)
-packets_at feed start = packets_of (files_in feed.sources) start
+packets_at feed start = packets_of (sixes_in feed.sources) (files_in feed.sources) start
 
 -- no packet comes that could have this line
 abbrev pub IsNoneFor : Mode → JournalLine → Option (List Arrival) → List Arrival → Type 0

@@ -2,10 +2,11 @@
 ghost use Rattle.std.specs.Prelude.{◌≡◌, ◌^◌, ◌≢◌, ◌≤◌, ◌++◌, ◌∷◌, [], ◌<◌, ℕ, List, Option, Some, true, length, slice_get, IfSome};
 ghost use Rattle.std.specs.List.{All};
 ghost use Rattle.nf_base.specs.Functions.{function_of};
+ghost use Rattle.nf_base.specs.Doors.{six_ports};
 ghost use Rattle.nf_files.specs.Told.{Told};
 ghost use Rattle.nf_files.specs.Reads.{Keeps};
 ghost use Rattle.packet_feed.specs.Told.{EachFile, IsApart, KeepsOthers};
-ghost use Rattle.packet_feed.specs.Sources.{files_in};
+ghost use Rattle.packet_feed.specs.Sources.{files_in, sixes_in};
 ghost use Rattle.run_history.specs.declared.line.JournalLine.{JournalLine};
 ghost use Rattle.rss_table.specs.Tables.{even_table};
 ghost use Rattle.file_match.specs.Comparing.{Comparing};
@@ -111,6 +112,7 @@ pub(crate) fn read_lines<F: Files>(
         IsRun (function_of func.now) (keys_in keys) heading [] judge.old.tables.state }
     requires captures { files_in feed.old.sources ≡ captures.now }
     requires ports { length captures.now ≡ length func.now.handlers }
+    requires six { sixes_in feed.old.sources ≡ six_ports (function_of func.now) }
     requires new { feed.old.given ≡ 0 }
     requires most { feed.old.most ≡ most }
     requires read { EachFile (F.is_read files.old) captures.now }

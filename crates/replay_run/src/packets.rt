@@ -1,7 +1,7 @@
 //! The packets that the lines of a journal are of.
 ghost use Rattle.std.specs.Prelude.{◌≡◌, ◌^◌, ◌<◌, ℕ, [], length};
 ghost use Rattle.packet_feed.specs.Told.{EachFile, KeepsOthers};
-ghost use Rattle.packet_feed.specs.Sources.{files_in};
+ghost use Rattle.packet_feed.specs.Sources.{files_in, sixes_in};
 ghost use Rattle.run_history.specs.declared.line.Mode.TheVariants.{One, Lock};
 ghost use Rattle.stream_run.specs.Writing.{IsStopCause, StopsAmong};
 ghost use Rattle.replay_run.specs.Turns.{Fetches, CountsOne};
@@ -26,6 +26,7 @@ fn next_of_all<F: Files>(
     ensures fetches { Fetches One line.now feed.old feed.new (F.told files.old) (F.told files.new) result }
     ensures counts { CountsOne feed.old feed.new result }
     ensures same_captures { files_in feed.new.sources ≡ files_in feed.old.sources }
+    ensures same_six { sixes_in feed.new.sources ≡ sixes_in feed.old.sources }
     ensures same_most { feed.new.most ≡ feed.old.most }
     ensures kept { KeepsOthers captures.now (F.told files.old) (F.told files.new) }
     ensures cause { IsStopCause (F.counted files.old) (F.counted files.new) result }
@@ -54,6 +55,7 @@ fn next_of_port<F: Files>(
     ensures fetches { Fetches Lock line.now feed.old feed.new (F.told files.old) (F.told files.new) result }
     ensures counts { CountsOne feed.old feed.new result }
     ensures same_captures { files_in feed.new.sources ≡ files_in feed.old.sources }
+    ensures same_six { sixes_in feed.new.sources ≡ sixes_in feed.old.sources }
     ensures same_most { feed.new.most ≡ feed.old.most }
     ensures kept { KeepsOthers captures.now (F.told files.old) (F.told files.new) }
     ensures cause { IsStopCause (F.counted files.old) (F.counted files.new) result }
@@ -90,6 +92,7 @@ pub(crate) fn packet_for<F: Files>(
     ensures fetches { Fetches mode line.now feed.old feed.new (F.told files.old) (F.told files.new) result }
     ensures counts { CountsOne feed.old feed.new result }
     ensures same_captures { files_in feed.new.sources ≡ files_in feed.old.sources }
+    ensures same_six { sixes_in feed.new.sources ≡ sixes_in feed.old.sources }
     ensures same_most { feed.new.most ≡ feed.old.most }
     ensures kept { KeepsOthers captures.now (F.told files.old) (F.told files.new) }
     ensures cause { IsStopCause (F.counted files.old) (F.counted files.new) result }

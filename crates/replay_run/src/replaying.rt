@@ -1,10 +1,11 @@
 //! A journal and outputs, replayed.
 ghost use Rattle.std.specs.Prelude.{◌≡◌, ◌↔◌, ◌^◌, ◌<◌, ◌≤◌, ◌++◌, ◌∷◌, [], ℕ, List, Option, IsTrue, length, IfOk, IfSome};
 ghost use Rattle.nf_base.specs.Functions.{function_of};
+ghost use Rattle.nf_base.specs.Doors.{six_ports};
 ghost use Rattle.nf_files.specs.Told.{Told};
 ghost use Rattle.nf_files.specs.Reads.{Keeps};
 ghost use Rattle.packet_feed.specs.Told.{EachFile, IsApart, KeepsOthers};
-ghost use Rattle.packet_feed.specs.Sources.{files_in};
+ghost use Rattle.packet_feed.specs.Sources.{files_in, sixes_in};
 ghost use Rattle.run_history.specs.Headings.{IsHeading};
 ghost use Rattle.rss_table.specs.Tables.{even_table};
 ghost use Rattle.journal_read.specs.Journals.{Stands};
@@ -88,6 +89,7 @@ fn replay_with<F: Files>(
     requires keys { IfSome keys (λ k. length func.now.handlers ≤ length k.now.ports) }
     requires captures { files_in feed.old.sources ≡ captures.now }
     requires ports { length captures.now ≡ length func.now.handlers }
+    requires six { sixes_in feed.old.sources ≡ six_ports (function_of func.now) }
     requires new { feed.old.given ≡ 0 }
     requires most { feed.old.most ≡ most }
     requires read { EachFile (F.is_read files.old) captures.now }
@@ -216,6 +218,7 @@ pub fn replay<F: Files>(
     requires keys { IfSome keys (λ k. length func.now.handlers ≤ length k.now.ports) }
     requires captures { files_in feed.old.sources ≡ captures.now }
     requires ports { length captures.now ≡ length func.now.handlers }
+    requires six { sixes_in feed.old.sources ≡ six_ports (function_of func.now) }
     requires new { feed.old.given ≡ 0 }
     requires most { feed.old.most ≡ most }
     requires read { EachFile (F.is_read files.old) captures.now }

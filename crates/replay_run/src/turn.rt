@@ -1,9 +1,10 @@
 //! One line of a journal, and its packet.
 ghost use Rattle.std.specs.Prelude.{◌≡◌, ◌^◌, ◌<◌, ◌≤◌, ◌+◌, ◌++◌, ℕ, Ok, true, length, IfSome};
 ghost use Rattle.nf_base.specs.Functions.{function_of};
+ghost use Rattle.nf_base.specs.Doors.{six_ports};
 ghost use Rattle.nf_engine.specs.View.{fixed_of};
 ghost use Rattle.packet_feed.specs.Told.{EachFile, IsApart, KeepsOthers};
-ghost use Rattle.packet_feed.specs.Sources.{files_in};
+ghost use Rattle.packet_feed.specs.Sources.{files_in, sixes_in};
 ghost use Rattle.rss_table.specs.Tables.{even_table};
 ghost use Rattle.stream_run.specs.Writing.{IsStopCause, StopsAmong};
 ghost use Rattle.replay_run.specs.Outputs.{files_of};
@@ -60,6 +61,7 @@ pub(crate) fn one_turn<F: Files>(
     requires some { 0 < judge.old.heading.workers }
     requires captures { files_in feed.old.sources ≡ captures.now }
     requires ports { length captures.now ≡ length func.now.handlers }
+    requires six { sixes_in feed.old.sources ≡ six_ports (function_of func.now) }
     requires room { feed.old.given < feed.old.most }
     requires read { EachFile (F.is_read files.old) captures.now }
     requires opened { EachFile (F.is_read files.old) (files_of outputs.old) }
@@ -74,6 +76,7 @@ pub(crate) fn one_turn<F: Files>(
     ensures same_heading { judge.new.heading ≡ judge.old.heading }
     ensures same_outputs { files_of outputs.new ≡ files_of outputs.old }
     ensures same_captures { files_in feed.new.sources ≡ files_in feed.old.sources }
+    ensures same_six { sixes_in feed.new.sources ≡ sixes_in feed.old.sources }
     ensures same_most { feed.new.most ≡ feed.old.most }
     ensures counts { Counts feed.old feed.new result }
     ensures kept { let all = captures.now ++ files_of outputs.old in

@@ -1,8 +1,10 @@
 //! Calls on files, feeds, journals and outputs. They promise what further calls ask for and no more: what the answers
 //! are is compared, and not proved.
 ghost use Rattle.std.specs.Prelude.{◌≡◌, ◌≤◌, ◌+◌, ◌^◌, ◌∷◌, ◌++◌, ℕ, List, take, drop, length, slice_get, Some, IfOk, IfSome};
+ghost use Rattle.nf_base.specs.Doors.{six_ports};
+ghost use Rattle.nf_base.specs.Functions.{function_of};
 ghost use Rattle.packet_feed.specs.Told.{EachFile, IsApart};
-ghost use Rattle.packet_feed.specs.Sources.{files_in};
+ghost use Rattle.packet_feed.specs.Sources.{files_in, sixes_in};
 
 use nf_base::func::Func;
 use nf_base::keys::Keys;
@@ -34,18 +36,21 @@ pub fn open_all<F: Files>(
 pub fn start<F: Files>(
     alloc: Global,
     files: &mut F,
+    func: &Func,
     captures: &[u32],
     most: u32,
 ) -> Result<Feed, FeedFault>
     requires readable { EachFile (F.is_read files.old) captures.now }
     requires apart { IsApart captures.now }
     requires ports { length captures.now ≤ 2 ^ 32 }
+    requires ports_of { length captures.now ≡ length func.now.handlers }
     ensures files { IfOk result (λ feed. files_in feed.sources ≡ captures.now) }
+    ensures six { IfOk result (λ feed. sixes_in feed.sources ≡ six_ports (function_of func.now)) }
     ensures new { IfOk result (λ feed. feed.given ≡ 0) }
     ensures most { IfOk result (λ feed. feed.most ≡ most) }
     ensures reads { (g : ℕ) → F.is_read files.old g → F.is_read files.new g }
 {
-    Feed::start(alloc, files, captures, most)
+    Feed::start(alloc, files, func, captures, most)
 }
 
 /// Checks a journal and outputs beside captures.
@@ -63,6 +68,7 @@ pub fn check<F: Files>(
     requires keys { IfSome keys (λ k. length func.now.handlers ≤ length k.now.ports) }
     requires captures { files_in feed.old.sources ≡ captures.now }
     requires ports { length captures.now ≡ length func.now.handlers }
+    requires six { sixes_in feed.old.sources ≡ six_ports (function_of func.now) }
     requires new { feed.old.given ≡ 0 }
     requires most { feed.old.most ≡ most }
     requires read { EachFile (F.is_read files.old) captures.now }

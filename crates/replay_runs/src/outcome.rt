@@ -1,7 +1,9 @@
 //! Journals and outputs in memory, and what replaying them comes to.
 ghost use Rattle.std.specs.Prelude.{◌≡◌, ◌≤◌, ◌+◌, ◌∷◌, ◌++◌, ℕ, length, take, drop, IfSome};
+ghost use Rattle.nf_base.specs.Doors.{six_ports};
+ghost use Rattle.nf_base.specs.Functions.{function_of};
 ghost use Rattle.packet_feed.specs.Told.{EachFile, IsApart};
-ghost use Rattle.packet_feed.specs.Sources.{files_in};
+ghost use Rattle.packet_feed.specs.Sources.{files_in, sixes_in};
 
 use crate::calls::{check, open_all, start};
 use crate::verdict::keys_of;
@@ -103,7 +105,7 @@ fn replay_over<F: Files>(
         return Ok(());
     };
     let (captures, outputs) = ([*a, *b], [*x, *y]);
-    let mut feed = match start(alloc, files, &captures, most) {
+    let mut feed = match start(alloc, files, func, &captures, most) {
         Ok(feed) => feed,
         Err(fault) => {
             outcome.end = End::Unstarted(fault);
@@ -130,6 +132,7 @@ fn replay_opened<F: Files>(
     requires handlers { length func.now.handlers ≡ 2 }
     requires captures { files_in feed.old.sources ≡ captures.now }
     requires ports { length captures.now ≡ 2 }
+    requires six { sixes_in feed.old.sources ≡ six_ports (function_of func.now) }
     requires new { feed.old.given ≡ 0 }
     requires most { feed.old.most ≡ most }
     requires read { EachFile (F.is_read files.old) captures.now }

@@ -1,5 +1,5 @@
-//! The keys of ports with what they make of each byte, so that a packet is hashed by 12 look-ups.
-ghost use Rattle.std.specs.Prelude.{◌≡◌, ◌<◌, ◌∷◌, ◌++◌, [], drop, length, IfOk, slice_index_or};
+//! The keys of ports with what they make of each byte, so that a packet is hashed by a look-up a byte.
+ghost use Rattle.std.specs.Prelude.{◌≡◌, ◌≤◌, ◌<◌, ◌∷◌, ◌++◌, [], drop, length, IfOk, slice_index_or};
 ghost use Rattle.toeplitz_hash.specs.Packets.{hash_of};
 ghost use Rattle.toeplitz_hash.specs.Toeplitz.{toeplitz_of};
 
@@ -11,7 +11,7 @@ use std::marker::Model;
 use toeplitz_hash::{input_of, toeplitz};
 
 /// How many bytes of a packet are hashed.
-const BYTES: usize = 12;
+const BYTES: usize = 36;
 
 /// A key, which contracts see as its bytes, and the hash of each byte at each place of an input.
 #[derive(Drop)]
@@ -45,7 +45,7 @@ impl KeyTable {
 
     /// The hash of an input under the key.
     fn hash(&self, input: &[u8]) -> u32
-        requires { length input.now ≡ 12 }
+        requires { length input.now ≤ 36 }
         ensures { result ≡ toeplitz_of self.now input.now }
     {
         let mut hash = 0;
@@ -58,7 +58,7 @@ impl KeyTable {
 
 /// The hash of a byte at a place of an input, where all other bytes are 0.
 fn hash_at(key: &[u8; 40], i: usize, byte: u8) -> u32
-    requires { i < 12 }
+    requires { i < 36 }
     ensures { result ≡ toeplitz_of (drop i key.now) (byte ∷ []) }
 {
     let mut input = [0u8; BYTES];
@@ -81,7 +81,7 @@ impl Model for Hasher {
 }
 
 impl Hasher {
-    /// Makes the tables of keys, 12 KiB each.
+    /// Makes the tables of keys, 36 KiB each.
     pub fn new(alloc: Global, keys: &Keys) -> Result<Hasher, AllocError>
         ensures { IfOk result (λ h. h ≡ keys.now) }
     {
@@ -102,7 +102,7 @@ impl Hasher {
             Some(fields) => Some(
                 self.ports
                     .item(packet.id.port as usize)
-                    .hash(&input_of(&fields)),
+                    .hash(input_of(&fields).as_slice()),
             ),
             None => None,
         }

@@ -1,6 +1,7 @@
 -- A run that was refused or stopped before it created anything.
 use Rattle.std.proofs.Common.{◌≡◌, inl, inr, ℕ, ◌+◌, ◌-◌, ◌<◌, ◌≤◌, List, [], ◌∷◌, length, map, Option, Some, None, slice_get, Ok, Err, refl, ap, sym, subst, ◌∙◌, arith}
 use Rattle.std.proofs.lemmas.Option.{slice_get_within}
+use Rattle.nf_base.specs.Doors.{six_ports}
 use Rattle.nf_base.specs.Functions.{function_of}
 use Rattle.nf_base.specs.Text.{Function}
 use Rattle.nf_files.specs.Told.{Told}
@@ -63,12 +64,13 @@ untouched_fed before a b job captures is h kept = record {
   standard = λ g lt. kept.givens g ∙ h.only.untouched.standard g lt;
 }
 
-pub has_fed : (before a b : Outside) (job : Job) (captures : List ℕ) (v : Feeding) → IsJob before.told job → HasOpened before a job captures → Starts captures (asked job).most a.told b.told (Ok v) → KeepsOthers captures a.told b.told → b.counted ≡ a.counted → HasFed before b job captures v
+pub has_fed : (before a b : Outside) (job : Job) (captures : List ℕ) (v : Feeding) → IsJob before.told job → HasOpened before a job captures → Starts captures (six_ports (function_of job.func.now)) (asked job).most a.told b.told (Ok v) → KeepsOthers captures a.told b.told → b.counted ≡ a.counted → HasFed before b job captures v
 has_fed before a b job captures v is h starts kept counted = record {
   start = a.told;
   rests = h.rests;
   stands = starts.0;
   files = starts.1;
+  six = starts.3;
   most = starts.2;
   next = kept.next_same ∙ h.next;
   all = h.all;
@@ -105,7 +107,7 @@ failed_at Refused before a b job captures port (Some file) is h untouched lesser
     }))
 
 -- captures could not be read
-pub is_unfed : (Refused : Type 0) (before a b : Outside) (job : Job) (captures : List ℕ) (fault : FeedFault) → IsJob before.told job → HasOpened before a job captures → Starts captures (asked job).most a.told b.told (Err fault) → KeepsOthers captures a.told b.told → feeding.IsCause {T = Unit {0}} a.counted b.counted captures (Err fault) → RunsTo Refused (asked job) before b (Err (unfed job.numbers captures fault))
+pub is_unfed : (Refused : Type 0) (before a b : Outside) (job : Job) (captures : List ℕ) (fault : FeedFault) → IsJob before.told job → HasOpened before a job captures → Starts captures (six_ports (function_of job.func.now)) (asked job).most a.told b.told (Err fault) → KeepsOthers captures a.told b.told → feeding.IsCause {T = Unit {0}} a.counted b.counted captures (Err fault) → RunsTo Refused (asked job) before b (Err (unfed job.numbers captures fault))
 is_unfed Refused before a b job captures (feed.NotCapture port) is h starts kept cause =
     (no_capture before a job captures port is h starts, record { untouched = untouched_fed before a b job captures is h kept; asked = cause ∙ h.only.asked })
 is_unfed Refused before a b job captures (feed.File port) is h starts kept cause = failed_at Refused before a b job captures port (slice_get captures port) is h (untouched_fed before a b job captures is h kept) starts refl cause

@@ -7,7 +7,7 @@ use Rattle.nf_base.specs.declared.keys.Keys.{Keys}
 use Rattle.packet_feed.specs.Arrivals.{Arrival}
 use Rattle.packet_feed.specs.Order.{in_order}
 use Rattle.packet_feed.specs.Told.{packets_of}
-use Rattle.packet_feed.specs.Sources.{files_in}
+use Rattle.packet_feed.specs.Sources.{files_in, sixes_in}
 use Rattle.packet_feed.specs.Feeding.{Feeding, first_tear, tears_in}
 use Rattle.run_history.specs.declared.line.Mode.TheVariants.{Shard, Lock}
 use Rattle.shard_core.specs.declared.collected.Stop.{Stop as ShareStop}
@@ -42,7 +42,7 @@ use Rattle.run_call.proofs.Sharing.{tables_of}
 
 -- ---- a run of the feed's packets is one that was asked for
 
-shards_of : (Refused : Type 0) (before old : Outside) (job : Job) (captures : List ℕ) (feed : Feeding) (keys : Keys) (r : Run) → IsJob before.told job → IsCourse (asked job) (function_of job.func.now) (course.Shards keys) → (h : HasFed before old job captures feed) → IsShardRun (function_of job.func.now) keys (asked job).workers r → length r.turns ≤ feed.most → AreFirst (packets_of (files_in feed.sources) h.start) (map arrival_in r.turns) → IsRunOf Refused (asked job) before.told (packets r) r
+shards_of : (Refused : Type 0) (before old : Outside) (job : Job) (captures : List ℕ) (feed : Feeding) (keys : Keys) (r : Run) → IsJob before.told job → IsCourse (asked job) (function_of job.func.now) (course.Shards keys) → (h : HasFed before old job captures feed) → IsShardRun (function_of job.func.now) keys (asked job).workers r → length r.turns ≤ feed.most → AreFirst (packets_of (sixes_in feed.sources) (files_in feed.sources) h.start) (map arrival_in r.turns) → IsRunOf Refused (asked job) before.told (packets r) r
 shards_of Refused before old job captures feed keys r is several h run within first = record {
   has_ports = subst (HasPorts (asked job) before.told) (sym run.function) is.has_ports;
   captures = all_captures before old job captures feed h;
@@ -54,7 +54,7 @@ shards_of Refused before old job captures feed keys r is several h run within fi
     given = subst (λ (f : Function). AreGiven f keys) (sym run.function) several.2;
     is_run = subst (λ (f : Function). IsShardRun f keys (asked job).workers r) (sym run.function) run;
     within = subst (λ (m : ℕ). length r.turns ≤ m) h.most within;
-    first = subst (λ (all : Option (List Arrival)). AreFirst all (map arrival_in r.turns)) (under before old job captures feed h) first;
+    first = subst (λ (all : Option (List Arrival)). AreFirst all (map arrival_in r.turns)) (under before old job captures feed feed r.function run.function refl refl h) first;
   }));
 }
 
@@ -102,10 +102,10 @@ begun_by : (Refused : Type 0) (before a : Outside) (job : Job) (captures : List 
 begun_by Refused before a job captures feed course.One is by h = begun_one Refused before a job captures feed is by.0 h
 begun_by Refused before a job captures feed (course.Shards keys) is by h =
     let f = function_of job.func.now in
-    (empty_run f (asked job).workers, shards_of Refused before a job captures feed keys (empty_run f (asked job).workers) is by h (empty_shards f keys (asked job).workers (omega (arith, by.0.0)) by.0.1) (omega arith) (none_first (packets_of (files_in feed.sources) h.start)))
+    (empty_run f (asked job).workers, shards_of Refused before a job captures feed keys (empty_run f (asked job).workers) is by h (empty_shards f keys (asked job).workers (omega (arith, by.0.0)) by.0.1) (omega arith) (none_first (packets_of (sixes_in feed.sources) (files_in feed.sources) h.start)))
 begun_by Refused before a job captures feed course.Tables is by h =
     let f = function_of job.func.now in
-    (lock_run f (asked job).workers, tables_of Refused before a job captures feed [] Lock (lock_run f (asked job).workers) is by h (empty_tables f (asked job).workers) (omega arith) (none_first (packets_of (files_in feed.sources) h.start)))
+    (lock_run f (asked job).workers, tables_of Refused before a job captures feed [] Lock (lock_run f (asked job).workers) is by h (empty_tables f (asked job).workers) (omega arith) (none_first (packets_of (sixes_in feed.sources) (files_in feed.sources) h.start)))
 
 pub begun : (Refused : Type 0) (before a : Outside) (job : Job) (captures : List ℕ) (feed : Feeding) → IsJob before.told job → HasFed before a job captures feed → (r : Run) × IsRunOf Refused (asked job) before.told (packets r) r
 begun Refused before a job captures feed is h = begun_by Refused before a job captures feed job.course.now is is.course h
@@ -118,7 +118,7 @@ pub shards_finished : (Refused : Type 0) (before a b : Outside) (job : Job) (cap
     → HasRun Refused before b job Shard ran.packets ran.state (end_of (asked job).most ran.ending (first_tear 0 (tears_in next.sources))) (ports_of job + 1) (ports_of job + 1)
 shards_finished Refused before a b job captures targets feed next keys ran is several h fin kept counted =
     let stands = ready_stands before a job captures targets feed h in
-    let run = shards_of Refused before h.old job captures feed keys fin.run is several h.fed fin.is_run fin.within (first_taken feed.most (packets_of (files_in feed.sources) h.fed.start) (map arrival_in fin.run.turns) (fin.packets h.fed.start stands)) in
+    let run = shards_of Refused before h.old job captures feed keys fin.run is several h.fed fin.is_run fin.within (first_taken feed.most (packets_of (sixes_in feed.sources) (files_in feed.sources) h.fed.start) (map arrival_in fin.run.turns) (fin.packets h.fed.start stands)) in
     record {
       arrivals = packets fin.run;
       run = fin.run;
@@ -126,7 +126,7 @@ shards_finished Refused before a b job captures targets feed next keys ran is se
       of_function = fin.is_run.function;
       mode_is = fin.is_run.mode;
       workers_are = fin.is_run.workers_are;
-      ending = ends_as before h.old job captures feed next ran.ending (packets fin.run) fin.run h.fed fin.same_files fin.same_most (fin.ending h.fed.start stands);
+      ending = ends_as before h.old job captures feed next ran.ending (packets fin.run) fin.run fin.is_run.function h.fed fin.same_files fin.same_six fin.same_most (fin.ending h.fed.start stands);
       files = left_ready before a b job captures targets feed fin.run (ports_of job + 1) is h run.has_ports kept
           (λ k file e. front_whole (file_bytes fin.run k) (b.told.given file) (fin.wholes k file e)) (omega arith) (λ k file lt e. fin.wholes k file e);
       count = fin.count;
@@ -145,7 +145,7 @@ shards_full Refused before a b job captures targets feed keys full said told is 
     let f = function_of job.func.now in
     let stands = ready_stands before a job captures targets feed h in
     let next = fin.packets h.fed.start stands in
-    let run = shards_of Refused before h.old job captures feed keys fin.run is several h.fed fin.is_run (omega (arith, fin.within)) (first_before (packets_of (files_in feed.sources) h.fed.start) (map arrival_in fin.run.turns) full.stop next) in
+    let run = shards_of Refused before h.old job captures feed keys fin.run is several h.fed fin.is_run (omega (arith, fin.within)) (first_before (packets_of (sixes_in feed.sources) (files_in feed.sources) h.fed.start) (map arrival_in fin.run.turns) full.stop next) in
     record {
       arrivals = packets fin.run;
       run = fin.run;
@@ -160,7 +160,7 @@ shards_full Refused before a b job captures targets feed keys full said told is 
           given = subst (λ (g : Function). AreGiven g keys) (sym fin.is_run.function) several.2;
           stop = full.stop;
           behind = subst (λ (g : Function). IsStopBehind g keys (asked job).workers fin.run full.stop) (sym fin.is_run.function) fin.stops;
-          next = subst (λ (all : Option (List Arrival)). AreBefore all (map arrival_in fin.run.turns) full.stop.packet) (under before h.old job captures feed h.fed) next;
+          next = subst (λ (all : Option (List Arrival)). AreBefore all (map arrival_in fin.run.turns) full.stop.packet) (under before h.old job captures feed feed fin.run.function fin.is_run.function refl refl h.fed) next;
           less = subst (λ (m : ℕ). length fin.run.turns < m) h.fed.most fin.within;
           said = subst (λ (g : Function). IsToldStop g full.stop said) (sym fin.is_run.function) told;
         },

@@ -1,10 +1,10 @@
 -- A run by several workers that share the tables.
-use Rattle.std.proofs.Common.{◌≡◌, ◌⊎◌, inl, inr, ℕ, ◌+◌, ◌≤◌, List, ◌++◌, length, Option, Err, sym, subst, ◌∙◌, arith}
+use Rattle.std.proofs.Common.{◌≡◌, ◌⊎◌, inl, inr, ℕ, ◌+◌, ◌≤◌, List, ◌++◌, length, Option, Err, refl, sym, subst, ◌∙◌, arith}
 use Rattle.nf_base.specs.Functions.{function_of}
 use Rattle.nf_base.specs.Text.{Function}
 use Rattle.packet_feed.specs.Arrivals.{Arrival}
 use Rattle.packet_feed.specs.Told.{packets_of}
-use Rattle.packet_feed.specs.Sources.{files_in}
+use Rattle.packet_feed.specs.Sources.{files_in, sixes_in}
 use Rattle.packet_feed.specs.Feeding.{Feeding, first_tear, tears_in}
 use Rattle.run_history.specs.declared.line.Mode.{Mode}
 use Rattle.run_history.specs.declared.line.Mode.TheVariants.{One, Shard, Lock}
@@ -48,7 +48,7 @@ mode_told One f workers Refused given r h = (h.1.mode, h.1.workers_are)
 mode_told Shard f workers Refused given r h = absurd h
 
 pub tables_of : (Refused : Type 0) (before old : Outside) (job : Job) (captures : List ℕ) (feed : Feeding) (arrivals : List Arrival) (mode : Mode) (r : Run) → IsJob before.told job → IsCourse (asked job) (function_of job.func.now) course.Tables → (h : HasFed before old job captures feed)
-    → IsRunIn mode (function_of job.func.now) (asked job).workers Refused arrivals r → length arrivals ≤ feed.most → AreFirst (packets_of (files_in feed.sources) h.start) arrivals → IsRunOf Refused (asked job) before.told arrivals r
+    → IsRunIn mode (function_of job.func.now) (asked job).workers Refused arrivals r → length arrivals ≤ feed.most → AreFirst (packets_of (sixes_in feed.sources) (files_in feed.sources) h.start) arrivals → IsRunOf Refused (asked job) before.told arrivals r
 tables_of Refused before old job captures feed arrivals mode r is several h run within first =
     let w = (asked job).workers in
     let of = sym (of_function mode (function_of job.func.now) w Refused arrivals r run) in
@@ -60,7 +60,7 @@ tables_of Refused before old job captures feed arrivals mode r is several h run 
         share = subst (ShareTables (asked job).mode) of several.1;
         is_run = subst (λ (f : Function). IsLockRun f w arrivals r ⊎ (Refused × IsLoneRun f w arrivals r)) of (either mode (function_of job.func.now) w Refused arrivals r run);
         within = subst (λ (m : ℕ). length arrivals ≤ m) h.most within;
-        first = subst (λ (all : Option (List Arrival)). AreFirst all arrivals) (under before old job captures feed h) first;
+        first = subst (λ (all : Option (List Arrival)). AreFirst all arrivals) (under before old job captures feed feed r.function (sym of) refl refl h) first;
       }));
     }
 
@@ -74,7 +74,7 @@ tables_finished Refused before a b job captures targets feed next came is severa
     let f = function_of job.func.now in
     let w = (asked job).workers in
     let stands = ready_stands before a job captures targets feed h in
-    let run = tables_of Refused before h.old job captures feed fin.given came.mode fin.run is several h.fed fin.is_run fin.within (first_taken feed.most (packets_of (files_in feed.sources) h.fed.start) fin.given (fin.packets h.fed.start stands)) in
+    let run = tables_of Refused before h.old job captures feed fin.given came.mode fin.run is several h.fed fin.is_run fin.within (first_taken feed.most (packets_of (sixes_in feed.sources) (files_in feed.sources) h.fed.start) fin.given (fin.packets h.fed.start stands)) in
     let told = mode_told came.mode f w Refused fin.given fin.run fin.is_run in
     record {
       arrivals = fin.given;
@@ -83,7 +83,7 @@ tables_finished Refused before a b job captures targets feed next came is severa
       of_function = of_function came.mode f w Refused fin.given fin.run fin.is_run;
       mode_is = told.0;
       workers_are = told.1;
-      ending = ends_as before h.old job captures feed next came.ran.ending fin.given fin.run h.fed fin.same_files fin.same_most (fin.ending h.fed.start stands);
+      ending = ends_as before h.old job captures feed next came.ran.ending fin.given fin.run (of_function came.mode f w Refused fin.given fin.run fin.is_run) h.fed fin.same_files fin.same_six fin.same_most (fin.ending h.fed.start stands);
       files = left_ready before a b job captures targets feed fin.run (ports_of job + 1) is h run.has_ports kept
           (λ k file e. front_whole (file_bytes fin.run k) (b.told.given file) (fin.wholes k file e)) (omega arith) (λ k file lt e. fin.wholes k file e);
       count = fin.count;

@@ -1,7 +1,8 @@
 -- From the captures' headers to the run of their packets.
-use Rattle.std.proofs.Common.{◌≡◌, ◌≢◌, inl, inr, ℕ, zero, suc, ◌+◌, ◌<◌, ◌≤◌, Bool, List, [], ◌∷◌, ◌++◌, length, Option, Some, None, slice_get, get_or, Err, option_map, if◌then◌else◌, refl, ap, sym, subst, ◌∙◌, arith, drop, take-append-drop}
+use Rattle.std.proofs.Common.{◌≡◌, ◌≢◌, inl, inr, ℕ, zero, suc, ◌+◌, ◌<◌, ◌≤◌, Bool, List, [], ◌∷◌, ◌++◌, length, Option, Some, None, slice_get, get_or, Err, option_map, if◌then◌else◌, refl, ap, ap₂, sym, subst, ◌∙◌, arith, drop, take-append-drop}
 use Rattle.std.proofs.lemmas.Bool.{le-leb}
 use Rattle.std.proofs.lemmas.Option.{slice_get_within, slice_get-get_or}
+use Rattle.nf_base.specs.Doors.{six_at, six_ports}
 use Rattle.nf_base.specs.Functions.{function_of}
 use Rattle.nf_base.specs.Text.{Function}
 use Rattle.nf_files.specs.Told.{Told, IsToldAs}
@@ -10,7 +11,7 @@ use Rattle.pcap_file.specs.Capture.{Capture, capture_of}
 use Rattle.packet_feed.specs.Arrivals.{Arrival}
 use Rattle.packet_feed.specs.Told.{both, gathered, packets_in, packets_of, IsTear, IsCapture}
 use Rattle.packet_feed.specs.Streams.{Stream, tear_in}
-use Rattle.packet_feed.specs.Sources.{files_in}
+use Rattle.packet_feed.specs.Sources.{files_in, sixes_in}
 use Rattle.packet_feed.specs.Feeding.{Feeding, StandsFor, AreAll, AreTorn, HasMore, first_tear, tears_in}
 use Rattle.packet_feed.proofs.Standing.{stands_among}
 use Rattle.stream_run.specs.Runs.{Run}
@@ -52,14 +53,14 @@ got_at [] k lt = absurd (omega (arith, lt))
 got_at (x ∷ xs) zero lt = (x, refl)
 got_at (x ∷ xs) (suc k) lt = got_at xs k (omega (arith, lt))
 
-same_packets : (start before : Told) (place : ℕ) (fs : List ℕ) (ns : List (List ℕ)) → length fs ≡ length ns → ((i f : ℕ) (n : List ℕ) → slice_get fs i ≡ Some f → slice_get ns i ≡ Some n → start.rest f ≡ before.content n)
-    → gathered (λ port file. packets_in port (start.rest file)) place fs ≡ gathered (λ port n. packets_in port (before.content n)) place ns
-same_packets start before place [] [] e h = refl
-same_packets start before place [] (n ∷ ns) e h = absurd (omega (arith, e))
-same_packets start before place (f ∷ fs) [] e h = absurd (omega (arith, e))
-same_packets start before place (f ∷ fs) (n ∷ ns) e h =
-    ap (λ (o : Option (List Arrival)). both o (gathered (λ port file. packets_in port (start.rest file)) (place + 1) fs)) (ap (packets_in place) (h 0 f n refl refl))
-    ∙ ap (λ (o : Option (List Arrival)). both (packets_in place (before.content n)) o) (same_packets start before (place + 1) fs ns (omega (arith, e)) (λ i g m p q. h (suc i) g m p q))
+same_packets : (six : List Bool) (start before : Told) (place : ℕ) (fs : List ℕ) (ns : List (List ℕ)) → length fs ≡ length ns → ((i f : ℕ) (n : List ℕ) → slice_get fs i ≡ Some f → slice_get ns i ≡ Some n → start.rest f ≡ before.content n)
+    → gathered (λ port file. packets_in (six_at six port) port (start.rest file)) place fs ≡ gathered (λ port n. packets_in (six_at six port) port (before.content n)) place ns
+same_packets six start before place [] [] e h = refl
+same_packets six start before place [] (n ∷ ns) e h = absurd (omega (arith, e))
+same_packets six start before place (f ∷ fs) [] e h = absurd (omega (arith, e))
+same_packets six start before place (f ∷ fs) (n ∷ ns) e h =
+    ap (λ (o : Option (List Arrival)). both o (gathered (λ port file. packets_in (six_at six port) port (start.rest file)) (place + 1) fs)) (ap (packets_in (six_at six place) place) (h 0 f n refl refl))
+    ∙ ap (λ (o : Option (List Arrival)). both (packets_in (six_at six place) place (before.content n)) o) (same_packets six start before (place + 1) fs ns (omega (arith, e)) (λ i g m p q. h (suc i) g m p q))
 
 -- what holds of the bytes of each capture's file holds of what stood under its name
 pub below_names : (P : Option (List ℕ) → Type 0) (start before : Told) (captures : List ℕ) (names : List (List ℕ)) (below : ℕ) → length captures ≡ length names → ((i f : ℕ) (n : List ℕ) → slice_get captures i ≡ Some f → slice_get names i ≡ Some n → start.rest f ≡ before.content n)
@@ -107,9 +108,9 @@ stands_created before old now job captures feed h rests = record {
 same_count : (before old : Outside) (job : Job) (captures : List ℕ) (feed : Feeding) → HasFed before old job captures feed → length captures ≡ length (asked job).captures
 same_count before old job captures feed h = h.all
 
-pub under : (before old : Outside) (job : Job) (captures : List ℕ) (feed : Feeding) → (h : HasFed before old job captures feed) → packets_of (files_in feed.sources) h.start ≡ packets_under (asked job).captures before.told
-under before old job captures feed h =
-    ap (λ (fs : List ℕ). packets_of fs h.start) h.files ∙ same_packets h.start before.told 0 captures (asked job).captures h.all h.rests
+pub under : (before old : Outside) (job : Job) (captures : List ℕ) (feed next : Feeding) (f : Function) → f ≡ function_of job.func.now → files_in next.sources ≡ files_in feed.sources → sixes_in next.sources ≡ sixes_in feed.sources → (h : HasFed before old job captures feed) → packets_of (sixes_in next.sources) (files_in next.sources) h.start ≡ packets_under f (asked job).captures before.told
+under before old job captures feed next f is files six h =
+    ap₂ (λ (ports : List Bool) (fs : List ℕ). packets_of ports fs h.start) (six ∙ h.six ∙ ap six_ports (sym is)) (files ∙ h.files) ∙ same_packets (six_ports f) h.start before.told 0 captures (asked job).captures h.all h.rests
 
 -- each capture is one
 pub all_captures : (before old : Outside) (job : Job) (captures : List ℕ) (feed : Feeding) → HasFed before old job captures feed → Below IsCapture before.told (asked job).captures (length (asked job).captures)
@@ -119,16 +120,16 @@ all_captures before old job captures feed h =
     subst (λ (g : ℕ). IsCapture (h.start.rest g)) s.2 (tear_capture (h.start.rest s.0.reading.file) _ (h.stands.sources.each p s.0 s.1).torn))
 
 -- a run of the feed's packets by one worker is one that was asked for
-run_of : (Refused : Type 0) (before old : Outside) (job : Job) (captures : List ℕ) (feed : Feeding) (r : Run) → IsJob before.told job → (asked job).workers ≡ 1 → (h : HasFed before old job captures feed) → IsOneRun (function_of job.func.now) feed.most (packets_of (files_in feed.sources) h.start) r → IsRunOf Refused (asked job) before.told (packets r) r
+run_of : (Refused : Type 0) (before old : Outside) (job : Job) (captures : List ℕ) (feed : Feeding) (r : Run) → IsJob before.told job → (asked job).workers ≡ 1 → (h : HasFed before old job captures feed) → IsOneRun (function_of job.func.now) feed.most (packets_of (sixes_in feed.sources) (files_in feed.sources) h.start) r → IsRunOf Refused (asked job) before.told (packets r) r
 run_of Refused before old job captures feed r is alone h one = record {
   has_ports = subst (HasPorts (asked job) before.told) (sym one.function) is.has_ports;
   captures = all_captures before old job captures feed h;
   handled = inl (record {
     alone = alone;
     order = refl;
-    is_run = subst (λ (f : Function). IsOneRun f (asked job).most (packets_under (asked job).captures before.told) r) (sym one.function)
-        (subst (λ (m : ℕ). IsOneRun (function_of job.func.now) m (packets_under (asked job).captures before.told) r) h.most
-        (subst (λ (all : Option (List Arrival)). IsOneRun (function_of job.func.now) feed.most all r) (under before old job captures feed h) one));
+    is_run = subst (λ (f : Function). IsOneRun f (asked job).most (packets_under r.function (asked job).captures before.told) r) (sym one.function)
+        (subst (λ (m : ℕ). IsOneRun (function_of job.func.now) m (packets_under r.function (asked job).captures before.told) r) h.most
+        (subst (λ (all : Option (List Arrival)). IsOneRun (function_of job.func.now) feed.most all r) (under before old job captures feed feed r.function one.function refl refl h) one));
   });
 }
 
@@ -173,7 +174,7 @@ tear_first port (s ∷ sources) = by_head port s sources (tear_in s.ahead) refl 
 
 -- the same of what stood under the captures' names
 tears_told : (before old : Outside) (job : Job) (captures : List ℕ) (feed next : Feeding) (packets : List Arrival) (tear : Option (ℕ × ℕ)) (run : Run) → (h : HasFed before old job captures feed) → files_in next.sources ≡ captures → AreTorn h.start next.sources → TearAt 0 next.sources tear
-    → AreAll (packets_under (asked job).captures before.told) packets → IsEndOf (asked job) before.told packets run (torn_end tear)
+    → AreAll (packets_under run.function (asked job).captures before.told) packets → IsEndOf (asked job) before.told packets run (torn_end tear)
 tears_told before old job captures feed next packets None run h files torn at all = (
   all,
   below_names (λ bytes. IsTear bytes (Some None)) h.start before.told captures (asked job).captures (length (asked job).captures) h.all h.rests (λ p f lt e.
@@ -197,16 +198,16 @@ tears_told before old job captures feed next packets (Some t) run h files torn a
       },
     )
 
-pub ends_as : (before old : Outside) (job : Job) (captures : List ℕ) (feed next : Feeding) (e : Ending) (arrivals : List Arrival) (run : Run) → (h : HasFed before old job captures feed) → files_in next.sources ≡ files_in feed.sources → next.most ≡ feed.most → EndsSo e next h.start arrivals → IsEndOf (asked job) before.told arrivals run (end_of (asked job).most e (first_tear 0 (tears_in next.sources)))
-ends_as before old job captures feed next ending.All arrivals run h files most ends =
+pub ends_as : (before old : Outside) (job : Job) (captures : List ℕ) (feed next : Feeding) (e : Ending) (arrivals : List Arrival) (run : Run) → run.function ≡ function_of job.func.now → (h : HasFed before old job captures feed) → files_in next.sources ≡ files_in feed.sources → sixes_in next.sources ≡ sixes_in feed.sources → next.most ≡ feed.most → EndsSo e next h.start arrivals → IsEndOf (asked job) before.told arrivals run (end_of (asked job).most e (first_tear 0 (tears_in next.sources)))
+ends_as before old job captures feed next ending.All arrivals run is h files six most ends =
     tears_told before old job captures feed next arrivals (first_tear 0 (tears_in next.sources)) run h (files ∙ h.files) ends.1 (tear_first 0 next.sources)
-    (subst (λ (all : Option (List Arrival)). AreAll all arrivals) (ap (λ (fs : List ℕ). packets_of fs h.start) files ∙ under before old job captures feed h) ends.0)
-ends_as before old job captures feed next ending.TooMany arrivals run h files most ends =
+    (subst (λ (all : Option (List Arrival)). AreAll all arrivals) (under before old job captures feed next run.function is files six h) ends.0)
+ends_as before old job captures feed next ending.TooMany arrivals run is h files six most ends =
     let long : length arrivals ≡ (asked job).most = ends.0 ∙ most ∙ h.most in (
       refl,
       long,
-      subst (λ (n : ℕ). HasMore (packets_under (asked job).captures before.told) n) long
-          (subst (λ (all : Option (List Arrival)). HasMore all (length arrivals)) (ap (λ (fs : List ℕ). packets_of fs h.start) files ∙ under before old job captures feed h) ends.1),
+      subst (λ (n : ℕ). HasMore (packets_under run.function (asked job).captures before.told) n) long
+          (subst (λ (all : Option (List Arrival)). HasMore all (length arrivals)) (under before old job captures feed next run.function is files six h) ends.1),
     )
 
 -- ---- the outputs and the journal of a run
@@ -273,7 +274,7 @@ run_finished Refused before a b job captures targets feed next ran is alone h fi
       of_function = one.function;
       mode_is = one.mode;
       workers_are = one.workers ∙ sym alone;
-      ending = ends_as before h.old job captures feed next ran.ending (packets fin.run) fin.run h.fed fin.same_files fin.same_most (fin.ending h.fed.start stands);
+      ending = ends_as before h.old job captures feed next ran.ending (packets fin.run) fin.run one.function h.fed fin.same_files fin.same_six fin.same_most (fin.ending h.fed.start stands);
       files = left_ready before a b job captures targets feed fin.run (ports_of job + 1) is h run.has_ports kept
           (λ k file e. front_whole (file_bytes fin.run k) (b.told.given file) (fin.wholes k file e)) (omega arith) (λ k file lt e. fin.wholes k file e);
       count = fin.count;
@@ -339,7 +340,7 @@ pub begun_one : (Refused : Type 0) (before a : Outside) (job : Job) (captures : 
 begun_one Refused before a job captures feed is alone h =
     let f = function_of job.func.now in
     let as_many : length (files_in feed.sources) ≡ length f.handlers = ap (λ (fs : List ℕ). length fs) h.files ∙ h.all ∙ is.has_ports.as_many in
-    let cut = cut_short f feed a.told a.told [] as_many (halts_none f (length f.handlers) feed a.told [] (λ k file e. absurd (cc e))) in
+    let cut = cut_short f feed a.told a.told [] as_many h.six (halts_none f (length f.handlers) feed a.told [] (λ k file e. absurd (cc e))) in
     let some = cut.lawful h.start h.stands in
     (some.run, run_of Refused before a job captures feed some.run is alone h some.is_run)
 

@@ -1,11 +1,12 @@
 -- How far a run came, before its end.
 use Rattle.std.specs.Prelude.{◌≡◌, ℕ, ◌+◌, ◌≤◌, List, [], ◌∷◌, ◌++◌, length, Option, Some, None, slice_get}
+use Rattle.nf_base.specs.Doors.{six_ports}
 use Rattle.nf_base.specs.Functions.{function_of}
 use Rattle.nf_base.specs.declared.done.Done.{Done}
 use Rattle.nf_base.specs.declared.state.State.{State}
 use Rattle.nf_files.specs.Told.{Told}
 use Rattle.nf_files.specs.Causes.{asking}
-use Rattle.packet_feed.specs.Sources.{files_in}
+use Rattle.packet_feed.specs.Sources.{files_in, sixes_in}
 use Rattle.packet_feed.specs.Feeding.{Feeding, StandsFor}
 use Rattle.stream_run.specs.Runs.{Run, course_of}
 use Rattle.stream_run.specs.declared.ending.Ending.{Ending}
@@ -72,12 +73,14 @@ pub record HasOpened (before now : Outside) (job : Job) (captures : List ℕ) : 
   pub rests : (i f : ℕ) (n : List ℕ) → slice_get captures i ≡ Some f → slice_get (asked job).captures i ≡ Some n → now.told.rest f ≡ before.told.content n
   pub only : HasOnlyAsked (inputs_of (asked job)) before now
 
--- Their headers were read: a feed stands for what stood under their names, and gave no packet yet.
+-- Their headers were read: a feed stands for what stood under their names, knows which ports of the
+-- function have a handler for IPv6, and gave no packet yet.
 pub record HasFed (before now : Outside) (job : Job) (captures : List ℕ) (feed : Feeding) : Type 0 where
   pub start : Told
   pub rests : (i f : ℕ) (n : List ℕ) → slice_get captures i ≡ Some f → slice_get (asked job).captures i ≡ Some n → start.rest f ≡ before.told.content n
   pub stands : StandsFor start [] feed now.told
   pub files : files_in feed.sources ≡ captures
+  pub six : sixes_in feed.sources ≡ six_ports (function_of job.func.now)
   pub most : feed.most ≡ (asked job).most
   pub next : now.told.next ≡ before.told.next + 1 + length captures
   pub all : length captures ≡ ports_of job

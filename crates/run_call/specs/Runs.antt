@@ -41,7 +41,7 @@ packets run = map arrival_in run.turns
 pub record IsByOne (c : RunAsked) (told : Told) (arrivals : List Arrival) (run : Run) : Type 0 where
   pub alone : c.workers ≡ 1
   pub order : packets run ≡ arrivals
-  pub is_run : IsOneRun run.function c.most (packets_under c.captures told) run
+  pub is_run : IsOneRun run.function c.most (packets_under run.function c.captures told) run
 
 -- As many workers as are asked for, which share nothing, handle the first packets of the captures, each
 -- once, in capture order, each by the worker of its queue under the function's keys: at most as many as
@@ -54,7 +54,7 @@ pub record IsByShards (c : RunAsked) (told : Told) (arrivals : List Arrival) (ru
   pub given : AreGiven run.function keys
   pub is_run : IsShardRun run.function keys c.workers run
   pub within : length run.turns ≤ c.most
-  pub first : AreFirst (packets_under c.captures told) (packets run)
+  pub first : AreFirst (packets_under run.function c.captures told) (packets run)
 
 -- As many workers as are asked for, which share the tables, handle the first packets of the captures,
 -- each once, at most as many as may be handled. Each handles those of its own ports, and each port's stay
@@ -66,7 +66,7 @@ pub record IsByTables (Refused : Type 0) (c : RunAsked) (told : Told) (arrivals 
   pub is_run : IsLockRun run.function c.workers arrivals run
       ⊎ (Refused × IsLoneRun run.function c.workers arrivals run)
   pub within : length arrivals ≤ c.most
-  pub first : AreFirst (packets_under c.captures told) arrivals
+  pub first : AreFirst (packets_under run.function c.captures told) arrivals
 
 -- A run that a command asks for: its text and its captures are those that stood under their names. These
 -- are its packets, in capture order.
@@ -95,7 +95,7 @@ pub record IsFullBehind (c : RunAsked) (told : Told) (run : Run) (full : FullSha
   pub given : AreGiven run.function keys
   pub stop : ShareStop
   pub behind : IsStopBehind run.function keys c.workers run stop
-  pub next : AreBefore (packets_under c.captures told) (packets run) stop.packet
+  pub next : AreBefore (packets_under run.function c.captures told) (packets run) stop.packet
   pub less : length run.turns < c.most
   pub said : IsToldStop run.function stop full
 
@@ -103,12 +103,12 @@ pub record IsFullBehind (c : RunAsked) (told : Told) (run : Run) (full : FullSha
 -- are more; or, of workers that share nothing, a share is full
 abbrev pub IsEndOf : RunAsked → Told → List Arrival → Run → End → Type 0
 IsEndOf c told arrivals run Whole =
-    AreAll (packets_under c.captures told) arrivals
+    AreAll (packets_under run.function c.captures told) arrivals
     × Below (λ bytes. IsTear bytes (Some None)) told c.captures (length c.captures)
 IsEndOf c told arrivals run (Torn port offset) =
-    AreAll (packets_under c.captures told) arrivals × IsLeastTear told c.captures port offset
+    AreAll (packets_under run.function c.captures told) arrivals × IsLeastTear told c.captures port offset
 IsEndOf c told arrivals run (TooMany most) =
-    (most ≡ c.most) × (length arrivals ≡ most) × HasMore (packets_under c.captures told) most
+    (most ≡ c.most) × (length arrivals ≡ most) × HasMore (packets_under run.function c.captures told) most
 IsEndOf c told arrivals run (ShareFull full) = (run.mode ≡ Shard) × IsFullBehind c told run full
 
 -- how many files a run of so many ports leaves: a share stop leaves no state

@@ -247,7 +247,7 @@ fn run_opened<R: Threads + Wait + Sync, F: Files, G: Turns + Sync, L: Gate + Dro
     ensures runs { RunsTo (Rose (L.refused gate.old) (L.refused gate.new)) (asked job.now) before
         (seen (F.told files.new) (F.counted files.new)) result }
 {
-    match Feed::start(alloc, files, captures, job.command.most) {
+    match Feed::start(alloc, files, job.func, captures, job.command.most) {
         Ok(mut feed) => run_fed(rt, alloc, files, job, &mut feed, captures, turns, gate),
         Err(fault) => Err(unfed(job.numbers, captures, fault)),
     }

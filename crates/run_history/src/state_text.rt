@@ -8,13 +8,15 @@
 //! | live entry, by rising index | `<index> <stamp>`, and ` <name>=<value>` for each label and free column in text order |
 //! | array | `array <name>` |
 //! | cell that differs from its opening value, by rising index | `<index> <value>` |
+//!
+//! Stamps are below 2^64; values of labels, free columns and cells are below 2^128.
 ghost use Rattle.std.specs.Prelude.{◌≡◌, ◌+◌, ◌++◌, OnOk, IfOk, drop, take, length};
 ghost use Rattle.std.specs.Prelude.{slice_get};
 ghost use Rattle.nf_base.specs.Context.{or_zero};
 ghost use Rattle.nf_base.specs.Functions.{function_of};
 ghost use Rattle.run_history.specs.StateText.{column_text, columns_text, entry_text, slots_text, chain_text, chains_text, cell_text, cells_text, array_text, arrays_text, state_text, name_of};
 
-use crate::text::{push_bytes, push_decimal};
+use crate::text::{push_bytes, push_decimal, push_value};
 use nf_base::decl::{ArrayDecl, ChainDecl, ColumnDecl, ColumnId};
 use nf_base::func::Func;
 use nf_base::indexed::Indexed;
@@ -30,7 +32,7 @@ fn push_name(out: &mut Vec<u8>, columns: &[ColumnDecl], number: u32) -> Result<(
     }
 }
 
-fn number_at(numbers: &[u64], at: u32) -> u64
+fn number_at(numbers: &[u128], at: u32) -> u128
     ensures { result ≡ or_zero (slice_get numbers.now at) }
 {
     match numbers.get(at as usize) {
@@ -52,12 +54,12 @@ fn push_column(
         ColumnId::Label(number) => {
             push_name(out, decl.labels.as_slice(), number)?;
             push_bytes(out, b"=")?;
-            push_decimal(out, number_at(entry.labels.as_slice(), number))
+            push_value(out, number_at(entry.labels.as_slice(), number))
         }
         ColumnId::Column(number) => {
             push_name(out, decl.columns.as_slice(), number)?;
             push_bytes(out, b"=")?;
-            push_decimal(out, number_at(entry.columns.as_slice(), number))
+            push_value(out, number_at(entry.columns.as_slice(), number))
         }
     }
 }
@@ -128,7 +130,7 @@ fn push_chains(out: &mut Vec<u8>, decls: &[ChainDecl], chains: &[Chain]) -> Resu
     Ok(())
 }
 
-fn push_cell(out: &mut Vec<u8>, index: u32, opening: u64, cell: u64) -> Result<(), AllocError>
+fn push_cell(out: &mut Vec<u8>, index: u32, opening: u128, cell: u128) -> Result<(), AllocError>
     ensures ok { OnOk result (out.new.items ≡ out.old.items ++ cell_text index opening cell) }
 {
     if cell == opening {
@@ -136,14 +138,14 @@ fn push_cell(out: &mut Vec<u8>, index: u32, opening: u64, cell: u64) -> Result<(
     }
     push_decimal(out, u64::from(index))?;
     push_bytes(out, b" ")?;
-    push_decimal(out, cell)?;
+    push_value(out, cell)?;
     push_bytes(out, b"\n")
 }
 
 fn push_cells(
     out: &mut Vec<u8>,
-    opening: &Indexed<u64>,
-    cells: &Indexed<u64>,
+    opening: &Indexed<u128>,
+    cells: &Indexed<u128>,
 ) -> Result<(), AllocError>
     ensures ok { OnOk result (out.new.items ≡ out.old.items ++ cells_text 0 opening.now cells.now) }
 {
@@ -154,7 +156,7 @@ fn push_cells(
     Ok(())
 }
 
-fn push_array(out: &mut Vec<u8>, decl: &ArrayDecl, cells: &Indexed<u64>) -> Result<(), AllocError>
+fn push_array(out: &mut Vec<u8>, decl: &ArrayDecl, cells: &Indexed<u128>) -> Result<(), AllocError>
     ensures ok { OnOk result (out.new.items ≡ out.old.items ++ array_text decl.now cells.now) }
 {
     push_bytes(out, b"array ")?;
@@ -166,7 +168,7 @@ fn push_array(out: &mut Vec<u8>, decl: &ArrayDecl, cells: &Indexed<u64>) -> Resu
 fn push_arrays(
     out: &mut Vec<u8>,
     decls: &[ArrayDecl],
-    arrays: &[Indexed<u64>],
+    arrays: &[Indexed<u128>],
 ) -> Result<(), AllocError>
     ensures ok { OnOk result (out.new.items ≡ out.old.items ++ arrays_text decls.now arrays.now) }
 {

@@ -1,11 +1,14 @@
 //! Calls on files and feeds. They promise what further calls ask for and no more: what the answers are is compared, and
 //! not proved.
 ghost use Rattle.std.specs.Prelude.{◌≡◌, ◌≤◌, ◌^◌, ℕ, length, IfOk};
+ghost use Rattle.nf_base.specs.Doors.{six_ports};
+ghost use Rattle.nf_base.specs.Functions.{function_of};
 ghost use Rattle.nf_files.specs.Told.{IsEmptyIfTold};
 ghost use Rattle.packet_feed.specs.Told.{EachFile, IsApart};
-ghost use Rattle.packet_feed.specs.Sources.{files_in};
+ghost use Rattle.packet_feed.specs.Sources.{files_in, sixes_in};
 ghost use Rattle.run_samples.specs.Order.{AreInOrder};
 
+use nf_base::func::Func;
 use nf_files::{Files, FilesFault, MemoryFiles};
 use packet_feed::{Fed, Feed, FeedFault};
 use std::alloc::{AllocError, Global};
@@ -78,23 +81,26 @@ pub fn create_all<F: Files>(
     Ok(made)
 }
 
-/// Reads the headers of captures.
+/// Reads the headers of captures, one for each port of a function.
 pub fn start<F: Files>(
     alloc: Global,
     files: &mut F,
+    func: &Func,
     captures: &[u32],
     most: u32,
 ) -> Result<Feed, FeedFault>
     requires readable { EachFile (F.is_read files.old) captures.now }
     requires apart { IsApart captures.now }
     requires ports { length captures.now ≤ 2 ^ 32 }
+    requires ports_of { length captures.now ≡ length func.now.handlers }
     ensures files { IfOk result (λ feed. files_in feed.sources ≡ captures.now) }
+    ensures six { IfOk result (λ feed. sixes_in feed.sources ≡ six_ports (function_of func.now)) }
     ensures new { IfOk result (λ feed. feed.given ≡ 0) }
     ensures most { IfOk result (λ feed. feed.most ≡ most) }
     ensures readable { IfOk result (λ feed. EachFile (F.is_read files.new) (files_in feed.sources)) }
     ensures reads { (g : ℕ) → F.is_read files.old g → F.is_read files.new g }
 {
-    Feed::start(alloc, files, captures, most)
+    Feed::start(alloc, files, func, captures, most)
 }
 
 /// The next packet of captures.

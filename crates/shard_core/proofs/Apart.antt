@@ -2,10 +2,10 @@
 use Rattle.std.proofs.Common.{◌≡◌, ◌<◌, ◌≤◌, ◌+◌, ℕ, zero, suc, List, [], ◌∷◌, ◌++◌, length, replicate, Some, slice_get, slice_set, refl, ap, sym, ◌∙◌, subst, arith}
 use Rattle.std.proofs.Math.Seq.{set-append_seam}
 use Rattle.std.proofs.lemmas.Option.{same_Some, slice_get_within}
-use Rattle.nf_base.specs.declared.decl.ChainDecl.{ChainDecl}
 use Rattle.nf_base.specs.declared.func.Func.{Func}
 use Rattle.nf_base.specs.declared.keys.Keys.{Keys}
 use Rattle.nf_base.specs.declared.packet.Packet.{Packet}
+use Rattle.nf_base.specs.Doors.{IsServed}
 use Rattle.nf_base.specs.Text.{Function}
 use Rattle.nf_base.specs.Functions.{function_of}
 use Rattle.shard_machine.specs.declared.event.Event.{Event}
@@ -23,11 +23,13 @@ use Rattle.shard_core.proofs.Machines.{works_at}
 use Rattle.shard_core.proofs.Played.{plays_append}
 
 -- one worker, after so many calls
-pub still_worker : (decls : List ChainDecl) (ports n w : ℕ) (f : Function) (old : Held) (k : ℕ) (new : Held) → IsWorker decls ports n w old → WorkedTimes f old k new → IsWorker decls ports n w new
-still_worker decls ports n w f old k new is one.begins = is
-still_worker decls ports n w f old k new is (one.goes_on m came before after times once) =
-    let b = still_worker decls ports n w f old m before is times in
-    worker_of decls ports n w before new b once.fixed (works_waiting (λ (p : Packet). p.id.port < ports) f came before new once.works b.ports_are)
+pub still_worker : (func : Func) (n w : ℕ) (f : Function) (old : Held) (k : ℕ) (new : Held) → IsWorker func n w old → WorkedTimes f old k new → IsWorker func n w new
+still_worker func n w f old k new is one.begins = is
+still_worker func n w f old k new is (one.goes_on m came before after times once) =
+    let b = still_worker func n w f old m before is times in
+    worker_of func n w before new b once.fixed
+    (works_waiting (λ (p : Packet). p.id.port < length func.handlers) f came before new once.works b.ports_are)
+    (works_waiting (IsServed (function_of func)) f came before new once.works b.served_are)
 
 pub times_room : (f : Function) (old : Held) (k : ℕ) (new : Held) → WorkedTimes f old k new → old.room ≤ new.room
 times_room f old k new one.begins = omega arith
@@ -48,7 +50,7 @@ back_by_works v f counts before after of are = record {
   count = are.count ∙ of.count;
   each = λ w held at.
       let old = was_there f counts before after w held are at in
-      still_worker v.func.chains (length v.func.handlers) v.count w f old.0 (counts w) held (of.each w old.0 old.1) (are.each w old.0 held old.1 at);
+      still_worker v.func v.count w f old.0 (counts w) held (of.each w old.0 old.1) (are.each w old.0 held old.1 at);
 }
 
 pub back_room : (n : ℕ) (v : Sharded) (f : Function) (counts : ℕ → ℕ) (before after : List Held) → HasRoom n (with_workers before v) → AreWorked f counts before after → HasRoom n (with_workers after v)
@@ -72,7 +74,7 @@ apart_sharded func keys count ws queues table is = record {
   below = is.below;
 }
 
-pub back_sharded : (func : Func) (keys : Keys) (count : ℕ) (ws others : List Held) (queues table : List ℕ) → IsSharded func keys count ws queues table → ((w : ℕ) (held : Held) → slice_get others w ≡ Some held → IsWorker func.chains (length func.handlers) count w held) → IsSharded func keys count others queues table
+pub back_sharded : (func : Func) (keys : Keys) (count : ℕ) (ws others : List Held) (queues table : List ℕ) → IsSharded func keys count ws queues table → ((w : ℕ) (held : Held) → slice_get others w ≡ Some held → IsWorker func count w held) → IsSharded func keys count others queues table
 back_sharded func keys count ws others queues table is each = record {
   table_is = is.table_is;
   some = is.some;

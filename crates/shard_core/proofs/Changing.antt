@@ -1,9 +1,10 @@
 -- One worker of shards changed.
 use Rattle.std.proofs.Common.{◌≡◌, ◌<◌, ◌≤◌, ℕ, zero, suc, List, [], ◌∷◌, length, All, Option, Some, None, slice_get, slice_set, refl, ap, sym, ◌∙◌, subst, arith, inl, inr}
-use Rattle.nf_base.specs.declared.decl.ChainDecl.{ChainDecl}
 use Rattle.nf_base.specs.declared.func.Func.{Func}
 use Rattle.nf_base.specs.declared.keys.Keys.{Keys}
 use Rattle.nf_base.specs.declared.packet.Packet.{Packet}
+use Rattle.nf_base.specs.Doors.{IsServed}
+use Rattle.nf_base.specs.Functions.{function_of}
 use Rattle.nf_base.specs.Text.{Function}
 use Rattle.nf_base.proofs.Mixes.{got_set}
 use Rattle.nf_engine.specs.View.{Fixed, fixed_of}
@@ -26,21 +27,22 @@ each_changed P ws w after each here v held at = elim (got_set ws w v after held 
   | inr q ↦ each v held q.1
 ]
 
-pub worker_of : (decls : List ChainDecl) (ports n w : ℕ) (before after : Held) → IsWorker decls ports n w before → fixed_of after.tables ≡ fixed_of before.tables → All (λ (p : Packet). p.id.port < ports) after.waiting → IsWorker decls ports n w after
-worker_of decls ports n w before after is fixed waiting = record {
+pub worker_of : (func : Func) (n w : ℕ) (before after : Held) → IsWorker func n w before → fixed_of after.tables ≡ fixed_of before.tables → All (λ (p : Packet). p.id.port < length func.handlers) after.waiting → All (IsServed (function_of func)) after.waiting → IsWorker func n w after
+worker_of func n w before after is fixed ports served = record {
   decls_are = ap (λ (x : Fixed). x.decls) fixed ∙ is.decls_are;
   queue_is = ap (λ (x : Fixed). x.share.queue) fixed ∙ is.queue_is;
   of_is = ap (λ (x : Fixed). x.share.of) fixed ∙ is.of_is;
-  ports_are = waiting;
+  ports_are = ports;
+  served_are = served;
 }
 
-pub changed_sharded : (func : Func) (keys : Keys) (count : ℕ) (ws : List Held) (queues table : List ℕ) (w : ℕ) (after : Held) → IsSharded func keys count ws queues table → IsWorker func.chains (length func.handlers) count w after → IsSharded func keys count (slice_set ws w after) queues table
+pub changed_sharded : (func : Func) (keys : Keys) (count : ℕ) (ws : List Held) (queues table : List ℕ) (w : ℕ) (after : Held) → IsSharded func keys count ws queues table → IsWorker func count w after → IsSharded func keys count (slice_set ws w after) queues table
 changed_sharded func keys count ws queues table w after is here = record {
   table_is = is.table_is;
   some = is.some;
   most = is.most;
   keys_fit = is.keys_fit;
-  each = each_changed (IsWorker func.chains (length func.handlers) count) ws w after is.each here;
+  each = each_changed (IsWorker func count) ws w after is.each here;
   below = is.below;
 }
 

@@ -5,6 +5,8 @@ use Rattle.std.proofs.lemmas.List.Elements.{All-append}
 use Rattle.nf_base.specs.declared.func.Func.{Func}
 use Rattle.nf_base.specs.declared.keys.Keys.{Keys}
 use Rattle.nf_base.specs.declared.packet.Packet.{Packet}
+use Rattle.nf_base.specs.Doors.{IsServed}
+use Rattle.nf_base.specs.Functions.{function_of}
 use Rattle.nf_base.proofs.Mixes.{got_set}
 use Rattle.nf_engine.specs.View.{Fixed, fixed_of}
 use Rattle.rss_table.specs.Tables.{even_table, queue_of, AllBelow}
@@ -34,13 +36,13 @@ pub on_err : {T E : Type 0} (r : Result T E) (A B C : Type 0) → OnErr r A → 
 on_err (Ok t) A B C a b f = tt
 on_err (Err e) A B C a b f = f a b
 
-one_packet : (ports : ℕ) (p : Packet) → p.id.port < ports → All (λ (q : Packet). q.id.port < ports) (p ∷ [])
-one_packet ports p lt zero d l = lt
-one_packet ports p lt (suc k) d l = absurd (omega (arith, l))
+one_item : {A : Type 0} (P : A → Type 0) (x : A) → P x → All P (x ∷ [])
+one_item P x is zero d l = is
+one_item P x is (suc k) d l = absurd (omega (arith, l))
 
-one_queue : (n q : ℕ) → q < n → All (λ (p : ℕ). p < n) (q ∷ [])
-one_queue n q lt zero d l = lt
-one_queue n q lt (suc k) d l = absurd (omega (arith, l))
+-- what waits is as before, with one packet more
+waits_more : (P : Packet → Type 0) (p : Packet) (before after : Held) → GivenOne p before after → All P before.waiting → P p → All P after.waiting
+waits_more P p before after n all is = subst (All P) (sym n.waiting) (All-append P before.waiting (p ∷ []) all (one_item P p is))
 
 more_queues : (func : Func) (keys : Keys) (count : ℕ) (ws : List Held) (queues table : List ℕ) (q : ℕ) → IsSharded func keys count ws queues table → q < count → IsSharded func keys count ws (queues ++ q ∷ []) table
 more_queues func keys count ws queues table q is lt = record {
@@ -49,24 +51,27 @@ more_queues func keys count ws queues table q is lt = record {
   most = is.most;
   keys_fit = is.keys_fit;
   each = is.each;
-  below = All-append (λ (p : ℕ). p < count) queues (q ∷ []) is.below (one_queue count q lt);
+  below = All-append (λ (p : ℕ). p < count) queues (q ∷ []) is.below (one_item (λ (p : ℕ). p < count) q lt);
 }
 
-pub given_sharded : (func : Func) (keys : Keys) (count : ℕ) (ws : List Held) (queues rest table : List ℕ) (q : ℕ) (p : Packet) (before after : Held) → IsSharded func keys count ws queues table → slice_get ws q ≡ Some before → q < count → p.id.port < length func.handlers → GivenOne p before after → rest ≡ queues ++ q ∷ [] →
+pub given_sharded : (func : Func) (keys : Keys) (count : ℕ) (ws : List Held) (queues rest table : List ℕ) (q : ℕ) (p : Packet) (before after : Held) → IsSharded func keys count ws queues table → slice_get ws q ≡ Some before → q < count → p.id.port < length func.handlers → IsServed (function_of func) p → GivenOne p before after → rest ≡ queues ++ q ∷ [] →
     IsSharded func keys count (slice_set ws q after) rest table
-given_sharded func keys count ws queues rest table q p before after is at lt port n e =
+given_sharded func keys count ws queues rest table q p before after is at lt port served n e =
     let w = is.each q before at in
     subst (λ (qs : List ℕ). IsSharded func keys count (slice_set ws q after) qs table) (sym e)
     (changed_sharded func keys count ws (queues ++ q ∷ []) table q after (more_queues func keys count ws queues table q is lt)
-    (worker_of func.chains (length func.handlers) count q before after w (ap fixed_of n.tables)
-    (subst (All (λ (r : Packet). r.id.port < length func.handlers)) (sym n.waiting) (All-append (λ (r : Packet). r.id.port < length func.handlers) before.waiting (p ∷ []) w.ports_are (one_packet (length func.handlers) p port)))))
+    (worker_of func count q before after w (ap fixed_of n.tables)
+    (waits_more (λ (r : Packet). r.id.port < length func.handlers) p before after n w.ports_are port)
+    (waits_more (IsServed (function_of func)) p before after n w.served_are served)))
 
 pub same_sharded : (func : Func) (keys : Keys) (count : ℕ) (ws : List Held) (queues rest table : List ℕ) (q : ℕ) (before after : Held) → IsSharded func keys count ws queues table → slice_get ws q ≡ Some before → SameButRoom before after → rest ≡ queues → IsSharded func keys count (slice_set ws q after) rest table
 same_sharded func keys count ws queues rest table q before after is at n e =
     let w = is.each q before at in
     subst (λ (qs : List ℕ). IsSharded func keys count (slice_set ws q after) qs table) (sym e)
     (changed_sharded func keys count ws queues table q after is
-    (worker_of func.chains (length func.handlers) count q before after w (ap fixed_of n.tables) (subst (All (λ (r : Packet). r.id.port < length func.handlers)) (sym n.waiting) w.ports_are)))
+    (worker_of func count q before after w (ap fixed_of n.tables)
+    (subst (All (λ (r : Packet). r.id.port < length func.handlers)) (sym n.waiting) w.ports_are)
+    (subst (All (IsServed (function_of func))) (sym n.waiting) w.served_are)))
 
 -- a packet is dispatched
 pub dispatches_on : (x : Setup) (m : Machine) (p : Packet) (old new : Sharded) → StandsFor x m old → GivenTo p old new → StandsFor x (dispatched x p m) new

@@ -5,6 +5,8 @@ use Rattle.std.proofs.lemmas.Bool.{cases_Bool}
 use Rattle.nf_base.specs.declared.func.Func.{Func}
 use Rattle.nf_base.specs.declared.keys.Keys.{Keys}
 use Rattle.nf_base.specs.declared.packet.Packet.{Packet}
+use Rattle.nf_base.specs.Doors.{IsServed}
+use Rattle.nf_base.specs.Functions.{function_of}
 use Rattle.nf_base.proofs.Mixes.{got_set}
 use Rattle.shard_core.specs.Fifos.{Pending}
 use Rattle.shard_core.specs.Held.{Held, SameButRoom}
@@ -61,6 +63,7 @@ many_sharded func keys count ws others queues rest table are e is = record {
         queue_is = ap (λ t. t.share.queue) s.tables ∙ k.queue_is;
         of_is = ap (λ t. t.share.of) s.tables ∙ k.of_is;
         ports_are = subst (All (λ (p : Packet). p.id.port < length func.handlers)) (sym s.waiting) k.ports_are;
+        served_are = subst (All (IsServed (function_of func))) (sym s.waiting) k.served_are;
       };
   below = subst (All (λ (q : ℕ). q < count)) (sym e) is.below;
 }

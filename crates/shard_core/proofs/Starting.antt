@@ -6,12 +6,12 @@ use Rattle.std.proofs.lemmas.Option.{same_Some}
 use Rattle.std.proofs.lemmas.List.{length-map, length-append}
 use Rattle.nf_base.specs.Limits.{IsShare}
 use Rattle.nf_base.specs.declared.func.Func.{Func}
-use Rattle.nf_base.specs.declared.func.Handler.{Handler}
-use Rattle.nf_base.specs.View.{block_of}
 use Rattle.nf_base.specs.declared.keys.Keys.{Keys}
 use Rattle.nf_base.specs.declared.packet.Packet.{Packet}
 use Rattle.nf_base.specs.declared.share.Share.{Share}
+use Rattle.nf_base.specs.Doors.{IsServed}
 use Rattle.nf_base.specs.Functions.{function_of}
+use Rattle.nf_base.specs.Handlers.{blocks_of}
 use Rattle.nf_base.specs.Step.{opening}
 use Rattle.nf_base.specs.Text.{Function}
 use Rattle.rss_table.specs.Tables.{even_table}
@@ -79,12 +79,13 @@ new_sharded func keys n ws queues table new some most fit t e = record {
         queue_is = ap (λ z. z.share.queue) is.tables ∙ made.1;
         of_is = ap (λ z. z.share.of) is.tables ∙ made.2;
         ports_are = subst (All (λ (p : Packet). p.id.port < length func.handlers)) (sym is.waiting) (none_of (λ (p : Packet). p.id.port < length func.handlers));
+        served_are = subst (All (IsServed (function_of func))) (sym is.waiting) (none_of (IsServed (function_of func)));
       };
   below = subst (All (λ (q : ℕ). q < n)) (sym e) (none_of (λ (q : ℕ). q < n));
 }
 
 pub same_handlers : (a b : Func) → function_of a ≡ function_of b → length a.handlers ≡ length b.handlers
-same_handlers a b e = sym (length-map a.handlers (λ (h : Handler). block_of h.block)) ∙ ap (λ (f : Function). length f.handlers) e ∙ length-map b.handlers (λ (h : Handler). block_of h.block)
+same_handlers a b e = sym (length-map a.handlers blocks_of) ∙ ap (λ (f : Function). length f.handlers) e ∙ length-map b.handlers blocks_of
 
 got_append : (ws : List Held) (held : Held) (v : ℕ) (h : Held) → slice_get (ws ++ held ∷ []) v ≡ Some h → (slice_get ws v ≡ Some h) ⊎ ((v ≡ length ws) × (held ≡ h))
 got_append [] held zero h e = inr (refl, same_Some _ _ e)

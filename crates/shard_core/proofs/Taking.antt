@@ -5,6 +5,8 @@ use Rattle.std.proofs.lemmas.List.{length-set}
 use Rattle.nf_base.specs.declared.func.Func.{Func}
 use Rattle.nf_base.specs.declared.keys.Keys.{Keys}
 use Rattle.nf_base.specs.declared.packet.Packet.{Packet}
+use Rattle.nf_base.specs.Doors.{IsServed}
+use Rattle.nf_base.specs.Functions.{function_of}
 use Rattle.nf_base.proofs.Mixes.{got_set}
 use Rattle.nf_engine.specs.View.{fixed_of}
 use Rattle.std.specs.Borrow.{Bor}
@@ -39,7 +41,9 @@ pub taken_sharded : (func : Func) (keys : Keys) (count : ℕ) (ws : List Held) (
 taken_sharded func keys count ws queues table q before after is at t =
     let one = is.each q before at in
     changed_sharded func keys count ws queues table q after is
-    (worker_of func.chains (length func.handlers) count q before after one (ap fixed_of (same_tables before after t)) (subst (All (λ (p : Packet). p.id.port < length func.handlers)) (sym (same_waiting before after t)) one.ports_are))
+    (worker_of func count q before after one (ap fixed_of (same_tables before after t))
+    (subst (All (λ (p : Packet). p.id.port < length func.handlers)) (sym (same_waiting before after t)) one.ports_are)
+    (subst (All (IsServed (function_of func))) (sym (same_waiting before after t)) one.served_are))
 
 below_tail : (n p : ℕ) (ps : List ℕ) → All (λ (q : ℕ). q < n) (p ∷ ps) → All (λ (q : ℕ). q < n) ps
 below_tail n p ps all k d lt = all (suc k) d (omega (arith, lt))

@@ -1,5 +1,8 @@
 -- What playing events comes to.
 use Rattle.std.specs.Prelude.{◌≡◌, ◌<◌, ℕ, List, length, map, take, All}
+use Rattle.nf_base.specs.declared.func.Func.{Func}
+use Rattle.nf_base.specs.Doors.{IsServed}
+use Rattle.nf_base.specs.Functions.{function_of}
 use Rattle.shard_machine.specs.declared.event.Event.{Event}
 use Rattle.shard_machine.specs.declared.event.Event.TheVariants.{Dispatch, Work, Collect}
 use Rattle.shard_machine.specs.Machine.{Setup, Machine}
@@ -7,11 +10,12 @@ use Rattle.shard_machine.specs.Events.{Plays}
 use Rattle.shard_core.specs.declared.collected.Collected.{Collected}
 use Rattle.shard_core.specs.Sharded.{Sharded, StandsFor, answer_of}
 
--- an event of so many ports and workers
-abbrev pub IsValid : ℕ → ℕ → Event → Type 0
-IsValid ports workers (Dispatch packet) = packet.id.port < ports
-IsValid ports workers (Work w) = w < workers
-IsValid ports workers Collect = Unit {0}
+-- an event of a function's ports and handlers and of so many workers
+abbrev pub IsValid : Func → ℕ → Event → Type 0
+IsValid func workers (Dispatch packet) =
+    (packet.id.port < length func.handlers) × IsServed (function_of func) packet
+IsValid func workers (Work w) = w < workers
+IsValid func workers Collect = Unit {0}
 
 -- the function and the number of queues are the same, and as many workers are there
 pub record SameSize (old new : Sharded) : Type 0 where

@@ -1,10 +1,10 @@
 -- What shards hold, and which machine they stand for.
 use Rattle.std.specs.Prelude.{◌≡◌, ◌<◌, ◌≤◌, ℕ, List, [], ◌∷◌, ◌++◌, length, map, All, Option, Some, None, slice_get, slice_set}
-use Rattle.nf_base.specs.declared.decl.ChainDecl.{ChainDecl}
 use Rattle.nf_base.specs.declared.func.Func.{Func}
 use Rattle.nf_base.specs.declared.keys.Keys.{Keys}
 use Rattle.nf_base.specs.declared.packet.Packet.{Packet}
 use Rattle.nf_base.specs.declared.share.Share.{Share}
+use Rattle.nf_base.specs.Doors.{IsServed}
 use Rattle.nf_base.specs.Text.{Function}
 use Rattle.nf_base.specs.Functions.{function_of}
 use Rattle.nf_engine.specs.View.{fixed_of}
@@ -55,12 +55,13 @@ with_workers workers v = record v { workers = workers }
 abbrev pub queue_in : Sharded → Packet → ℕ
 queue_in v packet = queue_of (even_table v.count) v.keys packet
 
--- a worker of queue w of n, of a function with these chains and so many ports
-pub record IsWorker (decls : List ChainDecl) (ports n w : ℕ) (held : Held) : Type 0 where
-  pub decls_are : held.tables.decls ≡ decls
+-- a worker of queue w of n, of a function
+pub record IsWorker (func : Func) (n w : ℕ) (held : Held) : Type 0 where
+  pub decls_are : held.tables.decls ≡ func.chains
   pub queue_is : held.tables.share.queue ≡ w
   pub of_is : held.tables.share.of ≡ n
-  pub ports_are : All (λ (p : Packet). p.id.port < ports) held.waiting
+  pub ports_are : All (λ (p : Packet). p.id.port < length func.handlers) held.waiting
+  pub served_are : All (IsServed (function_of func)) held.waiting
 
 -- What holds of every value: there are 1 to 16 queues, each worker that is there is that of its
 -- queue, and each key and each queue that is asked for is there.
@@ -71,14 +72,14 @@ pub record IsSharded (func : Func) (keys : Keys) (count : ℕ) (workers : List H
   pub most : count ≤ 16
   pub keys_fit : length func.handlers ≤ length keys.ports
   pub each : (w : ℕ) (held : Held) → slice_get workers w ≡ Some held →
-      IsWorker func.chains (length func.handlers) count w held
+      IsWorker func count w held
   pub below : All (λ (q : ℕ). q < count) queues
 
 -- these are a worker of each queue
 pub record AreWorkersOf (v : Sharded) (workers : List Held) : Type 0 where
   pub count : length workers ≡ v.count
   pub each : (w : ℕ) (held : Held) → slice_get workers w ≡ Some held →
-      IsWorker v.func.chains (length v.func.handlers) v.count w held
+      IsWorker v.func v.count w held
 
 -- the setup of a machine is that of a value
 pub record IsSetupOf (x : Setup) (v : Sharded) : Type 0 where

@@ -16,8 +16,7 @@ impl Shards {
     /// After an `Err` the events up to the one that was refused were played.
     pub fn play(&mut self, alloc: Global, events: &[Event]) -> Result<Vec<Collected>, AllocError>
         requires whole { IsWhole self.old }
-        requires valid { let ports = length self.old.func.handlers in
-            All (IsValid ports (length self.old.workers)) events.now }
+        requires valid { All (IsValid self.old.func (length self.old.workers)) events.now }
         ensures size { SameSize self.old self.new }
         ensures stands { (x : Setup) → (m : Machine) → StandsFor x m self.old →
             IfOk result (λ got. Played x m events.now got.items self.new) }
@@ -31,8 +30,7 @@ impl Shards {
 
     fn play_into(&mut self, events: &[Event], got: &mut Vec<Collected>) -> Result<(), AllocError>
         requires whole { IsWhole self.old }
-        requires valid { let ports = length self.old.func.handlers in
-            All (IsValid ports (length self.old.workers)) events.now }
+        requires valid { All (IsValid self.old.func (length self.old.workers)) events.now }
         requires none { got.old.items ≡ [] }
         requires room { vec_len got.old + length events.now ≤ vec_capacity got.old }
         ensures size { SameSize self.old self.new }
@@ -53,8 +51,7 @@ impl Shards {
     /// Plays one event, and answers what was collected.
     fn play_one(&mut self, event: &Event) -> Result<Option<Collected>, AllocError>
         requires whole { IsWhole self.old }
-        requires valid { let ports = length self.old.func.handlers in
-            IsValid ports (length self.old.workers) event.now }
+        requires valid { IsValid self.old.func (length self.old.workers) event.now }
         ensures stands { (x : Setup) → (m : Machine) → StandsFor x m self.old →
             IfOk result (λ got. Played x m (event.now ∷ []) (option_to_list got) self.new) }
         ensures stays { (x : Setup) → (m : Machine) → StandsFor x m self.old →

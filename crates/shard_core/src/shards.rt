@@ -4,6 +4,7 @@ ghost use Rattle.shard_core.specs.Apart.{AreWorked, WorkedBack};
 ghost use Rattle.shard_core.specs.Held.{Held, SameButRoom, GivenOne};
 ghost use Rattle.shard_core.specs.Plays.{SameSize};
 ghost use Rattle.shard_laws.specs.Queues.{time_after};
+ghost use Rattle.nf_base.specs.Doors.{IsServed};
 ghost use Rattle.nf_base.specs.Functions.{function_of};
 ghost use Rattle.shard_machine.specs.Machine.{Setup, Machine, new_machine};
 ghost use Rattle.shard_machine.specs.Events.{dispatched};
@@ -115,6 +116,7 @@ impl Shards {
     pub fn dispatch(&mut self, packet: Packet) -> Result<(), AllocError>
         requires whole { IsWhole self.old }
         requires port { packet.id.port < length self.old.func.handlers }
+        requires served { IsServed (function_of self.old.func) packet }
         ensures given { OnOk result (GivenTo packet self.old self.new) }
         ensures err { OnErr result (SameButRooms self.old self.new) }
         ensures stands { (x : Setup) → (m : Machine) → StandsFor x m self.old →
@@ -130,6 +132,7 @@ impl Shards {
     fn give(&mut self, packet: &Packet) -> Result<(), AllocError>
         requires whole { IsWhole self.old }
         requires port { packet.now.id.port < length self.old.func.handlers }
+        requires served { IsServed (function_of self.old.func) packet.now }
         ensures given { OnOk result (GivenTo packet.now self.old self.new) }
         ensures err { OnErr result (SameButRooms self.old self.new) }
         ensures room { (n : ℕ) → HasRoom (n + 1) self.old → IsOk result × HasRoom n self.new }

@@ -1,5 +1,6 @@
 // One worker.
 ghost use Rattle.std.specs.Prelude.{◌≡◌, ◌≤◌, ◌<◌, ◌+◌, ℕ, suc, List, [], ◌∷◌, ◌++◌, length, None, IfOk, OnOk, IsOk, IfSome, IfNone, All, option_to_list};
+ghost use Rattle.nf_base.specs.Doors.{IsServed};
 ghost use Rattle.nf_base.specs.Functions.{function_of};
 ghost use Rattle.nf_engine.specs.View.{fixed_of};
 ghost use Rattle.shard_core.specs.Held.{Held, WorkedTimes, IsNew, SameButRoom, first_id, StandsFor, StartsWith, HeldWorks, HeldHandles, WorksOn, IsStopIn, IsNoStop};
@@ -108,6 +109,7 @@ impl Worker {
     pub fn work(&mut self, func: &Func) -> Worked
         requires of_func { self.old.tables.decls ≡ func.now.chains }
         requires ports { All (λ p. p.id.port < length func.now.handlers) self.old.waiting }
+        requires served { All (IsServed (function_of func.now)) self.old.waiting }
         ensures works { HeldWorks (function_of func.now) result self.old self.new }
         // Whatever packets it was given and whatever answers were taken of it.
         ensures stands { (worker : machine.Worker) → (taken : List answer.Answer) →
@@ -127,6 +129,7 @@ impl Worker {
     fn work_once(&mut self, func: &Func) -> Worked
         requires of_func { self.old.tables.decls ≡ func.now.chains }
         requires ports { All (λ p. p.id.port < length func.now.handlers) self.old.waiting }
+        requires served { All (IsServed (function_of func.now)) self.old.waiting }
         ensures works { HeldWorks (function_of func.now) result self.old self.new }
         ensures fixed { fixed_of self.new.tables ≡ fixed_of self.old.tables }
         ensures room { self.old.room ≤ self.new.room }
@@ -141,6 +144,7 @@ impl Worker {
     fn work_next(&mut self, func: &Func) -> Worked
         requires of_func { self.old.tables.decls ≡ func.now.chains }
         requires ports { All (λ p. p.id.port < length func.now.handlers) self.old.waiting }
+        requires served { All (IsServed (function_of func.now)) self.old.waiting }
         requires running { self.old.stopped ≡ None }
         ensures works { HeldWorks (function_of func.now) result self.old self.new }
         ensures fixed { fixed_of self.new.tables ≡ fixed_of self.old.tables }
@@ -159,6 +163,7 @@ impl Worker {
     fn work_on(&mut self, func: &Func, packet: Packet) -> Worked
         requires of_func { self.old.tables.decls ≡ func.now.chains }
         requires port { packet.id.port < length func.now.handlers }
+        requires served { IsServed (function_of func.now) packet }
         requires running { self.old.stopped ≡ None }
         requires first { StartsWith packet self.old.waiting }
         ensures works { HeldWorks (function_of func.now) result self.old self.new }
@@ -184,6 +189,7 @@ impl Worker {
     pub fn handle(&mut self, func: &Func, packet: &Packet) -> Handled
         requires of_func { self.old.tables.decls ≡ func.now.chains }
         requires port { packet.now.id.port < length func.now.handlers }
+        requires served { IsServed (function_of func.now) packet.now }
         requires running { self.old.stopped ≡ None }
         ensures handles { HeldHandles (function_of func.now) packet.now result self.old self.new }
         ensures fixed { fixed_of self.new.tables ≡ fixed_of self.old.tables }

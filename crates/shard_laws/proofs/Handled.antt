@@ -1,6 +1,9 @@
 -- One packet on the whole state, beside the part of a queue.
 use Rattle.std.proofs.Common.{◌≡◌, ◌≢◌, ℕ, ◌≤◌, true, false, List, [], ◌∷◌, length, map, Contains, Option, Some, None, slice_get, refl, ap, ap₂, sym, ◌∙◌, subst, arith, inl, inr}
 use Rattle.std.proofs.lemmas.Option.{same_Some, none-some}
+use Rattle.nf_base.specs.declared.packet.Door.{Door}
+use Rattle.nf_base.specs.Doors.{blocks, handler_at}
+use Rattle.nf_base.specs.Families.{door_of}
 use Rattle.nf_base.specs.declared.packet.Packet.{Packet}
 use Rattle.nf_base.specs.declared.packet.Fields.{Fields}
 use Rattle.nf_base.specs.declared.state.State.{State}
@@ -20,7 +23,7 @@ use Rattle.nf_base.specs.Shares.{mix}
 use Rattle.nf_base.specs.declared.decl.ObjectId.TheVariants as object
 use Rattle.nf_base.proofs.Mixes.{mix_map}
 use Rattle.nf_laws.specs.Objects.{by_new, by_store}
-use Rattle.nf_laws.proofs.Listed.{at_index}
+use Rattle.nf_laws.proofs.Doors.{at_door}
 use Rattle.nf_laws.proofs.Written.{written_is}
 use Rattle.nf_laws.proofs.Shaped.{expired_length}
 use Rattle.shard_laws.specs.Homes.{Homes, queue_home, AllTold, entries_made, MadeOwn, AllAt, owned, unseen, cell_owned, seen, IsTold, KnowsWritten}
@@ -128,9 +131,9 @@ part_beside s time v m part z r q is a le low ne after =
     }
 
 -- what a handler makes and stores to is written
-pub told : (h : Homes) (f : Function) (port : ℕ) (block : Block) → KnowsWritten h f → slice_get f.handlers port ≡ Some block → IsTold h.written block
-told h f port block knows e =
-    let stands : Contains f.handlers block = at_index f.handlers port block e in
+pub told : (h : Homes) (f : Function) (door : Door) (block : Block) → KnowsWritten h f → handler_at f door ≡ Some block → IsTold h.written block
+told h f door block knows e =
+    let stands : Contains (blocks f) block = at_door f door block e in
     record {
       news = λ n t. knows (object.Chain n.chain) ((written_is f (object.Chain n.chain)).1 (record { block = block; statement = Makes n; handler = stands; stands = t; writes = by_new n }));
       stores = λ at a i g t. knows (object.Array a) ((written_is f (object.Array a)).1 (record { block = block; statement = Does (Store at a i g); handler = stands; stands = t; writes = by_store at a i g }));
@@ -165,12 +168,12 @@ block_on h opened stops f time c w ns m part now fields choices block r text hal
       λ ne. part_beside s time w m part z r aside.0 refl a le whole.low (λ q. ne (sym q)) aside.2,
     )
 
-fields_on : (h : Homes) (opened : ℕ → ℕ → ℕ) (stops : Stops) (f : Function) (time c w : ℕ) (ns : Numbers) (m part : State) (packet : Packet) (choices : List ℕ) (fields : Fields) (o : Option Block) (r : StepResult) → slice_get f.handlers packet.id.port ≡ o → KnowsWritten h f → HaltsOwn h.owner w stops → Whole h opened f.chains time ns m → Part h opened f.chains time w m part → time ≤ packet.time
+fields_on : (h : Homes) (opened : ℕ → ℕ → ℕ) (stops : Stops) (f : Function) (time c w : ℕ) (ns : Numbers) (m part : State) (packet : Packet) (choices : List ℕ) (fields : Fields) (o : Option Block) (r : StepResult) → handler_at f (door_of packet.id.port fields) ≡ o → KnowsWritten h f → HaltsOwn h.owner w stops → Whole h opened f.chains time ns m → Part h opened f.chains time w m part → time ≤ packet.time
     → AllAt h c (locations f.chains ns (records never f m packet.time fields choices o)) → AllTold h ns (records never f m packet.time fields choices o) → MadeOwn h.owner (h.at c) (entries_made (records never f m packet.time fields choices o)) → answers_full (records never f m packet.time fields choices o) ≡ false → step_result choices (completes never f m packet.time fields choices o) ≡ Some r
     → OneOn h opened stops f time (h.at c) w ns m part packet choices (Some fields) r
 fields_on h opened stops f time c w ns m part packet choices fields None r is knows halts whole a le home told_all own full e = absurd (none-some _ e)
 fields_on h opened stops f time c w ns m part packet choices fields (Some block) r is knows halts whole a le home told_all own full e =
-    let one = block_on h opened stops f time c w ns m part packet.time fields choices block r (told h f packet.id.port block knows is) halts whole a le home told_all own full e in
+    let one = block_on h opened stops f time c w ns m part packet.time fields choices block r (told h f (door_of packet.id.port fields) block knows is) halts whole a le home told_all own full e in
     record {
       whole = subst (λ (o : Option Block). Whole h opened f.chains packet.time (all_numbers ns (records never f m packet.time fields choices o)) r.state) (sym is) one.0;
       own = λ same. let q = one.1 same in record { next = q.0; stepped = ap (λ (o : Option Block). step_result choices (completes stops f part packet.time fields choices o)) is ∙ q.1; done = q.2; stays = q.3; rise = q.4 };
@@ -186,4 +189,4 @@ skip_on h opened stops f time u w ns m part packet (i ∷ choices) r whole a e =
 pub one_on : (h : Homes) (opened : ℕ → ℕ → ℕ) (stops : Stops) (f : Function) (time c w : ℕ) (ns : Numbers) (m part : State) (packet : Packet) (choices : List ℕ) (o : Option Fields) (r : StepResult) → KnowsWritten h f → HaltsOwn h.owner w stops → Whole h opened f.chains time ns m → Part h opened f.chains time w m part → time ≤ time_of time packet.time o
     → AllAt h c (locations f.chains ns (record_of never f m packet choices o)) → AllTold h ns (record_of never f m packet choices o) → MadeOwn h.owner (h.at c) (entries_made (record_of never f m packet choices o)) → answers_full (record_of never f m packet choices o) ≡ false → step_of never f m packet choices o ≡ Some r → OneOn h opened stops f time (h.at c) w ns m part packet choices o r
 one_on h opened stops f time c w ns m part packet choices None r knows halts whole a le home told_all own full e = skip_on h opened stops f time (h.at c) w ns m part packet choices r whole a e
-one_on h opened stops f time c w ns m part packet choices (Some fields) r knows halts whole a le home told_all own full e = fields_on h opened stops f time c w ns m part packet choices fields (slice_get f.handlers packet.id.port) r refl knows halts whole a le home told_all own full e
+one_on h opened stops f time c w ns m part packet choices (Some fields) r knows halts whole a le home told_all own full e = fields_on h opened stops f time c w ns m part packet choices fields (handler_at f (door_of packet.id.port fields)) r refl knows halts whole a le home told_all own full e

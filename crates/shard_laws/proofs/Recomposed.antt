@@ -6,6 +6,8 @@ use Rattle.shard_laws.proofs.Taken.{takes_make}
 use Rattle.std.proofs.Common.{◌≡◌, ◌≢◌, ℕ, ◌<◌, ◌≤◌, Bool, true, false, ◌==◌, eq-eqb, ne_eqb, List, [], ◌∷◌, Option, Some, None, slice_get, if◌then◌else◌, refl, ap, ap₂, sym, ◌∙◌, subst, inl, inr}
 use Rattle.std.proofs.lemmas.Option.{same_Some, none-some}
 use Rattle.std.proofs.lemmas.Bool.{cases_eq}
+use Rattle.nf_base.specs.Doors.{blocks, handler_at}
+use Rattle.nf_base.specs.Families.{door_of}
 use Rattle.nf_base.specs.declared.packet.Packet.{Packet}
 use Rattle.nf_base.specs.declared.packet.Fields.{Fields}
 use Rattle.nf_base.specs.declared.state.State.{State}
@@ -66,7 +68,7 @@ pub record BackOn (h : Homes) (opened : ℕ → ℕ → ℕ) (f : Function) (tim
   pub other : (v : ℕ) (part : State) → v ≢ u → Part h opened f.chains time v m part → Part h opened f.chains (time_of time packet.time fields) v first.state part
   pub rise : (k : ℕ) → RiseAlike packet.time (chain_at m.chains k).greatest (chain_at first.state.chains k).greatest (chain_at part.chains k).greatest (chain_at q.state.chains k).greatest
 
-fields_back : (h : Homes) (opened : ℕ → ℕ → ℕ) (stops : Stops) (f : Function) (time b : ℕ) (ns : Numbers) (m part : State) (packet : Packet) (choices : List ℕ) (fields : Fields) (o : Option Block) (q : StepResult) → slice_get f.handlers packet.id.port ≡ o → KnowsWritten h f → HaltsOwn h.owner (h.at b) stops → Whole h opened f.chains time ns m → Part h opened f.chains time (h.at b) m part → time ≤ packet.time
+fields_back : (h : Homes) (opened : ℕ → ℕ → ℕ) (stops : Stops) (f : Function) (time b : ℕ) (ns : Numbers) (m part : State) (packet : Packet) (choices : List ℕ) (fields : Fields) (o : Option Block) (q : StepResult) → handler_at f (door_of packet.id.port fields) ≡ o → KnowsWritten h f → HaltsOwn h.owner (h.at b) stops → Whole h opened f.chains time ns m → Part h opened f.chains time (h.at b) m part → time ≤ packet.time
     → AllAt h b (locations f.chains ns (records never f m packet.time fields choices o)) → AllTold h ns (records never f m packet.time fields choices o) → MadeOwn h.owner (h.at b) (entries_made (records stops f part packet.time fields choices o)) → step_result choices (completes stops f part packet.time fields choices o) ≡ Some q → BackOn h opened f time (h.at b) ns m part packet choices (Some fields) q
 fields_back h opened stops f time b ns m part packet choices fields None q is knows halts whole a le home told_all own e = absurd (none-some _ e)
 fields_back h opened stops f time b ns m part packet choices fields (Some block) q is knows halts whole a le home told_all own e =
@@ -78,7 +80,7 @@ fields_back h opened stops f time b ns m part packet choices fields (Some block)
     let s : Scene = record { homes = h; strict = false; tight = false; by_part = true; bucket = b; is = refl; firm = λ x. cc; lax = λ x. refl; over = never; follows = λ k c d e q. cc; leads = λ t. cc; roomy = λ t. cc; stops = stops; opened = opened; queue = h.at b; packet = p; whole = m_now; part = at_time now f.chains part; halts = halts } in
     let begun : StartsOn h opened (h.at b) m_now (at_time now f.chains part) = part_begins h opened f.chains time now (h.at b) m part a le in
     let r = settled_back s z choices (exec never p block (course_of m_now choices)) (exec stops p block (course_of (at_time now f.chains part) choices)) q refl
-    (exec_alike s z block ns (course_of m_now choices) (course_of (at_time now f.chains part) choices) (λ _. []) (λ _. []) (told h f packet.id.port block knows is) (start_agree s ns choices (whole_later h opened f.chains time now ns m whole le) begun) (goes_from s ns es home told_all (λ x. cc) (λ x. cc)) (λ x. own)) e in
+    (exec_alike s z block ns (course_of m_now choices) (course_of (at_time now f.chains part) choices) (λ _. []) (λ _. []) (told h f (door_of packet.id.port fields) block knows is) (start_agree s ns choices (whole_later h opened f.chains time now ns m whole le) begun) (goes_from s ns es home told_all (λ x. cc) (λ x. cc)) (λ x. own)) e in
     record {
       first = r.0;
       is = ap (λ (o : Option Block). step_result choices (completes never f m packet.time fields choices o)) is ∙ r.1;
@@ -99,7 +101,7 @@ skip_back h opened f time u ns m part packet (i ∷ choices) q whole a e = absur
 pub back_on : (h : Homes) (opened : ℕ → ℕ → ℕ) (stops : Stops) (f : Function) (time b : ℕ) (ns : Numbers) (m part : State) (packet : Packet) (choices : List ℕ) (o : Option Fields) (q : StepResult) → KnowsWritten h f → HaltsOwn h.owner (h.at b) stops → Whole h opened f.chains time ns m → Part h opened f.chains time (h.at b) m part → time ≤ time_of time packet.time o
     → AllAt h b (locations f.chains ns (record_of never f m packet choices o)) → AllTold h ns (record_of never f m packet choices o) → MadeOwn h.owner (h.at b) (entries_made (record_of stops f part packet choices o)) → step_of stops f part packet choices o ≡ Some q → BackOn h opened f time (h.at b) ns m part packet choices o q
 back_on h opened stops f time b ns m part packet choices None q knows halts whole a le home told_all own e = skip_back h opened f time (h.at b) ns m part packet choices q whole a e
-back_on h opened stops f time b ns m part packet choices (Some fields) q knows halts whole a le home told_all own e = fields_back h opened stops f time b ns m part packet choices fields (slice_get f.handlers packet.id.port) q refl knows halts whole a le home told_all own e
+back_on h opened stops f time b ns m part packet choices (Some fields) q knows halts whole a le home told_all own e = fields_back h opened stops f time b ns m part packet choices fields (handler_at f (door_of packet.id.port fields)) q refl knows halts whole a le home told_all own e
 
 -- one queue's value changed
 abbrev pub changed : {A : Type 0} → (ℕ → A) → ℕ → A → ℕ → A

@@ -5,6 +5,8 @@ use Rattle.std.proofs.lemmas.Bool.{cases_Bool, lt-ltb}
 use Rattle.shard_laws.proofs.Taken.{block_own}
 use Rattle.std.proofs.Common.{◌≡◌, ℕ, ◌<◌, ◌≤◌, Bool, true, false, ◌&&◌, nat_lt, List, [], Option, Some, None, slice_get, refl, ap, ap₂, sym, ◌∙◌, subst, inl, inr}
 use Rattle.std.proofs.lemmas.Option.{none-some}
+use Rattle.nf_base.specs.Doors.{blocks, handler_at}
+use Rattle.nf_base.specs.Families.{door_of}
 use Rattle.nf_base.specs.declared.share.Share.{Share}
 use Rattle.nf_base.specs.declared.packet.Packet.{Packet}
 use Rattle.nf_base.specs.declared.packet.Fields.{Fields}
@@ -146,7 +148,7 @@ StopOn side h b f s t time fields choices o chain left =
     MadeOwn h.owner (h.at b) (entries_made (records (own_stops true h.owner (h.at b)) f s time fields choices o)) →
     completes (own_stops true h.owner (h.at b)) f s time fields choices o ≡ StoppedAt chain left → completes (own_stops true h.owner (h.at b)) f t time fields choices o ≡ StoppedAt chain left
 
-pub block_stops : (h : Homes) (b : ℕ) (opened : ℕ → ℕ → ℕ) (f : Function) (time : ℕ) (ns : Numbers) (s part : State) (packet : Packet) (fields : Fields) (choices : List ℕ) (chain : ℕ) (left : List ℕ) (o : Option Block) → slice_get f.handlers packet.id.port ≡ o → KnowsWritten h f
+pub block_stops : (h : Homes) (b : ℕ) (opened : ℕ → ℕ → ℕ) (f : Function) (time : ℕ) (ns : Numbers) (s part : State) (packet : Packet) (fields : Fields) (choices : List ℕ) (chain : ℕ) (left : List ℕ) (o : Option Block) → handler_at f (door_of packet.id.port fields) ≡ o → KnowsWritten h f
     → Whole h opened f.chains time ns s → Part h opened f.chains time (h.at b) s part → time ≤ packet.time → AllAt h b (locations f.chains ns (records never f s packet.time fields choices o)) → AllTold h ns (records never f s packet.time fields choices o)
     → StopOn true h b f part s packet.time fields choices o chain left × StopOn false h b f s part packet.time fields choices o chain left
 block_stops h b opened f time ns s part packet fields choices chain left None is knows whole a le at told_all = ((λ own e. cc), (λ own e. cc))
@@ -154,7 +156,7 @@ block_stops h b opened f time ns s part packet fields choices chain left (Some b
     let stops = own_stops true h.owner (h.at b) in
     let x = completes stops f s packet.time fields choices (Some block) in
     let y = completes stops f part packet.time fields choices (Some block) in
-    let text = told h f packet.id.port block knows is in (
+    let text = told h f (door_of packet.id.port fields) block knows is in (
       (λ own e. let both = tight_alike true h b opened f time ns s part packet.time fields choices block text whole a le at told_all (λ q. cc) (λ q. own) in
           stop_back both.scene both.last (λ _. []) (λ _. []) x chain left both.tight both.side_is (subst (λ (g : Completion). Alike both.scene both.last (λ _. []) (λ _. []) x g) e both.alike)),
       (λ own e. let both = tight_alike false h b opened f time ns s part packet.time fields choices block text whole a le at told_all (λ q. own) (λ q. cc) in
@@ -170,7 +172,7 @@ share_is_own share owner w many by is =
 
 pub stops_are_undivided : StopsAreUndivided
 stops_are_undivided h share b opened f time ns s part packet fields choices chain left many by is knows whole a le at told_all own =
-    let o = slice_get f.handlers packet.id.port in
+    let o = handler_at f (door_of packet.id.port fields) in
     let gen : share_stops share ≡ own_stops true h.owner (h.at b) = share_is_own share h.owner (h.at b) many by is in
     let mine : AllOwn h.owner (h.at b) choices = subst (λ (v : ℕ). AllOwn h.owner v choices) (sym is) own in
     let both = block_stops h b opened f time ns s part packet fields choices chain left o refl knows whole (subst (λ (v : ℕ). Part h opened f.chains time v s part) (sym is) a) le at told_all in (
@@ -181,13 +183,13 @@ stops_are_undivided h share b opened f time ns s part packet fields choices chai
     )
 
 -- a packet that has a step by its queue's own stops meets no full chain on the whole state
-block_grants : (h : Homes) (b : ℕ) (opened : ℕ → ℕ → ℕ) (f : Function) (time : ℕ) (ns : Numbers) (s part : State) (packet : Packet) (fields : Fields) (choices : List ℕ) (q : StepResult) (o : Option Block) → slice_get f.handlers packet.id.port ≡ o → KnowsWritten h f
+block_grants : (h : Homes) (b : ℕ) (opened : ℕ → ℕ → ℕ) (f : Function) (time : ℕ) (ns : Numbers) (s part : State) (packet : Packet) (fields : Fields) (choices : List ℕ) (q : StepResult) (o : Option Block) → handler_at f (door_of packet.id.port fields) ≡ o → KnowsWritten h f
     → Whole h opened f.chains time ns s → Part h opened f.chains time (h.at b) s part → time ≤ packet.time → AllAt h b (locations f.chains ns (records never f s packet.time fields choices o)) → AllTold h ns (records never f s packet.time fields choices o)
     → MadeOwn h.owner (h.at b) (entries_made (records (own_stops true h.owner (h.at b)) f part packet.time fields choices o)) → step_result choices (completes (own_stops true h.owner (h.at b)) f part packet.time fields choices o) ≡ Some q → answers_full (records never f s packet.time fields choices o) ≡ false
 block_grants h b opened f time ns s part packet fields choices q None is knows whole a le at told_all own e = refl
 block_grants h b opened f time ns s part packet fields choices q (Some block) is knows whole a le at told_all own e =
     let stops = own_stops true h.owner (h.at b) in
-    let both = tight_alike true h b opened f time ns s part packet.time fields choices block (told h f packet.id.port block knows is) whole a le at told_all (λ q. cc) (λ q. own) in
+    let both = tight_alike true h b opened f time ns s part packet.time fields choices block (told h f (door_of packet.id.port fields) block knows is) whole a le at told_all (λ q. cc) (λ q. own) in
     let x = completes stops f s packet.time fields choices (Some block) in
     let y = completes stops f part packet.time fields choices (Some block) in
     let p = input f packet.time fields in
@@ -200,7 +202,7 @@ pub grants_on : (h : Homes) (b : ℕ) (opened : ℕ → ℕ → ℕ) (f : Functi
     → MadeOwn h.owner (h.at b) (entries_made (record_of (own_stops true h.owner (h.at b)) f part packet choices o)) → step_of (own_stops true h.owner (h.at b)) f part packet choices o ≡ Some q → answers_full (record_of never f s packet choices o) ≡ false
 grants_on h b opened f time ns s part packet choices None q knows whole a le at told_all own e = refl
 grants_on h b opened f time ns s part packet choices (Some fields) q knows whole a le at told_all own e =
-    block_grants h b opened f time ns s part packet fields choices q (slice_get f.handlers packet.id.port) refl knows whole a le at told_all own e
+    block_grants h b opened f time ns s part packet fields choices q (handler_at f (door_of packet.id.port fields)) refl knows whole a le at told_all own e
 
 -- where both sides stop, they made and stored the same before
 stop_block : {A : Type 0} (tr : List Event → A) → IsTrace tr → (side : Bool) (h : Homes) (b : ℕ) (opened : ℕ → ℕ → ℕ) (f : Function) (time : ℕ) (ns : Numbers) (s part : State) (now : ℕ) (fields : Fields) (choices : List ℕ) (block : Block) (chain : ℕ) (left : List ℕ) → IsTold h.written block
@@ -222,7 +224,7 @@ stop_block tr t side h b opened f time ns s part now fields choices block chain 
     (start_agree scene ns choices (whole_later h opened f.chains time now ns s whole le) (part_begins h opened f.chains time now (h.at b) s part a le))
     (goes_from scene ns es mine.0 mine.1 (λ x. cc) own) own_part (cut _ e) (cut _ g) (λ n c d x y z u v. refl)
 
-pub stop_traces : {A : Type 0} (tr : List Event → A) → IsTrace tr → (side : Bool) (h : Homes) (b : ℕ) (opened : ℕ → ℕ → ℕ) (f : Function) (time : ℕ) (ns : Numbers) (s part : State) (packet : Packet) (fields : Fields) (choices : List ℕ) (o : Option Block) (chain : ℕ) (left : List ℕ) → slice_get f.handlers packet.id.port ≡ o → KnowsWritten h f
+pub stop_traces : {A : Type 0} (tr : List Event → A) → IsTrace tr → (side : Bool) (h : Homes) (b : ℕ) (opened : ℕ → ℕ → ℕ) (f : Function) (time : ℕ) (ns : Numbers) (s part : State) (packet : Packet) (fields : Fields) (choices : List ℕ) (o : Option Block) (chain : ℕ) (left : List ℕ) → handler_at f (door_of packet.id.port fields) ≡ o → KnowsWritten h f
     → Whole h opened f.chains time ns s → Part h opened f.chains time (h.at b) s part → time ≤ packet.time → AllAt h b (locations f.chains ns (records never f s packet.time fields choices o)) → AllTold h ns (records never f s packet.time fields choices o)
     → (side ≡ false → MadeOwn h.owner (h.at b) (entries_made (records (own_stops true h.owner (h.at b)) f s packet.time fields choices o)))
     → (side ≡ true → MadeOwn h.owner (h.at b) (entries_made (records (own_stops true h.owner (h.at b)) f part packet.time fields choices o)))
@@ -230,4 +232,4 @@ pub stop_traces : {A : Type 0} (tr : List Event → A) → IsTrace tr → (side 
     → tr (records (own_stops true h.owner (h.at b)) f s packet.time fields choices o) ≡ tr (records (own_stops true h.owner (h.at b)) f part packet.time fields choices o)
 stop_traces tr t side h b opened f time ns s part packet fields choices None chain left is knows whole a le at told_all own own_part e g = refl
 stop_traces tr t side h b opened f time ns s part packet fields choices (Some block) chain left is knows whole a le at told_all own own_part e g =
-    stop_block tr t side h b opened f time ns s part packet.time fields choices block chain left (told h f packet.id.port block knows is) whole a le at told_all own own_part e g
+    stop_block tr t side h b opened f time ns s part packet.time fields choices block chain left (told h f (door_of packet.id.port fields) block knows is) whole a le at told_all own own_part e g

@@ -1,5 +1,7 @@
 -- Where all choices are a queue's own, so are the entries that are made.
 use Rattle.std.proofs.Common.{◌≡◌, ℕ, List, [], ◌∷◌, drop, map, Option, Some, None, sym, subst, ◌∙◌, refl}
+use Rattle.nf_base.specs.Doors.{handler_at}
+use Rattle.nf_base.specs.Families.{door_of}
 use Rattle.nf_base.specs.declared.packet.Packet.{Packet}
 use Rattle.nf_base.specs.declared.packet.Fields.{Fields}
 use Rattle.nf_base.specs.declared.state.State.{State}
@@ -12,7 +14,6 @@ use Rattle.nf_base.specs.Record.{NewEntry}
 use Rattle.nf_base.specs.Runs.{Handling}
 use Rattle.nf_base.specs.Step.{input, start_context, records, record_of}
 use Rattle.nf_base.specs.Text as text
-use Rattle.std.proofs.Common.{slice_get}
 use Rattle.nf_laws.proofs.Plain.{plain_reads, plain_all, plain_asked, plain_did}
 use Rattle.nf_laws.proofs.Consumed.{after_left, answer_left, made_next}
 use Rattle.nf_laws.proofs.Legal.{taken_head}
@@ -67,7 +68,7 @@ block_own owner w stops f s time fields choices (Some block) a = course_own owne
 
 pub taken_own : (owner : ℕ → ℕ → ℕ) (w : ℕ) (stops : Stops) (f : Function) (s : State) (packet : Packet) (choices : List ℕ) (o : Option Fields) → AllOwn owner w choices → Mine owner w (record_of stops f s packet choices o)
 taken_own owner w stops f s packet choices None a = tt
-taken_own owner w stops f s packet choices (Some fields) a = block_own owner w stops f s packet.time fields choices (slice_get f.handlers packet.id.port) a
+taken_own owner w stops f s packet choices (Some fields) a = block_own owner w stops f s packet.time fields choices (handler_at f (door_of packet.id.port fields)) a
 
 pub takes_make : (owner : ℕ → ℕ → ℕ) (queue : Packet → ℕ) (stops : Stops) (f : Function) (hs : List Handling) (s : State) → TakeOwn owner queue hs → MakeOwn owner queue stops f s hs
 takes_make owner queue stops f [] s own = tt

@@ -4,6 +4,8 @@ use Rattle.shard_laws.specs.Marks.{Marks, marked, all_marks}
 use Rattle.shard_laws.proofs.Making.{question_makes_none}
 use Rattle.std.proofs.Common.{◌≡◌, ℕ, ◌≤◌, Bool, true, false, not, List, [], Option, Some, None, slice_get, refl, ap, ◌∷◌}
 use Rattle.std.proofs.lemmas.Option.{none-some}
+use Rattle.nf_base.specs.Doors.{handler_at}
+use Rattle.nf_base.specs.Families.{door_of}
 use Rattle.nf_base.specs.declared.packet.Packet.{Packet}
 use Rattle.nf_base.specs.declared.packet.Fields.{Fields}
 use Rattle.nf_base.specs.declared.state.State.{State}
@@ -86,14 +88,14 @@ block_traces tr t side h b stops opened f time ns m part now fields choices bloc
     (fine_step s choices (exec never p block (course_of (at_time now f.chains m) choices)) r e) (fine_step s choices (exec stops p block (course_of (at_time now f.chains part) choices)) q g)
     (λ n c d a g o x y. refl)
 
-fields_traces : {A : Type 0} (tr : List Event → A) → IsTrace tr → (side : Bool) (h : Homes) (b : ℕ) (stops : Stops) (opened : ℕ → ℕ → ℕ) (f : Function) (time : ℕ) (ns : Numbers) (m part : State) (packet : Packet) (fields : Fields) (choices : List ℕ) (o : Option Block) (r q : StepResult) → slice_get f.handlers packet.id.port ≡ o → KnowsWritten h f → HaltsOwn h.owner (h.at b) stops
+fields_traces : {A : Type 0} (tr : List Event → A) → IsTrace tr → (side : Bool) (h : Homes) (b : ℕ) (stops : Stops) (opened : ℕ → ℕ → ℕ) (f : Function) (time : ℕ) (ns : Numbers) (m part : State) (packet : Packet) (fields : Fields) (choices : List ℕ) (o : Option Block) (r q : StepResult) → handler_at f (door_of packet.id.port fields) ≡ o → KnowsWritten h f → HaltsOwn h.owner (h.at b) stops
     → Whole h opened f.chains time ns m → Part h opened f.chains time (h.at b) m part → time ≤ packet.time → AllAt h b (locations f.chains ns (records never f m packet.time fields choices o)) → AllTold h ns (records never f m packet.time fields choices o)
     → OwnOn side h b (records never f m packet.time fields choices o) (records stops f part packet.time fields choices o)
     → step_result choices (completes never f m packet.time fields choices o) ≡ Some r → step_result choices (completes stops f part packet.time fields choices o) ≡ Some q
     → tr (records never f m packet.time fields choices o) ≡ tr (records stops f part packet.time fields choices o)
 fields_traces tr t side h b stops opened f time ns m part packet fields choices None r q is knows halts whole a le at told_all own e g = refl
 fields_traces tr t side h b stops opened f time ns m part packet fields choices (Some block) r q is knows halts whole a le at told_all own e g =
-    block_traces tr t side h b stops opened f time ns m part packet.time fields choices block r q (told h f packet.id.port block knows is) halts whole a le at told_all own e g
+    block_traces tr t side h b stops opened f time ns m part packet.time fields choices block r q (told h f (door_of packet.id.port fields) block knows is) halts whole a le at told_all own e g
 
 pub steps_trace : {A : Type 0} (tr : List Event → A) → IsTrace tr → (side : Bool) (h : Homes) (b : ℕ) (stops : Stops) (opened : ℕ → ℕ → ℕ) (f : Function) (time : ℕ) (ns : Numbers) (m part : State) (packet : Packet) (choices : List ℕ) (o : Option Fields) (r q : StepResult) → KnowsWritten h f → HaltsOwn h.owner (h.at b) stops
     → Whole h opened f.chains time ns m → Part h opened f.chains time (h.at b) m part → time ≤ time_of time packet.time o → AllAt h b (locations f.chains ns (record_of never f m packet choices o)) → AllTold h ns (record_of never f m packet choices o)
@@ -101,7 +103,7 @@ pub steps_trace : {A : Type 0} (tr : List Event → A) → IsTrace tr → (side 
     → step_of never f m packet choices o ≡ Some r → step_of stops f part packet choices o ≡ Some q → tr (record_of never f m packet choices o) ≡ tr (record_of stops f part packet choices o)
 steps_trace tr t side h b stops opened f time ns m part packet choices None r q knows halts whole a le at told_all own e g = refl
 steps_trace tr t side h b stops opened f time ns m part packet choices (Some fields) r q knows halts whole a le at told_all own e g =
-    fields_traces tr t side h b stops opened f time ns m part packet fields choices (slice_get f.handlers packet.id.port) r q refl knows halts whole a le at told_all own e g
+    fields_traces tr t side h b stops opened f time ns m part packet fields choices (handler_at f (door_of packet.id.port fields)) r q refl knows halts whole a le at told_all own e g
 
 question_marks : (b : ℕ) (p : Input) (c : Context) (q : Question) (es : List Event) → ◌≡◌ {A = Marks → Marks} (λ ms. all_marks b ms (question_event p c q ∷ es)) (λ ms. all_marks b ms es)
 question_marks b p c (Get place chain m key var) es = refl

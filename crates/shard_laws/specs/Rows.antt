@@ -10,7 +10,9 @@
 --     flood;
 --   }
 -- }
-use Rattle.std.specs.Prelude.{◌≡◌, ℕ, zero, suc, ◌%◌, true, List, [], ◌∷◌, Option, Some, None}
+use Rattle.std.specs.Prelude.{◌≡◌, ℕ, zero, suc, ◌%◌, true, List, [], ◌∷◌, Option, Some, None, map}
+use Rattle.nf_base.specs.Doors.{only_four}
+use Rattle.nf_base.specs.Families.{source}
 use Rattle.nf_base.specs.declared.width.Width.TheVariants.{W32}
 use Rattle.nf_base.specs.declared.expr.Operator.TheVariants.{Plus}
 use Rattle.nf_base.specs.declared.decl.ObjectId.TheVariants as object
@@ -53,13 +55,13 @@ counted = record {
   } ∷ [];
   arrays = record { name = []; width = W32; cells = 7 ∷ 8 ∷ 9 ∷ 10 ∷ [] } ∷ [];
   objects = object.Chain 0 ∷ object.Array 0 ∷ [];
-  handlers = counts ∷ [];
+  handlers = map only_four (counts ∷ []);
 }
 
 -- even addresses go to queue 0, odd ones to queue 1, and skipped packets to queue 0
 abbrev pub queue_by : Option Fields → ℕ
 queue_by None = 0
-queue_by (Some fields) = fields.src_ip % 2
+queue_by (Some fields) = source fields % 2
 
 -- the queue of a packet
 abbrev pub by_source : Packet → ℕ

@@ -1,5 +1,7 @@
 -- What the laws say of shares.
 use Rattle.std.specs.Prelude.{◌≡◌, ◌↔◌, ◌<◌, ◌≤◌, ℕ, List, [], ◌∷◌, ◌++◌, Some, slice_get}
+use Rattle.nf_base.specs.Doors.{handler_at}
+use Rattle.nf_base.specs.Families.{door_of}
 use Rattle.nf_base.specs.declared.packet.Packet.{Packet}
 use Rattle.nf_base.specs.declared.packet.Fields.{Fields}
 use Rattle.nf_base.specs.declared.share.Share.{Share}
@@ -30,7 +32,7 @@ RunsByStopsAreRuns =
 -- where a handler goes, at a state, with these stops and choices, to a `new` of a chain that stops
 abbrev pub StopsAt : Stops → Function → State → Packet → Fields → List ℕ → ℕ → List ℕ → Type 0
 StopsAt stops f s packet fields choices chain left =
-    completes stops f s packet.time fields choices (slice_get f.handlers packet.id.port)
+    completes stops f s packet.time fields choices (handler_at f (door_of packet.id.port fields))
     ≡ StoppedAt chain left
 
 -- A share's handler stops on its queue's part exactly where it stops on the whole state, at the

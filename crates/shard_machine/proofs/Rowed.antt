@@ -1,10 +1,13 @@
 -- The worked rows, event by event.
-use Rattle.std.proofs.Common.{◌≡◌, ◌<◌, ◌≤◌, ℕ, zero, suc, ◌%◌, ◌==◌, ◌&&◌, nat_lt, true, List, [], ◌∷◌, ◌++◌, Contains, Option, Some, None, map, slice_get, get_or, refl, ap, ◌∙◌, sym, subst, arith}
+use Rattle.std.proofs.Common.{◌≡◌, ◌<◌, ◌≤◌, ℕ, zero, suc, ◌%◌, ◌==◌, ◌&&◌, nat_lt, true, List, [], ◌∷◌, ◌++◌, Contains, Option, Some, None, map, get_or, refl, ap, ◌∙◌, sym, subst, arith}
+use Rattle.nf_base.specs.declared.packet.Addresses.TheVariants as addresses
 use Rattle.nf_base.specs.declared.packet.Packet.{Packet}
 use Rattle.nf_base.specs.declared.packet.Fields.{Fields}
 use Rattle.nf_base.specs.declared.share.Share.{Share}
 use Rattle.nf_base.specs.declared.state.State.{State}
 use Rattle.nf_base.specs.Course.{StoppedAt}
+use Rattle.nf_base.specs.Doors.{handler_at}
+use Rattle.nf_base.specs.Families.{door_of}
 use Rattle.nf_base.specs.Locations.{KeyOf}
 use Rattle.nf_base.specs.Operations.{Stops}
 use Rattle.nf_base.specs.Runs.{Handling}
@@ -139,14 +142,14 @@ full_goes_on : (share : ℕ → Share) → AreShares 2 share → Works counted (
 full_goes_on share are = works _ full_second.packet (one_too_many.packet ∷ []) (answer full_second).done of_full refl refl (one_own share 1 3 are (omega arith) refl) (stepped share 1 of_one of_full full_second are (omega arith) refl)
 
 abbrev from_five : Fields
-from_five = record { length = 42; src_mac = 2199023255553; dst_mac = 2199023255554; src_ip = 5; dst_ip = 0; proto = 17; ttl = 64; src_port = 0; dst_port = 0 }
+from_five = record { length = 42; src_mac = 2199023255553; dst_mac = 2199023255554; addresses = addresses.Four 5 0; proto = 17; ttl = 64; src_port = 0; dst_port = 0 }
 
 full_stops : (share : ℕ → Share) → AreShares 2 share → Works counted (share 1) result.Stopped (has_worked (full_first ∷ full_second ∷ []) (one_too_many.packet ∷ []) of_full) stopped_worker
 full_stops share are = stops _ one_too_many.packet [] from_five [] 0 refl refl
     (record {
       handled = refl;
       own = none_own (share 1);
-      stops = of_two (λ halts. completes halts counted of_full one_too_many.packet.time from_five [] (slice_get counted.handlers one_too_many.packet.id.port) ≡ StoppedAt 0 []) share 1 are (omega arith) refl;
+      stops = of_two (λ halts. completes halts counted of_full one_too_many.packet.time from_five [] (handler_at counted (door_of one_too_many.packet.id.port from_five)) ≡ StoppedAt 0 []) share 1 are (omega arith) refl;
     })
 
 behind_goes : (share : ℕ → Share) → AreShares 2 share → Works counted (share 0) result.Done (has_worked [] (behind.packet ∷ []) (new_worker counted).state) (has_worked (behind ∷ []) [] of_behind)

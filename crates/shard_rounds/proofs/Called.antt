@@ -1,7 +1,8 @@
 -- What the workers do, each for itself and all together.
-use Rattle.std.proofs.Common.{◌≡◌, ◌≢◌, ◌<◌, ◌≤◌, ◌+◌, ℕ, zero, suc, Bool, true, false, List, [], ◌∷◌, ◌++◌, length, take, replicate, All, Option, Some, None, slice_get, slice_index_or, refl, ap, sym, ◌∙◌, subst, arith}
+use Rattle.std.proofs.Common.{◌≡◌, ◌<◌, ◌≤◌, ◌+◌, ℕ, zero, suc, true, false, List, [], ◌∷◌, ◌++◌, length, take, replicate, Option, Some, None, slice_get, slice_index_or, refl, ap, sym, ◌∙◌, subst, arith}
 use Rattle.std.proofs.lemmas.Option.{slice_get_within}
 use Rattle.nf_base.specs.declared.packet.Packet.{Packet}
+use Rattle.nf_base.specs.Doors.{IsServed}
 use Rattle.nf_base.specs.Text.{Function}
 use Rattle.nf_base.specs.Functions.{function_of}
 use Rattle.nf_base.specs.declared.func.Func.{Func}
@@ -11,14 +12,14 @@ use Rattle.shard_machine.specs.declared.event.Event.{Event}
 use Rattle.shard_machine.specs.declared.event.Event.TheVariants.{Work}
 use Rattle.shard_machine.specs.declared.event.Worked.{Worked}
 use Rattle.shard_machine.specs.declared.event.Worked.TheVariants as result
-use Rattle.shard_machine.specs.Machine.{Setup, Worker, Machine, answers_at}
+use Rattle.shard_machine.specs.Machine.{Setup, Machine}
 use Rattle.shard_machine.specs.Events.{Plays}
 use Rattle.shard_core.specs.Apart.{AreWorked, works_from, WorkedBack}
 use Rattle.shard_core.specs.Held as one
 use Rattle.shard_core.specs.Held.{Held, first_id, Stops, HeldWorks, WorksOnce, WorkedTimes}
-use Rattle.shard_core.specs.Sharded.{Sharded, StandsFor, AreWorkersOf, with_workers}
+use Rattle.shard_core.specs.Sharded.{Sharded, StandsFor, AreWorkersOf}
 use Rattle.shard_core.proofs.Changing.{works_waiting}
-use Rattle.shard_rounds.specs.Workings.{CanWork, AreWorkers, WentOn, IsDone, WorkedThrough, AllWorkedThrough, AreDone, WorkedAll}
+use Rattle.shard_rounds.specs.Workings.{CanWork, AreWorkers, WentOn, WorkedThrough, AllWorkedThrough, WorkedAll}
 
 -- a worker that has stopped stays as it is, however often it is called
 stays : (f : Function) (held : Held) (stopped : Option ℕ) (chain : ℕ) → held.stopped ≡ stopped → stopped ≡ Some chain → Stops f stopped held held
@@ -120,6 +121,7 @@ pub still_can : (func : Func) (f : Function) (came : Worked) (old new : Held) �
 still_can func f came old new works fixed can = record {
   decls = ap (λ (x : Fixed). x.decls) fixed ∙ can.decls;
   ports = works_waiting (λ (p : Packet). p.id.port < length func.handlers) f came old new works can.ports;
+  served = works_waiting (IsServed (function_of func)) f came old new works can.served;
 }
 
 -- a packet less waits, or it has stopped
@@ -180,7 +182,7 @@ can_each func workers i held are lt at = (let most = are.most in omega (arith, l
 pub of_shards : (v : Sharded) (workers : List Held) → AreWorkersOf v workers → length workers ≤ 16 → AreWorkers v.func workers
 of_shards v workers of few = record {
   most = few;
-  each = λ w held at. let k = of.each w held at in record { decls = k.decls_are; ports = k.ports_are };
+  each = λ w held at. let k = of.each w held at in record { decls = k.decls_are; ports = k.ports_are; served = k.served_are };
 }
 
 -- a whole list in front of another

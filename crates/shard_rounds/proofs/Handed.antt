@@ -1,5 +1,5 @@
 -- What a round handed out, of its batch.
-use Rattle.std.proofs.Common.{◌≡◌, ℕ, List, [], ◌∷◌, ◌++◌, map, Option, Some, None, refl, ap, sym, ◌∙◌, subst}
+use Rattle.std.proofs.Common.{◌≡◌, List, [], ◌∷◌, ◌++◌, map, Option, refl, ap, sym, ◌∙◌, subst}
 use Rattle.nf_base.specs.declared.packet.Packet.{Packet}
 use Rattle.shard_machine.specs.declared.event.Answer.{Answer}
 use Rattle.shard_machine.specs.Machine.{Setup, Machine, packets_of}

@@ -1,5 +1,5 @@
 -- A round, of its parts.
-use Rattle.std.proofs.Common.{◌≡◌, ◌<◌, ◌≤◌, ◌+◌, ℕ, zero, suc, List, [], ◌∷◌, ◌++◌, length, map, replicate, All, Option, Some, None, refl, ap, ap₂, sym, ◌∙◌, subst, arith}
+use Rattle.std.proofs.Common.{◌≡◌, ℕ, zero, suc, List, [], ◌∷◌, ◌++◌, length, map, replicate, Option, Some, None, refl, ap, ap₂, sym, ◌∙◌, subst}
 use Rattle.nf_base.specs.declared.packet.Packet.{Packet}
 use Rattle.shard_machine.specs.declared.event.Answer.{Answer}
 use Rattle.shard_machine.specs.declared.event.Event.{Event}
@@ -11,7 +11,6 @@ use Rattle.shard_machine.specs.Moments.{IsSetup, Holds, IsAtStop}
 use Rattle.shard_machine.proofs.Sent.{append_nil, append_twice, map_append, same_behind, packets_append, packets_of_at, one_at}
 use Rattle.shard_machine.proofs.Kept.{events_keep}
 use Rattle.shard_machine.proofs.Ran.{stop_packet}
-use Rattle.shard_core.specs.declared.collected.Collected.{Collected}
 use Rattle.shard_core.specs.declared.collected.Stop.{Stop}
 use Rattle.shard_core.specs.Apart.{works_from}
 use Rattle.shard_core.specs.Sharded.{Sharded, StandsFor, IsStopOf, answer_of}
@@ -19,7 +18,7 @@ use Rattle.shard_core.proofs.Played.{plays_append}
 use Rattle.shard_rounds.specs.declared.round.Round.{Round}
 use Rattle.shard_rounds.specs.Workings.{AreDone, WorkedAll}
 use Rattle.shard_rounds.specs.Rounds.{all_dispatched, waits_at, round_events, CollectedAll, RanRound}
-use Rattle.shard_rounds.proofs.Batch.{plays_given, sent_given, got_given, waits_given}
+use Rattle.shard_rounds.proofs.Batch.{plays_given, waits_given}
 use Rattle.shard_rounds.proofs.Called.{works_same}
 
 same_first : {A : Type 0} (x y : A) (xs ys : List A) → x ∷ xs ≡ y ∷ ys → x ≡ y

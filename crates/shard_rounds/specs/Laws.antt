@@ -1,5 +1,5 @@
 -- What a round's outcome says of its batch.
-use Rattle.std.specs.Prelude.{◌≡◌, ℕ, List, ◌∷◌, ◌++◌, map, None, Some}
+use Rattle.std.specs.Prelude.{◌≡◌, List, ◌∷◌, ◌++◌, map, None, Some}
 use Rattle.nf_base.specs.declared.packet.Packet.{Packet}
 use Rattle.shard_machine.specs.Machine.{Setup, Machine, packets_of}
 use Rattle.shard_core.specs.declared.collected.Collected.{Collected}

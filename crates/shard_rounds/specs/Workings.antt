@@ -2,6 +2,8 @@
 use Rattle.std.specs.Prelude.{◌≡◌, ◌≤◌, ◌<◌, ℕ, Bool, true, false, List, [], ◌∷◌, length, All, Some, None, slice_get}
 use Rattle.nf_base.specs.declared.func.Func.{Func}
 use Rattle.nf_base.specs.declared.packet.Packet.{Packet}
+use Rattle.nf_base.specs.Doors.{IsServed}
+use Rattle.nf_base.specs.Functions.{function_of}
 use Rattle.nf_base.specs.Text.{Function}
 use Rattle.shard_machine.specs.Machine.{Setup, Machine}
 use Rattle.shard_machine.specs.Events.{Plays}
@@ -13,6 +15,7 @@ use Rattle.shard_core.specs.Sharded.{Sharded, StandsFor}
 pub record CanWork (func : Func) (held : Held) : Type 0 where
   pub decls : held.tables.decls ≡ func.chains
   pub ports : All (λ (p : Packet). p.id.port < length func.handlers) held.waiting
+  pub served : All (IsServed (function_of func)) held.waiting
 
 -- those of all workers are, 16 at most
 pub record AreWorkers (func : Func) (workers : List Held) : Type 0 where

@@ -1,6 +1,8 @@
 // Room for a batch, and its packets to their queues.
 ghost use Rattle.std.specs.Prelude.{◌≡◌, ◌≤◌, ◌<◌, ◌+◌, ℕ, [], length, IfOk, OnOk, OnErr, All};
 ghost use Rattle.std.specs.Vec.{vec_len, vec_capacity};
+ghost use Rattle.nf_base.specs.Doors.{IsServed};
+ghost use Rattle.nf_base.specs.Functions.{function_of};
 ghost use Rattle.shard_machine.specs.Machine.{Setup, Machine};
 ghost use Rattle.shard_machine.specs.Events.{dispatched};
 ghost use Rattle.shard_core.specs.Sharded.{StandsFor, IsWhole, SameButRooms, HasRoom};
@@ -34,6 +36,7 @@ pub fn give_all(shards: &mut Shards, batch: &[Packet])
     requires whole { IsWhole shards.old }
     requires ports { let ports = length shards.old.func.handlers in
         All (λ p. p.id.port < ports) batch.now }
+    requires served { All (IsServed (function_of shards.old.func)) batch.now }
     requires room { HasRoom (length batch.now) shards.old }
     ensures stands { (x : Setup) → (m : Machine) → StandsFor x m shards.old →
         StandsFor x (all_dispatched x batch.now m) shards.new }
@@ -50,6 +53,7 @@ pub fn give_all(shards: &mut Shards, batch: &[Packet])
 fn give_one(shards: &mut Shards, packet: &Packet)
     requires whole { IsWhole shards.old }
     requires port { packet.now.id.port < length shards.old.func.handlers }
+    requires served { IsServed (function_of shards.old.func) packet.now }
     requires room { HasRoom 1 shards.old }
     ensures stands { (x : Setup) → (m : Machine) → StandsFor x m shards.old →
         StandsFor x (dispatched x packet.now m) shards.new }

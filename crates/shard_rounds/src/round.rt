@@ -2,6 +2,8 @@
 ghost use Rattle.std.specs.Prelude.{◌≡◌, ◌≤◌, ◌<◌, ℕ, List, [], length, IfOk, OnOk, OnErr, All};
 ghost use Rattle.std.specs.Vec.{vec_capacity};
 ghost use Rattle.nf_base.specs.declared.packet.Packet as packet;
+ghost use Rattle.nf_base.specs.Doors.{IsServed};
+ghost use Rattle.nf_base.specs.Functions.{function_of};
 ghost use Rattle.shard_machine.specs.Machine.{Setup, Machine};
 ghost use Rattle.shard_core.specs.Sharded.{Sharded, StandsFor, IsWhole, SameButRooms};
 ghost use Rattle.shard_core.specs.Plays.{SameSize};
@@ -40,6 +42,7 @@ pub fn begin_round(
     requires whole { IsWhole shards.old }
     requires ports { let ports = length shards.old.func.handlers in
         All (λ p. p.id.port < ports) batch.now }
+    requires served { All (IsServed (function_of shards.old.func)) batch.now }
     ensures none { IfOk result (λ got. got.items ≡ []) }
     ensures room { IfOk result (λ got. length shards.new.queues.items ≤ vec_capacity got) }
     ensures given { (x : Setup) → (m : Machine) → StandsFor x m shards.old →
@@ -87,6 +90,7 @@ pub fn run_round<R: Threads + Sync, G: Turns + Sync>(
     requires whole { IsWhole shards.old }
     requires ports { let ports = length shards.old.func.handlers in
         All (λ p. p.id.port < ports) batch.now }
+    requires served { All (IsServed (function_of shards.old.func)) batch.now }
     // Whatever machine the shards stood for.
     ensures ran { (x : Setup) → (m : Machine) → StandsFor x m shards.old →
         IfOk result (λ round. RanRound x m batch.now round shards.new) }

@@ -1,5 +1,5 @@
 -- Keys that are admissible at the places, and by the sites.
-use Rattle.std.proofs.Common.{◌≡◌, ◌⊎◌, ℕ, List, [], ◌∷◌, true, Option, Some, None, map, get_or, All, Contains, refl, ap, sym, ◌∙◌, subst, inl, inr}
+use Rattle.std.proofs.Common.{◌≡◌, ◌⊎◌, ◌<◌, ◌^◌, ℕ, List, [], ◌∷◌, true, Option, Some, None, map, get_or, All, Contains, refl, ap, sym, ◌∙◌, subst, inl, inr}
 use Rattle.std.specs.List.{filter_map, cons_option}
 use Rattle.std.proofs.lemmas.Bool.{cases_Bool}
 use Rattle.std.proofs.lemmas.Option.{same_Some}
@@ -13,7 +13,9 @@ use Rattle.nf_laws.proofs.Listed.{here, there, has, has_none, kept, was}
 use Rattle.nf_sites.specs.Sites as text
 use Rattle.nf_sites.specs.OnPaths as listed
 use Rattle.nf_sites.specs.Known as sites
-use Rattle.nf_sites.specs.Admissible.{AreEqual, Agree, IsAdmissibleBySites}
+use Rattle.nf_sites.specs.Admissible.{AreEqual, Agree, IsAt, IsAdmissibleBySites}
+use Rattle.nf_base.specs.declared.packet.Family.{Family}
+use Rattle.hash_fields.specs.Hashed.{value, width}
 use Rattle.nf_sites.proofs.Lists.{passes, from_map, to_map, all_has}
 use Rattle.nf_sites.proofs.KeptLabels.{itself, one_object}
 use Rattle.access_keys.specs.declared.site.Site.{Site}
@@ -125,6 +127,13 @@ in_places f o x i e =
     once_to same_place places_same (map (place_of (keeps f o)) (on f o)) (place_of (keeps f o) (site_told f x))
     (to_map (place_of (keeps f o)) (on f o) (site_told f x) (on_own f x o i e))
 
+-- an input of a site's family, as it is at its place
+to_rows : (x : text.Site) (p : Fields) → IsAt x p → rows.IsInputOf x.door.family p
+to_rows x p at = record { of = at.family; within = λ h. subst (λ (g : Family). value p h < 2 ^ width g h) at.family (at.input.within h) }
+
+from_rows : (x : text.Site) (p : Fields) → rows.IsInputOf x.door.family p → IsAt x p
+from_rows x p fits = record { family = fits.of; input = record { within = λ h. subst (λ (g : Family). value p h < 2 ^ width g h) (sym fits.of) (fits.within h) } }
+
 by_sites : (f : Function) (keys : Keys) → rows.AreAdmissibleForAll keys (own_plan f).objects → IsAdmissibleBySites f (hash_by keys)
 by_sites f keys h x y i j e w p q ip iq agree =
     let o = x.object in
@@ -134,7 +143,7 @@ by_sites f keys h x y i j e w p q ip iq agree =
     let all : rows.AreAdmissible keys places = All-contains (λ (object : Object). rows.AreAdmissible keys object.places) (own_plan f).objects (kept_places (sites.labels_of f o) (on f o)) h (in_plan f x i w) in
     let some : All (rows.AgreeAt keys first) places = All-contains (λ (one : Place). All (rows.AgreeAt keys one) places) places first all (in_places f o x i refl) in
     let both : rows.AgreeAt keys first second = All-contains (rows.AgreeAt keys first) places second some (in_places f o y j (sym e)) in
-    both.hashes p q ip iq (tied f x y p q i j e agree)
+    both.hashes p q (to_rows x p ip) (to_rows y q iq) (tied f x y p q i j e agree)
 
 -- a place is that of a site of the function
 record PlaceOf (f : Function) (o : ObjectId) (place : Place) : Type 0 where
@@ -158,7 +167,7 @@ agree_at f keys ok o w first second a b =
     record {
       hashes = λ p q ip iq ties.
           ok x y a.of b.of (a.on_it ∙ sym b.on_it)
-          (subst (λ (n : ObjectId). is_written f n ≡ true) (sym a.on_it) w) p q ip iq
+          (subst (λ (n : ObjectId). is_written f n ≡ true) (sym a.on_it) w) p q (from_rows x p ip) (from_rows y q iq)
           (λ l k. agreeing f x y o p q a.of b.of a.on_it b.on_it ties l (subst (λ (n : ObjectId). Contains (sites.kept f n) l) a.on_it k));
     } in
     subst (λ (s : Place). rows.AgreeAt keys first s) b.is (subst (λ (s : Place). rows.AgreeAt keys s (place_of (keeps f o) (site_told f y))) a.is one)

@@ -4,6 +4,9 @@ use Rattle.std.proofs.lemmas.Bool.{eqb-true, eq-eqb}
 use Rattle.hash_fields.specs.declared.hashable.Hashable.{Hashable}
 use Rattle.hash_fields.specs.declared.hashable.Hashable.TheVariants.{SrcIp, DstIp, SrcPort, DstPort}
 use Rattle.hash_fields.specs.Hashed.{number}
+use Rattle.nf_base.specs.declared.packet.Family.{Family}
+use Rattle.nf_base.specs.declared.packet.Family.TheVariants.{Four, Six}
+use Rattle.key_rows.specs.Keyed.{version}
 use Rattle.key_rows.specs.declared.place.Place.{Place}
 use Rattle.shard_rules.specs.Places.{same_fields, same_place}
 
@@ -40,18 +43,25 @@ fields_same (f ∷ fs) (g ∷ gs) h =
     let rest = fields_same fs gs parts.1 in
     cc
 
--- a place of a port and fields
-abbrev place : ℕ → List Hashable → Place
-place port known = record { port = port; known = known }
+family_same : (f g : Family) → (version f == version g) ≡ true → f ≡ g
+family_same Four Four h = refl
+family_same Four Six h = cc
+family_same Six Four h = cc
+family_same Six Six h = refl
 
-pair_same : (a b : ℕ) (k m : List Hashable) → a ≡ b → k ≡ m → place a k ≡ place b m
-pair_same a b k m e f =
-    ap (λ (x : ℕ). place x k) e ∙ ap (λ (y : List Hashable). place b y) f
+-- a place of a port, a family and fields
+abbrev place : ℕ → Family → List Hashable → Place
+place port family known = record { port = port; family = family; known = known }
+
+parts_same : (a b : ℕ) (f g : Family) (k m : List Hashable) → a ≡ b → f ≡ g → k ≡ m → place a f k ≡ place b g m
+parts_same a b f g k m e h i =
+    ap (λ (x : ℕ). place x f k) e ∙ ap (λ (x : Family). place b x k) h ∙ ap (λ (y : List Hashable). place b g y) i
 
 pub places_same : (p q : Place) → same_place p q ≡ true → p ≡ q
 places_same p q h =
-    let parts = both (p.port == q.port) (same_fields p.known q.known) h in
-    pair_same p.port q.port p.known q.known (eqb-true p.port q.port parts.0) (fields_same p.known q.known parts.1)
+    let parts = both (p.port == q.port) ((version p.family == version q.family) && same_fields p.known q.known) h in
+    let rest = both (version p.family == version q.family) (same_fields p.known q.known) parts.1 in
+    parts_same p.port q.port p.family q.family p.known q.known (eqb-true p.port q.port parts.0) (family_same p.family q.family rest.0) (fields_same p.known q.known rest.1)
 
 field_itself : (f : Hashable) → (number f == number f) ≡ true
 field_itself SrcIp = refl
@@ -64,7 +74,7 @@ fields_themselves [] = refl
 fields_themselves (f ∷ fs) = rw (field_itself f) (fields_themselves fs)
 
 pub place_itself : (p : Place) → same_place p p ≡ true
-place_itself p = rw (eq-eqb p.port p.port refl) (fields_themselves p.known)
+place_itself p = rw (eq-eqb p.port p.port refl, eq-eqb (version p.family) (version p.family) refl) (fields_themselves p.known)
 
 -- lists of two lengths are not one
 pub unequal_lengths : (fs gs : List Hashable) → (length fs ≡ length gs → ⊥) → same_fields fs gs ≡ false

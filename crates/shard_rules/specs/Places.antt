@@ -4,13 +4,14 @@ use Rattle.std.specs.List.{filter_map}
 use Rattle.hash_fields.specs.declared.hashable.Hashable.{Hashable}
 use Rattle.hash_fields.specs.Hashed.{number}
 use Rattle.access_keys.specs.declared.site.Site.{Site}
+use Rattle.key_rows.specs.Keyed.{version}
 use Rattle.key_rows.specs.declared.place.Place.{Place}
 use Rattle.shard_rules.specs.Once.{each_once}
 use Rattle.shard_rules.specs.Sites.{field_at}
 
--- a site's port, and the field by which it knows each kept label, in text order
+-- a site's port and family, and the field by which it knows each kept label, in text order
 abbrev pub place_of : List ℕ → Site → Place
-place_of kept s = record { port = s.port; known = filter_map (field_at s) kept }
+place_of kept s = record { port = s.door.port; family = s.door.family; known = filter_map (field_at s) kept }
 
 -- whether two lists of fields are one
 abbrev pub same_fields : List Hashable → List Hashable → Bool
@@ -21,7 +22,8 @@ same_fields (f ∷ fs) (g ∷ gs) = (number f == number g) && same_fields fs gs
 
 -- whether two places are one
 abbrev pub same_place : Place → Place → Bool
-same_place p q = (p.port == q.port) && same_fields p.known q.known
+same_place p q =
+    (p.port == q.port) && ((version p.family == version q.family) && same_fields p.known q.known)
 
 -- the places of some sites, each once, in the order in which they first appear
 abbrev pub places_of : List ℕ → List Site → List Place

@@ -1,6 +1,7 @@
 -- Worked rows: the sites of some functions, and what they come to.
 use Rattle.std.specs.Prelude.{◌≡◌, ℕ, List, [], ◌∷◌, Option, Some, None}
 use Rattle.nf_base.specs.declared.decl.ObjectId.TheVariants as object
+use Rattle.nf_base.specs.declared.packet.Family.TheVariants.{Four}
 use Rattle.hash_fields.specs.declared.hashable.Hashable.{Hashable}
 use Rattle.hash_fields.specs.declared.hashable.Hashable.TheVariants.{SrcIp, DstIp, SrcPort, DstPort}
 use Rattle.nf_sites.specs.declared.sort.Sort.{Sort}
@@ -17,7 +18,7 @@ use Rattle.shard_rules.specs.Places.{places_of}
 abbrev pub at_chain : ℕ → ℕ → Sort → List (Option Hashable) → Site
 at_chain port place sort known = record {
   object = object.Chain 0;
-  port = port;
+  door = record { port = port; family = Four };
   place = place;
   sort = sort;
   known = known;
@@ -27,7 +28,7 @@ at_chain port place sort known = record {
 abbrev pub at_array : ℕ → ℕ → Sort → List (Option Hashable) → Site
 at_array port place sort known = record {
   object = object.Array 0;
-  port = port;
+  door = record { port = port; family = Four };
   place = place;
   sort = sort;
   known = known;
@@ -35,7 +36,7 @@ at_array port place sort known = record {
 
 -- a place of a port
 abbrev pub place_at : ℕ → List Hashable → Place
-place_at port known = record { port = port; known = known }
+place_at port known = record { port = port; family = Four; known = known }
 
 -- what sites of an object with some labels come to
 pub record ComeTo (labels : List ℕ) (sites : List Site) (rule : Rule) (kept : List ℕ)

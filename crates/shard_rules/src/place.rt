@@ -1,6 +1,7 @@
 //! Places: sites as far as keys can tell them apart.
 ghost use Rattle.std.specs.Prelude.{◌≡◌, IfOk, OnOk};
 ghost use Rattle.shard_rules.specs.Sites.{object_sites};
+ghost use Rattle.key_rows.specs.Keyed.{version};
 ghost use Rattle.shard_rules.specs.Once.{is_among, with_one};
 ghost use Rattle.shard_rules.specs.Places.{place_of, same_fields, same_place, places_of};
 
@@ -9,6 +10,7 @@ use access_keys::Site;
 use hash_fields::Hashable;
 use key_rows::Place;
 use nf_base::decl::ObjectId;
+use nf_base::packet::Family;
 use nf_base::seq::Seq;
 use std::alloc::{AllocError, Global};
 
@@ -22,7 +24,8 @@ fn place_of(alloc: Global, site: &Site, kept: &[u32]) -> Result<Place, AllocErro
         }
     }
     Ok(Place {
-        port: site.port,
+        port: site.door.port,
+        family: site.door.family,
         known,
     })
 }
@@ -42,10 +45,22 @@ fn same_fields(a: &[Hashable], b: &[Hashable]) -> bool
     true
 }
 
+/// The version of IP as a number.
+fn version(family: Family) -> u32
+    ensures { result ≡ version family }
+{
+    match family {
+        Family::Four => 4,
+        Family::Six => 6,
+    }
+}
+
 fn same_place(a: &Place, b: &Place) -> bool
     ensures { result ≡ same_place a.now b.now }
 {
-    a.port == b.port && same_fields(a.known.as_slice(), b.known.as_slice())
+    a.port == b.port
+        && version(a.family) == version(b.family)
+        && same_fields(a.known.as_slice(), b.known.as_slice())
 }
 
 fn is_among(place: &Place, places: &[Place]) -> bool

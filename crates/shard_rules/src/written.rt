@@ -2,6 +2,8 @@
 ghost use Rattle.std.specs.Prelude.{◌≡◌, map};
 ghost use Rattle.std.specs.List.{list_any};
 ghost use Rattle.nf_base.specs.Functions.{function_of};
+ghost use Rattle.nf_base.specs.Doors.{port_blocks};
+ghost use Rattle.nf_base.specs.Handlers.{blocks_of};
 ghost use Rattle.nf_base.specs.Objects.{makes_in, is_store_in, writes, is_written};
 ghost use Rattle.nf_base.specs.Statements.{Does, Makes, statements};
 ghost use Rattle.nf_base.specs.View.{block_of, operation_of, creation_of};
@@ -9,7 +11,8 @@ ghost use Rattle.nf_base.specs.declared.block.Block.{size-Block};
 
 use nf_base::block::{Block, Creation, Operation};
 use nf_base::decl::ObjectId;
-use nf_base::func::{Func, Handler};
+use nf_base::func::Func;
+use nf_base::port_handlers::PortHandlers;
 
 fn stores(operation: &Operation, object: ObjectId) -> bool
     ensures { result ≡ writes object (Does (operation_of operation.now)) }
@@ -80,14 +83,23 @@ fn is_written_in(block: &Block, object: ObjectId) -> bool
     }
 }
 
-/// Whether a handler's text writes an object.
-fn is_written_by(handlers: &[Handler], object: ObjectId) -> bool
-    ensures { result ≡ list_any (λ h. list_any (writes object) (statements (block_of h.block)))
+/// Whether the text of a port's handlers writes an object.
+#[tactic(auto, using(crate::proofs::Writing::one_writes, crate::proofs::Writing::two_write))]
+fn is_written_at(port: &PortHandlers, object: ObjectId) -> bool
+    ensures { result ≡ list_any (λ b. list_any (writes object) (statements b)) (port_blocks (blocks_of port.now)) }
+{
+    match &port.six {
+        Some(six) => is_written_in(&port.four.block, object) || is_written_in(&six.block, object),
+        None => is_written_in(&port.four.block, object),
+    }
+}
+
+/// Whether that of some port's handlers does.
+fn is_written_by(handlers: &[PortHandlers], object: ObjectId) -> bool
+    ensures { result ≡ list_any (λ h. list_any (λ b. list_any (writes object) (statements b)) (port_blocks (blocks_of h)))
         handlers.now }
 {
-    handlers
-        .iter()
-        .any(|handler| is_written_in(&handler.block, object))
+    handlers.iter().any(|port| is_written_at(port, object))
 }
 
 /// Whether a function's text writes an object: makes entries of a chain, or stores to an array.

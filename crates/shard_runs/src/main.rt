@@ -8,7 +8,7 @@ mod policer;
 
 use meeting::Meeting;
 use playing::{play, round};
-use policer::{FAR, NEAR, open, packet};
+use policer::{FAR, NEAR, open, packet, packet_of_ipv6};
 use shard_core::{Collected, Event};
 use shard_rounds::{Idle, Round};
 use std::io;
@@ -149,9 +149,22 @@ fn tell_meeting<R: Threads + Sync>(rt: &HostRuntime, threads: &R) -> io::Result<
     println!(rt; "the workers met: {}", meeting.was_kept())
 }
 
+/// A packet of IPv6 at a port that has a handler for it.
+fn tell_ipv6(rt: &HostRuntime) -> io::Result<()> {
+    tell_events(
+        rt,
+        &[
+            Event::Dispatch(packet_of_ipv6()),
+            Event::Work(1),
+            Event::Collect,
+        ],
+    )
+}
+
 fn main(rt: HostRuntime) -> io::Result<()> {
     tell_orders(&rt)?;
     tell_as_events(&rt)?;
     tell_rounds(&rt, &rt)?;
-    tell_meeting(&rt, &rt)
+    tell_meeting(&rt, &rt)?;
+    tell_ipv6(&rt)
 }

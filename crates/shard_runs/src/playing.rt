@@ -1,31 +1,47 @@
 //! Events and rounds of the policer's shards, and what they come to.
 ghost use Rattle.std.specs.Prelude.{◌≡◌, ◌<◌, true, length, All};
+ghost use Rattle.nf_base.specs.Doors.{IsServed};
+ghost use Rattle.nf_base.specs.Functions.{function_of};
 ghost use Rattle.shard_core.specs.Plays.{IsValid};
 ghost use Rattle.shard_core.specs.Sharded.{IsWhole};
 
+use nf_base::func::Func;
 use nf_base::packet::Packet;
+use nf_base::value::door_of;
 use shard_core::{Collected, Event, Shards};
 use shard_rounds::{Round, Turns, run_round};
 use std::alloc::{AllocError, Global};
 use std::thread::Threads;
 
-/// Whether each event is one of so many ports and workers.
-fn are_valid(events: &[Event], ports: u32, workers: u32) -> bool
-    ensures { result ≡ true → All (IsValid ports workers) events.now }
+/// Whether a packet is skipped, or its port has a handler for it.
+fn is_served(func: &Func, packet: &Packet) -> bool
+    ensures { result ≡ true → IsServed (function_of func.now) packet.now }
+{
+    match &packet.fields {
+        Some(fields) => func.handler_at(door_of(packet.id.port, fields)).is_some(),
+        None => true,
+    }
+}
+
+/// Whether each event is one of a function's ports and handlers and of so many workers.
+fn are_valid(func: &Func, events: &[Event], workers: u32) -> bool
+    ensures { result ≡ true → All (IsValid func.now workers) events.now }
 {
     for i in 0..events.len() {
-        if !is_valid(&events[i], ports, workers) {
+        if !is_valid(func, &events[i], workers) {
             return false;
         }
     }
     true
 }
 
-fn is_valid(event: &Event, ports: u32, workers: u32) -> bool
-    ensures { result ≡ true → IsValid ports workers event.now }
+fn is_valid(func: &Func, event: &Event, workers: u32) -> bool
+    ensures { result ≡ true → IsValid func.now workers event.now }
 {
     match event {
-        Event::Dispatch(packet) => packet.id.port < ports,
+        Event::Dispatch(packet) => {
+            packet.id.port < func.handlers.len() && is_served(func, packet)
+        }
         Event::Work(w) => *w < workers,
         Event::Collect => true,
     }
@@ -42,8 +58,7 @@ pub fn play(
     ensures whole { IsWhole shards.new }
     ensures two { length shards.new.workers ≡ 2 }
 {
-    let ports = shards.func().handlers.len();
-    if !are_valid(events, ports, 2) {
+    if !are_valid(shards.func(), events, 2) {
         return Err(AllocError);
     }
     shards.play(alloc, events)
@@ -54,6 +69,13 @@ fn have_ports(batch: &[Packet], ports: u32) -> bool
     ensures { result ≡ true → All (λ p. p.id.port < ports) batch.now }
 {
     batch.iter().all(|p| p.id.port < ports)
+}
+
+/// Whether each packet is skipped, or its port has a handler for it.
+fn are_served(func: &Func, batch: &[Packet]) -> bool
+    ensures { result ≡ true → All (IsServed (function_of func.now)) batch.now }
+{
+    batch.iter().all(|p| is_served(func, p))
 }
 
 /// Runs a round.
@@ -68,7 +90,7 @@ pub fn round<R: Threads + Sync, G: Turns + Sync>(
     ensures { IsWhole shards.new }
 {
     let ports = shards.func().handlers.len();
-    if !have_ports(batch, ports) {
+    if !have_ports(batch, ports) || !are_served(shards.func(), batch) {
         return Err(AllocError);
     }
     run_round(rt, alloc, shards, batch, turns)

@@ -1,4 +1,4 @@
-//! A policer by destination with two queues, and packets at its port 1.
+//! A policer by destination with two queues, and packets for it.
 ghost use Rattle.std.specs.Prelude.{◌≡◌, length, IfOk};
 ghost use Rattle.shard_core.specs.Sharded.{IsWhole};
 
@@ -6,7 +6,7 @@ use nf_base::func::Func;
 use nf_base::keys::Keys;
 use nf_base::limited::Limited;
 use nf_base::mac::Mac;
-use nf_base::packet::{Fields, Packet, PacketId};
+use nf_base::packet::{Addresses, Fields, Packet, PacketId};
 use nf_base::workers::Workers;
 use nf_syntax::parse;
 use nf_types::check;
@@ -19,6 +19,7 @@ const POLICER: &[u8] = b"nf policer {
   ports 2;
   chain hosts 5 lifetime 10 { map by_dst(d: 32); free used: 64; }
   on 0 { forward 1; }
+  on 0 six { forward 1; }
   on 1 {
     get e = hosts.by_dst(dst_ip) {
       e.used = e.used + length;
@@ -82,12 +83,37 @@ pub fn packet(seq: u32, time: u64, to: u32) -> Packet {
             length: 42,
             src_mac: Mac::new(1),
             dst_mac: Mac::new(2),
-            src_ip: 0x0909_0909,
-            dst_ip: to,
+            addresses: Addresses::Four {
+                src: 0x0909_0909,
+                dst: to,
+            },
             proto: 17,
             ttl: 64,
             src_port: 1,
             dst_port: 2,
+        }),
+    }
+}
+
+/// A packet of IPv6 at port 0, from 3ffe:2501:200:1fff::7 port 2794 to 3ffe:2501:200:3::1 port 1766.
+/// Its hash under the default key is 40207d3d, so it is of queue 1 (Microsoft, "Verifying the RSS
+/// Hash Calculation").
+pub fn packet_of_ipv6() -> Packet {
+    Packet {
+        id: PacketId { port: 0, seq: 0 },
+        time: 0,
+        fields: Some(Fields {
+            length: 62,
+            src_mac: Mac::new(1),
+            dst_mac: Mac::new(2),
+            addresses: Addresses::Six {
+                src: 0x3ffe_2501_0200_1fff_0000_0000_0000_0007,
+                dst: 0x3ffe_2501_0200_0003_0000_0000_0000_0001,
+            },
+            proto: 17,
+            ttl: 64,
+            src_port: 2794,
+            dst_port: 1766,
         }),
     }
 }

@@ -13,7 +13,7 @@ use Rattle.nf_base.specs.Step.{opening}
 use Rattle.nf_files.specs.Told.{Told, IsEmptyIfTold}
 use Rattle.toeplitz_hash.specs.Meeting.{HashAlikeWhereTheyMeet}
 use Rattle.packet_feed.specs.Told.{packets_of}
-use Rattle.packet_feed.specs.Sources.{files_in}
+use Rattle.packet_feed.specs.Sources.{files_in, sixes_in}
 use Rattle.packet_feed.specs.Feeding.{Feeding}
 use Rattle.packet_feed.proofs.Times.{from_zero}
 use Rattle.run_history.specs.declared.line.Mode.TheVariants.{Shard}
@@ -74,6 +74,7 @@ reached_none f keys workers ports share begun start sinks v h none heads = recor
   held = heads;
   count = sym none;
   same_files = refl;
+  same_six = refl;
   same_most = refl;
   within = omega (arith, none);
 }
@@ -99,7 +100,7 @@ halts_begun f keys workers ports some most begun start sinks held = record {
   hs = [];
   state = opening f;
   sharded = sharded_none f keys workers (share_by workers some most) (is_setup f keys workers some most).shares;
-  first = λ before b. first_none (packets_of (files_in begun.sources) before);
+  first = λ before b. first_none (packets_of (sixes_in begun.sources) (files_in begun.sources) before);
   within = omega arith;
   fronts = λ k file e.
       let s = stays_in sinks k file e in
@@ -111,7 +112,7 @@ halts_none f keys workers ports some most begun start files empty = record {
   hs = [];
   state = opening f;
   sharded = sharded_none f keys workers (share_by workers some most) (is_setup f keys workers some most).shares;
-  first = λ before b. first_none (packets_of (files_in begun.sources) before);
+  first = λ before b. first_none (packets_of (sixes_in begun.sources) (files_in begun.sources) before);
   within = omega arith;
   fronts = λ k file e. empty_front (bytes_of Shard workers ports k []) (start.given file) (empty k file e);
 }

@@ -1,21 +1,20 @@
 -- Whole runs: what was handled is one run in mode `shard`, or the front of one.
-use Rattle.std.proofs.Common.{◌≡◌, ◌⊎◌, ℕ, List, [], ◌∷◌, length, map, Some, refl, sym, ◌∙◌, subst, arith}
+use Rattle.std.proofs.Common.{◌≡◌, ◌⊎◌, ℕ, Bool, List, [], ◌∷◌, length, map, Some, refl, sym, ◌∙◌, subst, arith}
 use Rattle.std.specs.List.{AllByRecursion, slice_get}
 use Rattle.std.proofs.lemmas.List.{length-map}
 use Rattle.nf_base.specs.declared.func.Func.{Func}
-use Rattle.nf_base.specs.declared.func.Handler.{Handler}
 use Rattle.nf_base.specs.declared.keys.Keys.{Keys}
 use Rattle.nf_base.specs.declared.packet.Packet.{Packet}
 use Rattle.nf_base.specs.declared.state.State.{State}
 use Rattle.nf_base.specs.Text.{Function}
-use Rattle.nf_base.specs.View.{block_of}
+use Rattle.nf_base.specs.Handlers.{blocks_of}
 use Rattle.nf_base.specs.Functions.{function_of}
 use Rattle.nf_base.specs.Runs.{Handling}
 use Rattle.nf_base.specs.Step.{opening}
 use Rattle.nf_files.specs.Told.{Told, IsToldAs}
 use Rattle.packet_feed.specs.Arrivals.{Arrival}
 use Rattle.packet_feed.specs.Told.{packets_of}
-use Rattle.packet_feed.specs.Sources.{files_in}
+use Rattle.packet_feed.specs.Sources.{files_in, sixes_in}
 use Rattle.packet_feed.specs.Feeding.{Feeding, AreAll}
 use Rattle.run_history.specs.declared.line.Mode.TheVariants.{Shard}
 use Rattle.shard_laws.specs.Rule.{KeepShareRule}
@@ -63,7 +62,7 @@ cut_short f keys workers begun start now files h = record {
   run = run_of f Shard workers h.hs;
   is_run = is_shard_run f keys workers h.hs h.state h.sharded;
   within = omega (arith, length-map h.hs turn_of, h.within);
-  packets = λ before b. subst (AreFirst (packets_of (files_in begun.sources) before)) (sym (same_arrivals h.hs)) (h.first before b);
+  packets = λ before b. subst (AreFirst (packets_of (sixes_in begun.sources) (files_in begun.sources) before)) (sym (same_arrivals h.hs)) (h.first before b);
   fronts = λ k file e. subst (λ (t : List ℕ). IsFrontIfTold t (now.given file)) (sym (bytes_are f Shard workers h.hs h.state k h.sharded.undivided)) (h.fronts k file e);
 }
 
@@ -84,7 +83,7 @@ is_full f keys workers begun start now files full h = record {
     stops = h.stops;
   };
   within = omega (arith, length-map h.hs turn_of, h.within);
-  packets = λ before b. subst (λ (as_list : List Arrival). AreBefore (packets_of (files_in begun.sources) before) as_list full.stop.packet) (sym (same_arrivals h.hs)) (h.before_it before b);
+  packets = λ before b. subst (λ (as_list : List Arrival). AreBefore (packets_of (sixes_in begun.sources) (files_in begun.sources) before) as_list full.stop.packet) (sym (same_arrivals h.hs)) (h.before_it before b);
   count = length-map h.hs turn_of ∙ h.count;
   wholes = wholes_of f workers h.hs h.state now files h.sharded.undivided h.left;
 }
@@ -97,11 +96,13 @@ finished f keys workers begun start feed v e now files ran n ports h same packet
   within = omega (arith, length-map h.hs turn_of, h.within);
   packets = λ before b.
       let how = how_ended e feed before h.hs begun.most h.same_most (h.ending_is before b) in
-      let moved = subst (λ (fs : List ℕ). ((e ≡ ending.All) × AreAll (packets_of fs before) (map arrival_of h.hs)) ⊎ ((e ≡ ending.TooMany) × (length h.hs ≡ begun.most))) h.same_files how in
-      subst (AreTheFirst begun.most (packets_of (files_in begun.sources) before)) (sym (same_arrivals h.hs))
-      (first_most e (packets_of (files_in begun.sources) before) (map arrival_of h.hs) (length h.hs) begun.most (h.first before b) h.within (length-map h.hs arrival_of) moved);
+      let by_file = subst (λ (fs : List ℕ). ((e ≡ ending.All) × AreAll (packets_of (sixes_in feed.sources) fs before) (map arrival_of h.hs)) ⊎ ((e ≡ ending.TooMany) × (length h.hs ≡ begun.most))) h.same_files how in
+      let moved = subst (λ (bs : List Bool). ((e ≡ ending.All) × AreAll (packets_of bs (files_in begun.sources) before) (map arrival_of h.hs)) ⊎ ((e ≡ ending.TooMany) × (length h.hs ≡ begun.most))) h.same_six by_file in
+      subst (AreTheFirst begun.most (packets_of (sixes_in begun.sources) (files_in begun.sources) before)) (sym (same_arrivals h.hs))
+      (first_most e (packets_of (sixes_in begun.sources) (files_in begun.sources) before) (map arrival_of h.hs) (length h.hs) begun.most (h.first before b) h.within (length-map h.hs arrival_of) moved);
   ending = λ before b. subst (λ (x : Ending). EndsSo x feed before (map arrival_in (map turn_of h.hs))) (sym same) (ends_so e feed before h.hs (h.ending_is before b));
   same_files = h.same_files;
+  same_six = h.same_six;
   same_most = h.same_most;
   count = length-map h.hs turn_of ∙ h.count ∙ packets;
   left = (map (λ (x : Handled). x.done) h.hs, ran_of f Shard workers h.hs ran.state s.undivided);
@@ -111,7 +112,7 @@ finished f keys workers begun start feed v e now files ran n ports h same packet
 -- ---- the same, of a function's ports as they are counted
 
 pub counted : (func : Func) → length func.handlers ≡ length (function_of func).handlers
-counted func = sym (length-map func.handlers (λ (h : Handler). block_of h.block))
+counted func = sym (length-map func.handlers blocks_of)
 
 pub cut_short_at : (f : Function) (n : ℕ) (keys : Keys) (workers : ℕ) (begun : Feeding) (start now : Told) (files : List ℕ) → n ≡ length f.handlers → Halts f keys workers n begun start now files → IsCutShort f keys workers begun start now files
 cut_short_at f n keys workers begun start now files same h = cut_short f keys workers begun start now files (subst (λ (m : ℕ). Halts f keys workers m begun start now files) same h)

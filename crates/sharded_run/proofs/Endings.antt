@@ -9,7 +9,7 @@ use Rattle.nf_files.specs.Told.{Told}
 use Rattle.toeplitz_hash.specs.Meeting.{HashAlikeWhereTheyMeet}
 use Rattle.packet_feed.specs.Arrivals.{Arrival}
 use Rattle.packet_feed.specs.Told.{packets_of}
-use Rattle.packet_feed.specs.Sources.{files_in}
+use Rattle.packet_feed.specs.Sources.{files_in, sixes_in}
 use Rattle.packet_feed.specs.Feeding.{Feeding}
 use Rattle.run_history.specs.declared.line.Mode.TheVariants.{Shard}
 use Rattle.shard_core.specs.Sharded.{Sharded}
@@ -51,6 +51,7 @@ left_as f keys workers begun start feed v (Over ending) P Q more h = record {
   first = h.first;
   ending_is = h.ending_is;
   same_files = h.same_files;
+  same_six = h.same_six;
   same_most = h.same_most;
   within = h.within;
   count = h.count;
@@ -85,7 +86,7 @@ halts_ended f keys workers ports begun start feed v (Full full) now files severa
   hs = h.hs;
   state = h.state;
   sharded = h.sharded;
-  first = λ before b. first_before (packets_of (files_in begun.sources) before) (map arrival_of h.hs) full.stop.packet (h.before_it before b);
+  first = λ before b. first_before (packets_of (sixes_in begun.sources) (files_in begun.sources) before) (map arrival_of h.hs) full.stop.packet (h.before_it before b);
   within = omega (arith, h.within);
   fronts = h.left;
 }

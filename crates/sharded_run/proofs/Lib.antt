@@ -1,4 +1,5 @@
 pub mod Rising
+pub mod Fitting
 pub mod Answered
 pub mod Lined
 pub mod Reached

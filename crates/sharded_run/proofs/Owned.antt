@@ -1,5 +1,5 @@
 -- Turns that are their worker's own, and shares of which no index is left.
-use Rattle.std.proofs.Common.{◌≡◌, ◌<◌, ◌%◌, ℕ, List, [], ◌∷◌, map, Option, Some, None, slice_get, refl, ap, sym, ◌∙◌, subst}
+use Rattle.std.proofs.Common.{◌≡◌, ◌<◌, ◌%◌, ℕ, List, [], ◌∷◌, map, Option, Some, None, refl, ap, sym, ◌∙◌, subst}
 use Rattle.std.specs.Bool.{IsTrue}
 use Rattle.std.specs.List.{AllByRecursion}
 use Rattle.std.proofs.lemmas.Bool.{eqb-true}
@@ -7,6 +7,8 @@ use Rattle.std.proofs.lemmas.List.Elements.{All-from_recursion, All-weaker}
 use Rattle.nf_base.specs.declared.keys.Keys.{Keys}
 use Rattle.nf_base.specs.declared.share.Share.{Share}
 use Rattle.nf_base.specs.declared.state.State.{State}
+use Rattle.nf_base.specs.Doors.{handler_at}
+use Rattle.nf_base.specs.Families.{door_of}
 use Rattle.nf_base.specs.Text.{Function, Block}
 use Rattle.nf_base.specs.Operations.{never}
 use Rattle.nf_base.specs.Course.{StoppedAt}
@@ -43,7 +45,7 @@ turns_own f keys workers r lt h =
     All-from_recursion (IsOwnTurn workers) r.turns
     (own_turns f keys workers h.share (opening f) r.turns h.legal.result lt h.shares (subst (λ (g : Function). run g (opening g) (map handling_of r.turns) ≡ Some h.legal.result) h.function h.legal.ran) h.queues h.rule)
 
-full_at : (f : Function) (keys : Keys) (workers : ℕ) (r : Run) (stop : Stop) (s : IsStopBehind f keys workers r stop) (o : Option Block) → slice_get f.handlers stop.packet.id.port ≡ o
+full_at : (f : Function) (keys : Keys) (workers : ℕ) (r : Run) (stop : Stop) (s : IsStopBehind f keys workers r stop) (o : Option Block) → handler_at f (door_of stop.packet.id.port s.fields) ≡ o
     → completes (share_stops s.share) f s.state stop.packet.time s.fields s.choices o ≡ StoppedAt stop.chain [] → StopsWhereNoneIsLeft f keys workers r stop s
 full_at f keys workers r stop s None at e = absurd cc
 full_at f keys workers r stop s (Some block) at e = record {
@@ -53,4 +55,4 @@ full_at f keys workers r stop s (Some block) at e = record {
 }
 
 pub shares_full : SharesAreFull
-shares_full f keys workers r stop s = full_at f keys workers r stop s (slice_get f.handlers stop.packet.id.port) refl s.stops.stops
+shares_full f keys workers r stop s = full_at f keys workers r stop s (handler_at f (door_of stop.packet.id.port s.fields)) refl s.stops.stops

@@ -1,5 +1,5 @@
 -- What a round adds to a run, and where the run ends or is stopped.
-use Rattle.std.proofs.Common.{◌≡◌, ◌≤◌, ◌<◌, ◌+◌, ℕ, List, [], ◌∷◌, ◌++◌, length, map, Option, Some, None, refl, ap, ap₂, sym, ◌∙◌, subst, append_assoc, arith}
+use Rattle.std.proofs.Common.{◌≡◌, ◌≤◌, ◌<◌, ◌+◌, ℕ, Bool, List, [], ◌∷◌, ◌++◌, length, map, Option, Some, None, refl, ap, ap₂, sym, ◌∙◌, subst, append_assoc, arith}
 use Rattle.std.specs.List.{AllByRecursion}
 use Rattle.std.proofs.lemmas.List.{map-append, length-map, length-append}
 use Rattle.nf_base.specs.declared.keys.Keys.{Keys}
@@ -11,7 +11,7 @@ use Rattle.hash_fields.specs.Hashed.{HasInput}
 use Rattle.toeplitz_hash.specs.Meeting.{HashAlikeWhereTheyMeet}
 use Rattle.packet_feed.specs.Arrivals.{Arrival, packet_of}
 use Rattle.packet_feed.specs.Told as told_of
-use Rattle.packet_feed.specs.Sources.{files_in, AreFrom}
+use Rattle.packet_feed.specs.Sources.{files_in, sixes_in, AreFrom}
 use Rattle.packet_feed.specs.Feeding.{Feeding, StandsFor, AreAll, HasMore}
 use Rattle.packet_feed.proofs.Standing.{stands_kept}
 use Rattle.run_history.specs.declared.line.Mode.TheVariants.{Shard}
@@ -42,9 +42,9 @@ pub all_both : {A : Type 0} (P : A → Type 0) (xs ys : List A) → AllByRecursi
 all_both P [] ys h k = k
 all_both P (x ∷ xs) ys h k = (h.0, all_both P xs ys h.1 k)
 
-inputs_of : (ports : ℕ) (ps : List Packet) → AllByRecursion (Fits ports) ps → AllByRecursion HasInput ps
-inputs_of ports [] h = tt
-inputs_of ports (p ∷ ps) h = (h.0.input, inputs_of ports ps h.1)
+inputs_of : (ports : ℕ) (six : List Bool) (ps : List Packet) → AllByRecursion (Fits ports six) ps → AllByRecursion HasInput ps
+inputs_of ports six [] h = tt
+inputs_of ports six (p ∷ ps) h = (h.0.input, inputs_of ports six ps h.1)
 
 got_packets : (got : List Collected) → packets_of (map answer_of got) ≡ packets_got got
 got_packets [] = refl
@@ -101,6 +101,7 @@ pub record Rounded (f : Function) (keys : Keys) (workers ports : ℕ) (begun : F
   pub given : (told : Told) → StandsFor told [] begun start → StandsFor told (map arrival_of hs ++ batch) next read
   pub count : next.given ≡ length hs + length batch
   pub same_files : files_in next.sources ≡ files_in begun.sources
+  pub same_six : sixes_in next.sources ≡ sixes_in begun.sources
   pub same_most : next.most ≡ begun.most
   pub within : next.given ≤ next.most
 
@@ -122,12 +123,13 @@ rounded f keys workers ports begun start feed next old read sinks batch handled 
         queues = all_both (λ (h : Handled). h.worker ≡ queue_by keys workers h.arrival.packet) r.hs (answered batch handled) w.queues (workers_are (queue_by keys workers) batch handled k.stands.left e k.queues);
         last = t.0;
         rises = subst (λ (ps : List Packet). Rises 0 ps t.0) (sym k.dispatched) (rises_both 0 w.at.dispatched w.last (map packet_of batch) t.0 w.rises t.1);
-        inputs = subst (AllByRecursion HasInput) (sym k.dispatched) (all_both HasInput w.at.dispatched (map packet_of batch) w.inputs (inputs_of ports (map packet_of batch) g.fit));
+        inputs = subst (AllByRecursion HasInput) (sym k.dispatched) (all_both HasInput w.at.dispatched (map packet_of batch) w.inputs (inputs_of ports (sixes_in next.sources) (map packet_of batch) g.fit));
       };
       from = t.2;
       given = λ before b. g.given before (map arrival_of r.hs) (r.given before b);
       count = omega (arith, g.count, r.count);
       same_files = g.same_files ∙ r.same_files;
+      same_six = g.same_six ∙ r.same_six;
       same_most = g.same_most ∙ r.same_most;
       within = g.within r.within;
     }
@@ -197,6 +199,7 @@ reaches_on f keys workers ports begun start next read now batch handled sinks v 
       held = held;
       count = all_counted f keys workers ports begun start next read batch handled v done r;
       same_files = r.same_files;
+      same_six = r.same_six;
       same_most = r.same_most;
       within = r.within;
     }
@@ -211,10 +214,10 @@ reached_hs f keys workers ports begun start next read now batch handled sinks v 
 ending_of : (e : Ending) (feed next : Feeding) (old before : Told) (given batch : List Arrival) (hs : List Handled) → given ++ batch ≡ map arrival_of hs → length hs ≡ next.given → IsOver e feed old next batch → StandsFor before given feed old → IsEnding e next before hs
 ending_of All feed next old before given batch hs same count over b =
     let h = over before given b in
-    (subst (AreAll (told_of.packets_of (files_in next.sources) before)) same h.0, h.1)
+    (subst (AreAll (told_of.packets_of (sixes_in next.sources) (files_in next.sources) before)) same h.0, h.1)
 ending_of TooMany feed next old before given batch hs same count over b =
     let long : length (given ++ batch) ≡ length hs = ap (λ (t : List Arrival). length t) same ∙ length-map hs arrival_of in
-    (count ∙ over.0, subst (λ (n : ℕ). HasMore (told_of.packets_of (files_in next.sources) before) n) long (over.1 before given b))
+    (count ∙ over.0, subst (λ (n : ℕ). HasMore (told_of.packets_of (sixes_in next.sources) (files_in next.sources) before) n) long (over.1 before given b))
 
 pub ends_with : (f : Function) (keys : Keys) (workers ports : ℕ) (begun : Feeding) (start : Told) (feed next : Feeding) (old read now : Told) (ending : Ending) (batch : List Arrival) (handled : List Collected) (sinks : List Holding) (v : Sharded) (done : List Handled)
     → (r : Rounded f keys workers ports begun start next read batch handled None v done) → ((before : Told) → StandsFor before [] begun start → StandsFor before (map arrival_of done) feed old) → IsOver ending feed old next batch
@@ -227,9 +230,10 @@ ends_with f keys workers ports begun start feed next old read now ending batch h
     record {
       hs = hs;
       worked = have_worked f keys workers ports begun start next read batch handled v done r;
-      first = λ before b. first_given before (map arrival_of hs) next begun read r.same_files (subst (λ (as_list : List Arrival). StandsFor before as_list next read) same (r.given before b));
+      first = λ before b. first_given before (map arrival_of hs) next begun read r.same_files r.same_six (subst (λ (as_list : List Arrival). StandsFor before as_list next read) same (r.given before b));
       ending_is = λ before b. ending_of ending feed next old before (map arrival_of done) batch hs same count over (given before b);
       same_files = r.same_files;
+      same_six = r.same_six;
       same_most = r.same_most;
       within = omega (arith, count, r.within, r.same_most);
       count = count;
@@ -272,9 +276,9 @@ stops_with f keys workers ports begun start next read now batch handled stop pac
       share_is = stopped.share_is;
       stops = stopped.stops;
       before_it = λ before s.
-          let first = first_given before (map arrival_of done ++ batch) next begun read r.same_files (r.given before s) in
-          subst (λ (as_list : List Arrival). AreBefore (told_of.packets_of (files_in begun.sources) before) as_list stop.packet) (sym (map-append arrival_of done (answered batch handled)))
-          (are_before (told_of.packets_of (files_in begun.sources) before) (map arrival_of done) batch (map arrival_of (answered batch handled)) b.next b.later stop.packet first b.is b.whole);
+          let first = first_given before (map arrival_of done ++ batch) next begun read r.same_files r.same_six (r.given before s) in
+          subst (λ (as_list : List Arrival). AreBefore (told_of.packets_of (sixes_in begun.sources) (files_in begun.sources) before) as_list stop.packet) (sym (map-append arrival_of done (answered batch handled)))
+          (are_before (told_of.packets_of (sixes_in begun.sources) (files_in begun.sources) before) (map arrival_of done) batch (map arrival_of (answered batch handled)) b.next b.later stop.packet first b.is b.whole);
       within = omega (arith, long, length-map (answered batch handled) arrival_of, length-append done (answered batch handled), r.count, r.within, r.same_most);
       count = omega (arith, count, counted, r.count);
       left = held;
@@ -298,7 +302,7 @@ halts_at f keys workers ports begun start feed old new sinks v files several ali
       hs = r.hs;
       state = ran.ran.state;
       sharded = ran.sharded;
-      first = λ before b. first_given before (map arrival_of r.hs) feed begun old r.same_files (r.given before b);
+      first = λ before b. first_given before (map arrival_of r.hs) feed begun old r.same_files r.same_six (r.given before b);
       within = omega (arith, r.count, r.within, r.same_most);
       fronts = fronts;
     }
@@ -329,9 +333,9 @@ halts_writing f keys workers ports begun start next read now batch handled stop 
       state = ran.ran.state;
       sharded = ran.sharded;
       first = λ before s.
-          let first = first_given before (map arrival_of done ++ batch) next begun read r.same_files (r.given before s) in
-          subst (AreFirst (told_of.packets_of (files_in begun.sources) before)) (sym (map-append arrival_of done (answered batch handled)))
-          (are_first (told_of.packets_of (files_in begun.sources) before) (map arrival_of done) batch (map arrival_of (answered batch handled)) b.later first b.whole);
+          let first = first_given before (map arrival_of done ++ batch) next begun read r.same_files r.same_six (r.given before s) in
+          subst (AreFirst (told_of.packets_of (sixes_in begun.sources) (files_in begun.sources) before)) (sym (map-append arrival_of done (answered batch handled)))
+          (are_first (told_of.packets_of (sixes_in begun.sources) (files_in begun.sources) before) (map arrival_of done) batch (map arrival_of (answered batch handled)) b.later first b.whole);
       within = omega (arith, long, length-map (answered batch handled) arrival_of, length-append done (answered batch handled), r.count, r.within, r.same_most);
       fronts = fronts;
     }

@@ -60,6 +60,7 @@ gathers_from ports begun feed start other now batch same g = record {
   count = g.count;
   times = g.times;
   same_files = g.same_files;
+  same_six = g.same_six;
   same_most = g.same_most;
   within = g.within;
   fit = g.fit;
@@ -76,13 +77,13 @@ over_if E most ports begun start other feed now batch (Some ending) same h = ove
 -- the packets of the next round
 pub has_read : (E : Type 0) (ports : ℕ) (begun : Feeding) (start : Told) (feed : Feeding) (now : Told) (batch : List Arrival) (ending : Option Ending) → begun.given ≤ begun.most → Reads {E = E} 1024 ports begun start feed now batch (Ok ending) → HasRead ports begun feed batch ending
 has_read E ports begun start feed now batch None within h = record {
-  fed = record { same_files = h.0.same_files; same_most = h.0.same_most; within = h.0.within within };
+  fed = record { same_files = h.0.same_files; same_six = h.0.same_six; same_most = h.0.same_most; within = h.0.within within };
   fit = h.0.fit;
   enough = omega (arith, h.0.count);
   on = omega (arith, h.0.count, h.1);
 }
 has_read E ports begun start feed now batch (Some ending) within h = record {
-  fed = record { same_files = h.0.same_files; same_most = h.0.same_most; within = h.0.within within };
+  fed = record { same_files = h.0.same_files; same_six = h.0.same_six; same_most = h.0.same_most; within = h.0.within within };
   fit = h.0.fit;
   enough = omega (arith, h.0.count);
   on = omega (arith, h.0.count);
@@ -142,6 +143,7 @@ of_none f keys workers ports begun start feed old sinks v r = record {
   held = none_held workers ports r.hs old;
   count = r.count;
   same_files = r.same_files;
+  same_six = r.same_six;
   same_most = r.same_most;
   within = r.within;
 }

@@ -12,7 +12,7 @@ use Rattle.nf_files.specs.Told.{Told, IsToldAs}
 use Rattle.hash_fields.specs.Hashed.{HasInput}
 use Rattle.packet_feed.specs.Arrivals.{Arrival, packet_of}
 use Rattle.packet_feed.specs.Told.{packets_of}
-use Rattle.packet_feed.specs.Sources.{files_in, AreFrom}
+use Rattle.packet_feed.specs.Sources.{files_in, sixes_in, AreFrom}
 use Rattle.packet_feed.specs.Feeding.{Feeding, StandsFor}
 use Rattle.run_history.specs.declared.line.Mode.TheVariants.{Shard}
 use Rattle.shard_laws.specs.Rule.{AreShares, KeepShareRule}
@@ -72,6 +72,7 @@ pub record Reaches (f : Function) (keys : Keys) (workers ports : ℕ) (begun : F
   pub held : AreHeld Shard workers ports hs now sinks
   pub count : length hs ≡ feed.given
   pub same_files : files_in feed.sources ≡ files_in begun.sources
+  pub same_six : sixes_in feed.sources ≡ sixes_in begun.sources
   pub same_most : feed.most ≡ begun.most
   pub within : feed.given ≤ feed.most
 
@@ -81,7 +82,7 @@ pub record Halts (f : Function) (keys : Keys) (workers ports : ℕ) (begun : Fee
   pub hs : List Handled
   pub state : State
   pub sharded : AreSharded f keys workers hs state
-  pub first : (before : Told) → StandsFor before [] begun start → AreFirst (packets_of (files_in begun.sources) before) (map arrival_of hs)
+  pub first : (before : Told) → StandsFor before [] begun start → AreFirst (packets_of (sixes_in begun.sources) (files_in begun.sources) before) (map arrival_of hs)
   pub within : length hs ≤ begun.most
   pub fronts : AreFronts Shard workers ports hs now files
 
@@ -89,9 +90,10 @@ pub record Halts (f : Function) (keys : Keys) (workers ports : ℕ) (begun : Fee
 pub record EndsWith (f : Function) (keys : Keys) (workers : ℕ) (begun : Feeding) (start : Told) (feed : Feeding) (v : Sharded) (ending : Ending) (Left : List Handled → Type 0) : Type 0 where
   pub hs : List Handled
   pub worked : HaveWorked f keys workers hs v
-  pub first : (before : Told) → StandsFor before [] begun start → AreFirst (packets_of (files_in begun.sources) before) (map arrival_of hs)
+  pub first : (before : Told) → StandsFor before [] begun start → AreFirst (packets_of (sixes_in begun.sources) (files_in begun.sources) before) (map arrival_of hs)
   pub ending_is : (before : Told) → StandsFor before [] begun start → IsEnding ending feed before hs
   pub same_files : files_in feed.sources ≡ files_in begun.sources
+  pub same_six : sixes_in feed.sources ≡ sixes_in begun.sources
   pub same_most : feed.most ≡ begun.most
   pub within : length hs ≤ begun.most
   pub count : length hs ≡ feed.given
@@ -108,7 +110,7 @@ pub record StopsWith (f : Function) (keys : Keys) (workers : ℕ) (begun : Feedi
   pub share : Share
   pub share_is : (share.queue ≡ stop.queue) × (share.of ≡ workers)
   pub stops : IsShareStop share f state stop.packet fields choices stop.chain
-  pub before_it : (before : Told) → StandsFor before [] begun start → AreBefore (packets_of (files_in begun.sources) before) (map arrival_of hs) stop.packet
+  pub before_it : (before : Told) → StandsFor before [] begun start → AreBefore (packets_of (sixes_in begun.sources) (files_in begun.sources) before) (map arrival_of hs) stop.packet
   pub within : length hs < begun.most
   pub count : length hs ≡ packets
   pub left : Left hs
@@ -162,6 +164,7 @@ Flows f keys workers ports begun start feed now files v (Err stop) = Halts f key
 -- the captures are the same, and no more packets were given than may be
 pub record StaysFed (old new : Feeding) : Type 0 where
   pub same_files : files_in new.sources ≡ files_in old.sources
+  pub same_six : sixes_in new.sources ≡ sixes_in old.sources
   pub same_most : new.most ≡ old.most
   pub within : new.given ≤ new.most
 
@@ -173,7 +176,7 @@ open_end (Some ending) = 0
 -- These packets were read for the next round: more were given than before, or the captures end.
 pub record HasRead (ports : ℕ) (old new : Feeding) (batch : List Arrival) (ending : Option Ending) : Type 0 where
   pub fed : StaysFed old new
-  pub fit : AllByRecursion (Fits ports) (map packet_of batch)
+  pub fit : AllByRecursion (Fits ports (sixes_in new.sources)) (map packet_of batch)
   pub enough : length batch ≤ new.given
   pub on : old.given + open_end ending ≤ new.given
 

@@ -5,7 +5,7 @@ use Rattle.nf_base.specs.declared.keys.Keys.{Keys}
 use Rattle.nf_base.specs.Text.{Function}
 use Rattle.nf_files.specs.Told.{Told, IsToldAs}
 use Rattle.packet_feed.specs.Told.{packets_of}
-use Rattle.packet_feed.specs.Sources.{files_in}
+use Rattle.packet_feed.specs.Sources.{files_in, sixes_in}
 use Rattle.packet_feed.specs.Feeding.{Feeding, StandsFor}
 use Rattle.stream_run.specs.declared.ran.Ran.{Ran}
 use Rattle.stream_run.specs.declared.stop.Stop.{Stop}
@@ -25,9 +25,10 @@ pub record IsFinished (f : Function) (keys : Keys) (workers : ℕ) (begun : Feed
   pub run : Run
   pub is_run : IsShardRun f keys workers run
   pub within : length run.turns ≤ begun.most
-  pub packets : (before : Told) → StandsFor before [] begun start → AreTheFirst begun.most (packets_of (files_in begun.sources) before) (map arrival_in run.turns)
+  pub packets : (before : Told) → StandsFor before [] begun start → AreTheFirst begun.most (packets_of (sixes_in begun.sources) (files_in begun.sources) before) (map arrival_in run.turns)
   pub ending : (before : Told) → StandsFor before [] begun start → EndsSo ran.ending feed before (map arrival_in run.turns)
   pub same_files : files_in feed.sources ≡ files_in begun.sources
+  pub same_six : sixes_in feed.sources ≡ sixes_in begun.sources
   pub same_most : feed.most ≡ begun.most
   pub count : length run.turns ≡ ran.packets
   pub left : (answers : List Done) × (course_of run ≡ Some (record { state = ran.state; answers = answers }))
@@ -40,7 +41,7 @@ pub record IsFull (f : Function) (keys : Keys) (workers : ℕ) (begun : Feeding)
   pub is_run : IsShardRun f keys workers run
   pub stops : IsStopBehind f keys workers run full.stop
   pub within : length run.turns < begun.most
-  pub packets : (before : Told) → StandsFor before [] begun start → AreBefore (packets_of (files_in begun.sources) before) (map arrival_in run.turns) full.stop.packet
+  pub packets : (before : Told) → StandsFor before [] begun start → AreBefore (packets_of (sixes_in begun.sources) (files_in begun.sources) before) (map arrival_in run.turns) full.stop.packet
   pub count : length run.turns ≡ full.packets
   pub wholes : (k file : ℕ) → slice_get files k ≡ Some file → IsToldAs (file_bytes run k) (now.given file)
 
@@ -50,7 +51,7 @@ pub record IsCutShort (f : Function) (keys : Keys) (workers : ℕ) (begun : Feed
   pub run : Run
   pub is_run : IsShardRun f keys workers run
   pub within : length run.turns ≤ begun.most
-  pub packets : (before : Told) → StandsFor before [] begun start → AreFirst (packets_of (files_in begun.sources) before) (map arrival_in run.turns)
+  pub packets : (before : Told) → StandsFor before [] begun start → AreFirst (packets_of (sixes_in begun.sources) (files_in begun.sources) before) (map arrival_in run.turns)
   pub fronts : (k file : ℕ) → slice_get files k ≡ Some file → IsFrontIfTold (file_bytes run k) (now.given file)
 
 -- what a run comes to

@@ -2,6 +2,8 @@
 use Rattle.std.specs.Prelude.{◌≡◌, ◌<◌, ◌%◌, ℕ, List, [], length, map, take, Some, None, slice_get, All}
 use Rattle.nf_base.specs.declared.keys.Keys.{Keys}
 use Rattle.nf_base.specs.declared.packet.Packet.{Packet}
+use Rattle.nf_base.specs.Doors.{handler_at}
+use Rattle.nf_base.specs.Families.{door_of}
 use Rattle.nf_base.specs.Text.{Function, Block}
 use Rattle.nf_base.specs.Step.{input, start_context}
 use Rattle.nf_laws.specs.Shares.{StopsAtNew}
@@ -28,7 +30,7 @@ TurnsAreOwn = (f : Function) (keys : Keys) (workers : ℕ) (r : Run) → 0 < wor
 -- no index of its queue's share is vacant.
 pub record StopsWhereNoneIsLeft (f : Function) (keys : Keys) (workers : ℕ) (r : Run) (stop : Stop) (s : IsStopBehind f keys workers r stop) : Type 0 where
   pub block : Block
-  pub handler : slice_get f.handlers stop.packet.id.port ≡ Some block
+  pub handler : handler_at f (door_of stop.packet.id.port s.fields) ≡ Some block
   pub stops :
       StopsAtNew s.share (input f stop.packet.time s.fields) block
       (start_context f s.state stop.packet.time s.choices) stop.chain []

@@ -2,12 +2,13 @@
 ghost use Rattle.std.specs.Prelude.{◌≡◌, ◌^◌, ◌<◌, ◌≤◌, ℕ, [], Some, None, length, map};
 ghost use Rattle.std.specs.List.{AllByRecursion};
 ghost use Rattle.nf_base.specs.declared.keys.Keys as keys;
+ghost use Rattle.nf_base.specs.Doors.{six_ports};
 ghost use Rattle.nf_base.specs.Functions.{function_of};
 ghost use Rattle.toeplitz_hash.specs.Meeting.{HashAlikeWhereTheyMeet};
 ghost use Rattle.nf_files.specs.Told.{Told};
 ghost use Rattle.packet_feed.specs.Arrivals.{packet_of};
 ghost use Rattle.packet_feed.specs.Told.{EachFile, IsApart};
-ghost use Rattle.packet_feed.specs.Sources.{files_in};
+ghost use Rattle.packet_feed.specs.Sources.{files_in, sixes_in};
 ghost use Rattle.packet_feed.specs.Feeding.{Feeding};
 ghost use Rattle.shard_core.specs.Plays.{SameSize};
 ghost use Rattle.stream_run.specs.Writing.{files_of, KeepsBut, IsStopCause, StopsAmong};
@@ -56,11 +57,13 @@ fn last_round<R: Threads + Sync, F: Files, G: Turns + Sync>(
     turns: &G,
 ) -> Result<Ended, Stop>
     requires idle { AreIdle shards.old }
+    requires six { sixes_in feed.now.sources ≡ six_ports (function_of shards.old.func) }
     requires ports { length captures.now ≡ length shards.old.func.handlers }
     requires created { EachFile (F.is_written files.old) (files_of sinks.old) }
     requires apart { IsApart (files_of sinks.old) }
     requires few { length sinks.old ≤ 2 ^ 32 }
-    requires fit { AllByRecursion (Fits (length captures.now)) (map packet_of batch.now) }
+    requires fit { AllByRecursion (Fits (length captures.now) (sixes_in feed.now.sources))
+        (map packet_of batch.now) }
     requires enough { length batch.now ≤ feed.now.given }
     ensures comes { let f = function_of shards.old.func in let ports = length captures.now in
         (keys : keys.Keys) → (workers : ℕ) → (begun : Feeding) → (start : Told) →
@@ -109,13 +112,15 @@ fn one_round<R: Threads + Sync, F: Files, G: Turns + Sync>(
     requires idle { AreIdle shards.old }
     requires within { feed.old.given ≤ feed.old.most }
     requires captures { files_in feed.old.sources ≡ captures.now }
+    requires six { sixes_in feed.old.sources ≡ six_ports (function_of shards.old.func) }
     requires ports { length captures.now ≡ length shards.old.func.handlers }
     requires opened { EachFile (F.is_read files.old) captures.now }
     requires created { EachFile (F.is_written files.old) (files_of sinks.old) }
     requires apart { IsApart (files_of sinks.old) }
     requires few { length sinks.old ≤ 2 ^ 32 }
     requires handled { length handled.now ≤ length last.old }
-    requires fit { AllByRecursion (Fits (length captures.now)) (map packet_of batch.now) }
+    requires fit { AllByRecursion (Fits (length captures.now) (sixes_in feed.old.sources))
+        (map packet_of batch.now) }
     requires enough { length batch.now ≤ feed.old.given }
     ensures on { let f = function_of shards.old.func in let ports = length captures.now in
         (keys : keys.Keys) → (workers : ℕ) → (begun : Feeding) → (start : Told) →
@@ -179,6 +184,7 @@ fn rounds_in<R: Threads + Sync, F: Files, G: Turns + Sync>(
     requires idle { AreIdle shards.old }
     requires within { feed.old.given ≤ feed.old.most }
     requires captures { files_in feed.old.sources ≡ captures.now }
+    requires six { sixes_in feed.old.sources ≡ six_ports (function_of shards.old.func) }
     requires ports { length captures.now ≡ length shards.old.func.handlers }
     requires opened { EachFile (F.is_read files.old) captures.now }
     requires created { EachFile (F.is_written files.old) (files_of sinks.old) }
@@ -248,6 +254,7 @@ pub(crate) fn all_rounds<R: Threads + Sync, F: Files, G: Turns + Sync>(
     requires idle { AreIdle shards.old }
     requires within { feed.old.given ≤ feed.old.most }
     requires captures { files_in feed.old.sources ≡ captures.now }
+    requires six { sixes_in feed.old.sources ≡ six_ports (function_of shards.old.func) }
     requires ports { length captures.now ≡ length shards.old.func.handlers }
     requires opened { EachFile (F.is_read files.old) captures.now }
     requires created { EachFile (F.is_written files.old) (files_of sinks.old) }

@@ -1,11 +1,12 @@
 //! A whole run in mode `shard`.
 ghost use Rattle.std.specs.Prelude.{◌≡◌, ◌^◌, ◌+◌, ◌<◌, ◌≤◌, ℕ, List, [], Some, length, slice_get, IfOk};
 ghost use Rattle.nf_base.specs.declared.keys.Keys as keys;
+ghost use Rattle.nf_base.specs.Doors.{six_ports};
 ghost use Rattle.nf_base.specs.Functions.{function_of};
 ghost use Rattle.toeplitz_hash.specs.Meeting.{HashAlikeWhereTheyMeet};
 ghost use Rattle.nf_files.specs.Told.{Told, IsEmptyIfTold};
 ghost use Rattle.packet_feed.specs.Told.{EachFile, IsApart};
-ghost use Rattle.packet_feed.specs.Sources.{files_in};
+ghost use Rattle.packet_feed.specs.Sources.{files_in, sixes_in};
 ghost use Rattle.packet_feed.specs.Feeding.{Feeding};
 ghost use Rattle.run_history.specs.declared.line.Mode.TheVariants as mode;
 ghost use Rattle.shard_machine.specs.Machine.{Setup, new_machine};
@@ -46,6 +47,7 @@ fn flow<R: Threads + Sync, F: Files, G: Turns + Sync>(
     requires idle { AreIdle shards.old }
     requires within { feed.old.given ≤ feed.old.most }
     requires captures { files_in feed.old.sources ≡ captures.now }
+    requires six { sixes_in feed.old.sources ≡ six_ports (function_of shards.old.func) }
     requires ports { length captures.now ≡ length shards.old.func.handlers }
     requires opened { EachFile (F.is_read files.old) captures.now }
     requires created { EachFile (F.is_written files.old) (files_of sinks.old) }
@@ -124,6 +126,7 @@ fn stream<R: Threads + Sync, F: Files, G: Turns + Sync>(
     requires keyed { length func.now.handlers ≤ length keys.now.ports }
     requires alike { HashAlikeWhereTheyMeet (function_of func.now) keys.now }
     requires captures { files_in feed.old.sources ≡ captures.now }
+    requires six { sixes_in feed.old.sources ≡ six_ports (function_of func.now) }
     requires ports { length captures.now ≡ length func.now.handlers }
     requires new { feed.old.given ≡ 0 }
     requires opened { EachFile (F.is_read files.old) captures.now }
@@ -158,8 +161,9 @@ fn stream<R: Threads + Sync, F: Files, G: Turns + Sync>(
 ///
 /// The workers of a round run in threads of their own; `turns` is told when a worker comes to a packet and
 /// when it has handled it, and nothing depends on it. The keys are one for each port, by which packets
-/// that meet have equal hashes. The captures are those of the feed, which gave no packet yet. The targets
-/// are the outputs in the order of their ports, and the journal behind them; nothing was given to them yet.
+/// that meet have equal hashes. The captures are those of the feed, which gave no packet yet, and was
+/// started for the function's ports. The targets are the outputs in the order of their ports, and the
+/// journal behind them; nothing was given to them yet.
 /// Where a share has no index left at a packet, the run ends before it, and the files of the packets before
 /// it are whole. After an `Err` each of them holds a front of what a run over some first packets leaves
 /// there.
@@ -179,6 +183,7 @@ pub fn run<R: Threads + Sync, F: Files, G: Turns + Sync>(
     requires keyed { length func.now.handlers ≤ length keys.now.ports }
     requires alike { HashAlikeWhereTheyMeet (function_of func.now) keys.now }
     requires captures { files_in feed.old.sources ≡ captures.now }
+    requires six { sixes_in feed.old.sources ≡ six_ports (function_of func.now) }
     requires ports { length captures.now ≡ length func.now.handlers }
     requires new { feed.old.given ≡ 0 }
     requires opened { EachFile (F.is_read files.old) captures.now }

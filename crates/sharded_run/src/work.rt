@@ -1,6 +1,8 @@
 //! The packets of a round are worked.
 ghost use Rattle.std.specs.Prelude.{◌≡◌, ◌<◌, ◌≤◌, [], length, map, IfOk, OnOk, All};
 ghost use Rattle.std.specs.Vec.{vec_capacity};
+ghost use Rattle.nf_base.specs.Doors.{IsServed};
+ghost use Rattle.nf_base.specs.Functions.{function_of};
 ghost use Rattle.packet_feed.specs.Arrivals.{packet_of};
 ghost use Rattle.shard_machine.specs.Machine.{Setup, Machine};
 ghost use Rattle.shard_core.specs.Sharded.{StandsFor};
@@ -25,6 +27,7 @@ pub(crate) fn work_kept<R: Threads + Sync, G: Turns + Sync>(
     requires idle { AreIdle shards.old }
     requires ports { let ports = length shards.old.func.handlers in
         All (λ p. p.id.port < ports) (map packet_of batch.now) }
+    requires served { All (IsServed (function_of shards.old.func)) (map packet_of batch.now) }
     ensures round { (x : Setup) → (m : Machine) → StandsFor x m shards.old →
         IfOk result (λ r. IsRound x m (map packet_of batch.now) r.handled r.stop shards.new) }
     ensures fewer { IfOk result (λ r. length r.handled ≤ length batch.now) }
@@ -43,6 +46,7 @@ pub(crate) fn begin_kept(
     requires idle { AreIdle shards.old }
     requires ports { let ports = length shards.old.func.handlers in
         All (λ p. p.id.port < ports) (map packet_of batch.now) }
+    requires served { All (IsServed (function_of shards.old.func)) (map packet_of batch.now) }
     ensures none { IfOk result (λ got. got.items ≡ []) }
     ensures room { IfOk result (λ got. length shards.new.queues.items ≤ vec_capacity got) }
     ensures given { (x : Setup) → (m : Machine) → StandsFor x m shards.old →

@@ -40,7 +40,7 @@ pub enum Frame {
     Reply,
     /// The query as a fragment.
     Fragment,
-    /// A frame that isn't of IPv4.
+    /// A frame that is of no version of IP.
     Arp,
     /// The query, as the first 42 bytes of a frame of 1,514.
     Cut,

@@ -12,16 +12,19 @@ use crate::long::{LONG, text};
 use crate::telling::told;
 use access_keys::{Site, sites};
 use nf_base::func::Func;
+use nf_base::packet::{Door, Family};
 use nf_syntax::parse;
 use nf_types::check;
 use path_walk::{WalkFault, count_paths};
 use std::alloc::Global;
 use std::{env, io};
 
-/// The sites of a function whose ports have no more than 4,096 paths each.
+/// The sites of a function whose handlers have no more than 4,096 paths each.
 fn found(alloc: Global, func: &Func) -> Result<Vec<Site>, WalkFault> {
     for port in 0..func.handlers.len() {
-        count_paths(alloc, func, port)?;
+        for family in [Family::Four, Family::Six] {
+            count_paths(alloc, func, Door { port, family })?;
+        }
     }
     Ok(sites(alloc, func)?)
 }

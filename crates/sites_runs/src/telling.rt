@@ -1,9 +1,10 @@
-//! A site in words: its port, its object, how it touches it, and each label that it knows with the field.
+//! A site in words: its port and family, its object, how it touches it, and each label that it knows with the field.
 
 use access_keys::Site;
 use hash_fields::Hashable;
 use nf_base::decl::{ChainDecl, ObjectId};
 use nf_base::func::Func;
+use nf_base::packet::Family;
 use nf_sites::Sort;
 use std::alloc::{AllocError, Global};
 
@@ -14,12 +15,22 @@ fn put_name(text: &mut String, name: &[u8]) -> Result<(), AllocError> {
     Ok(())
 }
 
-fn field_name(field: Hashable) -> &'static str {
-    match field {
-        Hashable::SrcIp => "src_ip",
-        Hashable::DstIp => "dst_ip",
-        Hashable::SrcPort => "src_port",
-        Hashable::DstPort => "dst_port",
+fn field_name(family: Family, field: Hashable) -> &'static str {
+    match (family, field) {
+        (Family::Four, Hashable::SrcIp) => "src_ip",
+        (Family::Four, Hashable::DstIp) => "dst_ip",
+        (Family::Six, Hashable::SrcIp) => "src_ip6",
+        (Family::Six, Hashable::DstIp) => "dst_ip6",
+        (_, Hashable::SrcPort) => "src_port",
+        (_, Hashable::DstPort) => "dst_port",
+    }
+}
+
+/// The word of IPv6, in front of what it is said of.
+fn family_word(family: Family) -> &'static str {
+    match family {
+        Family::Four => "",
+        Family::Six => "six ",
     }
 }
 
@@ -86,7 +97,7 @@ fn put_known(text: &mut String, func: &Func, site: &Site) -> Result<bool, AllocE
             text.push(' ')?;
             put_label(text, func, site, label)?;
             text.push('=')?;
-            text.push_str(field_name(field))?;
+            text.push_str(field_name(site.door.family, field))?;
         }
     }
     Ok(some)
@@ -94,7 +105,8 @@ fn put_known(text: &mut String, func: &Func, site: &Site) -> Result<bool, AllocE
 
 /// A site in words, as `0 conns at 5: find rip=src_ip rp=src_port`, or with `-` where it knows no label.
 pub fn told(alloc: Global, func: &Func, site: &Site) -> Result<String, AllocError> {
-    let mut text = format!(in alloc; "{} ", site.port)?;
+    let word = family_word(site.door.family);
+    let mut text = format!(in alloc; "{} {word}", site.door.port)?;
     put_object(&mut text, func, site.object)?;
     let place = format!(in alloc; " at {}: ", site.place)?;
     text.push_str(place.as_str())?;

@@ -1,13 +1,14 @@
 //! How long it takes to find the sites of the long functions.
 use crate::long::text;
 use access_keys::sites;
+use nf_base::packet::{Door, Family};
 use nf_syntax::parse;
 use nf_types::check;
 use path_walk::count_paths;
 use std::io;
 use std::time::Instant;
 
-/// Prints how long it takes to count the paths of a long function's first port, and to find its sites.
+/// Prints how long it takes to count the paths of a long function's first handler, and to find its sites.
 pub fn print(rt: &HostRuntime, name: &str) -> io::Result<()> {
     let text = text(rt.alloc(), name)?;
     let Ok(tree) = parse(rt.alloc(), text.as_slice()) else {
@@ -17,7 +18,11 @@ pub fn print(rt: &HostRuntime, name: &str) -> io::Result<()> {
         return println!(rt; "{name}: not well typed");
     };
     let start = Instant::now(rt)?;
-    let Ok(paths) = count_paths(rt.alloc(), &func, 0) else {
+    let door = Door {
+        port: 0,
+        family: Family::Four,
+    };
+    let Ok(paths) = count_paths(rt.alloc(), &func, door) else {
         return println!(rt; "{name}: too many paths");
     };
     let counted = start.elapsed(rt)?.as_micros();

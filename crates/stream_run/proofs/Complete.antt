@@ -1,5 +1,5 @@
 -- Whole runs: what was handled is one lawful run, or the front of one.
-use Rattle.std.proofs.Common.{◌≡◌, ℕ, zero, suc, ◌+◌, ◌-◌, ◌≤◌, ◌<◌, List, [], ◌∷◌, ◌++◌, length, map, take, Option, Some, None, Result, Ok, Err, ◌⊎◌, inl, inr, refl, sym, ap, ◌∙◌, subst, append-nil, zero-add, arith}
+use Rattle.std.proofs.Common.{◌≡◌, ℕ, zero, suc, ◌+◌, ◌-◌, ◌≤◌, Bool, List, [], ◌∷◌, ◌++◌, length, map, take, Option, Some, None, Result, Ok, Err, ◌⊎◌, inl, inr, refl, sym, ap, ◌∙◌, subst, append-nil, zero-add, arith}
 use Rattle.std.specs.List.{AllByRecursion, slice_get}
 use Rattle.std.proofs.lemmas.List.{map-append, length-map, length-append, take_all, take_at, nil_from_length}
 use Rattle.std.proofs.lemmas.List.Elements.{All-from_recursion, recursion_from_All}
@@ -8,16 +8,19 @@ use Rattle.nf_base.specs.Text.{Function}
 use Rattle.nf_base.specs.Step.{opening}
 use Rattle.nf_base.specs.Runs.{Handling, run}
 use Rattle.nf_base.specs.declared.state.State.{State}
-use Rattle.nf_laws.specs.Steps.{HasHandler, handles}
+use Rattle.nf_base.specs.declared.packet.Fields.{Fields}
+use Rattle.nf_base.specs.declared.packet.Packet.{Packet}
+use Rattle.nf_base.specs.Doors.{six_ports, IsServed}
+use Rattle.nf_laws.specs.Steps.{HasHandler, skips, handles}
 use Rattle.nf_files.specs.Told.{Told, IsToldAs, IsEmptyIfTold}
 use Rattle.packet_feed.specs.Arrivals.{Arrival}
 use Rattle.packet_feed.specs.Order.{in_order}
 use Rattle.packet_feed.specs.Told.{packets_of}
-use Rattle.packet_feed.specs.Sources.{files_in}
+use Rattle.packet_feed.specs.Sources.{files_in, sixes_in}
 use Rattle.packet_feed.specs.Feeding.{Feeding, AreAll, HasMore}
 use Rattle.packet_feed.proofs.Ordering.{is_ordered}
 use Rattle.packet_feed.proofs.Gathering.{AllIn}
-use Rattle.packet_feed.proofs.Standing.{all_ports}
+use Rattle.packet_feed.proofs.Served.{all_served}
 use Rattle.run_history.specs.declared.line.Mode.{Mode}
 use Rattle.run_history.specs.declared.line.Mode.TheVariants.{One}
 use Rattle.stream_run.specs.declared.ending.Ending.{Ending}
@@ -93,27 +96,29 @@ first_most e (Some all) given count most first le long (inr how) =
     sym (ap (take most) first.1 ∙ take_at given first.0 most (omega (arith, how.1)))
 
 pub how_ended : (e : Ending) (feed : Feeding) (before : Told) (hs : List Handled) (most : ℕ) → feed.most ≡ most → IsEnding e feed before hs
-    → ((e ≡ ending.All) × AreAll (packets_of (files_in feed.sources) before) (map arrival_of hs)) ⊎ ((e ≡ ending.TooMany) × (length hs ≡ most))
+    → ((e ≡ ending.All) × AreAll (packets_of (sixes_in feed.sources) (files_in feed.sources) before) (map arrival_of hs)) ⊎ ((e ≡ ending.TooMany) × (length hs ≡ most))
 how_ended ending.All feed before hs most same h = inl (refl, h.0)
 how_ended ending.TooMany feed before hs most same h = inr (refl, h.0 ∙ same)
 
 pub ends_so : (e : Ending) (feed : Feeding) (before : Told) (hs : List Handled) → IsEnding e feed before hs → EndsSo e feed before (map arrival_in (map turn_of hs))
-ends_so ending.All feed before hs h = (subst (AreAll (packets_of (files_in feed.sources) before)) (sym (same_arrivals hs)) h.0, h.1)
+ends_so ending.All feed before hs h = (subst (AreAll (packets_of (sixes_in feed.sources) (files_in feed.sources) before)) (sym (same_arrivals hs)) h.0, h.1)
 ends_so ending.TooMany feed before hs h =
     let long : length (map arrival_in (map turn_of hs)) ≡ length hs = length-map (map turn_of hs) arrival_in ∙ length-map hs turn_of in
-    (long ∙ h.0, subst (λ (n : ℕ). HasMore (packets_of (files_in feed.sources) before) n) (sym long) h.1)
+    (long ∙ h.0, subst (λ (n : ℕ). HasMore (packets_of (sixes_in feed.sources) (files_in feed.sources) before) n) (sym long) h.1)
 
 finished : (f : Function) (begun : Feeding) (start : Told) (feed : Feeding) (now : Told) (files : List ℕ) (ran : Ran) → Finishes f (length f.handlers) begun start feed now files ran.ending ran.packets ran.state → IsFinished f begun start feed now files ran
 finished f begun start feed now files ran h = record {
   run = run_of f One 1 h.hs;
   some = is_one f begun.most None h.hs ran.state h.undivided h.alone h.within tt;
   same_files = h.same_files;
+  same_six = h.same_six;
   same_most = h.same_most;
   lawful = λ before b.
       let how = how_ended ran.ending feed before h.hs begun.most h.same_most (h.ending_is before b) in
-      let moved = subst (λ (fs : List ℕ). ((ran.ending ≡ ending.All) × AreAll (packets_of fs before) (map arrival_of h.hs)) ⊎ ((ran.ending ≡ ending.TooMany) × (length h.hs ≡ begun.most))) h.same_files how in
-      is_one f begun.most (packets_of (files_in begun.sources) before) h.hs ran.state h.undivided h.alone h.within
-      (first_most ran.ending (packets_of (files_in begun.sources) before) (map arrival_of h.hs) (length h.hs) begun.most (h.first before b) h.within (length-map h.hs arrival_of) moved);
+      let by_file = subst (λ (fs : List ℕ). ((ran.ending ≡ ending.All) × AreAll (packets_of (sixes_in feed.sources) fs before) (map arrival_of h.hs)) ⊎ ((ran.ending ≡ ending.TooMany) × (length h.hs ≡ begun.most))) h.same_files how in
+      let moved = subst (λ (bs : List Bool). ((ran.ending ≡ ending.All) × AreAll (packets_of bs (files_in begun.sources) before) (map arrival_of h.hs)) ⊎ ((ran.ending ≡ ending.TooMany) × (length h.hs ≡ begun.most))) h.same_six by_file in
+      is_one f begun.most (packets_of (sixes_in begun.sources) (files_in begun.sources) before) h.hs ran.state h.undivided h.alone h.within
+      (first_most ran.ending (packets_of (sixes_in begun.sources) (files_in begun.sources) before) (map arrival_of h.hs) (length h.hs) begun.most (h.first before b) h.within (length-map h.hs arrival_of) moved);
   ending = λ before b. ends_so ran.ending feed before h.hs (h.ending_is before b);
   count = length-map h.hs turn_of ∙ h.count;
   left = (map (λ (x : Handled). x.done) h.hs, ran_of f One 1 h.hs ran.state h.undivided);
@@ -135,9 +140,13 @@ all_taken P zero xs h = tt
 all_taken P (suc n) [] h = tt
 all_taken P (suc n) (x ∷ xs) h = (h.0, all_taken P n xs h.1)
 
-with_handlers : (f : Function) (n : ℕ) (as_list : List Arrival) → n ≡ length f.handlers → AllByRecursion (λ (a : Arrival). a.packet.id.port < n) as_list → AllByRecursion (λ (a : Arrival). HasHandler f a.packet) as_list
-with_handlers f n [] e h = tt
-with_handlers f n (a ∷ as_list) e h = (handles (omega (arith, h.0)), with_handlers f n as_list e h.1)
+has_handler : (f : Function) (packet : Packet) (fields : Option Fields) → packet.fields ≡ fields → IsServed f packet → HasHandler f packet
+has_handler f packet None e h = skips e
+has_handler f packet (Some fields) e h = handles fields e (h fields e)
+
+with_handlers : (f : Function) (as_list : List Arrival) → AllByRecursion (λ (a : Arrival). IsServed f a.packet) as_list → AllByRecursion (λ (a : Arrival). HasHandler f a.packet) as_list
+with_handlers f [] h = tt
+with_handlers f (a ∷ as_list) h = (has_handler f a.packet a.packet.fields refl h.0, with_handlers f as_list h.1)
 
 taken_within : {A : Type 0} (n : ℕ) (xs : List A) → length (take n xs) ≤ n
 taken_within zero xs = omega arith
@@ -151,22 +160,22 @@ alone_later (t ∷ ts) later h k = (h.0, alone_later ts later h.1 k)
 fronts_of : (f : Function) (hs : List Handled) (state : State) (now : Told) (files : List ℕ) → IsUndivided f hs state → AreFronts One 1 (length f.handlers) hs now files → (k file : ℕ) → slice_get files k ≡ Some file → IsFrontIfTold (file_bytes (run_of f One 1 hs) k) (now.given file)
 fronts_of f hs state now files u fronts k file e = subst (λ (t : List ℕ). IsFrontIfTold t (now.given file)) (sym (bytes_are f One 1 hs state k u)) (fronts k file e)
 
-holds_fronts : (f : Function) (most n : ℕ) (all : Option (List Arrival)) (hs : List Handled) (state : State) (now : Told) (files : List ℕ) → n ≡ length f.handlers → IsUndivided f hs state → AllByRecursion (λ (h : Handled). h.worker ≡ 0) hs → length hs ≤ most
-    → AreFirst all (map arrival_of hs) → AllIn (λ (a : Arrival). a.packet.id.port < n) all → AreFronts One 1 (length f.handlers) hs now files → HoldsFronts f most all now files
-holds_fronts f most n None hs state now files ports u alone within first in_ports fronts = record {
+holds_fronts : (f : Function) (most : ℕ) (all : Option (List Arrival)) (hs : List Handled) (state : State) (now : Told) (files : List ℕ) → IsUndivided f hs state → AllByRecursion (λ (h : Handled). h.worker ≡ 0) hs → length hs ≤ most
+    → AreFirst all (map arrival_of hs) → AllIn (λ (a : Arrival). IsServed f a.packet) all → AreFronts One 1 (length f.handlers) hs now files → HoldsFronts f most all now files
+holds_fronts f most None hs state now files u alone within first served fronts = record {
   run = run_of f One 1 hs;
   is_run = is_one f most None hs state u alone within tt;
   fronts = fronts_of f hs state now files u fronts;
 }
-holds_fronts f most n (Some all) hs state now files ports u alone within first in_ports fronts =
+holds_fronts f most (Some all) hs state now files u alone within first served fronts =
     let r = run_of f One 1 hs in
     let one = is_one f most None hs state u alone within tt in
     let given = map arrival_of hs in
     let more = take (most - length given) first.0 in
-    let P : Arrival → Type 0 = λ a. a.packet.id.port < n in
-    let ordered : AllByRecursion P (in_order all) = recursion_from_All P (in_order all) (All-permutation P all (in_order all) (is_ordered all).each_once (All-from_recursion P all in_ports)) in
-    let later_ports : AllByRecursion P more = all_taken P (most - length given) first.0 (all_later P given first.0 (subst (λ (t : List Arrival). AllByRecursion P t) first.1 ordered)) in
-    let on = go_on r more (λ a. 0) one.legal (All-from_recursion (λ (a : Arrival). HasHandler f a.packet) more (with_handlers f n more ports later_ports)) in
+    let P : Arrival → Type 0 = λ a. IsServed f a.packet in
+    let ordered : AllByRecursion P (in_order all) = recursion_from_All P (in_order all) (All-permutation P all (in_order all) (is_ordered all).each_once (All-from_recursion P all served)) in
+    let later_served : AllByRecursion P more = all_taken P (most - length given) first.0 (all_later P given first.0 (subst (λ (t : List Arrival). AllByRecursion P t) first.1 ordered)) in
+    let on = go_on r more (λ a. 0) one.legal (All-from_recursion (λ (a : Arrival). HasHandler f a.packet) more (with_handlers f more later_served)) in
     let long : length given ≡ length hs = length-map hs arrival_of in
     let whole : take most (in_order all) ≡ given ++ more =
     ap (take most) first.1 ∙ ap (λ (m : ℕ). take m (given ++ first.0)) (let e : most ≡ length given + (most - length given) = omega arith in e) ∙ take_past given first.0 (most - length given) in
@@ -184,11 +193,13 @@ holds_fronts f most n (Some all) hs state now files ports u alone within first i
       fronts = λ k file e. front_longer (file_bytes r k) (file_bytes (longer r on.0) k) (now.given file) (only_grow r on.0 k one.legal on.1.2) (fronts_of f hs state now files u fronts k file e);
     }
 
-pub cut_short : (f : Function) (begun : Feeding) (start now : Told) (files : List ℕ) → length (files_in begun.sources) ≡ length f.handlers → Halts f (length f.handlers) begun start now files → IsCutShort f begun start now files
-cut_short f begun start now files ports h = record {
-  some = holds_fronts f begun.most (length f.handlers) None h.hs h.state now files refl h.undivided h.alone h.within tt tt h.fronts;
+pub cut_short : (f : Function) (begun : Feeding) (start now : Told) (files : List ℕ) → length (files_in begun.sources) ≡ length f.handlers → sixes_in begun.sources ≡ six_ports f → Halts f (length f.handlers) begun start now files → IsCutShort f begun start now files
+cut_short f begun start now files ports six h = record {
+  some = holds_fronts f begun.most None h.hs h.state now files h.undivided h.alone h.within tt tt h.fronts;
   lawful = λ before b.
-      holds_fronts f begun.most (length (files_in begun.sources)) (packets_of (files_in begun.sources) before) h.hs h.state now files ports h.undivided h.alone h.within (h.first before b) (all_ports (files_in begun.sources) before) h.fronts;
+      let served : AllIn (λ (a : Arrival). IsServed f a.packet) (packets_of (sixes_in begun.sources) (files_in begun.sources) before) =
+      subst (λ (bs : List Bool). AllIn (λ (a : Arrival). IsServed f a.packet) (packets_of bs (files_in begun.sources) before)) (sym six) (all_served f (files_in begun.sources) before ports) in
+      holds_fronts f begun.most (packets_of (sixes_in begun.sources) (files_in begun.sources) before) h.hs h.state now files h.undivided h.alone h.within (h.first before b) served h.fronts;
 }
 
 -- ---- what is told of files
@@ -215,9 +226,9 @@ whole_front bytes (Some g) h = record { later = []; all = append-nil g ∙ h }
 
 -- ---- what the code comes to
 
-pub is_run : (f : Function) (begun : Feeding) (start : Told) (feed : Feeding) (now : Told) (files : List ℕ) (result : Result Ran Stop) → length (files_in begun.sources) ≡ length f.handlers → Streams f (length f.handlers) begun start feed now files result → Runs f begun start feed now files result
-is_run f begun start feed now files (Ok ran) ports h = finished f begun start feed now files ran h
-is_run f begun start feed now files (Err stop) ports h = cut_short f begun start now files ports h
+pub is_run : (f : Function) (begun : Feeding) (start : Told) (feed : Feeding) (now : Told) (files : List ℕ) (result : Result Ran Stop) → length (files_in begun.sources) ≡ length f.handlers → sixes_in begun.sources ≡ six_ports f → Streams f (length f.handlers) begun start feed now files result → Runs f begun start feed now files result
+is_run f begun start feed now files (Ok ran) ports six h = finished f begun start feed now files ran h
+is_run f begun start feed now files (Err stop) ports six h = cut_short f begun start now files ports six h
 
 -- nothing was handled
 pub halts_none : (f : Function) (ports : ℕ) (begun : Feeding) (start : Told) (files : List ℕ) → ((k file : ℕ) → slice_get files k ≡ Some file → IsEmptyIfTold (start.given file)) → Halts f ports begun start start files
@@ -226,7 +237,7 @@ halts_none f ports begun start files empty = record {
   state = opening f;
   undivided = refl;
   alone = tt;
-  first = λ before b. first_none (packets_of (files_in begun.sources) before);
+  first = λ before b. first_none (packets_of (sixes_in begun.sources) (files_in begun.sources) before);
   within = omega arith;
   fronts = λ k file e. empty_front (bytes_of One 1 ports k []) (start.given file) (empty k file e);
 }
@@ -247,7 +258,7 @@ halts_at f ports begun start feed now sinks state e new files h fronts = record 
   state = state;
   undivided = h.reached.undivided;
   alone = h.reached.alone;
-  first = λ before b. first_given before (map arrival_of h.reached.hs) feed begun now h.same_files (h.reached.stands before b);
+  first = λ before b. first_given before (map arrival_of h.reached.hs) feed begun now h.same_files h.same_six (h.reached.stands before b);
   within = omega (arith, h.reached.count, h.within, h.same_most);
   fronts = fronts;
 }
@@ -257,9 +268,10 @@ finishes f ports begun start feed now sinks state e new files h wholes = record 
   hs = h.reached.hs;
   undivided = h.reached.undivided;
   alone = h.reached.alone;
-  first = λ before b. first_given before (map arrival_of h.reached.hs) feed begun now h.same_files (h.reached.stands before b);
+  first = λ before b. first_given before (map arrival_of h.reached.hs) feed begun now h.same_files h.same_six (h.reached.stands before b);
   ending_is = h.ending_is;
   same_files = h.same_files;
+  same_six = h.same_six;
   same_most = h.same_most;
   within = omega (arith, h.reached.count, h.within, h.same_most);
   count = h.reached.count;
@@ -285,7 +297,7 @@ halts_begun f ports begun start sinks held = record {
   state = opening f;
   undivided = refl;
   alone = tt;
-  first = λ before b. first_none (packets_of (files_in begun.sources) before);
+  first = λ before b. first_none (packets_of (sixes_in begun.sources) (files_in begun.sources) before);
   within = omega arith;
   fronts = λ k file e.
       let s = stays_in sinks k file e in
@@ -293,9 +305,9 @@ halts_begun f ports begun start sinks held = record {
 }
 
 -- the same, of a function's ports as they are counted
-pub is_run_at : (f : Function) (n : ℕ) (begun : Feeding) (start : Told) (feed : Feeding) (now : Told) (files : List ℕ) (result : Result Ran Stop) → n ≡ length f.handlers → length (files_in begun.sources) ≡ n → Streams f n begun start feed now files result → Runs f begun start feed now files result
-is_run_at f n begun start feed now files result same ports h =
-    is_run f begun start feed now files result (ports ∙ same) (subst (λ (m : ℕ). Streams f m begun start feed now files result) same h)
+pub is_run_at : (f : Function) (n : ℕ) (begun : Feeding) (start : Told) (feed : Feeding) (now : Told) (files : List ℕ) (result : Result Ran Stop) → n ≡ length f.handlers → length (files_in begun.sources) ≡ n → sixes_in begun.sources ≡ six_ports f → Streams f n begun start feed now files result → Runs f begun start feed now files result
+is_run_at f n begun start feed now files result same ports six h =
+    is_run f begun start feed now files result (ports ∙ same) six (subst (λ (m : ℕ). Streams f m begun start feed now files result) same h)
 
-pub cut_short_at : (f : Function) (n : ℕ) (begun : Feeding) (start now : Told) (files : List ℕ) → n ≡ length f.handlers → length (files_in begun.sources) ≡ n → Halts f n begun start now files → IsCutShort f begun start now files
-cut_short_at f n begun start now files same ports h = cut_short f begun start now files (ports ∙ same) (subst (λ (m : ℕ). Halts f m begun start now files) same h)
+pub cut_short_at : (f : Function) (n : ℕ) (begun : Feeding) (start now : Told) (files : List ℕ) → n ≡ length f.handlers → length (files_in begun.sources) ≡ n → sixes_in begun.sources ≡ six_ports f → Halts f n begun start now files → IsCutShort f begun start now files
+cut_short_at f n begun start now files same ports six h = cut_short f begun start now files (ports ∙ same) six (subst (λ (m : ℕ). Halts f m begun start now files) same h)

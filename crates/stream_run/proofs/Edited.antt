@@ -7,7 +7,7 @@ use Rattle.nf_base.specs.declared.done.Edits.{Edits}
 use Rattle.frame_ip.specs.Frame.{is_handled}
 use Rattle.frame_ip.specs.Edit.{IsUnedited, edited}
 use Rattle.frame_ip.proofs.Ones.{AreBytes}
-use Rattle.frame_ip.proofs.Unedited.{ip_none, transport_none, edited_none}
+use Rattle.frame_ip.proofs.Unedited.{edited_none}
 use Rattle.pcap_file.specs.declared.form.Endian.TheVariants.{Little}
 use Rattle.pcap_file.specs.Form.{bytes_in}
 use Rattle.pcap_file.specs.Record.{record_at}
@@ -49,4 +49,4 @@ either_same false x y e = refl
 
 pub unedited : (e : Edits) (f : List ℕ) → AreBytes f → IsUnedited e → with_edits e f ≡ f
 unfolding with_edits
-unedited e f bytes none = either_same (is_handled f) (edited e f) f (edited_none e f none (ip_none e f bytes none) (transport_none e f bytes none))
+unedited e f bytes none = either_same (is_handled f) (edited e f) f (edited_none e f bytes none)

@@ -1,5 +1,5 @@
 -- A run that goes on packet by packet: what was reached, and where it stops.
-use Rattle.std.proofs.Common.{◌≡◌, ℕ, ◌+◌, ◌≤◌, ◌<◌, List, [], ◌∷◌, ◌++◌, length, map, Option, Some, None, Ok, Err, option_and_then, refl, sym, ap, ◌∙◌, subst, arith}
+use Rattle.std.proofs.Common.{◌≡◌, ℕ, ◌+◌, ◌≤◌, ◌<◌, Bool, List, [], ◌∷◌, ◌++◌, length, map, Option, Some, None, Ok, Err, option_and_then, refl, sym, ap, ◌∙◌, subst, arith}
 use Rattle.std.specs.List.{AllByRecursion}
 use Rattle.std.proofs.lemmas.List.{map-append, length-map, length-append}
 use Rattle.std.proofs.lemmas.Option.{same_Some}
@@ -13,7 +13,7 @@ use Rattle.nf_files.specs.Told.{Told}
 use Rattle.packet_feed.specs.Arrivals.{Arrival}
 use Rattle.packet_feed.specs.Order.{in_order}
 use Rattle.packet_feed.specs.Told.{packets_of}
-use Rattle.packet_feed.specs.Sources.{files_in, all_left, Follows}
+use Rattle.packet_feed.specs.Sources.{files_in, sixes_in, all_left, Follows}
 use Rattle.packet_feed.specs.Feeding.{Feeding, StandsFor, AreAll, AreTorn, HasMore, shown, frame_of, original_of}
 use Rattle.packet_feed.proofs.Standing.{stands_kept}
 use Rattle.run_history.specs.declared.line.Mode.TheVariants.{One}
@@ -116,10 +116,11 @@ reached_more f ports begun start feed next old read new sinks now state after pa
 
 pub ends_all : (f : Function) (ports : ℕ) (begun : Feeding) (start : Told) (feed next : Feeding) (old new : Told) (sinks : List Holding) (state : State)
     → Reaches f ports begun start feed old sinks state
-    → ((before : Told) (given : List Arrival) → StandsFor before given feed old → StandsFor before given next new × AreAll (packets_of (files_in next.sources) before) given × AreTorn before next.sources)
-    → next.given ≡ feed.given → ((g : ℕ) → new.given g ≡ old.given g) → files_in next.sources ≡ files_in begun.sources → next.most ≡ begun.most → feed.given ≤ begun.most → Ends f ports begun start next new sinks state All
-ends_all f ports begun start feed next old new sinks state r feeds given givens same most within = record {
+    → ((before : Told) (given : List Arrival) → StandsFor before given feed old → StandsFor before given next new × AreAll (packets_of (sixes_in next.sources) (files_in next.sources) before) given × AreTorn before next.sources)
+    → next.given ≡ feed.given → ((g : ℕ) → new.given g ≡ old.given g) → files_in next.sources ≡ files_in begun.sources → sixes_in next.sources ≡ sixes_in begun.sources → next.most ≡ begun.most → feed.given ≤ begun.most → Ends f ports begun start next new sinks state All
+ends_all f ports begun start feed next old new sinks state r feeds given givens same six most within = record {
   same_files = same;
+  same_six = six;
   same_most = most;
   within = omega arith;
   reached = record {
@@ -135,10 +136,11 @@ ends_all f ports begun start feed next old new sinks state r feeds given givens 
 
 pub ends_early : (f : Function) (ports : ℕ) (begun : Feeding) (start : Told) (feed next : Feeding) (old new : Told) (sinks : List Holding) (state : State)
     → Reaches f ports begun start feed old sinks state
-    → ((before : Told) (given : List Arrival) → StandsFor before given feed old → StandsFor before given next new × HasMore (packets_of (files_in next.sources) before) (length given))
-    → next.given ≡ feed.given → feed.given ≡ feed.most → next.most ≡ feed.most → ((g : ℕ) → new.given g ≡ old.given g) → files_in next.sources ≡ files_in begun.sources → next.most ≡ begun.most → Ends f ports begun start next new sinks state TooMany
-ends_early f ports begun start feed next old new sinks state r feeds given all most givens same same_most = record {
+    → ((before : Told) (given : List Arrival) → StandsFor before given feed old → StandsFor before given next new × HasMore (packets_of (sixes_in next.sources) (files_in next.sources) before) (length given))
+    → next.given ≡ feed.given → feed.given ≡ feed.most → next.most ≡ feed.most → ((g : ℕ) → new.given g ≡ old.given g) → files_in next.sources ≡ files_in begun.sources → sixes_in next.sources ≡ sixes_in begun.sources → next.most ≡ begun.most → Ends f ports begun start next new sinks state TooMany
+ends_early f ports begun start feed next old new sinks state r feeds given all most givens same six same_most = record {
   same_files = same;
+  same_six = six;
   same_most = same_most;
   within = omega arith;
   reached = record {
@@ -151,7 +153,7 @@ ends_early f ports begun start feed next old new sinks state r feeds given all m
   };
   ending_is = λ before b.
       let s = feeds before (map arrival_of r.hs) (r.stands before b) in
-      (omega (arith, r.count), subst (λ (n : ℕ). HasMore (packets_of (files_in next.sources) before) n) (length-map r.hs arrival_of) s.1);
+      (omega (arith, r.count), subst (λ (n : ℕ). HasMore (packets_of (sixes_in next.sources) (files_in next.sources) before) n) (length-map r.hs arrival_of) s.1);
 }
 
 -- ---- where it stops
@@ -161,19 +163,20 @@ are_first None given left h = tt
 are_first (Some all) given None h = absurd h
 are_first (Some all) given (Some left) h = (in_order left, h)
 
-pub first_given : (before : Told) (given : List Arrival) (feed begun : Feeding) (now : Told) → files_in feed.sources ≡ files_in begun.sources → StandsFor before given feed now → AreFirst (packets_of (files_in begun.sources) before) given
-first_given before given feed begun now same h =
-    subst (λ (fs : List ℕ). AreFirst (packets_of fs before) given) same (are_first (packets_of (files_in feed.sources) before) given (all_left feed.sources now) h.sources.order)
+pub first_given : (before : Told) (given : List Arrival) (feed begun : Feeding) (now : Told) → files_in feed.sources ≡ files_in begun.sources → sixes_in feed.sources ≡ sixes_in begun.sources → StandsFor before given feed now → AreFirst (packets_of (sixes_in begun.sources) (files_in begun.sources) before) given
+first_given before given feed begun now same six h =
+    subst (λ (bs : List Bool). AreFirst (packets_of bs (files_in begun.sources) before) given) six
+    (subst (λ (fs : List ℕ). AreFirst (packets_of (sixes_in feed.sources) fs before) given) same (are_first (packets_of (sixes_in feed.sources) (files_in feed.sources) before) given (all_left feed.sources now) h.sources.order))
 
 -- a capture failed
 pub halts_reading : (f : Function) (ports : ℕ) (begun : Feeding) (start : Told) (feed : Feeding) (old new : Told) (sinks : List Holding) (state : State)
-    → Reaches f ports begun start feed old sinks state → files_in feed.sources ≡ files_in begun.sources → feed.given ≤ begun.most → ((g : ℕ) → new.given g ≡ old.given g) → Halts f ports begun start new (files_of sinks)
-halts_reading f ports begun start feed old new sinks state r same within givens = record {
+    → Reaches f ports begun start feed old sinks state → files_in feed.sources ≡ files_in begun.sources → sixes_in feed.sources ≡ sixes_in begun.sources → feed.given ≤ begun.most → ((g : ℕ) → new.given g ≡ old.given g) → Halts f ports begun start new (files_of sinks)
+halts_reading f ports begun start feed old new sinks state r same six within givens = record {
   hs = r.hs;
   state = state;
   undivided = r.undivided;
   alone = r.alone;
-  first = λ before b. first_given before (map arrival_of r.hs) feed begun old same (r.stands before b);
+  first = λ before b. first_given before (map arrival_of r.hs) feed begun old same six (r.stands before b);
   within = omega (arith, r.count);
   fronts = λ k file e.
       let s = stays_in sinks k file e in
@@ -185,11 +188,11 @@ halts_reading f ports begun start feed old new sinks state r same within givens 
 pub halts_writing : (f : Function) (ports : ℕ) (begun : Feeding) (start : Told) (feed next : Feeding) (old read new : Told) (sinks now : List Holding) (state after : State) (packet : Packet) (original : ℕ) (frame : List ℕ) (stop : Stop)
     → Reaches f ports begun start feed old sinks state
     → ((before : Told) (given : List Arrival) → StandsFor before given feed old → StandsFor before (given ++ shown packet next ∷ []) next read)
-    → original ≡ original_of next → frame ≡ frame_of next → files_in next.sources ≡ files_in begun.sources → feed.given < begun.most
+    → original ≡ original_of next → frame ≡ frame_of next → files_in next.sources ≡ files_in begun.sources → sixes_in next.sources ≡ sixes_in begun.sources → feed.given < begun.most
     → ((g : ℕ) → read.given g ≡ old.given g)
     → HandlesOne {T = Unit {0}} {E = Stop} f ports packet original frame state after read new sinks now (Err stop)
     → Halts f ports begun start new (files_of now)
-halts_writing f ports begun start feed next old read new sinks now state after packet original frame stop r feeds o fr same within givens h =
+halts_writing f ports begun start feed next old read new sinks now state after packet original frame stop r feeds o fr same six within givens h =
     let one = came_to 0 packet original frame h.done in
     record {
       hs = r.hs ++ one ∷ [];
@@ -199,7 +202,7 @@ halts_writing f ports begun start feed next old read new sinks now state after p
       first = λ before b.
           let s = feeds before (map arrival_of r.hs) (r.stands before b) in
           let moved : StandsFor before (map arrival_of (r.hs ++ one ∷ [])) next read = subst (λ (as_list : List Arrival). StandsFor before as_list next read) (arrivals_more r.hs packet original frame h.done next o fr) s in
-          first_given before (map arrival_of (r.hs ++ one ∷ [])) next begun read same moved;
+          first_given before (map arrival_of (r.hs ++ one ∷ [])) next begun read same six moved;
       within = omega (arith, length-append r.hs (one ∷ []), r.count);
       fronts = h.goes_on r.hs (held_kept ports r.hs old read sinks givens r.held);
     }

@@ -8,7 +8,7 @@ use Rattle.nf_files.specs.Told.{Told, IsToldAs}
 use Rattle.packet_feed.specs.Arrivals.{Arrival}
 use Rattle.packet_feed.specs.Order.{in_order}
 use Rattle.packet_feed.specs.Told.{packets_of}
-use Rattle.packet_feed.specs.Sources.{files_in}
+use Rattle.packet_feed.specs.Sources.{files_in, sixes_in}
 use Rattle.packet_feed.specs.Feeding.{Feeding, StandsFor, AreAll, AreTorn, HasMore}
 use Rattle.run_history.specs.declared.line.Mode.TheVariants.{One}
 use Rattle.stream_run.specs.declared.ending.Ending.{Ending}
@@ -38,16 +38,17 @@ pub record IsOneRun (f : Function) (most : ℕ) (all : Option (List Arrival)) (r
 
 -- how a run ended: all packets were handled, and captures are torn as was found; or there are more
 abbrev pub EndsSo : Ending → Feeding → Told → List Arrival → Type 0
-EndsSo All feed before arrivals = AreAll (packets_of (files_in feed.sources) before) arrivals × AreTorn before feed.sources
-EndsSo TooMany feed before arrivals = (length arrivals ≡ feed.most) × HasMore (packets_of (files_in feed.sources) before) (length arrivals)
+EndsSo All feed before arrivals = AreAll (packets_of (sixes_in feed.sources) (files_in feed.sources) before) arrivals × AreTorn before feed.sources
+EndsSo TooMany feed before arrivals = (length arrivals ≡ feed.most) × HasMore (packets_of (sixes_in feed.sources) (files_in feed.sources) before) (length arrivals)
 
 -- One run's files are whole, and its last state is told, and how it ended.
 pub record IsFinished (f : Function) (begun : Feeding) (start : Told) (feed : Feeding) (now : Told) (files : List ℕ) (ran : Ran) : Type 0 where
   pub run : Run
   pub some : IsOneRun f begun.most None run
-  pub lawful : (before : Told) → StandsFor before [] begun start → IsOneRun f begun.most (packets_of (files_in begun.sources) before) run
+  pub lawful : (before : Told) → StandsFor before [] begun start → IsOneRun f begun.most (packets_of (sixes_in begun.sources) (files_in begun.sources) before) run
   pub ending : (before : Told) → StandsFor before [] begun start → EndsSo ran.ending feed before (map arrival_in run.turns)
   pub same_files : files_in feed.sources ≡ files_in begun.sources
+  pub same_six : sixes_in feed.sources ≡ sixes_in begun.sources
   pub same_most : feed.most ≡ begun.most
   pub count : length run.turns ≡ ran.packets
   pub left : (answers : List Done) × (course_of run ≡ Some (record { state = ran.state; answers = answers }))
@@ -62,7 +63,7 @@ pub record HoldsFronts (f : Function) (most : ℕ) (all : Option (List Arrival))
 -- the run was stopped, and could have gone on
 pub record IsCutShort (f : Function) (begun : Feeding) (start now : Told) (files : List ℕ) : Type 0 where
   pub some : HoldsFronts f begun.most None now files
-  pub lawful : (before : Told) → StandsFor before [] begun start → HoldsFronts f begun.most (packets_of (files_in begun.sources) before) now files
+  pub lawful : (before : Told) → StandsFor before [] begun start → HoldsFronts f begun.most (packets_of (sixes_in begun.sources) (files_in begun.sources) before) now files
 
 -- what a run comes to
 abbrev pub Runs : Function → Feeding → Told → Feeding → Told → List ℕ → Result Ran Stop → Type 0
@@ -74,9 +75,10 @@ pub record Finishes (f : Function) (ports : ℕ) (begun : Feeding) (start : Told
   pub hs : List Handled
   pub undivided : IsUndivided f hs state
   pub alone : AllByRecursion (λ (h : Handled). h.worker ≡ 0) hs
-  pub first : (before : Told) → StandsFor before [] begun start → AreFirst (packets_of (files_in begun.sources) before) (map arrival_of hs)
+  pub first : (before : Told) → StandsFor before [] begun start → AreFirst (packets_of (sixes_in begun.sources) (files_in begun.sources) before) (map arrival_of hs)
   pub ending_is : (before : Told) → StandsFor before [] begun start → IsEnding ending feed before hs
   pub same_files : files_in feed.sources ≡ files_in begun.sources
+  pub same_six : sixes_in feed.sources ≡ sixes_in begun.sources
   pub same_most : feed.most ≡ begun.most
   pub within : length hs ≤ begun.most
   pub count : length hs ≡ packets

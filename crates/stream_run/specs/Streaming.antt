@@ -13,7 +13,7 @@ use Rattle.packet_feed.specs.declared.fault.FeedFault.TheVariants as feed
 use Rattle.packet_feed.specs.Arrivals.{Arrival}
 use Rattle.packet_feed.specs.Order.{in_order}
 use Rattle.packet_feed.specs.Told.{packets_of}
-use Rattle.packet_feed.specs.Sources.{files_in}
+use Rattle.packet_feed.specs.Sources.{files_in, sixes_in}
 use Rattle.packet_feed.specs.Feeding.{Feeding, StandsFor, AreAll, AreTorn, HasMore}
 use Rattle.run_history.specs.declared.line.Mode.TheVariants.{One}
 use Rattle.stream_run.specs.declared.stop.Stop.{Stop}
@@ -68,20 +68,21 @@ pub record Halts (f : Function) (ports : ℕ) (begun : Feeding) (start now : Tol
   pub state : State
   pub undivided : IsUndivided f hs state
   pub alone : AllByRecursion (λ h. h.worker ≡ 0) hs
-  pub first : (before : Told) → StandsFor before [] begun start → AreFirst (packets_of (files_in begun.sources) before) (map arrival_of hs)
+  pub first : (before : Told) → StandsFor before [] begun start → AreFirst (packets_of (sixes_in begun.sources) (files_in begun.sources) before) (map arrival_of hs)
   pub within : length hs ≤ begun.most
   pub fronts : AreFronts One 1 ports hs now files
 
 -- how it ended: all packets were handled, or as many as were asked for
 abbrev pub IsEnding : Ending → Feeding → Told → List Handled → Type 0
-IsEnding All feed before hs = AreAll (packets_of (files_in feed.sources) before) (map arrival_of hs) × AreTorn before feed.sources
-IsEnding TooMany feed before hs = (length hs ≡ feed.most) × HasMore (packets_of (files_in feed.sources) before) (length hs)
+IsEnding All feed before hs = AreAll (packets_of (sixes_in feed.sources) (files_in feed.sources) before) (map arrival_of hs) × AreTorn before feed.sources
+IsEnding TooMany feed before hs = (length hs ≡ feed.most) × HasMore (packets_of (sixes_in feed.sources) (files_in feed.sources) before) (length hs)
 
 -- a run that nothing stopped
 pub record Ends (f : Function) (ports : ℕ) (begun : Feeding) (start : Told) (feed : Feeding) (now : Told) (sinks : List Holding) (state : State) (ending : Ending) : Type 0 where
   pub reached : Reaches f ports begun start feed now sinks state
   pub ending_is : (before : Told) → StandsFor before [] begun start → IsEnding ending feed before reached.hs
   pub same_files : files_in feed.sources ≡ files_in begun.sources
+  pub same_six : sixes_in feed.sources ≡ sixes_in begun.sources
   pub same_most : feed.most ≡ begun.most
   pub within : feed.given ≤ feed.most
 

@@ -34,6 +34,8 @@ fn are_none(edits: &Edits) -> bool
             dst_mac: None,
             src_ip: None,
             dst_ip: None,
+            src_ip6: None,
+            dst_ip6: None,
             ttl: None,
             src_port: None,
             dst_port: None,

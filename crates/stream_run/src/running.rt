@@ -1,12 +1,13 @@
 //! Packets, handled as they come.
 ghost use Rattle.std.specs.Prelude.{◌≡◌, ◌^◌, ◌<◌, ◌≤◌, ◌+◌, [], ℕ, Some, length};
+ghost use Rattle.nf_base.specs.Doors.{six_ports, IsServed};
 ghost use Rattle.nf_base.specs.Functions.{function_of};
 ghost use Rattle.nf_base.specs.Step.{step, opening};
 ghost use Rattle.nf_engine.specs.View.{fixed_of};
 ghost use Rattle.pcap_file.specs.Record.{greatest_time};
 ghost use Rattle.packet_feed.specs.Faults.{IsReadFault, IsOneOf};
 ghost use Rattle.packet_feed.specs.Told.{EachFile, IsApart};
-ghost use Rattle.packet_feed.specs.Sources.{files_in};
+ghost use Rattle.packet_feed.specs.Sources.{files_in, sixes_in};
 ghost use Rattle.run_history.specs.declared.line.Mode.TheVariants.{One};
 ghost use Rattle.stream_run.specs.Writing.{files_of, AreHeld, KeepsAllBut, KeepsBut, IsStopCause, StopsAmong};
 ghost use Rattle.stream_run.specs.Streaming.{HandlesOne, Comes, stop_in};
@@ -31,6 +32,7 @@ fn handle_whole(tables: &mut Tables, func: &Func, packet: &Packet) -> Done
     requires of_func { tables.old.decls ≡ func.now.chains }
     requires whole { tables.old.share.of ≡ 1 }
     requires port { packet.now.id.port < length func.now.handlers }
+    requires served { IsServed (function_of func.now) packet.now }
     ensures steps { step (function_of func.now) tables.old.state packet.now result.picks
         ≡ Some (record { state = tables.new.state; done = result }) }
     ensures same { fixed_of tables.new ≡ fixed_of tables.old }
@@ -54,6 +56,7 @@ fn handle_one<F: Files>(
     requires of_func { tables.old.decls ≡ func.now.chains }
     requires whole { tables.old.share.of ≡ 1 }
     requires port { packet.now.id.port < length func.now.handlers }
+    requires served { IsServed (function_of func.now) packet.now }
     requires created { EachFile (F.is_written files.old) (files_of sinks.old) }
     requires apart { IsApart (files_of sinks.old) }
     requires few { length sinks.old ≤ 2 ^ 32 }
@@ -101,9 +104,9 @@ pub fn stop_in(captures: &[u32], fault: FeedFault) -> Stop
 /// Handles the packets of captures in capture order, by one worker, and puts what each leaves into the
 /// outputs and the journal as the run goes.
 ///
-/// The captures are those of the feed, which gave no packet yet. The sinks are the outputs in the order
-/// of their ports and the journal, and hold what each file begins with. What is held at the end is
-/// still to be given to the files.
+/// The captures are those of the feed, which gave no packet yet, and was started for the function's
+/// ports. The sinks are the outputs in the order of their ports and the journal, and hold what each
+/// file begins with. What is held at the end is still to be given to the files.
 pub fn handle_all<F: Files>(
     files: &mut F,
     func: &Func,
@@ -116,6 +119,7 @@ pub fn handle_all<F: Files>(
     requires whole { tables.old.share.of ≡ 1 }
     requires opens { tables.old.state ≡ opening (function_of func.now) }
     requires captures { files_in feed.old.sources ≡ captures.now }
+    requires six { sixes_in feed.old.sources ≡ six_ports (function_of func.now) }
     requires ports { length captures.now ≡ length func.now.handlers }
     requires new { feed.old.given ≡ 0 }
     requires opened { EachFile (F.is_read files.old) captures.now }

@@ -1,10 +1,11 @@
 //! A whole run by one worker.
 ghost use Rattle.std.specs.Prelude.{◌≡◌, ◌^◌, ◌+◌, ◌≤◌, ℕ, [], Some, length, slice_get};
+ghost use Rattle.nf_base.specs.Doors.{six_ports};
 ghost use Rattle.nf_base.specs.Step.{opening};
 ghost use Rattle.nf_base.specs.Functions.{function_of};
 ghost use Rattle.nf_files.specs.Told.{IsEmptyIfTold};
 ghost use Rattle.packet_feed.specs.Told.{EachFile, IsApart};
-ghost use Rattle.packet_feed.specs.Sources.{files_in};
+ghost use Rattle.packet_feed.specs.Sources.{files_in, sixes_in};
 ghost use Rattle.run_history.specs.declared.line.Mode.TheVariants.{One};
 ghost use Rattle.stream_run.specs.Writing.{AreHeld, files_of, KeepsBut, IsStopCause, StopsAmong};
 ghost use Rattle.stream_run.specs.Lawful.{Runs, Flows, Streams};
@@ -39,6 +40,7 @@ fn flow<F: Files>(
     requires whole { tables.old.share.of ≡ 1 }
     requires opens { tables.old.state ≡ opening (function_of func.now) }
     requires captures { files_in feed.old.sources ≡ captures.now }
+    requires six { sixes_in feed.old.sources ≡ six_ports (function_of func.now) }
     requires ports { length captures.now ≡ length func.now.handlers }
     requires new { feed.old.given ≡ 0 }
     requires opened { EachFile (F.is_read files.old) captures.now }
@@ -74,6 +76,7 @@ fn stream<F: Files>(
     sinks: &mut Seq<Sink>,
 ) -> Result<Ran, Stop>
     requires captures { files_in feed.old.sources ≡ captures.now }
+    requires six { sixes_in feed.old.sources ≡ six_ports (function_of func.now) }
     requires ports { length captures.now ≡ length func.now.handlers }
     requires new { feed.old.given ≡ 0 }
     requires opened { EachFile (F.is_read files.old) captures.now }
@@ -109,9 +112,10 @@ fn stream<F: Files>(
 /// Handles the packets of captures in capture order, by one worker, and writes the outputs and the
 /// journal as the run goes.
 ///
-/// The captures are those of the feed, which gave no packet yet. The targets are the outputs in the
-/// order of their ports, and the journal behind them; nothing was given to them yet. After an `Err`
-/// each of them holds a front of what one run leaves there.
+/// The captures are those of the feed, which gave no packet yet, and was started for the function's
+/// ports. The targets are the outputs in the order of their ports, and the journal behind them;
+/// nothing was given to them yet. After an `Err` each of them holds a front of what one run leaves
+/// there.
 pub fn run<F: Files>(
     alloc: Global,
     files: &mut F,
@@ -121,6 +125,7 @@ pub fn run<F: Files>(
     targets: &[u32],
 ) -> Result<Ran, Stop>
     requires captures { files_in feed.old.sources ≡ captures.now }
+    requires six { sixes_in feed.old.sources ≡ six_ports (function_of func.now) }
     requires ports { length captures.now ≡ length func.now.handlers }
     requires new { feed.old.given ≡ 0 }
     requires opened { EachFile (F.is_read files.old) captures.now }

@@ -1,9 +1,11 @@
 //! Calls on files, feeds and runs. They promise what further calls ask for and no more: what the answers are is
 //! compared, and not proved.
 ghost use Rattle.std.specs.Prelude.{◌≡◌, ◌≤◌, ◌+◌, ◌^◌, ℕ, length, IfOk};
+ghost use Rattle.nf_base.specs.Doors.{six_ports};
+ghost use Rattle.nf_base.specs.Functions.{function_of};
 ghost use Rattle.nf_files.specs.Told.{IsEmptyIfTold};
 ghost use Rattle.packet_feed.specs.Told.{EachFile, IsApart};
-ghost use Rattle.packet_feed.specs.Sources.{files_in};
+ghost use Rattle.packet_feed.specs.Sources.{files_in, sixes_in};
 
 use nf_base::func::Func;
 use nf_files::{Files, FilesFault};
@@ -50,21 +52,24 @@ pub fn create_all<F: Files>(
     Ok(made)
 }
 
-/// Reads the headers of captures.
+/// Reads the headers of captures, one for each port of a function.
 pub fn start<F: Files>(
     alloc: Global,
     files: &mut F,
+    func: &Func,
     opened: &[u32],
     most: u32,
 ) -> Result<Feed, FeedFault>
     requires readable { EachFile (F.is_read files.old) opened.now }
     requires apart { IsApart opened.now }
     requires ports { length opened.now ≤ 2 ^ 32 }
+    requires ports_of { length opened.now ≡ length func.now.handlers }
     ensures files { IfOk result (λ feed. files_in feed.sources ≡ opened.now) }
+    ensures six { IfOk result (λ feed. sixes_in feed.sources ≡ six_ports (function_of func.now)) }
     ensures new { IfOk result (λ feed. feed.given ≡ 0) }
     ensures reads { (g : ℕ) → F.is_read files.old g → F.is_read files.new g }
 {
-    Feed::start(alloc, files, opened, most)
+    Feed::start(alloc, files, func, opened, most)
 }
 
 /// Handles packets, and writes what they leave.
@@ -77,6 +82,7 @@ pub fn run_all<F: Files>(
     made: &[u32],
 ) -> Result<Ran, Stop>
     requires captures { files_in feed.old.sources ≡ opened.now }
+    requires six { sixes_in feed.old.sources ≡ six_ports (function_of func.now) }
     requires ports { length opened.now ≡ length func.now.handlers }
     requires new { feed.old.given ≡ 0 }
     requires readable { EachFile (F.is_read files.old) opened.now }

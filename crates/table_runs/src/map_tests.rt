@@ -7,7 +7,7 @@ use std::alloc::{AllocError, Global};
 use std::test::Fail;
 use vig_map::Map;
 
-fn key(first: u64, second: u64) -> Key {
+fn key(first: u128, second: u128) -> Key {
     let mut key = Key::new();
     key.push(first);
     key.push(second);
@@ -52,16 +52,16 @@ fn pairs_are_found_until_they_are_erased(rt: HostRuntime) -> Result<(), Fail> {
 fn the_others_are_found_when_half_are_erased(rt: HostRuntime) -> Result<(), Fail> {
     let mut map = Map::new(rt.alloc(), Size::new(2000))?;
     for i in 0..2000u32 {
-        assert!(rt; put(&mut map, key(0x0a00_0000, u64::from(i)), i));
+        assert!(rt; put(&mut map, key(0x0a00_0000, u128::from(i)), i));
     }
     for i in 0..2000u32 {
         if i % 3 != 1 {
-            assert_eq!(rt; erase(&mut map, &key(0x0a00_0000, u64::from(i))), Some(i));
+            assert_eq!(rt; erase(&mut map, &key(0x0a00_0000, u128::from(i))), Some(i));
         }
     }
     for i in 0..2000u32 {
         let value = if i % 3 == 1 { Some(i) } else { None };
-        assert_eq!(rt; get(&map, &key(0x0a00_0000, u64::from(i))), value);
+        assert_eq!(rt; get(&map, &key(0x0a00_0000, u128::from(i))), value);
     }
     Ok(())
 }

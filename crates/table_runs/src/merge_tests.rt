@@ -21,8 +21,8 @@ on 0 { drop; } }";
 #[derive(Clone, Copy)]
 struct Host {
     index: u32,
-    address: u64,
-    used: u64,
+    address: u128,
+    used: u128,
     time: u64,
 }
 
@@ -30,8 +30,8 @@ struct Host {
 #[derive(Clone, Copy)]
 struct Change {
     queue: u32,
-    cell: u64,
-    value: u64,
+    cell: u128,
+    value: u128,
 }
 
 /// Makes a host's entry, if its index is own.
@@ -110,12 +110,12 @@ fn merged(
 }
 
 /// What stands at an index: stamp, address and what was used.
-fn entry(tables: &Tables, i: u32) -> Option<(u64, u64, u64)> {
+fn entry(tables: &Tables, i: u32) -> Option<(u64, u128, u128)> {
     let stamp = stamp(tables, 0, i)?;
     Some((stamp, label(tables, 0, i, 0), column(tables, 0, i, 0)))
 }
 
-fn found(tables: &Tables, address: u64) -> Option<u32> {
+fn found(tables: &Tables, address: u128) -> Option<u32> {
     lookup(tables, 0, &[address])
 }
 
@@ -165,7 +165,7 @@ fn the_last_tick_counts_in_each_share(rt: HostRuntime) -> Result<(), Fail> {
 }
 
 /// What the four cells of the array hold.
-fn cells_of(tables: &Tables) -> [u64; 4] {
+fn cells_of(tables: &Tables) -> [u128; 4] {
     [
         read_cell(tables, 0, 0),
         read_cell(tables, 0, 1),
@@ -214,7 +214,7 @@ fn came(index: u32) -> u64 {
 fn sixty_four(alloc: Global) -> Result<Vec<Host>, AllocError> {
     let mut hosts = Vec::with_capacity(alloc, 64)?;
     for index in 0..64u32 {
-        let number = u64::from(index);
+        let number = u128::from(index);
         hosts.push(Host {
             index,
             address: 1000 + number,
@@ -229,7 +229,7 @@ fn sixty_four(alloc: Global) -> Result<Vec<Host>, AllocError> {
 fn found_as_made(tables: &Tables) -> u32 {
     let mut count = 0u32;
     for i in 0..64u32 {
-        let number = u64::from(i);
+        let number = u128::from(i);
         let stands = entry(tables, i) == Some((came(i), 1000 + number, number));
         if stands && found(tables, 1000 + number) == Some(i) {
             count = count.saturating_add(1);

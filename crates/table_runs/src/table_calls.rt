@@ -29,7 +29,7 @@ pub fn state(alloc: Global, tables: &Tables) -> Result<State, AllocError> {
     tables.state(alloc)
 }
 
-fn key(parts: &[u64]) -> Key {
+fn key(parts: &[u128]) -> Key {
     let mut key = Key::new();
     for part in parts {
         if key.len() < 8 {
@@ -39,20 +39,20 @@ fn key(parts: &[u64]) -> Key {
     key
 }
 
-pub fn lookup(tables: &Tables, map: u32, parts: &[u64]) -> Option<u32> {
+pub fn lookup(tables: &Tables, map: u32, parts: &[u128]) -> Option<u32> {
     tables.lookup(map, &key(parts))
 }
 
-pub fn lookup_in(tables: &Tables, chain: u32, map: u32, parts: &[u64]) -> Option<u32> {
+pub fn lookup_in(tables: &Tables, chain: u32, map: u32, parts: &[u128]) -> Option<u32> {
     tables.lookup_in(chain, map, &key(parts))
 }
 
-pub fn find_at(tables: &Tables, chain: u32, index: u64, guards: &[(u32, u64)]) -> Option<u32> {
+pub fn find_at(tables: &Tables, chain: u32, index: u128, guards: &[(u32, u128)]) -> Option<u32> {
     tables.find_at(chain, index, guards)
 }
 
 /// Makes an entry, if each label has a value.
-pub fn create(tables: &mut Tables, chain: u32, labels: &[u64], time: u64) -> Option<Created> {
+pub fn create(tables: &mut Tables, chain: u32, labels: &[u128], time: u64) -> Option<Created> {
     if labels.len() == tables.label_count(chain) as usize {
         Some(tables.create(chain, labels, time))
     } else {
@@ -60,7 +60,7 @@ pub fn create(tables: &mut Tables, chain: u32, labels: &[u64], time: u64) -> Opt
     }
 }
 
-pub fn create_at(tables: &mut Tables, chain: u32, i: u32, labels: &[u64], time: u64) -> bool {
+pub fn create_at(tables: &mut Tables, chain: u32, i: u32, labels: &[u128], time: u64) -> bool {
     labels.len() == tables.label_count(chain) as usize && tables.create_at(chain, i, labels, time)
 }
 
@@ -92,20 +92,20 @@ pub fn greatest(tables: &Tables, chain: u32) -> u64 {
     tables.greatest(chain)
 }
 
-pub fn label(tables: &Tables, chain: u32, i: u32, label: u32) -> u64 {
+pub fn label(tables: &Tables, chain: u32, i: u32, label: u32) -> u128 {
     tables.label(chain, i, label)
 }
 
-pub fn column(tables: &Tables, chain: u32, i: u32, column: u32) -> u64 {
+pub fn column(tables: &Tables, chain: u32, i: u32, column: u32) -> u128 {
     tables.column(chain, i, column)
 }
 
-pub fn cell(tables: &Tables, chain: u32, i: u32, column: u32) -> u64 {
+pub fn cell(tables: &Tables, chain: u32, i: u32, column: u32) -> u128 {
     tables.cell(chain, i, column)
 }
 
 /// Writes a column, if it is a free one.
-pub fn set_cell(tables: &mut Tables, chain: u32, i: u32, column: u32, value: u64) -> bool {
+pub fn set_cell(tables: &mut Tables, chain: u32, i: u32, column: u32, value: u128) -> bool {
     let is_free = tables.label_count(chain) <= column;
     if is_free {
         tables.set_cell(chain, i, column, value);
@@ -113,15 +113,15 @@ pub fn set_cell(tables: &mut Tables, chain: u32, i: u32, column: u32, value: u64
     is_free
 }
 
-pub fn set_column(tables: &mut Tables, chain: u32, i: u32, column: u32, value: u64) {
+pub fn set_column(tables: &mut Tables, chain: u32, i: u32, column: u32, value: u128) {
     tables.set_column(chain, i, column, value);
 }
 
-pub fn read_cell(tables: &Tables, array: u32, i: u64) -> u64 {
+pub fn read_cell(tables: &Tables, array: u32, i: u128) -> u128 {
     tables.read(array, i)
 }
 
-pub fn write_cell(tables: &mut Tables, array: u32, i: u64, value: u64) {
+pub fn write_cell(tables: &mut Tables, array: u32, i: u128, value: u128) {
     tables.write(array, i, value);
 }
 

@@ -246,7 +246,7 @@ fn a_copy_goes_on_by_itself(rt: HostRuntime) -> Result<(), Fail> {
 }
 
 /// Whether an array of a state has these cells.
-fn has_cells(state: &State, array: usize, cells: &[u64]) -> bool {
+fn has_cells(state: &State, array: usize, cells: &[u128]) -> bool {
     match state.arrays.as_slice().get(array) {
         Some(found) => found.as_slice() == cells,
         None => false,
@@ -254,12 +254,12 @@ fn has_cells(state: &State, array: usize, cells: &[u64]) -> bool {
 }
 
 /// Whether an entry has these labels, these free columns and this stamp.
-fn is_entry(entry: &Entry, labels: &[u64], free: &[u64], stamp: u64) -> bool {
+fn is_entry(entry: &Entry, labels: &[u128], free: &[u128], stamp: u64) -> bool {
     entry.labels.as_slice() == labels && entry.columns.as_slice() == free && entry.stamp == stamp
 }
 
 /// Whether a chain has such an entry at index 3.
-fn has_entry(chain: &Chain, labels: &[u64], free: &[u64], stamp: u64) -> bool {
+fn has_entry(chain: &Chain, labels: &[u128], free: &[u128], stamp: u64) -> bool {
     match chain.slots.as_slice().get(3) {
         Some(Some(entry)) => is_entry(entry, labels, free, stamp),
         Some(None) => false,
@@ -269,7 +269,7 @@ fn has_entry(chain: &Chain, labels: &[u64], free: &[u64], stamp: u64) -> bool {
 
 /// Whether the flows of a state have five indices, this greatest stamp, and at index 3 such an
 /// entry.
-fn has_flow(state: &State, labels: &[u64], free: &[u64], stamp: u64, greatest: u64) -> bool {
+fn has_flow(state: &State, labels: &[u128], free: &[u128], stamp: u64, greatest: u64) -> bool {
     match state.chains.as_slice().first() {
         Some(flows) => {
             flows.slots.len() == 5

@@ -76,7 +76,7 @@ fn looks_up_at(func: &Func, port: u32, wanted: u32) -> bool {
     if port >= func.handlers.len() {
         return false;
     }
-    match &func.handlers.item(port).block {
+    match &func.handlers.item(port).four.block {
         Block::Ask {
             question: Question::Get { place, .. },
             ..

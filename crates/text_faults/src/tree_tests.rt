@@ -1,6 +1,6 @@
 //! The trees of texts.
 use crate::function_tests::repeated;
-use nf_base::packet::Field;
+use nf_base::packet::{Family, Field};
 use nf_syntax::{ParseFault, SyntaxKind, parse};
 use nf_tokens::Place;
 use nf_tree::{Block, Declaration, Ending, Expr, Operation, Part, Question, Tree};
@@ -116,7 +116,8 @@ fn has_statements(tree: &Tree) -> bool {
     let [handler] = tree.handlers.as_slice() else {
         return false;
     };
-    all_stand(&[(handler.place, 4, 1), (handler.port.place, 4, 4)])
+    handler.family == Family::Four
+        && all_stand(&[(handler.place, 4, 1), (handler.port.place, 4, 4)])
         && behind_lookup(&handler.block).is_some_and(is_rest)
 }
 
@@ -155,7 +156,8 @@ drop;\n\
 }\n\
 }\n\
 ",
-    b"nf six { ports 1; array src_ip6 1: 8; on 0 { src_ip6[0] = dst_ip6[1] + six.six; } }",
+    b"nf x { ports 1; chain c 1 lifetime 1 { map m(a: 128); }\n\
+on 0 six { get e = c.m(src_ip6) { set dst_ip6 = e.a; } forward 0; } on 0 { } }",
     b"nf policer {\n\
 ports 2;\n\
 chain hosts 5 lifetime 10 { map by_dst(d: 32); free used: 64; }\n\

@@ -5,5 +5,6 @@ pub mod Hashes
 pub mod Masks
 pub mod Linear
 pub mod OneBit
+pub mod HighFirst
 pub mod InputBits
 pub mod Hashed

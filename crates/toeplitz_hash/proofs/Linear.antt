@@ -1,11 +1,14 @@
 -- The hash is a sum modulo 2 in the bits of the key, and in those of the input.
-use Rattle.std.proofs.Common.{◌≡◌, ℕ, zero, suc, ◌+◌, ◌-◌, ◌*◌, ◌%◌, ◌<◌, refl, ap, ◌∙◌, length, arith}
+use Rattle.std.proofs.Common.{List, ◌≡◌, ℕ, zero, suc, ◌+◌, ◌-◌, ◌*◌, ◌%◌, ◌<◌, refl, ap, ◌∙◌, length, arith}
 use Rattle.std.specs.Int.{bit_at}
 use Rattle.std.specs.Int.Bits.{bit_xor}
 use Rattle.toeplitz_hash.specs.Bits.{bit_of, number_of}
 use Rattle.toeplitz_hash.specs.Toeplitz.{sum_below, hash_bit, hash_of_bits, toeplitz_of}
-use Rattle.toeplitz_hash.specs.Packets.{input_bytes}
-use Rattle.toeplitz_hash.specs.Laws.{HashesHaveBits, IsLinearInKey, IsLinearInInput, OnlyFirstBitsMatter, OnlyBitsTo126Matter, ZerosHashToZero}
+use Rattle.toeplitz_hash.specs.Packets.{positions, input_by}
+use Rattle.nf_base.specs.declared.packet.Addresses.{Addresses}
+use Rattle.nf_base.specs.declared.packet.Addresses.TheVariants as addresses
+use Rattle.nf_base.specs.Families.{family_by}
+use Rattle.toeplitz_hash.specs.Laws.{HashesHaveBits, IsLinearInKey, IsLinearInInput, OnlyFirstBitsMatter, OnlyPositionsMatter, AgreeBelow, ZerosHashToZero}
 use Rattle.toeplitz_hash.proofs.Sums.{sum_below-sum, sum_below-zero}
 use Rattle.toeplitz_hash.proofs.Numbers.{number_of-lt, number_of-same, number_of-zero, number_of-xor, bit_at-number_of}
 use Rattle.toeplitz_hash.proofs.Bytes.{bit_of-lt}
@@ -72,6 +75,14 @@ zeros_hash_to_zero key input zeros =
     sum_below-zero (8 * length input) (λ i. bit_of input i * bit_of key (i + j)) (λ i below. rw (zeros.bits (i + j)) (omega arith)) in
     omega (arith, none))
 
-pub only_bits_to_126_matter : OnlyBitsTo126Matter
-only_bits_to_126_matter left right fields agree =
-    only_first_bits_matter left right (input_bytes fields) (record { bits = agree.bits })
+positions_by :
+    (left right : List ℕ) (a : Addresses) (x y : ℕ) → AgreeBelow (positions (family_by a)) left right
+    → toeplitz_of left (input_by a x y) ≡ toeplitz_of right (input_by a x y)
+positions_by left right (addresses.Four s d) x y agree =
+    only_first_bits_matter left right (input_by (addresses.Four s d) x y) (record { bits = agree.bits })
+positions_by left right (addresses.Six s d) x y agree =
+    only_first_bits_matter left right (input_by (addresses.Six s d) x y) (record { bits = agree.bits })
+
+pub only_positions_matter : OnlyPositionsMatter
+only_positions_matter left right fields agree =
+    positions_by left right fields.addresses fields.src_port fields.dst_port agree

@@ -4,12 +4,14 @@ use Rattle.std.specs.Int.{bit_at}
 use Rattle.std.specs.Int.Bits.{bit_xor}
 use Rattle.nf_base.specs.declared.keys.Keys.{Keys}
 use Rattle.nf_base.specs.declared.packet.Field.{Field}
+use Rattle.nf_base.specs.declared.packet.Addresses.{Addresses}
 use Rattle.nf_base.specs.declared.packet.Fields.{Fields}
+use Rattle.nf_base.specs.Families.{family_by, family_of, source_in, destination_in}
 use Rattle.nf_base.specs.declared.packet.Packet.{Packet}
 use Rattle.nf_base.specs.Values.{field_of, field_width, is_hashable, narrowed}
 use Rattle.toeplitz_hash.specs.Bits.{bit_of, number_of}
 use Rattle.toeplitz_hash.specs.Toeplitz.{hash_bit, toeplitz_of}
-use Rattle.toeplitz_hash.specs.Packets.{input_bytes, hash_of}
+use Rattle.toeplitz_hash.specs.Packets.{address_bits, positions, input_by, input_bytes, hash_of}
 
 -- bit j of a hash, 0 the highest of 32
 abbrev pub bit_of_hash : ℕ → ℕ → ℕ
@@ -54,10 +56,10 @@ OnlyFirstBitsMatter =
     (left right input : List ℕ) → AgreeBelow (8 * length input + 31) left right
     → toeplitz_of left input ≡ toeplitz_of right input
 
--- of a key for packets these are bits 0 to 126
-abbrev pub OnlyBitsTo126Matter : Type 0
-OnlyBitsTo126Matter =
-    (left right : List ℕ) (fields : Fields) → AgreeBelow 127 left right
+-- of a key for packets these are bits 0 to 126, or to 318
+abbrev pub OnlyPositionsMatter : Type 0
+OnlyPositionsMatter =
+    (left right : List ℕ) (fields : Fields) → AgreeBelow (positions (family_of fields)) left right
     → toeplitz_of left (input_bytes fields) ≡ toeplitz_of right (input_bytes fields)
 
 -- bytes without a 1
@@ -98,24 +100,25 @@ InputsAddUp =
     → toeplitz_of key (left ++ right)
     ≡ bit_xor (toeplitz_of key left) (toeplitz_of (drop (length left) key) right)
 
--- where a packet's addresses and ports stand among the 96 bits of its input
-pub record IsLaidOut (fields : Fields) : Type 0 where
-  pub bytes : length (input_bytes fields) ≡ 12
-  pub src_ip : (i : ℕ) → i < 32 → bit_of (input_bytes fields) i ≡ bit_at fields.src_ip (31 - i)
-  pub dst_ip :
-      (i : ℕ) → i < 32 → bit_of (input_bytes fields) (32 + i) ≡ bit_at fields.dst_ip (31 - i)
-  pub src_port :
-      (i : ℕ) → i < 16 → bit_of (input_bytes fields) (64 + i) ≡ bit_at fields.src_port (15 - i)
-  pub dst_port :
-      (i : ℕ) → i < 16 → bit_of (input_bytes fields) (80 + i) ≡ bit_at fields.dst_port (15 - i)
+-- where two addresses of w bits and two ports stand among the bits of an input
+pub record IsLaidOut (w : ℕ) (input : List ℕ) (s d x y : ℕ) : Type 0 where
+  pub bits : 8 * length input ≡ w + w + 16 + 16
+  pub src_ip : (i : ℕ) → i < w → bit_of input i ≡ bit_at s (w - 1 - i)
+  pub dst_ip : (i : ℕ) → i < w → bit_of input (w + i) ≡ bit_at d (w - 1 - i)
+  pub src_port : (i : ℕ) → i < 16 → bit_of input (w + w + i) ≡ bit_at x (16 - 1 - i)
+  pub dst_port : (i : ℕ) → i < 16 → bit_of input (w + w + 16 + i) ≡ bit_at y (16 - 1 - i)
 
 -- so it is with each packet
 abbrev pub InputsAreLaidOut : Type 0
-InputsAreLaidOut = (fields : Fields) → IsLaidOut fields
+InputsAreLaidOut =
+    (a : Addresses) (x y : ℕ) →
+    IsLaidOut (address_bits (family_by a)) (input_by a x y) (source_in a) (destination_in a) x y
 
--- Two packets' fields agree in what a card hashes: in each hashable field, at its width. The times
+-- Two packets' fields agree in what a card hashes: in their version of IP, and in each hashable
+-- field, at its width. The times
 -- at which the packets came play no part.
 pub record AgreeInHashed (s t : ℕ) (a b : Fields) : Type 0 where
+  pub family : family_of a ≡ family_of b
   pub each :
       (field : Field) → IsTrue (is_hashable field)
       → narrowed (field_width field) (field_of s a field)

@@ -1,6 +1,6 @@
 //! Laws over the definition of the hash, which is a sum modulo 2 in the bits of the key as in those
 //! of the input. Each function's contract is one law; its body does nothing.
-ghost use Rattle.toeplitz_hash.specs.Laws.{HashesHaveBits, IsLinearInKey, IsLinearInInput, OnlyFirstBitsMatter, OnlyBitsTo126Matter, ZerosHashToZero, OneKeyBitSelects, OneInputBitSelects, InputsAddUp, InputsAreLaidOut, OnlyHashedFieldsMatter, PacketsUseTheKeyOfTheirPort};
+ghost use Rattle.toeplitz_hash.specs.Laws.{HashesHaveBits, IsLinearInKey, IsLinearInInput, OnlyFirstBitsMatter, OnlyPositionsMatter, ZerosHashToZero, OneKeyBitSelects, OneInputBitSelects, InputsAddUp, InputsAreLaidOut, OnlyHashedFieldsMatter, PacketsUseTheKeyOfTheirPort};
 ghost use Rattle.toeplitz_hash.specs.Suite.{SuiteIsMet};
 
 /// Bit `j` of a hash is the sum modulo 2 over the bits `i` of the input of `input_i * key_(i+j)`,
@@ -25,9 +25,10 @@ pub fn only_first_bits_matter()
     ensures { OnlyFirstBitsMatter }
 {}
 
-/// Two keys hash all packets alike where they agree on bits 0 to 126.
-pub fn only_bits_to_126_matter()
-    ensures { OnlyBitsTo126Matter }
+/// Two keys hash all packets of IPv4 alike where they agree on bits 0 to 126, and those of IPv6
+/// where they agree on bits 0 to 318.
+pub fn only_positions_matter()
+    ensures { OnlyPositionsMatter }
 {}
 
 /// Under a key of zeros each hash is 0.
@@ -51,8 +52,8 @@ pub fn inputs_add_up()
     ensures { InputsAddUp }
 {}
 
-/// Bits 0 to 31 of a packet's input are the source address, 32 to 63 the destination address, 64 to
-/// 79 the source port and 80 to 95 the destination port, each from its highest bit down.
+/// The source address stands first among the bits of a packet's input, then the destination
+/// address, the source port and the destination port, each from its highest bit down.
 pub fn inputs_are_laid_out()
     ensures { InputsAreLaidOut }
 {}

@@ -8,5 +8,5 @@ mod key;
 pub mod laws;
 
 pub use hash::toeplitz;
-pub use input::{hash_packet, input_of};
+pub use input::{Input, hash_packet, input_of};
 pub use key::DEFAULT_KEY;

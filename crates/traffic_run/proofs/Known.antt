@@ -1,5 +1,5 @@
 -- Which file failed, and what a run came to, in the end.
-use Rattle.std.proofs.Common.{◌≡◌, ◌≢◌, ℕ, zero, suc, ◌+◌, ◌^◌, ◌<◌, ◌≤◌, ◌⊎◌, inl, inr, Bool, true, false, cond, leb, List, [], length, refl, sym, ap, subst, ◌∙◌, arith, leb-true}
+use Rattle.std.proofs.Common.{◌≡◌, ℕ, zero, suc, ◌+◌, ◌^◌, ◌<◌, ◌≤◌, ◌⊎◌, inl, inr, Bool, true, false, cond, leb, List, [], length, refl, sym, ap, subst, ◌∙◌, arith, leb-true}
 use Rattle.std.specs.Prelude.{Option, Some, None, Result, Ok, Err, option_map}
 use Rattle.std.proofs.lemmas.Option.{slice_get_within}
 use Rattle.std.specs.List.{slice_get}
@@ -7,11 +7,10 @@ use Rattle.std.proofs.lemmas.Bool.{le-leb, lt-leb}
 use Rattle.nf_base.specs.Text.{Function}
 use Rattle.nf_files.specs.Told.{Told, IsEmptyIfTold}
 use Rattle.nf_files.specs.Causes.{Counted, Faulted, FirstAfter}
-use Rattle.packet_feed.specs.Arrivals.{Arrival}
 use Rattle.packet_feed.specs.Told.{IsApart}
 use Rattle.stream_run.specs.declared.stop.Stop.{Stop}
 use Rattle.stream_run.specs.declared.stop.Stop.TheVariants.{File, Memory}
-use Rattle.stream_run.specs.Writing.{IsOneOf, IsStopCause, StopsAmong}
+use Rattle.stream_run.specs.Writing.{IsStopCause, StopsAmong}
 use Rattle.made_captures.specs.Captures.{first_number, numbers_of}
 use Rattle.made_captures.specs.Outputs.{sum_of, bytes_from, is_right, is_known}
 use Rattle.made_captures.proofs.Numbering.{number_at}

@@ -1,6 +1,6 @@
 -- A run over captures that are made of packets is one of these packets.
-use Rattle.std.proofs.Common.{◌≡◌, ℕ, zero, suc, ◌+◌, ◌<◌, ◌≤◌, Bool, List, [], ◌∷◌, ◌++◌, length, map, take, Option, Some, Result, Ok, Err, refl, sym, ap, subst, ◌∙◌, append-nil, arith}
-use Rattle.std.specs.List.{AllByRecursion, slice_get}
+use Rattle.std.proofs.Common.{◌≡◌, ℕ, ◌<◌, Bool, List, [], length, map, take, Option, Some, Result, Ok, Err, refl, sym, ap, ap₂, subst, ◌∙◌, append-nil, arith}
+use Rattle.std.specs.List.{slice_get}
 use Rattle.std.proofs.lemmas.List.{length-map, take_all}
 use Rattle.nf_base.specs.Text.{Function}
 use Rattle.nf_base.specs.Step.{opening}
@@ -10,12 +10,12 @@ use Rattle.nf_files.specs.Told.{Told, IsEmptyIfTold}
 use Rattle.packet_feed.specs.Arrivals.{Arrival}
 use Rattle.packet_feed.specs.Order.{in_order}
 use Rattle.packet_feed.specs.Told.{packets_of}
-use Rattle.packet_feed.specs.Sources.{files_in}
+use Rattle.packet_feed.specs.Sources.{files_in, sixes_in}
 use Rattle.packet_feed.specs.Feeding.{Feeding}
 use Rattle.run_history.specs.declared.line.Mode.{Mode}
 use Rattle.run_history.specs.declared.line.Mode.TheVariants as mode
 use Rattle.stream_run.specs.declared.ran.Ran.{Ran}
-use Rattle.stream_run.specs.Runs.{Run, Turn, IsLegal, arrival_in}
+use Rattle.stream_run.specs.Runs.{Run, IsLegal, arrival_in}
 use Rattle.stream_run.specs.Texts.{file_bytes}
 use Rattle.stream_run.specs.Streaming as stream
 use Rattle.stream_run.specs.Lawful.{AreTheFirst, IsOneRun}
@@ -91,51 +91,51 @@ none_by (Sharing workers) Refused f arrivals now files s empty =
 
 -- ---- what is known of captures that are told
 
-told_of : (P : Option (List Arrival) → Type 0) (captures : List ℕ) (begun : Feeding) (start : Told) (arrivals : List Arrival) (h : HasStarted captures begun start arrivals) → P (packets_of (files_in begun.sources) h.before) → P (Some h.packets.all)
-told_of P captures begun start arrivals h p = subst P (ap (λ (fs : List ℕ). packets_of fs h.before) h.files ∙ h.packets.packets) p
+told_of : (P : Option (List Arrival) → Type 0) (six : List Bool) (captures : List ℕ) (begun : Feeding) (start : Told) (arrivals : List Arrival) (h : HasStarted six captures begun start arrivals) → P (packets_of (sixes_in begun.sources) (files_in begun.sources) h.before) → P (Some h.packets.all)
+told_of P six captures begun start arrivals h p = subst P (ap₂ (λ (ports : List Bool) (fs : List ℕ). packets_of ports fs h.before) h.six_is h.files ∙ h.packets.packets) p
 
 -- all packets are the first so many
-all_first : (captures : List ℕ) (begun : Feeding) (start : Told) (arrivals given : List Arrival) (h : HasStarted captures begun start arrivals) → AreTheFirst begun.most (packets_of (files_in begun.sources) h.before) given → given ≡ arrivals
-all_first captures begun start arrivals given h p =
-    told_of (λ o. AreTheFirst begun.most o given) captures begun start arrivals h p
+all_first : (six : List Bool) (captures : List ℕ) (begun : Feeding) (start : Told) (arrivals given : List Arrival) (h : HasStarted six captures begun start arrivals) → AreTheFirst begun.most (packets_of (sixes_in begun.sources) (files_in begun.sources) h.before) given → given ≡ arrivals
+all_first six captures begun start arrivals given h p =
+    told_of (λ o. AreTheFirst begun.most o given) six captures begun start arrivals h p
     ∙ ap (take begun.most) h.packets.order
     ∙ take_all begun.most arrivals (omega (arith, h.most))
 
-some_first : (captures : List ℕ) (begun : Feeding) (start : Told) (arrivals given : List Arrival) (h : HasStarted captures begun start arrivals) → stream.AreFirst (packets_of (files_in begun.sources) h.before) given → AreFirst arrivals given
-some_first captures begun start arrivals given h p =
-    let first = told_of (λ o. stream.AreFirst o given) captures begun start arrivals h p in
+some_first : (six : List Bool) (captures : List ℕ) (begun : Feeding) (start : Told) (arrivals given : List Arrival) (h : HasStarted six captures begun start arrivals) → stream.AreFirst (packets_of (sixes_in begun.sources) (files_in begun.sources) h.before) given → AreFirst arrivals given
+some_first six captures begun start arrivals given h p =
+    let first = told_of (λ o. stream.AreFirst o given) six captures begun start arrivals h p in
     (first.0, sym h.packets.order ∙ first.1)
 
 -- ---- by one worker
 
-by_one : (f : Function) (captures : List ℕ) (begun : Feeding) (start : Told) (arrivals : List Arrival) (r : Run) (h : HasStarted captures begun start arrivals) → IsOneRun f begun.most (packets_of (files_in begun.sources) h.before) r → IsByOne f arrivals r
-by_one f captures begun start arrivals r h is = record {
+by_one : (f : Function) (six : List Bool) (captures : List ℕ) (begun : Feeding) (start : Told) (arrivals : List Arrival) (r : Run) (h : HasStarted six captures begun start arrivals) → IsOneRun f begun.most (packets_of (sixes_in begun.sources) (files_in begun.sources) h.before) r → IsByOne f arrivals r
+by_one f six captures begun start arrivals r h is = record {
   function = is.function;
   mode_is = is.mode;
   workers = is.workers;
   alone = is.alone;
   legal = is.legal;
-  packets = all_first captures begun start arrivals (map arrival_in r.turns) h is.packets;
+  packets = all_first six captures begun start arrivals (map arrival_in r.turns) h is.packets;
 }
 
-pub whole_one : (Refused : Type 0) (f : Function) (captures : List ℕ) (begun : Feeding) (start : Told) (arrivals : List Arrival) (later : Feeding) (now : Told) (files : List ℕ) (ran : Ran) (h : HasStarted captures begun start arrivals) → one.IsFinished f begun start later now files ran
+pub whole_one : (Refused : Type 0) (f : Function) (six : List Bool) (captures : List ℕ) (begun : Feeding) (start : Told) (arrivals : List Arrival) (later : Feeding) (now : Told) (files : List ℕ) (ran : Ran) (h : HasStarted six captures begun start arrivals) → one.IsFinished f begun start later now files ran
     → IsWhole One Refused f arrivals now files mode.One ran.state
-whole_one Refused f captures begun start arrivals later now files ran h k =
-    let is = by_one f captures begun start arrivals k.run h (k.lawful h.before h.stands) in
+whole_one Refused f six captures begun start arrivals later now files ran h k =
+    let is = by_one f six captures begun start arrivals k.run h (k.lawful h.before h.stands) in
     record { run = k.run; is_run = is; mode_is = sym is.mode_is; left = k.left; wholes = k.wholes }
 
-pub cut_one : (Refused : Type 0) (f : Function) (captures : List ℕ) (begun : Feeding) (start : Told) (arrivals : List Arrival) (now : Told) (files : List ℕ) (h : HasStarted captures begun start arrivals) → one.IsCutShort f begun start now files → IsCutShort One Refused f arrivals now files
-cut_one Refused f captures begun start arrivals now files h k =
+pub cut_one : (Refused : Type 0) (f : Function) (six : List Bool) (captures : List ℕ) (begun : Feeding) (start : Told) (arrivals : List Arrival) (now : Told) (files : List ℕ) (h : HasStarted six captures begun start arrivals) → one.IsCutShort f begun start now files → IsCutShort One Refused f arrivals now files
+cut_one Refused f six captures begun start arrivals now files h k =
     let cut = k.lawful h.before h.stands in
-    record { run = cut.run; given = arrivals; first = ([], sym (append-nil arrivals)); is_run = by_one f captures begun start arrivals cut.run h cut.is_run; fronts = cut.fronts }
+    record { run = cut.run; given = arrivals; first = ([], sym (append-nil arrivals)); is_run = by_one f six captures begun start arrivals cut.run h cut.is_run; fronts = cut.fronts }
 
 -- ---- by several that share nothing
 
-pub whole_shards : (Refused : Type 0) (f : Function) (keys : Keys) (workers : ℕ) (captures : List ℕ) (begun : Feeding) (start : Told) (arrivals : List Arrival) (later : Feeding) (now : Told) (files : List ℕ) (ran : Ran) (h : HasStarted captures begun start arrivals)
+pub whole_shards : (Refused : Type 0) (f : Function) (keys : Keys) (workers : ℕ) (six : List Bool) (captures : List ℕ) (begun : Feeding) (start : Told) (arrivals : List Arrival) (later : Feeding) (now : Told) (files : List ℕ) (ran : Ran) (h : HasStarted six captures begun start arrivals)
     → shards.IsFinished f keys workers begun start later now files ran → IsWhole (Shards keys workers) Refused f arrivals now files mode.Shard ran.state
-whole_shards Refused f keys workers captures begun start arrivals later now files ran h k = record {
+whole_shards Refused f keys workers six captures begun start arrivals later now files ran h k = record {
   run = k.run;
-  is_run = record { is_run = k.is_run; packets = all_first captures begun start arrivals (map arrival_in k.run.turns) h (k.packets h.before h.stands) };
+  is_run = record { is_run = k.is_run; packets = all_first six captures begun start arrivals (map arrival_in k.run.turns) h (k.packets h.before h.stands) };
   mode_is = sym k.is_run.mode;
   left = k.left;
   wholes = k.wholes;
@@ -144,24 +144,24 @@ whole_shards Refused f keys workers captures begun start arrivals later now file
 before_of : (all arrivals given : List Arrival) (packet : Packet) → in_order all ≡ arrivals → sharded.AreBefore (Some all) given packet → AreBefore arrivals given packet
 before_of all arrivals given packet order h = (h.0, h.1, h.2, sym order ∙ h.3)
 
-pub full_shards : (f : Function) (keys : Keys) (workers : ℕ) (captures : List ℕ) (begun : Feeding) (start : Told) (arrivals : List Arrival) (now : Told) (files : List ℕ) (full : ShareFull) (h : HasStarted captures begun start arrivals) → shards.IsFull f keys workers begun start now files full
+pub full_shards : (f : Function) (keys : Keys) (workers : ℕ) (six : List Bool) (captures : List ℕ) (begun : Feeding) (start : Told) (arrivals : List Arrival) (now : Told) (files : List ℕ) (full : ShareFull) (h : HasStarted six captures begun start arrivals) → shards.IsFull f keys workers begun start now files full
     → IsStopped f keys workers arrivals now files full
-full_shards f keys workers captures begun start arrivals now files full h k =
+full_shards f keys workers six captures begun start arrivals now files full h k =
     let given = map arrival_in k.run.turns in
     record {
       run = k.run;
       is_run = k.is_run;
       stops = k.stops;
-      packets = before_of h.packets.all arrivals given full.stop.packet h.packets.order (told_of (λ o. sharded.AreBefore o given full.stop.packet) captures begun start arrivals h (k.packets h.before h.stands));
+      packets = before_of h.packets.all arrivals given full.stop.packet h.packets.order (told_of (λ o. sharded.AreBefore o given full.stop.packet) six captures begun start arrivals h (k.packets h.before h.stands));
       wholes = k.wholes;
     }
 
-pub cut_shards : (Refused : Type 0) (f : Function) (keys : Keys) (workers : ℕ) (captures : List ℕ) (begun : Feeding) (start : Told) (arrivals : List Arrival) (now : Told) (files : List ℕ) (h : HasStarted captures begun start arrivals) → shards.IsCutShort f keys workers begun start now files
+pub cut_shards : (Refused : Type 0) (f : Function) (keys : Keys) (workers : ℕ) (six : List Bool) (captures : List ℕ) (begun : Feeding) (start : Told) (arrivals : List Arrival) (now : Told) (files : List ℕ) (h : HasStarted six captures begun start arrivals) → shards.IsCutShort f keys workers begun start now files
     → IsCutShort (Shards keys workers) Refused f arrivals now files
-cut_shards Refused f keys workers captures begun start arrivals now files h k = record {
+cut_shards Refused f keys workers six captures begun start arrivals now files h k = record {
   run = k.run;
   given = map arrival_in k.run.turns;
-  first = some_first captures begun start arrivals (map arrival_in k.run.turns) h (k.packets h.before h.stands);
+  first = some_first six captures begun start arrivals (map arrival_in k.run.turns) h (k.packets h.before h.stands);
   is_run = record { is_run = k.is_run; packets = refl };
   fronts = k.fronts;
 }
@@ -176,22 +176,22 @@ mode_in mode.Shard f workers Refused given r is = absurd is
 own_mode : (m : Mode) (f : Function) (workers : ℕ) (Refused : Type 0) (given : List Arrival) (r : Run) → IsRunIn m f workers Refused given r → IsRunIn r.mode f workers Refused given r
 own_mode m f workers Refused given r is = subst (λ (n : Mode). IsRunIn n f workers Refused given r) (mode_in m f workers Refused given r is) is
 
-pub whole_sharing : (Refused : Type 0) (f : Function) (workers : ℕ) (captures : List ℕ) (begun : Feeding) (start : Told) (arrivals : List Arrival) (later : Feeding) (now : Told) (files : List ℕ) (came : Came) (h : HasStarted captures begun start arrivals)
+pub whole_sharing : (Refused : Type 0) (f : Function) (workers : ℕ) (six : List Bool) (captures : List ℕ) (begun : Feeding) (start : Told) (arrivals : List Arrival) (later : Feeding) (now : Told) (files : List ℕ) (came : Came) (h : HasStarted six captures begun start arrivals)
     → locked.IsFinished f workers Refused begun start later now files came → IsWhole (Sharing workers) Refused f arrivals now files came.mode came.ran.state
-whole_sharing Refused f workers captures begun start arrivals later now files came h k = record {
+whole_sharing Refused f workers six captures begun start arrivals later now files came h k = record {
   run = k.run;
-  is_run = subst (λ (given : List Arrival). IsRunIn k.run.mode f workers Refused given k.run) (all_first captures begun start arrivals k.given h (k.packets h.before h.stands)) (own_mode came.mode f workers Refused k.given k.run k.is_run);
+  is_run = subst (λ (given : List Arrival). IsRunIn k.run.mode f workers Refused given k.run) (all_first six captures begun start arrivals k.given h (k.packets h.before h.stands)) (own_mode came.mode f workers Refused k.given k.run k.is_run);
   mode_is = mode_in came.mode f workers Refused k.given k.run k.is_run;
   left = k.left;
   wholes = k.wholes;
 }
 
-pub cut_sharing : (Refused : Type 0) (f : Function) (workers : ℕ) (captures : List ℕ) (begun : Feeding) (start : Told) (arrivals : List Arrival) (now : Told) (files : List ℕ) (h : HasStarted captures begun start arrivals) → locked.IsCutShort f workers Refused begun start now files
+pub cut_sharing : (Refused : Type 0) (f : Function) (workers : ℕ) (six : List Bool) (captures : List ℕ) (begun : Feeding) (start : Told) (arrivals : List Arrival) (now : Told) (files : List ℕ) (h : HasStarted six captures begun start arrivals) → locked.IsCutShort f workers Refused begun start now files
     → IsCutShort (Sharing workers) Refused f arrivals now files
-cut_sharing Refused f workers captures begun start arrivals now files h k = record {
+cut_sharing Refused f workers six captures begun start arrivals now files h k = record {
   run = k.run;
   given = k.given;
-  first = some_first captures begun start arrivals k.given h (k.packets h.before h.stands);
+  first = some_first six captures begun start arrivals k.given h (k.packets h.before h.stands);
   is_run = own_mode k.mode f workers Refused k.given k.run k.is_run;
   fronts = k.fronts;
 }

@@ -24,7 +24,7 @@ use Rattle.run_history.specs.declared.line.Mode.TheVariants as mode
 use Rattle.stream_run.specs.Runs.{Run, Turn, Handled, arrival_in, paired, handled_if, handled_in, course_of}
 use Rattle.stream_run.specs.Texts.{is_sent, with_edits, record_of, sent_bytes, line_of, bytes_of, file_bytes, sent_records}
 use Rattle.locked_run.specs.Locked.{IsRunIn}
-use Rattle.gen_traffic.specs.Traffic.{Recipe, sent_from as sent_by, traffic}
+use Rattle.gen_traffic.specs.Traffic.{Recipe, sent_from as sent_by}
 use Rattle.made_captures.specs.Laws.{arrival_of, arrivals_of}
 use Rattle.made_captures.specs.Outputs.{sum_of, bytes_from, is_right}
 use Rattle.traffic_run.specs.declared.who.Who.{Who}

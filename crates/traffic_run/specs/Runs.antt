@@ -1,5 +1,5 @@
 -- A run of made-up traffic, and what it leaves.
-use Rattle.std.specs.Prelude.{◌≡◌, ◌≢◌, ◌<◌, ◌≤◌, ℕ, zero, suc, ◌+◌, List, ◌∷◌, ◌++◌, length, map, slice_get, Some, None, Result, Ok, Err}
+use Rattle.std.specs.Prelude.{◌≡◌, ◌≢◌, ◌<◌, ◌≤◌, ℕ, zero, suc, ◌+◌, Bool, List, ◌∷◌, ◌++◌, length, map, slice_get, Some, None, Result, Ok, Err}
 use Rattle.std.specs.List.{AllByRecursion}
 use Rattle.nf_base.specs.Text.{Function}
 use Rattle.nf_base.specs.declared.done.Done.{Done}
@@ -27,10 +27,11 @@ use Rattle.traffic_run.specs.declared.came.Left.TheVariants as left
 use Rattle.traffic_run.specs.declared.came.Came.{Came}
 use Rattle.traffic_run.specs.declared.came.Came.TheVariants as came
 
--- the packets of the captures in files, put into capture order
-pub record ArePackets (captures : List ℕ) (told : Told) (arrivals : List Arrival) : Type 0 where
+-- the packets of the captures in files, put into capture order; of each port it is said whether it has
+-- a handler for IPv6
+pub record ArePackets (six : List Bool) (captures : List ℕ) (told : Told) (arrivals : List Arrival) : Type 0 where
   pub all : List Arrival
-  pub packets : packets_of captures told ≡ Some all
+  pub packets : packets_of six captures told ≡ Some all
   pub order : in_order all ≡ arrivals
 
 -- ---- who handles the packets

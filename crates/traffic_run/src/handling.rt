@@ -1,6 +1,7 @@
 //! Packets of captures that are made of traffic, handled.
 ghost use Rattle.std.specs.Prelude.{◌≡◌, ◌+◌, ◌<◌, ◌≤◌, ℕ, Some, length, slice_get};
 ghost use Rattle.nf_base.specs.Functions.{function_of};
+ghost use Rattle.nf_base.specs.Doors.{six_ports};
 ghost use Rattle.toeplitz_hash.specs.Meeting.{HashAlikeWhereTheyMeet};
 ghost use Rattle.lock_mode.specs.Gates.{Rose};
 ghost use Rattle.nf_files.specs.Told.{IsEmptyIfTold};
@@ -39,7 +40,8 @@ fn run_one<F: Files>(
     targets: &[u32],
 ) -> Result<Left, Stop>
     requires started { let all = asked_for asked.now (length func.now.handlers) in
-        HasStarted captures.now feed.old (F.told files.old) all }
+        let six = six_ports (function_of func.now) in
+        HasStarted six captures.now feed.old (F.told files.old) all }
     requires ports { length captures.now ≡ length func.now.handlers }
     requires some_port { 1 ≤ length func.now.handlers }
     requires few_ports { length captures.now ≤ 4 }
@@ -79,7 +81,8 @@ fn run_shards<R: Threads + Sync, F: Files, T: Turns + Sync>(
     turns: &T,
 ) -> Result<Left, Stop>
     requires started { let all = asked_for asked.now (length func.now.handlers) in
-        HasStarted captures.now feed.old (F.told files.old) all }
+        let six = six_ports (function_of func.now) in
+        HasStarted six captures.now feed.old (F.told files.old) all }
     requires several { 1 < workers }
     requires keyed { length func.now.handlers ≤ length keys.now.ports }
     requires alike { HashAlikeWhereTheyMeet (function_of func.now) keys.now }
@@ -126,7 +129,8 @@ fn run_sharing<R: Threads + Wait + Sync, F: Files, T: Turns + Sync, G: Gate + Dr
     gate: &mut G,
 ) -> Result<Left, Stop>
     requires started { let all = asked_for asked.now (length func.now.handlers) in
-        HasStarted captures.now feed.old (F.told files.old) all }
+        let six = six_ports (function_of func.now) in
+        HasStarted six captures.now feed.old (F.told files.old) all }
     requires several { 1 < workers }
     requires ports { length captures.now ≡ length func.now.handlers }
     requires some_port { 1 ≤ length func.now.handlers }
@@ -170,7 +174,8 @@ fn run_by<R: Threads + Wait + Sync, F: Files, T: Turns + Sync, G: Gate + Drop + 
     gate: &mut G,
 ) -> Result<Left, Stop>
     requires started { let all = asked_for asked.now (length func.now.handlers) in
-        HasStarted captures.now feed.old (F.told files.old) all }
+        let six = six_ports (function_of func.now) in
+        HasStarted six captures.now feed.old (F.told files.old) all }
     requires serves { Serves (function_of func.now) who.now }
     requires ports { length captures.now ≡ length func.now.handlers }
     requires some_port { 1 ≤ length func.now.handlers }
@@ -214,7 +219,7 @@ pub(crate) fn run_over<R: Threads + Wait + Sync, F: Files, T: Turns + Sync, G: G
 ) -> Result<Left, Stop>
     requires serves { Serves (function_of func.now) who.now }
     requires made { let all = asked_for asked.now (length func.now.handlers) in
-        ArePackets captures.now (F.told files.old) all }
+        ArePackets (six_ports (function_of func.now)) captures.now (F.told files.old) all }
     requires alone { IsApart captures.now }
     requires ports { length captures.now ≡ length func.now.handlers }
     requires some_port { 1 ≤ length func.now.handlers }
@@ -232,7 +237,7 @@ pub(crate) fn run_over<R: Threads + Wait + Sync, F: Files, T: Turns + Sync, G: G
     ensures cause { IsStopCause (F.counted files.old) (F.counted files.new) result }
     ensures among { StopsAmong captures.now targets.now result }
 {
-    match Feed::start(alloc, files, captures, asked.count) {
+    match Feed::start(alloc, files, func, captures, asked.count) {
         Ok(mut feed) => run_by(
             rt, alloc, files, func, who, asked, &mut feed, captures, targets, turns, gate,
         ),

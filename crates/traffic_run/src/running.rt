@@ -1,6 +1,7 @@
 //! A whole run of made-up traffic.
 ghost use Rattle.std.specs.Prelude.{◌≡◌, ◌+◌, ◌<◌, ◌≤◌, ◌^◌, ℕ, List, [], Some, true, length, slice_get, nat_lt};
 ghost use Rattle.nf_base.specs.Functions.{function_of};
+ghost use Rattle.nf_base.specs.Doors.{six_ports};
 ghost use Rattle.lock_mode.specs.Gates.{Rose};
 ghost use Rattle.nf_files.specs.Told.{Told, IsEmptyIfTold};
 ghost use Rattle.packet_feed.specs.Told.{EachFile, IsApart};
@@ -44,7 +45,8 @@ fn run_beside<'a, R: Threads + Wait + Sync, F: Files, T: Turns + Sync, G: Gate +
     requires serves { Serves (function_of func.now) who.now }
     requires right { counts_right beside.old.outputs (F.told beside.old.files.now) ≡ true }
     requires made { let all = asked_for asked.now (length func.now.handlers) in
-        ArePackets captures.now (told_beside beside.old.captures.now beside.old.files.ghost_name
+        let six = six_ports (function_of func.now) in
+        ArePackets six captures.now (told_beside beside.old.captures.now beside.old.files.ghost_name
         beside.old.outputs (F.told beside.old.files.now) (F.counted beside.old.files.now)) all }
     requires alone { IsApart captures.now }
     requires opened { EachFile (IsMade beside.old.captures.now) captures.now }
@@ -100,7 +102,9 @@ fn run_made<R: Threads + Wait + Sync, F: Files, T: Turns + Sync, G: Gate + Drop 
 ) -> Handled
     requires serves { Serves (function_of func.now) who.now }
     requires made { let all = asked_for asked.now (length func.now.handlers) in
-        (mark : List ℕ) → (told : Told) → ArePackets captures.now (with_made made mark told) all }
+        let six = six_ports (function_of func.now) in
+        (mark : List ℕ) → (told : Told) →
+        ArePackets six captures.now (with_made made mark told) all }
     requires alone { IsApart captures.now }
     requires opened { EachFile (IsMade made) captures.now }
     requires from_two { 2 ≤ first }

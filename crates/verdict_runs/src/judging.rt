@@ -3,6 +3,7 @@
 use access_keys::sites;
 use key_synth::synthesise;
 use nf_base::func::Func;
+use nf_base::packet::{Door, Family};
 use nf_syntax::parse;
 use nf_types::check;
 use path_walk::{WalkFault, count_paths};
@@ -34,8 +35,10 @@ fn fault_of(fault: WalkFault) -> Fault {
 /// The text of a function's objects and of its verdict.
 fn explained(alloc: Global, func: &Func) -> Result<Vec<u8>, Fault> {
     for port in 0..func.handlers.len() {
-        if let Err(fault) = count_paths(alloc, func, port) {
-            return Err(fault_of(fault));
+        for family in [Family::Four, Family::Six] {
+            if let Err(fault) = count_paths(alloc, func, Door { port, family }) {
+                return Err(fault_of(fault));
+            }
         }
     }
     let Ok(all) = sites(alloc, func) else {

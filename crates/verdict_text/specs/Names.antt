@@ -5,6 +5,8 @@ use Rattle.nf_base.specs.declared.decl.ObjectId.TheVariants as object
 use Rattle.nf_base.specs.declared.decl.ChainDecl.{ChainDecl}
 use Rattle.nf_base.specs.declared.decl.ColumnDecl.{ColumnDecl}
 use Rattle.nf_base.specs.declared.decl.MapDecl.{MapDecl}
+use Rattle.nf_base.specs.declared.packet.Family.{Family}
+use Rattle.nf_base.specs.declared.packet.Family.TheVariants.{Four, Six}
 use Rattle.nf_base.specs.Text.{Function}
 use Rattle.hash_fields.specs.declared.hashable.Hashable.{Hashable}
 use Rattle.hash_fields.specs.declared.hashable.Hashable.TheVariants.{SrcIp, DstIp, SrcPort, DstPort}
@@ -39,9 +41,11 @@ abbrev pub label_name : Function → ObjectId → ℕ → List ℕ
 label_name f (object.Chain chain) l = label_in (slice_get f.chains chain) l
 label_name f (object.Array array) l = codes "index"
 
--- a field's word in the language
-abbrev pub field_word : Hashable → List ℕ
-field_word SrcIp = codes "src_ip"
-field_word DstIp = codes "dst_ip"
-field_word SrcPort = codes "src_port"
-field_word DstPort = codes "dst_port"
+-- the word in the language of a field of a packet of a family
+abbrev pub field_word : Family → Hashable → List ℕ
+field_word Four SrcIp = codes "src_ip"
+field_word Six SrcIp = codes "src_ip6"
+field_word Four DstIp = codes "dst_ip"
+field_word Six DstIp = codes "dst_ip6"
+field_word family SrcPort = codes "src_port"
+field_word family DstPort = codes "dst_port"

@@ -1,6 +1,9 @@
 -- The text of `explain` up to the verdict: the function's name, and its objects with their sites.
 use Rattle.std.specs.Prelude.{ℕ, List, [], ◌∷◌, ◌++◌, Option, Some, None, if◌then◌else◌, codes, decimal}
 use Rattle.nf_base.specs.declared.decl.ObjectId.{ObjectId}
+use Rattle.nf_base.specs.declared.packet.Family.{Family}
+use Rattle.nf_base.specs.declared.packet.Family.TheVariants.{Four, Six}
+use Rattle.nf_base.specs.declared.packet.Door.{Door}
 use Rattle.nf_base.specs.Text.{Function}
 use Rattle.hash_fields.specs.declared.hashable.Hashable.{Hashable}
 use Rattle.nf_sites.specs.declared.sort.Sort.{Sort}
@@ -25,24 +28,33 @@ sort_text f o Load = codes "load"
 sort_text f o Store = codes "store"
 
 -- a label with the field by which it is known: nothing where it isn't
-abbrev pub known_text : List ℕ → Option Hashable → List ℕ
-known_text name None = []
-known_text name (Some field) = codes " " ++ name ++ codes "=" ++ field_word field
+abbrev pub known_text : Family → List ℕ → Option Hashable → List ℕ
+known_text family name None = []
+known_text family name (Some field) = codes " " ++ name ++ codes "=" ++ field_word family field
 
 -- the known ones of some labels
 abbrev pub knowns_text : Function → Site → List ℕ → List ℕ
 knowns_text f s [] = []
 knowns_text f s (l ∷ ls) =
-    known_text (label_name f s.object l) (field_at s l) ++ knowns_text f s ls
+    known_text s.door.family (label_name f s.object l) (field_at s l) ++ knowns_text f s ls
 
 -- those of all labels, or a dash where none is known
 abbrev pub site_knows : Function → Site → List ℕ → List ℕ
 site_knows f s labels = if knows_one labels s then knowns_text f s labels else codes " -"
 
+-- nothing for IPv4, and a word for IPv6
+abbrev pub family_text : Family → List ℕ
+family_text Four = []
+family_text Six = codes " six"
+
+-- the port and the family of a handler
+abbrev pub port_text : Door → List ℕ
+port_text door = decimal door.port ++ family_text door.family
+
 -- the line of a site
 abbrev pub site_text : Function → Site → List ℕ
 site_text f s =
-    codes "site " ++ decimal s.port ++ codes " " ++ sort_text f s.object s.sort
+    codes "site " ++ port_text s.door ++ codes " " ++ sort_text f s.object s.sort
     ++ site_knows f s (labels_of f s.object) ++ codes "\n"
 
 -- the lines of an object's sites

@@ -1,5 +1,5 @@
 -- Worked rows: the texts of some functions, with their sites and what these come to.
-use Rattle.std.specs.Prelude.{◌≡◌, ℕ, List, [], ◌∷◌, ◌++◌, replicate, codes}
+use Rattle.std.specs.Prelude.{◌≡◌, ℕ, List, [], ◌∷◌, ◌++◌, map, replicate, Some, codes}
 use Rattle.nf_base.specs.declared.decl.ObjectId.{ObjectId}
 use Rattle.nf_base.specs.declared.decl.ObjectId.TheVariants as object
 use Rattle.nf_base.specs.declared.decl.ChainDecl.{ChainDecl}
@@ -7,12 +7,16 @@ use Rattle.nf_base.specs.declared.decl.ArrayDecl.{ArrayDecl}
 use Rattle.nf_base.specs.declared.decl.ColumnDecl.{ColumnDecl}
 use Rattle.nf_base.specs.declared.decl.MapDecl.{MapDecl}
 use Rattle.nf_base.specs.declared.width.Width.TheVariants.{W16, W32, W64}
+use Rattle.nf_base.specs.declared.packet.Family.TheVariants.{Six}
 use Rattle.nf_base.specs.Text.{Function}
+use Rattle.hash_fields.specs.declared.hashable.Hashable.TheVariants.{SrcIp, DstPort}
+use Rattle.nf_sites.specs.declared.sort.Sort.TheVariants.{Get, New, Name, Load, Store}
+use Rattle.access_keys.specs.declared.site.Site.{Site}
 use Rattle.shard_rules.specs.declared.rule.Rule.TheVariants.{SameKey, Subset, DisjointKeys, Unhashable, Interchangeable}
 use Rattle.shard_rules.specs.declared.plan.Standing.{Standing}
 use Rattle.shard_rules.specs.declared.plan.Standing.TheVariants.{ReadOnly, Unused, Ruled}
 use Rattle.shard_rules.specs.declared.plan.Plan.{Plan}
-use Rattle.shard_rules.specs.Rows.{policer, translator, hidden, narrowed, counter}
+use Rattle.shard_rules.specs.Rows.{at_chain, at_array, policer, translator, hidden, narrowed, counter}
 use Rattle.toeplitz_hash.specs.declared.key.TheConstants.{DEFAULT_KEY}
 use Rattle.key_synth.specs.declared.verdict.Cause.TheVariants as cause
 use Rattle.key_synth.specs.declared.verdict.Verdict.{Verdict}
@@ -110,6 +114,41 @@ many_text = explained
     (plan_with
     (ReadOnly ∷ Ruled Unhashable [] ∷ Ruled SameKey (0 ∷ []) ∷ Unused ∷ []))
 
+-- the same site of the port's handler for IPv6
+abbrev pub of_six : Site → Site
+of_six s = record {
+  object = s.object;
+  door = record { port = s.door.port; family = Six };
+  place = s.place;
+  sort = s.sort;
+  known = s.known;
+}
+
+-- the sites of a chain by the source address
+abbrev pub by_source : List Site
+by_source =
+    at_chain 0 0 (Get 0) (Some SrcIp ∷ []) ∷ at_chain 0 1 New (Some SrcIp ∷ [])
+    ∷ at_chain 0 1 (Name 0) (Some SrcIp ∷ []) ∷ []
+
+-- a chain by the source address that a handler for IPv6 alone uses
+abbrev pub six_text : List ℕ
+six_text = explained
+    (function_named (codes "bysrc")
+    (chain_named (codes "s") (named (codes "x") ∷ []) (map_named (codes "m") 0 1 ∷ []) ∷ [])
+    [] (object.Chain 0 ∷ []))
+    (map of_six by_source) (plan_with (Ruled SameKey (0 ∷ []) ∷ []))
+
+-- the sites of a counter by the destination port
+abbrev pub by_port : List Site
+by_port = at_array 0 0 Store (Some DstPort ∷ []) ∷ at_array 0 0 Load (Some DstPort ∷ []) ∷ []
+
+-- a counter that a port's handlers for IPv4 and for IPv6 use
+abbrev pub both_text : List ℕ
+both_text = explained
+    (function_named (codes "count") []
+    (record { name = codes "hits"; width = W64; cells = 0 ∷ [] } ∷ []) (object.Array 0 ∷ []))
+    (by_port ++ map of_six by_port) (plan_with (Ruled SameKey (0 ∷ []) ∷ []))
+
 -- the verdicts on some functions: keys by destination at port 1, two objects, and a hash
 abbrev pub policer_keys : Verdict
 policer_keys = Sharded (record {
@@ -152,6 +191,13 @@ pub record TextsAreSo : Type 0 where
       ++ codes "object hits rule J1 keeps index\n"
       ++ codes "site 0 store index=dst_port\nsite 0 load index=dst_port\n"
       ++ codes "object never unused\n"
+  pub six_is_told : six_text
+      ≡ codes "nf bysrc\nobject s rule J1 keeps x\nsite 0 six get m x=src_ip6\n"
+      ++ codes "site 0 six new x=src_ip6\nsite 0 six name m x=src_ip6\n"
+  pub six_comes_behind : both_text
+      ≡ codes "nf count\nobject hits rule J1 keeps index\n"
+      ++ codes "site 0 store index=dst_port\nsite 0 load index=dst_port\n"
+      ++ codes "site 0 six store index=dst_port\nsite 0 six load index=dst_port\n"
   pub policer_has_keys : verdict_text bridge policer_keys
       ≡ codes "sharded\nkey 0 6d5a56da255b0ec24167253d43a38fb0"
       ++ codes "d0ca2bcbae7b30b477cb2da38030f20c6a42b73bbeac01fa\n"

@@ -6,14 +6,15 @@
 //! | object that the text doesn't write | `object <name> read only` |
 //! | object that no feasible path uses | `object <name> unused` |
 //! | any other object | `object <name> rule <rule> keeps`, and its kept labels |
-//! | site, by port, then text place | `site <port> <sort>`, and the labels known there |
+//! | site of a handler for IPv4 | `site <port> <sort>`, and the labels known there |
+//! | site of a handler for IPv6 | `site <port> six <sort>`, and the labels known there |
 //!
-//! A kept label is ` <label>`, a known one ` <label>=<field>`; where there is none, ` -` stands.
+//! Sites stand by port, those of its handler for IPv4 first, then by text place. A kept label is ` <label>`, a known one ` <label>=<field>`; where there is none, ` -` stands.
 //! A sort is `get <map>`, `find`, `new`, `name <map>`, `load` or `store`. Each line ends by LF.
 ghost use Rattle.std.specs.Prelude.{◌≡◌, ◌++◌, OnOk, IfOk, if◌then◌else◌};
 ghost use Rattle.std.specs.List.{range_with_len};
 ghost use Rattle.nf_base.specs.Functions.{function_of};
-ghost use Rattle.verdict_text.specs.Objects.{sort_text, known_text, knowns_text, site_knows, site_text, sites_text, labels_text, kept_text, standing_text, object_text, objects_text, explained};
+ghost use Rattle.verdict_text.specs.Objects.{sort_text, known_text, knowns_text, site_knows, port_text, site_text, sites_text, labels_text, kept_text, standing_text, object_text, objects_text, explained};
 
 use crate::names::{field_word, label_name, map_name};
 use crate::text::{push_bytes, push_decimal};
@@ -21,6 +22,7 @@ use access_keys::Site;
 use hash_fields::Hashable;
 use nf_base::decl::ObjectId;
 use nf_base::func::Func;
+use nf_base::packet::{Door, Family};
 use nf_sites::Sort;
 use shard_rules::{Plan, Standing, field_at, is_on, knows_one, label_count};
 use std::alloc::{AllocError, Global};
@@ -45,8 +47,13 @@ fn push_sort(out: &mut Vec<u8>, func: &Func, object: ObjectId, sort: Sort) -> Re
     }
 }
 
-fn push_known(out: &mut Vec<u8>, name: &[u8], field: Option<Hashable>) -> Result<(), AllocError>
-    ensures ok { OnOk result (out.new.items ≡ out.old.items ++ known_text name.now field) }
+fn push_known(
+    out: &mut Vec<u8>,
+    family: Family,
+    name: &[u8],
+    field: Option<Hashable>,
+) -> Result<(), AllocError>
+    ensures ok { OnOk result (out.new.items ≡ out.old.items ++ known_text family name.now field) }
 {
     let Some(field) = field else {
         return Ok(());
@@ -54,7 +61,7 @@ fn push_known(out: &mut Vec<u8>, name: &[u8], field: Option<Hashable>) -> Result
     push_bytes(out, b" ")?;
     push_bytes(out, name)?;
     push_bytes(out, b"=")?;
-    push_bytes(out, field_word(field).as_bytes())
+    push_bytes(out, field_word(family, field).as_bytes())
 }
 
 fn push_knowns(out: &mut Vec<u8>, func: &Func, site: &Site, count: u32) -> Result<(), AllocError>
@@ -63,7 +70,7 @@ fn push_knowns(out: &mut Vec<u8>, func: &Func, site: &Site, count: u32) -> Resul
 {
     for label in 0..count {
         let name = label_name(func, site.object, label);
-        push_known(out, name, field_at(site, label))?;
+        push_known(out, site.door.family, name, field_at(site, label))?;
     }
     Ok(())
 }
@@ -84,12 +91,23 @@ fn push_site_knows(
     }
 }
 
+// A port, and where the handler is for IPv6, its word.
+fn push_port(out: &mut Vec<u8>, door: Door) -> Result<(), AllocError>
+    ensures ok { OnOk result (out.new.items ≡ out.old.items ++ port_text door) }
+{
+    push_decimal(out, u64::from(door.port))?;
+    match door.family {
+        Family::Four => Ok(()),
+        Family::Six => push_bytes(out, b" six"),
+    }
+}
+
 fn push_site(out: &mut Vec<u8>, func: &Func, site: &Site) -> Result<(), AllocError>
     ensures ok { OnOk result (out.new.items
         ≡ out.old.items ++ site_text (function_of func.now) site.now) }
 {
     push_bytes(out, b"site ")?;
-    push_decimal(out, u64::from(site.port))?;
+    push_port(out, site.door)?;
     push_bytes(out, b" ")?;
     push_sort(out, func, site.object, site.sort)?;
     push_site_knows(out, func, site, label_count(func, site.object))?;

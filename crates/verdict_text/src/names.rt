@@ -6,6 +6,7 @@ ghost use Rattle.verdict_text.specs.Names.{map_name, label_name, field_word};
 use hash_fields::Hashable;
 use nf_base::decl::ObjectId;
 use nf_base::func::Func;
+use nf_base::packet::Family;
 
 /// The name of a map of a chain.
 pub fn map_name(func: &Func, object: ObjectId, map: u32) -> &[u8]
@@ -39,14 +40,16 @@ pub fn label_name(func: &Func, object: ObjectId, label: u32) -> &[u8]
     }
 }
 
-/// The word of a field in a text.
-pub fn field_word(field: Hashable) -> &'static str
-    ensures { result.now ≡ field_word field }
+/// The word of a field of a packet of a family in a text.
+pub fn field_word(family: Family, field: Hashable) -> &'static str
+    ensures { result.now ≡ field_word family field }
 {
-    match field {
-        Hashable::SrcIp => "src_ip",
-        Hashable::DstIp => "dst_ip",
-        Hashable::SrcPort => "src_port",
-        Hashable::DstPort => "dst_port",
+    match (family, field) {
+        (Family::Four, Hashable::SrcIp) => "src_ip",
+        (Family::Four, Hashable::DstIp) => "dst_ip",
+        (Family::Six, Hashable::SrcIp) => "src_ip6",
+        (Family::Six, Hashable::DstIp) => "dst_ip6",
+        (_, Hashable::SrcPort) => "src_port",
+        (_, Hashable::DstPort) => "dst_port",
     }
 }

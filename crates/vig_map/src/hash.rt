@@ -1,6 +1,6 @@
 //! Where the search for a key begins.
 ghost use Rattle.std.specs.Prelude.{◌≡◌, ◌<◌};
-ghost use Rattle.vig_map.specs.Hashes.{mixed, first_slot};
+ghost use Rattle.vig_map.specs.Hashes.{stirred, mixed, first_slot};
 
 use nf_base::key::Key;
 
@@ -8,11 +8,20 @@ use nf_base::key::Key;
 /// the high half.
 const MULTIPLIER: u64 = 0x9e37_79b9_7f4a_7c15;
 
+/// A hash with a word mixed in.
+fn stir(hash: u64, word: u64) -> u64
+    ensures { result ≡ stirred hash word }
+{
+    (hash ^ word).wrapping_mul(MULTIPLIER)
+}
+
 /// A hash with a key's part mixed in.
-fn mix(hash: u64, part: u64) -> u64
+fn mix(hash: u64, part: u128) -> u64
     ensures { result ≡ mixed hash part }
 {
-    (hash ^ part).wrapping_mul(MULTIPLIER)
+    let low = (part % 0x1_0000_0000_0000_0000) as u64;
+    let high = (part / 0x1_0000_0000_0000_0000) as u64;
+    stir(stir(hash, low), high)
 }
 
 /// The slot at which the search for a key begins, of so many first ones.

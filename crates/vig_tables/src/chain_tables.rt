@@ -139,7 +139,7 @@ impl ChainTables {
     }
 
     /// Whether a key of some labels is bound.
-    pub fn is_taken(&self, labels: &[u64]) -> bool
+    pub fn is_taken(&self, labels: &[u128]) -> bool
         ensures { result ≡ is_taken self.now.decl.maps labels.now self.now.chain.slots }
     {
         is_any_bound(self.maps.as_slice(), labels)
@@ -148,7 +148,7 @@ impl ChainTables {
     /// Makes an entry with these labels at an own vacant index, and with zeros in its free columns.
     ///
     /// Its stamp is the time, or the greatest stamp so far where that is later.
-    pub fn create(&mut self, labels: &[u64], time: u64) -> Created
+    pub fn create(&mut self, labels: &[u128], time: u64) -> Created
         requires { length labels.now ≡ length self.old.decl.labels }
         ensures cause { let old = self.old in
             CauseOf result old.decl.maps labels.now old.share old.chain.slots }
@@ -170,7 +170,7 @@ impl ChainTables {
 
     /// Makes an entry at an index, as `create` does: false where the index is not own or is live,
     /// or a key is bound.
-    pub fn create_at(&mut self, i: u32, labels: &[u64], time: u64) -> bool
+    pub fn create_at(&mut self, i: u32, labels: &[u128], time: u64) -> bool
         requires { length labels.now ≡ length self.old.decl.labels }
         ensures cause { let old = self.old in
             result ≡ can_make_at old.decl.maps labels.now old.share old.chain.slots i }
@@ -209,7 +209,7 @@ impl ChainTables {
     }
 
     /// A label of the entry at an index, 0 where there is none.
-    pub fn label(&self, i: u32, label: u32) -> u64
+    pub fn label(&self, i: u32, label: u32) -> u128
         ensures { result ≡ label_of label (entry_at self.now.chain.slots i) }
     {
         if self.chain.stamp(i).is_none() {
@@ -219,7 +219,7 @@ impl ChainTables {
     }
 
     /// A free column of the entry at an index, 0 where there is none.
-    pub fn column(&self, i: u32, column: u32) -> u64
+    pub fn column(&self, i: u32, column: u32) -> u128
         ensures { result ≡ column_of column (entry_at self.now.chain.slots i) }
     {
         if self.chain.stamp(i).is_none() {
@@ -229,7 +229,7 @@ impl ChainTables {
     }
 
     /// A free column of the entry at an index, if there are both.
-    pub fn free_column(&self, i: u32, column: u32) -> Option<u64>
+    pub fn free_column(&self, i: u32, column: u32) -> Option<u128>
         ensures { let entry = entry_at self.now.chain.slots i in
             result ≡ option_and_then (λ e. slice_get e.columns column) entry }
     {
@@ -240,7 +240,7 @@ impl ChainTables {
     }
 
     /// Writes a free column of the entry at an index, if there are both.
-    pub fn set_column(&mut self, i: u32, column: u32, value: u64)
+    pub fn set_column(&mut self, i: u32, column: u32, value: u128)
         ensures { self.new ≡ with_chain (written column value i self.old.chain) self.old }
     {
         if self.chain.stamp(i).is_some() {
@@ -249,7 +249,7 @@ impl ChainTables {
     }
 
     /// Writes over the free columns of the entry at an index, if there is one.
-    fn set_columns(&mut self, i: u32, columns: &[u64])
+    fn set_columns(&mut self, i: u32, columns: &[u128])
         requires { length columns.now ≡ length self.old.decl.columns }
         ensures { self.new ≡ with_chain (overwritten columns.now i self.old.chain) self.old }
     {
@@ -287,10 +287,10 @@ impl ChainTables {
 
     /// An index, if it is one of the chain, is live and its entry has these labels, each with its
     /// number.
-    pub fn find_at(&self, index: u64, guards: &[(u32, u64)]) -> Option<u32>
+    pub fn find_at(&self, index: u128, guards: &[(u32, u128)]) -> Option<u32>
         ensures { result ≡ index_with index guards.now (entry_at self.now.chain.slots index) }
     {
-        if index >= u64::from(self.decl.size.get()) {
+        if index >= u128::from(self.decl.size.get()) {
             return None;
         }
         let i = index as u32;
@@ -378,7 +378,7 @@ impl ChainTables {
 }
 
 /// A number of a row, none past its end.
-fn number_in(row: &[u64], column: u32) -> Option<u64>
+fn number_in(row: &[u128], column: u32) -> Option<u128>
     ensures { result ≡ slice_get row.now column }
 {
     match row.get(column as usize) {
@@ -388,7 +388,7 @@ fn number_in(row: &[u64], column: u32) -> Option<u64>
 }
 
 /// A number of a row, 0 past its end.
-fn number_at(row: &[u64], column: u32) -> u64
+fn number_at(row: &[u128], column: u32) -> u128
     ensures { result ≡ or_zero (slice_get row.now column) }
 {
     match row.get(column as usize) {
@@ -398,7 +398,7 @@ fn number_at(row: &[u64], column: u32) -> u64
 }
 
 /// Whether a label has a value.
-fn has_label(guard: &(u32, u64), labels: &[u64]) -> bool
+fn has_label(guard: &(u32, u128), labels: &[u128]) -> bool
     ensures { result ≡ has_label guard.now (labelled labels.now) }
 {
     match labels.get(guard.0 as usize) {
@@ -408,7 +408,7 @@ fn has_label(guard: &(u32, u64), labels: &[u64]) -> bool
 }
 
 /// Whether labels have these values, each with the label's number.
-fn has_labels(guards: &[(u32, u64)], labels: &[u64]) -> bool
+fn has_labels(guards: &[(u32, u128)], labels: &[u128]) -> bool
     ensures { result ≡ has_labels guards.now (labelled labels.now) }
 {
     for guard in guards {

@@ -53,14 +53,14 @@ impl KeyMap {
     }
 
     /// Whether the key of some labels is bound.
-    fn is_bound(&self, labels: &[u64]) -> bool
+    fn is_bound(&self, labels: &[u128]) -> bool
         ensures { result ≡ is_bound labels.now self.now }
     {
         self.map.get(&key(&self.decl, labels)).is_some()
     }
 
     /// Binds the key of some labels to an index.
-    fn bind(&mut self, labels: &[u64], i: u32)
+    fn bind(&mut self, labels: &[u128], i: u32)
         requires { IsTrue (is_bindable self.old.map (key_of labels.now self.old)) }
         ensures { IsBoundTo labels.now i self.old self.new }
     {
@@ -68,7 +68,7 @@ impl KeyMap {
     }
 
     /// Unbinds the key of some labels.
-    fn unbind(&mut self, labels: &[u64])
+    fn unbind(&mut self, labels: &[u128])
         requires { IsTrue (is_bound labels.now self.old) }
         ensures { IsUnbound labels.now self.old self.new }
     {
@@ -88,7 +88,7 @@ impl KeyMap {
 }
 
 /// The numbers from a place on, as many as there are up to a count.
-fn part(numbers: &[u64], first: u32, count: u32) -> &[u64]
+fn part(numbers: &[u128], first: u32, count: u32) -> &[u128]
     ensures { result.now ≡ take count (drop first numbers.now) }
 {
     let start = (first as usize).min(numbers.len());
@@ -98,7 +98,7 @@ fn part(numbers: &[u64], first: u32, count: u32) -> &[u64]
 }
 
 /// The part of some labels that is their key in a map.
-fn key(decl: &MapDecl, labels: &[u64]) -> Key
+fn key(decl: &MapDecl, labels: &[u128]) -> Key
     requires { decl.now.parts ≤ 8 }
     ensures { result ≡ key_in decl.now labels.now }
 {
@@ -110,14 +110,14 @@ fn key(decl: &MapDecl, labels: &[u64]) -> Key
 }
 
 /// Whether the key of some labels is bound in one of some maps.
-pub fn is_any_bound(maps: &[KeyMap], labels: &[u64]) -> bool
+pub fn is_any_bound(maps: &[KeyMap], labels: &[u128]) -> bool
     ensures { result ≡ list_any (is_bound labels.now) maps.now }
 {
     maps.iter().any(|map| map.is_bound(labels))
 }
 
 /// Binds the keys of some labels to an index.
-pub fn bind_all(maps: &mut Vec<KeyMap>, labels: &[u64], i: u32)
+pub fn bind_all(maps: &mut Vec<KeyMap>, labels: &[u128], i: u32)
     requires { AreBindable labels.now maps.old.items }
     ensures { AllZip (IsBoundTo labels.now i) maps.old.items maps.new.items }
 {
@@ -127,7 +127,7 @@ pub fn bind_all(maps: &mut Vec<KeyMap>, labels: &[u64], i: u32)
 }
 
 /// Unbinds the keys of some labels.
-pub fn unbind_all(maps: &mut Vec<KeyMap>, labels: &[u64])
+pub fn unbind_all(maps: &mut Vec<KeyMap>, labels: &[u128])
     requires { AreBound labels.now maps.old.items }
     ensures { AllZip (IsUnbound labels.now) maps.old.items maps.new.items }
 {

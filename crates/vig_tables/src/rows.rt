@@ -14,7 +14,7 @@ pub struct Rows {
     count: u32,
     width: u32,
     /// Row after row.
-    cells: Vec<u64>,
+    cells: Vec<u128>,
 }
 
 impl Model for Rows {
@@ -44,7 +44,7 @@ impl Rows {
     }
 
     /// A row.
-    pub fn row(&self, i: u32) -> &[u64]
+    pub fn row(&self, i: u32) -> &[u128]
         requires { i < length self.now.rows }
         ensures value { result.now ≡ row_at self.now i }
         ensures wide { length result.now ≡ self.now.width }
@@ -55,7 +55,7 @@ impl Rows {
     }
 
     /// Writes a row over another.
-    pub fn set_row(&mut self, i: u32, row: &[u64])
+    pub fn set_row(&mut self, i: u32, row: &[u128])
         requires within { i < length self.old.rows }
         requires wide { length row.now ≡ self.old.width }
         ensures { self.new ≡ with_row i row.now self.old }
@@ -76,7 +76,7 @@ impl Rows {
     }
 
     /// Writes one number of a row; past the end of the row nothing.
-    pub fn set(&mut self, i: u32, column: u32, value: u64)
+    pub fn set(&mut self, i: u32, column: u32, value: u128)
         requires { i < length self.old.rows }
         ensures { self.new ≡ with_row i (slice_set (row_at self.old i) column value) self.old }
     {
@@ -100,9 +100,9 @@ impl Rows {
 }
 
 /// So many zeros.
-fn zeros(alloc: Global, count: usize) -> Result<Vec<u64>, AllocError>
+fn zeros(alloc: Global, count: usize) -> Result<Vec<u128>, AllocError>
     ensures { IfOk result (λ zeros. zeros.items ≡ replicate count 0) }
 {
-    let zeros = vec![in alloc; 0u64; count]?;
+    let zeros = vec![in alloc; 0u128; count]?;
     Ok(zeros)
 }

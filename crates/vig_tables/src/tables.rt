@@ -35,7 +35,7 @@ use std::marker::Model;
 #[derive(Drop)]
 pub struct Tables {
     chains: Seq<ChainTables>,
-    arrays: Seq<Indexed<u64>>,
+    arrays: Seq<Indexed<u128>>,
     share: Share,
 }
 
@@ -116,7 +116,7 @@ impl Tables {
 
     /// An index of a chain, if it is one of the chain's, is live and its entry has these labels,
     /// each with its number.
-    pub fn find_at(&self, chain: u32, index: u64, guards: &[(u32, u64)]) -> Option<u32>
+    pub fn find_at(&self, chain: u32, index: u128, guards: &[(u32, u128)]) -> Option<u32>
         ensures { result ≡ index_with index guards.now (entry_at (slots_at self.now chain) index) }
     {
         match self.table(chain) {
@@ -155,7 +155,7 @@ impl Tables {
     }
 
     /// Whether a key of some labels is bound in a chain.
-    pub fn is_taken(&self, chain: u32, labels: &[u64]) -> bool
+    pub fn is_taken(&self, chain: u32, labels: &[u128]) -> bool
         ensures { let maps = maps_of self.now.decls chain in
             result ≡ is_taken maps labels.now (slots_at self.now chain) }
     {
@@ -187,7 +187,7 @@ impl Tables {
 
     /// A column of the entry at an index of a chain, 0 where there is none: the labels come first,
     /// then the free columns.
-    pub fn cell(&self, chain: u32, i: u32, column: u32) -> u64
+    pub fn cell(&self, chain: u32, i: u32, column: u32) -> u128
         ensures { let entry = entry_at (slots_at self.now chain) i in
             result ≡ cell_of (label_count self.now.decls chain) column entry }
     {
@@ -200,7 +200,7 @@ impl Tables {
     }
 
     /// A label of the entry at an index of a chain, 0 where there is none.
-    pub fn label(&self, chain: u32, i: u32, label: u32) -> u64
+    pub fn label(&self, chain: u32, i: u32, label: u32) -> u128
         ensures { result ≡ label_of label (entry_at (slots_at self.now chain) i) }
     {
         match self.table(chain) {
@@ -211,7 +211,7 @@ impl Tables {
 
     /// A free column of the entry at an index of a chain, by its number among the free columns, 0
     /// where there is none.
-    pub fn column(&self, chain: u32, i: u32, column: u32) -> u64
+    pub fn column(&self, chain: u32, i: u32, column: u32) -> u128
         ensures { result ≡ column_of column (entry_at (slots_at self.now chain) i) }
     {
         match self.table(chain) {
@@ -222,7 +222,7 @@ impl Tables {
 
     /// A free column of the entry at an index of a chain, by its number among the free columns, if
     /// there are both.
-    pub fn free_column(&self, chain: u32, i: u32, column: u32) -> Option<u64>
+    pub fn free_column(&self, chain: u32, i: u32, column: u32) -> Option<u128>
         ensures { let entry = entry_at (slots_at self.now chain) i in
             result ≡ option_and_then (λ e. slice_get e.columns column) entry }
     {
@@ -233,7 +233,7 @@ impl Tables {
     }
 
     /// A cell of an array, if there is one.
-    pub fn array_cell(&self, array: u32, i: u64) -> Option<u64>
+    pub fn array_cell(&self, array: u32, i: u128) -> Option<u128>
         ensures { result ≡ slice_get (array_at self.now.state.arrays array) i }
     {
         match self.arrays.as_slice().get(array as usize) {
@@ -243,7 +243,7 @@ impl Tables {
     }
 
     /// A cell of an array, 0 where there is none.
-    pub fn read(&self, array: u32, i: u64) -> u64
+    pub fn read(&self, array: u32, i: u128) -> u128
         ensures { result ≡ or_zero (slice_get (array_at self.now.state.arrays array) i) }
     {
         match self.array_cell(array, i) {
@@ -256,7 +256,7 @@ impl Tables {
     /// free columns.
     ///
     /// Its stamp is the time, or the chain's greatest stamp so far where that is later.
-    pub fn create(&mut self, chain: u32, labels: &[u64], time: u64) -> Created
+    pub fn create(&mut self, chain: u32, labels: &[u128], time: u64) -> Created
         requires { AreFor (length labels.now) (slice_get self.old.decls chain) }
         ensures cause { let old = self.old in
             let maps = maps_of old.decls chain in
@@ -274,7 +274,7 @@ impl Tables {
 
     /// Makes an entry of a chain at an index, as `create` does: false where the index is not own or
     /// is live, where a key is bound, or where there is no such chain.
-    pub fn create_at(&mut self, chain: u32, i: u32, labels: &[u64], time: u64) -> bool
+    pub fn create_at(&mut self, chain: u32, i: u32, labels: &[u128], time: u64) -> bool
         requires { AreFor (length labels.now) (slice_get self.old.decls chain) }
         ensures cause { let old = self.old in
             let maps = maps_of old.decls chain in
@@ -313,7 +313,7 @@ impl Tables {
 
     /// Writes a free column of the entry at an index of a chain, if there are both; the labels come
     /// before the free columns.
-    pub fn set_cell(&mut self, chain: u32, i: u32, column: u32, value: u64)
+    pub fn set_cell(&mut self, chain: u32, i: u32, column: u32, value: u128)
         requires { label_count self.old.decls chain ≤ column }
         ensures { let free = column - label_count self.old.decls chain in
             self.new ≡ changed chain (written free value i) self.old }
@@ -324,7 +324,7 @@ impl Tables {
 
     /// Writes a free column of the entry at an index of a chain, by its number among the free
     /// columns, if there are both.
-    pub fn set_column(&mut self, chain: u32, i: u32, column: u32, value: u64)
+    pub fn set_column(&mut self, chain: u32, i: u32, column: u32, value: u128)
         ensures { self.new ≡ changed chain (written column value i) self.old }
     {
         if (chain as usize) < self.chains.len() {
@@ -335,7 +335,7 @@ impl Tables {
     }
 
     /// Writes a cell of an array, if there is one.
-    pub fn write(&mut self, array: u32, i: u64, value: u64)
+    pub fn write(&mut self, array: u32, i: u128, value: u128)
         ensures { self.new ≡ with_cell array i value self.old }
     {
         if (array as usize) < self.arrays.len() {
@@ -403,10 +403,10 @@ fn any_due(chains: &[ChainTables], time: u64) -> bool
 }
 
 /// A cell, none past the end.
-fn cell(cells: &Indexed<u64>, i: u64) -> Option<u64>
+fn cell(cells: &Indexed<u128>, i: u128) -> Option<u128>
     ensures { result ≡ slice_get cells.now i }
 {
-    if i < u64::from(cells.len()) {
+    if i < u128::from(cells.len()) {
         Some(*cells.item(i as u32))
     } else {
         None
@@ -414,10 +414,10 @@ fn cell(cells: &Indexed<u64>, i: u64) -> Option<u64>
 }
 
 /// Writes a cell; past the end nothing.
-fn write(cells: &mut Indexed<u64>, i: u64, value: u64)
+fn write(cells: &mut Indexed<u128>, i: u128, value: u128)
     ensures { cells.new ≡ slice_set cells.old i value }
 {
-    if i < u64::from(cells.len()) {
+    if i < u128::from(cells.len()) {
         cells.set(i as u32, value);
     }
 }
@@ -454,7 +454,7 @@ fn copied_chains(alloc: Global, chains: &[ChainTables]) -> Result<Seq<ChainTable
 }
 
 /// The same arrays once more.
-fn copied_arrays(alloc: Global, arrays: &[Indexed<u64>]) -> Result<Seq<Indexed<u64>>, AllocError>
+fn copied_arrays(alloc: Global, arrays: &[Indexed<u128>]) -> Result<Seq<Indexed<u128>>, AllocError>
     ensures { IfOk result (λ copy. copy ≡ arrays.now) }
 {
     let mut copy = Seq::new(alloc);
@@ -481,7 +481,7 @@ fn new_chains(
 }
 
 /// The opening cells of each array.
-fn new_arrays(alloc: Global, decls: &[ArrayDecl]) -> Result<Seq<Indexed<u64>>, AllocError>
+fn new_arrays(alloc: Global, decls: &[ArrayDecl]) -> Result<Seq<Indexed<u128>>, AllocError>
     ensures { IfOk result (λ arrays. arrays ≡ map opening_cells decls.now) }
 {
     let mut arrays = Seq::new(alloc);

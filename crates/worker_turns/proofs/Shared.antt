@@ -22,7 +22,8 @@ use Rattle.nf_base.specs.contracts.block.Block as block
 use Rattle.nf_base.specs.contracts.block.Block.TheKnot as block_knot
 use Rattle.nf_base.specs.contracts.decl.ChainDecl as chain
 use Rattle.nf_base.specs.contracts.decl.ArrayDecl as array
-use Rattle.nf_base.specs.contracts.func.Handler as handler
+use Rattle.nf_base.specs.contracts.handler.Handler as handler
+use Rattle.nf_base.specs.contracts.port_handlers.PortHandlers as port_handlers
 use Rattle.nf_base.specs.contracts.func.Func as func
 
 expr_layer : (R : RattleType) → IsSync R → IsSync (enum.row (enum.declared (expr_knot.type-Expr R R R)))
@@ -70,6 +71,9 @@ block_sync = variants_sync block.enum (search (sendable, crosses, as_row_sync, b
 handler_sync : IsSync handler.the_row
 handler_sync = declared_sync handler.the_type (search (sendable, crosses, block_sync) depth 40)
 
+port_handlers_sync : IsSync port_handlers.the_row
+port_handlers_sync = declared_sync port_handlers.the_type (search (sendable, crosses, as_row_sync, handler_sync) depth 40)
+
 chain_sync : IsSync chain.the_row
 chain_sync = search (sendable, crosses) depth 40
 
@@ -85,7 +89,7 @@ func_sync = declared_sync func.the_type (
       search (sendable, crosses, as_row_sync, array_sync) depth 40,
       (
         search (sendable, crosses, as_row_sync) depth 40,
-        (search (sendable, crosses, as_row_sync, handler_sync) depth 40, tt),
+        (search (sendable, crosses, as_row_sync, port_handlers_sync) depth 40, tt),
       ),
     ),
   ),

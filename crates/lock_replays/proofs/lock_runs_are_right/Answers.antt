@@ -1,4 +1,5 @@
 use Rattle.std.proofs.Common.{◌≡◌, ◌++◌, List, ap, sym, ◌∙◌}
+use Rattle.nf_base.specs.Doors.{six_ports}
 use Rattle.packet_feed.specs.Arrivals.{Arrival}
 use Rattle.lock_replays.proofs.lock_runs_are_right.Goals as goal
 
@@ -8,5 +9,5 @@ returns-clause-right c = λ f workers given r state answers is e.
 
 pub returns-clause-first : goal.returns-clause-first
 returns-clause-first c = λ f workers files told all given r is begins run. λ port.
-    let x = c.ports_keep_their_order.ensures.first files told all given is begins port in
+    let x = c.ports_keep_their_order.ensures.first (six_ports f) files told all given is begins port in
     (x.0, x.1 ∙ ap (λ (l : List Arrival). l ++ x.0) (sym (run.order port)))

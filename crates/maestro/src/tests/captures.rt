@@ -1,4 +1,4 @@
-// Captures and frames, byte by byte (libpcap file format 2.4, RFC 791, RFC 768, RFC 9293).
+// Captures and frames, byte by byte (libpcap file format 2.4, RFC 791, RFC 8200, RFC 768, RFC 9293).
 use std::alloc::{AllocError, Global};
 
 // The header of a capture: little-endian, nanoseconds, at most 262,144 bytes a frame, Ethernet.
@@ -54,6 +54,8 @@ pub enum Frame {
     Between(u8, u8),
     /// A UDP frame from an address and a port to others, with this checksum of its IP header.
     Flow((u32, u16), (u32, u16), u16),
+    /// A UDP frame in IPv6 from an address and a port to others, 62 bytes.
+    Six((u128, u16), (u128, u16)),
 }
 
 /// The header fields of a UDP frame without a UDP checksum: each from, then to.
@@ -118,6 +120,20 @@ fn udp_bytes(alloc: Global, udp: Udp) -> Result<Vec<u8>, AllocError> {
     Ok(out)
 }
 
+// A UDP frame without data in IPv6, whose hop limit is 64 (RFC 8200, RFC 768).
+fn six_bytes(alloc: Global, from: (u128, u16), to: (u128, u16)) -> Result<Vec<u8>, AllocError> {
+    let mut out = Vec::new(alloc);
+    push_mac(&mut out, 0x0200_0000_0002)?;
+    push_mac(&mut out, 0x0200_0000_0001)?;
+    out.extend_from_slice(b"\x86\xdd\x60\x00\x00\x00\x00\x08\x11\x40")?;
+    out.extend_from_slice(&from.0.to_be_bytes())?;
+    out.extend_from_slice(&to.0.to_be_bytes())?;
+    out.extend_from_slice(&from.1.to_be_bytes())?;
+    out.extend_from_slice(&to.1.to_be_bytes())?;
+    out.extend_from_slice(b"\x00\x08\x00\x00")?;
+    Ok(out)
+}
+
 fn flow(from: (u32, u16), to: (u32, u16), sum: u16) -> Udp {
     Udp {
         macs: (0x0200_0000_0001, 0x0200_0000_0002),
@@ -158,6 +174,7 @@ fn frame_bytes(alloc: Global, frame: Frame) -> Result<Vec<u8>, AllocError> {
         Frame::FromPort(n) => udp_bytes(alloc, flow((0x0101_0101, n), (0x0202_0202, 80), 0x74cc)),
         Frame::Between(from, to) => udp_bytes(alloc, between(from, to)),
         Frame::Flow(from, to, sum) => udp_bytes(alloc, flow(from, to, sum)),
+        Frame::Six(from, to) => six_bytes(alloc, from, to),
     }
 }
 
@@ -166,6 +183,7 @@ fn original_length(frame: Frame) -> u64 {
         Frame::Cut => 1514,
         Frame::Segment => 54,
         Frame::ShortSegment => 53,
+        Frame::Six(_, _) => 62,
         _ => 42,
     }
 }

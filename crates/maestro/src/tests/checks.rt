@@ -15,7 +15,7 @@ struct Checked {
     said: &'static str,
 }
 
-const CHECKED: [Checked; 13] = [
+const CHECKED: [Checked; 15] = [
     // A get hits, or misses, and then a `new` makes an entry, or its key is taken, or the chain is full.
     Checked {
         text: "nf fw { ports 2; chain flows 1 lifetime 60000000000 { map by_flow(a: 32, b: 32, c: 16, d: 16); }
@@ -117,6 +117,17 @@ const CHECKED: [Checked; 13] = [
     Checked {
         text: "nf nothing { ports 1; on 0 { } }",
         said: "ok nothing: ports 1, chains 0, arrays 0, paths 1\n",
+    },
+    Checked {
+        text: "nf bysrc { ports 1; chain s 16 lifetime 1000 { map m(x: 128); } on 0 { forward 0; }
+            on 0 six { get e = s.m(src_ip6) { touch e; } else { new f = s(x = src_ip6) { } } forward 0; } }",
+        said: "ok bysrc: ports 1, chains 1, arrays 0, paths 1/4\n",
+    },
+    // Ports with a handler for IPv6 and without.
+    Checked {
+        text: "nf f { ports 3; on 2 six { } on 2 { if ttl < 1 { } } on 1 { if ttl < 1 { } } on 0 { }
+            on 0 six { if ttl == 1 { } if ttl == 2 { } } }",
+        said: "ok f: ports 3, chains 0, arrays 0, paths 1/3 2 2/1\n",
     },
 ];
 
@@ -267,6 +278,57 @@ fn a_run_is_refused<R: Threads + Wait + Sync>(
     let text = tests(alloc, "nf p { ports 1; on 0 { ", 13, "} }")?;
     let got = call(rt, alloc, line, "out", text.as_str().as_bytes(), &[], &[])?;
     Ok(got.is_stop(TOO_MANY, P1, 1, 0))
+}
+
+// Two handlers have too many paths; what stands between them, behind the second one, and what is said.
+const BOTH: [(&str, &str, &str, &str); 3] = [
+    // A port's handler for IPv4 comes before that for IPv6.
+    (
+        "nf p { ports 1;\non 0 six { ",
+        "}\non 0 { ",
+        "} }",
+        "maestro: refused P1 at 3:1\n",
+    ),
+    // A port's handler for IPv6 comes before the handlers of higher ports.
+    (
+        "nf p { ports 2;\non 1 { ",
+        "}\non 0 six { ",
+        "} on 0 { } }",
+        "maestro: refused P1 at 3:1\n",
+    ),
+    (
+        "nf p { ports 2;\non 1 six { ",
+        "}\non 1 { ",
+        "} on 0 { } on 0 six { } }",
+        "maestro: refused P1 at 3:1\n",
+    ),
+];
+
+fn both() -> &'static [(&'static str, &'static str, &'static str, &'static str)] {
+    &BOTH
+}
+
+fn are_refused_so<R: Threads + Wait + Sync>(
+    rt: &R,
+    alloc: Global,
+    front: &str,
+    between: &str,
+    end: &str,
+    said: &str,
+) -> Result<bool, AllocError> {
+    let first = tests(alloc, front, 13, between)?;
+    let text = tests(alloc, first.as_str(), 13, end)?;
+    let got = call(rt, alloc, CHECK, "out", text.as_str().as_bytes(), &[], &[])?;
+    Ok(got.is_stop(got.status, said, 1, 0))
+}
+
+#[test]
+fn too_many_paths_are_told_of_ipv4_first(rt: HostRuntime) -> Result<(), Fail> {
+    for (front, between, end, said) in both() {
+        let met = are_refused_so(&rt, rt.alloc(), front, between, end, said)?;
+        assert!(rt; met, "{front} .. {end}: {said}");
+    }
+    Ok(())
 }
 
 #[test]

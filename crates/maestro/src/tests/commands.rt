@@ -1,6 +1,7 @@
 // The command that each line's words ask for, and lines that are none.
 use super::calls::words_of;
-use command_words::{Command, Description, Endpoint, ModeChoice, command_of};
+use command_words::{Command, Description, Ends, ModeChoice, command_of};
+use nf_base::packet::Addresses;
 use std::alloc::{AllocError, Global};
 use std::test::Fail;
 
@@ -36,7 +37,7 @@ fn run_line(alloc: Global, line: &str) -> Result<String, Fail> {
     Ok(said)
 }
 
-const NO_COMMANDS: [&str; 83] = [
+const NO_COMMANDS: [&str; 90] = [
     "",
     "maestro",
     "maestro run",
@@ -117,6 +118,13 @@ const NO_COMMANDS: [&str; 83] = [
     "maestro hash 1.2.3:1 5.6.7.8:2",
     "maestro hash 1.2.3.4.5:1 5.6.7.8:2",
     "maestro hash 1.2.3.4:1:2 5.6.7.8:2",
+    "maestro hash 00000000000000000000000000000001:1 5.6.7.8:2",
+    "maestro hash 1.2.3.4:1 00000000000000000000000000000001:2",
+    "maestro hash 0000000000000000000000000000001:1 00000000000000000000000000000001:2",
+    "maestro hash 000000000000000000000000000000001:1 00000000000000000000000000000001:2",
+    "maestro hash 0000000000000000000000000000000A:1 00000000000000000000000000000001:2",
+    "maestro hash 0000000000000000000000000000000g:1 00000000000000000000000000000001:2",
+    "maestro hash ::1:1 ::2:2",
     "maestro hash 1.2.3.4:1 5.6.7.8:2 --workers 0",
     "maestro hash 1.2.3.4:1 5.6.7.8:2 --workers 17",
     "maestro hash 1.2.3.4:1 5.6.7.8:2 --key 00",
@@ -269,17 +277,13 @@ fn lines_that_are_replays_and_traffic(rt: HostRuntime) -> Result<(), Fail> {
 }
 
 /// The ends, the first and last bytes of the key, and the workers of a hash that is asked for.
-fn hash_of(
-    alloc: Global,
-    line: &str,
-) -> Result<Option<(Endpoint, Endpoint, Option<(u8, u8)>, u32)>, AllocError> {
+fn hash_of(alloc: Global, line: &str) -> Result<Option<(Ends, Option<(u8, u8)>, u32)>, AllocError> {
     let Some(command) = asked(alloc, line)? else {
         return Ok(None);
     };
     match &command {
         Command::Hash(hash) => Ok(Some((
-            hash.source,
-            hash.destination,
+            hash.ends,
             hash.key.map(|key| (key[0], key[39])),
             hash.workers.get(),
         ))),
@@ -287,26 +291,34 @@ fn hash_of(
     }
 }
 
-const SOURCE: Endpoint = Endpoint {
-    address: 0x4209_95bb,
-    port: 2794,
+const ENDS: Ends = Ends {
+    addresses: Addresses::Four {
+        src: 0x4209_95bb,
+        dst: 0xa18e_6450,
+    },
+    source_port: 2794,
+    destination_port: 1766,
 };
 
-const DESTINATION: Endpoint = Endpoint {
-    address: 0xa18e_6450,
-    port: 1766,
+const ENDS_SIX: Ends = Ends {
+    addresses: Addresses::Six {
+        src: 0x3ffe_2501_0200_1fff_0000_0000_0000_0007,
+        dst: u128::MAX,
+    },
+    source_port: 2794,
+    destination_port: 1766,
 };
 
 #[test]
 fn lines_that_are_hashes(rt: HostRuntime) -> Result<(), Fail> {
     let alloc = rt.alloc();
     let plain = hash_of(alloc, "maestro hash 66.9.149.187:2794 161.142.100.80:1766")?;
-    assert!(rt; plain == Some((SOURCE, DESTINATION, None, 1)));
+    assert!(rt; plain == Some((ENDS, None, 1)));
     let workers = hash_of(
         alloc,
         "maestro hash --workers 16 66.9.149.187:2794 161.142.100.80:1766",
     )?;
-    assert!(rt; workers == Some((SOURCE, DESTINATION, None, 16)));
+    assert!(rt; workers == Some((ENDS, None, 16)));
     let keyed = hash_of(
         alloc,
         "maestro hash 66.9.149.187:2794 161.142.100.80:1766 --key \
@@ -318,7 +330,7 @@ fn lines_that_are_hashes(rt: HostRuntime) -> Result<(), Fail> {
         "maestro hash 66.9.149.187:2794 161.142.100.80:1766 --key \
          0f0000000000000000000000000000000000000000000000000000000000000000000000000000a9",
     )?;
-    assert!(rt; keyed == Some((SOURCE, DESTINATION, Some((0x0f, 0xa9)), 1)));
+    assert!(rt; keyed == Some((ENDS, Some((0x0f, 0xa9)), 1)));
     let upper = hash_of(
         alloc,
         "maestro hash 66.9.149.187:2794 161.142.100.80:1766 --key \
@@ -326,21 +338,26 @@ fn lines_that_are_hashes(rt: HostRuntime) -> Result<(), Fail> {
     )?;
     assert!(rt; upper.is_none());
     let least = hash_of(alloc, "maestro hash 0.0.0.0:0 255.255.255.255:65535")?;
-    assert!(rt;
-        least
-            == Some((
-                Endpoint {
-                    address: 0,
-                    port: 0,
-                },
-                Endpoint {
-                    address: u32::MAX,
-                    port: u16::MAX,
-                },
-                None,
-                1,
-            ))
-    );
+    let widest = Ends {
+        addresses: Addresses::Four {
+            src: 0,
+            dst: u32::MAX,
+        },
+        source_port: 0,
+        destination_port: u16::MAX,
+    };
+    assert!(rt; least == Some((widest, None, 1)));
+    Ok(())
+}
+
+#[test]
+fn a_hash_of_ipv6_is_asked_for(rt: HostRuntime) -> Result<(), Fail> {
+    let found = hash_of(
+        rt.alloc(),
+        "maestro hash 3ffe250102001fff0000000000000007:2794 \
+         ffffffffffffffffffffffffffffffff:1766 --workers 3",
+    )?;
+    assert!(rt; found == Some((ENDS_SIX, None, 3)));
     Ok(())
 }
 

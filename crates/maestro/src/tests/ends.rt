@@ -153,8 +153,9 @@ fn more_packets_than_may_be_handled(rt: HostRuntime) -> Result<(), Fail> {
     Ok(())
 }
 
-// The words of a hash, and what is printed. The first two are of Microsoft's verification suite.
-const HASHES: [(&str, &str); 8] = [
+// The words of a hash, and what is printed. The first two and that for IPv6 are of Microsoft's verification
+// suite.
+const HASHES: [(&str, &str); 11] = [
     (
         "maestro hash 66.9.149.187:2794 161.142.100.80:1766",
         "51ccc178 120 0\n",
@@ -164,6 +165,18 @@ const HASHES: [(&str, &str); 8] = [
         "c626b0ea 106 0\n",
     ),
     ("maestro hash 0.0.0.0:0 0.0.0.0:0", "00000000 0 0\n"),
+    (
+        "maestro hash 3ffe250102001fff0000000000000007:2794 3ffe2501020000030000000000000001:1766",
+        "40207d3d 61 0\n",
+    ),
+    (
+        "maestro hash 00000000000000000000000000000000:0 00000000000000000000000000000000:1",
+        "df5600fd 125 0\n",
+    ),
+    (
+        "maestro hash 00000000000000000000000000000000:0 00000000000000000000000000000000:1 --workers 3",
+        "df5600fd 125 2\n",
+    ),
     (
         "maestro hash 66.9.149.187:2794 161.142.100.80:1766 --workers 16",
         "51ccc178 120 8\n",

@@ -21,8 +21,11 @@ const STOPPING: &str = "nf v { ports 1; on 0 { if 3 - 5 == 0 { if 7 / 0 == 0 { i
 
 // A test for each rule of expressions, which goes on where it holds.
 const ARITHMETIC: &str = "nf v { ports 1; array a 2 : 8 = { 7, 300 }; on 0 {
-    if 0xffffffffffffffff + 1 != 18446744073709551615 { drop; }
-    if 0x100000000 * 0x100000000 != 0xffffffffffffffff { drop; }
+    if 0xffffffffffffffff + 1 - 1 != 18446744073709551615 { drop; }
+    if 0x100000000 * 0x100000000 - 1 != 0xffffffffffffffff { drop; }
+    if (0x100000000 * 0x100000000 * 0x100000000 * 0x100000000) / 0x100000000 / 0x100000000
+        != 0xffffffffffffffff { drop; }
+    if 0xffffffffffffffff * 0xffffffffffffffff * 2 + 7 - 0xffffffffffffffff * 0xffffffffffffffff * 2 != 0 { drop; }
     if 10 - 3 - 4 != 3 { drop; }
     if 2 + 3 * 4 != 14 { drop; }
     if (2 + 3) * 4 != 20 { drop; }

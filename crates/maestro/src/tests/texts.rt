@@ -9,7 +9,7 @@ use std::test::Fail;
 use std::thread::Threads;
 
 // A text, and what is said of it; the places were counted by hand.
-const BAD_TEXTS: [(&[u8], &str); 14] = [
+const BAD_TEXTS: [(&[u8], &str); 23] = [
     (b"", "refused S4 at 1:1"),
     (b"\xff\xfe\x00\x01", "refused S1 at 1:1"),
     (
@@ -51,6 +51,38 @@ const BAD_TEXTS: [(&[u8], &str); 14] = [
         "refused S5 at 1:64",
     ),
     (b"nf x {\n  ports 1;\n}\n", "refused T08 at 3:1"),
+    // Fields of the other version of IP.
+    (
+        b"nf x { ports 1; on 0 { forward src_ip6; } }",
+        "refused T09 at 1:32",
+    ),
+    (
+        b"nf x { ports 1; on 0 six { forward src_ip; } on 0 { } }",
+        "refused T09 at 1:36",
+    ),
+    (
+        b"nf x { ports 1; on 0 { } on 0 six { set dst_ip = 1; } }",
+        "refused T09 at 1:41",
+    ),
+    (
+        b"nf x { ports 1; on 0 { set dst_ip6 = 1; } }",
+        "refused T09 at 1:28",
+    ),
+    // Two handlers of a port and a version, and none of IPv4.
+    (
+        b"nf x { ports 1; on 0 six { } on 0 { } on 0 six { } }",
+        "refused T02 at 1:42",
+    ),
+    (
+        b"nf x { ports 1; on 0 six { } on 0 { } on 0 { } }",
+        "refused T02 at 1:42",
+    ),
+    (b"nf x { ports 1; on 0 six { } }", "refused T08 at 1:30"),
+    (
+        b"nf x { ports 2; on 0 six { } on 1 { } }",
+        "refused T08 at 1:39",
+    ),
+    (b"nf six { ports 1; on 0 { } }", "refused S3 at 1:4"),
 ];
 
 fn bad_texts() -> &'static [(&'static [u8], &'static str)] {

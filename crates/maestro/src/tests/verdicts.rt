@@ -19,7 +19,7 @@ struct Told {
     verdict: &'static str,
 }
 
-const TOLD: [Told; 13] = [
+const TOLD: [Told; 16] = [
     Told {
         shows: "a policer counts by destination: the other port keeps the default key",
         text: "nf policer { ports 2; chain hosts 5 lifetime 10 { map by_dst(d: 32); free used: 64; }
@@ -226,6 +226,42 @@ site 0 store index=src_port\n\
 site 1 store -\n\
 site 1 load index=dst_port\n",
         verdict: "locked seen J4\n",
+    },
+    Told {
+        shows: "a label by the source of IPv6",
+        text: "nf bysrc { ports 1; chain s 16 lifetime 1000 { map m(x: 128); } on 0 { forward 0; }
+            on 0 six { get e = s.m(src_ip6) { touch e; } else { new f = s(x = src_ip6) { } } forward 0; } }",
+        objects: "nf bysrc\n\
+object s rule J1 keeps x\n\
+site 0 six get m x=src_ip6\n\
+site 0 six new x=src_ip6\n\
+site 0 six name m x=src_ip6\n",
+        verdict: "sharded\n\
+key 0 6d5a56da255b0ec24167253d43a38fb0000000000000000000000000000000000000000000000000\n",
+    },
+    Told {
+        shows: "a cell by destination port in IPv4 and IPv6: their windows in the key lie apart",
+        text: "nf count { ports 1; array hits 65536 : 64;
+            on 0 six { hits[dst_port] = hits[dst_port] + 1; forward 0; }
+            on 0 { hits[dst_port] = hits[dst_port] + 1; forward 0; } }",
+        objects: "nf count\n\
+object hits rule J1 keeps index\n\
+site 0 store index=dst_port\n\
+site 0 load index=dst_port\n\
+site 0 six store index=dst_port\n\
+site 0 six load index=dst_port\n",
+        verdict: "locked hash\n",
+    },
+    Told {
+        shows: "a cell by destination port in IPv6 alone",
+        text: "nf count { ports 1; array hits 65536 : 64; on 0 { forward 0; }
+            on 0 six { hits[dst_port] = hits[dst_port] + 1; forward 0; } }",
+        objects: "nf count\n\
+object hits rule J1 keeps index\n\
+site 0 six store index=dst_port\n\
+site 0 six load index=dst_port\n",
+        verdict: "sharded\n\
+key 0 000000000000000000000000000000000000000000000000000000000000000000000000000001fa\n",
     },
 ];
 

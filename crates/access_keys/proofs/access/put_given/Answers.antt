@@ -7,4 +7,4 @@ use Rattle.access_keys.proofs.access.put_given.Goals as goal
 
 pub returns : goal.returns
 returns c =
-    puts_all c.args.here.now c.args.sites.now.items c.loop-one.sites.items (λ (g : text.Given). expression_sites c.args.here.now.port g.value) given_of c.args.given.now c.loop-one.one-index (omega arith) c.loop-one.invariant
+    puts_all c.args.here.now c.args.sites.now.items c.loop-one.sites.items (λ (g : text.Given). expression_sites c.args.here.now.door g.value) given_of c.args.given.now c.loop-one.one-index (omega arith) c.loop-one.invariant

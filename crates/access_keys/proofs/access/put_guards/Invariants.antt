@@ -9,4 +9,4 @@ use Rattle.access_keys.proofs.access.put_guards.Given as goal
 
 abbrev pub invariant-loop-one : goal.invariant-loop-one
 invariant-loop-one l =
-    Puts l.here l.fn.sites.items l.sites.items (flat_map (λ (g : guard.Guard). expression_sites l.here.port (expression_of g.given.value)) (take l.one-index l.guards))
+    Puts l.here l.fn.sites.items l.sites.items (flat_map (λ (g : guard.Guard). expression_sites l.here.door (expression_of g.given.value)) (take l.one-index l.guards))

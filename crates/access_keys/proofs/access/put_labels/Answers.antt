@@ -12,5 +12,5 @@ returns c =
     let old = c.args.sites.now.items in
     let new = c.loop-one.sites.items in
     let items = c.as_slice-one-items.result.now in
-    subst (λ gs. Puts here old new (given_sites here.port gs)) (ap (map given_seen) c.as_slice-one-items.ensures.value ∙ c.in_ok-values.ensures)
-    (puts_all here old new (λ (g : text.Given). expression_sites here.port g.value) given_seen items c.loop-one.one-index (omega arith) c.loop-one.invariant)
+    subst (λ gs. Puts here old new (given_sites here.door gs)) (ap (map given_seen) c.as_slice-one-items.ensures.value ∙ c.in_ok-values.ensures)
+    (puts_all here old new (λ (g : text.Given). expression_sites here.door g.value) given_seen items c.loop-one.one-index (omega arith) c.loop-one.invariant)

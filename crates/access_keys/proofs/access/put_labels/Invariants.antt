@@ -10,4 +10,4 @@ use Rattle.access_keys.proofs.access.put_labels.Given as goal
 
 abbrev pub invariant-loop-one : goal.invariant-loop-one
 invariant-loop-one l =
-    Puts l.here l.fn.sites.items l.sites.items (flat_map (λ (g : Bor given.Given). expression_sites l.here.port (expression_of g.now.value)) (take l.one-index l.one-items))
+    Puts l.here l.fn.sites.items l.sites.items (flat_map (λ (g : Bor given.Given). expression_sites l.here.door (expression_of g.now.value)) (take l.one-index l.one-items))

@@ -6,4 +6,4 @@ use Rattle.access_keys.proofs.known.fields_known.Given as goal
 
 abbrev pub invariant-loop-label : goal.invariant-loop-label
 invariant-loop-label l =
-    l.known ≡ fields_known (map new_seen l.all) l.chain (map named_seen l.named) l.label
+    l.known ≡ fields_known l.family (map new_seen l.all) l.chain (map named_seen l.named) l.label

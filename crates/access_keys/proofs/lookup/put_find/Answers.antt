@@ -11,7 +11,7 @@ pub returns : goal.returns
 returns c =
     let here = c.args.here.now in
     let named = map named_seen c.as_slice.result.now in
-    put_as c.put_chain.result here c.args.sites.now.items c.put_chain.new.sites.items here.port sort.Find c.args.place c.args.chain named
+    put_as c.put_chain.result here c.args.sites.now.items c.put_chain.new.sites.items here.door sort.Find c.args.place c.args.chain named
     (guarded (map guard_of c.args.guards.now))
     (sym (same_asked c.args.guards.now) ∙ ap (map named_seen) (sym (c.as_slice.ensures.value ∙ c.in_ok-named.ensures)))
     c.put_chain.ensures

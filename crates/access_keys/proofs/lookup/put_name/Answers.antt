@@ -12,7 +12,7 @@ returns c =
     let n = creation_of c.args.creation.now in
     let decl = c.args.decl.now in
     let named = map named_seen c.as_slice.result.now in
-    put_as c.put_chain.result here c.args.sites.now.items c.put_chain.new.sites.items here.port (sort.Name c.args.m) n.place n.chain named
+    put_as c.put_chain.result here c.args.sites.now.items c.put_chain.new.sites.items here.door (sort.Name c.args.m) n.place n.chain named
     (numbered decl.first (take decl.parts (drop decl.first n.labels)))
     (same_part decl.first decl.parts n.labels c.args.fields.now c.part-key.result.now named c.requires c.part-key.ensures
     (ap (map named_seen) c.as_slice.ensures.value ∙ c.in_ok-named.ensures))

@@ -8,4 +8,4 @@ use Rattle.access_keys.proofs.lookup.put_names.Given as goal
 abbrev pub invariant-loop-m : goal.invariant-loop-m
 invariant-loop-m l =
     Puts l.here l.fn.sites.items l.sites.items
-    (name_sites l.here.port (creation_of l.creation) 0 (take l.m l.maps))
+    (name_sites l.here.door (creation_of l.creation) 0 (take l.m l.maps))

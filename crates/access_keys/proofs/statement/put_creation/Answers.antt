@@ -16,5 +16,5 @@ returns c =
     let old = c.args.sites.now.items in
     let mid = c.put_new.new.sites.items in
     let new = c.put_labels.new.sites.items in
-    puts_both_ok c.put_labels.result here old mid new (new_site here.port n ∷ name_sites here.port n 0 (maps_of here.decls.now n.chain)) (given_sites here.port (by_first_read n.labels)) c.in_ok-put_new.ensures
-    (subst (λ (gs : List given.Given). OnOk c.put_labels.result (Puts here mid new (given_sites here.port (by_first_read (map given_of gs))))) c.as_slice.ensures c.put_labels.ensures)
+    puts_both_ok c.put_labels.result here old mid new (new_site here.door n ∷ name_sites here.door n 0 (maps_of here.decls.now n.chain)) (given_sites here.door (by_first_read n.labels)) c.in_ok-put_new.ensures
+    (subst (λ (gs : List given.Given). OnOk c.put_labels.result (Puts here mid new (given_sites here.door (by_first_read (map given_of gs))))) c.as_slice.ensures c.put_labels.ensures)

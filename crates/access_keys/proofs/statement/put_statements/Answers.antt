@@ -7,4 +7,4 @@ use Rattle.access_keys.proofs.statement.put_statements.Goals as goal
 pub returns : goal.returns
 returns c =
     let here = c.args.here.now in
-    puts_all here c.args.sites.now.items c.loop-one.sites.items (statement_sites here.decls.now here.port) head_seen c.args.statements.now c.loop-one.one-index (omega arith) c.loop-one.invariant
+    puts_all here c.args.sites.now.items c.loop-one.sites.items (statement_sites here.decls.now here.door) head_seen c.args.statements.now c.loop-one.one-index (omega arith) c.loop-one.invariant

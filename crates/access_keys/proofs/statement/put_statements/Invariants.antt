@@ -11,4 +11,4 @@ use Rattle.access_keys.proofs.statement.put_statements.Given as goal
 abbrev pub invariant-loop-one : goal.invariant-loop-one
 invariant-loop-one l =
     Puts l.here l.fn.sites.items l.sites.items
-    (flat_map (λ (b : Bor block.Block). statement_sites l.here.decls.now l.here.port (head_seen b)) (take l.one-index l.statements))
+    (flat_map (λ (b : Bor block.Block). statement_sites l.here.decls.now l.here.door (head_seen b)) (take l.one-index l.statements))

@@ -9,5 +9,5 @@ pub returns : goal.returns
 returns c =
     let command = hash c.args.command.now in
     let is : c.toeplitz.result ≡ meant.hash_value command =
-    c.toeplitz.ensures ∙ ap₂ toeplitz_of c.unwrap_or-key.ensures (c.input_of.ensures ∙ ap input_bytes c.fields_between-fields.ensures) in
+    c.toeplitz.ensures ∙ ap₂ toeplitz_of c.unwrap_or-key.ensures (c.as_slice.ensures.value ∙ c.input_of.ensures ∙ ap input_bytes c.fields_between-fields.ensures) in
     subst (λ (h : ℕ). IfOk c.line_of.result (λ line. string_bytes line ≡ meant.line_of h command.workers)) is c.line_of.ensures

@@ -1,11 +1,15 @@
 -- One chain without maps, and one handler.
-use Rattle.std.proofs.Common.{◌≡◌, List, [], ◌∷◌, map, sym, subst, arith}
-use Rattle.std.specs.List.{All}
+use Rattle.std.proofs.Common.{◌≡◌, List, [], ◌∷◌, ◌++◌, map, Option, sym, subst, arith}
+use Rattle.std.specs.List.{All, flat_map}
+use Rattle.std.specs.Option.{option_map}
 use Rattle.std.proofs.lemmas.Grind.{common_steps}
 use Rattle.std.proofs.lemmas.List.Elements.{All-nil, All-cons}
 use Rattle.nf_base.specs.declared.decl.ChainDecl.{ChainDecl}
 use Rattle.nf_base.specs.Limits.{HaveShortKeys, HaveAllShortKeys}
-use Rattle.nf_base.specs.declared.func.Handler.{Handler}
+use Rattle.nf_base.specs.declared.handler.Handler.{Handler}
+use Rattle.nf_base.specs.declared.port_handlers.PortHandlers.{PortHandlers}
+use Rattle.nf_base.specs.Handlers.{blocks_of}
+use Rattle.nf_base.specs.Doors.{listed, port_blocks}
 use Rattle.nf_base.specs.FitsOnce.{AllFit}
 use Rattle.nf_base.specs.Limits.{Fits}
 use Rattle.nf_base.specs.Statements.{statements}
@@ -24,6 +28,8 @@ pub invariant_of-result-clause-fits : goal.invariant_of-result-clause-fits
 invariant_of-result-clause-fits c =
     let decls = c.from_vec-chains.result in
     let handlers : c.from_vec-handlers.result ≡ c.idle.result ∷ [] = grind (arith, common_steps) in
+    let four = block_of c.idle.result.four.block in
     let IsFitting : Block → Type 0 = λ b. All (Fits decls) (statements b) in
-    let fits : AllFit decls (block_of c.idle.result.block ∷ []) = All-cons IsFitting (block_of c.idle.result.block) [] (c.idle.ensures decls) (All-nil IsFitting) in
-    subst (λ (hs : List Handler). AllFit decls (map (λ (h : Handler). block_of h.block) hs)) (sym handlers) fits
+    let fits : AllFit decls (four ∷ []) = All-cons IsFitting four [] (c.idle.ensures.four decls) (All-nil IsFitting) in
+    let both : AllFit decls ((four ∷ listed (option_map (λ (h : Handler). block_of h.block) c.idle.result.six)) ++ []) = subst (λ (six : Option Handler). AllFit decls ((four ∷ listed (option_map (λ (h : Handler). block_of h.block) six)) ++ [])) (sym c.idle.ensures.six) fits in
+    subst (λ (hs : List PortHandlers). AllFit decls (flat_map port_blocks (map blocks_of hs))) (sym handlers) both

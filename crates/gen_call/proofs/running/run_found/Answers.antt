@@ -1,8 +1,7 @@
 use Rattle.std.proofs.Common.{sym, arith}
 use Rattle.std.proofs.lemmas.List.{length-map}
 use Rattle.nf_base.specs.Functions.{function_of}
-use Rattle.nf_base.specs.View.{block_of}
-use Rattle.nf_base.specs.declared.func.Handler.{Handler}
+use Rattle.nf_base.specs.Handlers.{blocks_of}
 use Rattle.command_words.specs.View as view
 use Rattle.call_base.specs.Outside.{seen}
 use Rattle.lock_mode.specs.Gates.{Rose}
@@ -23,7 +22,7 @@ run_served-requires g c κs within =
     let found = requires.1 in
     let func = c.args.found.now.source.func in
     let ports = few_ports g.before.told asked.function (function_of func) found.is_function in
-    let handlers = length-map func.handlers (λ (h : Handler). block_of h.block) in (
+    let handlers = length-map func.handlers blocks_of in (
       within.0,
       (
         within.1.0,

@@ -1,5 +1,5 @@
 use Rattle.std.proofs.Common.{refl}
-use Rattle.frame_ip.specs.Edit.{folded}
+use Rattle.frame_ip.specs.Checksum.{folded}
 use Rattle.frame_ip.specs.Sums.{word_sum}
 use Rattle.gen_traffic.proofs.laws.numbers_and_frames.Goals as goal
 

@@ -2,4 +2,4 @@ use Rattle.std.proofs.Common.{◌≡◌, ◌+◌, ◌*◌, ◌++◌, true, false
 use Rattle.key_rows.proofs.keyed.group.Given as goal
 
 abbrev pub invariant-loop-i : goal.invariant-loop-i
-invariant-loop-i l = l.bits.items ≡ replicate (127 * l.port + 25) false ++ replicate l._i true
+invariant-loop-i l = l.bits.items ≡ replicate (319 * l.port + 25) false ++ replicate l._i true

@@ -6,12 +6,12 @@ use Rattle.key_rows.proofs.solution.byte_from.Goals as goal
 
 pub loop-j-init : goal.loop-j-init
 loop-j-init c = record {
-  so_far = sym (number_of-none (λ j. solution_bit c.args.bits.now c.args.port (8 * c.args.i + j)));
+  so_far = sym (number_of-none (λ j. solution_bit c.args.bits.now c.args.port c.args.count (8 * c.args.i + j)));
   fits = lit< tt;
 }
 
 pub loop-j-preserved : goal.loop-j-preserved
 loop-j-preserved c = record {
-  so_far = one_bit_more (λ j. solution_bit c.args.bits.now c.args.port (8 * c.args.i + j)) c.loop-j.j c.loop-j.byte c.bit_from.result c.loop-j.invariant.so_far c.bit_from.ensures.value;
+  so_far = one_bit_more (λ j. solution_bit c.args.bits.now c.args.port c.args.count (8 * c.args.i + j)) c.loop-j.j c.loop-j.byte c.bit_from.result c.loop-j.invariant.so_far c.bit_from.ensures.value;
   fits = fits_more c.loop-j.j c.loop-j.byte c.bit_from.result c.loop-j.invariant.fits c.bit_from.ensures.bit;
 }

@@ -5,5 +5,5 @@ use Rattle.key_rows.proofs.solution.key_from.Given as goal
 abbrev pub invariant-loop-i : goal.invariant-loop-i
 invariant-loop-i l = record {
   long : length l.key ≡ 40;
-  front : (k : ℕ) → k < l.i → get_or l.key k 0 ≡ byte_of l.bits l.port k;
+  front : (k : ℕ) → k < l.i → get_or l.key k 0 ≡ byte_of l.bits l.port l.count k;
 }

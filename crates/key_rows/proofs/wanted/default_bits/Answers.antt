@@ -9,5 +9,5 @@ pub loop-m-preserved : goal.loop-m-preserved
 loop-m-preserved c =
     c.in_ok-push.ensures.items
     ∙ ap (λ (l : List Bool). l ++ c.bit_of_key.result ∷ []) c.loop-m.invariant
-    ∙ ap (λ (b : Bool). map (λ m. bit_of DEFAULT_KEY (m % 127) == 1) (range_with_len 0 c.loop-m.m) ++ b ∷ []) c.bit_of_key.ensures
-    ∙ sym (map-range_with_len_more (λ m. bit_of DEFAULT_KEY (m % 127) == 1) 0 c.loop-m.m c.loop-m.m (omega arith))
+    ∙ ap (λ (b : Bool). map (λ m. bit_of DEFAULT_KEY (m % 319) == 1) (range_with_len 0 c.loop-m.m) ++ b ∷ []) c.bit_of_key.ensures
+    ∙ sym (map-range_with_len_more (λ m. bit_of DEFAULT_KEY (m % 319) == 1) 0 c.loop-m.m c.loop-m.m (omega arith))

@@ -5,4 +5,4 @@ use Rattle.toeplitz_hash.specs.Bits.{bit_of}
 use Rattle.key_rows.proofs.wanted.default_bits.Given as goal
 
 abbrev pub invariant-loop-m : goal.invariant-loop-m
-invariant-loop-m l = l.bits.items ≡ map (λ m. bit_of DEFAULT_KEY (m % 127) == 1) (range_with_len 0 l.m)
+invariant-loop-m l = l.bits.items ≡ map (λ m. bit_of DEFAULT_KEY (m % 319) == 1) (range_with_len 0 l.m)

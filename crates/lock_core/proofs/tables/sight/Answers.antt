@@ -1,14 +1,14 @@
 use Rattle.std.proofs.Common.{take}
 use Rattle.nf_base.specs.Functions.{function_of}
 use Rattle.lock_core.specs.Calls.{history}
-use Rattle.lock_core.proofs.Sights.{front_comes, ports_front, comes_at, seen_done, seen_needs}
+use Rattle.lock_core.proofs.Sights.{front_comes, in_front, comes_at, seen_done, seen_needs}
 use Rattle.lock_core.proofs.tables.sight.Goals as goal
 
 pub replayed-requires-clause-comes : goal.replayed-requires-clause-comes
 replayed-requires-clause-comes c = front_comes (function_of c.args.func.now) c.args.order.now c.place_behind-place.result c.requires.comes
 
-pub replayed-requires-clause-ports : goal.replayed-requires-clause-ports
-replayed-requires-clause-ports c = ports_front c.place_behind-place.result _ c.args.order.now c.requires.ports
+pub replayed-requires-clause-packets : goal.replayed-requires-clause-packets
+replayed-requires-clause-packets c = in_front c.place_behind-place.result (function_of c.args.func.now) c.args.order.now c.requires.packets
 
 pub returns-clause-done : goal.returns-clause-done
 returns-clause-done c =

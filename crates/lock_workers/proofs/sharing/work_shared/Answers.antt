@@ -4,7 +4,7 @@ use Rattle.lock_workers.proofs.Joined.{are_workers, are_all, shared_of}
 use Rattle.lock_workers.proofs.sharing.work_shared.Goals as goal
 
 pub work_each-requires-clause-workers : goal.work_each-requires-clause-workers
-work_each-requires-clause-workers g c κs within = are_workers (length g.J.Naming.function.handlers) g.J.Naming.seats c.args.packets.now c.args.own.now c.args.seats.items c.requires.new c.requires.dealt c.requires.ports
+work_each-requires-clause-workers g c κs within = are_workers g.J.Naming.function g.J.Naming.seats c.args.packets.now c.args.own.now c.args.seats.items c.requires.new c.requires.dealt c.requires.ports c.requires.served
 
 pub close-requires : goal.close-requires
 close-requires g c = record {

@@ -52,7 +52,7 @@ packets-preserved g c =
     record {
       gathers = subst (λ (as_list : List Arrival). Gathers ports c.args.feed.now c.next.new.self (told c.args.files.now) (told c.next.new.files) as_list) (sym pushed)
           (gathers_more ports c.args.feed.now c.packets.feed c.next.new.self (told c.args.files.now) (told c.packets.files) (told c.next.new.files) c.packets.batch packet c.original.result c.frame.result.now inv.gathers
-          (rw c.in-Ok-Packet.field-0-is at ok.feeds) (rw c.in-Ok-Packet.field-0-is at ok.times) counts.0 counts.1 counts.2 c.next.ensures.same_most c.next.ensures.same_files c.original.ensures c.frame.ensures c.in-Ok.ensures.input
+          (rw c.in-Ok-Packet.field-0-is at ok.feeds) (rw c.in-Ok-Packet.field-0-is at ok.times) counts.0 counts.1 counts.2 c.next.ensures.same_most c.next.ensures.same_files c.next.ensures.same_six c.original.ensures c.frame.ensures c.in-Ok.ensures.input
           (ap (λ (fs : List ℕ). length fs) c.requires.captures));
       captures = c.next.ensures.same_files ∙ inv.captures;
       kept = λ targets. read_on targets (files_in c.packets.feed.sources) (told c.args.files.now) (told c.packets.files) (told c.next.new.files) (inv.kept targets) c.next.ensures.kept;

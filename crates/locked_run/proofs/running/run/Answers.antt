@@ -1,8 +1,11 @@
-use Rattle.std.proofs.Common.{[], length, arith}
+use Rattle.std.proofs.Common.{[], length, map, arith, ◌∙◌}
 use Rattle.nf_base.specs.Functions.{function_of}
 use Rattle.stream_run.proofs.Held.{but_both}
 use Rattle.stream_run.specs.declared.ending.Ending.{Ending}
+use Rattle.packet_feed.specs.Arrivals.{packet_of}
+use Rattle.packet_feed.specs.Sources.{sixes_in}
 use Rattle.sharded_run.proofs.Complete.{counted}
+use Rattle.sharded_run.proofs.Fitting.{are_served}
 use Rattle.lock_mode.specs.Gates.{Rose}
 use Rattle.locked_run.specs.declared.came.Came.{Came}
 use Rattle.locked_run.proofs.Finishing.{cut_none, cut_short_of, finished_of, still_empty, stops_as}
@@ -33,6 +36,11 @@ settle-requires-clause-few_packets g c κs within =
     let few = c.given-packets.type_inv in
     let none = c.requires.new in
     omega (arith, count, given, few, none)
+
+pub settle-requires-clause-served : goal.settle-requires-clause-served
+settle-requires-clause-served g c κs within =
+    let read = c.in-Ok.ensures.reads_all.0 in
+    are_served c.args.func.now (length c.args.captures.now) (sixes_in c.read_all.new.feed.sources) (map packet_of c.read_all.new.batch) c.requires.ports (read.same_six ∙ c.requires.six) read.fit
 
 pub returns-in-Ok-settle-clause-runs : goal.returns-in-Ok-settle-clause-runs
 returns-in-Ok-settle-clause-runs g c =

@@ -1,8 +1,8 @@
 use Rattle.nf_base.specs.Functions.{function_of}
 use Rattle.nf_base.specs.View.{block_of}
-use Rattle.std.proofs.Common.{refl}
+use Rattle.std.proofs.Common.{◌∙◌, ap, sym, refl}
+use Rattle.nf_base.specs.Doors.{handler_at}
 use Rattle.nf_meaning.specs.Whole.{told}
-use Rattle.nf_meaning.proofs.Handled.{handler_at}
 use Rattle.nf_meaning.proofs.handling.step_with.Goals as goal
 
 pub returns : goal.returns
@@ -11,6 +11,5 @@ returns c =
     let f = c.args.func.now in
     let h = c.in-Some.handler.now in
     let ran = c.in_ok-ran.ensures picks refl in
-    let here = rw c.as_slice.ensures.value at c.in-Some.ensures.lookup in
-    rw (handler_at f.handlers c.args.packet.now.id.port h here.3.0 here.1)
+    rw (ap (handler_at (function_of f)) (sym c.door_of.ensures) ∙ c.in-Some.ensures.some)
     (rw ran.0 (c.finish.ensures (told (function_of f) c.args.state.now c.args.packet.now.time c.args.fields (block_of h.block) picks) ran.1))

@@ -2,8 +2,8 @@ use Rattle.nf_sites.proofs.laws.sites_stand_in_text_order.Goals as goal
 use Rattle.nf_sites.proofs.Rising.{of_their_port, in_text_order}
 use Rattle.nf_sites.proofs.RisingTexts.{rising_texts}
 
-pub returns-clause-port : goal.returns-clause-port
-returns-clause-port c = of_their_port
+pub returns-clause-door : goal.returns-clause-door
+returns-clause-door c = of_their_port
 
 pub returns-clause-rising : goal.returns-clause-rising
 returns-clause-rising c = in_text_order

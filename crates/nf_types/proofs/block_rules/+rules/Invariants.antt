@@ -21,6 +21,6 @@ abbrev pub invariant-block-loop-rest : goal.invariant-block-loop-rest
 invariant-block-loop-rest l = record {
   smaller : size-Block l.rest ≤ size-Block l.block;
   room : behind l.left (syntax.block_of l.rest) ≡ behind l.fn.room (syntax.block_of l.block);
-  so_far : first (block_faults l.left l.objects (variables_of l.scope) (syntax.block_of l.rest))
-      ≡ first (block_faults l.fn.room l.objects (variables_of l.scope) (syntax.block_of l.block));
+  so_far : first (block_faults l.family l.left l.objects (variables_of l.scope) (syntax.block_of l.rest))
+      ≡ first (block_faults l.family l.fn.room l.objects (variables_of l.scope) (syntax.block_of l.block));
 }

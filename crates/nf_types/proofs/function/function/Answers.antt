@@ -1,6 +1,9 @@
 -- A text in which nothing is wrong stands for a function whose keys are short and whose handlers fit its chains.
 use Rattle.std.proofs.Common.{subst, sym}
-use Rattle.std.specs.Prelude.{All}
+use Rattle.std.specs.Prelude.{List, All}
+use Rattle.std.specs.List.{flat_map}
+use Rattle.nf_base.specs.Text.{PortBlocks}
+use Rattle.nf_base.specs.Doors.{port_blocks}
 use Rattle.nf_base.specs.FitsOnce.{AllFit}
 use Rattle.nf_base.specs.Limits.{HaveAllShortKeys}
 use Rattle.nf_types.specs.declared.objects.Objects.{Objects}
@@ -19,4 +22,4 @@ invariant_of-result-clause-fits c =
     let found = c.in_ok-objects.ensures.found in
     let all = subst (λ (o : Objects). All IsSized o.chains) (sym found.1) (all_sized c.as_slice.result.now found.0) in
     let none = front_none _ _ c.in_ok-handlers.ensures.fault in
-    subst (AllFit c.in_ok-objects.objects.chains) (sym c.in_ok-handlers-2.ensures.found) (all_fit _ _ _ _ all none)
+    subst (λ (hs : List PortBlocks). AllFit c.in_ok-objects.objects.chains (flat_map port_blocks hs)) (sym c.in_ok-handlers-2.ensures.found) (all_fit _ _ _ _ all none)

@@ -5,7 +5,7 @@ use Rattle.nf_types.proofs.handler.handler.Goals as goal
 
 pub invariant_of-result : goal.invariant_of-result
 invariant_of-result c = record {
-  within = within c.in-Some.before c.args.objects.now (syntax.block_of c.in-Some.text.now.block)
-      (checked.block_of c.in_ok-block-in-Some.block) c.in_ok-block-in-Some.ensures.made c.in-Some.ensures.small
-      c.in-Some.text.now.shallow;
+  within = within c.args.before c.args.objects.now (syntax.block_of c.args.text.now.block)
+      (checked.block_of c.in_ok-block.block) c.in_ok-block.ensures.made c.requires.small
+      c.args.text.now.shallow;
 }

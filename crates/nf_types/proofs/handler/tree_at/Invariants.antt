@@ -9,7 +9,7 @@ abbrev pub invariant-loop-rest : goal.invariant-loop-rest
 invariant-loop-rest l = record {
   places : l.before + all_places (map handler_of l.rest) < 2 ^ 32;
   small : AreSmall (map handler_of l.rest);
-  same : block_at l.port l.before (map handler_of l.rest) ≡ block_at l.port 0 (map handler_of l.handlers);
+  same : block_at l.port l.family l.before (map handler_of l.rest) ≡ block_at l.port l.family 0 (map handler_of l.handlers);
 }
 
 abbrev pub decreases-loop-rest : goal.decreases-loop-rest

@@ -3,10 +3,10 @@ use Rattle.nf_types.specs.Declarations.{chain_of, array_of}
 use Rattle.nf_types.specs.DeclarationFaults.{label_faults, map_name_faults, map_faults, column_faults, chain_faults, array_faults}
 use Rattle.nf_types.specs.StatementFaults.{given_faults}
 use Rattle.nf_types.specs.BlockFaults.{get_faults, find_faults, creation_faults}
-use Rattle.nf_types.specs.Function.{handler_at}
+use Rattle.nf_types.specs.Function.{four_at, six_at}
 use Rattle.nf_types.specs.TextFaults.{handler_faults}
 use Rattle.nf_types.proofs.rows.contents_are_taken_to_the_width.Goals as goal
 
 pub returns : goal.returns
-unfolding chain_of array_of label_faults map_name_faults map_faults column_faults chain_faults array_faults given_faults get_faults find_faults creation_faults handler_at handler_faults
+unfolding chain_of array_of label_faults map_name_faults map_faults column_faults chain_faults array_faults given_faults get_faults find_faults creation_faults four_at six_at handler_faults
 returns c = (refl, refl)

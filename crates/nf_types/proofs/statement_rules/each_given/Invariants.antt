@@ -8,5 +8,5 @@ use Rattle.nf_types.proofs.statement_rules.each_given.Given as goal
 
 abbrev pub invariant-loop-i : goal.invariant-loop-i
 invariant-loop-i l =
-    first (each_behind (given_faults l.objects (variables_of l.scope) l.chain) (map syntax.given_of (take l.i l.all)) (map syntax.given_of (drop l.i l.all)))
-    ≡ first (each_behind (given_faults l.objects (variables_of l.scope) l.chain) [] (map syntax.given_of l.all))
+    first (each_behind (given_faults l.family l.objects (variables_of l.scope) l.chain) (map syntax.given_of (take l.i l.all)) (map syntax.given_of (drop l.i l.all)))
+    ≡ first (each_behind (given_faults l.family l.objects (variables_of l.scope) l.chain) [] (map syntax.given_of l.all))

@@ -8,5 +8,5 @@ use Rattle.nf_types.proofs.value_rules.values.Given as goal
 
 abbrev pub invariant-loop-one : goal.invariant-loop-one
 invariant-loop-one l =
-    first (each_value_faults l.objects (variables_of l.scope) (map syntax.expression_of (drop l.one-index l.values)))
-    ≡ first (each_value_faults l.objects (variables_of l.scope) (map syntax.expression_of l.values))
+    first (each_value_faults l.family l.objects (variables_of l.scope) (map syntax.expression_of (drop l.one-index l.values)))
+    ≡ first (each_value_faults l.family l.objects (variables_of l.scope) (map syntax.expression_of l.values))

@@ -28,6 +28,15 @@ returns-in-Err-clause-same_files g c =
     let at = slice_get_read now (length now) port s refl lt c.item_mut.ensures.value in
     map_kept (λ (x : Stream). x.reading.file) now port s c.fill.new.self at c.fill.ensures.same_file ∙ c.loop-port.invariant.same_files
 
+pub returns-in-Err-clause-same_six : goal.returns-in-Err-clause-same_six
+returns-in-Err-clause-same_six g c =
+    let now = c.loop-port.sources in
+    let port = c.loop-port.port in
+    let s = c.item_mut.result.now in
+    let lt : port < length now = omega (arith, c.len-port-end.ensures, c.loop-port-test.true, same_length now c.args.sources.now c.loop-port.invariant.same_files) in
+    let at = slice_get_read now (length now) port s refl lt c.item_mut.ensures.value in
+    map_kept (λ (x : Stream). x.six) now port s c.fill.new.self at c.fill.ensures.same_six ∙ c.loop-port.invariant.same_six
+
 pub returns-in-Err-clause-same_counts : goal.returns-in-Err-clause-same_counts
 returns-in-Err-clause-same_counts g c =
     let now = c.loop-port.sources in
@@ -71,10 +80,11 @@ loop-port-preserved g c =
     let file = sym (ap (λ (fs : List ℕ). slice_get fs port) inv.same_files) ∙ file_at now port s at in
     let apart = subst (λ (fs : List ℕ). IsApart fs) (sym inv.same_files) c.requires.apart in
     record {
-      stand = λ start given h. filled_stands start given now port s c.fill.new.self (told c.loop-port.files) (told c.fill.new.files) apart at c.fill.ensures.same_file c.in-Ok.ensures.filled c.fill.ensures.kept (inv.stand start given h);
+      stand = λ start given h. filled_stands start given now port s c.fill.new.self (told c.loop-port.files) (told c.fill.new.files) apart at c.fill.ensures.same_file c.fill.ensures.same_six c.in-Ok.ensures.filled c.fill.ensures.kept (inv.stand start given h);
       settled = settled_more now port c.fill.new.self c.in-Ok.ensures.filled.settled inv.settled;
       later = λ time h. from_more time now port s c.fill.new.self at (c.in-Ok.ensures.later time) (inv.later time h);
       same_files = map_kept (λ (x : Stream). x.reading.file) now port s c.fill.new.self at c.fill.ensures.same_file ∙ inv.same_files;
+      same_six = map_kept (λ (x : Stream). x.six) now port s c.fill.new.self at c.fill.ensures.same_six ∙ inv.same_six;
       same_counts = map_kept (λ (x : Stream). x.seq) now port s c.fill.new.self at c.fill.ensures.same_count ∙ inv.same_counts;
       kept = kept_more (files_in c.args.sources.now) port f (told c.args.files.now) (told c.loop-port.files) (told c.fill.new.files) file inv.kept c.fill.ensures.kept;
       reads = λ h r. c.fill.ensures.reads h (inv.reads h r);

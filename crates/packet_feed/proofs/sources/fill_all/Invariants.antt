@@ -4,7 +4,7 @@ use Rattle.nf_files.specs.Told.{Told}
 use Rattle.packet_feed.specs.Arrivals.{Arrival}
 use Rattle.packet_feed.specs.Told.{KeepsOthers}
 use Rattle.packet_feed.specs.Streams.{Stream, IsSettled}
-use Rattle.packet_feed.specs.Sources.{files_in, counts_in, SourcesStand, AreFrom}
+use Rattle.packet_feed.specs.Sources.{files_in, sixes_in, counts_in, SourcesStand, AreFrom}
 use Rattle.packet_feed.proofs.sources.fill_all.Given as goal
 
 -- what stood still stands, and of the captures so far it is known what comes next
@@ -16,6 +16,7 @@ invariant-loop-port g l =
       settled : (port : ℕ) (s : Stream) → port < l.port → slice_get l.sources port ≡ Some s → IsSettled s.ahead;
       later : (time : ℕ) → AreFrom time l.fn.sources → AreFrom time l.sources;
       same_files : files_in l.sources ≡ files_in l.fn.sources;
+      same_six : sixes_in l.sources ≡ sixes_in l.fn.sources;
       same_counts : counts_in l.sources ≡ counts_in l.fn.sources;
       kept : KeepsOthers (files_in l.fn.sources) (told l.fn.files) (told l.files);
       reads : (h : ℕ) → g.F.Files.is_read l.fn.files h → g.F.Files.is_read l.files h;

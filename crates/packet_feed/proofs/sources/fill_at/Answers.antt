@@ -1,4 +1,4 @@
-use Rattle.std.proofs.Common.{ℕ, length, refl}
+use Rattle.std.proofs.Common.{length, refl}
 use Rattle.std.proofs.lemmas.Option.{slice_get_read}
 use Rattle.packet_feed.specs.Streams.{Stream}
 use Rattle.packet_feed.specs.Sources.{files_in}
@@ -20,7 +20,7 @@ returns-in-Ok-clause-stand g c = λ start given h.
     let all = c.args.sources.now in
     let s = c.item_mut.result.now in
     let at = slice_get_read all (length all) c.args.port s refl c.requires.inside c.item_mut.ensures.value in
-    filled_by_port start given all c.args.port s c.fill.new.self (told c.args.files.now) (told c.fill.new.files) c.requires.apart at c.fill.ensures.same_file c.in-Ok.ensures.filled c.fill.ensures.kept h
+    filled_by_port start given all c.args.port s c.fill.new.self (told c.args.files.now) (told c.fill.new.files) c.requires.apart at c.fill.ensures.same_file c.fill.ensures.same_six c.in-Ok.ensures.filled c.fill.ensures.kept h
 
 pub returns-in-Ok-clause-settled : goal.returns-in-Ok-clause-settled
 returns-in-Ok-clause-settled g c = settled_there c.args.sources.now c.args.port c.fill.new.self c.in-Ok.ensures.filled.settled
@@ -31,6 +31,13 @@ returns-in-Ok-clause-same_files g c =
     let s = c.item_mut.result.now in
     let at = slice_get_read all (length all) c.args.port s refl c.requires.inside c.item_mut.ensures.value in
     map_kept (λ (x : Stream). x.reading.file) all c.args.port s c.fill.new.self at c.fill.ensures.same_file
+
+pub returns-in-Ok-clause-same_six : goal.returns-in-Ok-clause-same_six
+returns-in-Ok-clause-same_six g c =
+    let all = c.args.sources.now in
+    let s = c.item_mut.result.now in
+    let at = slice_get_read all (length all) c.args.port s refl c.requires.inside c.item_mut.ensures.value in
+    map_kept (λ (x : Stream). x.six) all c.args.port s c.fill.new.self at c.fill.ensures.same_six
 
 pub returns-in-Ok-clause-same_counts : goal.returns-in-Ok-clause-same_counts
 returns-in-Ok-clause-same_counts g c =
@@ -53,6 +60,13 @@ returns-in-Err-clause-same_files g c =
     let s = c.item_mut.result.now in
     let at = slice_get_read all (length all) c.args.port s refl c.requires.inside c.item_mut.ensures.value in
     map_kept (λ (x : Stream). x.reading.file) all c.args.port s c.fill.new.self at c.fill.ensures.same_file
+
+pub returns-in-Err-clause-same_six : goal.returns-in-Err-clause-same_six
+returns-in-Err-clause-same_six g c =
+    let all = c.args.sources.now in
+    let s = c.item_mut.result.now in
+    let at = slice_get_read all (length all) c.args.port s refl c.requires.inside c.item_mut.ensures.value in
+    map_kept (λ (x : Stream). x.six) all c.args.port s c.fill.new.self at c.fill.ensures.same_six
 
 pub returns-in-Err-clause-same_counts : goal.returns-in-Err-clause-same_counts
 returns-in-Err-clause-same_counts g c =

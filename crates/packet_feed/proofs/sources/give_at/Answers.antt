@@ -1,11 +1,10 @@
-use Rattle.std.proofs.Common.{◌<◌, ◌∙◌, ◌≡◌, ℕ, Bool, true, false, Some, length, ap, refl, sym, subst, slice_set}
-use Rattle.std.proofs.lemmas.Option.{slice_get_read, slice_get-map, same_Some}
-use Rattle.std.specs.List.{slice_get}
+use Rattle.std.proofs.Common.{◌<◌, ◌∙◌, ℕ, true, false, length, ap, refl, sym, slice_set}
+use Rattle.std.proofs.lemmas.Option.{slice_get_read, slice_get-map}
 use Rattle.std.specs.Option.{option_map}
-use Rattle.packet_feed.specs.Streams.{Stream, is_held}
+use Rattle.packet_feed.specs.Streams.{Stream}
 use Rattle.packet_feed.specs.Sources.{counts_in}
 use Rattle.packet_feed.proofs.Standing.{at_file}
-use Rattle.packet_feed.proofs.ByPort.{is_held_so, held_there}
+use Rattle.packet_feed.proofs.ByPort.{held_there}
 use Rattle.packet_feed.proofs.sources.give_at.Goals as goal
 
 pub give-requires-clause-room : goal.give-requires-clause-room

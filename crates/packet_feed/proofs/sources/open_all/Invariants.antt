@@ -1,4 +1,6 @@
 use Rattle.std.proofs.Common.{◌≡◌, ℕ}
+use Rattle.nf_base.specs.Functions.{function_of}
+use Rattle.nf_base.specs.Doors.{six_ports}
 use Rattle.packet_feed.proofs.Starting.{AreOpenedSoFar}
 use Rattle.packet_feed.proofs.sources.open_all.Given as goal
 
@@ -7,7 +9,7 @@ abbrev pub invariant-loop-port : goal.invariant-loop-port
 invariant-loop-port g l =
     let told = g.F.Files.told in
     record {
-      opened : AreOpenedSoFar l.captures l.port (told l.fn.files) l.sources (told l.files);
+      opened : AreOpenedSoFar l.captures (six_ports (function_of l.func)) l.port (told l.fn.files) l.sources (told l.files);
       reads : (h : ℕ) → g.F.Files.is_read l.fn.files h → g.F.Files.is_read l.files h;
       writes : (h : ℕ) → g.F.Files.is_written l.fn.files h → g.F.Files.is_written l.files h;
       count : g.F.Files.counted l.files ≡ g.F.Files.counted l.fn.files;

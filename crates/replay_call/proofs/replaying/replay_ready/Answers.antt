@@ -11,7 +11,7 @@ returns-in-Ok g c =
     let b = seen (g.F.Files.told c.replay.new.files) (g.F.Files.counted c.replay.new.files) in
     record {
       replays = λ before is ready. c.told.ensures.replays before is
-          (has_come before a b c.args.job.now c.args.captures.now c.args.feed.now c.args.journal c.args.outputs.now c.in-Ok.came is c.requires.sized ready c.requires.captures c.requires.all c.requires.as_many c.in-Ok.ensures.comes c.replay.ensures.kept c.in-Ok.ensures.cause);
+          (has_come before a b c.args.job.now c.args.captures.now c.args.feed.now c.args.journal c.args.outputs.now c.in-Ok.came is c.requires.sized ready c.requires.captures c.requires.six c.requires.all c.requires.as_many c.in-Ok.ensures.comes c.replay.ensures.kept c.in-Ok.ensures.cause);
     }
 
 pub returns-in-Err : goal.returns-in-Err

@@ -3,7 +3,7 @@ use Rattle.nf_base.specs.Functions.{function_of}
 use Rattle.nf_engine.specs.View.{fixed_of}
 use Rattle.nf_files.specs.Told.{Told}
 use Rattle.packet_feed.specs.Told.{KeepsOthers}
-use Rattle.packet_feed.specs.Sources.{files_in}
+use Rattle.packet_feed.specs.Sources.{files_in, sixes_in}
 use Rattle.replay_run.specs.Outputs.{files_of}
 use Rattle.replay_run.specs.Queues.{keys_in}
 use Rattle.replay_run.specs.Replaying.{IsRun}
@@ -18,6 +18,7 @@ invariant-lines g l =
       reached : (start : Told) (bytes : Option (List ℕ)) → Begins l.fn.judge.heading l.fn.feed l.fn.journal start bytes (told l.fn.files)
           → Reaches (IsRun (function_of l.func) (keys_in l.keys) l.fn.judge.heading) l.fn.judge.heading (length l.captures) start bytes (told l.fn.files).rest l.feed l.journal l.fn.journal.file (told l.files) l.outputs l.judge.tables.state;
       captures : files_in l.feed.sources ≡ l.captures;
+      six : sixes_in l.feed.sources ≡ sixes_in l.fn.feed.sources;
       most : l.feed.most ≡ l.most;
       within : l.feed.given ≤ l.most;
       same : fixed_of l.judge.tables ≡ fixed_of l.fn.judge.tables;

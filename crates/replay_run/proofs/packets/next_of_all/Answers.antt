@@ -1,6 +1,7 @@
-use Rattle.std.proofs.Common.{ℕ, List, subst}
-use Rattle.packet_feed.specs.Told.{packets_of}
+use Rattle.std.proofs.Common.{List, Option, subst}
+use Rattle.packet_feed.specs.Arrivals.{Arrival}
 use Rattle.packet_feed.specs.Feeding.{AreAll}
+use Rattle.replay_run.proofs.Fetching.{same_packets}
 use Rattle.replay_run.proofs.packets.next_of_all.Goals as goal
 
 pub returns-in-Ok-Packet-clause-fetches : goal.returns-in-Ok-Packet-clause-fetches
@@ -14,4 +15,4 @@ returns-in-Ok-Packet-clause-counts g c =
 pub returns-in-Ok-End-clause-fetches : goal.returns-in-Ok-End-clause-fetches
 returns-in-Ok-End-clause-fetches g c = λ start given h.
     let feeds = (rw c.in-Ok-End.field-0-is at c.in-Ok-End.ensures.feeds) start given h in
-    subst (λ (fs : List ℕ). AreAll (packets_of fs start) given) c.next.ensures.same_files feeds.1
+    subst (λ (all : Option (List Arrival)). AreAll all given) (same_packets c.next.new.self c.args.feed.now start c.next.ensures.same_files c.next.ensures.same_six) feeds.1

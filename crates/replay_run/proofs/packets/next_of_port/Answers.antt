@@ -1,6 +1,4 @@
-use Rattle.std.proofs.Common.{◌≡◌, ◌≤◌, ℕ, List, length, sym, ap, subst, ◌∙◌, arith}
-use Rattle.std.proofs.lemmas.List.{length-map}
-use Rattle.packet_feed.specs.Streams.{Stream}
+use Rattle.std.proofs.Common.{ℕ, List, length, sym, ap, arith}
 use Rattle.replay_run.proofs.Fetching.{no_port, past_ports, fetched, counted}
 use Rattle.replay_run.proofs.packets.next_of_port.Goals as goal
 
@@ -15,7 +13,7 @@ returns-then-port-captures-clause-fetches g c = λ start given h port e.
 pub returns-in-Ok-clause-fetches : goal.returns-in-Ok-clause-fetches
 returns-in-Ok-clause-fetches g c =
     let told = g.F.Files.told in
-    fetched c.in-Some.port c.args.line.now c.args.feed.now c.next_at.new.self (told c.args.files.now) (told c.next_at.new.files) c.in-Ok.next (sym c.in-Some.ensures) c.next_at.ensures.same_files c.in-Ok.ensures.counts c.in-Ok.ensures.feeds
+    fetched c.in-Some.port c.args.line.now c.args.feed.now c.next_at.new.self (told c.args.files.now) (told c.next_at.new.files) c.in-Ok.next (sym c.in-Some.ensures) c.next_at.ensures.same_files c.next_at.ensures.same_six c.in-Ok.ensures.counts c.in-Ok.ensures.feeds
 
 pub returns-in-Ok-clause-counts : goal.returns-in-Ok-clause-counts
 returns-in-Ok-clause-counts g c = counted c.in-Some.port c.args.feed.now c.next_at.new.self c.in-Ok.next c.in-Ok.ensures.counts

@@ -1,4 +1,4 @@
-use Rattle.std.proofs.Common.{◌≡◌, ◌≢◌, ◌++◌, ◌∷◌, [], ℕ, List, Some, Ok, inl, refl, sym, ap, subst, ◌∙◌, length}
+use Rattle.std.proofs.Common.{◌≡◌, ◌≢◌, ◌++◌, ◌∷◌, [], ℕ, List, inl, refl, sym, ap, subst, ◌∙◌, length}
 use Rattle.std.specs.List.{slice_get}
 use Rattle.nf_base.specs.Functions.{function_of}
 use Rattle.nf_files.specs.Reads.{Keeps}
@@ -6,7 +6,6 @@ use Rattle.packet_feed.specs.Told.{IsApart, KeepsOthers}
 use Rattle.packet_feed.proofs.Standing.{at_file}
 use Rattle.run_history.specs.declared.line.JournalLine.TheVariants.{Header}
 use Rattle.journal_read.specs.Journals.{Reading, Stands}
-use Rattle.stream_run.specs.declared.stop.Stop.{Stop}
 use Rattle.stream_run.specs.Writing.{StopsAmong}
 use Rattle.replay_run.specs.Queues.{lent, keys_in}
 use Rattle.replay_run.specs.Replaying.{IsRun}

@@ -1,11 +1,11 @@
-use Rattle.std.proofs.Common.{◌≡◌, ◌≢◌, ◌++◌, ◌∷◌, [], ℕ, List, map, Some, None, Ok, sym, ap, subst, ◌∙◌}
+use Rattle.std.proofs.Common.{◌≡◌, ◌≢◌, ◌++◌, ◌∷◌, [], ℕ, List, length, map, Some, None, Ok, sym, ap, subst, ◌∙◌}
 use Rattle.std.specs.List.{slice_get}
 use Rattle.nf_base.specs.Functions.{function_of}
 use Rattle.nf_base.specs.Step.{StepResult}
 use Rattle.packet_feed.specs.Arrivals.{Arrival}
-use Rattle.packet_feed.specs.Told.{KeepsOthers}
 use Rattle.packet_feed.specs.Sources.{files_in}
 use Rattle.packet_feed.specs.Feeding.{shown}
+use Rattle.packet_feed.proofs.Served.{shown_served}
 use Rattle.run_history.specs.declared.line.Mode.{Mode}
 use Rattle.journal_check.specs.Judging.{Steps, line_of}
 use Rattle.stream_run.specs.Streaming.{arrival_of}
@@ -19,6 +19,12 @@ use Rattle.replay_run.proofs.Kept.{others_both, others_left, others_right}
 use Rattle.replay_run.proofs.Runs.{handled_so, goes_on, no_next}
 use Rattle.replay_run.proofs.Ends.{other_line, none_left, shown_is, compares_after, stands_in_while, first_in}
 use Rattle.replay_run.proofs.turn.one_turn.Goals as goal
+
+pub judge-requires-clause-served : goal.judge-requires-clause-served
+judge-requires-clause-served g c =
+    let counts = rw c.in-Ok-Some.field-0-is at c.in-Ok-Some.ensures.counts in
+    let files : files_in c.packet_for.new.feed.sources ≡ c.args.captures.now = c.packet_for.ensures.same_captures ∙ c.requires.captures in
+    shown_served c.args.func.now c.in-Ok-Some.packet c.packet_for.new.feed counts.1 (c.packet_for.ensures.same_six ∙ c.requires.six) (ap (λ (fs : List ℕ). length fs) files ∙ c.requires.ports)
 
 pub returns-in-Err-clause-kept : goal.returns-in-Err-clause-kept
 returns-in-Err-clause-kept g c =
@@ -53,7 +59,7 @@ returns-in-None-clause-turns g c = λ start hs run stands.
     other_line (IsRun f (keys_in keys) j.heading) j.heading.mode (packets_at c.args.feed.now start) hs a line
     (no_next f keys j.heading hs j.tables.state p line c.requires.some c.requires.keyed run none)
     fetches.0
-    (first_in j.heading.mode start (map arrival_of hs ++ a ∷ []) c.packet_for.new.feed c.args.feed.now (told c.packet_for.new.files) c.packet_for.ensures.same_captures (fetches.1 start (map arrival_of hs) stands))
+    (first_in j.heading.mode start (map arrival_of hs ++ a ∷ []) c.packet_for.new.feed c.args.feed.now (told c.packet_for.new.files) c.packet_for.ensures.same_captures c.packet_for.ensures.same_six (fetches.1 start (map arrival_of hs) stands))
 
 pub returns-in-None-clause-kept : goal.returns-in-None-clause-kept
 returns-in-None-clause-kept g c =

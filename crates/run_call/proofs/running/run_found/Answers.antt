@@ -1,7 +1,6 @@
 use Rattle.std.proofs.Common.{rules, ◌≡◌, ◌∙◌, length, string_bytes, sym}
 use Rattle.std.proofs.lemmas.List.{length-map}
-use Rattle.nf_base.specs.View.{block_of}
-use Rattle.nf_base.specs.declared.func.Handler.{Handler}
+use Rattle.nf_base.specs.Handlers.{blocks_of}
 use Rattle.command_words.specs.View as view
 use Rattle.call_base.specs.Outside.{seen}
 use Rattle.lock_mode.specs.Gates.{Rose}
@@ -25,5 +24,5 @@ pub returns-in-Err : goal.returns-in-Err
 returns-in-Err g c =
     let now = seen (g.F.Files.told c.args.files.now) (g.F.Files.counted c.args.files.now) in
     let raw : length c.args.command.now.captures.items ≡ length c.args.found.now.source.func.handlers = search rules in
-    let as_many = length-map c.args.command.now.captures.items string_bytes ∙ raw ∙ sym (length-map c.args.found.now.source.func.handlers (λ (h : Handler). block_of h.block)) in
+    let as_many = length-map c.args.command.now.captures.items string_bytes ∙ raw ∙ sym (length-map c.args.found.now.source.func.handlers blocks_of) in
     record { runs = is_unserved (Rose (g.L.Gate.refused c.args.gate.now) (g.L.Gate.refused c.args.gate.now)) (view.run c.args.command.now) g.before now c.args.found.now c.in-Err.halt c.requires.1.1.1.1.1.1.1.1.1 as_many c.in-Err.ensures.serves }

@@ -1,8 +1,7 @@
 use Rattle.std.proofs.Common.{◌∙◌, string_bytes, sym, arith}
 use Rattle.std.proofs.lemmas.List.{length-map}
 use Rattle.nf_base.specs.Functions.{function_of}
-use Rattle.nf_base.specs.View.{block_of}
-use Rattle.nf_base.specs.declared.func.Handler.{Handler}
+use Rattle.nf_base.specs.Handlers.{blocks_of}
 use Rattle.command_words.specs.View as view
 use Rattle.run_call.proofs.Beginning.{keyed_by}
 use Rattle.run_call.proofs.running.run_served.Goals as goal
@@ -31,7 +30,7 @@ run_job-requires g c κs within =
                     record {
                       has_ports = record {
                         is_function = found.is_function;
-                        as_many = as_many ∙ sym (length-map c.args.found.now.source.func.handlers (λ (h : Handler). block_of h.block));
+                        as_many = as_many ∙ sym (length-map c.args.found.now.source.func.handlers blocks_of);
                         keyed = λ needs. keyed_by asked (function_of c.args.found.now.source.func) c.args.course.now requires.1.1.1.0 needs;
                       };
                       course = requires.1.1.1.0;

@@ -1,4 +1,4 @@
-use Rattle.std.proofs.Common.{◌≡◌, ◌≤◌, ◌+◌, List, [], ◌∷◌, ◌++◌, length, refl, ap, sym, ◌∙◌, subst, arith}
+use Rattle.std.proofs.Common.{List, length, refl, ap, sym, subst, arith}
 use Rattle.shard_core.specs.declared.collected.Collected.{Collected}
 use Rattle.shard_core.proofs.Played.{sizes_more, still_whole}
 use Rattle.shard_rounds.specs.Rounds.{Collecting}

@@ -1,7 +1,7 @@
-use Rattle.std.proofs.Common.{◌≡◌, ◌<◌, ◌≤◌, ◌+◌, ◌-◌, ℕ, List, length, refl, ap, sym, ◌∙◌, subst, arith}
+use Rattle.std.proofs.Common.{◌+◌, ◌-◌, List, length, refl, sym, subst, arith}
 use Rattle.nf_base.specs.declared.packet.Packet.{Packet}
 use Rattle.shard_machine.specs.Machine.{Machine}
-use Rattle.shard_core.specs.Sharded.{StandsFor, HasRoom}
+use Rattle.shard_core.specs.Sharded.{StandsFor}
 use Rattle.shard_core.proofs.Played.{sizes_more}
 use Rattle.shard_rounds.specs.Rounds.{all_dispatched}
 use Rattle.shard_rounds.proofs.Batch.{next_given, less_room, all_given}

@@ -1,4 +1,4 @@
-use Rattle.std.proofs.Common.{◌≡◌, List, sym, subst}
+use Rattle.std.proofs.Common.{List, sym, subst}
 use Rattle.shard_core.specs.declared.collected.Collected.{Collected}
 use Rattle.shard_rounds.specs.Rounds.{CollectedAll}
 use Rattle.shard_rounds.proofs.Ran.{ran_round}

@@ -1,8 +1,8 @@
-use Rattle.std.proofs.Common.{Bool, suc, sym, ◌∙◌, subst, arith}
+use Rattle.std.proofs.Common.{Bool, sym, ◌∙◌, subst, arith}
 use Rattle.shard_rounds.specs.Workings.{WentOn}
 use Rattle.nf_base.specs.Functions.{function_of}
 use Rattle.shard_core.specs.Held.{begins}
-use Rattle.shard_rounds.proofs.Called.{stops_here, one_less, none_left, no_first}
+use Rattle.shard_rounds.proofs.Called.{stops_here}
 use Rattle.shard_rounds.proofs.working.work_all.Goals as goal
 
 pub loop-packet-init : goal.loop-packet-init

@@ -6,7 +6,7 @@ use Rattle.shard_core.specs.Sharded.{Sharded, StandsFor, with_workers}
 use Rattle.shard_core.specs.Apart.{AreWorked}
 use Rattle.shard_rounds.specs.Workings.{AllWorkedThrough}
 use Rattle.shard_core.proofs.Apart.{back_by_works}
-use Rattle.shard_rounds.proofs.Called.{calls, are_worked, worked_all, of_shards}
+use Rattle.shard_rounds.proofs.Called.{calls, are_worked, worked_all}
 use Rattle.shard_rounds.proofs.working.work_apart.Goals as goal
 
 pub together-requires : goal.together-requires

@@ -1,14 +1,9 @@
-use Rattle.std.proofs.Common.{rules, ◌≡◌, ◌<◌, List, length, slice_index_or, ap, sym, ◌∙◌, subst, arith}
+use Rattle.std.proofs.Common.{rules, ◌≡◌, List, length, slice_index_or, ap, sym, ◌∙◌, subst, arith}
 use Rattle.nf_base.specs.Functions.{function_of}
 use Rattle.shard_core.specs.Held.{Held}
 use Rattle.shard_rounds.specs.Workings.{WorkedThrough, AllWorkedThrough}
-use mir.Syntax.{named}
-use denote.Param.{param}
-use denote.Struct.Field.{shr_ref_field}
-use Rattle.nf_base.specs.contracts.func.Func as func
-use denote.Param.Send.{sendable, param_sync, shr_sync}
+use denote.Param.Send.{param_sync}
 use Rattle.shard_rounds.proofs.working.work_each.Lts.{arg-1-2}
-use Rattle.std.proofs.Crossing.{crosses}
 use Rattle.worker_turns.proofs.Shared.{func_sync}
 use Rattle.shard_rounds.proofs.Called.{can_each, all_through, all_of}
 use Rattle.shard_rounds.proofs.working.work_each.Goals as goal

@@ -13,6 +13,6 @@ pub loop-i-preserved : goal.loop-i-preserved
 loop-i-preserved c = λ k d lt. elim (cases_eq k c.loop-i.i) [
   | inl same ↦
       let is : get_or c.args.events.now k d ≡ c.index-events-i.result = ap (λ (j : ℕ). get_or c.args.events.now j d) same ∙ same_at c.args.events.now c.loop-i.i d c.index-events-i.result (omega arith) ∙ sym c.index-events-i.is in
-      subst (IsValid c.args.ports c.args.workers) (sym is) (c.is_valid.ensures c.if-not-is_valid.false)
+      subst (IsValid c.args.func.now c.args.workers) (sym is) (c.is_valid.ensures c.if-not-is_valid.false)
   | inr other ↦ c.loop-i.invariant k d (omega (arith, lt, other))
 ]

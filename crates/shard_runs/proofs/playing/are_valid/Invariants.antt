@@ -5,4 +5,4 @@ use Rattle.shard_runs.proofs.playing.are_valid.Given as goal
 
 -- the first events are valid
 abbrev pub invariant-loop-i : goal.invariant-loop-i
-invariant-loop-i l = (k : ℕ) (d : Event) → k < l.i → IsValid l.ports l.workers (get_or l.events k d)
+invariant-loop-i l = (k : ℕ) (d : Event) → k < l.i → IsValid l.func l.workers (get_or l.events k d)

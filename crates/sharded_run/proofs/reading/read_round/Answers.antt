@@ -54,7 +54,7 @@ loop-k-preserved g c =
     record {
       gathers = subst (λ (as_list : List Arrival). Gathers ports c.args.feed.now c.next.new.self (told c.args.files.now) (told c.next.new.files) as_list) (sym pushed)
           (gathers_more ports c.args.feed.now c.loop-k.feed c.next.new.self (told c.args.files.now) (told c.loop-k.files) (told c.next.new.files) c.loop-k.batch packet c.original.result c.frame.result.now inv.gathers
-          (rw c.in-Ok-Packet.field-0-is at ok.feeds) (rw c.in-Ok-Packet.field-0-is at ok.times) counts.0 counts.1 counts.2 c.next.ensures.same_most c.next.ensures.same_files c.original.ensures c.frame.ensures c.in-Ok.ensures.input
+          (rw c.in-Ok-Packet.field-0-is at ok.feeds) (rw c.in-Ok-Packet.field-0-is at ok.times) counts.0 counts.1 counts.2 c.next.ensures.same_most c.next.ensures.same_files c.next.ensures.same_six c.original.ensures c.frame.ensures c.in-Ok.ensures.input
           (ap (λ (fs : List ℕ). length fs) c.requires.captures));
       long = omega (arith, ap (λ (as_list : List Arrival). length as_list) pushed, length-append c.loop-k.batch (one ∷ []), inv.long);
       captures = c.next.ensures.same_files ∙ inv.captures;

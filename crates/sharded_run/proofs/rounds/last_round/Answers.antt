@@ -4,6 +4,7 @@ use Rattle.nf_base.specs.declared.func.Func.{Func}
 use Rattle.nf_base.specs.declared.packet.Packet.{Packet}
 use Rattle.nf_base.specs.Functions.{function_of}
 use Rattle.packet_feed.specs.Arrivals.{packet_of}
+use Rattle.packet_feed.specs.Sources.{sixes_in}
 use Rattle.run_history.specs.declared.line.Mode.TheVariants.{Shard}
 use Rattle.stream_run.specs.declared.stop.Stop.{Stop}
 use Rattle.stream_run.specs.Writing.{files_of, AreHeld, AreFronts}
@@ -12,6 +13,7 @@ use Rattle.sharded_run.specs.Setups.{setup_of}
 use Rattle.sharded_run.specs.Reading.{Fits}
 use Rattle.sharded_run.specs.Rounds.{answered}
 use Rattle.sharded_run.specs.Going.{Comes}
+use Rattle.sharded_run.proofs.Fitting.{are_served}
 use Rattle.sharded_run.proofs.Reached.{halts_writing}
 use Rattle.sharded_run.proofs.Rounding.{ends_by, halts_waiting, rounded_of, held_waiting}
 use Rattle.sharded_run.proofs.rounds.last_round.Goals as goal
@@ -19,8 +21,13 @@ use Rattle.sharded_run.proofs.rounds.last_round.Goals as goal
 pub work_kept-requires-clause-ports : goal.work_kept-requires-clause-ports
 work_kept-requires-clause-ports g c = λ κs lives.
     let ports = length c.args.captures.now in
+    let six = sixes_in c.args.feed.now.sources in
     let batch = c.args.batch.now in
-    All-weaker (Fits ports) (λ (p : Packet). p.id.port < length c.args.shards.now.func.handlers) (λ p h. omega (arith, h.port, c.requires.ports)) (map packet_of batch) (All-from_recursion (Fits ports) (map packet_of batch) c.requires.fit)
+    All-weaker (Fits ports six) (λ (p : Packet). p.id.port < length c.args.shards.now.func.handlers) (λ p h. omega (arith, h.port, c.requires.ports)) (map packet_of batch) (All-from_recursion (Fits ports six) (map packet_of batch) c.requires.fit)
+
+pub work_kept-requires-clause-served : goal.work_kept-requires-clause-served
+work_kept-requires-clause-served g c = λ κs lives.
+    are_served c.args.shards.now.func (length c.args.captures.now) (sixes_in c.args.feed.now.sources) (map packet_of c.args.batch.now) c.requires.ports c.requires.six c.requires.fit
 
 pub returns-in-Err-clause-comes : goal.returns-in-Err-clause-comes
 returns-in-Err-clause-comes g c = λ keys workers begun start several alike a.

@@ -5,6 +5,7 @@ use Rattle.nf_base.specs.declared.func.Func.{Func}
 use Rattle.nf_base.specs.declared.packet.Packet.{Packet}
 use Rattle.nf_base.specs.Functions.{function_of}
 use Rattle.packet_feed.specs.Arrivals.{packet_of}
+use Rattle.packet_feed.specs.Sources.{sixes_in}
 use Rattle.run_history.specs.declared.line.Mode.TheVariants.{Shard}
 use Rattle.stream_run.specs.declared.ending.Ending.{Ending}
 use Rattle.stream_run.specs.declared.stop.Stop.{Stop}
@@ -15,6 +16,7 @@ use Rattle.sharded_run.specs.Setups.{setup_of}
 use Rattle.sharded_run.specs.Reading.{Fits}
 use Rattle.sharded_run.specs.Rounds.{answered}
 use Rattle.shard_core.specs.declared.collected.Stop as stopping
+use Rattle.sharded_run.proofs.Fitting.{are_served}
 use Rattle.sharded_run.proofs.Reached.{Rounded, halts_writing, stops_with, fewer_got}
 use Rattle.sharded_run.proofs.Rounding.{among_as, idle_on, is_round, has_read, awaits_on, halts_with, halts_waiting, rounded_of, held_behind}
 use Rattle.sharded_run.proofs.rounds.one_round.Goals as goal
@@ -22,8 +24,13 @@ use Rattle.sharded_run.proofs.rounds.one_round.Goals as goal
 pub begin_kept-requires-clause-ports : goal.begin_kept-requires-clause-ports
 begin_kept-requires-clause-ports g c =
     let ports = length c.args.captures.now in
+    let six = sixes_in c.args.feed.now.sources in
     let batch = c.args.batch.now in
-    All-weaker (Fits ports) (λ (p : Packet). p.id.port < length c.args.shards.now.func.handlers) (λ p h. omega (arith, h.port, c.requires.ports)) (map packet_of batch) (All-from_recursion (Fits ports) (map packet_of batch) c.requires.fit)
+    All-weaker (Fits ports six) (λ (p : Packet). p.id.port < length c.args.shards.now.func.handlers) (λ p h. omega (arith, h.port, c.requires.ports)) (map packet_of batch) (All-from_recursion (Fits ports six) (map packet_of batch) c.requires.fit)
+
+pub begin_kept-requires-clause-served : goal.begin_kept-requires-clause-served
+begin_kept-requires-clause-served g c =
+    are_served c.args.shards.now.func (length c.args.captures.now) (sixes_in c.args.feed.now.sources) (map packet_of c.args.batch.now) c.requires.ports c.requires.six c.requires.fit
 
 pub returns-in-Err-clause-on : goal.returns-in-Err-clause-on
 returns-in-Err-clause-on g c = λ keys workers begun start several alike a.

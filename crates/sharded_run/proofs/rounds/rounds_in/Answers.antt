@@ -1,7 +1,9 @@
 use Rattle.std.proofs.Common.{◌≡◌, ◌≤◌, ◌∙◌, ◌++◌, [], ℕ, List, length, map, Option, Ok, Err, sym, ap, refl, subst, arith}
 use Rattle.std.specs.List.{AllByRecursion}
+use Rattle.nf_base.specs.Doors.{six_ports}
 use Rattle.nf_base.specs.Functions.{function_of}
 use Rattle.packet_feed.specs.Arrivals.{Arrival, packet_of}
+use Rattle.packet_feed.specs.Sources.{sixes_in}
 use Rattle.stream_run.specs.declared.ending.Ending.{Ending}
 use Rattle.stream_run.specs.declared.stop.Stop.{Stop}
 use Rattle.stream_run.specs.Writing.{files_of, AreHeld, AreFronts, KeepsBut}
@@ -45,6 +47,7 @@ rounds-init g c =
           (λ n. (c.read_round.ensures.kept []).givens n (none_other n))));
       idle = c.requires.idle;
       captures = h.fed.same_files ∙ c.requires.captures;
+      six = h.fed.same_six ∙ c.requires.six;
       within = h.fed.within;
       fit = h.fit;
       enough = h.enough;
@@ -77,8 +80,9 @@ rounds-preserved g c =
           (subst (λ (e : Option Ending). Awaits (function_of c.args.shards.now.func) keys workers ports begun start c.rounds.feed (told c.rounds.files) c.rounds.sinks c.rounds.shards (answered c.rounds.last c.rounds.handled) c.rounds.batch e) c.in-None.is (inv.on keys workers begun start several alike r))));
       idle = rw c.in-Ok-On.field-0-is at ok.idle;
       captures = read.fed.same_files ∙ inv.captures;
+      six = read.fed.same_six ∙ inv.six ∙ ap (λ (fn : Func). six_ports (function_of fn)) (sym ok.same.func);
       within = read.fed.within;
-      fit = subst (λ (b : List Arrival). AllByRecursion (Fits ports) (map packet_of b)) batch_is read.fit;
+      fit = subst (λ (b : List Arrival). AllByRecursion (Fits ports (sixes_in c.one_round.new.feed.sources)) (map packet_of b)) batch_is read.fit;
       enough = subst (λ (b : List Arrival). length b ≤ c.one_round.new.feed.given) batch_is read.enough;
       fewer = subst (λ (b : List Arrival). length c.in-Ok-On.got ≤ length b) last_is fewer;
       same = record { func = ok.same.func ∙ inv.same.func; count = ok.same.count ∙ inv.same.count; long = ok.same.long ∙ inv.same.long };

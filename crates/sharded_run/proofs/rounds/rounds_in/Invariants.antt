@@ -1,11 +1,12 @@
 use Rattle.std.proofs.Common.{◌≡◌, ◌<◌, ◌≤◌, ◌-◌, ◌+◌, ℕ, length, map}
 use Rattle.std.specs.List.{AllByRecursion}
 use Rattle.nf_base.specs.declared.keys.Keys.{Keys}
+use Rattle.nf_base.specs.Doors.{six_ports}
 use Rattle.nf_base.specs.Functions.{function_of}
 use Rattle.nf_files.specs.Told.{Told}
 use Rattle.toeplitz_hash.specs.Meeting.{HashAlikeWhereTheyMeet}
 use Rattle.packet_feed.specs.Arrivals.{packet_of}
-use Rattle.packet_feed.specs.Sources.{files_in}
+use Rattle.packet_feed.specs.Sources.{files_in, sixes_in}
 use Rattle.packet_feed.specs.Feeding.{Feeding}
 use Rattle.shard_core.specs.Plays.{SameSize}
 use Rattle.stream_run.specs.Writing.{files_of, KeepsBut}
@@ -25,8 +26,9 @@ invariant-rounds g l =
           → Reaches f keys workers ports begun start l.fn.feed (told l.fn.files) l.fn.sinks l.fn.shards → Awaits f keys workers ports begun start l.feed (told l.files) l.sinks l.shards (answered l.last l.handled) l.batch l.ending;
       idle : AreIdle l.shards;
       captures : files_in l.feed.sources ≡ l.captures;
+      six : sixes_in l.feed.sources ≡ six_ports (function_of l.shards.func);
       within : l.feed.given ≤ l.feed.most;
-      fit : AllByRecursion (Fits ports) (map packet_of l.batch);
+      fit : AllByRecursion (Fits ports (sixes_in l.feed.sources)) (map packet_of l.batch);
       enough : length l.batch ≤ l.feed.given;
       fewer : length l.handled ≤ length l.last;
       same : SameSize l.fn.shards l.shards;

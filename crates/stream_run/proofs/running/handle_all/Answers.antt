@@ -1,6 +1,7 @@
-use Rattle.std.proofs.Common.{◌∙◌, length, refl, sym, arith}
+use Rattle.std.proofs.Common.{◌∙◌, ℕ, List, length, ap, refl, sym, arith}
 use Rattle.nf_base.specs.Functions.{function_of}
 use Rattle.packet_feed.specs.Sources.{files_in}
+use Rattle.packet_feed.proofs.Served.{shown_served}
 use Rattle.stream_run.specs.Writing.{files_of}
 use Rattle.stream_run.specs.declared.ending.Ending.{Ending}
 use Rattle.stream_run.proofs.Held.{same_length, but_none, read_on, written_on, stops_reading, stops_wider}
@@ -13,6 +14,7 @@ packets-init g c =
     record {
       reached = reached_none (function_of c.args.func.now) (length c.args.func.now.handlers) c.args.feed.now (told c.args.files.now) c.args.sinks.now c.args.tables.now.state c.requires.opens c.requires.new c.requires.heads;
       captures = c.requires.captures;
+      six = c.requires.six;
       most = refl;
       within = omega (arith, c.requires.new);
       same = refl;
@@ -28,7 +30,7 @@ returns-in-Ok-End-clause-comes g c =
     let told = g.F.Files.told in
     let ok = c.in-Ok-End.ensures in
     ends_all (function_of c.args.func.now) (length c.args.func.now.handlers) c.args.feed.now (told c.args.files.now) c.packets.feed c.next.new.self (told c.packets.files) (told c.next.new.files) c.packets.sinks c.packets.tables.state c.packets.invariant.reached
-    (rw c.in-Ok-End.field-0-is at ok.feeds) (rw c.in-Ok-End.field-0-is at ok.counts) c.next.ensures.kept.givens (c.next.ensures.same_files ∙ c.packets.invariant.captures ∙ sym c.requires.captures) (c.next.ensures.same_most ∙ c.packets.invariant.most) (omega (arith, c.packets.invariant.within, c.packets.invariant.most))
+    (rw c.in-Ok-End.field-0-is at ok.feeds) (rw c.in-Ok-End.field-0-is at ok.counts) c.next.ensures.kept.givens (c.next.ensures.same_files ∙ c.packets.invariant.captures ∙ sym c.requires.captures) (c.next.ensures.same_six ∙ c.packets.invariant.six ∙ sym c.requires.six) (c.next.ensures.same_most ∙ c.packets.invariant.most) (omega (arith, c.packets.invariant.within, c.packets.invariant.most))
 
 pub returns-in-Ok-TooMany-clause-comes : goal.returns-in-Ok-TooMany-clause-comes
 returns-in-Ok-TooMany-clause-comes g c =
@@ -36,10 +38,16 @@ returns-in-Ok-TooMany-clause-comes g c =
     let ok = c.in-Ok-TooMany.ensures in
     let counts = rw c.in-Ok-TooMany.field-0-is at ok.counts in
     ends_early (function_of c.args.func.now) (length c.args.func.now.handlers) c.args.feed.now (told c.args.files.now) c.packets.feed c.next.new.self (told c.packets.files) (told c.next.new.files) c.packets.sinks c.packets.tables.state c.packets.invariant.reached
-    (rw c.in-Ok-TooMany.field-0-is at ok.feeds) counts.0 counts.1 c.next.ensures.same_most c.next.ensures.kept.givens (c.next.ensures.same_files ∙ c.packets.invariant.captures ∙ sym c.requires.captures) (c.next.ensures.same_most ∙ c.packets.invariant.most)
+    (rw c.in-Ok-TooMany.field-0-is at ok.feeds) counts.0 counts.1 c.next.ensures.same_most c.next.ensures.kept.givens (c.next.ensures.same_files ∙ c.packets.invariant.captures ∙ sym c.requires.captures) (c.next.ensures.same_six ∙ c.packets.invariant.six ∙ sym c.requires.six) (c.next.ensures.same_most ∙ c.packets.invariant.most)
 
 pub handle_one-requires-clause-few : goal.handle_one-requires-clause-few
 handle_one-requires-clause-few g c = omega (arith, same_length c.packets.sinks c.args.sinks.now c.packets.invariant.same_files, c.requires.few)
+
+pub handle_one-requires-clause-served : goal.handle_one-requires-clause-served
+handle_one-requires-clause-served g c =
+    let counts = rw c.in-Ok-Packet.field-0-is at c.in-Ok-Packet.ensures.counts in
+    shown_served c.args.func.now c.in-Ok-Packet.packet c.next.new.self counts.2
+    (c.next.ensures.same_six ∙ c.packets.invariant.six) (ap (λ (t : List ℕ). length t) (c.next.ensures.same_files ∙ c.packets.invariant.captures) ∙ c.requires.ports)
 
 pub packets-preserved : goal.packets-preserved
 packets-preserved g c =
@@ -52,6 +60,7 @@ packets-preserved g c =
           c.in-Ok-Packet.packet c.original-original.result c.frame-frame.result.now inv.reached
           (rw c.in-Ok-Packet.field-0-is at ok.feeds) c.original-original.ensures c.frame-frame.ensures counts.0 c.next.ensures.kept.givens c.handle_one.ensures.kept.rests c.in-Ok.ensures.handles;
       captures = c.next.ensures.same_files ∙ inv.captures;
+      six = c.next.ensures.same_six ∙ inv.six;
       most = c.next.ensures.same_most ∙ inv.most;
       within = omega (arith, counts.0, counts.1, c.next.ensures.same_most);
       same = c.handle_one.ensures.same ∙ inv.same;
@@ -70,14 +79,14 @@ returns-in-Err-handle_one-clause-comes g c =
     let counts = rw c.in-Ok-Packet.field-0-is at ok.counts in
     halts_writing (function_of c.args.func.now) (length c.args.func.now.handlers) c.args.feed.now (told c.args.files.now) c.packets.feed c.next.new.self (told c.packets.files) (told c.next.new.files) (told c.handle_one.new.files) c.packets.sinks c.handle_one.new.sinks c.packets.tables.state c.handle_one.new.tables.state
     c.in-Ok-Packet.packet c.original-original.result c.frame-frame.result.now c.in-Err-handle_one.stop inv.reached
-    (rw c.in-Ok-Packet.field-0-is at ok.feeds) c.original-original.ensures c.frame-frame.ensures (c.next.ensures.same_files ∙ inv.captures ∙ sym c.requires.captures) (omega (arith, counts.1, inv.most)) c.next.ensures.kept.givens c.in-Err-handle_one.ensures.handles
+    (rw c.in-Ok-Packet.field-0-is at ok.feeds) c.original-original.ensures c.frame-frame.ensures (c.next.ensures.same_files ∙ inv.captures ∙ sym c.requires.captures) (c.next.ensures.same_six ∙ inv.six ∙ sym c.requires.six) (omega (arith, counts.1, inv.most)) c.next.ensures.kept.givens c.in-Err-handle_one.ensures.handles
 
 pub returns-in-Err-clause-comes : goal.returns-in-Err-clause-comes
 returns-in-Err-clause-comes g c =
     let told = g.F.Files.told in
     let inv = c.packets.invariant in
     halts_reading (function_of c.args.func.now) (length c.args.func.now.handlers) c.args.feed.now (told c.args.files.now) c.packets.feed (told c.packets.files) (told c.next.new.files) c.packets.sinks c.packets.tables.state inv.reached
-    (inv.captures ∙ sym c.requires.captures) (omega (arith, inv.within, inv.most)) c.next.ensures.kept.givens
+    (inv.captures ∙ sym c.requires.captures) (inv.six ∙ sym c.requires.six) (omega (arith, inv.within, inv.most)) c.next.ensures.kept.givens
 
 pub returns-in-Ok-End-clause-kept : goal.returns-in-Ok-End-clause-kept
 returns-in-Ok-End-clause-kept g c =

@@ -1,7 +1,8 @@
 use Rattle.std.proofs.Common.{◌≡◌, ◌-◌, ◌≤◌, ℕ, length}
+use Rattle.nf_base.specs.Doors.{six_ports}
 use Rattle.nf_base.specs.Functions.{function_of}
 use Rattle.nf_engine.specs.View.{fixed_of}
-use Rattle.packet_feed.specs.Sources.{files_in}
+use Rattle.packet_feed.specs.Sources.{files_in, sixes_in}
 use Rattle.stream_run.specs.Writing.{files_of, KeepsBut}
 use Rattle.stream_run.specs.Streaming.{Reaches}
 use Rattle.stream_run.proofs.running.handle_all.Given as goal
@@ -13,6 +14,7 @@ invariant-packets g l =
     record {
       reached : Reaches (function_of l.func) (length l.func.handlers) l.fn.feed (told l.fn.files) l.feed (told l.files) l.sinks l.tables.state;
       captures : files_in l.feed.sources ≡ l.captures;
+      six : sixes_in l.feed.sources ≡ six_ports (function_of l.func);
       most : l.feed.most ≡ l.fn.feed.most;
       within : l.feed.given ≤ l.feed.most;
       same : fixed_of l.tables ≡ fixed_of l.fn.tables;

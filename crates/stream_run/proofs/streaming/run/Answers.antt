@@ -1,8 +1,7 @@
 use Rattle.std.proofs.Common.{◌≡◌, ◌∙◌, ℕ, List, length, sym, ap, ap₂, subst}
 use Rattle.std.proofs.lemmas.List.{length-map}
 use Rattle.nf_base.specs.declared.func.Func.{Func}
-use Rattle.nf_base.specs.declared.func.Handler.{Handler}
-use Rattle.nf_base.specs.View.{block_of}
+use Rattle.nf_base.specs.Handlers.{blocks_of}
 use Rattle.nf_base.specs.Functions.{function_of}
 use Rattle.run_history.specs.declared.line.Mode.TheVariants.{One}
 use Rattle.stream_run.specs.Texts.{head}
@@ -14,14 +13,14 @@ use Rattle.stream_run.proofs.streaming.run.Goals as goal
 
 -- the ports of a function are counted by its handlers
 counted : (func : Func) → length func.handlers ≡ length (function_of func).handlers
-counted func = sym (length-map func.handlers (λ (h : Handler). block_of h.block))
+counted func = sym (length-map func.handlers blocks_of)
 
 pub returns-in-Err-clause-runs : goal.returns-in-Err-clause-runs
 returns-in-Err-clause-runs g c =
     let told = g.F.Files.told in
     let f = function_of c.args.func.now in
     let ports = ap (λ (t : List ℕ). length t) c.requires.captures ∙ c.requires.ports in
-    cut_short_at f (length c.args.func.now.handlers) c.args.feed.now (told c.args.files.now) (told c.args.files.now) c.args.targets.now (counted c.args.func.now) ports
+    cut_short_at f (length c.args.func.now.handlers) c.args.feed.now (told c.args.files.now) (told c.args.files.now) c.args.targets.now (counted c.args.func.now) ports c.requires.six
     (halts_none f (length c.args.func.now.handlers) c.args.feed.now (told c.args.files.now) c.args.targets.now c.requires.empty)
 
 pub stream-requires-clause-heads : goal.stream-requires-clause-heads
@@ -36,7 +35,7 @@ returns-clause-runs g c =
     let told = g.F.Files.told in
     let f = function_of c.args.func.now in
     let ports = ap (λ (t : List ℕ). length t) c.requires.captures ∙ c.requires.ports in
-    is_run_at f (length c.args.func.now.handlers) c.args.feed.now (told c.args.files.now) c.stream.new.feed (told c.stream.new.files) c.args.targets.now c.stream.result (counted c.args.func.now) ports
+    is_run_at f (length c.args.func.now.handlers) c.args.feed.now (told c.args.files.now) c.stream.new.feed (told c.stream.new.files) c.args.targets.now c.stream.result (counted c.args.func.now) ports c.requires.six
     (subst (λ (fs : List ℕ). Streams f (length c.args.func.now.handlers) c.args.feed.now (told c.args.files.now) c.stream.new.feed (told c.stream.new.files) fs c.stream.result) c.in-Ok.ensures.files c.stream.ensures.streams)
 
 pub returns-in-Err-clause-kept : goal.returns-in-Err-clause-kept

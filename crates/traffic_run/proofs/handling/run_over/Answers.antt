@@ -1,5 +1,6 @@
 use Rattle.std.proofs.Common.{length, sym, ◌∙◌}
 use Rattle.nf_base.specs.Functions.{function_of}
+use Rattle.nf_base.specs.Doors.{six_ports}
 use Rattle.lock_mode.specs.Gates.{Rose}
 use Rattle.stream_run.proofs.Held.{but_both, but_read}
 use Rattle.traffic_run.specs.Asked.{recipe_of, asked_for}
@@ -16,6 +17,7 @@ run_by-requires-clause-started g c = λ κs lives.
       before = told c.args.files.now;
       stands = begun.0;
       files = begun.1;
+      six_is = begun.3;
       packets = c.requires.made;
       most = begun.2 ∙ sym (arrivals_long (recipe_of c.args.asked.now n));
       given = sym begun.0.count;
@@ -43,7 +45,7 @@ pub stop_in-requires : goal.stop_in-requires
 stop_in-requires g c =
     let told = g.F.Files.told in
     record {
-      read = read_fault c.args.captures.now (told c.args.files.now) (told c.start.new.files) c.args.asked.now.count (asked_for c.args.asked.now (length c.args.func.now.handlers)) c.in-Err.fault c.requires.made c.in-Err.ensures.starts;
+      read = read_fault (six_ports (function_of c.args.func.now)) c.args.captures.now (told c.args.files.now) (told c.start.new.files) c.args.asked.now.count (asked_for c.args.asked.now (length c.args.func.now.handlers)) c.in-Err.fault c.requires.made c.in-Err.ensures.starts;
       one = c.in-Err.ensures.one;
     }
 

@@ -1,5 +1,6 @@
 use Rattle.std.proofs.Common.{length}
 use Rattle.nf_base.specs.Functions.{function_of}
+use Rattle.nf_base.specs.Doors.{six_ports}
 use Rattle.lock_mode.specs.Gates.{Rose}
 use Rattle.traffic_run.specs.Asked.{asked_for}
 use Rattle.traffic_run.proofs.Over.{whole_sharing, cut_sharing}
@@ -10,17 +11,20 @@ returns-in-Ok-clause-leaves g c =
     let told = g.F.Files.told in
     let all = asked_for c.args.asked.now (length c.args.func.now.handlers) in
     let Refused = Rose (g.G.Gate.refused c.args.gate.now) (g.G.Gate.refused c.run.new.gate) in
-    whole_sharing Refused (function_of c.args.func.now) c.args.workers c.args.captures.now c.args.feed.now (told c.args.files.now) all c.run.new.feed (told c.run.new.files) c.args.targets.now c.in-Ok.came c.requires.started c.in-Ok.ensures.runs
+    whole_sharing Refused (function_of c.args.func.now) c.args.workers (six_ports (function_of c.args.func.now)) c.args.captures.now c.args.feed.now (told c.args.files.now) all c.run.new.feed (told c.run.new.files) c.args.targets.now c.in-Ok.came c.requires.started c.in-Ok.ensures.runs
 
 pub returns-in-Err-clause-leaves : goal.returns-in-Err-clause-leaves
 returns-in-Err-clause-leaves g c =
     let told = g.F.Files.told in
     let all = asked_for c.args.asked.now (length c.args.func.now.handlers) in
     let Refused = Rose (g.G.Gate.refused c.args.gate.now) (g.G.Gate.refused c.run.new.gate) in
-    cut_sharing Refused (function_of c.args.func.now) c.args.workers c.args.captures.now c.args.feed.now (told c.args.files.now) all (told c.run.new.files) c.args.targets.now c.requires.started c.in-Err.ensures.runs
+    cut_sharing Refused (function_of c.args.func.now) c.args.workers (six_ports (function_of c.args.func.now)) c.args.captures.now c.args.feed.now (told c.args.files.now) all (told c.run.new.files) c.args.targets.now c.requires.started c.in-Err.ensures.runs
 
 pub run-requires-clause-captures : goal.run-requires-clause-captures
 run-requires-clause-captures g c = λ κs lives. c.requires.started.files
 
 pub run-requires-clause-new : goal.run-requires-clause-new
 run-requires-clause-new g c = λ κs lives. c.requires.started.given
+
+pub run-requires-clause-six : goal.run-requires-clause-six
+run-requires-clause-six g c = λ κs lives. c.requires.started.six_is

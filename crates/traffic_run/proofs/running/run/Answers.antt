@@ -1,9 +1,9 @@
-use Rattle.std.proofs.Common.{◌≡◌, ◌∙◌, ◌+◌, ◌^◌, ◌<◌, ℕ, List, [], length, sym, ap, subst, arith, Result, ltb-true}
+use Rattle.std.proofs.Common.{◌≡◌, ◌∙◌, ◌+◌, ◌^◌, ℕ, [], length, sym, ap, subst, arith, Result, ltb-true}
 use Rattle.std.proofs.lemmas.List.{length-map}
 use Rattle.nf_base.specs.declared.func.Func.{Func}
-use Rattle.nf_base.specs.declared.func.Handler.{Handler}
-use Rattle.nf_base.specs.View.{block_of}
+use Rattle.nf_base.specs.Handlers.{blocks_of}
 use Rattle.nf_base.specs.Functions.{function_of}
+use Rattle.nf_base.specs.Doors.{six_ports}
 use Rattle.lock_mode.specs.Gates.{Rose}
 use Rattle.stream_run.specs.Writing.{IsStopCause, StopsAmong}
 use Rattle.stream_run.specs.declared.stop.Stop.{Stop}
@@ -18,7 +18,7 @@ use Rattle.traffic_run.proofs.running.run.Goals as goal
 
 -- the ports of a function are counted by its handlers
 handlers_are : (func : Func) → length (function_of func).handlers ≡ length func.handlers
-handlers_are func = length-map func.handlers (λ (h : Handler). block_of h.block)
+handlers_are func = length-map func.handlers blocks_of
 
 pub returns-then-not-is_low-clause-runs : goal.returns-then-not-is_low-clause-runs
 returns-then-not-is_low-clause-runs g c =
@@ -39,7 +39,7 @@ pub run_made-handled-requires-clause-made : goal.run_made-handled-requires-claus
 run_made-handled-requires-clause-made g c = λ κs lives.
     let n = length c.args.func.now.handlers in
     let made = made_at c.args.asked n c.len-ports.result c.count.result c.in-Ok.captures c.len-ports.ensures.value c.count.ensures.value c.in-Ok.ensures in
-    are_packets c.args.asked n c.in-Ok.captures c.as_slice-numbers.result.now c.captures_are_traffic.ensures (omega (arith, c.count.ensures.value, c.count.ensures.within)) c.requires.some_port c.requires.few_ports made
+    are_packets (six_ports (function_of c.args.func.now)) c.args.asked n c.in-Ok.captures c.as_slice-numbers.result.now c.captures_are_traffic.ensures (omega (arith, c.count.ensures.value, c.count.ensures.within)) c.requires.some_port c.requires.few_ports made
     (c.as_slice-numbers.ensures.value ∙ c.in-Ok-numbers.ensures.value)
 
 pub run_made-handled-requires-clause-ports : goal.run_made-handled-requires-clause-ports

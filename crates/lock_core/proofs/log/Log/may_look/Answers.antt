@@ -1,6 +1,5 @@
 use Rattle.std.proofs.Common.{sym, subst}
 use Rattle.nf_base.specs.Functions.{function_of}
-use Rattle.lock_core.specs.declared.call.Ordered.{Ordered}
 use Rattle.lock_core.specs.Calls.{history}
 use Rattle.lock_core.specs.Events.{ComesTo}
 use Rattle.lock_core.proofs.log.Log.may_look.Goals as goal

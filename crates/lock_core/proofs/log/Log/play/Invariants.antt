@@ -1,6 +1,5 @@
 -- the events so far were played, and the others may still come
 use Rattle.std.proofs.Common.{◌≡◌, List, map, take, drop}
-use Rattle.nf_base.specs.Functions.{function_of}
 use Rattle.lock_core.specs.Events.{Turn, Plays, AreValid}
 use Rattle.lock_core.specs.Logs.{state_in, with_order}
 use Rattle.lock_core.proofs.log.Log.play.Given as goal

@@ -19,8 +19,8 @@ invariant_of-self-2 c =
     let log = c.args.self.now in
     let look : Ordered = record { seat = c.args.seat; way = way.Look; packet = c.args.packet.now; done = c.again.result } in
     let at = c.place_behind-place.ensures.value ∙ ap (place_behind c.args.prefix) c.as_slice-2.ensures.value in
-    let kept = look_kept_if (is_ok c.insert.result) (function_of log.func) log.order.items look log.entries c.args.prefix c.place_behind-place.result log.tables c.insert.new.self.items log.comes log.long log.ports c.requires.valid.port refl at c.insert.ensures.items in
-    record { decls = log.decls; whole = log.whole; comes = kept.0; long = kept.1; ports = kept.2 }
+    let kept = look_kept_if (is_ok c.insert.result) (function_of log.func) log.order.items look log.entries c.args.prefix c.place_behind-place.result log.tables c.insert.new.self.items log.comes log.long log.packets (c.requires.valid.port, c.requires.valid.served) refl at c.insert.ensures.items in
+    record { decls = log.decls; whole = log.whole; comes = kept.0; long = kept.1; packets = kept.2 }
 
 pub returns-clause-order : goal.returns-clause-order
 returns-clause-order c =

@@ -43,5 +43,5 @@ returns-clause-next g c =
     let inv = c.self.invariant in
     let e : Entry = record { seat = c.args.seat; number = c.index.result.now; packet = c.args.packet.now; done = c.handle_whole-done.result } in
     let grown : c.add.new.self ≡ tail.front ++ e ∷ [] = c.if-not-add.ensures in
-    is_next g.J.Naming.function c.handle_whole-done.new.tables tail.front c.add.new.self e grown c.requires.port
+    is_next g.J.Naming.function c.handle_whole-done.new.tables tail.front c.add.new.self e grown c.requires.port c.requires.served
     (ran_with g.J.Naming.function (function_of tail.func) tail.tables c.handle_whole-done.new.tables tail.front c.add.new.self e inv.same inv.ran c.handle_whole-done.ensures.steps c.handle_whole-done.ensures.same grown)

@@ -1,4 +1,4 @@
-use Rattle.std.proofs.Common.{◌≡◌, ◌≤◌, ◌<◌, ◌^◌, ◌⊎◌, inl, inr, ℕ, ◌+◌, length, take, sym, arith}
+use Rattle.std.proofs.Common.{◌≡◌, ◌≤◌, ◌<◌, ◌⊎◌, inl, inr, ℕ, length, take, arith}
 use Rattle.std.proofs.lemmas.List.{length-take}
 use Rattle.made_captures.specs.Outputs.{Counting, journal_of}
 use Rattle.made_captures.proofs.Counting.{writes_beside, same_beside, known_after}

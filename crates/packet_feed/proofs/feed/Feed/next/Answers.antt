@@ -1,7 +1,7 @@
 use Rattle.std.proofs.Common.{◌∙◌, ◌+◌, sym, ap, subst, arith}
 use Rattle.packet_feed.specs.Feeding.{Feeding}
-use Rattle.packet_feed.specs.Sources.{SourcesStand, files_in, AreFrom}
-use Rattle.packet_feed.proofs.Nexts.{next_stands, next_shown, next_files, next_feeding, has_more_at, are_all, are_torn}
+use Rattle.packet_feed.specs.Sources.{SourcesStand, files_in, sixes_in, AreFrom}
+use Rattle.packet_feed.proofs.Nexts.{next_stands, next_shown, next_files, next_sixes, next_feeding, has_more_at, are_all, are_torn}
 use Rattle.packet_feed.proofs.Times.{gives_from}
 use Rattle.packet_feed.proofs.feed.Feed.next.Goals as goal
 
@@ -47,6 +47,10 @@ returns-else-self-clause-counts g c =
 pub returns-else-self-clause-same_files : goal.returns-else-self-clause-same_files
 returns-else-self-clause-same_files g c =
     next_files c.in-Some.first.port c.give-packet.result c.fill_all.new.sources c.give-packet.new.sources c.give-packet.ensures ∙ c.fill_all.ensures.same_files ∙ ap (λ (v : Feeding). files_in v.sources) c.self.view_is
+
+pub returns-else-self-clause-same_six : goal.returns-else-self-clause-same_six
+returns-else-self-clause-same_six g c =
+    next_sixes c.in-Some.first.port c.give-packet.result c.fill_all.new.sources c.give-packet.new.sources c.give-packet.ensures ∙ c.fill_all.ensures.same_six ∙ ap (λ (v : Feeding). sixes_in v.sources) c.self.view_is
 
 pub returns-then-self-clause-times : goal.returns-then-self-clause-times
 returns-then-self-clause-times g c = λ time h. c.in_ok-fill_all.ensures.later time (subst (λ (v : Feeding). AreFrom time v.sources) (sym c.self.view_is) h)

@@ -2,10 +2,10 @@ use Rattle.std.proofs.Common.{◌∙◌, ◌<◌, ◌+◌, List, length, sym, ap
 use Rattle.packet_feed.specs.Streams.{Stream}
 use Rattle.packet_feed.specs.Feeding.{Feeding}
 use Rattle.packet_feed.specs.Told.{packets_of}
-use Rattle.packet_feed.specs.Sources.{files_in}
+use Rattle.packet_feed.specs.Sources.{files_in, sixes_in}
 use Rattle.packet_feed.specs.Ports.{SourcesStandByPort, AreAllOf}
 use Rattle.packet_feed.proofs.Standing.{same_length}
-use Rattle.packet_feed.proofs.Nexts.{next_shown, next_files, next_feeding}
+use Rattle.packet_feed.proofs.Nexts.{next_shown, next_files, next_sixes, next_feeding}
 use Rattle.packet_feed.proofs.ByPort.{next_by_port, same_port, all_of_port}
 use Rattle.packet_feed.proofs.feed.Feed.next_at.Goals as goal
 
@@ -28,7 +28,7 @@ returns-in-None-clause-feeds g c = λ start given h.
         count = h.count ∙ ap (λ (v : Feeding). v.given) (sym c.self.view_is);
         sources = subst (λ (xs : List Stream). SourcesStandByPort start given xs now) (sym same) stands;
       },
-      subst (λ (xs : List Stream). AreAllOf c.args.port (packets_of (files_in xs) start) given) (sym same)
+      subst (λ (xs : List Stream). AreAllOf c.args.port (packets_of (sixes_in xs) (files_in xs) start) given) (sym same)
           (all_of_port start given c.fill_at.new.sources now c.args.port inside ok.settled c.in-None.ensures.1 stands),
     )
 
@@ -48,3 +48,7 @@ returns-in-Some-clause-counts g c =
 pub returns-in-Some-clause-same_files : goal.returns-in-Some-clause-same_files
 returns-in-Some-clause-same_files g c =
     next_files c.args.port c.in-Some.packet c.fill_at.new.sources c.give_at.new.sources c.in-Some.ensures.0 ∙ c.fill_at.ensures.same_files ∙ ap (λ (v : Feeding). files_in v.sources) c.self.view_is
+
+pub returns-in-Some-clause-same_six : goal.returns-in-Some-clause-same_six
+returns-in-Some-clause-same_six g c =
+    next_sixes c.args.port c.in-Some.packet c.fill_at.new.sources c.give_at.new.sources c.in-Some.ensures.0 ∙ c.fill_at.ensures.same_six ∙ ap (λ (v : Feeding). sixes_in v.sources) c.self.view_is

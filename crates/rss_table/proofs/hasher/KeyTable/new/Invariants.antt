@@ -7,6 +7,6 @@ use Rattle.rss_table.proofs.hasher.KeyTable.new.Given as goal
 abbrev pub invariant-loop-k : goal.invariant-loop-k
 invariant-loop-k l = record {
   len : vec_len l.hashes ≡ l.k;
-  room : vec_capacity l.hashes ≡ 3072;
+  room : vec_capacity l.hashes ≡ 9216;
   each : (j : ℕ) → j < l.k → get_or l.hashes.items j 0 ≡ toeplitz_of (drop (j / 256) l.key) ((j % 256) ∷ []);
 }

@@ -1,5 +1,7 @@
 use Rattle.std.proofs.Common.{◌≡◌, ◌<◌, ◌+◌, ◌∷◌, ◌++◌, [], ℕ, length, Some, slice_get, slice_set, ap, sym, ◌∙◌, subst}
 use Rattle.std.proofs.lemmas.Option.{slice_get_read}
+use Rattle.nf_base.specs.Doors.{IsServed}
+use Rattle.nf_base.specs.Functions.{function_of}
 use Rattle.rss_table.specs.Tables.{queue_of}
 use Rattle.shard_core.specs.Held.{SameButRoom, GivenOne}
 use Rattle.shard_core.specs.Sharded.{Sharded, sharded_of, IsWhole, IsSharded, GivenTo, SameButRooms, HasRoom}
@@ -22,10 +24,11 @@ invariant_of-self c =
     let lt = queue_below i.func i.keys i.count i.workers i.queues.items i.table q c.self.invariant c.queue_by-queue.ensures.below in
     let at : slice_get i.workers q ≡ Some before = slice_get_read i.workers i.count q before (sym whole) lt c.item_mut.ensures.value in
     let port = subst (λ (v : Sharded). c.args.packet.now.id.port < length v.func.handlers) (sym c.self.view_is) c.requires.port in
+    let served = subst (λ (v : Sharded). IsServed (function_of v.func) c.args.packet.now) (sym c.self.view_is) c.requires.served in
     on_both c.give_to.result (GivenOne c.args.packet.now before after × (c.give_to.new.queues.items ≡ i.queues.items ++ q ∷ [])) (SameButRoom before after × (c.give_to.new.queues.items ≡ i.queues.items)) (IsSharded i.func i.keys i.count (slice_set i.workers q after) c.give_to.new.queues.items i.table)
     (on_ok c.give_to.result (GivenOne c.args.packet.now before after) (c.give_to.new.queues.items ≡ i.queues.items ++ q ∷ []) (GivenOne c.args.packet.now before after × (c.give_to.new.queues.items ≡ i.queues.items ++ q ∷ [])) c.give_to.ensures.given c.give_to.ensures.queued (λ n e. (n, e)))
     (on_err c.give_to.result (SameButRoom before after) (c.give_to.new.queues.items ≡ i.queues.items) (SameButRoom before after × (c.give_to.new.queues.items ≡ i.queues.items)) c.give_to.ensures.err c.give_to.ensures.unqueued (λ n e. (n, e)))
-    (λ n. given_sharded i.func i.keys i.count i.workers i.queues.items c.give_to.new.queues.items i.table q c.args.packet.now before after c.self.invariant at lt port n.0 n.1)
+    (λ n. given_sharded i.func i.keys i.count i.workers i.queues.items c.give_to.new.queues.items i.table q c.args.packet.now before after c.self.invariant at lt port served n.0 n.1)
     (λ n. same_sharded i.func i.keys i.count i.workers i.queues.items c.give_to.new.queues.items i.table q before after c.self.invariant at n.0 n.1)
 
 pub returns-clause-given : goal.returns-clause-given

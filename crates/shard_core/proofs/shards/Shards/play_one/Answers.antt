@@ -12,7 +12,7 @@ returns-in-Ok-clause-stands c = λ x m h.
 pub returns-in-Work-clause-stands : goal.returns-in-Work-clause-stands
 returns-in-Work-clause-stands c = λ x m h.
     let old = c.args.self.now in
-    let lt = subst (λ (e : Event). IsValid (length old.func.handlers) (length old.workers) e) c.in-Work.is c.requires.valid in
+    let lt = subst (λ (e : Event). IsValid old.func (length old.workers) e) c.in-Work.is c.requires.valid in
     subst (λ (e : Event). Played x m (e ∷ []) [] c.work.new.self) (sym c.in-Work.is) (one_worked x m c.in-Work.w c.work.result old c.work.new.self h lt (c.work.ensures.stands x m h))
 
 pub returns-in-Collect-clause-stands : goal.returns-in-Collect-clause-stands

@@ -1,6 +1,7 @@
 use Rattle.std.proofs.Common.{◌≡◌, ◌<◌, length, Some, slice_get, slice_set, refl, sym, subst}
 use Rattle.std.proofs.lemmas.Option.{slice_get_read}
 use Rattle.nf_base.specs.declared.packet.Packet.{Packet}
+use Rattle.nf_base.specs.Doors.{IsServed}
 use Rattle.nf_base.specs.Functions.{function_of}
 use Rattle.shard_core.specs.Sharded.{Sharded, sharded_of, WorkedAt, HasRoom}
 use Rattle.shard_core.proofs.Changing.{worker_of, works_waiting, changed_sharded, changed_room}
@@ -13,8 +14,9 @@ invariant_of-self c =
     let at : slice_get i.workers c.args.w ≡ Some before = slice_get_read i.workers (length i.workers) c.args.w before refl (subst (λ (v : Sharded). c.args.w < length v.workers) (sym c.self.view_is) c.requires) c.item_mut.ensures.value in
     let is = c.self.invariant.each c.args.w before at in
     changed_sharded i.func i.keys i.count i.workers i.queues.items i.table c.args.w c.work.new.self c.self.invariant
-    (worker_of i.func.chains (length i.func.handlers) i.count c.args.w before c.work.new.self is c.work.ensures.fixed
-    (works_waiting (λ (p : Packet). p.id.port < length i.func.handlers) (function_of i.func) c.work.result before c.work.new.self c.work.ensures.works is.ports_are))
+    (worker_of i.func i.count c.args.w before c.work.new.self is c.work.ensures.fixed
+    (works_waiting (λ (p : Packet). p.id.port < length i.func.handlers) (function_of i.func) c.work.result before c.work.new.self c.work.ensures.works is.ports_are)
+    (works_waiting (IsServed (function_of i.func)) (function_of i.func) c.work.result before c.work.new.self c.work.ensures.works is.served_are))
 
 pub returns-clause-works : goal.returns-clause-works
 returns-clause-works c =
