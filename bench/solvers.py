@@ -29,23 +29,22 @@ if answer == z3.sat:
 
 @dataclass(frozen=True)
 class Question:
-    """How many keys are to be found, and the places of each object, with a key's number for each port. Keys are one
-    vector, as keys.py has them."""
-    keys: int
+    """Which keys are to be found, and the places of each object. Keys are one vector, as keys.py has them."""
+    of: keys.Layout
     objects: tuple
 
     @cached_property
     def pairs(self):
         """Pairs of inputs of which it is enough that each two hash alike."""
-        return keys.alike(RSS, self.objects)
+        return keys.alike(self.objects)
 
     @cached_property
     def rows(self):
-        return sorted(keys.equations(RSS, self.pairs))
+        return sorted(keys.equations(self.of, self.pairs))
 
     @cached_property
     def groups(self):
-        return keys.groups(RSS, self.keys)
+        return keys.groups(self.of, self.objects)
 
     def is_answer(self, vector):
         """Whether these keys satisfy all that is asked."""
@@ -53,10 +52,9 @@ class Question:
         return even and all(any(vector >> at & 1 for at in group) for group in self.groups)
 
 
-def question(objects):
-    """What is asked of the keys for some objects, each the list of its places."""
-    keyed, placed = keys.numbered(objects)
-    return Question(len(keyed), tuple(map(tuple, placed)))
+def question(found):
+    """What is asked of the keys of an analysed function."""
+    return Question(keys.layout(found.plan, found.lengths), tuple(map(tuple, found.plan)))
 
 
 # ---- Z3, in the words of SMT-LIB. A vector's first bit is the highest of a bit-vector.
@@ -65,9 +63,14 @@ def bits(of, length, first, last):
     return f"((_ extract {length - 1 - first} {length - 1 - last}) {of})"
 
 
-def window(key, at):
-    """The bits of a key that a bit of the input meets."""
-    return bits(f"key{key}", RSS.positions, at, at + RSS.bits - 1)
+def window(of, port, at):
+    """The bits of a port's key that a bit of the input meets."""
+    return bits(f"key{port}", of.lengths[port], at, at + RSS.bits - 1)
+
+
+def ones(given):
+    """The bits of an input that are 1."""
+    return [at for at in range(given.bit_length()) if given >> at & 1]
 
 
 def total(terms):
@@ -93,27 +96,28 @@ class Z3:
 
     def text(self, asked):
         lines = [f"(set-logic {self.logic})"]
-        names, zero = [f"key{key}" for key in range(asked.keys)], f"(_ bv0 {len(RSS.spreading)})"
-        lines += [f"(declare-const {name} (_ BitVec {RSS.positions}))" for name in names]
-        for name in names:
-            index = bits(name, RSS.positions, RSS.spreading[0], RSS.spreading[-1])
-            lines.append(f"(assert (not (= {index} {zero})))")
+        names = [f"key{port}" for port in asked.of.lengths]
+        lines += [f"(declare-const key{port} (_ BitVec {each}))" for port, each in asked.of.lengths.items()]
+        for port, of in {(it.port, it.of) for places in asked.objects for it in places}:
+            index = bits(f"key{port}", asked.of.lengths[port], of.spreading[0], of.spreading[-1])
+            lines.append(f"(assert (not (= {index} (_ bv0 {len(of.spreading)}))))")
         lines += [f"(assert {it})" for it in self.constraints(asked)]
         return "\n".join([*lines, "(check-sat)", *([f"(get-value ({' '.join(names)}))"] if names else []), ""])
 
     def constraints(self, asked):
-        for key, one, other, two in sorted(asked.pairs):
-            sums = [total([window(number, at) for at in range(RSS.inputs) if given >> at & 1])
-                    for number, given in ((key, one), (other, two))]
+        for port, one, _, other, two in sorted(asked.pairs):
+            sums = [total([window(asked.of, key, at) for at in ones(given)])
+                    for key, given in ((port, one), (other, two))]
             yield f"(= {' '.join(sums)})"
 
-    def answer(self, said):
+    def answer(self, said, of):
         """The vector of the keys that were found, None where there are none."""
         if said.startswith("unsat"):
             return None
-        found, width = 0, RSS.positions
-        for key, sign, digits in re.findall(r"key(\d) #([bx])([0-9a-f]+)", said):
-            found |= keys.vector(int(digits, 2 if sign == "b" else 16), width) << int(key) * width
+        found = 0
+        for port, sign, digits in re.findall(r"key(\d) #([bx])([0-9a-f]+)", said):
+            value = keys.vector(int(digits, 2 if sign == "b" else 16), of.lengths[int(port)])
+            found |= value << of.starts[int(port)]
         return found
 
 
@@ -124,19 +128,20 @@ class Z3OverInputs(Z3):
     name, logic = "z3, inputs", "BV"
 
     def constraints(self, asked):
-        inputs = f"(p (_ BitVec {RSS.inputs})) (q (_ BitVec {RSS.inputs}))"
         for places in asked.objects:
-            for (key, left), (other, right) in combinations_with_replacement(sorted(set(places)), 2):
-                agree = [f"(= {self.field('p', one)} {self.field('q', two)})" for one, two in zip(left, right)]
-                equal = f"(= {self.hash(key, 'p')} {self.hash(other, 'q')})"
+            for left, right in combinations_with_replacement(sorted(set(places), key=repr), 2):
+                inputs = f"(p (_ BitVec {left.of.inputs})) (q (_ BitVec {right.of.inputs}))"
+                both = zip(left.fields, right.fields)
+                agree = [f"(= {self.field('p', left.of, x)} {self.field('q', right.of, y)})" for x, y in both]
+                equal = f"(= {self.hash(asked.of, left, 'p')} {self.hash(asked.of, right, 'q')})"
                 yield f"(forall ({inputs}) (=> (and true {' '.join(agree)}) {equal}))"
 
-    def field(self, given, name):
-        return bits(given, RSS.inputs, RSS.at(name)[0], RSS.at(name)[-1])
+    def field(self, given, of, name):
+        return bits(given, of.inputs, of.at(name)[0], of.at(name)[-1])
 
-    def hash(self, key, given):
-        ones = [f"(= {bits(given, RSS.inputs, at, at)} #b1)" for at in range(RSS.inputs)]
-        return total([f"(ite {one} {window(key, at)} #x00000000)" for at, one in enumerate(ones)])
+    def hash(self, of, place, given):
+        each = [f"(= {bits(given, place.of.inputs, at, at)} #b1)" for at in range(place.of.inputs)]
+        return total([f"(ite {one} {window(of, place.port, at)} #x00000000)" for at, one in enumerate(each)])
 
 
 # ---- CryptoMiniSat, in the words of DIMACS, with XOR clauses
@@ -149,13 +154,14 @@ class CryptoMiniSat:
         return ["cryptominisat5"] if shutil.which("cryptominisat5") else None
 
     def text(self, asked):
-        lines = [f"p cnf {asked.keys * RSS.positions} {len(asked.rows) + len(asked.groups)}"]
+        lines = [f"p cnf {asked.of.unknowns} {len(asked.rows) + len(asked.groups)}"]
         # An XOR clause is a sum of 1. The sum is 0 where that with the first bit turned is 1.
         lines += [f"x-{clause(at for at in range(row.bit_length()) if row >> at & 1)}" for row in asked.rows]
         lines += [clause(group) for group in asked.groups]
         return "\n".join([*lines, ""])
 
-    def answer(self, said):
+    def answer(self, said, of):
+        """The vector of the keys in a layout that were found, None where there are none."""
         if "s UNSATISFIABLE" in said:
             return None
         found = [int(it) for line in said.splitlines() if line.startswith("v ") for it in line.split()[1:]]

@@ -5,11 +5,11 @@ from dataclasses import dataclass
 
 import tree
 from faults import first_fault
-from keys import DEFAULT, RSS, given_keys, key_of, text_of
+from keys import DEFAULT, RSS, RSS6, Place, given_keys, key_of, text_of
 from language import place_of, read
 
 MOST_PATHS = 4096
-HASHED = {"src_ip": 32, "dst_ip": 32, "src_port": 16, "dst_port": 16}
+HASHED = dict(RSS.fields + RSS6.fields)
 ARRAY_LABEL, INDEX_BITS = "index", 16
 # Each comparison as one of `==`, `<` and `<=`, and whether outcomes are exchanged.
 BROUGHT = {"==": ("==", True), "<": ("<", True), "<=": ("<=", True), "!=": ("==", False), ">=": ("<", False),
@@ -122,9 +122,10 @@ def walked(block, at=0):
 # ---- sites
 @dataclass
 class Site:
-    """A site of an object: its port, its place in the text, what it does, the labels that it names, and the field that
-    it knows of each label."""
+    """A site of an object: its port, whether it is in the handler for IPv6, its place in the text, what it does, the
+    labels that it names, and the field that it knows of each label."""
     port: int
+    six: bool
     place: tuple
     sort: str
     named: set
@@ -198,8 +199,8 @@ class Object:
                 found[label] = plain[by]
         return found
 
-    def add(self, port, place, sort, named):
-        self.sites.append(Site(port, place, sort, set(named), self.known(named)))
+    def add(self, door, place, sort, named):
+        self.sites.append(Site(*door, place, sort, set(named), self.known(named)))
 
     @property
     def kept(self):
@@ -208,9 +209,11 @@ class Object:
 
     @property
     def places(self):
-        """Of each site the number of its port, and the fields that it knows of the kept labels."""
+        """Each site as keys see it, with the fields that it knows of the kept labels."""
         kept = self.kept
-        return [(site.port, tuple(site.known[it] for it in kept)) for site in self.sites]
+        return [
+            Place(site.port, RSS6 if site.six else RSS, tuple(site.known[it] for it in kept)) for site in self.sites
+        ]
 
     @property
     def rule(self):
@@ -222,58 +225,72 @@ class Object:
 
 
 class Analysis:
-    """A function without a fault, analysed. TooManyPaths is raised at the least port that has too many."""
+    """A function without a fault, analysed. TooManyPaths is raised at the least port that has too many, at its handler
+    for IPv4 first. A door is a port, and whether it is the one for IPv6."""
 
     def __init__(self, function):
         self.function = function
-        handlers = {port: (block, at) for (port, block), at in zip(function.handlers, function.ons)}
-        self.walks = [walked(*handlers[port]) for port in range(function.ports)]
-        self.paths = [count for count, _ in self.walks]
-        statements = [it for _, block in function.handlers for it in all_statements(block)]
+        walks = {door: walked(it.block, it.at) for door, it in sorted(function.by_door.items())}
+        self.paths = {door: count for door, (count, _) in walks.items()}
+        statements = [it for handler in function.handlers for it in all_statements(handler.block)]
         self.objects = {it.name: Object(it, statements) for it in function.declared}
-        for port, (_, met) in enumerate(self.walks):
+        for door, (_, met) in walks.items():
             for statement in met:
-                self.sites_of(port, statement)
+                self.sites_of(door, statement)
         for it in self.objects.values():
-            it.sites.sort(key=lambda site: (site.port, site.place))
+            it.sites.sort(key=lambda site: (site.port, site.six, site.place))
         self.judge()
 
-    def sites_of(self, port, it):
+    def sites_of(self, door, it):
         """Adds the sites of a statement."""
         for value in expressions(it):
             for operand in operands(value):
                 if isinstance(operand, tree.Cell):
                     named = {ARRAY_LABEL: operand.index}
-                    self.objects[operand.array].add(port, (operand.array.at, 0), "load", named)
+                    self.objects[operand.array].add(door, (operand.array.at, 0), "load", named)
         if isinstance(it, tree.Store):
-            self.objects[it.array].add(port, (it.array.at, 0), "store", {ARRAY_LABEL: it.index})
+            self.objects[it.array].add(door, (it.array.at, 0), "store", {ARRAY_LABEL: it.index})
         if isinstance(it, tree.Get):
             chain = self.objects[it.chain]
             named = dict(zip(chain.declared.maps[it.map], it.key))
-            chain.add(port, (it.at, 0), f"get {it.map}", named)
+            chain.add(door, (it.at, 0), f"get {it.map}", named)
         if isinstance(it, tree.Find):
-            self.objects[it.chain].add(port, (it.at, 0), "find", dict(it.guard))
+            self.objects[it.chain].add(door, (it.at, 0), "find", dict(it.guard))
         if isinstance(it, tree.New):
             chain, gives = self.objects[it.chain], dict(it.gives)
-            chain.add(port, (it.at, 0), "new", gives)
+            chain.add(door, (it.at, 0), "new", gives)
             for number, (name, labels) in enumerate(chain.declared.maps.items()):
-                chain.add(port, (it.at, 1 + number), f"name {name}", {label: gives[label] for label in labels})
+                chain.add(door, (it.at, 1 + number), f"name {name}", {label: gives[label] for label in labels})
 
     def judge(self):
         """Finds the keys, or the cause for which there are none."""
         shared = [it for it in self.objects.values() if it.written and it.sites]
         self.plan = [it.places for it in shared]
-        self.keys = given_keys(RSS, self.function.ports, self.plan, key_of(DEFAULT))
+        self.keys = self.keys_near(key_of(DEFAULT))
         self.cause = "hash"
         for it in reversed(shared):
             if not it.kept:
                 self.cause = f"{it.name} {it.rule}"
 
+    @property
+    def lengths(self):
+        """How many bits of each port's key its packets may meet."""
+        of = self.function
+        return [(RSS6 if of.has_six(port) else RSS).positions for port in range(of.ports)]
+
+    def keys_near(self, default):
+        """The given keys by another default key."""
+        return given_keys(self.plan, default, self.lengths)
+
     # ---- texts
     def check(self):
         it = self.function
-        paths = " ".join(map(str, self.paths))
+        paths = " ".join(self.counts(port) for port in range(it.ports))
         return f"ok {it.name}: ports {it.ports}, chains {len(it.chains)}, arrays {len(it.arrays)}, paths {paths}\n"
+
+    def counts(self, port):
+        """How many paths a port's handlers have."""
+        return "/".join(str(self.paths[door]) for door in ((port, False), (port, True)) if door in self.paths)
 
     def verdict(self):
         """What `keys` prints."""
@@ -292,7 +309,7 @@ class Analysis:
             lines.append(f"object {it.name} rule {it.rule} keeps {' '.join(it.kept) or '-'}")
             for site in it.sites:
                 known = " ".join(f"{label}={field}" for label, field in site.known.items()) or "-"
-                lines.append(f"site {site.port} {site.sort} {known}")
+                lines.append(f"site {site.port} {'six ' if site.six else ''}{site.sort} {known}")
         return "".join(f"{line}\n" for line in lines)
 
     def explain(self):

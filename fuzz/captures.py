@@ -11,7 +11,7 @@ FORMS = {
 }
 LATEST, LONGEST_FRAME = 4_294_967_295_999_999_999, 262_144
 OUTPUT_HEADER = bytes.fromhex("4d3cb2a1 02000400 00000000 00000000 00000400 01000000")
-ETHERNET, IPV4, TCP, UDP = 1, 0x0800, 6, 17
+ETHERNET, IPV4, IPV6, TCP, UDP = 1, 0x0800, 0x86DD, 6, 17
 
 
 @dataclass
@@ -48,30 +48,42 @@ def output_record(time, length, frame):
     return struct.pack("<4I", time // 10**9, time % 10**9, len(frame), length) + frame
 
 
+def is_six(frame):
+    """Whether a handled frame is one of IPv6."""
+    return frame[12:14] == IPV6.to_bytes(2, "big")
+
+
 def segment_at(frame):
-    """Where a handled frame's TCP or UDP header begins: behind the IP header (RFC 791 section 3.1)."""
-    return 14 + 4 * (frame[14] & 15)
+    """Where a handled frame's TCP or UDP header begins: behind the IP header (RFC 791 section 3.1), which has 40 bytes
+    in IPv6 (RFC 8200 section 3)."""
+    return 54 if is_six(frame) else 14 + 4 * (frame[14] & 15)
 
 
 def fields_of(record):
-    """The fields of a handled packet, None for one that is skipped: handled is IPv4 in Ethernet, no fragment, with the
-    first 20 bytes of TCP (RFC 9293 section 3.1) or 8 of UDP (RFC 768)."""
+    """The fields of a packet that may be handled, None for one that is skipped: IPv4 in Ethernet, no fragment, or IPv6
+    without extension headers, with the first 20 bytes of TCP (RFC 9293 section 3.1) or 8 of UDP (RFC 768)."""
     frame = record.frame
 
     def number(at, size):
         return int.from_bytes(frame[at:at + size], "big")
 
-    if len(frame) < 34 or number(12, 2) != IPV4 or not 0x45 <= frame[14] <= 0x4F:
-        return None
-    if number(20, 2) & 0x3FFF or frame[23] not in (TCP, UDP):
-        return None
+    six = number(12, 2) == IPV6
+    if six:
+        if len(frame) < 54 or frame[14] >> 4 != 6:
+            return None
+        proto, ttl = frame[20], frame[21]
+        addresses = {"src_ip6": number(22, 16), "dst_ip6": number(38, 16)}
+    else:
+        if len(frame) < 34 or number(12, 2) != IPV4 or not 0x45 <= frame[14] <= 0x4F or number(20, 2) & 0x3FFF:
+            return None
+        proto, ttl = frame[23], frame[22]
+        addresses = {"src_ip": number(26, 4), "dst_ip": number(30, 4)}
     at = segment_at(frame)
-    if len(frame) < at + (20 if frame[23] == TCP else 8):
+    if proto not in (TCP, UDP) or len(frame) < at + (20 if proto == TCP else 8):
         return None
     return {
         "time": record.time, "length": record.length, "dst_mac": number(0, 6), "src_mac": number(6, 6),
-        "src_ip": number(26, 4), "dst_ip": number(30, 4), "proto": frame[23], "ttl": frame[22],
-        "src_port": number(at, 2), "dst_port": number(at + 2, 2),
+        **addresses, "proto": proto, "ttl": ttl, "src_port": number(at, 2), "dst_port": number(at + 2, 2),
     }
 
 
@@ -88,24 +100,28 @@ def updated(checksum, before, after, places):
 
 
 def edited(frame, edits):
-    """A handled frame with its edits, and both checksums brought up to date."""
-    segment = segment_at(frame)
-    places = {
-        "dst_mac": (0, 6), "src_mac": (6, 6), "ttl": (22, 1), "src_ip": (26, 4), "dst_ip": (30, 4),
-        "src_port": (segment, 2), "dst_port": (segment + 2, 2),
+    """A handled frame with its edits, and its checksums brought up to date. IPv6 has none of its own."""
+    segment, six = segment_at(frame), is_six(frame)
+    own = {"ttl": (21, 1), "src_ip6": (22, 16), "dst_ip6": (38, 16)} if six else {
+        "ttl": (22, 1), "src_ip": (26, 4), "dst_ip": (30, 4),
     }
+    places = {
+        "dst_mac": (0, 6), "src_mac": (6, 6), **own, "src_port": (segment, 2), "dst_port": (segment + 2, 2),
+    }
+    proto = frame[20] if six else frame[23]
+    addresses = range(22, 54, 2) if six else range(26, 34, 2)
     made = bytearray(frame)
     for field, value in edits.items():
         at, size = places[field]
         made[at:at + size] = value.to_bytes(size, "big")
-    addresses = (26, 28, 30, 32)
-    put_checksum(made, 24, updated(int.from_bytes(frame[24:26], "big"), frame, made, (22, *addresses)))
-    at = segment + (6 if frame[23] == UDP else 16)
+    if not six:
+        put_checksum(made, 24, updated(int.from_bytes(frame[24:26], "big"), frame, made, (22, *addresses)))
+    at = segment + (6 if proto == UDP else 16)
     checksum = int.from_bytes(frame[at:at + 2], "big")
-    if frame[23] == TCP or checksum:
+    if proto == TCP or checksum:
         checksum = updated(checksum, frame, made, (*addresses, segment, segment + 2))
         # RFC 768: 0 would say that there is none.
-        put_checksum(made, at, 0xFFFF if frame[23] == UDP and not checksum else checksum)
+        put_checksum(made, at, 0xFFFF if proto == UDP and not checksum else checksum)
     return bytes(made)
 
 

@@ -1,8 +1,8 @@
-"""The first fault of a text, by the grammar and by the rules `T01` to `T08` of docs/FORMATS.md."""
+"""The first fault of a text, by the grammar and by the rules `T01` to `T09` of docs/FORMATS.md."""
 import tree
 from language import Fault, place_of, read
 
-WIDTHS = (8, 16, 32, 48, 64)
+WIDTHS = (8, 16, 32, 48, 64, 128)
 UNSETTABLE = ("time", "length", "proto")
 
 
@@ -14,6 +14,8 @@ class Rules:
         self.faults = []
         self.names, self.maps = set(), 0
         self.looks = self.news = 0
+        # The fields that the handler may not name.
+        self.others = ()
 
     def refuse_if(self, wrong, kind, at):
         if wrong:
@@ -30,13 +32,15 @@ class Rules:
             self.declared(declared)
             self.array(declared) if kind == "array" else self.chain(declared)
         seen = set()
-        for port, block in function.handlers:
-            self.refuse_if(port in seen, "T02", port.at)
-            self.refuse_if(port >= function.ports, "T07", port.at)
-            seen.add(port)
+        for it in function.handlers:
+            self.refuse_if((it.port, it.six) in seen, "T02", it.port.at)
+            self.refuse_if(it.port >= function.ports, "T07", it.port.at)
+            seen.add((it.port, it.six))
             self.looks = self.news = 0
-            self.block(block, {})
-        self.refuse_if(len([port for port in seen if port < function.ports]) < function.ports, "T08", function.end)
+            self.others = tree.ADDRESSES[not it.six]
+            self.block(it.block, {})
+        handled = [port for port, six in seen if port < function.ports and not six]
+        self.refuse_if(len(handled) < function.ports, "T08", function.end)
         return self.faults
 
     # ---- declarations
@@ -150,6 +154,7 @@ class Rules:
 
     def set(self, it, scope):
         self.refuse_if(it.field in UNSETTABLE, "T05", it.field.at)
+        self.field(it.field)
         self.sum(it.value, scope)
 
     def write(self, it, scope):
@@ -169,8 +174,13 @@ class Rules:
     def cells(self, name):
         self.refuse_if(name not in self.function.arrays, "T01", name.at)
 
+    def field(self, name):
+        self.refuse_if(name in self.others, "T09", name.at)
+
     def sum(self, it, scope):
-        if isinstance(it, tree.Operation):
+        if isinstance(it, tree.Field):
+            self.field(it.name)
+        elif isinstance(it, tree.Operation):
             self.sum(it.left, scope)
             self.sum(it.right, scope)
         elif isinstance(it, tree.Cell):

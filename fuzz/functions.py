@@ -1,17 +1,26 @@
 """Random functions: texts of the whole language, without a fault."""
+import re
 from dataclasses import dataclass, field
 
-WIDTHS = (8, 16, 32, 48, 64)
+WIDTHS = (8, 16, 32, 48, 64, 128)
 FIELDS = ("time", "length", "src_mac", "dst_mac", "src_ip", "dst_ip", "proto", "ttl", "src_port", "dst_port")
 SETTABLE = ("src_mac", "dst_mac", "src_ip", "dst_ip", "ttl", "src_port", "dst_port")
 # In nanoseconds. The packets' steps of time (in packets.py) reach them, and pass them by one.
 LIFETIMES = (0, 5, 20, 1000, 2**64 - 1)
 # Values that few packets differ in, so that keys are met again.
 FEW = ("src_port % 3", "src_ip & 3", "dst_port", "src_ip", "dst_ip & 1", "7")
+# An address, which handlers name by their version of IP.
+ADDRESS = re.compile(r"\b(src|dst)_ip6?\b")
 STATEMENTS = ("get", "get", "find", "find", "new", "new", "new", "if", "if", "touch", "free", "set", "write", "store")
 DEEPEST = 5
 # Of a handler: the language allows 32 and 16.
 MOST_LOOKS, MOST_NEWS = 32, 16
+
+
+def handler(port, six, block):
+    """A handler's text, with addresses of its version of IP."""
+    named = ADDRESS.sub(r"\1_ip6" if six else r"\1_ip", block)
+    return f"on {port} {'six ' if six else ''}{named}"
 
 
 @dataclass
@@ -43,10 +52,18 @@ class Writer:
         lines = [f"nf x {{ ports {ports};"]
         for number in range(self.random.choice((0, 1, 1, 2, 2, 3, 4))):
             lines.append(self.chain(number) if self.chance(0.7) else self.array(number))
-        for port in self.random.sample(range(ports), ports):
+        for port, six in self.doors(ports):
             self.looks = self.news = 0
-            lines.append(f"on {port} {self.block([], 0)}")
+            lines.append(handler(port, six, self.block([], 0)))
         return "\n".join([*lines, "}"]) + "\n"
+
+    def doors(self, ports):
+        """The handlers of a function in any order: one for IPv4 at each port, and at some one for IPv6."""
+        share = self.random.choice((0, 0.3, 1))
+        found = [(port, False) for port in range(ports)]
+        found += [(port, True) for port in range(ports) if self.chance(share)]
+        self.random.shuffle(found)
+        return found
 
     def number(self):
         pick = self.random.randrange

@@ -7,7 +7,7 @@ from dataclasses import dataclass
 
 import tree
 
-GREATEST = 2**64 - 1
+GREATEST = 2**128 - 1
 OPERATIONS = {
     "+": lambda left, right: min(left + right, GREATEST),
     "-": lambda left, right: max(left - right, 0),

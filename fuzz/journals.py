@@ -4,7 +4,7 @@ from dataclasses import dataclass
 
 from captures import OUTPUT_HEADER, edited, fields_of, output_record, records_of
 from interpreter import Handling, State
-from keys import RSS, input_of, toeplitz
+from keys import TABLE, hash_of
 from runs import MOST_PACKETS, capture_order, receivers
 from shards import ShareFull, Worker
 
@@ -79,22 +79,22 @@ def made(found, captures, mode, workers, random, most=MOST_PACKETS, events=None,
     """A run of an analysed function in a mode, over the first packets of captures, from its opening state. In mode
     `lock` any order may come."""
     function, events = found.function, Counter() if events is None else events
-    handlers, state = dict(function.handlers), state or State(function)
+    state = state or State(function)
     packets = capture_order([records_of(data)[0] for data in captures])[:most]
     if mode == "lock":
         packets = interleaved(packets, random)
     sent_at = [bytearray(OUTPUT_HEADER) for _ in range(function.ports)]
     run = Made([b"maestro journal 1 %s %d" % (mode.encode(), workers)], sent_at, state)
     for port, number, record in packets:
-        fields, action, edits, indices = fields_of(record), "skip", {}, []
+        fields, action, edits, indices = function.seen(port, fields_of(record)), "skip", {}, []
         worker = port % workers if mode == "lock" else 0
         if fields is not None:
             way = Undivided(state, port, fields, random, events, pick)
             if mode == "shard":
-                worker = toeplitz(RSS, found.keys[port], input_of(RSS, fields)) % 2**RSS.index % workers
+                worker = hash_of(found.keys[port], fields) % TABLE % workers
                 way = Sharing(state, port, fields, random, events, worker, workers, pick)
             try:
-                action, edits = way.handle(handlers[port])
+                action, edits = way.handle(function.block(port, fields))
             except ShareFull as full:
                 run.stop = (full.args[0], worker, port, number)
                 break

@@ -7,7 +7,9 @@ How many keys spread is counted by inclusion and exclusion over the ports whose 
 """
 from dataclasses import dataclass
 from functools import lru_cache
-from itertools import combinations_with_replacement
+from itertools import accumulate, combinations_with_replacement
+
+from tree import is_six
 
 
 @dataclass(frozen=True)
@@ -43,8 +45,10 @@ class Hashing:
         raise KeyError(field)
 
 
-# Microsoft's receive side scaling over addresses and ports, with a table of 128 entries.
+# Microsoft's receive side scaling over addresses and ports, with a table of 128 entries, for IPv4 and for IPv6.
 RSS = Hashing((("src_ip", 32), ("dst_ip", 32), ("src_port", 16), ("dst_port", 16)), 32, 7)
+RSS6 = Hashing((("src_ip6", 128), ("dst_ip6", 128), ("src_port", 16), ("dst_port", 16)), 32, 7)
+TABLE = 128
 KEY_BITS = 320
 # The key of Microsoft's verification suite.
 DEFAULT = "6d5a56da255b0ec24167253d43a38fb0d0ca2bcbae7b30b477cb2da38030f20c6a42b73bbeac01fa"
@@ -79,6 +83,17 @@ def toeplitz(hashing, key, given):
     for j in range(hashing.bits):
         found = found << 1 | (given & key >> j).bit_count() & 1
     return found
+
+
+def hashing_of(fields):
+    """The hash that a packet with these fields has."""
+    return RSS6 if is_six(fields) else RSS
+
+
+def hash_of(key, fields):
+    """The hash of a packet's fields under a key."""
+    of = hashing_of(fields)
+    return toeplitz(of, key, input_of(of, fields))
 
 
 # ---- linear algebra
@@ -168,60 +183,83 @@ def nearest(unknowns, rows, default, groups):
 
 
 # ---- keys
+@dataclass(frozen=True)
+class Place:
+    """A site of an object as keys see it: its port, the hash of its packets, and the fields of the kept labels."""
+    port: int
+    of: Hashing
+    fields: tuple
+
+
 @lru_cache(maxsize=None)
-def agreeing(hashing, left, right):
-    """A basis of all pairs of inputs that agree: in each field of the left one and the field that stands with it on the
-    right. A pair is one vector, the left input before the right one."""
-    system = Solutions(2 * hashing.inputs)
-    for one, other in zip(left, right, strict=True):
-        for at, where in zip(hashing.at(one), hashing.at(other), strict=True):
-            system.add(1 << at | 1 << hashing.inputs + where)
-    half = (1 << hashing.inputs) - 1
-    return [(pair & half, pair >> hashing.inputs) for pair in system.basis()]
+def agreeing(left, right):
+    """A basis of all pairs of inputs that agree: in each field of the left place and the field that stands with it at
+    the right one. A pair is one vector, the left input before the right one."""
+    inputs = left.of.inputs
+    system = Solutions(inputs + right.of.inputs)
+    for one, other in zip(left.fields, right.fields, strict=True):
+        for at, where in zip(left.of.at(one), right.of.at(other), strict=True):
+            system.add(1 << at | 1 << inputs + where)
+    half = (1 << inputs) - 1
+    return [(pair & half, pair >> inputs) for pair in system.basis()]
 
 
-def numbered(objects):
-    """The ports at which objects have sites, in order, and the objects with each port's number among these. An object
-    is the list of its sites, each its port and the fields of the kept labels."""
-    keyed = sorted({port for places in objects for port, _ in places})
-    return keyed, [[(keyed.index(port), fields) for port, fields in places] for places in objects]
+@dataclass(frozen=True)
+class Layout:
+    """Where the keys of keyed ports stand in one vector of unknowns, one behind the other: how many bits each has that
+    a packet of its port meets."""
+    lengths: dict
+
+    @property
+    def starts(self):
+        return dict(zip(self.lengths, accumulate([0, *self.lengths.values()])))
+
+    @property
+    def unknowns(self):
+        return sum(self.lengths.values())
 
 
-def alike(hashing, objects):
-    """Pairs of inputs of which it is enough that each two hash alike: the number of a port and its input, twice."""
+def layout(objects, lengths):
+    """The layout for the ports at which objects have sites, in order. An object is the list of its places."""
+    return Layout({port: lengths[port] for port in sorted({it.port for places in objects for it in places})})
+
+
+def alike(objects):
+    """Pairs of inputs of which it is enough that each two hash alike: a port, its input and the bits of its hash, and
+    another port and input."""
     found = set()
     for places in objects:
-        for (port, left), (other, right) in combinations_with_replacement(sorted(set(places)), 2):
-            found.update((port, one, other, two) for one, two in agreeing(hashing, left, right))
+        for left, right in combinations_with_replacement(sorted(set(places), key=repr), 2):
+            found.update((left.port, one, left.of.bits, right.port, two) for one, two in agreeing(left, right))
     return found
 
 
-def equations(hashing, pairs):
-    """What keys have to satisfy under which these pairs of inputs hash alike: port p's bit i is unknown
-    p * positions + i."""
-    found, each = set(), hashing.positions
-    for port, one, other, two in pairs:
-        at_first = one << port * each ^ two << other * each
-        found.update(at_first << j for j in range(hashing.bits))
+def equations(of, pairs):
+    """What keys in a layout have to satisfy under which these pairs of inputs hash alike."""
+    found, starts = set(), of.starts
+    for port, one, bits, other, two in pairs:
+        at_first = one << starts[port] ^ two << starts[other]
+        found.update(at_first << j for j in range(bits))
     return found - {0}
 
 
-def groups(hashing, ports):
-    """Of so many ports the unknowns of which one has to be a 1, so that the keys spread."""
-    return [[number * hashing.positions + at for at in hashing.spreading] for number in range(ports)]
+def groups(of, objects):
+    """Of the keys in a layout the unknowns of which one has to be a 1, so that the packets of each kind spread for
+    which a port is keyed."""
+    kinds = {(it.port, it.of) for places in objects for it in places}
+    starts = of.starts
+    return [[starts[port] + at for at in hashing.spreading] for port, hashing in sorted(kinds, key=repr)]
 
 
-def given_keys(hashing, ports, objects, default):
-    """The given keys of so many ports as vectors, None where no admissible keys spread."""
-    keyed, placed = numbered(objects)
-    each = hashing.positions
-    front = default & (1 << each) - 1
-    wanted = sum(front << number * each for number in range(len(keyed)))
-    rows = sorted(equations(hashing, alike(hashing, placed)))
-    found = nearest(len(keyed) * each, rows, wanted, groups(hashing, len(keyed)))
+def given_keys(objects, default, lengths):
+    """The given keys of ports as vectors, None where no admissible keys spread; `lengths` has how many bits of each
+    port's key a packet there may meet."""
+    of = layout(objects, lengths)
+    wanted = sum((default & (1 << each) - 1) << of.starts[port] for port, each in of.lengths.items())
+    found = nearest(of.unknowns, sorted(equations(of, alike(objects))), wanted, groups(of, objects))
     if found is None:
         return None
-    keys = [default] * ports
-    for number, port in enumerate(keyed):
-        keys[port] = found >> number * each & (1 << each) - 1
+    keys = [default] * len(lengths)
+    for port, each in of.lengths.items():
+        keys[port] = found >> of.starts[port] & (1 << each) - 1
     return keys

@@ -7,7 +7,7 @@ import tree
 LONGEST_TEXT, LONGEST_NAME = 1 << 20, 32
 MOST_BLOCKS, MOST_BRACKETS, MOST_OPERANDS = 64, 32, 64
 RESERVED = frozenset(
-    "nf ports chain lifetime map fixed free array on get else find where new taken full if touch set forward flood "
+    "nf ports chain lifetime map fixed free array on six get else find where new taken full if touch set forward flood "
     "drop index".split()
 )
 COMPARISONS = ("==", "!=", "<", "<=", ">", ">=")
@@ -131,15 +131,21 @@ class Parser:
         self.take("ports")
         ports = self.number()
         self.take(";")
-        declared, handlers, ons = [], [], []
+        declared, handlers = [], []
         while self.token.kind in ("chain", "array"):
             declared.append(self.chain() if self.token.kind == "chain" else self.array())
         while self.token.kind == "on":
-            ons.append(self.take("on").at)
-            handlers.append((self.number(), self.block()))
+            handlers.append(self.handler())
         end = self.take("}").at
         self.take("end")
-        return tree.Function(name, ports, declared, handlers, ons, end)
+        return tree.Function(name, ports, declared, handlers, end)
+
+    def handler(self):
+        at, port = self.take("on").at, self.number()
+        six = self.token.kind == "six"
+        if six:
+            self.step()
+        return tree.Handler(at, port, six, self.block())
 
     def chain(self):
         at, name, size = self.take("chain").at, self.name(), self.number()

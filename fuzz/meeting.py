@@ -12,8 +12,9 @@ from collections import defaultdict
 
 from captures import fields_of, records_of
 from interpreter import Handling, State
-from keys import RSS, input_of, toeplitz
+from keys import hash_of, hashing_of
 from runs import capture_order
+from tree import is_six
 
 
 class Untold(Exception):
@@ -34,7 +35,7 @@ class Tracing(Handling):
         """Touches a place of an object in a statement of the text; `values` are what the place tells of labels."""
         self.touched.add((name, place))
         for site in self.analysis.objects[name].sites:
-            if (site.port, site.place[0], site.sort) == (self.port, at, sort):
+            if (site.port, site.six, site.place[0], site.sort) == (self.port, is_six(self.fields), at, sort):
                 told = {label: self.fields[field] for label, field in site.known.items() if label in values}
                 self.events["labels known at a touch"] += len(told)
                 if not told.items() <= values.items():
@@ -92,20 +93,20 @@ class Tracing(Handling):
 def touched(analysis, captures, random, events):
     """The packets of a run that were handled, each its port, its fields and the places that it touched."""
     function = analysis.function
-    state, handlers, found = State(function), dict(function.handlers), []
+    state, found = State(function), []
     records = [read[0] if read else [] for read in map(records_of, captures)]
     for port, _, record in capture_order(records):
-        fields = fields_of(record)
+        fields = function.seen(port, fields_of(record))
         if fields is not None:
             way = Tracing(analysis, state, port, fields, random, events)
-            way.handle(handlers[port])
+            way.handle(function.block(port, fields))
             found.append((port, fields, way.touched))
     return found
 
 
 def hashing(keys):
     """The hash of packets under each port's key, by their port and their fields."""
-    return lambda port, fields: toeplitz(RSS, keys[port], input_of(RSS, fields))
+    return lambda port, fields: hash_of(keys[port], fields)
 
 
 def apart(analysis, hash_of, packets, events):
@@ -113,7 +114,7 @@ def apart(analysis, hash_of, packets, events):
     written = {it.name for it in analysis.objects.values() if it.written}
     by_place, hashes, inputs = defaultdict(list), [], []
     for number, (port, fields, places) in enumerate(packets):
-        inputs.append([fields[name] for name, _ in RSS.fields])
+        inputs.append([fields[name] for name, _ in hashing_of(fields).fields])
         hashes.append(hash_of(port, fields))
         for place in places:
             if place[0] in written:

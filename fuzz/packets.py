@@ -1,9 +1,13 @@
 """Random captures: few hosts and ports, so that keys are met again, and times that stand still, step or jump."""
 import struct
 
-from captures import LATEST, LONGEST_FRAME, TCP, UDP, put_checksum
+from captures import IPV6, LATEST, LONGEST_FRAME, TCP, UDP, put_checksum
 
 HOSTS = [bytes((10, 0, 0, host)) for host in range(4)]
+# Of two networks.
+HOSTS6 = [bytes.fromhex(f"20010db8000{host // 2}") + bytes(8) + bytes([0, host % 2]) for host in range(4)]
+# Next headers of IPv6 that are no TCP or UDP: options, routing, a fragment, ESP, ICMP, none.
+OTHER_HEADERS = (0, 43, 44, 50, 58, 59)
 # In nanoseconds: nothing, the lifetimes of functions.py, and one more.
 STEPS = (0, 0, 0, 1, 3, 5, 6, 20, 21, 500, 1000, 1001, 2000)
 # The earliest time of a run's captures. The last is near the latest that a record can have.
@@ -40,11 +44,13 @@ def segment(random, source, target, protocol):
 
 
 def frame(random):
-    """An Ethernet frame with IPv4 and TCP or UDP, or ARP; some are fragments, have a wrong byte, or are cut."""
+    """An Ethernet frame with IPv4 or IPv6 and TCP or UDP, or ARP; some are fragments, have a wrong byte, or are cut."""
     addresses = bytes.fromhex("0200000000") + bytes([random.randrange(4)])
     addresses += bytes.fromhex("0200000000") + bytes([random.randrange(4)])
     if random.random() < 0.05:
         return addresses + b"\x08\x06" + random.randbytes(28)
+    if random.random() < 0.4:
+        return damaged(random, bytearray(addresses + packet6(random)), 54)
     source, target = random.choice(HOSTS), random.choice(HOSTS)
     protocol, options = random.choice((TCP, UDP)), random.choice(IP_OPTIONS)
     inner = segment(random, source, target, protocol)
@@ -55,12 +61,28 @@ def frame(random):
     ))
     head += options
     put_checksum(head, 10, checksum(bytes(head)))
-    made = bytearray(addresses + b"\x08\x00" + head + inner)
+    return damaged(random, bytearray(addresses + b"\x08\x00" + head + inner), 14 + size)
+
+
+def packet6(random):
+    """The type of a frame and an IPv6 packet of TCP or UDP; few have another next header."""
+    source, target = random.choice(HOSTS6), random.choice(HOSTS6)
+    protocol = random.choice((TCP, UDP))
+    inner = segment(random, source, target, protocol)
+    told = random.choice(OTHER_HEADERS) if random.random() < 0.05 else protocol
+    label, hops = random.choice((0, random.randrange(2**28))), random.choice((1, 64, 255))
+    head = struct.pack(">HIHBB", IPV6, 6 << 28 | label, len(inner), told, hops)
+    return head + source + target + inner
+
+
+def damaged(random, made, segment):
+    """A frame of which some have a wrong byte, and some are cut, often next to the end of the TCP or UDP header, which
+    begins at `segment`."""
     if random.random() < 0.1:
         made[random.randrange(len(made))] = random.randrange(256)
     if random.random() < 0.05:
-        headers = 14 + size + (20 if protocol == TCP else 8)
-        del made[random.choice((random.randrange(len(made) + 1), headers - 1, headers)):]
+        ends = [segment + size + less for size in (8, 20) for less in (0, -1)]
+        del made[random.choice((random.randrange(len(made) + 1), *ends)):]
     return bytes(made)
 
 

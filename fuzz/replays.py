@@ -6,7 +6,7 @@ from dataclasses import dataclass
 from analysis import analysed
 from captures import OUTPUT_HEADER, edited, fields_of, output_record, records_of
 from interpreter import IllegalChoice, State, handle
-from keys import RSS, input_of, toeplitz
+from keys import TABLE, hash_of
 from runs import MOST_PACKETS, Result, capture_order, receivers, refused
 
 NUMBER = rb"(?:0|[1-9][0-9]{0,9})"
@@ -71,7 +71,7 @@ class Replay:
     def __init__(self, function, keys, captures, course, events=None):
         self.function, self.keys, self.course = function, keys, course
         self.events = Counter() if events is None else events
-        self.state, self.handlers = State(function), dict(function.handlers)
+        self.state = State(function)
         self.outputs = [bytearray(OUTPUT_HEADER) for _ in range(function.ports)]
         records = [records_of(data)[0] for data in captures]
         order = [(port, number) for port, number, _ in capture_order(records)]
@@ -96,14 +96,14 @@ class Replay:
             return port % self.course.workers
         if self.course.mode == "one" or fields is None:
             return 0
-        return toeplitz(RSS, self.keys[port], input_of(RSS, fields)) % 2**RSS.index % self.course.workers
+        return hash_of(self.keys[port], fields) % TABLE % self.course.workers
 
     def take(self, line):
         """Does what a line tells; Differs where it isn't right."""
         if line.number != self.next_of(line.port):
             raise Differs("another packet of the port comes now")
         record = self.records[line.port][line.number]
-        fields, action, edits = fields_of(record), "skip", {}
+        fields, action, edits = self.function.seen(line.port, fields_of(record)), "skip", {}
         if line.worker != self.worker_of(line.port, fields):
             raise Differs("another worker handles the packet")
         if fields is None and line.choices:
@@ -123,7 +123,8 @@ class Replay:
         if shard and any(index % self.course.workers != line.worker for index in line.choices):
             raise Differs("an index isn't of the queue's share")
         try:
-            found = handle(self.state, self.handlers[line.port], line.port, fields, line.choices, self.events)
+            block = self.function.block(line.port, fields)
+            found = handle(self.state, block, line.port, fields, line.choices, self.events)
         except IllegalChoice as why:
             raise Differs(str(why)) from None
         if shard and self.events["full"] > full:

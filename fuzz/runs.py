@@ -5,6 +5,7 @@ from dataclasses import dataclass, field
 
 from captures import OUTPUT_HEADER, edited, fields_of, output_record, records_of
 from interpreter import IllegalChoice, State, handle
+from tree import is_six
 
 MOST_PACKETS = 10_000_000
 LINE = re.compile(r"[0-9]+ [0-9]+ [0-9]+ \S+ (-|[0-9]+(?:,[0-9]+)*)")
@@ -82,10 +83,10 @@ def expected(function, captures, journal, most=MOST_PACKETS, events=None, course
     if None in read:
         return Result(4, err=f"maestro: capture {read.index(None)} has no pcap header\n".encode())
     packets = capture_order([records for records, _ in read])
-    state, handlers, choices = State(function), dict(function.handlers), Choices(journal)
+    state, choices = State(function), Choices(journal)
     lines, outputs, before = [f"maestro journal 1 {course.mode} {course.workers}"], [OUTPUT_HEADER] * function.ports, None
     for position, (port, number, record) in enumerate(packets[:most]):
-        fields, told, edits = fields_of(record), [], {}
+        fields, told, edits = function.seen(port, fields_of(record)), [], {}
         worker = course.worker(port, fields)
         if position == len(choices) and (why := course.stop(worker, function, state, port, fields)):
             return stopped(position, course, why, port, number, outputs, lines)
@@ -94,12 +95,13 @@ def expected(function, captures, journal, most=MOST_PACKETS, events=None, course
             events["skipped"] += 1
             action = "skip"
         else:
+            events["over IPv6"] += is_six(fields)
             events["at the time before"] += record.time == before
             before = record.time
             told = choices.of(position)
             course.check(worker, function, state, port, fields, told)
             try:
-                action, edits = handle(state, handlers[port], port, fields, told, events)
+                action, edits = handle(state, function.block(port, fields), port, fields, told, events)
             except IllegalChoice as fault:
                 raise IllegalChoice(f"line {position + 2} of the journal: {fault}") from None
         events[action.partition(":")[0]] += 1

@@ -3,7 +3,7 @@ its share. What its packets come to, and the tables put together in the end, hav
 """
 from captures import fields_of, records_of
 from interpreter import Handling, State, handle
-from keys import RSS, input_of, toeplitz
+from keys import TABLE, hash_of
 from runs import capture_order
 
 
@@ -59,22 +59,22 @@ def merged(function, states, time):
 def compare(analysis, keys, captures, workers, random, events):
     """Runs a function over captures both ways. Unequal is raised where they differ; the run ends where a share is full.
     """
-    function, handlers = analysis.function, dict(analysis.function.handlers)
+    function = analysis.function
     states, whole, time = [State(function) for _ in range(workers)], State(function), 0
     records = [read[0] if read else [] for read in map(records_of, captures)]
     for port, number, record in capture_order(records):
-        fields = fields_of(record)
+        fields = function.seen(port, fields_of(record))
         if fields is None:
             continue
-        queue = toeplitz(RSS, keys[port], input_of(RSS, fields)) % 2**RSS.index % workers
+        queue = hash_of(keys[port], fields) % TABLE % workers
         time = fields["time"]
         way = Worker(states[queue], port, fields, random, events, queue, workers)
         try:
-            got = way.handle(handlers[port])
+            got = way.handle(function.block(port, fields))
         except ShareFull:
             events["share stops"] += 1
             return
-        wanted = handle(whole, handlers[port], port, fields, way.made)
+        wanted = handle(whole, function.block(port, fields), port, fields, way.made)
         events["packets handled both ways"] += 1
         events["with an action or edits"] += got != ("drop", {})
         if got != wanted:

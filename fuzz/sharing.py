@@ -3,10 +3,16 @@
 Each label has a field that it mostly is; at some ports sources and destinations are turned. Some chains have no `new`,
 some arrays no write, and some are used only where no path leads. Some handlers have many tests.
 """
-from functions import DEEPEST, FEW, MOST_LOOKS, MOST_NEWS, SETTABLE, WIDTHS, Chain, Writer
+from functions import DEEPEST, FEW, MOST_LOOKS, MOST_NEWS, SETTABLE, WIDTHS, Chain, Writer, handler
 
-HASHED = {"src_ip": 32, "dst_ip": 32, "src_port": 16, "dst_port": 16}
-TURNED = {"src_ip": "dst_ip", "dst_ip": "src_ip", "src_port": "dst_port", "dst_port": "src_port"}
+PORTS = {"src_port": 16, "dst_port": 16}
+HASHED = {"src_ip": 32, "dst_ip": 32, **PORTS}
+HASHED6 = {"src_ip6": 128, "dst_ip6": 128, **PORTS}
+WIDTH_OF = {**HASHED, **HASHED6}
+TURNED = {
+    "src_ip": "dst_ip", "dst_ip": "src_ip", "src_ip6": "dst_ip6", "dst_ip6": "src_ip6",
+    "src_port": "dst_port", "dst_port": "src_port",
+}
 BRANCHING = ("known", "get", "find", "new", "if")
 STATEMENTS = ("known", "known", "get", "find", "find", "new", "if", "if", "touch", "free", "set", "write", "store")
 # Tests of few texts, so that they come again, the same and the other way round.
@@ -31,29 +37,40 @@ class Sharer(Writer):
         # How often a value is something other than its field.
         self.noise = random.choice((0, 0, 0, 0.02, 0.1, 0.3))
         self.homes, self.kinds, self.found = {}, {}, set()
+        # Which version of IP labels are mostly wide enough for: some functions share by ports alone, for both.
+        self.six = self.chance(0.4)
+        self.hashed = PORTS if self.chance(0.15) else HASHED6 if self.six else HASHED
         self.turned = self.dead = False
         self.statements["known"] = self.known
 
     def text(self):
-        if self.chance(0.15):
+        if self.hashed is not PORTS and self.chance(0.15):
             return self.translator()
         ports = self.random.choice((1, 1, 2, 2, 2, 3, 4))
         lines = [f"nf s{self.random.randrange(100)} {{ ports {ports};"]
         for number in range(self.random.choice((1, 1, 1, 2, 2, 3))):
             lines.append(self.chain(number) if self.chance(0.75) else self.array(number))
-        for port in self.random.sample(range(ports), ports):
+        for port, six in self.doors(ports):
             self.looks = self.news = 0
             self.turned = port % 2 == 1 and self.chance(0.8)
             body = self.block([], 0)
             if self.chance(0.06):
                 body = f"{{ {self.many_tests()} {body[1:]}"
-            lines.append(f"on {port} {body}")
+            lines.append(handler(port, six, body))
         return "\n".join([*lines, "}"]) + "\n"
+
+    def doors(self, ports):
+        """Those for IPv6 stand at most ports where labels are wide enough, and at few else."""
+        found = [(port, False) for port in range(ports)]
+        found += [(port, True) for port in range(ports) if self.chance(0.85 if self.six else 0.08)]
+        self.random.shuffle(found)
+        return found
 
     def translator(self):
         """A function whose second port finds entries by their index, guarded by what the first port gave."""
-        chain, far = Chain("c0"), self.random.choice(("dst_ip", "dst_ip", "dst_port", "src_ip"))
-        fields = {far, *self.random.sample(list(HASHED), self.random.randrange(1, 4))}
+        addresses = [it for it in self.hashed if it not in PORTS]
+        chain, far = Chain("c0"), self.random.choice((addresses[1], addresses[1], "dst_port", addresses[0]))
+        fields = {far, *self.random.sample(list(self.hashed), self.random.randrange(1, 4))}
         parts = [self.label(chain, field) for field in sorted(fields)]
         guards = [self.label(chain, far)]
         if self.chance(0.3):
@@ -74,7 +91,8 @@ class Sharer(Writer):
         second = f"find e = c0[{index}] where ({guard}) {{ {body} }} {self.if_([], 1)} {self.action([])}"
         return (
             f"nf t {{ ports 2;\nchain c0 {size} lifetime {lifetime} {{ map m0({keys}); {columns} free f0: 64; }}\n"
-            f"on 0 {first}\non 1 {{ {second} }}\n}}\n"
+            f"{handler(0, self.six, first)}\n{handler(1, self.six, f'{{ {second} }}')}\n"
+            f"{handler(0, False, '{ }') + handler(1, False, '{ forward 0; }') if self.six else ''}\n}}\n"
         )
 
     def many_tests(self):
@@ -91,14 +109,15 @@ class Sharer(Writer):
         chain, items = Chain(f"c{number}"), []
         self.kind(chain.name)
         for map_number in range(self.random.choice((1, 1, 2))):
-            fields = self.random.sample(list(HASHED), self.random.choice((1, 1, 2, 2, 3, 4)))
+            homes = list(self.homes_here())
+            fields = self.random.sample(homes, min(len(homes), self.random.choice((1, 1, 2, 2, 3, 4))))
             name = f"m{map_number}"
             parts = [self.label(chain, field) for field in fields]
             chain.maps[name] = [label for label, _ in parts]
             items.append(f"map {name}({', '.join(f'{label}: {width}' for label, width in parts)});")
         for _ in range(self.random.choice((0, 0, 0, 1, 1, 2))):
             known = [self.homes[chain.name, label] for label in chain.labels]
-            field = self.random.choice(known) if self.chance(0.7) else self.random.choice(list(HASHED))
+            field = self.random.choice(known) if self.chance(0.7) else self.random.choice(list(self.homes_here()))
             label, width = self.label(chain, field)
             items.append(f"fixed {label}: {width};")
         if self.chance(0.5):
@@ -113,12 +132,18 @@ class Sharer(Writer):
         self.chains.append(chain)
         return f"chain {chain.name} {size} lifetime {lifetime} {{ {' '.join(items)} }}"
 
+    def homes_here(self):
+        """The fields of which a label's home is one: now and then those of the other version of IP."""
+        if self.hashed is PORTS or self.chance(0.9):
+            return self.hashed
+        return HASHED if self.six else HASHED6
+
     def label(self, chain, field):
         """One more label of a chain, and its width."""
         name = f"l{len(chain.labels)}"
         chain.labels[name] = field
         self.homes[chain.name, name] = field
-        return name, self.random.choice(WIDTHS) if self.chance(self.noise / 2) else HASHED[field]
+        return name, self.random.choice(WIDTHS) if self.chance(self.noise / 2) else WIDTH_OF[field]
 
     def array(self, number):
         name, size = f"a{number}", self.random.choice((3, 8, 65536))

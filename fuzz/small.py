@@ -8,7 +8,7 @@ import itertools
 
 import tree
 from interpreter import COMPARISONS, OPERATIONS
-from keys import Hashing, toeplitz
+from keys import Hashing, Place, toeplitz
 
 
 # ---- keys
@@ -26,7 +26,7 @@ def objects(random, of, ports):
         widths = [random.choice(of.fields)[1] for _ in range(random.randrange(0 if random.random() < 0.1 else 1, 3))]
         fields = [[name for name, width in of.fields if width == wanted] for wanted in widths]
         found.append([
-            (random.randrange(ports), tuple(random.choice(names) for names in fields))
+            Place(random.randrange(ports), of, tuple(random.choice(names) for names in fields))
             for _ in range(random.randrange(1, 4))
         ])
     return found
@@ -43,13 +43,13 @@ def searched_keys(of, ports, all_objects, default):
     hashes = {key: [toeplitz(of, key, given) for given in inputs] for key in keys}
     alike = []
     for places in all_objects:
-        for (port, left), (other, right) in itertools.product(places, repeat=2):
+        for left, right in itertools.product(places, repeat=2):
             agree = [
                 (one, two) for one in inputs for two in inputs
-                if all(value_of(of, one, x) == value_of(of, two, y) for x, y in zip(left, right))
+                if all(value_of(of, one, x) == value_of(of, two, y) for x, y in zip(left.fields, right.fields))
             ]
-            alike.append((port, other, agree))
-    keyed = {port for places in all_objects for port, _ in places}
+            alike.append((left.port, right.port, agree))
+    keyed = {it.port for places in all_objects for it in places}
     spread = [key for key in keys if len({of_one % 2**of.index for of_one in hashes[key]}) > 1]
     choices = [sorted(spread, key=lambda key: reading(of, key ^ default)) if port in keyed else [default]
                for port in range(ports)]

@@ -6,11 +6,14 @@ wanted vector whose exclusive or with it is less. A large one is as keys.py has 
 import itertools
 from dataclasses import dataclass
 
-from keys import DEFAULT, RSS, alike, equations, groups, key_of
+from keys import DEFAULT, RSS, Layout, Place, alike, equations, key_of
 
 MOST_GROUPS = 3
 PORTS = 4
-BITS = PORTS * RSS.positions
+OF = Layout({port: RSS.positions for port in range(PORTS)})
+BITS = OF.unknowns
+# Of each key the bits of which one has to be a 1, so that packets spread.
+GROUPS = [[start + at for at in RSS.spreading] for start in OF.starts.values()]
 FIELDS = ("src_ip", "dst_ip"), ("src_port", "dst_port")
 
 
@@ -122,11 +125,11 @@ def repeated(random):
 def joined(random):
     """The bits of each group are equal, but for a few; sums of some groups are 0."""
     found = []
-    for group in groups(RSS, PORTS):
+    for group in GROUPS:
         free = random.choice((0, 0, 1, 5))
         found += [1 << group[0] | 1 << at for at in group[1 : len(group) - free]]
     for _ in range(random.randrange(4)):
-        found.append(sum(1 << group[0] for group in random.sample(groups(RSS, PORTS), random.randrange(1, PORTS + 1))))
+        found.append(sum(1 << group[0] for group in random.sample(GROUPS, random.randrange(1, PORTS + 1))))
     return found
 
 
@@ -151,8 +154,8 @@ def of_places(random):
     objects = []
     for _ in range(random.randrange(1, 4)):
         labels = [random.choice(FIELDS) for _ in range(random.randrange(1, 5))]
-        objects.append([(port, tuple(random.choice(of) for of in labels)) for port in range(PORTS)])
-    return sorted(equations(RSS, alike(RSS, objects)))
+        objects.append([Place(port, RSS, tuple(random.choice(of) for of in labels)) for port in range(PORTS)])
+    return sorted(equations(OF, alike(objects)))
 
 
 FAMILIES = {it.__name__: it for it in (dense, nearly_full, sparse, repeated, joined, few, early, of_places)}
@@ -161,7 +164,7 @@ FAMILIES = {it.__name__: it for it in (dense, nearly_full, sparse, repeated, joi
 def some_groups(random):
     """Those of the keys, or four of any bits: few or many, some of them twice or within another."""
     if random.random() < 0.6:
-        return groups(RSS, PORTS)
+        return GROUPS
     found = []
     for _ in range(PORTS):
         whole = random.choice(found) if found and random.random() < 0.3 else range(BITS)

@@ -7,8 +7,10 @@ from dataclasses import dataclass
 # The fields of a packet, and their widths in bits.
 FIELDS = {
     "time": 64, "length": 32, "src_mac": 48, "dst_mac": 48, "src_ip": 32, "dst_ip": 32,
-    "proto": 8, "ttl": 8, "src_port": 16, "dst_port": 16,
+    "src_ip6": 128, "dst_ip6": 128, "proto": 8, "ttl": 8, "src_port": 16, "dst_port": 16,
 }
+# Those that packets of one version of IP alone have, by whether that is IPv6.
+ADDRESSES = {False: ("src_ip", "dst_ip"), True: ("src_ip6", "dst_ip6")}
 
 
 class Name(str):
@@ -77,14 +79,39 @@ class Array:
         return [value % 2**self.width for value in self.contents] + [0] * (self.size - len(self.contents))
 
 
-class Function:
-    """A function's declarations and handlers, where each handler's `on` stands, and where the last `}` does."""
+def is_six(fields):
+    """Whether a packet with these fields is one over IPv6."""
+    return "src_ip6" in fields
 
-    def __init__(self, name, ports, declared, handlers, ons, end):
+
+@dataclass
+class Handler:
+    """What a port does with its packets, and whether with those over IPv6; `at` is where its `on` stands."""
+    at: int
+    port: Number
+    six: bool
+    block: list
+
+
+class Function:
+    """A function's declarations and handlers, and where the last `}` stands."""
+
+    def __init__(self, name, ports, declared, handlers, end):
         self.name, self.ports, self.declared, self.handlers, self.end = name, ports, declared, handlers, end
-        self.ons = ons
+        self.by_door = {(int(it.port), it.six): it for it in handlers}
         self.chains = {it.name: it for it in declared if isinstance(it, Chain)}
         self.arrays = {it.name: it for it in declared if isinstance(it, Array)}
+
+    def seen(self, port, fields):
+        """A packet's fields as its port's handlers see them: None where it is skipped, or has no handler."""
+        return fields if fields and (port, is_six(fields)) in self.by_door else None
+
+    def block(self, port, fields):
+        """The block that a packet's handler runs."""
+        return self.by_door[port, is_six(fields)].block
+
+    def has_six(self, port):
+        return (port, True) in self.by_door
 
 
 # ---- statements. A block is a list of them.

@@ -152,6 +152,15 @@ def tests(count):
     return f"nf p {{ ports 1; on 0 {{ {' '.join(f'if src_port < {number} {{ }}' for number in range(count))} }} }}"
 
 
+# One port, whose handler for IPv6 alone shares state.
+BY_SOURCE_6 = """\
+nf bysrc {
+  ports 1;
+  chain s 16 lifetime 1000 { map m(x: 128); }
+  on 0 { forward 0; }
+  on 0 six { get e = s.m(src_ip6) { touch e; } else { new f = s(x = src_ip6) { } } forward 0; }
+}
+"""
 CASES = {
     "a firewall": Worked(
         FIREWALL, "ok fw: ports 2, chains 1, arrays 0, paths 4 2\n", None,
@@ -165,6 +174,16 @@ CASES = {
         "site 1 new host=dst_ip\n"
         "site 1 name by_dst host=dst_ip\n",
         sharded(DEFAULT, f"{zeros(7)}01{zeros(32)}"),
+    ),
+    "by source, IPv6 alone": Worked(
+        BY_SOURCE_6, "ok bysrc: ports 1, chains 1, arrays 0, paths 1/4\n",
+        "nf bysrc\n"
+        "object s rule J1 keeps x\n"
+        "site 0 six get m x=src_ip6\n"
+        "site 0 six new x=src_ip6\n"
+        "site 0 six name m x=src_ip6\n",
+        # The hash of an IPv6 packet reads the source by the first 159 bits of the key: all others are 0.
+        sharded(f"6d5a56da255b0ec24167253d43a38fb0{zeros(24)}"),
     ),
     "by source": Worked(by_fields(("x", 32, "src_ip")), None, None, sharded(f"6d5a56da{zeros(36)}")),
     "an address translator": Worked(
@@ -256,6 +275,10 @@ CASES = {
     ),
     "twelve tests": Worked(tests(12), "ok p: ports 1, chains 0, arrays 0, paths 4096\n"),
     "thirteen tests": Worked(tests(13), "refused P1 at 1:17\n"),
+    "too many at IPv6": Worked(
+        tests(13).replace("on 0", "on 0 { } on 0 six"),
+        "refused P1 at 1:26\n",
+    ),
     "a field that is one of two numbers": Worked(
         "nf p { ports 1; on 0 { if src_port == 1 { } if src_port == 2 { } } }",
         "ok p: ports 1, chains 0, arrays 0, paths 3\n",
