@@ -99,10 +99,15 @@ class Capture:
             at += 16 + captured
 
 
-def hash_input(record):
-    """The 12 bytes of a handled packet that the hash goes by: addresses and ports, sources first. None where the record
-    is of a packet that is skipped: handled is IPv4 in Ethernet, no fragment, with the first 20 bytes of TCP or 8 of UDP
-    (RFC 791 section 3.1, RFC 9293 section 3.1, RFC 768)."""
+def hash_input(record, six):
+    """The bytes of a handled packet that the hash goes by, 12 over IPv4 and 36 over IPv6: addresses and ports, sources
+    first. None where the record is of a packet that is skipped: handled is IPv4 in Ethernet, no fragment, with the
+    first 20 bytes of TCP or 8 of UDP (RFC 791 section 3.1, RFC 9293 section 3.1, RFC 768), and where the port has a
+    handler for it, which `six` says, IPv6 without extension headers (RFC 8200 section 3)."""
+    if record[28:30] == b"\x86\xdd":
+        if not six or len(record) < 70 or record[30] >> 4 != 6 or record[36] not in (6, 17):
+            return None
+        return record[38:70] + record[70:74] if len(record) >= (90 if record[36] == 6 else 78) else None
     if len(record) < 50 or record[28:30] != b"\x08\x00" or not 0x45 <= record[30] <= 0x4F:
         return None
     if record[36] & 0x3F or record[37] or record[39] not in (6, 17):

@@ -1,15 +1,30 @@
 """Which bits of a packet move the table's index under a key, and over how many entries packets spread at most.
 
 A table's index is the low 7 bits of the hash, so bit i of the hash's input moves it where one of the key's bits i + 25 to
-i + 31 is 1; it takes 2^r values, r the rank of those 96 columns.
+i + 31 is 1; it takes 2^r values, r the rank of those columns. An IPv4 packet has 96 bits of input, an IPv6 packet 288.
 """
-FIELDS = (("src_ip", 32), ("dst_ip", 32), ("src_port", 16), ("dst_port", 16))
-INPUT_BITS, INDEX_BITS, HASH_BITS, KEY_BITS = 96, 7, 32, 320
+PORTS = (("src_port", 16), ("dst_port", 16))
+FIELDS = {
+    False: (("src_ip", 32), ("dst_ip", 32), *PORTS),
+    True: (("src_ip6", 128), ("dst_ip6", 128), *PORTS),
+}
+INDEX_BITS, HASH_BITS, KEY_BITS = 7, 32, 320
 
 
-def columns(key):
+def input_bits(six):
+    """How many bits of a packet are hashed."""
+    return sum(width for _, width in FIELDS[six])
+
+
+def columns(key, six):
     """For each bit of the input what it adds to the index, under a key that is a number of 320 bits."""
-    return [key >> KEY_BITS - HASH_BITS - at & (1 << INDEX_BITS) - 1 for at in range(INPUT_BITS)]
+    return [key >> KEY_BITS - HASH_BITS - at & (1 << INDEX_BITS) - 1 for at in range(input_bits(six))]
+
+
+def six_ports(said):
+    """The ports with a handler for IPv6, by what `maestro check` prints: of these it tells two numbers of paths."""
+    paths = said.partition(", paths ")[2].split()
+    return {port for port, counts in enumerate(paths) if "/" in counts}
 
 
 def rank(vectors):
@@ -34,10 +49,10 @@ def spans(numbers):
     return ",".join(str(first) if first == last else f"{first}-{last}" for first, last in found)
 
 
-def told(key):
+def told(key, six=False):
     """What is told of a key: bits count from the highest of their field, from 0."""
-    given, start, said = columns(key), 0, []
-    for name, width in FIELDS:
+    given, start, said = columns(key, six), 0, []
+    for name, width in FIELDS[six]:
         if moving := [at for at in range(width) if given[start + at]]:
             said.append(f"{name} bits {spans(moving)} of {width}")
         start += width

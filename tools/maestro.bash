@@ -50,7 +50,7 @@ _maestro_fronts() {
 _maestro() {
     local word=${COMP_WORDS[COMP_CWORD]} command=${COMP_WORDS[1]-} previous=${COMP_WORDS[COMP_CWORD - 1]} options='' it
     local commands='check explain keys run replay gen hash summary show spread card draw plot split help'
-    local kinds='S1 S2 S3 S4 S5 T01 T02 T03 T04 T05 T06 T07 T08 P1 0 1 2 3 4 5 6 7 8 9 10'
+    local kinds='S1 S2 S3 S4 S5 T01 T02 T03 T04 T05 T06 T07 T08 T09 P1 0 1 2 3 4 5 6 7 8 9 10'
     local -i at name=0
     COMPREPLY=()
     # Where `=` parts words, `--mode=l` is three of them.

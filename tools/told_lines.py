@@ -11,10 +11,11 @@ HINTS = {
     "S2": "an address has four numbers up to 255, without leading zeros",
     "S3": "a ; is missing behind 1",
     "S4": "1 { has no }",
+    "T09": "of a packet over IPv6 it is src_ip6",
 }
 FRONT = "nf x { ports 1; chain c 4 lifetime 60 { map m(a: 32, b: 16); free u: 8; } array t 4: 8;\n  on 0 {\n"
 # Usual slips behind this text, or where they begin with nf in a text, each with where it is refused and what may be meant.
-FIELDS = "the fields are time length src_mac dst_mac src_ip dst_ip proto ttl src_port dst_port"
+FIELDS = "the fields are time length src_mac dst_mac src_ip dst_ip src_ip6 dst_ip6 proto ttl src_port dst_port"
 JOINED = "tests are not joined by && or ||: put one if into the block of the other"
 UNITS = "numbers have no units: a time is in nanoseconds, 60 s is 60000000000"
 ACTION = "is no word of the language: an action is forward PORT, flood or drop"
@@ -60,7 +61,12 @@ SLIPS = [
     ("if src_mac == 00:11:22:aA:44:55 { drop; }", "S2 at 3:15", "a MAC address is a number: 0x001122aa4455"),
     ("if src_ip == 10.0.0 { drop; }", "S2 at 3:14", ""),
     ("if src_ip == 10.0.0.256 { drop; }", "S2 at 3:14", "an address has four numbers up to 255, without leading zeros"),
-    ("if src_ip == fe80::1 { drop; }", "S3 at 3:18", "addresses are of IPv4, as 10.0.0.1, and a MAC address is a number"),
+    ("if src_ip == fe80::1 { drop; }", "S3 at 3:18",
+     "addresses are of IPv4, as 10.0.0.1; of IPv6 each half is a number, as src_ip6 / (0x100000000 * 0x100000000) == "
+     "0x20010db800000001, and so is a MAC address"),
+    ("if src_ip6 == 1 { drop; }", "T09 at 3:4",
+     "src_ip6 is of packets over IPv6, which have a handler of their own: on PORT six { }"),
+    ("nf x { ports 1; on 0 { } on 0 six { forward dst_ip; } }", "T09 at 1:45", "of a packet over IPv6 it is dst_ip6"),
     ('if src_ip == "10.0.0.1" { drop; }', "S1 at 3:14", "there are no strings: an address is written 10.0.0.1, a MAC address as a number"),
     ("if (ttl < 3) { drop; }", "S3 at 3:9", "no parentheses stand round a test: if .. == .. { }"),
     ("if !(ttl == 3) { drop; }", "S1 at 3:4", "there is no not: tests are == != < <= > >=, and else stands for the other case"),

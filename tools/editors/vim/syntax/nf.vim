@@ -3,12 +3,12 @@ if exists("b:current_syntax")
   finish
 endif
 
-syntax keyword nfDeclaration nf ports chain lifetime map fixed free array on
+syntax keyword nfDeclaration nf ports chain lifetime map fixed free array on six
 syntax keyword nfLookup get else find where new taken full if
 syntax keyword nfStatement touch set
 syntax keyword nfAction forward flood drop
 syntax keyword nfIndex index
-syntax keyword nfField time length src_mac dst_mac src_ip dst_ip proto ttl src_port dst_port
+syntax keyword nfField time length src_mac dst_mac src_ip dst_ip src_ip6 dst_ip6 proto ttl src_port dst_port
 " A run of letters, digits, _ and . that begins with a digit is a number, or none of the three forms.
 syntax match nfWrongNumber "\<\d[A-Za-z0-9_.]*"
 syntax match nfNumber "\<\%(0\|[1-9]\d*\)\%([A-Za-z0-9_.]\)\@!"
