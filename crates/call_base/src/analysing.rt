@@ -7,6 +7,7 @@ ghost use Rattle.call_base.specs.Source.{HasFewPaths};
 
 use access_keys::{Site, sites};
 use key_synth::{Verdict, synthesise};
+use nf_base::card::Card;
 use nf_base::func::Func;
 use shard_rules::{Plan, join};
 use std::alloc::{AllocError, Global};
@@ -29,15 +30,15 @@ pub fn own_plan(alloc: Global, func: &Func) -> Result<Plan, AllocError>
     }
 }
 
-/// The verdict on a function: the keys of its ports, under which packets that meet have equal
-/// hashes, or why there are none.
-pub fn verdict_of(alloc: Global, func: &Func) -> Result<Verdict, AllocError>
+/// The verdict on a function for a network card: the keys of its ports, under which packets that
+/// meet have equal hashes, or why there are none.
+pub fn verdict_of(alloc: Global, func: &Func, card: Card) -> Result<Verdict, AllocError>
     requires few { HasFewPaths (function_of func.now) }
-    ensures verdict { IfOk result (IsVerdict (function_of func.now)) }
+    ensures verdict { IfOk result (IsVerdict (function_of func.now) card) }
     ensures separates { IfOk result (Separates (function_of func.now)) }
 {
     match own_plan(alloc, func) {
-        Ok(plan) => synthesise(alloc, func, &plan),
+        Ok(plan) => synthesise(alloc, func, &plan, card),
         Err(error) => Err(error),
     }
 }

@@ -9,16 +9,20 @@ use Rattle.command_words.specs.declared.command.ModeChoice.{ModeChoice}
 use Rattle.command_words.specs.declared.command.ModeChoice.TheVariants.{Auto, Shard, Lock}
 use Rattle.command_words.specs.Grammar.{app}
 use Rattle.command_words.specs.declared.endpoint.Ends.{Ends}
-use Rattle.command_words.specs.Texts.{and_then, number_up_to, workers_in, flows_in, endpoint_in, ends_between, key_in}
+use Rattle.command_words.specs.Texts.{and_then, number_up_to, workers_in, flows_in, table_in, key_size_in, endpoint_in, ends_between, key_in}
+use Rattle.nf_base.specs.Cards.{usual_card}
+use Rattle.nf_base.specs.declared.card.Card.{Card}
 
 -- a run: the names of the function's file and of each port's capture, the front of the names of what
--- it leaves, how many workers handle the packets, in which mode, and the most packets that are handled
+-- it leaves, how many workers handle the packets, in which mode, the sizes of the network card that
+-- spreads them, and the most packets that are handled
 pub record Run : Type 0 where
   pub function : Text
   pub out : Text
   pub captures : List Text
   pub workers : ℕ
   pub mode : ModeChoice
+  pub card : Card
   pub most : ℕ
 
 -- a replay: the names of the function's file, of the journal and of each port's capture, the front of the
@@ -31,8 +35,8 @@ pub record Replay : Type 0 where
   pub most : ℕ
 
 -- a run over made-up traffic: the name of the function's file, the front of the names of what the run
--- leaves, what the traffic is drawn by, how many packets there are and of how many flows, and how many
--- workers handle them in which mode
+-- leaves, what the traffic is drawn by, how many packets there are and of how many flows, how many
+-- workers handle them in which mode, and the sizes of the network card that spreads them
 pub record Gen : Type 0 where
   pub function : Text
   pub out : Text
@@ -41,17 +45,22 @@ pub record Gen : Type 0 where
   pub flows : ℕ
   pub workers : ℕ
   pub mode : ModeChoice
+  pub card : Card
 
--- a hash: the packet's two ends, the key where one is given, and the number of workers
+-- a hash: the packet's two ends, the key where one is given, the number of workers, and the sizes of
+-- the table and of the default key
 pub record Hash : Type 0 where
   pub ends : Ends
   pub key : Option (List ℕ)
   pub workers : ℕ
+  pub card : Card
 
--- a text on a function: which one, and the name of the function's file
+-- a text on a function: which one, the name of the function's file, and the sizes of the network card
+-- that keys are for
 pub record Describe : Type 0 where
   pub what : Description
   pub function : Text
+  pub card : Card
 
 pub data Command : Type 0 where
   RunCommand : Run → Command
@@ -85,6 +94,16 @@ captures_in names = and_then names (λ names. if nat_le 1 (length names) && nat_
 abbrev pub most_in : Option Text → Option ℕ
 most_in text = or_default 10000000 (number_up_to 4294967295) text
 
+-- a network card by the texts of its sizes: a table of 128 entries and keys of 40 bytes where none are given
+abbrev pub card_in : Option Text → Option Text → Option Card
+card_in table key =
+    and_then (or_default usual_card.table table_in table) (λ t.
+    option_map (λ k. record { table = t; key = k }) (or_default usual_card.key key_size_in key))
+
+-- the network card that is asked for
+abbrev pub card_asked : List Row → Option Card
+card_asked rows = card_in (first_of (codes "table") rows) (first_of (codes "key-bytes") rows)
+
 abbrev pub run_in : List Row → Option Run
 run_in rows =
     and_then (first_of (codes "function") rows) (λ f.
@@ -92,8 +111,9 @@ run_in rows =
     and_then (captures_in (all_of (codes "capture") rows)) (λ cs.
     and_then (or_default 1 workers_in (first_of (codes "workers") rows)) (λ w.
     and_then (mode_in (first_of (codes "mode") rows)) (λ m.
-    option_map (λ n. record { function = f; out = o; captures = cs; workers = w; mode = m; most = n })
-    (most_in (first_of (codes "max-packets") rows)))))))
+    and_then (card_asked rows) (λ card.
+    option_map (λ n. record { function = f; out = o; captures = cs; workers = w; mode = m; card = card; most = n })
+    (most_in (first_of (codes "max-packets") rows))))))))
 
 abbrev pub replay_in : List Row → Option Replay
 replay_in rows =
@@ -120,8 +140,9 @@ gen_in rows =
     and_then (count_in (first_of (codes "count") rows)) (λ n.
     and_then (and_then (first_of (codes "flows") rows) flows_in) (λ k.
     and_then (or_default 1 workers_in (first_of (codes "workers") rows)) (λ w.
-    option_map (λ m. record { function = f; out = o; seed = s; count = n; flows = k; workers = w; mode = m })
-    (mode_in (first_of (codes "mode") rows))))))))
+    and_then (mode_in (first_of (codes "mode") rows)) (λ m.
+    option_map (λ card. record { function = f; out = o; seed = s; count = n; flows = k; workers = w; mode = m; card = card })
+    (card_asked rows))))))))
 
 -- a key where one is given
 abbrev pub given_key : Option Text → Option (Option (List ℕ))
@@ -138,7 +159,8 @@ abbrev pub hash_in : List Row → Option Hash
 hash_in rows =
     and_then (ends_in (first_of (codes "source") rows) (first_of (codes "destination") rows)) (λ ends.
     and_then (given_key (first_of (codes "key") rows)) (λ key.
-    option_map (λ w. record { ends = ends; key = key; workers = w }) (or_default 1 workers_in (first_of (codes "workers") rows))))
+    and_then (or_default 1 workers_in (first_of (codes "workers") rows)) (λ w.
+    option_map (λ card. record { ends = ends; key = key; workers = w; card = card }) (card_asked rows))))
 
 -- which text on a function a name asks for
 abbrev pub description_named : Text → Option Description
@@ -148,8 +170,16 @@ description_named name =
     if bytes_eq name (codes "keys") then Some Keys else
     None
 
+-- the network card that a text on a function is for; `check` says nothing of keys, and takes no options
+abbrev pub described_card : Description → List Row → Option Card
+described_card Check rows = Some usual_card
+described_card Explain rows = card_asked rows
+described_card Keys rows = card_asked rows
+
 abbrev pub describe_in : Description → List Row → Option Describe
-describe_in what rows = option_map (λ f. record { what = what; function = f }) (first_of (codes "function") rows)
+describe_in what rows =
+    and_then (first_of (codes "function") rows) (λ f.
+    option_map (λ card. record { what = what; function = f; card = card }) (described_card what rows))
 
 -- the command of a name, with what stands beside it
 abbrev pub named : Text → List Row → Option Command

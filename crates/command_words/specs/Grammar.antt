@@ -19,11 +19,19 @@ option id = record (new_rule id) { long = Some id; action = Some Set }
 abbrev pub run_names : App
 run_names = with_rule (with_rule (with_rule (new_app (codes "run")) (word (codes "function"))) (word (codes "out"))) (words (codes "capture"))
 
+-- the sizes of a network card, behind other words: [--table 128|512] [--key-bytes 40|52]
+abbrev pub with_card : App → App
+with_card words = with_rule (with_rule words (option (codes "table"))) (option (codes "key-bytes"))
+
 -- run NF OUT CAPTURE.. [--workers W] [--mode M] [--max-packets N]
-abbrev pub run_app : App
-run_app =
+abbrev pub run_amounts : App
+run_amounts =
     with_rule (with_rule (with_rule run_names
     (option (codes "workers"))) (option (codes "mode"))) (option (codes "max-packets"))
+
+-- run NF OUT CAPTURE.. [--workers W] [--mode M] [--max-packets N] [--table 128|512] [--key-bytes 40|52]
+abbrev pub run_app : App
+run_app = with_card run_amounts
 
 -- replay NF JOURNAL OUT
 abbrev pub replay_names : App
@@ -45,26 +53,30 @@ gen_names =
 abbrev pub gen_amounts : App
 gen_amounts = with_rule (with_rule gen_names (word (codes "count"))) (word (codes "flows"))
 
--- gen NF OUT SEED COUNT FLOWS [--workers W] [--mode M]
+-- gen NF OUT SEED COUNT FLOWS [--workers W] [--mode M] [--table 128|512] [--key-bytes 40|52]
 abbrev pub gen_app : App
-gen_app = with_rule (with_rule gen_amounts (option (codes "workers"))) (option (codes "mode"))
+gen_app = with_card (with_rule (with_rule gen_amounts (option (codes "workers"))) (option (codes "mode")))
 
--- hash SRC:PORT DST:PORT [--key HEX80] [--workers W]
+-- hash SRC:PORT DST:PORT [--key HEX] [--workers W] [--table 128|512] [--key-bytes 40|52]
 abbrev pub hash_app : App
 hash_app =
-    with_rule (with_rule (with_rule (with_rule (new_app (codes "hash"))
+    with_card (with_rule (with_rule (with_rule (with_rule (new_app (codes "hash"))
     (word (codes "source"))) (word (codes "destination")))
-    (option (codes "key"))) (option (codes "workers"))
+    (option (codes "key"))) (option (codes "workers")))
 
 -- check NF, or another word in its place that asks for a text on a function
-abbrev pub description_app : Text → App
-description_app name = with_rule (new_app name) (word (codes "function"))
+abbrev pub description_names : Text → App
+description_names name = with_rule (new_app name) (word (codes "function"))
 
--- check NF, explain NF and keys NF, behind other commands
+-- keys NF [--table 128|512] [--key-bytes 40|52], or another word in the place of `keys`
+abbrev pub description_app : Text → App
+description_app name = with_card (description_names name)
+
+-- check NF, explain NF and keys NF, behind other commands: `check` alone asks for no card
 abbrev pub with_descriptions : App → App
 with_descriptions others =
     with_subcommand (with_subcommand (with_subcommand others
-    (description_app (codes "check")).top) (description_app (codes "explain")).top)
+    (description_names (codes "check")).top) (description_app (codes "explain")).top)
     (description_app (codes "keys")).top
 
 -- the commands that handle packets, behind other commands

@@ -4,6 +4,11 @@ use Rattle.std.specs.List.{range_with_len}
 use Rattle.std.specs.Option.{option_map, option_and_then}
 use Rattle.nf_tokens.specs.Bytes.{is_hex_digit, digit_of, front_length}
 use Rattle.nf_tokens.specs.Numbers.{value_from, decimal, address, all_are}
+use Rattle.nf_base.specs.Cards.{entries, key_bytes}
+use Rattle.nf_base.specs.declared.card.TableSize.{TableSize}
+use Rattle.nf_base.specs.declared.card.TableSize.TheVariants.{Entries128, Entries512}
+use Rattle.nf_base.specs.declared.card.KeySize.{KeySize}
+use Rattle.nf_base.specs.declared.card.KeySize.TheVariants.{Bytes40, Bytes52}
 use Rattle.nf_base.specs.declared.packet.Addresses.{Addresses}
 use Rattle.nf_base.specs.declared.packet.Addresses.TheVariants as addresses
 use Rattle.command_words.specs.declared.endpoint.Address.{Address}
@@ -30,6 +35,28 @@ workers_in text = and_then (number_up_to 16 text) (λ n. if n == 0 then None els
 -- 1 to 65,536
 abbrev pub flows_in : List ℕ → Option ℕ
 flows_in text = and_then (number_up_to 65536 text) (λ n. if n == 0 then None else Some n)
+
+-- the size of a table with so many entries
+abbrev pub table_with : ℕ → Option TableSize
+table_with n =
+    if n == entries Entries128 then Some Entries128 else
+    if n == entries Entries512 then Some Entries512 else
+    None
+
+-- 128 or 512
+abbrev pub table_in : List ℕ → Option TableSize
+table_in text = and_then (decimal text) table_with
+
+-- the size of a key of so many bytes
+abbrev pub key_size_with : ℕ → Option KeySize
+key_size_with n =
+    if n == key_bytes Bytes40 then Some Bytes40 else
+    if n == key_bytes Bytes52 then Some Bytes52 else
+    None
+
+-- 40 or 52
+abbrev pub key_size_in : List ℕ → Option KeySize
+key_size_in text = and_then (decimal text) key_size_with
 
 -- a byte that is no colon
 abbrev pub in_address : ℕ → Bool
@@ -79,10 +106,18 @@ ends_between source destination =
 abbrev pub byte_at : List ℕ → ℕ → ℕ
 byte_at digits i = 16 * digit_of (slice_index digits (2 * i)) + digit_of (slice_index digits (2 * i + 1))
 
--- the 40 bytes of 80 digits
-unfoldable pub bytes_of_digits : List ℕ → List ℕ
-bytes_of_digits digits = map (byte_at digits) (range_with_len 0 40)
+-- the bytes of a key, by its digits
+unfoldable pub bytes_of_digits : KeySize → List ℕ → List ℕ
+bytes_of_digits size digits = map (byte_at digits) (range_with_len 0 (key_bytes size))
 
--- 80 digits of 0-9 a-f, which make 40 bytes
+-- the size of a key of so many digits, two of which are a byte
+abbrev pub size_of_digits : ℕ → Option KeySize
+size_of_digits n = if n == 80 then Some Bytes40 else if n == 104 then Some Bytes52 else None
+
+-- a key of a size, where all of its text are digits 0-9 a-f
+abbrev pub key_of_size : List ℕ → KeySize → Option (List ℕ)
+key_of_size text size = if all_are is_hex_digit text then Some (bytes_of_digits size text) else None
+
+-- 80 digits of 0-9 a-f, which make 40 bytes, or 104, which make 52
 abbrev pub key_in : List ℕ → Option (List ℕ)
-key_in text = if (length text == 80) && all_are is_hex_digit text then Some (bytes_of_digits text) else None
+key_in text = and_then (size_of_digits (length text)) (key_of_size text)

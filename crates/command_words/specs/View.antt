@@ -16,6 +16,7 @@ run c = record {
   captures = map string_bytes c.captures.items;
   workers = c.workers;
   mode = c.mode;
+  card = c.card;
   most = c.most;
 }
 
@@ -37,13 +38,14 @@ gen c = record {
   flows = c.flows;
   workers = c.workers;
   mode = c.mode;
+  card = c.card;
 }
 
 abbrev pub hash : declared_hash.HashCommand → Hash
-hash c = record { ends = c.ends; key = c.key; workers = c.workers }
+hash c = record { ends = c.ends; key = c.key; workers = c.workers; card = c.card }
 
 abbrev pub describe : declared_describe.DescribeCommand → Describe
-describe c = record { what = c.what; function = string_bytes c.function }
+describe c = record { what = c.what; function = string_bytes c.function; card = c.card }
 
 -- what is asked for
 abbrev pub asked : declared_command.Command → Command

@@ -1,6 +1,8 @@
 //! What a command line asks for.
 
 use crate::endpoint::Ends;
+use nf_base::card::Card;
+use nf_base::hash_key::HashKey;
 use nf_base::workers::Workers;
 
 /// Which mode is asked for, of a run by two workers or more. One worker runs in mode `one`.
@@ -26,6 +28,8 @@ pub struct RunCommand {
     /// How many workers handle them.
     pub workers: Workers,
     pub mode: ModeChoice,
+    /// The sizes of the network card that spreads them.
+    pub card: Card,
     /// The most packets that are handled.
     pub most: u32,
 }
@@ -61,6 +65,8 @@ pub struct GenCommand {
     /// How many workers handle them.
     pub workers: Workers,
     pub mode: ModeChoice,
+    /// The sizes of the network card that spreads them.
+    pub card: Card,
 }
 
 /// The hash of a packet between two ends.
@@ -68,10 +74,12 @@ pub struct GenCommand {
 pub struct HashCommand {
     /// The packet's two ends.
     pub ends: Ends,
-    /// The key of the hash, 40 bytes, where one is given.
-    pub key: Option<[u8; 40]>,
+    /// The key of the hash, where one is given.
+    pub key: Option<HashKey>,
     /// How many workers the queues are for.
     pub workers: Workers,
+    /// The size of the indirection table, and that of the default key, for where no key is given.
+    pub card: Card,
 }
 
 /// What is printed of a function.
@@ -91,6 +99,8 @@ pub struct DescribeCommand {
     pub what: Description,
     /// The name of the function's text.
     pub function: String,
+    /// The sizes of the network card that keys are for; those of every card where none are asked for.
+    pub card: Card,
 }
 
 /// A command.

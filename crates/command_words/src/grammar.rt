@@ -43,15 +43,35 @@ fn run_names<'a>(alloc: Global) -> Result<Command<'a>, AllocError>
         .arg(words(alloc, "capture"))
 }
 
+/// `[--table 128|512] [--key-bytes 40|52]`, behind the words that are there: the sizes of a network
+/// card.
+fn with_card<'a>(alloc: Global, command: Command<'a>) -> Result<Command<'a>, AllocError>
+    requires local { (out-Command command).has_globals ≡ false }
+    ensures app { IfOk result (λ c. app_of c ≡ grammar.with_card (app_of command.entry)) }
+    ensures local { IfOk result (λ c. (out-Command c).has_globals ≡ false) }
+{
+    command
+        .arg(option(alloc, "table"))?
+        .arg(option(alloc, "key-bytes"))
+}
+
 /// `run NF OUT CAPTURE.. [--workers W] [--mode M] [--max-packets N]`
-fn run_words<'a>(alloc: Global) -> Result<Command<'a>, AllocError>
-    ensures app { IfOk result (λ c. app_of c ≡ grammar.run_app) }
+fn run_amounts<'a>(alloc: Global) -> Result<Command<'a>, AllocError>
+    ensures app { IfOk result (λ c. app_of c ≡ grammar.run_amounts) }
     ensures local { IfOk result (λ c. (out-Command c).has_globals ≡ false) }
 {
     run_names(alloc)?
         .arg(option(alloc, "workers"))?
         .arg(option(alloc, "mode"))?
         .arg(option(alloc, "max-packets"))
+}
+
+/// `run NF OUT CAPTURE.. [--workers W] [--mode M] [--max-packets N] [--table 128|512] [--key-bytes 40|52]`
+fn run_words<'a>(alloc: Global) -> Result<Command<'a>, AllocError>
+    ensures app { IfOk result (λ c. app_of c ≡ grammar.run_app) }
+    ensures local { IfOk result (λ c. (out-Command c).has_globals ≡ false) }
+{
+    with_card(alloc, run_amounts(alloc)?)
 }
 
 /// `replay NF JOURNAL OUT`
@@ -96,44 +116,55 @@ fn gen_amounts<'a>(alloc: Global) -> Result<Command<'a>, AllocError>
         .arg(word(alloc, "flows"))
 }
 
-/// `gen NF OUT SEED COUNT FLOWS [--workers W] [--mode M]`
+/// `gen NF OUT SEED COUNT FLOWS [--workers W] [--mode M] [--table 128|512] [--key-bytes 40|52]`
 fn gen_words<'a>(alloc: Global) -> Result<Command<'a>, AllocError>
     ensures app { IfOk result (λ c. app_of c ≡ grammar.gen_app) }
     ensures local { IfOk result (λ c. (out-Command c).has_globals ≡ false) }
 {
-    gen_amounts(alloc)?
+    let command = gen_amounts(alloc)?
         .arg(option(alloc, "workers"))?
-        .arg(option(alloc, "mode"))
+        .arg(option(alloc, "mode"))?;
+    with_card(alloc, command)
 }
 
-/// `hash SRC:PORT DST:PORT [--key HEX80] [--workers W]`
+/// `hash SRC:PORT DST:PORT [--key HEX] [--workers W] [--table 128|512] [--key-bytes 40|52]`
 fn hash_words<'a>(alloc: Global) -> Result<Command<'a>, AllocError>
     ensures app { IfOk result (λ c. app_of c ≡ grammar.hash_app) }
     ensures local { IfOk result (λ c. (out-Command c).has_globals ≡ false) }
 {
-    Command::new(alloc, "hash")
+    let command = Command::new(alloc, "hash")
         .arg(word(alloc, "source"))?
         .arg(word(alloc, "destination"))?
         .arg(option(alloc, "key"))?
-        .arg(option(alloc, "workers"))
+        .arg(option(alloc, "workers"))?;
+    with_card(alloc, command)
 }
 
 /// `check NF`, or another word in its place that asks for a text on a function.
-fn description_words<'a>(alloc: Global, name: &'a str) -> Result<Command<'a>, AllocError>
-    ensures app { IfOk result (λ c. app_of c ≡ grammar.description_app name.entry.now) }
+fn description_names<'a>(alloc: Global, name: &'a str) -> Result<Command<'a>, AllocError>
+    ensures app { IfOk result (λ c. app_of c ≡ grammar.description_names name.entry.now) }
     ensures local { IfOk result (λ c. (out-Command c).has_globals ≡ false) }
 {
     Command::new(alloc, name).arg(word(alloc, "function"))
 }
 
-/// `check NF`, `explain NF` and `keys NF`, behind the commands that are there.
+/// `keys NF [--table 128|512] [--key-bytes 40|52]`, or another word in the place of `keys`.
+fn description_words<'a>(alloc: Global, name: &'a str) -> Result<Command<'a>, AllocError>
+    ensures app { IfOk result (λ c. app_of c ≡ grammar.description_app name.entry.now) }
+    ensures local { IfOk result (λ c. (out-Command c).has_globals ≡ false) }
+{
+    with_card(alloc, description_names(alloc, name)?)
+}
+
+/// `check`, `explain` and `keys`, behind the commands that are there: `check` says nothing of keys, so
+/// it asks for no card.
 fn with_descriptions<'a>(alloc: Global, command: Command<'a>) -> Result<Command<'a>, AllocError>
     requires local { (out-Command command).has_globals ≡ false }
     ensures app { IfOk result (λ c. app_of c ≡ grammar.with_descriptions (app_of command.entry)) }
     ensures local { IfOk result (λ c. (out-Command c).has_globals ≡ false) }
 {
     command
-        .subcommand(description_words(alloc, "check")?)?
+        .subcommand(description_names(alloc, "check")?)?
         .subcommand(description_words(alloc, "explain")?)?
         .subcommand(description_words(alloc, "keys")?)
 }

@@ -2,7 +2,7 @@
 
 ghost use Rattle.std.specs.Prelude.{◌≡◌, ◌≤◌, IfOk, IfSome, map, length, option_map, string_bytes};
 ghost use Rattle.clap.specs.Words.{all_of, first_of, found_of, rows_of, subcommand_rows_of};
-ghost use Rattle.command_words.specs.Texts.{and_then, endpoint_in, flows_in, workers_in};
+ghost use Rattle.command_words.specs.Texts.{and_then, endpoint_in, flows_in, key_size_in, table_in, workers_in};
 ghost use Rattle.command_words.specs.Commands as meant;
 ghost use Rattle.command_words.specs.View as view;
 
@@ -15,7 +15,10 @@ use crate::grammar::all_words;
 use crate::key::key_in;
 use clap::ArgMatches;
 use clap::error::ErrorKind;
+use nf_base::card::{Card, KeySize, TableSize};
+use nf_base::hash_key::HashKey;
 use nf_base::workers::Workers;
+use nf_tokens::decimal;
 use std::alloc::{AllocError, Global};
 
 /// The value of an argument that has one.
@@ -89,6 +92,44 @@ fn most_in(text: Option<&str>) -> Option<u32>
     }
 }
 
+/// 128 or 512.
+fn table_in(text: &[u8]) -> Option<TableSize>
+    ensures { result ≡ table_in text.now }
+{
+    TableSize::of(decimal(text)?)
+}
+
+/// 40 or 52.
+fn key_size_in(text: &[u8]) -> Option<KeySize>
+    ensures { result ≡ key_size_in text.now }
+{
+    KeySize::of(decimal(text)?)
+}
+
+/// A table of 128 entries and keys of 40 bytes where the options are left out.
+fn card_in(table: Option<&str>, key: Option<&str>) -> Option<Card>
+    ensures { let entries = option_map (λ s. s.now) table.entry in
+        let bytes = option_map (λ s. s.now) key.entry in
+        result ≡ meant.card_in entries bytes }
+{
+    let table = match table {
+        None => Card::usual().table,
+        Some(text) => table_in(text.as_bytes())?,
+    };
+    let key = match key {
+        None => Card::usual().key,
+        Some(text) => key_size_in(text.as_bytes())?,
+    };
+    Some(Card { table, key })
+}
+
+/// The network card that is asked for.
+fn card_asked(matches: &ArgMatches) -> Option<Card>
+    ensures { result ≡ meant.card_asked (rows_of (found_of matches.now)) }
+{
+    card_in(value(matches, "table"), value(matches, "key-bytes"))
+}
+
 fn copied(alloc: Global, names: &[&str]) -> Result<Vec<String>, AllocError>
     ensures { IfOk result (λ copies. map string_bytes copies.items ≡ map (λ s. s.now) names.now) }
 {
@@ -125,14 +166,16 @@ fn run_command(alloc: Global, matches: &ArgMatches) -> Result<Option<RunCommand>
     };
     let workers = workers_or_one(value(matches, "workers"));
     let mode = mode_in(value(matches, "mode"));
+    let card = card_asked(matches);
     let most = most_in(value(matches, "max-packets"));
-    match (workers, mode, most) {
-        (Some(workers), Some(mode), Some(most)) => Ok(Some(RunCommand {
+    match (workers, mode, card, most) {
+        (Some(workers), Some(mode), Some(card), Some(most)) => Ok(Some(RunCommand {
             function: String::from_str(alloc, function)?,
             out: String::from_str(alloc, out)?,
             captures,
             workers,
             mode,
+            card,
             most,
         })),
         _ => Ok(None),
@@ -207,16 +250,20 @@ fn gen_command(alloc: Global, matches: &ArgMatches) -> Result<Option<GenCommand>
     let flows = flows_in(value(matches, "flows"));
     let workers = workers_or_one(value(matches, "workers"));
     let mode = mode_in(value(matches, "mode"));
-    match (seed, count, flows, workers, mode) {
-        (Some(seed), Some(count), Some(flows), Some(workers), Some(mode)) => Ok(Some(GenCommand {
-            function: String::from_str(alloc, function)?,
-            out: String::from_str(alloc, out)?,
-            seed,
-            count,
-            flows,
-            workers,
-            mode,
-        })),
+    let card = card_asked(matches);
+    match (seed, count, flows, workers, mode, card) {
+        (Some(seed), Some(count), Some(flows), Some(workers), Some(mode), Some(card)) => {
+            Ok(Some(GenCommand {
+                function: String::from_str(alloc, function)?,
+                out: String::from_str(alloc, out)?,
+                seed,
+                count,
+                flows,
+                workers,
+                mode,
+                card,
+            }))
+        }
         _ => Ok(None),
     }
 }
@@ -238,7 +285,7 @@ fn ends_in(source: Option<&str>, destination: Option<&str>) -> Option<Ends>
 }
 
 /// A key, where one is given.
-fn given_key(text: Option<&str>) -> Option<Option<[u8; 40]>>
+fn given_key(text: Option<&str>) -> Option<Option<HashKey>>
     ensures { result ≡ meant.given_key (option_map (λ s. s.now) text.entry) }
 {
     match text {
@@ -253,9 +300,25 @@ fn hash_command(matches: &ArgMatches) -> Option<HashCommand>
     let ends = ends_in(value(matches, "source"), value(matches, "destination"));
     let key = given_key(value(matches, "key"));
     let workers = workers_or_one(value(matches, "workers"));
-    match (ends, key, workers) {
-        (Some(ends), Some(key), Some(workers)) => Some(HashCommand { ends, key, workers }),
+    let card = card_asked(matches);
+    match (ends, key, workers, card) {
+        (Some(ends), Some(key), Some(workers), Some(card)) => Some(HashCommand {
+            ends,
+            key,
+            workers,
+            card,
+        }),
         _ => None,
+    }
+}
+
+/// The network card that a text on a function is for.
+fn described_card(what: Description, matches: &ArgMatches) -> Option<Card>
+    ensures { result ≡ meant.described_card what (rows_of (found_of matches.now)) }
+{
+    match what {
+        Description::Check => Some(Card::usual()),
+        Description::Explain | Description::Keys => card_asked(matches),
     }
 }
 
@@ -266,12 +329,13 @@ fn describe_command(
 ) -> Result<Option<DescribeCommand>, AllocError>
     ensures { IfOk result (λ r. option_map view.describe r ≡ meant.describe_in what (rows_of (found_of matches.now))) }
 {
-    match value(matches, "function") {
-        Some(function) => Ok(Some(DescribeCommand {
+    match (value(matches, "function"), described_card(what, matches)) {
+        (Some(function), Some(card)) => Ok(Some(DescribeCommand {
             what,
             function: String::from_str(alloc, function)?,
+            card,
         })),
-        None => Ok(None),
+        _ => Ok(None),
     }
 }
 

@@ -1,6 +1,7 @@
 -- What printing a line of a hash, or a text on a function, comes to before that is told on standard error.
 use Rattle.std.specs.Prelude.{◌≡◌, ◌⊎◌, ℕ, List, [], ◌∷◌, Result, Ok, Err}
 use Rattle.nf_base.specs.Text.{Function}
+use Rattle.nf_base.specs.declared.card.Card.{Card}
 use Rattle.nf_files.specs.Told.{Told}
 use Rattle.nf_files.specs.Causes.{Counted, Faulted, FaultedAsking, asking}
 use Rattle.command_words.specs.Commands.{Hash, Describe}
@@ -41,7 +42,7 @@ pub record IsDescribed (c : Describe) (before now : Outside) : Type 0 where
   pub function : Function
   pub is_function : IsFunctionUnder before.told c.function function
   pub text : List ℕ
-  pub is_text : IsDescription c.what function text
+  pub is_text : IsDescription c.what function c.card text
   pub contents : (n : List ℕ) → now.told.content n ≡ before.told.content n
   pub stdout : Printed before.told now.told 0 text
   pub stderr : now.told.given 1 ≡ before.told.given 1
@@ -62,7 +63,7 @@ pub record IsHalfDescribed (c : Describe) (before now : Outside) (stop : Stop) :
   pub function : Function
   pub is_function : IsFunctionUnder before.told c.function function
   pub text : List ℕ
-  pub is_text : IsDescription c.what function text
+  pub is_text : IsDescription c.what function c.card text
   pub contents : (n : List ℕ) → now.told.content n ≡ before.told.content n
   pub stdout : PrintedFront before.told now.told 0 text
   pub stderr : now.told.given 1 ≡ before.told.given 1
@@ -73,9 +74,9 @@ abbrev pub IsUndescribed : Describe → Outside → Outside → Stop → Type 0
 IsUndescribed c before now stop = IsUnread c before now stop ⊎ IsHalfDescribed c before now stop
 
 -- what printing a text on a function comes to; memory may run out before there is one
-pub record PrintsOne {T : Type 0} (what : Description) (f : Function) (before now : Outside) (result : Result T Stop) : Type 0 where
+pub record PrintsOne {T : Type 0} (what : Description) (f : Function) (card : Card) (before now : Outside) (result : Result T Stop) : Type 0 where
   pub text : List ℕ
-  pub is_text : IsDescription what f text
+  pub is_text : IsDescription what f card text
   pub prints : PrintsTo before now text result
 
 -- nothing was printed, since memory ran out
@@ -84,9 +85,9 @@ pub record IsStill (before now : Outside) (stop : Stop) : Type 0 where
   pub counted : now.counted ≡ before.counted
   pub memory : stop ≡ Memory
 
-abbrev pub PrintsText : {T : Type 0} → Description → Function → Outside → Outside → Result T Stop → Type 0
-PrintsText {T = T} what f before now (Ok x) = PrintsOne {T = T} what f before now (Ok x)
-PrintsText {T = T} what f before now (Err stop) = PrintsOne {T = T} what f before now (Err stop) ⊎ IsStill before now stop
+abbrev pub PrintsText : {T : Type 0} → Description → Function → Card → Outside → Outside → Result T Stop → Type 0
+PrintsText {T = T} what f card before now (Ok x) = PrintsOne {T = T} what f card before now (Ok x)
+PrintsText {T = T} what f card before now (Err stop) = PrintsOne {T = T} what f card before now (Err stop) ⊎ IsStill before now stop
 
 -- what that comes to of the function under a name
 abbrev pub DescribesTo : {T : Type 0} → Describe → Outside → Outside → Result T NoFunction → Type 0

@@ -1,6 +1,7 @@
 -- What is printed of a function that is asked about.
 use Rattle.std.specs.Prelude.{◌≡◌, ℕ, List, [], ◌∷◌, ◌++◌, Option, Some, None, length, codes, decimal}
 use Rattle.nf_base.specs.Text.{Function}
+use Rattle.nf_base.specs.declared.card.Card.{Card}
 use Rattle.command_words.specs.declared.command.Description.{Description}
 use Rattle.command_words.specs.declared.command.Description.TheVariants.{Check, Explain, Keys}
 use Rattle.shard_rules.specs.Served.{own_sites, own_plan}
@@ -34,27 +35,27 @@ objects_text f =
 abbrev pub check_line : Function → List ℕ
 check_line f = codes "ok " ++ objects_text f ++ codes ", paths" ++ counts_text (path_counts f) ++ codes "\n"
 
--- The text of the verdict on a function: sharded with the given keys, or locked where no admissible
--- keys spread, with the cause.
-pub record IsVerdictText (f : Function) (text : List ℕ) : Type 0 where
+-- The text of the verdict on a function for a network card: sharded with the given keys, or locked
+-- where no admissible keys spread, with the cause.
+pub record IsVerdictText (f : Function) (card : Card) (text : List ℕ) : Type 0 where
   pub verdict : Verdict
-  pub is_verdict : IsVerdict f verdict
+  pub is_verdict : IsVerdict f card verdict
   pub said : text ≡ verdict_text f verdict
 
 -- The same behind the function's objects, each with its sites.
-pub record IsExplanation (f : Function) (text : List ℕ) : Type 0 where
+pub record IsExplanation (f : Function) (card : Card) (text : List ℕ) : Type 0 where
   pub verdict : Verdict
-  pub is_verdict : IsVerdict f verdict
+  pub is_verdict : IsVerdict f card verdict
   pub said : text ≡ explained_whole f (own_sites f) (own_plan f) verdict
 
 -- the text that is asked for
-abbrev pub IsDescription : Description → Function → List ℕ → Type 0
-IsDescription Check f text = text ≡ check_line f
-IsDescription Explain f text = IsExplanation f text
-IsDescription Keys f text = IsVerdictText f text
+abbrev pub IsDescription : Description → Function → Card → List ℕ → Type 0
+IsDescription Check f card text = text ≡ check_line f
+IsDescription Explain f card text = IsExplanation f card text
+IsDescription Keys f card text = IsVerdictText f card text
 
 -- two texts that are asked for alike are equal
 abbrev pub DescriptionsAreOne : Type 0
 DescriptionsAreOne =
-    (what : Description) (f : Function) (text other : List ℕ) →
-    IsDescription what f text → IsDescription what f other → text ≡ other
+    (what : Description) (f : Function) (card : Card) (text other : List ℕ) →
+    IsDescription what f card text → IsDescription what f card other → text ≡ other

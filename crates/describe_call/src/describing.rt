@@ -14,6 +14,7 @@ use call_base::say::print_out;
 use call_base::status::Stop;
 use command_words::{DescribeCommand, Description};
 use itoa::Buffer;
+use nf_base::card::Card;
 use nf_base::func::Func;
 use nf_files::Files;
 use std::alloc::{AllocError, Global};
@@ -83,16 +84,21 @@ fn check_line(alloc: Global, source: &Source) -> Result<Vec<u8>, AllocError>
     Ok(line)
 }
 
-// What is printed of a function.
-fn description(alloc: Global, what: Description, source: &Source) -> Result<Vec<u8>, AllocError>
+// What is printed of a function, for a network card.
+fn description(
+    alloc: Global,
+    what: Description,
+    source: &Source,
+    card: Card,
+) -> Result<Vec<u8>, AllocError>
     requires counts { source.now.paths.items ≡ path_counts (function_of source.now.func) }
     requires few { HasFewPaths (function_of source.now.func) }
-    ensures { IfOk result (λ text. meant.IsDescription what (function_of source.now.func) text.items) }
+    ensures { IfOk result (λ text. meant.IsDescription what (function_of source.now.func) card text.items) }
 {
     match what {
         Description::Check => check_line(alloc, source),
-        Description::Explain => explanation(alloc, &source.func),
-        Description::Keys => verdict(alloc, &source.func),
+        Description::Explain => explanation(alloc, &source.func, card),
+        Description::Keys => verdict(alloc, &source.func, card),
     }
 }
 
@@ -102,13 +108,14 @@ fn print_source<F: Files>(
     files: &mut F,
     what: Description,
     source: &Source,
+    card: Card,
 ) -> Result<(), Stop>
     requires counts { source.now.paths.items ≡ path_counts (function_of source.now.func) }
     requires few { HasFewPaths (function_of source.now.func) }
-    ensures prints { PrintsText what (function_of source.now.func)
+    ensures prints { PrintsText what (function_of source.now.func) card
         (seen (F.told files.old) (F.counted files.old)) (seen (F.told files.new) (F.counted files.new)) result }
 {
-    match description(alloc, what, source) {
+    match description(alloc, what, source, card) {
         Ok(text) => print_out(files, text.as_slice()),
         Err(_) => Err(Stop::Memory),
     }
@@ -124,7 +131,7 @@ pub fn print_description<F: Files>(
         (seen (F.told files.old) (F.counted files.old)) (seen (F.told files.new) (F.counted files.new)) result }
 {
     match read_function(alloc, files, &command.function) {
-        Ok(found) => match print_source(alloc, files, command.what, &found.source) {
+        Ok(found) => match print_source(alloc, files, command.what, &found.source, command.card) {
             Ok(()) => Ok(()),
             Err(stop) => Err(NoFunction::Stop(stop)),
         },

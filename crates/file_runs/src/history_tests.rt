@@ -6,6 +6,7 @@ ghost use Rattle.nf_base.specs.Statements.{statements};
 ghost use Rattle.nf_base.specs.View.{block_of};
 
 use nf_base::block::{Block, Ending};
+use nf_base::card::{Card, KeySize, TableSize};
 use nf_base::decl::{ArrayDecl, ChainDecl, ColumnDecl, ColumnId, Name, ObjectId};
 use nf_base::done::Action;
 use nf_base::func::Func;
@@ -21,20 +22,106 @@ use nf_base::state::{Chain, Entry, State};
 use nf_base::width::Width;
 use run_history::header::Header;
 use run_history::line::{JournalLine, Mode, write_line};
+use run_history::reader::read_line;
 use run_history::state_text::state_text;
 use std::alloc::{AllocError, Global};
 
+const USUAL: Card = Card {
+    table: TableSize::Entries128,
+    key: KeySize::Bytes40,
+};
+
+const LONG_KEYS: Card = Card {
+    table: TableSize::Entries128,
+    key: KeySize::Bytes52,
+};
+
+const LARGE_TABLE: Card = Card {
+    table: TableSize::Entries512,
+    key: KeySize::Bytes40,
+};
+
+const LARGE: Card = Card {
+    table: TableSize::Entries512,
+    key: KeySize::Bytes52,
+};
+
+/// First lines of journals, and what they tell.
+static FIRST_LINES: [(Mode, u32, Card, &str); 6] = [
+    (Mode::One, 1, USUAL, "maestro journal 1 one 1\n"),
+    (Mode::Shard, 2, USUAL, "maestro journal 1 shard 2\n"),
+    (Mode::Lock, 16, USUAL, "maestro journal 1 lock 16\n"),
+    (Mode::Shard, 2, LARGE, "maestro journal 2 shard 2 512 52\n"),
+    (
+        Mode::One,
+        1,
+        LARGE_TABLE,
+        "maestro journal 2 one 1 512 40\n",
+    ),
+    (
+        Mode::Lock,
+        16,
+        LONG_KEYS,
+        "maestro journal 2 lock 16 128 52\n",
+    ),
+];
+
+fn first_lines() -> &'static [(Mode, u32, Card, &'static str)] {
+    &FIRST_LINES
+}
+
 #[test]
-fn a_header_names_the_mode_and_the_workers(rt: HostRuntime) {
-    let cases: [(Mode, u32, &str); 3] = [
-        (Mode::One, 1, "maestro journal 1 one 1\n"),
-        (Mode::Shard, 2, "maestro journal 1 shard 2\n"),
-        (Mode::Lock, 16, "maestro journal 1 lock 16\n"),
-    ];
-    for (mode, workers, text) in cases {
-        let header = Header::of(mode, workers).expect(&rt, "a number of workers of the mode");
+fn a_header_names_the_mode_the_workers_and_another_card(rt: HostRuntime) {
+    for (mode, workers, card, text) in first_lines() {
+        let header = Header::of(*mode, *workers, *card).expect(&rt, "workers of the mode");
         let bytes = write_line(rt.alloc(), &JournalLine::Header(header)).expect(&rt, "memory");
         assert!(rt; bytes.as_slice() == text.as_bytes(), "{text}");
+    }
+}
+
+/// Whether a text is the first line of a journal that tells this.
+fn tells(text: &str, mode: Mode, workers: u32, card: Card) -> bool {
+    match read_line(text.as_bytes()) {
+        Some(JournalLine::Header(header)) => {
+            header.mode() == mode && header.workers().get() == workers && header.card() == card
+        }
+        _ => false,
+    }
+}
+
+#[test]
+fn a_header_is_read_as_it_was_written(rt: HostRuntime) {
+    for (mode, workers, card, text) in first_lines() {
+        assert!(rt; tells(text, *mode, *workers, *card), "{text}");
+    }
+}
+
+/// Texts that are no line of a journal.
+static NO_LINES: [&str; 14] = [
+    "maestro journal 2 shard 2 128 40\n",
+    "maestro journal 2 one 1 128 40\n",
+    "maestro journal 2 shard 2\n",
+    "maestro journal 2 shard 2 512\n",
+    "maestro journal 2 shard 2 512 \n",
+    "maestro journal 2 shard 2 256 40\n",
+    "maestro journal 2 shard 2 512 41\n",
+    "maestro journal 2 shard 2 52 512\n",
+    "maestro journal 2 shard 2 512 52 0\n",
+    "maestro journal 2 shard 1 512 52\n",
+    "maestro journal 2 shard 2 0512 52\n",
+    "maestro journal 1 shard 2 512 52\n",
+    "maestro journal 3 shard 2 512 52\n",
+    "maestro journal 2 shard 2 512 52",
+];
+
+fn no_lines() -> &'static [&'static str] {
+    &NO_LINES
+}
+
+#[test]
+fn other_texts_are_no_first_line(rt: HostRuntime) {
+    for text in no_lines() {
+        assert!(rt; read_line(text.as_bytes()).is_none(), "{text}");
     }
 }
 

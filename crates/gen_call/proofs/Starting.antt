@@ -52,19 +52,19 @@ use Rattle.gen_call.proofs.Finishing.{handlers_of, ports_are, few_of, two_of, la
 -- ---- a run that was asked for
 
 -- the packets are those of the function that the code holds
-packets_as : (job : Job) (f : Function) → f ≡ function_of job.func.now → asked_for (record { seed = (asked job).seed; count = (asked job).count; flows = (asked job).flows }) (length job.func.now.handlers) ≡ packets_for (asked job) f
+packets_as : (job : Job) (f : Function) → f ≡ function_of job.func.now → asked_for (record { seed = (asked job).seed; count = (asked job).count; flows = (asked job).flows; card = (asked job).card }) (length job.func.now.handlers) ≡ packets_for (asked job) f
 packets_as job f e =
-    let t : Traffic = record { seed = (asked job).seed; count = (asked job).count; flows = (asked job).flows } in
+    let t : Traffic = record { seed = (asked job).seed; count = (asked job).count; flows = (asked job).flows; card = (asked job).card } in
     ap (asked_for t) (sym (ap (λ (g : Function). length g.handlers) e ∙ handlers_of job))
 
-run_is : (before : Outside) (job : Job) (who : Who) (Refused : Type 0) (given : List Arrival) (r : Run) → IsJob before job → IsWho (asked job) (function_of job.func.now) who → IsRunBy who Refused (function_of job.func.now) given r → IsRunOf (asked job) Refused before.told given r
+run_is : (before : Outside) (job : Job) (who : Who) (Refused : Type 0) (given : List Arrival) (r : Run) → IsJob before job → IsWho (asked job) (function_of job.func.now) who → IsRunBy who (asked job).card Refused (function_of job.func.now) given r → IsRunOf (asked job) Refused before.told given r
 run_is before job who Refused given r is by h =
-    let e = sym (function_by who Refused (function_of job.func.now) given r h) in
+    let e = sym (function_by who (asked job).card Refused (function_of job.func.now) given r h) in
     record {
       is_function = subst (IsFunctionUnder before.told (asked job).function) e is.is_function;
       who = who;
       is_who = subst (λ (f : Function). IsWho (asked job) f who) e by;
-      is_run = subst (λ (f : Function). IsRunBy who Refused f given r) e h;
+      is_run = subst (λ (f : Function). IsRunBy who (asked job).card Refused f given r) e h;
     }
 
 -- ---- its files
@@ -129,11 +129,11 @@ ports_asked c now start n p made e h = subst (λ (m : ℕ). now ≡ asking (aske
 -- ---- what it came to
 
 pub done : (since : Since) (a b : Outside) (job : Job) (targets : List ℕ) (who : Who) (all : List Arrival) (first : ℕ) (m : Mode) (state : State) (sent : ℕ) → IsJob since.before job → HasCreated since.before a job targets → IsWho (asked job) (function_of job.func.now) who
-    → all ≡ asked_for (record { seed = (asked job).seed; count = (asked job).count; flows = (asked job).flows }) (length job.func.now.handlers) → first ≡ since.before.told.next + 1
-    → traffic.IsFinished who (HasRefused since) (function_of job.func.now) all b.told targets first m state sent → KeepsBut targets a.told b.told → b.counted ≡ a.counted → HasDone since b job m state sent (job.naming.ports + 1) (job.naming.ports + 1)
+    → all ≡ asked_for (record { seed = (asked job).seed; count = (asked job).count; flows = (asked job).flows; card = (asked job).card }) (length job.func.now.handlers) → first ≡ since.before.told.next + 1
+    → traffic.IsFinished who (asked job).card (HasRefused since) (function_of job.func.now) all b.told targets first m state sent → KeepsBut targets a.told b.told → b.counted ≡ a.counted → HasDone since b job m state sent (job.naming.ports + 1) (job.naming.ports + 1)
 done since a b job targets who all first m state sent is h by all_is first_at k kept counted =
     let w = k.whole in
-    let f = function_by who (HasRefused since) (function_of job.func.now) all w.run w.is_run in
+    let f = function_by who (asked job).card (HasRefused since) (function_of job.func.now) all w.run w.is_run in
     let ports = ports_are since.before job w.run is f in
     let packets : all ≡ packets_for (asked job) w.run.function = all_is ∙ packets_as job w.run.function f in
     record {
@@ -155,8 +155,8 @@ done since a b job targets who all first m state sent is h by all_is first_at k 
     }
 
 pub keys_of : (since : Since) (a b : Outside) (job : Job) (targets : List ℕ) (who : Who) (all : List Arrival) (full : Full) (said : FullShare) → IsToldStop (function_of job.func.now) full.stop said → IsJob since.before job → HasCreated since.before a job targets → IsWho (asked job) (function_of job.func.now) who
-    → all ≡ asked_for (record { seed = (asked job).seed; count = (asked job).count; flows = (asked job).flows }) (length job.func.now.handlers)
-    → traffic.IsFull who (function_of job.func.now) all b.told targets full → KeepsBut targets a.told b.told → b.counted ≡ a.counted → IsFinished (asked job) (HasRefused since) since.before b (ShareFull said)
+    → all ≡ asked_for (record { seed = (asked job).seed; count = (asked job).count; flows = (asked job).flows; card = (asked job).card }) (length job.func.now.handlers)
+    → traffic.IsFull who (asked job).card (function_of job.func.now) all b.told targets full → KeepsBut targets a.told b.told → b.counted ≡ a.counted → IsFinished (asked job) (HasRefused since) since.before b (ShareFull said)
 keys_of since a b job targets whos.One all full said told is h by all_is k kept counted = absurd k
 keys_of since a b job targets (whos.Sharing workers) all full said told is h by all_is k kept counted = absurd k
 keys_of since a b job targets (whos.Shards keys workers) all full said told is h by all_is k kept counted =
@@ -174,7 +174,7 @@ keys_of since a b job targets (whos.Shards keys workers) all full said told is h
         k.is_run.mode,
         record {
           keys = keys;
-          are_given = subst (λ (g : Function). AreGiven g keys) e by.3;
+          are_given = subst (λ (g : Function). AreGiven g (asked job).card keys) e by.3;
           several = omega (arith, by.0, by.1);
           stop = full.stop;
           behind = subst (λ (w : ℕ). IsStopBehind k.run.function keys w k.run full.stop) by.0 (subst (λ (g : Function). IsStopBehind g keys workers k.run full.stop) e k.stops);
@@ -192,11 +192,11 @@ keys_of since a b job targets (whos.Shards keys workers) all full said told is h
 
 -- the run was stopped
 pub cut : (since : Since) (a b : Outside) (job : Job) (targets : List ℕ) (who : Who) (all : List Arrival) (stop : NumberStop) → IsJob since.before job → HasCreated since.before a job targets → IsWho (asked job) (function_of job.func.now) who
-    → all ≡ asked_for (record { seed = (asked job).seed; count = (asked job).count; flows = (asked job).flows }) (length job.func.now.handlers)
-    → (k : traffic.IsCutShort who (HasRefused since) (function_of job.func.now) all b.told targets) → KeepsBut targets a.told b.told → IsStopCause {T = Unit {0}} a.counted b.counted (Err stop) → StopsAmong {T = Unit {0}} [] targets (Err stop)
+    → all ≡ asked_for (record { seed = (asked job).seed; count = (asked job).count; flows = (asked job).flows; card = (asked job).card }) (length job.func.now.handlers)
+    → (k : traffic.IsCutShort who (asked job).card (HasRefused since) (function_of job.func.now) all b.told targets) → KeepsBut targets a.told b.told → IsStopCause {T = Unit {0}} a.counted b.counted (Err stop) → StopsAmong {T = Unit {0}} [] targets (Err stop)
     → IsStopped (asked job) (HasRefused since) since.before b (stop_named since.before.told.next (ports_of k.run) stop)
 cut since a b job targets who all stop is h by all_is k kept cause among =
-    let f = function_by who (HasRefused since) (function_of job.func.now) k.given k.run k.is_run in
+    let f = function_by who (asked job).card (HasRefused since) (function_of job.func.now) k.given k.run k.is_run in
     let ports = ports_are since.before job k.run is f in
     let n = ports_of k.run in
     inr (record {
@@ -236,9 +236,9 @@ pub uncreated : (since : Since) (a b : Outside) (job : Job) (who : Who) (stop : 
     → AreSomeCreated a.told b.told (name_at (asked job).out job.naming.ports) (job.naming.ports + 1) stop → AsksSome (created_by (asked job).out job.naming.ports (job.naming.ports + 1)) a.counted b.counted stop
     → (r : Run) × (r.function ≡ function_of job.func.now) × IsStopped (asked job) (HasRefused since) since.before b (stop_named since.before.told.next (ports_of r) stop)
 uncreated since a b job who stop is at only by serves some asks =
-    let all = asked_for (record { seed = (asked job).seed; count = (asked job).count; flows = (asked job).flows }) (length job.func.now.handlers) in
-    let none = none_by who (HasRefused since) (function_of job.func.now) all b.told [] serves (λ k file e. absurd (cc e)) in
-    let f = function_by who (HasRefused since) (function_of job.func.now) none.given none.run none.is_run in
+    let all = asked_for (record { seed = (asked job).seed; count = (asked job).count; flows = (asked job).flows; card = (asked job).card }) (length job.func.now.handlers) in
+    let none = none_by who (asked job).card (HasRefused since) (function_of job.func.now) all b.told [] serves (λ k file e. absurd (cc e)) in
+    let f = function_by who (asked job).card (HasRefused since) (function_of job.func.now) none.given none.run none.is_run in
     let ports = ports_are since.before job none.run is f in
     let n = ports_of none.run in
     let two = two_of since.before job is in

@@ -3,6 +3,7 @@ use Rattle.std.specs.Prelude.{◌≡◌, ◌≢◌, ℕ, ◌+◌, ◌<◌, List,
 use Rattle.nf_base.specs.Text.{Function}
 use Rattle.nf_base.specs.declared.done.Done.{Done}
 use Rattle.nf_base.specs.declared.keys.Keys.{Keys}
+use Rattle.nf_base.specs.declared.card.Card.{Card}
 use Rattle.nf_base.specs.declared.state.State.{State}
 use Rattle.nf_files.specs.Told.{Told}
 use Rattle.nf_files.specs.Causes.{Asked}
@@ -38,7 +39,7 @@ use Rattle.call_base.specs.Names.{reading, created_by}
 
 -- the traffic that a command asks for
 abbrev pub traffic_of : Gen → Traffic
-traffic_of c = record { seed = c.seed; count = c.count; flows = c.flows }
+traffic_of c = record { seed = c.seed; count = c.count; flows = c.flows; card = c.card }
 
 -- its packets, at a function's ports
 abbrev pub packets_for : Gen → Function → List Arrival
@@ -46,30 +47,30 @@ packets_for c f = asked_for (traffic_of c) (length f.handlers)
 
 -- ---- who handles them
 
--- a function has keys
-pub record HasKeys (f : Function) : Type 0 where
+-- a function has keys for a network card
+pub record HasKeys (f : Function) (card : Card) : Type 0 where
   pub keys : Keys
-  pub given : AreGiven f keys
+  pub given : AreGiven f card keys
 
 -- Several may share all tables where that is asked for, or where no keys serve the function.
-abbrev pub MayShare : ModeChoice → Function → Type 0
-MayShare choice.Lock f = Unit {0}
-MayShare choice.Auto f = (cause : Cause) × IsVerdict f (Locked cause)
-MayShare choice.Shard f = ⊥
+abbrev pub MayShare : ModeChoice → Card → Function → Type 0
+MayShare choice.Lock card f = Unit {0}
+MayShare choice.Auto card f = (cause : Cause) × IsVerdict f card (Locked cause)
+MayShare choice.Shard card f = ⊥
 
 -- Who handles the packets: one worker, or as many as are asked for, which share nothing under the
--- function's keys, or share all tables.
+-- function's keys for the network card that is asked for, or share all tables.
 abbrev pub IsWho : Gen → Function → Who → Type 0
-IsWho c f One = (c.workers ≡ 1) × (c.mode ≡ choice.Shard → HasKeys f)
-IsWho c f (Shards keys workers) = (workers ≡ c.workers) × (1 < workers) × (c.mode ≢ choice.Lock) × AreGiven f keys
-IsWho c f (Sharing workers) = (workers ≡ c.workers) × (1 < workers) × MayShare c.mode f
+IsWho c f One = (c.workers ≡ 1) × (c.mode ≡ choice.Shard → HasKeys f c.card)
+IsWho c f (Shards keys workers) = (workers ≡ c.workers) × (1 < workers) × (c.mode ≢ choice.Lock) × AreGiven f c.card keys
+IsWho c f (Sharing workers) = (workers ≡ c.workers) × (1 < workers) × MayShare c.mode c.card f
 
 -- A run of some packets that a command asks for: its text is what stood under its name.
 pub record IsRunOf (c : Gen) (Refused : Type 0) (told : Told) (given : List Arrival) (run : Run) : Type 0 where
   pub is_function : IsFunctionUnder told c.function run.function
   pub who : Who
   pub is_who : IsWho c run.function who
-  pub is_run : IsRunBy who Refused run.function given run
+  pub is_run : IsRunBy who c.card Refused run.function given run
 
 -- ---- how it ends
 
@@ -83,7 +84,7 @@ pub record IsToldStop (f : Function) (stop : ShareStop) (full : FullShare) : Typ
 -- this name, has no index left for it.
 pub record IsFullBehind (c : Gen) (run : Run) (given : List Arrival) (full : FullShare) : Type 0 where
   pub keys : Keys
-  pub are_given : AreGiven run.function keys
+  pub are_given : AreGiven run.function c.card keys
   pub several : 1 < c.workers
   pub stop : ShareStop
   pub behind : IsStopBehind run.function keys c.workers run stop
@@ -105,13 +106,13 @@ left_by ports (ShareFull full) = ports + 1
 left_by ports (Torn port offset) = ports + 2
 left_by ports (TooMany most) = ports + 2
 
--- A function has no keys, and mode `shard` is asked for.
+-- A function has no keys for the network card that is asked for, and mode `shard` is asked for.
 pub record HasNoKeys (c : Gen) (told : Told) (why : NoKeys) : Type 0 where
   pub function : Function
   pub is_function : IsFunctionUnder told c.function function
   pub needs : c.mode ≡ choice.Shard
   pub cause : Cause
-  pub locked : IsVerdict function (Locked cause)
+  pub locked : IsVerdict function c.card (Locked cause)
   pub says : SaysCause function cause why
 
 -- ---- what is told of it

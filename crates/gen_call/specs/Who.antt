@@ -1,6 +1,7 @@
 -- What looking for who handles the packets comes to.
 use Rattle.std.specs.Prelude.{◌≡◌, Result, Ok, Err}
 use Rattle.nf_base.specs.Text.{Function}
+use Rattle.nf_base.specs.declared.card.Card.{Card}
 use Rattle.key_synth.specs.Verdicts.{IsVerdict}
 use Rattle.key_synth.specs.declared.verdict.Cause.{Cause}
 use Rattle.key_synth.specs.declared.verdict.Verdict.TheVariants.{Locked}
@@ -17,15 +18,15 @@ use Rattle.call_base.specs.declared.status.Stop.TheVariants as stops
 use Rattle.call_base.specs.Named.{SaysCause}
 use Rattle.gen_call.specs.Runs.{IsWho}
 
--- a function has no keys, for this cause
-pub record IsLocked (f : Function) (why : Why) : Type 0 where
+-- a function has no keys for a network card, for this cause
+pub record IsLocked (f : Function) (card : Card) (why : Why) : Type 0 where
   pub cause : Cause
-  pub locked : IsVerdict f (Locked cause)
+  pub locked : IsVerdict f card (Locked cause)
   pub says : SaysCause f cause why
 
 -- why there is none
 abbrev pub IsUnserved : Gen → Function → Refusal → Type 0
-IsUnserved c f (refusals.NoKeys why) = (c.mode ≡ Shard) × IsLocked f why
+IsUnserved c f (refusals.NoKeys why) = (c.mode ≡ Shard) × IsLocked f c.card why
 IsUnserved c f refusals.Usage = ⊥
 IsUnserved c f (refusals.Text fault) = ⊥
 IsUnserved c f (refusals.NotCapture port) = ⊥

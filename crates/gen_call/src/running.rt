@@ -120,6 +120,7 @@ fn run_created<R: Threads + Wait + Sync, F: Files, T: Turns + Sync, G: Gate + Dr
         seed: job.command.seed,
         count: job.command.count,
         flows: job.command.flows,
+        card: job.command.card,
     };
     let first = targets[0];
     match run(

@@ -37,7 +37,7 @@ fn several_by(command: &GenCommand, func: &Func, verdict: Verdict) -> Result<Who
     requires several { 1 < (view.gen command.now).workers }
     requires few { (view.gen command.now).workers ≤ 16 }
     requires unlocked { (view.gen command.now).mode ≢ Lock }
-    requires verdict { IsVerdict (function_of func.now) verdict }
+    requires verdict { IsVerdict (function_of func.now) (view.gen command.now).card verdict }
     requires separates { Separates (function_of func.now) verdict }
     ensures serves { ServesBy (view.gen command.now) (function_of func.now) result }
 {
@@ -54,7 +54,7 @@ fn several_by(command: &GenCommand, func: &Func, verdict: Verdict) -> Result<Who
 fn one_by(command: &GenCommand, func: &Func, verdict: Verdict) -> Result<Who, Refusal>
     requires alone { (view.gen command.now).workers ≡ 1 }
     requires shard { (view.gen command.now).mode ≡ Shard }
-    requires verdict { IsVerdict (function_of func.now) verdict }
+    requires verdict { IsVerdict (function_of func.now) (view.gen command.now).card verdict }
     ensures serves { ServesBy (view.gen command.now) (function_of func.now) result }
 {
     match verdict {
@@ -83,7 +83,7 @@ pub fn who_of(alloc: Global, command: &GenCommand, func: &Func) -> Result<Who, H
         (false, ModeChoice::Auto) => Ok(Who::One),
         (false, ModeChoice::Lock) => Ok(Who::One),
         (true, ModeChoice::Lock) => Ok(Who::Sharing(command.workers)),
-        (_, _) => match verdict_of(alloc, func) {
+        (_, _) => match verdict_of(alloc, func, command.card) {
             Ok(verdict) => {
                 if several {
                     or_halt(several_by(command, func, verdict))

@@ -3,7 +3,8 @@
 //! `none`.
 //!
 //! Given words, it solves the made up systems of those names (`free`, `dense`, `sparse`, `tight`,
-//! `repeated`, `joined`) over 508 bits with 4 groups of 102 members, and prints how long that took.
+//! `half`, `repeated`, `joined`) over 508 and 1,276 bits with 4 groups, and prints how long that
+//! took.
 //! Its tests are those of the solver.
 #![tactic(auto)]
 
@@ -12,6 +13,8 @@ mod systems;
 #[cfg(test)]
 mod tests;
 mod times;
+#[cfg(test)]
+mod wide_tests;
 
 use std::{env, io};
 

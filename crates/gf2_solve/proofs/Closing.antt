@@ -4,7 +4,7 @@ use Rattle.std.proofs.lemmas.Bool.{cases_lt}
 use Rattle.gf2_solve.specs.Sums.{bit}
 use Rattle.gf2_solve.specs.Solutions.{IsAdmissible, AgreeBelow, IsNearest}
 use Rattle.gf2_solve.specs.Kept.{Kept, HasSolution, StandsFor, Answers}
-use Rattle.gf2_solve.specs.Searches.{IsFixed, IsAmong, NoneIsAmong, IsCloser}
+use Rattle.gf2_solve.specs.Searches.{IsFixed, Excludes, IsAmong, NoneIsAmong, IsCloser}
 
 -- no solution with a 1 in each group that agrees with x below i has the wanted bit there
 pub record IsPast (system : Kept) (groups : List (List Bool)) (wanted x : List Bool) (i : ℕ) : Type 0 where
@@ -112,4 +112,11 @@ pub closer_none : (system other : Kept) (groups : List (List Bool)) (wanted best
 closer_none system other groups wanted best place fixed none among = record {
   among = among;
   closer = inr (record { none = λ y is same. none.none y (record { solution = fixed.stays y is.solution same; met = is.met }) });
+}
+
+pub closer_excluded : (system : Kept) (groups : List (List Bool)) (wanted best : List Bool) (place : ℕ)
+    → IsAmong system groups best → Excludes system place (bit wanted place) → IsCloser system groups wanted place best
+closer_excluded system groups wanted best place among excludes = record {
+  among = among;
+  closer = inr (record { none = λ y is. excludes.none y is.solution });
 }

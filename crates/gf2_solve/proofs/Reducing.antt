@@ -1,7 +1,7 @@
 -- An equation that loses its leading bits, one by one.
 use Rattle.std.proofs.Common.{◌≡◌, ◌<◌, ◌≤◌, refl, sym, ap, ◌∙◌, subst, get_or, Bool, true, false, List, [], ◌∷◌, ◌++◌, length, Option, Some, None, arith}
 use Rattle.std.proofs.lemmas.List.{length_push, get_or_read}
-use Rattle.gf2_solve.specs.Sums.{plus, bit, sum_of, IsSumOf}
+use Rattle.gf2_solve.specs.Sums.{plus, bit, sum_of, IsSumOf, HasSameSums}
 use Rattle.gf2_solve.specs.Equations.{gap_of, led_at, Solves, LeadsAnew, HasGap}
 use Rattle.gf2_solve.specs.declared.equation.Equation.{Equation}
 use Rattle.gf2_solve.proofs.SumLemmas.{plus_zero, plus_assoc, sum_of-push}
@@ -10,6 +10,17 @@ use Rattle.gf2_solve.proofs.SumLemmas.{plus_zero, plus_assoc, sum_of-push}
 pub record IsReduced (rows : List (Option Equation)) (equation : Equation) (row : List Bool) (sum : Bool) : Type 0 where
   pub within : length row ≤ length rows
   pub same : (x : List Bool) → Solves rows x → gap_of equation x ≡ plus sum (sum_of row x)
+
+pub reduced_start : (rows : List (Option Equation)) (equation : Equation) (row : List Bool)
+    → length equation.row ≤ length rows → HasSameSums row equation.row → length row ≤ length equation.row → IsReduced rows equation row equation.sum
+reduced_start rows equation row fits same short = record { within = omega arith; same = λ x solves. ap (plus equation.sum) (sym (same.sums x)) }
+
+pub reduced_same : (rows : List (Option Equation)) (equation : Equation) (old row : List Bool) (sum : Bool)
+    → IsReduced rows equation old sum → HasSameSums row old → length row ≤ length old → IsReduced rows equation row sum
+reduced_same rows equation old row sum left same short = record {
+  within = let h : length old ≤ length rows = left.within in omega arith;
+  same = λ x solves. left.same x solves ∙ ap (plus sum) (sym (same.sums x));
+}
 
 -- the bits of a row but its last
 popped : (rows : List (Option Equation)) (equation : Equation) (old row : List Bool) (lead known sum : Bool)

@@ -1,7 +1,6 @@
 -- Sums of rows.
-use Rattle.std.proofs.Common.{◌≡◌, ℕ, zero, suc, ◌+◌, ◌<◌, ◌≤◌, refl, sym, ap, ◌∙◌, Bool, true, false, ◌&&◌, List, [], ◌∷◌, ◌++◌, length, set, take, replicate, arith}
-use Rattle.std.proofs.lemmas.List.{take_more, length-take-le}
-use Rattle.gf2_solve.specs.Sums.{plus, bit, sum_of, IsSumOf}
+use Rattle.std.proofs.Common.{◌≡◌, ℕ, zero, suc, ◌<◌, ◌≤◌, refl, sym, ap, ◌∙◌, Bool, true, false, ◌&&◌, List, [], ◌∷◌, ◌++◌, length, set, take, replicate, arith}
+use Rattle.gf2_solve.specs.Sums.{plus, bit, sum_of}
 
 pub plus_zero : (a : Bool) → plus a false ≡ a
 plus_zero false = refl
@@ -61,13 +60,6 @@ sum_of-set (r ∷ row) (b ∷ x) zero a h = bits r a b (sum_of row x)
 sum_of-set (r ∷ row) (b ∷ x) (suc i) a h =
     ap (plus (r && b)) (sum_of-set row x i a (omega arith)) ∙ sym (plus_assoc (r && b) (sum_of row x) (a && bit x i))
 
--- the first i + 1 bits of a row
-pub sum_of-take_more : (row x : List Bool) (i : ℕ) → i < length row → sum_of (take (i + 1) row) x ≡ plus (sum_of (take i row) x) (bit row i && bit x i)
-sum_of-take_more row x i h =
-    ap (λ front. sum_of front x) (take_more row i false h)
-    ∙ sum_of-push (take i row) x (bit row i)
-    ∙ ap (λ n. plus (sum_of (take i row) x) (bit row i && bit x n)) (length-take-le i row (omega arith))
-
 -- bits of the vector past the row's end
 pub sum_of-append : (row x y : List Bool) → length row ≤ length x → sum_of row (x ++ y) ≡ sum_of row x
 sum_of-append [] x y h = refl
@@ -88,18 +80,3 @@ pub sum_of-zeros : (n : ℕ) (x : List Bool) → sum_of (replicate n false) x �
 sum_of-zeros zero x = refl
 sum_of-zeros (suc n) [] = refl
 sum_of-zeros (suc n) (b ∷ x) = sum_of-zeros n x
-
--- a loop's step over the bits of a row
-pub sum_more : (row x : List Bool) (i : ℕ) (s : Bool) → i < length row → s ≡ sum_of (take i row) x → plus s (bit row i && bit x i) ≡ sum_of (take (i + 1) row) x
-sum_more row x i s h e = ap (λ s. plus s (bit row i && bit x i)) e ∙ sym (sum_of-take_more row x i h)
-
-pub added_none : (row other : List Bool) → IsSumOf row (take 0 other) row
-added_none row other = record { sums = λ x. sym (plus_zero (sum_of row x)) }
-
-pub added_more : (start other row : List Bool) (i : ℕ) → i < length row → i < length other → IsSumOf start (take i other) row → IsSumOf start (take (i + 1) other) (set row i (plus (bit row i) (bit other i)))
-added_more start other row i h k e = record {
-  sums = λ x. sum_of-set row x i (bit other i) h
-      ∙ ap (λ s. plus s (bit other i && bit x i)) (e.sums x)
-      ∙ plus_assoc (sum_of start x) (sum_of (take i other) x) (bit other i && bit x i)
-      ∙ ap (plus (sum_of start x)) (sym (sum_of-take_more other x i k));
-}

@@ -2,12 +2,13 @@
 use Rattle.std.proofs.Common.{◌≡◌, ℕ, zero, suc, refl, sym, ap, ◌∙◌, subst, Bool, true, false, List, [], ◌∷◌, ◌++◌, length, take, replicate, None, All, arith}
 use Rattle.std.proofs.lemmas.List.{length-replicate, length_push, get_or_push, take_at}
 use Rattle.std.proofs.lemmas.List.Elements.{All-nil, All-push, All-take, All-get_or}
+use Rattle.std.proofs.lemmas.Bool.{false≢true}
 use Rattle.std.proofs.lemmas.Option.{none-some}
 use Rattle.gf2_solve.specs.Sums.{plus, bit, sum_of}
-use Rattle.gf2_solve.specs.Equations.{led_at, AreLed}
+use Rattle.gf2_solve.specs.Equations.{led_at, AreLed, HasGap}
 use Rattle.gf2_solve.specs.Solutions.{IsSolution}
 use Rattle.gf2_solve.specs.Kept.{Kept, kept, width_of, StandsFor, HasRowMore}
-use Rattle.gf2_solve.specs.Searches.{IsNarrowed, IsFixed}
+use Rattle.gf2_solve.specs.Searches.{IsNarrowed, IsFixed, Excludes}
 use Rattle.gf2_solve.proofs.SumLemmas.{plus_self, sum_of-push, sum_of-take, sum_of-zeros, same_bits}
 
 none_leads : (n i : ℕ) → led_at (replicate n None) i ≡ None
@@ -74,3 +75,9 @@ fixed_by old new place value row one narrowed = record {
   where
     is : (x : List Bool) → sum_of row x ≡ bit x place
     is x = ap (λ row. sum_of row x) one ∙ one_bit place x
+
+pub excluded : (system : Kept) (place : ℕ) (value : Bool) (row : List Bool)
+    → row ≡ replicate place false ++ true ∷ [] → HasGap system.rows (record { row = row; sum = value }) true → Excludes system place value
+excluded system place value row one gap = record {
+  none = λ x has same. false≢true (sym (plus_self value) ∙ sym (ap (plus value) (ap (λ row. sum_of row x) one ∙ one_bit place x ∙ same)) ∙ gap.same x has.solves);
+}

@@ -1,4 +1,5 @@
 pub mod Sums
+pub mod Words
 pub mod Equations
 pub mod Solutions
 pub mod Laws

@@ -24,6 +24,10 @@ pub record IsFixed (old : Kept) (place : ℕ) (value : Bool) (new : Kept) : Type
   pub fixed : (x : List Bool) → HasSolution new x → bit x place ≡ value
   pub stays : (x : List Bool) → HasSolution old x → bit x place ≡ value → HasSolution new x
 
+-- no solution has this bit at a place
+pub record Excludes (system : Kept) (place : ℕ) (value : Bool) : Type 0 where
+  pub none : (x : List Bool) → HasSolution system x → bit x place ≢ value
+
 -- a vector with a 0 at each member of a group
 pub record Misses (x group : List Bool) : Type 0 where
   pub zero : (place : ℕ) → bit group place ≡ true → bit x place ≡ false

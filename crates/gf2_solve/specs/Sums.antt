@@ -19,3 +19,7 @@ sum_of (a ∷ row) (b ∷ x) = plus (a && b) (sum_of row x)
 -- a row whose sum at each vector is the sum of two others' sums
 pub record IsSumOf (left right row : List Bool) : Type 0 where
   pub sums : (x : List Bool) → sum_of row x ≡ plus (sum_of left x) (sum_of right x)
+
+-- a row whose sum at each vector is another's
+pub record HasSameSums (row other : List Bool) : Type 0 where
+  pub sums : (x : List Bool) → sum_of row x ≡ sum_of other x

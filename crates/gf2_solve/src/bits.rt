@@ -1,6 +1,6 @@
-//! Rows of bits, and their sums modulo 2.
-ghost use Rattle.std.specs.Prelude.{◌≡◌, ◌≤◌, ◌++◌, ◌∷◌, [], length, take, true, false, replicate, IfOk, MatchOption};
-ghost use Rattle.gf2_solve.specs.Sums.{plus, bit, sum_of, IsSumOf};
+//! Bits in order, and their sums modulo 2.
+ghost use Rattle.std.specs.Prelude.{◌≡◌, length, IfOk};
+ghost use Rattle.gf2_solve.specs.Sums.{plus, bit};
 
 use std::alloc::{AllocError, Global};
 use std::marker::Model;
@@ -30,15 +30,6 @@ impl Bits {
         Ok(Bits(bits))
     }
 
-    /// The first so many bits, and all where there are no more.
-    pub(crate) fn front(&self, alloc: Global, count: usize) -> Result<Bits, AllocError>
-        ensures { IfOk result (λ front. front ≡ take count self.now) }
-    {
-        let mut bits = self.copy(alloc)?;
-        bits.0.truncate(count);
-        Ok(bits)
-    }
-
     /// How many bits.
     pub fn len(&self) -> usize
         ensures { result ≡ length self.now }
@@ -62,31 +53,6 @@ impl Bits {
             None => false,
         }
     }
-
-    /// Takes the last bit off.
-    pub(crate) fn pop(&mut self) -> Option<bool>
-        ensures { MatchOption result (self.old ≡ []) (λ last. self.old ≡ self.new ++ last ∷ []) }
-    {
-        self.0.pop()
-    }
-
-    /// Adds a row of as many bits.
-    pub(crate) fn add(&mut self, other: &Bits)
-        requires { length other.now ≡ length self.old }
-        ensures sums { IsSumOf self.old other.now self.new }
-        ensures length { length self.new ≡ length self.old }
-    {
-        add_to(&mut self.0, &other.0);
-    }
-
-    /// A row whose sum is bit `i` of a vector.
-    pub(crate) fn one(alloc: Global, i: usize) -> Result<Bits, AllocError>
-        ensures { IfOk result (λ row. row ≡ replicate i false ++ true ∷ []) }
-    {
-        let mut bits = vec![in alloc; false; i]?;
-        bits.push(true)?;
-        Ok(Bits(bits))
-    }
 }
 
 /// The sum modulo 2 of two bits.
@@ -94,28 +60,4 @@ pub(crate) fn plus(a: bool, b: bool) -> bool
     ensures { result ≡ plus a b }
 {
     a ^ b
-}
-
-/// The sum modulo 2 of the bits of a row where a vector has a 1.
-#[tactic(auto, using(crate::proofs::SumLemmas::sum_more))]
-pub(crate) fn sum(row: &[bool], x: &[bool]) -> bool
-    requires { length row.now ≤ length x.now }
-    ensures { result ≡ sum_of row.now x.now }
-{
-    let mut sum = false;
-    for (i, bit) in row.iter().enumerate() {
-        sum = plus(sum, *bit & x[i]);
-    }
-    sum
-}
-
-/// Adds a row to another.
-#[tactic(auto, using(crate::proofs::SumLemmas::added_none, crate::proofs::SumLemmas::added_more))]
-fn add_to(row: &mut [bool], other: &[bool])
-    requires { length other.now ≤ length row.old }
-    ensures { IsSumOf row.old other.now row.new }
-{
-    for (i, bit) in other.iter().enumerate() {
-        row[i] = plus(row[i], *bit);
-    }
 }

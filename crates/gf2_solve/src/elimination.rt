@@ -9,6 +9,7 @@ ghost use Rattle.gf2_solve.specs.Equations.{AreLed, Solves, IsRest, HasGap, IsAd
 
 use crate::bits::{Bits, plus};
 use crate::equation::{Equation, next_bit};
+use crate::row::Row;
 use std::alloc::{AllocError, Global};
 
 /// What is left of an equation among others.
@@ -21,7 +22,7 @@ enum Rest {
 }
 
 /// Reduces an equation by others, from its last bit on, until it leads at a free bit or has none.
-#[tactic(auto, using(crate::proofs::Reducing::reduced_zero, crate::proofs::Reducing::reduced_led, crate::proofs::Reducing::reduced_free, crate::proofs::Reducing::reduced_none))]
+#[tactic(auto, using(crate::proofs::Reducing::reduced_start, crate::proofs::Reducing::reduced_zero, crate::proofs::Reducing::reduced_led, crate::proofs::Reducing::reduced_free, crate::proofs::Reducing::reduced_none))]
 fn rest_of(rows: &[Option<Equation>], equation: Equation) -> Rest
     requires led { AreLed rows.now }
     requires fits { length equation.row ≤ length rows.now }
@@ -29,11 +30,13 @@ fn rest_of(rows: &[Option<Equation>], equation: Equation) -> Rest
 {
     let mut sum = equation.sum;
     let mut row = equation.row;
+    row.trim();
     while let Some(lead) = row.pop() {
         if lead {
             match &rows[row.len()] {
                 Some(leading) => {
                     row.add(&leading.row);
+                    row.trim();
                     sum = plus(sum, leading.sum);
                 }
                 None => return Rest::Leading(Equation { row, sum }),
@@ -62,6 +65,18 @@ pub fn insert(rows: &mut [Option<Equation>], equation: Equation) -> bool
     }
 }
 
+/// Whether an equation contradicts others.
+pub fn contradicts(rows: &[Option<Equation>], equation: Equation) -> bool
+    requires led { AreLed rows.now }
+    requires fits { length equation.row ≤ length rows.now }
+    ensures { IsTrue result → HasGap rows.now equation true }
+{
+    match rest_of(rows, equation) {
+        Rest::Leading(_rest) => false,
+        Rest::Gap(gap) => gap,
+    }
+}
+
 /// The solution with the wanted bits where no equation leads (back substitution).
 #[tactic(auto, using(crate::proofs::Completing::below_none, crate::proofs::Completing::ends_there, crate::proofs::Completing::below_more, crate::proofs::Completing::below_all))]
 pub fn solution(
@@ -74,8 +89,11 @@ pub fn solution(
     ensures solves { IfOk result (λ x. Solves rows.now x.items) }
 {
     let mut x = Vec::with_capacity(alloc, rows.len())?;
+    let mut before = Row::with_capacity(alloc, rows.len())?;
     for (i, row) in rows.iter().enumerate() {
-        x.push(next_bit(row, &x, wanted.bit(i)))?;
+        let bit = next_bit(row, &before, wanted.bit(i));
+        before.push(bit)?;
+        x.push(bit)?;
     }
     Ok(x)
 }

@@ -8,8 +8,10 @@ mod equation;
 mod groups;
 pub mod laws;
 mod nearest;
+mod row;
 mod search;
 mod system;
+mod words;
 
 pub use bits::Bits;
 pub use system::System;

@@ -38,7 +38,7 @@ impl System {
 
 /// A solution with a 1 in each group and the wanted bit at a place: the one at hand where none has
 /// it.
-#[tactic(auto, using(crate::proofs::Closing::closer_same, crate::proofs::Closing::closer_found, crate::proofs::Closing::closer_none))]
+#[tactic(auto, using(crate::proofs::Closing::closer_same, crate::proofs::Closing::closer_excluded, crate::proofs::Closing::closer_found, crate::proofs::Closing::closer_none))]
 fn closer(
     alloc: Global,
     system: &System,
@@ -52,6 +52,9 @@ fn closer(
     ensures { IfOk result (IsCloser system.now groups.now wanted.now place) }
 {
     if best.bit(place) == wanted.bit(place) {
+        return Ok(best);
+    }
+    if system.excludes(alloc, place, wanted.bit(place))? {
         return Ok(best);
     }
     let mut other = system.copy(alloc)?;

@@ -43,7 +43,7 @@ pub fn find(
 /// It goes from the last member to the first: the nearest solution departs from the wanted vector
 /// as late as it can, so a late member is likelier to be found.
 #[cycle(search)]
-#[tactic(auto, using(crate::proofs::Searching::left_none, crate::proofs::Searching::left_past, crate::proofs::Searching::left_more, crate::proofs::Searching::left_all, crate::proofs::Searching::left_found))]
+#[tactic(auto, using(crate::proofs::Searching::left_none, crate::proofs::Searching::left_past, crate::proofs::Searching::left_excluded, crate::proofs::Searching::left_more, crate::proofs::Searching::left_all, crate::proofs::Searching::left_found))]
 fn mended(
     alloc: Global,
     system: &System,
@@ -55,7 +55,7 @@ fn mended(
 {
     let mut left = system.copy(alloc)?;
     for place in (0..system.width()).rev() {
-        if !group.bit(place) {
+        if !group.bit(place) || left.excludes(alloc, place, true)? {
             continue;
         }
         match with_one(alloc, &left, wanted, place, others)? {

@@ -1,11 +1,12 @@
 //! A system of equations.
-ghost use Rattle.std.specs.Prelude.{◌≡◌, ◌≤◌, ◌<◌, [], length, IfOk, OnOk, OnErr, MatchOption, replicate, None};
+ghost use Rattle.std.specs.Prelude.{◌≡◌, ◌≤◌, ◌<◌, [], length, IfOk, OnOk, OnErr, MatchOption, replicate, None, IsTrue};
 ghost use Rattle.gf2_solve.specs.Kept.{width_of, HasSolution, StandsFor, HasRowMore};
-ghost use Rattle.gf2_solve.specs.Searches.{HasNone, IsNarrowed, IsFixed};
+ghost use Rattle.gf2_solve.specs.Searches.{HasNone, IsNarrowed, IsFixed, Excludes};
 
 use crate::bits::Bits;
-use crate::elimination::{insert, solution};
+use crate::elimination::{contradicts, insert, solution};
 use crate::equation::{Equation, copied_equations};
+use crate::row::Row;
 use std::alloc::{AllocError, Global};
 use std::marker::Model;
 
@@ -50,7 +51,7 @@ impl System {
         ensures ok { OnOk result (HasRowMore self.old row.now self.new) }
         ensures err { OnErr result (self.new ≡ self.old) }
     {
-        let row = row.front(alloc, self.width())?;
+        let row = Row::front(alloc, row, self.width())?;
         self.narrow(Equation { row, sum: false });
         Ok(())
     }
@@ -87,9 +88,25 @@ impl System {
         requires { place < width_of self.old }
         ensures { OnOk result (IsFixed self.old place value self.new) }
     {
-        let row = Bits::one(alloc, place)?;
+        let row = Row::one(alloc, place)?;
         self.narrow(Equation { row, sum: value });
         Ok(())
+    }
+
+    /// Whether the equations leave no solution with this bit. Finding that out takes no copy of the
+    /// system, as fixing the bit in one would.
+    pub(crate) fn excludes(
+        &self,
+        alloc: Global,
+        place: usize,
+        value: bool,
+    ) -> Result<bool, AllocError>
+        requires { place < width_of self.now }
+        ensures { IfOk result (λ none. IsTrue none → Excludes self.now place value) }
+    {
+        let row = Row::one(alloc, place)?;
+        let equation = Equation { row, sum: value };
+        Ok(contradicts(self.rows.as_slice(), equation))
     }
 
     /// The solution with the wanted bits where they are free: none where there is no solution.

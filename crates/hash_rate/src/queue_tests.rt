@@ -1,4 +1,6 @@
 //! The table, and the shares of its queues.
+use nf_base::card::{KeySize, TableSize};
+use nf_base::hash_key::HashKey;
 use nf_base::keys::Keys;
 use nf_base::limited::Limited;
 use nf_base::mac::Mac;
@@ -8,7 +10,7 @@ use nf_base::workers::Workers;
 use rss_table::{Table, share, table_index};
 use std::alloc::{AllocError, Global};
 use std::test::Fail;
-use toeplitz_hash::DEFAULT_KEY;
+use toeplitz_hash::default_key;
 
 // The tests call the table through these, which promise nothing: what the answers are is compared,
 // and not proved.
@@ -26,14 +28,14 @@ fn workers(count: u32) -> Option<Workers> {
 fn queue(count: u32, keys: &Keys, packet: &Packet) -> Option<u32> {
     let workers = workers(count)?;
     if packet.id.port < keys.ports.len() {
-        Some(Table::even(workers).queue(keys, packet))
+        Some(Table::even(workers, keys.table).queue(keys, packet))
     } else {
         None
     }
 }
 
-fn index(hash: u32) -> u32 {
-    table_index(hash)
+fn index(size: TableSize, hash: u32) -> u32 {
+    table_index(size, hash)
 }
 
 /// The share of a queue among as many as there are workers.
@@ -70,16 +72,26 @@ fn packet_between(src: [u8; 4], src_port: u16, dst: [u8; 4], dst_port: u16) -> P
     packet_of(Addresses::Four { src, dst }, src_port, dst_port)
 }
 
-fn one_key(alloc: Global, key: [u8; 40]) -> Result<Keys, AllocError> {
+fn one_key(alloc: Global, table: TableSize, key: HashKey) -> Result<Keys, AllocError> {
     let mut ports = Limited::new(alloc);
     ports.push(key)?;
-    Ok(Keys { ports })
+    Ok(Keys { table, ports })
+}
+
+/// The default key of 40 bytes, for a table of 128 entries.
+fn usual_keys(alloc: Global) -> Result<Keys, AllocError> {
+    one_key(alloc, TableSize::Entries128, default_key(KeySize::Bytes40))
+}
+
+/// Both sizes of keys, for a table of 512 entries.
+fn keys_of_512(alloc: Global, size: KeySize) -> Result<Keys, AllocError> {
+    one_key(alloc, TableSize::Entries512, default_key(size))
 }
 
 /// The first two rows of Microsoft's verification suite with ports: hashes 51ccc178 and c626b0ea.
 #[test]
 fn low_seven_bits_pick_the_queue(rt: HostRuntime) -> Result<(), Fail> {
-    let keys = one_key(rt.alloc(), DEFAULT_KEY)?;
+    let keys = usual_keys(rt.alloc())?;
     let first = packet_between([66, 9, 149, 187], 2794, [161, 142, 100, 80], 1766);
     let second = packet_between([199, 92, 111, 2], 14230, [65, 69, 140, 83], 4739);
     let cases = [(1, 0, 0), (2, 0, 0), (7, 1, 1), (16, 8, 10)];
@@ -95,15 +107,41 @@ fn low_seven_bits_pick_the_queue(rt: HostRuntime) -> Result<(), Fail> {
             "second of {workers}"
         );
     }
-    assert_eq!(rt; index(0x51cc_c178), 120);
-    assert_eq!(rt; index(0xc626_b0ea), 106);
+    assert_eq!(rt; index(TableSize::Entries128, 0x51cc_c178), 120);
+    assert_eq!(rt; index(TableSize::Entries128, 0xc626_b0ea), 106);
+    Ok(())
+}
+
+/// The same rows by a table of 512: indices 376 and 234, whatever the size of the key.
+#[test]
+fn low_nine_bits_pick_the_queue_of_512_entries(rt: HostRuntime) -> Result<(), Fail> {
+    let first = packet_between([66, 9, 149, 187], 2794, [161, 142, 100, 80], 1766);
+    let second = packet_between([199, 92, 111, 2], 14230, [65, 69, 140, 83], 4739);
+    for size in [KeySize::Bytes40, KeySize::Bytes52] {
+        let keys = keys_of_512(rt.alloc(), size)?;
+        let cases = [(1, 0, 0), (2, 0, 0), (3, 1, 0), (7, 5, 3), (16, 8, 10)];
+        for (workers, of_first, of_second) in cases {
+            assert_eq!(rt;
+                queue(workers, &keys, &first),
+                Some(of_first),
+                "first of {workers}"
+            );
+            assert_eq!(rt;
+                queue(workers, &keys, &second),
+                Some(of_second),
+                "second of {workers}"
+            );
+        }
+    }
+    assert_eq!(rt; index(TableSize::Entries512, 0x51cc_c178), 376);
+    assert_eq!(rt; index(TableSize::Entries512, 0xc626_b0ea), 234);
     Ok(())
 }
 
 /// The first two IPv6 rows of the same suite with ports: hashes 40207d3d and dde51bbf.
 #[test]
 fn low_seven_bits_pick_the_queue_of_ipv6(rt: HostRuntime) -> Result<(), Fail> {
-    let keys = one_key(rt.alloc(), DEFAULT_KEY)?;
+    let keys = usual_keys(rt.alloc())?;
     let first = packet_of(
         Addresses::Six {
             src: 0x3ffe_2501_0200_1fff_0000_0000_0000_0007,
@@ -136,11 +174,17 @@ fn low_seven_bits_pick_the_queue_of_ipv6(rt: HostRuntime) -> Result<(), Fail> {
     Ok(())
 }
 
+/// The first 40 of some bytes as a key.
+fn key_of_40(alloc: Global, bytes: &[u8; 52]) -> Result<Keys, AllocError> {
+    let key = HashKey::new(bytes, KeySize::Bytes40);
+    one_key(alloc, TableSize::Entries128, key)
+}
+
 #[test]
 fn keys_by_one_address_look_at_it_alone(rt: HostRuntime) -> Result<(), Fail> {
-    let mut by_destination = [0; 40];
+    let mut by_destination = [0; 52];
     by_destination[7] = 1;
-    let mut by_source = [0; 40];
+    let mut by_source = [0; 52];
     by_source[0] = 0x6d;
     by_source[1] = 0x5a;
     by_source[2] = 0x56;
@@ -148,16 +192,19 @@ fn keys_by_one_address_look_at_it_alone(rt: HostRuntime) -> Result<(), Fail> {
     let there = packet_between([9, 9, 9, 9], 1, [10, 0, 0, 1], 2);
     let back = packet_between([10, 0, 0, 1], 2, [9, 9, 9, 9], 1);
     assert_eq!(rt;
-        queue(3, &one_key(rt.alloc(), by_destination)?, &there),
+        queue(3, &key_of_40(rt.alloc(), &by_destination)?, &there),
         Some(2)
     );
-    assert_eq!(rt; queue(3, &one_key(rt.alloc(), by_source)?, &back), Some(2));
+    assert_eq!(rt;
+        queue(3, &key_of_40(rt.alloc(), &by_source)?, &back),
+        Some(2)
+    );
     Ok(())
 }
 
 #[test]
 fn a_skipped_packet_has_queue_0(rt: HostRuntime) -> Result<(), Fail> {
-    let keys = one_key(rt.alloc(), DEFAULT_KEY)?;
+    let keys = usual_keys(rt.alloc())?;
     let mut packet = packet_between([1, 2, 3, 4], 5, [6, 7, 8, 9], 10);
     packet.fields = None;
     assert_eq!(rt; queue(16, &keys, &packet), Some(0));

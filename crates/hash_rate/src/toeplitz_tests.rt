@@ -1,11 +1,13 @@
 //! The Toeplitz hash, and which key a packet is hashed with.
+use nf_base::card::{KeySize, TableSize};
+use nf_base::hash_key::HashKey;
 use nf_base::keys::Keys;
 use nf_base::limited::Limited;
 use nf_base::mac::Mac;
 use nf_base::packet::{Addresses, Fields, Packet, PacketId};
 use std::alloc::{AllocError, Global};
 use std::test::Fail;
-use toeplitz_hash::{DEFAULT_KEY, hash_packet, input_of, toeplitz};
+use toeplitz_hash::{DEFAULT_KEY, default_key, hash_packet, input_of, toeplitz};
 
 // The tests call the hash through these, which promise nothing: what the answers are is compared,
 // and not proved.
@@ -161,14 +163,17 @@ fn packet_at(port: u32, fields: Option<Fields>) -> Packet {
     }
 }
 
-/// At port 0 the default key, at port 1 one whose bit 63 alone is 1.
+/// At port 0 the default key of 52 bytes, at port 1 one whose bit 63 alone is 1.
 fn two_keys(alloc: Global) -> Result<Keys, AllocError> {
-    let mut bit_63 = [0; 40];
+    let mut bit_63 = [0; 52];
     bit_63[7] = 1;
     let mut ports = Limited::new(alloc);
-    ports.push(DEFAULT_KEY)?;
-    ports.push(bit_63)?;
-    Ok(Keys { ports })
+    ports.push(default_key(KeySize::Bytes52))?;
+    ports.push(HashKey::new(&bit_63, KeySize::Bytes40))?;
+    Ok(Keys {
+        table: TableSize::Entries128,
+        ports,
+    })
 }
 
 #[test]

@@ -13,6 +13,7 @@ use Rattle.nf_base.specs.Step.{no_edits}
 use Rattle.nf_laws.specs.Samples.{frame, packet_at}
 use Rattle.nf_laws.specs.Firewall.{firewall, with_flow}
 use Rattle.run_history.specs.declared.line.Mode.TheVariants.{One}
+use Rattle.nf_base.specs.Cards.{usual_card}
 use Rattle.run_history.specs.Headings.{Heading}
 use Rattle.shard_laws.specs.Rule.{KeepsRule}
 use Rattle.journal_check.specs.Judging.{KeepsToQueue, Steps, line_of}
@@ -31,7 +32,7 @@ QueuesAreShares = (share : Share) (f : Function) (s : State) (h : Handling) →
 -- ---- a firewall for one flow
 
 abbrev pub alone : Heading
-alone = record { mode = One; workers = 1 }
+alone = record { mode = One; workers = 1; card = usual_card }
 
 -- one packet out, and its answer
 abbrev pub outbound : Packet

@@ -8,9 +8,12 @@ use Rattle.std.proofs.lemmas.List.{get_or_past}
 use Rattle.std.proofs.lemmas.List.FromFn.{length-map-range_with_len, get_or-map-range_with_len}
 use Rattle.std.proofs.lemmas.List.Elements.{All-map}
 use Rattle.std.proofs.lemmas.Nat.Bits.{bit_at-zero}
+use Rattle.nf_base.specs.declared.card.Card.{Card}
+use Rattle.nf_base.specs.declared.card.KeySize.{KeySize}
+use Rattle.nf_base.specs.declared.card.TableSize.{TableSize}
+use Rattle.nf_base.specs.Cards.{key_bytes}
 use Rattle.nf_base.specs.declared.keys.Keys.{Keys}
 use Rattle.nf_base.specs.declared.packet.Fields.{Fields}
-use Rattle.toeplitz_hash.specs.declared.key.TheConstants.{DEFAULT_KEY}
 use Rattle.toeplitz_hash.specs.Bits.{bit_of, number_of}
 use Rattle.toeplitz_hash.specs.Toeplitz.{toeplitz_of}
 use Rattle.toeplitz_hash.specs.Packets as met
@@ -25,46 +28,47 @@ use Rattle.key_rows.specs.declared.place.Object.{Object}
 use Rattle.key_rows.specs.Places.{IsInputOf, input_bits, AreAdmissibleForAll}
 use Rattle.key_rows.specs.Keyed.{is_keyed_for, is_for, version}
 use Rattle.key_rows.proofs.Grouped.{both_true}
-use Rattle.key_rows.specs.Given.{IsKey, AreSpreading, MayBeGiven, key_bit, AgreeBefore, IsOutOfReach, AreGiven}
+use Rattle.key_rows.specs.Given.{IsKey, AreSpreading, MayBeGiven, default_bit, key_bit, AgreeBefore, IsOutOfReach, AreGiven}
 use Rattle.key_rows.specs.Positions.{AreWithin, AreCut, CutKeysAreGiven}
-use Rattle.key_rows.proofs.Bytes.{bit_in_byte}
+use Rattle.key_rows.proofs.Bytes.{bit_in_byte, least_bytes}
 
 -- ---- a key of given bits, of which those past 319 are 0
 
 abbrev bits_in : (ℕ → ℕ) → ℕ → ℕ
 bits_in f i = number_of 8 (λ j. f (8 * i + j))
 
-abbrev key_with : (ℕ → ℕ) → List ℕ
-key_with f = map (bits_in f) (range_with_len 0 40)
+abbrev key_with : KeySize → (ℕ → ℕ) → List ℕ
+key_with size f = map (bits_in f) (range_with_len 0 (key_bytes size))
 
-module _ (f : ℕ → ℕ) (bits : (i : ℕ) → f i < 2) (none : (i : ℕ) → 320 ≤ i → f i ≡ 0) where
-  long : length (key_with f) ≡ 40
-  long = length-map-range_with_len (bits_in f) 0 40
+module _ (size : KeySize) (f : ℕ → ℕ) (bits : (i : ℕ) → f i < 2) (none : (i : ℕ) → 320 ≤ i → f i ≡ 0) where
+  long : length (key_with size f) ≡ key_bytes size
+  long = length-map-range_with_len (bits_in f) 0 (key_bytes size)
 
-  bit_with : (i : ℕ) → bit_of (key_with f) i ≡ f i
+  bit_with : (i : ℕ) → bit_of (key_with size f) i ≡ f i
   bit_with i =
-      elim (cases_lt i 320) [
+      let least : 40 ≤ key_bytes size = least_bytes size in
+      elim (cases_lt i (8 * key_bytes size)) [
         | inl within ↦
             let g : ℕ → ℕ = λ j. f (8 * (i / 8) + j) in
             let eight : 8 ≡ suc (i % 8) + (7 - i % 8) = omega arith in
             let whole : 8 * (i / 8) + i % 8 ≡ i = omega arith in
-            bit_in_byte (key_with f) i
-            ∙ ap (λ b. bit_at b (7 - i % 8)) (get_or-map-range_with_len (bits_in f) 0 40 (i / 8) (i / 8) 0 (omega arith) (omega arith))
+            bit_in_byte (key_with size f) i
+            ∙ ap (λ b. bit_at b (7 - i % 8)) (get_or-map-range_with_len (bits_in f) 0 (key_bytes size) (i / 8) (i / 8) 0 (omega (arith, within)) (omega arith))
             ∙ ap (λ m. bit_at (number_of m g) (7 - i % 8)) eight
             ∙ bit_at-number_of (i % 8) (7 - i % 8) g (λ j. bits (8 * (i / 8) + j))
             ∙ ap f whole
         | inr past ↦
-            bit_in_byte (key_with f) i
-            ∙ ap (λ b. bit_at b (7 - i % 8)) (get_or_past (key_with f) (i / 8) 0 (omega (arith, long)))
+            bit_in_byte (key_with size f) i
+            ∙ ap (λ b. bit_at b (7 - i % 8)) (get_or_past (key_with size f) (i / 8) 0 (omega (arith, past, long)))
             ∙ bit_at-zero (7 - i % 8)
-            ∙ sym (none i past)
+            ∙ sym (none i (omega (arith, past, least)))
       ]
 
-  is_key_with : IsKey (key_with f)
+  is_key_with : IsKey size (key_with size f)
   is_key_with = record {
     long = long;
     bytes = λ k d below.
-        let is : get_or (key_with f) k d ≡ bits_in f k = get_or-map-range_with_len (bits_in f) 0 40 k k d (omega (arith, long)) (omega arith) in
+        let is : get_or (key_with size f) k d ≡ bits_in f k = get_or-map-range_with_len (bits_in f) 0 (key_bytes size) k k d (omega (arith, below, long)) (omega arith) in
         rw is (number_of-lt 8 (λ j. f (8 * k + j)) (λ j. bits (8 * k + j)));
   }
 
@@ -104,8 +108,8 @@ module _ (objects : List Object) (keys other : Keys) (same : SameMet objects key
             ∙ agree.hashes u v fits fits_too tied ∙ hashes_same second.family second.port v (keyed_for_at objects i k o q within inside_too) fits_too;
       }
 
-  spreading_too : AreSpreading objects keys → AreSpreading objects other
-  spreading_too spreading = record {
+  spreading_too : (size : TableSize) → AreSpreading size objects keys → AreSpreading size objects other
+  spreading_too size spreading = record {
     each = λ port family keyed.
         let one = spreading.each port family keyed in
         record { bit = one.bit; from = one.from; to = one.to; one = sym (same family port one.bit keyed (omega (arith, one.to, positions_are family))) ∙ one.one };
@@ -137,7 +141,7 @@ joined_small n front back i = of_tests (nat_lt i n) (nat_lt i 320)
     of_tests false true = bit_of-lt back i
     of_tests false false = omega arith
 
-module _ (positions : ℕ → ℕ) (ports : ℕ) (objects : List Object) (keys cut : Keys) (within : AreWithin positions objects) (wide : AreGiven (λ port. 319) ports objects keys) (is : AreCut positions ports objects keys cut) where
+module _ (positions : ℕ → ℕ) (ports : ℕ) (objects : List Object) (card : Card) (keys cut : Keys) (within : AreWithin positions objects) (wide : AreGiven (λ port. 319) ports objects card keys) (is : AreCut positions ports objects card keys cut) where
   -- past the last port there is no key
   none_past : (other : Keys) (port : ℕ) → length other.ports ≡ ports → ports ≤ port → key_at other port ≡ []
   none_past other port count past = get_or_past other.ports port [] (omega (arith, count, past))
@@ -149,31 +153,32 @@ module _ (positions : ℕ → ℕ) (ports : ℕ) (objects : List Object) (keys c
         | inr past ↦ ap (λ (key : List ℕ). bit_of key i) (none_past keys port wide.may.count past ∙ sym (none_past cut port is.count past))
       ]
 
-  may_cut : MayBeGiven ports objects cut
+  may_cut : MayBeGiven ports objects card cut
   may_cut = record {
+    table = is.table;
     count = is.count;
     whole = is.whole;
     admissible = admissible_too objects keys cut low_same wide.may.admissible;
-    spreading = spreading_too objects keys cut low_same wide.may.spreading;
+    spreading = spreading_too objects keys cut low_same card.table wide.may.spreading;
   }
 
-  module _ (other : Keys) (may : MayBeGiven ports objects other) where
+  module _ (other : Keys) (may : MayBeGiven ports objects card other) where
     abbrev patch : ℕ → ℕ → ℕ
     patch port = joined_bit (positions port) (key_at other port) (key_at keys port)
 
     abbrev patched : Keys
-    patched = record { ports = map (λ port. key_with (patch port)) (range_with_len 0 ports) }
+    patched = record { table = card.table; ports = map (λ port. key_with card.key (patch port)) (range_with_len 0 ports) }
 
-    patched_at : (port : ℕ) → port < ports → key_at patched port ≡ key_with (patch port)
-    patched_at port inside = get_or-map-range_with_len (λ p. key_with (patch p)) 0 ports port port [] inside (omega arith)
+    patched_at : (port : ℕ) → port < ports → key_at patched port ≡ key_with card.key (patch port)
+    patched_at port inside = get_or-map-range_with_len (λ p. key_with card.key (patch p)) 0 ports port port [] inside (omega arith)
 
     patched_count : length patched.ports ≡ ports
-    patched_count = length-map-range_with_len (λ p. key_with (patch p)) 0 ports
+    patched_count = length-map-range_with_len (λ p. key_with card.key (patch p)) 0 ports
 
     patched_bit : (port i : ℕ) → port < ports → key_bit patched port i ≡ patch port i
     patched_bit port i inside =
         ap (λ (key : List ℕ). bit_of key i) (patched_at port inside)
-        ∙ bit_with (patch port) (joined_small (positions port) (key_at other port) (key_at keys port))
+        ∙ bit_with card.key (patch port) (joined_small (positions port) (key_at other port) (key_at keys port))
         (λ j past. joined_none (positions port) (key_at other port) (key_at keys port) j (within.most port) past) i
 
     patched_front : (port i : ℕ) → port < ports → i < positions port → key_bit patched port i ≡ key_bit other port i
@@ -189,15 +194,16 @@ module _ (positions : ℕ → ℕ) (ports : ℕ) (objects : List Object) (keys c
           | inr past ↦ ap (λ (key : List ℕ). bit_of key i) (none_past other port may.count past ∙ sym (none_past patched port patched_count past))
         ]
 
-    may_patched : MayBeGiven ports objects patched
+    may_patched : MayBeGiven ports objects card patched
     may_patched = record {
+      table = refl;
       count = patched_count;
-      whole = All-map IsKey (λ p. key_with (patch p)) (range_with_len 0 ports) (λ k d below.
+      whole = All-map (IsKey card.key) (λ p. key_with card.key (patch p)) (range_with_len 0 ports) (λ k d below.
           let port : ℕ = get_or (range_with_len 0 ports) k d in
-          is_key_with (patch port) (joined_small (positions port) (key_at other port) (key_at keys port))
+          is_key_with card.key (patch port) (joined_small (positions port) (key_at other port) (key_at keys port))
           (λ j past. joined_none (positions port) (key_at other port) (key_at keys port) j (within.most port) past));
       admissible = admissible_too objects other patched low_patched may.admissible;
-      spreading = spreading_too objects other patched low_patched may.spreading;
+      spreading = spreading_too objects other patched low_patched card.table may.spreading;
     }
 
     -- what agrees with the cut keys before a bit, patched, agrees with the whole ones
@@ -214,7 +220,7 @@ module _ (positions : ℕ → ℕ) (ports : ℕ) (objects : List Object) (keys c
           sym (is.same port j inside front) ∙ before.earlier_bits j earlier ∙ sym (patched_front port j inside front);
     }
 
-  nearest_cut : (port i : ℕ) → port < ports → i < positions port → (key_bit cut port i ≡ bit_of DEFAULT_KEY i) ⊎ IsOutOfReach positions ports objects cut port i
+  nearest_cut : (port i : ℕ) → port < ports → i < positions port → (key_bit cut port i ≡ default_bit card i) ⊎ IsOutOfReach positions ports objects card cut port i
   nearest_cut port i inside low =
       elim (wide.nearest port i inside (omega (arith, low, within.most port))) [
         | inl default ↦ inl (is.same port i inside low ∙ default)
@@ -226,8 +232,8 @@ module _ (positions : ℕ → ℕ) (ports : ℕ) (objects : List Object) (keys c
             })
       ]
 
-  given_cut : AreGiven positions ports objects cut
+  given_cut : AreGiven positions ports objects card cut
   given_cut = record { may = may_cut; nearest = nearest_cut; past = is.past; unkeyed = is.unkeyed }
 
 pub cut_keys_are_given : CutKeysAreGiven
-cut_keys_are_given positions ports objects keys cut within wide is = given_cut positions ports objects keys cut within wide is
+cut_keys_are_given positions ports objects card keys cut within wide is = given_cut positions ports objects card keys cut within wide is

@@ -5,6 +5,9 @@ use Rattle.std.proofs.lemmas.Bool.{eqb-true, eq-eqb, cases_eq, cases_lt, true≢
 use Rattle.std.proofs.lemmas.List.{length-replicate, get_or-replicate, get_or_append_left, get_or-append_right, get_or_past, length-append}
 use Rattle.std.proofs.lemmas.List.Folds.{Any-from_list_any, list_any_at}
 use Rattle.std.proofs.lemmas.List.Elements.{All-nil, All-cons}
+use Rattle.nf_base.specs.declared.card.TableSize.{TableSize}
+use Rattle.nf_base.specs.declared.card.TableSize.TheVariants.{Entries128, Entries512}
+use Rattle.nf_base.specs.Cards.{index_bits}
 use Rattle.nf_base.specs.declared.keys.Keys.{Keys}
 use Rattle.toeplitz_hash.specs.Bits.{bit_of}
 use Rattle.toeplitz_hash.specs.Packets.{key_at}
@@ -18,7 +21,7 @@ use Rattle.key_rows.specs.Places.{input_bits}
 use Rattle.nf_base.specs.declared.packet.Family.{Family}
 use Rattle.nf_base.specs.declared.packet.Family.TheVariants.{Four, Six}
 use Rattle.key_rows.specs.Rows.{numbered_bit, bits_of}
-use Rattle.key_rows.specs.Systems.{group_long, group_of, AddsGroup, AreGroupsOf}
+use Rattle.key_rows.specs.Systems.{group_from, group_long, group_of, AddsGroup, AreGroupsOf}
 use Rattle.key_rows.proofs.Added.{bit_of_bits, with_one}
 
 -- a place of an object at a port
@@ -126,80 +129,86 @@ keyed_some objects port keyed =
     list_any_at (is_for family port) by.object.places by.j by.place by.inside (subst (λ (p : Place). is_for family port p ≡ true) (sym by.stands) here) in
     (family, list_any_at (λ object. list_any (is_for family port) object.places) objects by.i by.object by.within (subst (λ (o : Object). list_any (is_for family port) o.places ≡ true) (sym by.is) inside))
 
--- how long a group is
-long_is : (f : Family) → input_bits f + 31 ≡ 25 + group_long f
-long_is Four = refl
-long_is Six = refl
+-- where a group begins, and how long it is
+long_is : (size : TableSize) (f : Family) → input_bits f + 31 ≡ group_from size + group_long size f
+long_is Entries128 Four = refl
+long_is Entries128 Six = refl
+long_is Entries512 Four = refl
+long_is Entries512 Six = refl
 
-long_most : (f : Family) → group_long f ≤ 294
-long_most Four = omega arith
-long_most Six = omega arith
+inputs_most : (f : Family) → input_bits f + 31 ≤ 319
+inputs_most Four = omega arith
+inputs_most Six = omega arith
+
+-- it ends within a port's bits
+long_most : (size : TableSize) (f : Family) → group_from size + group_long size f ≤ 319
+long_most size f = omega (arith, inputs_most f, long_is size f)
 
 -- the bits of a group
-group_in : (f : Family) (port m : ℕ) → 319 * port + 25 ≤ m → m < 319 * port + 25 + group_long f → bit (group_of f port) m ≡ true
-group_in f port m low high =
-    get_or-append_right (replicate (319 * port + 25) false) (replicate (group_long f) true) (319 * port + 25) m false (length-replicate {A = Bool} (319 * port + 25) false) low
-    ∙ get_or-replicate {A = Bool} (group_long f) (m - (319 * port + 25)) true false (omega arith)
+group_in : (size : TableSize) (f : Family) (port m : ℕ) → 319 * port + group_from size ≤ m → m < 319 * port + group_from size + group_long size f → bit (group_of size f port) m ≡ true
+group_in size f port m low high =
+    get_or-append_right (replicate (319 * port + group_from size) false) (replicate (group_long size f) true) (319 * port + group_from size) m false (length-replicate {A = Bool} (319 * port + group_from size) false) low
+    ∙ get_or-replicate {A = Bool} (group_long size f) (m - (319 * port + group_from size)) true false (omega arith)
 
-group_before : (f : Family) (port m : ℕ) → m < 319 * port + 25 → bit (group_of f port) m ≡ false
-group_before f port m low =
-    get_or_append_left (replicate (319 * port + 25) false) (replicate (group_long f) true) false m (omega (arith, length-replicate {A = Bool} (319 * port + 25) false))
-    ∙ get_or-replicate {A = Bool} (319 * port + 25) m false false low
+group_before : (size : TableSize) (f : Family) (port m : ℕ) → m < 319 * port + group_from size → bit (group_of size f port) m ≡ false
+group_before size f port m low =
+    get_or_append_left (replicate (319 * port + group_from size) false) (replicate (group_long size f) true) false m (omega (arith, length-replicate {A = Bool} (319 * port + group_from size) false))
+    ∙ get_or-replicate {A = Bool} (319 * port + group_from size) m false false low
 
-group_past : (f : Family) (port m : ℕ) → 319 * port + 25 + group_long f ≤ m → bit (group_of f port) m ≡ false
-group_past f port m high =
-    let one = length-append (replicate (319 * port + 25) false) (replicate (group_long f) true) in
-    let two = length-replicate {A = Bool} (319 * port + 25) false in
-    let three = length-replicate {A = Bool} (group_long f) true in
-    get_or_past (group_of f port) m false (omega (arith, one, two, three))
+group_past : (size : TableSize) (f : Family) (port m : ℕ) → 319 * port + group_from size + group_long size f ≤ m → bit (group_of size f port) m ≡ false
+group_past size f port m high =
+    let one = length-append (replicate (319 * port + group_from size) false) (replicate (group_long size f) true) in
+    let two = length-replicate {A = Bool} (319 * port + group_from size) false in
+    let three = length-replicate {A = Bool} (group_long size f) true in
+    get_or_past (group_of size f port) m false (omega (arith, one, two, three))
 
 -- The bits of keys have a 1 in the group of a port exactly where its key spreads.
-pub meets_is_spreads : (f : Family) (ports port : ℕ) (keys : Keys) → port < ports → Meets (bits_of ports keys) (group_of f port) ↔ Spreads f 7 (key_at keys port)
-meets_is_spreads f ports port keys within = (spreads, meets)
+pub meets_is_spreads : (size : TableSize) (f : Family) (ports port : ℕ) (keys : Keys) → port < ports → Meets (bits_of ports keys) (group_of size f port) ↔ Spreads f (index_bits size) (key_at keys port)
+meets_is_spreads size f ports port keys within = (spreads, meets)
   where
-    spreads : Meets (bits_of ports keys) (group_of f port) → Spreads f 7 (key_at keys port)
+    spreads : Meets (bits_of ports keys) (group_of size f port) → Spreads f (index_bits size) (key_at keys port)
     spreads met =
-        elim (cases_lt met.place (319 * port + 25)) [
-          | inl low ↦ absurd (both_ways (bit (group_of f port) met.place) (group_before f port met.place low) met.member)
+        elim (cases_lt met.place (319 * port + group_from size)) [
+          | inl low ↦ absurd (both_ways (bit (group_of size f port) met.place) (group_before size f port met.place low) met.member)
           | inr from ↦
-              elim (cases_lt met.place (319 * port + 25 + group_long f)) [
-                | inr high ↦ absurd (both_ways (bit (group_of f port) met.place) (group_past f port met.place high) met.member)
+              elim (cases_lt met.place (319 * port + group_from size + group_long size f)) [
+                | inr high ↦ absurd (both_ways (bit (group_of size f port) met.place) (group_past size f port met.place high) met.member)
                 | inl to ↦
-                    let most : group_long f ≤ 294 = long_most f in
+                    let most : group_from size + group_long size f ≤ 319 = long_most size f in
                     let one : (numbered_bit keys met.place == 1) ≡ true = sym (bit_of_bits ports keys met.place (omega (arith, most, to, within))) ∙ met.one in
                     let there : met.place / 319 ≡ port = omega (arith, most, to, from) in
                     record {
                       bit = met.place % 319;
                       from = omega (arith, most, to, from);
-                      to = omega (arith, most, to, from, long_is f);
+                      to = omega (arith, most, to, from, long_is size f);
                       one = ap (λ m. bit_of (key_at keys m) (met.place % 319)) (sym there) ∙ eqb-true (numbered_bit keys met.place) 1 one;
                     }
               ]
         ]
 
-    meets : Spreads f 7 (key_at keys port) → Meets (bits_of ports keys) (group_of f port)
+    meets : Spreads f (index_bits size) (key_at keys port) → Meets (bits_of ports keys) (group_of size f port)
     meets some =
-        let most : group_long f ≤ 294 = long_most f in
-        let low : 25 ≤ some.bit = some.from in
-        let high : some.bit < 25 + group_long f = omega (arith, some.to, long_is f) in
+        let most : group_from size + group_long size f ≤ 319 = long_most size f in
+        let low : group_from size ≤ some.bit = some.from in
+        let high : some.bit < group_from size + group_long size f = omega (arith, some.to, long_is size f) in
         let there : (319 * port + some.bit) / 319 ≡ port = omega (arith, most, high) in
         let place : (319 * port + some.bit) % 319 ≡ some.bit = omega (arith, most, high) in
         let is : numbered_bit keys (319 * port + some.bit) ≡ 1 = ap (λ p. bit_of (key_at keys p) ((319 * port + some.bit) % 319)) there ∙ ap (bit_of (key_at keys port)) place ∙ some.one in
         record {
           place = 319 * port + some.bit;
-          member = group_in f port (319 * port + some.bit) (omega (arith, low)) (omega (arith, high));
+          member = group_in size f port (319 * port + some.bit) (omega (arith, low)) (omega (arith, high));
           one = bit_of_bits ports keys (319 * port + some.bit) (omega (arith, most, high, within)) ∙ eq-eqb (numbered_bit keys (319 * port + some.bit)) 1 is;
         }
 
 -- a group is added where a port is keyed
 pub group_added :
-    (ports : ℕ) (objects : List Object) (family : Family) (port : ℕ) (groups : List (List Bool)) (group : List Bool) → port < ports → is_keyed_for objects family port ≡ true → group ≡ group_of family port
-    → AddsGroup ports objects family port groups (groups ++ group ∷ [])
-group_added ports objects family port groups group within keyed is = record {
+    (ports : ℕ) (objects : List Object) (size : TableSize) (family : Family) (port : ℕ) (groups : List (List Bool)) (group : List Bool) → port < ports → is_keyed_for objects family port ≡ true → group ≡ group_of size family port
+    → AddsGroup ports objects size family port groups (groups ++ group ∷ [])
+group_added ports objects size family port groups group within keyed is = record {
   exact = λ keys.
       let x : List Bool = bits_of ports keys in
       let parts : (All (Meets x) (groups ++ group ∷ [])) ↔ (All (Meets x) groups × Meets x group) = with_one (Meets x) groups group in
-      let here : Meets x (group_of family port) ↔ Spreads family 7 (key_at keys port) = meets_is_spreads family ports port keys within in (
+      let here : Meets x (group_of size family port) ↔ Spreads family (index_bits size) (key_at keys port) = meets_is_spreads size family ports port keys within in (
         λ all. ((parts.0 all).0, λ key. here.0 (subst (Meets x) is (parts.0 all).1)),
         λ both. parts.1 (both.0, subst (Meets x) (sym is) (here.1 (both.1 keyed))),
       );
@@ -207,43 +216,43 @@ group_added ports objects family port groups group within keyed is = record {
 
 -- and none where it is not
 pub group_left :
-    (ports : ℕ) (objects : List Object) (family : Family) (port : ℕ) (groups : List (List Bool)) → is_keyed_for objects family port ≡ false
-    → AddsGroup ports objects family port groups groups
-group_left ports objects family port groups unkeyed = record {
+    (ports : ℕ) (objects : List Object) (size : TableSize) (family : Family) (port : ℕ) (groups : List (List Bool)) → is_keyed_for objects family port ≡ false
+    → AddsGroup ports objects size family port groups groups
+group_left ports objects size family port groups unkeyed = record {
   exact = λ keys. (λ all. (all, λ keyed. absurd (both_ways (is_keyed_for objects family port) unkeyed keyed)), λ both. both.0);
 }
 
 -- the groups of the first n ports
-pub record AreGroupsBelow (ports : ℕ) (objects : List Object) (n : ℕ) (groups : List (List Bool)) : Type 0 where
+pub record AreGroupsBelow (ports : ℕ) (objects : List Object) (size : TableSize) (n : ℕ) (groups : List (List Bool)) : Type 0 where
   pub exact : (keys : Keys) → (All (Meets (bits_of ports keys)) groups)
-      ↔ ((port : ℕ) (family : Family) → port < n → is_keyed_for objects family port ≡ true → Spreads family 7 (key_at keys port))
+      ↔ ((port : ℕ) (family : Family) → port < n → is_keyed_for objects family port ≡ true → Spreads family (index_bits size) (key_at keys port))
 
-pub groups_none : (ports : ℕ) (objects : List Object) → AreGroupsBelow ports objects 0 []
-groups_none ports objects = record { exact = λ keys. (λ all port family below keyed. absurd (omega arith), λ each. All-nil (Meets (bits_of ports keys))) }
+pub groups_none : (ports : ℕ) (objects : List Object) (size : TableSize) → AreGroupsBelow ports objects size 0 []
+groups_none ports objects size = record { exact = λ keys. (λ all port family below keyed. absurd (omega arith), λ each. All-nil (Meets (bits_of ports keys))) }
 
-of_both : (objects : List Object) (keys : Keys) (n : ℕ) → (is_keyed_for objects Four n ≡ true → Spreads Four 7 (key_at keys n)) → (is_keyed_for objects Six n ≡ true → Spreads Six 7 (key_at keys n))
-    → (family : Family) → is_keyed_for objects family n ≡ true → Spreads family 7 (key_at keys n)
-of_both objects keys n four six Four keyed = four keyed
-of_both objects keys n four six Six keyed = six keyed
+of_both : (size : TableSize) (objects : List Object) (keys : Keys) (n : ℕ) → (is_keyed_for objects Four n ≡ true → Spreads Four (index_bits size) (key_at keys n)) → (is_keyed_for objects Six n ≡ true → Spreads Six (index_bits size) (key_at keys n))
+    → (family : Family) → is_keyed_for objects family n ≡ true → Spreads family (index_bits size) (key_at keys n)
+of_both size objects keys n four six Four keyed = four keyed
+of_both size objects keys n four six Six keyed = six keyed
 
 -- those of one port more
-pub groups_more : (ports : ℕ) (objects : List Object) (n : ℕ) (old mid new : List (List Bool)) → AreGroupsBelow ports objects n old → AddsGroup ports objects Four n old mid → AddsGroup ports objects Six n mid new
-    → AreGroupsBelow ports objects (n + 1) new
-groups_more ports objects n old mid new below four six = record {
+pub groups_more : (ports : ℕ) (objects : List Object) (size : TableSize) (n : ℕ) (old mid new : List (List Bool)) → AreGroupsBelow ports objects size n old → AddsGroup ports objects size Four n old mid → AddsGroup ports objects size Six n mid new
+    → AreGroupsBelow ports objects size (n + 1) new
+groups_more ports objects size n old mid new below four six = record {
   exact = λ keys. (
     λ all port family small key.
         let last = (six.exact keys).0 all in
         let first = (four.exact keys).0 last.0 in
         elim (cases_eq port n) [
-          | inl same ↦ subst (λ (m : ℕ). Spreads family 7 (key_at keys m)) (sym same) (of_both objects keys n first.1 last.1 family (ap (is_keyed_for objects family) (sym same) ∙ key))
+          | inl same ↦ subst (λ (m : ℕ). Spreads family (index_bits size) (key_at keys m)) (sym same) (of_both size objects keys n first.1 last.1 family (ap (is_keyed_for objects family) (sym same) ∙ key))
           | inr other ↦ (below.exact keys).0 first.0 port family (omega arith) key
         ],
     λ each. (six.exact keys).1 ((four.exact keys).1 ((below.exact keys).1 (λ port family small key. each port family (omega arith) key), λ key. each n Four (omega arith) key), λ key. each n Six (omega arith) key),
   );
 }
 
-pub groups_all : (ports : ℕ) (objects : List Object) (n : ℕ) (groups : List (List Bool)) → n ≡ ports → All (λ object. AreAtPorts ports object.places) objects → AreGroupsBelow ports objects n groups → AreGroupsOf ports objects groups
-groups_all ports objects n groups all within below = record {
+pub groups_all : (ports : ℕ) (objects : List Object) (size : TableSize) (n : ℕ) (groups : List (List Bool)) → n ≡ ports → All (λ object. AreAtPorts ports object.places) objects → AreGroupsBelow ports objects size n groups → AreGroupsOf ports objects size groups
+groups_all ports objects size n groups all within below = record {
   exact = λ keys. (
     λ met. record { each = λ port family keyed. (below.exact keys).0 met port family (omega (arith, all, keyed_within objects port ports within (keyed_for_keyed objects family port keyed))) keyed },
     λ spreading. (below.exact keys).1 (λ port family small keyed. spreading.each port family keyed),

@@ -1,15 +1,17 @@
 -- The given keys are one.
-use Rattle.std.proofs.Common.{◌≡◌, ◌⊎◌, ℕ, zero, suc, ◌<◌, ◌≤◌, true, false, ap, sym, ◌∙◌, List, [], arith, length, get_or, subst, inl, inr}
+use Rattle.std.proofs.Common.{◌≡◌, ◌⊎◌, ℕ, zero, suc, ◌<◌, ◌≤◌, true, false, ap, ap₂, sym, ◌∙◌, List, [], arith, length, get_or, subst, inl, inr}
 use Rattle.std.proofs.lemmas.Bool.{cases_eq, cases_lt, cases_Bool}
 use Rattle.std.proofs.lemmas.List.{get_or_default, same_lists}
+use Rattle.nf_base.specs.declared.card.Card.{Card}
+use Rattle.nf_base.specs.declared.card.TableSize.{TableSize}
 use Rattle.nf_base.specs.declared.keys.Keys.{Keys}
-use Rattle.toeplitz_hash.specs.declared.key.TheConstants.{DEFAULT_KEY}
+use Rattle.toeplitz_hash.specs.DefaultKey.{default_key}
 use Rattle.toeplitz_hash.specs.Bits.{bit_of}
 use Rattle.toeplitz_hash.specs.Packets.{key_at}
 use Rattle.toeplitz_hash.proofs.Bytes.{bit_of-lt}
 use Rattle.key_rows.specs.declared.place.Object.{Object}
 use Rattle.key_rows.specs.Keyed.{is_keyed}
-use Rattle.key_rows.specs.Given.{key_bit, AgreeBefore, AreGiven}
+use Rattle.key_rows.specs.Given.{default_bit, key_bit, AgreeBefore, AreGiven}
 use Rattle.key_rows.specs.Laws.{GivenKeysAreOne}
 use Rattle.key_rows.proofs.Bytes.{same_keys}
 
@@ -19,7 +21,7 @@ back_before positions port i keys other before = record { earlier_ports = λ q j
 only_two : (a b c : ℕ) → a < 2 → b < 2 → c < 2 → (a ≡ c → ⊥) → (b ≡ c → ⊥) → a ≡ b
 only_two a b c first second third p q = omega arith
 
-module _ (positions : ℕ → ℕ) (ports : ℕ) (objects : List Object) (keys other : Keys) (first : AreGiven positions ports objects keys) (second : AreGiven positions ports objects other) where
+module _ (positions : ℕ → ℕ) (ports : ℕ) (objects : List Object) (card : Card) (keys other : Keys) (first : AreGiven positions ports objects card keys) (second : AreGiven positions ports objects card other) where
   -- a bit of two keys
   abbrev Same : ℕ → ℕ → Type 0
   Same port i = key_bit keys port i ≡ key_bit other port i
@@ -40,7 +42,7 @@ module _ (positions : ℕ → ℕ) (ports : ℕ) (objects : List Object) (keys o
             elim (second.nearest port i within low) [
               | inl default ↦ absurd (out.none other second.may before default)
               | inr out_too ↦
-                  only_two (key_bit keys port i) (key_bit other port i) (bit_of DEFAULT_KEY i) (bit_of-lt (key_at keys port) i) (bit_of-lt (key_at other port) i) (bit_of-lt DEFAULT_KEY i)
+                  only_two (key_bit keys port i) (key_bit other port i) (default_bit card i) (bit_of-lt (key_at keys port) i) (bit_of-lt (key_at other port) i) (bit_of-lt (default_key card.key) i)
                   (out_too.none keys first.may (back_before positions port i keys other before)) (out.none other second.may before)
             ]
       ]
@@ -75,7 +77,7 @@ module _ (positions : ℕ → ℕ) (ports : ℕ) (objects : List Object) (keys o
     where
       by_kind : (is_keyed objects port ≡ true) ⊎ (is_keyed objects port ≡ false) → port < length keys.ports → port < length other.ports → key_at keys port ≡ key_at other port
       by_kind (inl keyed) left right =
-          same_keys (key_at keys port) (key_at other port) (first.may.whole port [] left) (second.may.whole port [] right)
+          same_keys card.key (key_at keys port) (key_at other port) (first.may.whole port [] left) (second.may.whole port [] right)
           (λ i.
           elim (cases_lt i (positions port)) [
             | inl low ↦ all_same ports (omega arith) port i within low
@@ -84,7 +86,7 @@ module _ (positions : ℕ → ℕ) (ports : ℕ) (objects : List Object) (keys o
       by_kind (inr unkeyed) left right = first.unkeyed port within unkeyed ∙ sym (second.unkeyed port within unkeyed)
 
 pub given_keys_are_one : GivenKeysAreOne
-given_keys_are_one positions ports objects keys other first second =
+given_keys_are_one positions ports objects card keys other first second =
     let same : keys.ports ≡ other.ports =
-    same_lists keys.ports other.ports (first.may.count ∙ sym second.may.count) (λ k d below. same_key positions ports objects keys other first second k d (omega (arith, first.may.count))) in
-    ap (λ (l : List (List ℕ)). let k : Keys = record { ports = l } in k) same
+    same_lists keys.ports other.ports (first.may.count ∙ sym second.may.count) (λ k d below. same_key positions ports objects card keys other first second k d (omega (arith, first.may.count))) in
+    ap₂ (λ (t : TableSize) (l : List (List ℕ)). let k : Keys = record { table = t; ports = l } in k) (first.may.table ∙ sym second.may.table) same

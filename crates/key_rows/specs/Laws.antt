@@ -1,5 +1,6 @@
 -- What the definitions say, as laws.
 use Rattle.std.specs.Prelude.{◌≡◌, ◌↔◌, ℕ, ◌+◌, List, length, map}
+use Rattle.nf_base.specs.declared.card.Card.{Card}
 use Rattle.nf_base.specs.declared.keys.Keys.{Keys}
 use Rattle.nf_base.specs.declared.packet.Family.{Family}
 use Rattle.hash_fields.specs.declared.hashable.Hashable.{Hashable}
@@ -20,8 +21,9 @@ PlacesAgreeInEitherOrder = (keys : Keys) (first second : Place) →
 -- two given keys are equal
 abbrev pub GivenKeysAreOne : Type 0
 GivenKeysAreOne =
-    (positions : ℕ → ℕ) (ports : ℕ) (objects : List Object) (keys other : Keys) →
-    AreGiven positions ports objects keys → AreGiven positions ports objects other → keys ≡ other
+    (positions : ℕ → ℕ) (ports : ℕ) (objects : List Object) (card : Card) (keys other : Keys) →
+    AreGiven positions ports objects card keys → AreGiven positions ports objects card other →
+    keys ≡ other
 
 -- Keys agree on all tied inputs exactly where the windows of each class add up to 0.
 abbrev pub RowsSayAllInputs : Type 0

@@ -1,10 +1,11 @@
 -- How many bits of the key of each port count.
 use Rattle.std.specs.Prelude.{◌≡◌, ℕ, ◌<◌, ◌≤◌, ◌||◌, Bool, true, false, List, length, All, if◌then◌else◌}
+use Rattle.nf_base.specs.declared.card.Card.{Card}
 use Rattle.nf_base.specs.declared.keys.Keys.{Keys}
 use Rattle.nf_base.specs.declared.packet.Family.{Family}
 use Rattle.nf_base.specs.declared.packet.Family.TheVariants.{Four, Six}
 use Rattle.nf_base.specs.Doors.{six_at}
-use Rattle.toeplitz_hash.specs.declared.key.TheConstants.{DEFAULT_KEY}
+use Rattle.toeplitz_hash.specs.DefaultKey.{default_key}
 use Rattle.toeplitz_hash.specs.Packets as met
 use Rattle.toeplitz_hash.specs.Packets.{key_at}
 use Rattle.key_rows.specs.declared.place.Object.{Object}
@@ -27,20 +28,21 @@ pub record AreWithin (positions : ℕ → ℕ) (objects : List Object) : Type 0 
   pub most : (port : ℕ) → positions port ≤ 319
 
 -- Keys that are others up to each port's positions, and 0 past these where the port is keyed.
-pub record AreCut (positions : ℕ → ℕ) (ports : ℕ) (objects : List Object) (keys cut : Keys)
-    : Type 0 where
+pub record AreCut (positions : ℕ → ℕ) (ports : ℕ) (objects : List Object) (card : Card)
+    (keys cut : Keys) : Type 0 where
+  pub table : cut.table ≡ card.table
   pub count : length cut.ports ≡ ports
-  pub whole : All IsKey cut.ports
+  pub whole : All (IsKey card.key) cut.ports
   pub same : (port i : ℕ) → port < ports → i < positions port
       → key_bit cut port i ≡ key_bit keys port i
   pub past : (port i : ℕ) → port < ports → is_keyed objects port ≡ true → positions port ≤ i
       → key_bit cut port i ≡ 0
   pub unkeyed : (port : ℕ) → port < ports → is_keyed objects port ≡ false
-      → key_at cut port ≡ DEFAULT_KEY
+      → key_at cut port ≡ default_key card.key
 
 -- What is nearest in 319 bits of each key, cut, is nearest in the positions.
 abbrev pub CutKeysAreGiven : Type 0
 CutKeysAreGiven =
-    (positions : ℕ → ℕ) (ports : ℕ) (objects : List Object) (keys cut : Keys) →
-    AreWithin positions objects → AreGiven (λ port. 319) ports objects keys →
-    AreCut positions ports objects keys cut → AreGiven positions ports objects cut
+    (positions : ℕ → ℕ) (ports : ℕ) (objects : List Object) (card : Card) (keys cut : Keys) →
+    AreWithin positions objects → AreGiven (λ port. 319) ports objects card keys →
+    AreCut positions ports objects card keys cut → AreGiven positions ports objects card cut

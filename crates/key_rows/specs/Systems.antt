@@ -1,6 +1,8 @@
 -- Systems whose solutions are the bits of keys.
-use Rattle.std.specs.Prelude.{◌≡◌, ◌↔◌, ℕ, ◌+◌, ◌*◌, ◌%◌, ◌<◌, ◌≤◌, ◌==◌, Bool, true, false, List, ◌++◌, map, length, replicate, All, slice_index_or}
+use Rattle.std.specs.Prelude.{◌≡◌, ◌↔◌, ℕ, ◌+◌, ◌-◌, ◌*◌, ◌%◌, ◌<◌, ◌≤◌, ◌==◌, Bool, true, false, List, ◌++◌, map, length, replicate, All, slice_index_or}
 use Rattle.std.specs.List.{range_with_len}
+use Rattle.nf_base.specs.declared.card.TableSize.{TableSize}
+use Rattle.nf_base.specs.Cards.{index_bits}
 use Rattle.nf_base.specs.declared.keys.Keys.{Keys}
 use Rattle.toeplitz_hash.specs.declared.key.TheConstants.{DEFAULT_KEY}
 use Rattle.toeplitz_hash.specs.Bits.{bit_of}
@@ -11,8 +13,7 @@ use Rattle.key_rows.specs.declared.place.Object.{Object}
 use Rattle.key_rows.specs.Places.{AgreeAt, AreAdmissibleForAll}
 use Rattle.key_rows.specs.Given.{AreSpreading}
 use Rattle.nf_base.specs.declared.packet.Family.{Family}
-use Rattle.nf_base.specs.declared.packet.Family.TheVariants.{Four, Six}
-use Rattle.toeplitz_hash.specs.Packets.{key_at}
+use Rattle.toeplitz_hash.specs.Packets.{key_at, positions}
 use Rattle.key_rows.specs.Keyed.{is_keyed_for}
 use Rattle.key_rows.specs.Spread.{Spreads}
 use Rattle.key_rows.specs.Rows.{bits_of}
@@ -45,27 +46,32 @@ AgreeOn keys places i j =
 abbrev pub AgreeFrom : Keys → List Place → ℕ → Type 0
 AgreeFrom keys places i = (j : ℕ) → j < length places → i ≤ j → AgreeOn keys places i j
 
--- how many bits of a key meet the low 7 bits of the hash
-abbrev pub group_long : Family → ℕ
-group_long Four = 102
-group_long Six = 294
+-- the first bit of a key that meets the table index, which is the low bits of the hash: 25, or 23
+abbrev pub group_from : TableSize → ℕ
+group_from size = 32 - index_bits size
 
--- bits 25 to 126 of the key of a port, or to 318
-abbrev pub group_of : Family → ℕ → List Bool
-group_of family port = replicate (319 * port + 25) false ++ replicate (group_long family) true
+-- how many bits of a key do
+abbrev pub group_long : TableSize → Family → ℕ
+group_long size family = positions family - group_from size
+
+-- these of the key of a port: bits 25 or 23 to 126 or 318
+abbrev pub group_of : TableSize → Family → ℕ → List Bool
+group_of size family port =
+    replicate (319 * port + group_from size) false ++ replicate (group_long size family) true
 
 -- one group more, where a port is keyed for a family
-pub record AddsGroup (ports : ℕ) (objects : List Object) (family : Family) (port : ℕ)
-    (old new : List (List Bool)) : Type 0 where
+pub record AddsGroup (ports : ℕ) (objects : List Object) (size : TableSize) (family : Family)
+    (port : ℕ) (old new : List (List Bool)) : Type 0 where
   pub exact : (keys : Keys) →
       (All (Meets (bits_of ports keys)) new)
       ↔ (All (Meets (bits_of ports keys)) old
-      × (is_keyed_for objects family port ≡ true → Spreads family 7 (key_at keys port)))
+      × (is_keyed_for objects family port ≡ true → Spreads family (index_bits size) (key_at keys port)))
 
 -- The bits of keys have a 1 in each group exactly where the keys spread.
-pub record AreGroupsOf (ports : ℕ) (objects : List Object) (groups : List (List Bool))
-    : Type 0 where
-  pub exact : (keys : Keys) → (All (Meets (bits_of ports keys)) groups) ↔ AreSpreading objects keys
+pub record AreGroupsOf (ports : ℕ) (objects : List Object) (size : TableSize)
+    (groups : List (List Bool)) : Type 0 where
+  pub exact : (keys : Keys) →
+      (All (Meets (bits_of ports keys)) groups) ↔ AreSpreading size objects keys
 
 -- the bits of the default key, once for each of so many ports
 abbrev pub default_bits : ℕ → List Bool

@@ -2,10 +2,11 @@
 ghost use Rattle.std.specs.Prelude.{◌≡◌, ◌<◌, ◌≤◌, All, IfOk, OnOk};
 ghost use Rattle.std.specs.List.{list_any, list_all};
 ghost use Rattle.key_rows.specs.Keyed.{is_at, is_keyed, version, is_for, is_keyed_for, is_before, are_at_ports, AreAtPorts};
-ghost use Rattle.key_rows.specs.Systems.{group_long, group_of, AddsGroup, AreGroupsOf};
+ghost use Rattle.key_rows.specs.Systems.{group_from, group_long, group_of, AddsGroup, AreGroupsOf};
 
 use crate::place::{Object, Place};
 use gf2_solve::Bits;
+use nf_base::card::TableSize;
 use nf_base::packet::Family;
 use nf_base::seq::Seq;
 use std::alloc::{AllocError, Global};
@@ -94,15 +95,20 @@ pub fn is_keyed_for(objects: &[Object], family: Family, port: u32) -> bool
 
 /// Of each port the bits of which one has to be 1, for each family that it is keyed for.
 #[tactic(auto, using(crate::proofs::Grouped::groups_none, crate::proofs::Grouped::groups_all))]
-pub fn groups_of(alloc: Global, ports: u32, objects: &[Object]) -> Result<Seq<Bits>, AllocError>
+pub fn groups_of(
+    alloc: Global,
+    ports: u32,
+    objects: &[Object],
+    size: TableSize,
+) -> Result<Seq<Bits>, AllocError>
     requires four { ports ≤ 4 }
     requires within { All (λ object. AreAtPorts ports object.places) objects.now }
-    ensures { IfOk result (AreGroupsOf ports objects.now) }
+    ensures { IfOk result (AreGroupsOf ports objects.now size) }
 {
     let mut groups = Seq::new(alloc);
     for port in 0..ports {
-        put_group(alloc, ports, objects, Family::Four, port, &mut groups)?;
-        put_group(alloc, ports, objects, Family::Six, port, &mut groups)?;
+        put_group(alloc, ports, objects, size, Family::Four, port, &mut groups)?;
+        put_group(alloc, ports, objects, size, Family::Six, port, &mut groups)?;
     }
     Ok(groups)
 }
@@ -113,38 +119,52 @@ fn put_group(
     alloc: Global,
     ports: u32,
     objects: &[Object],
+    size: TableSize,
     family: Family,
     port: u32,
     groups: &mut Seq<Bits>,
 ) -> Result<(), AllocError>
     requires four { ports ≤ 4 }
     requires within { port < ports }
-    ensures { OnOk result (AddsGroup ports objects.now family port groups.old groups.new) }
+    ensures { OnOk result (AddsGroup ports objects.now size family port groups.old groups.new) }
 {
     if is_keyed_for(objects, family, port) {
-        groups.push(group(alloc, family, port)?)?;
+        groups.push(group(alloc, size, family, port)?)?;
     }
     Ok(())
 }
 
-/// Bits 25 to 126 of the key of a port, or to 318.
-fn group(alloc: Global, family: Family, port: u32) -> Result<Bits, AllocError>
+/// Of the key of a port the bits that meet the table index.
+fn group(alloc: Global, size: TableSize, family: Family, port: u32) -> Result<Bits, AllocError>
     requires { port < 4 }
-    ensures { IfOk result (λ group. group ≡ group_of family port) }
+    ensures { IfOk result (λ group. group ≡ group_of size family port) }
 {
-    let mut bits = vec![in alloc; false; (319 * port + 25) as usize]?;
-    for _i in 0..group_long(family) {
+    let mut bits = vec![in alloc; false; (319 * port + group_from(size)) as usize]?;
+    for _i in 0..group_long(size, family) {
         bits.push(true)?;
     }
     Ok(Bits(bits))
 }
 
-/// How many bits of a key meet the low 7 bits of the hash.
-fn group_long(family: Family) -> u32
-    ensures { result ≡ group_long family }
+/// The first bit of a key that meets the table index.
+fn group_from(size: TableSize) -> u32
+    ensures value { result ≡ group_from size }
+    ensures within { result < 32 }
 {
-    match family {
-        Family::Four => 102,
-        Family::Six => 294,
+    match size {
+        TableSize::Entries128 => 25,
+        TableSize::Entries512 => 23,
+    }
+}
+
+/// How many bits of a key meet the table index.
+fn group_long(size: TableSize, family: Family) -> u32
+    ensures { result ≡ group_long size family }
+{
+    match (size, family) {
+        (TableSize::Entries128, Family::Four) => 102,
+        (TableSize::Entries128, Family::Six) => 294,
+        (TableSize::Entries512, Family::Four) => 104,
+        (TableSize::Entries512, Family::Six) => 296,
     }
 }

@@ -8,15 +8,15 @@ ghost use Rattle.key_rows.specs.Solutions.{IsSolved};
 use crate::keyed::{are_at_ports, groups_of};
 use crate::pairs::equations_of;
 use crate::place::Object;
-use crate::solution::keys_from;
+use crate::solution::ports_from;
 use crate::wanted::default_bits;
 use gf2_solve::{Bits, System};
+use nf_base::card::{Card, TableSize};
 use nf_base::keys::Keys;
 use nf_base::seq::Seq;
 use std::alloc::{AllocError, Global};
 
-/// The keys, 40 bytes each, for ports of each of which `six` says whether it has a handler for
-/// IPv6. They are nearest the default key: of those under which packets that come to an object with
+/// The keys for a card, for ports of each of which `six` says whether it has a handler for IPv6. They are nearest the default key: of those under which packets that come to an object with
 /// equal labels have equal hashes, and which give packets of each family that a port is keyed for
 /// more than one table index. None where there are no such keys.
 ///
@@ -29,31 +29,43 @@ pub fn nearest_keys(
     alloc: Global,
     six: &[bool],
     objects: &[Object],
+    card: Card,
 ) -> Result<Option<Keys>, AllocError>
     requires { length six.now ≤ 4 }
     ensures { IfOk result
-        (AreAnswer (positions_at six.now objects.now) (length six.now) objects.now) }
+        (AreAnswer (positions_at six.now objects.now) (length six.now) objects.now card) }
 {
     let ports = six.len() as u32;
     // At a port past the last one no key spreads.
     if !are_at_ports(objects, ports) {
         return Ok(None);
     }
-    match solved(alloc, ports, objects)? {
-        Some(bits) => Ok(Some(keys_from(alloc, ports, six, objects, bits.as_slice())?)),
+    match solved(alloc, ports, objects, card)? {
+        Some(bits) => {
+            let ports = ports_from(alloc, six, objects, bits.as_slice(), card.key)?;
+            Ok(Some(Keys {
+                table: card.table,
+                ports,
+            }))
+        }
         None => Ok(None),
     }
 }
 
 /// The bits of the nearest keys.
 #[tactic(auto, using(crate::proofs::Solved::solved))]
-fn solved(alloc: Global, ports: u32, objects: &[Object]) -> Result<Option<Bits>, AllocError>
+fn solved(
+    alloc: Global,
+    ports: u32,
+    objects: &[Object],
+    card: Card,
+) -> Result<Option<Bits>, AllocError>
     requires four { ports ≤ 4 }
     requires within { All (λ object. AreAtPorts ports object.places) objects.now }
-    ensures { IfOk result (IsSolved ports objects.now) }
+    ensures { IfOk result (IsSolved ports objects.now card) }
 {
     let system = equations_of(alloc, ports, objects)?;
     let wanted = default_bits(alloc, ports)?;
-    let groups = groups_of(alloc, ports, objects)?;
+    let groups = groups_of(alloc, ports, objects, card.table)?;
     system.nearest(alloc, &wanted, groups.as_slice())
 }

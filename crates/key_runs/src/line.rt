@@ -1,6 +1,7 @@
 //! The objects of one line, and their keys.
 use hash_fields::Hashable;
 use key_rows::{Object, Place, nearest_keys};
+use nf_base::card::{Card, KeySize, TableSize};
 use nf_base::keys::Keys;
 use nf_base::packet::Family;
 use nf_base::seq::Seq;
@@ -13,10 +14,11 @@ pub fn answer(alloc: Global, line: &str) -> Result<String, AllocError> {
     };
     let objects = objects(alloc, behind)?;
     let (count, six) = handlers(ports);
+    let card = card(ports);
     if count > 4 {
         return String::from_str(alloc, "too many ports");
     }
-    match nearest_keys(alloc, &six[..count as usize], objects.as_slice())? {
+    match nearest_keys(alloc, &six[..count as usize], objects.as_slice(), card)? {
         Some(keys) => text(alloc, &keys),
         None => String::from_str(alloc, "none"),
     }
@@ -35,6 +37,19 @@ fn handlers(words: &str) -> (u32, [bool; 4]) {
         }
     }
     (count, six)
+}
+
+/// The card of a line: `512` names a table of as many entries, and `52` keys of as many bytes.
+fn card(words: &str) -> Card {
+    let mut card = Card::usual();
+    for word in words.split_whitespace() {
+        match word {
+            "512" => card.table = TableSize::Entries512,
+            "52" => card.key = KeySize::Bytes52,
+            _ => {}
+        }
+    }
+    card
 }
 
 /// The objects of a line.
@@ -98,7 +113,7 @@ pub fn text(alloc: Global, keys: &Keys) -> Result<String, AllocError> {
         if !text.is_empty() {
             text.push(' ')?;
         }
-        for byte in key {
+        for byte in key.as_slice() {
             text.push_str(&format!(in alloc; "{byte:02x}")?)?;
         }
     }

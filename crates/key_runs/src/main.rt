@@ -2,7 +2,8 @@
 //! `2 | 0:src_ip,src_port 1:dst_ip,dst_port | 1:dst_ip`. A place is a port and the fields that the
 //! object's labels are there. `six` behind the number of ports names those that have a handler for
 //! IPv6, and behind the port of a place says that its packets are IPv6, as in
-//! `2 six 1 | 1:src_port 1six:src_port`. Prints a key for each port, or `none`.
+//! `2 six 1 | 1:src_port 1six:src_port`. `512` behind the number of ports stands for a table of as
+//! many entries, and `52` for keys of as many bytes. Prints a key for each port, or `none`.
 //!
 //! Given the word `time`, it prints how long it takes to find the keys of four ports for eight
 //! objects with eight labels, for either version of IP. Its tests are those of the keys.

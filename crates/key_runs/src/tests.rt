@@ -1,6 +1,7 @@
 //! What the keys are, by other ways than equations.
 use crate::line::{answer, objects};
 use key_rows::{Object, nearest_keys};
+use nf_base::card::Card;
 use nf_base::keys::Keys;
 use nf_base::mac::Mac;
 use nf_base::packet::{Addresses, Fields, Packet, PacketId};
@@ -11,7 +12,7 @@ use toeplitz_hash::{DEFAULT_KEY, hash_packet};
 // The tests find keys through this, which promises nothing: what the answers are is compared, and
 // not proved.
 fn keys(alloc: Global, objects: &[Object]) -> Result<Option<Keys>, AllocError> {
-    nearest_keys(alloc, &[true, true], objects)
+    nearest_keys(alloc, &[true, true], objects, Card::usual())
 }
 
 /// How a place is written, how many key bits its packets meet, and names and first bits of the
@@ -24,7 +25,7 @@ fn windows(six: bool) -> (&'static str, usize, [(&'static str, usize, usize); 4]
             ("src_port", 256, 303),
             ("dst_port", 272, 319),
         ];
-        ("1 six 0 | 0six:", 319, windows)
+        ("six 0 | 0six:", 319, windows)
     } else {
         let windows = [
             ("src_ip", 0, 63),
@@ -32,7 +33,7 @@ fn windows(six: bool) -> (&'static str, usize, [(&'static str, usize, usize); 4]
             ("src_port", 64, 111),
             ("dst_port", 80, 127),
         ];
-        ("1 | 0:", 127, windows)
+        ("| 0:", 127, windows)
     }
 }
 
@@ -56,12 +57,27 @@ fn is_free(i: usize, six: bool, known: u32) -> bool {
     i < end
 }
 
-/// The default key's bits where they are free; if none from 25 on is a 1 then, the last free one
-/// is, and there is no key where none is free.
-fn expected(alloc: Global, six: bool, known: u32) -> Result<String, AllocError> {
+/// The cards, by the words that name them in a line: with each the first bit that meets the table
+/// index, and how many bytes a key has.
+const CARDS: [(&str, usize, usize); 4] = [
+    ("", 25, 40),
+    ("512 ", 23, 40),
+    ("52 ", 25, 52),
+    ("512 52 ", 23, 52),
+];
+
+/// The default key's bits where they are free; if none from the first that meets the table index on
+/// is a 1 then, the last free one is, and there is no key where none is free.
+fn expected(
+    alloc: Global,
+    from: usize,
+    bytes: usize,
+    six: bool,
+    known: u32,
+) -> Result<String, AllocError> {
     let mut last = None;
     let mut spreads = false;
-    for i in 25..320 {
+    for i in from..320 {
         if is_free(i, six, known) {
             last = Some(i);
             spreads = spreads || default_bit(i);
@@ -71,10 +87,10 @@ fn expected(alloc: Global, six: bool, known: u32) -> Result<String, AllocError> 
         return String::from_str(alloc, "none");
     };
     let mut text = String::new(alloc);
-    for byte in 0..40usize {
+    for byte in 0..bytes {
         let mut value = 0u8;
         for j in 0..8 {
-            let i = byte * 8 + j;
+            let i = byte.wrapping_mul(8).wrapping_add(j);
             let one = is_free(i, six, known) && (default_bit(i) || (!spreads && i == last));
             value = value.wrapping_mul(2).wrapping_add(u8::from(one));
         }
@@ -84,9 +100,11 @@ fn expected(alloc: Global, six: bool, known: u32) -> Result<String, AllocError> 
 }
 
 /// One port and one place that knows a set of fields, one bit each.
-fn one_place(alloc: Global, six: bool, known: u32) -> Result<String, AllocError> {
+fn one_place(alloc: Global, card: &str, six: bool, known: u32) -> Result<String, AllocError> {
     let (place, _end, windows) = windows(six);
-    let mut line = String::from_str(alloc, place)?;
+    let mut line = String::from_str(alloc, "1 ")?;
+    line.push_str(card)?;
+    line.push_str(place)?;
     let mut number = 0u32;
     for (name, _from, _to) in windows {
         if known.wrapping_shr(number) % 2 == 1 {
@@ -99,18 +117,24 @@ fn one_place(alloc: Global, six: bool, known: u32) -> Result<String, AllocError>
 }
 
 /// What the keys of such a place are.
-fn found(alloc: Global, six: bool, known: u32) -> Result<String, AllocError> {
-    let line = one_place(alloc, six, known)?;
+fn found(alloc: Global, card: &str, six: bool, known: u32) -> Result<String, AllocError> {
+    let line = one_place(alloc, card, six, known)?;
     answer(alloc, line.as_str())
 }
 
 #[test]
 fn a_place_keeps_the_bits_that_only_its_fields_meet(rt: HostRuntime) -> Result<(), Fail> {
-    for known in 0..16u32 {
-        for six in [false, true] {
-            let found = found(rt.alloc(), six, known)?;
-            let expected = expected(rt.alloc(), six, known)?;
-            assert_eq!(rt; found.as_str(), expected.as_str(), "fields {known:04b}");
+    for (card, from, bytes) in CARDS {
+        for known in 0..16u32 {
+            for six in [false, true] {
+                let found = found(rt.alloc(), card, six, known)?;
+                let expected = expected(rt.alloc(), from, bytes, six, known)?;
+                assert_eq!(rt;
+                    found.as_str(),
+                    expected.as_str(),
+                    "{card}fields {known:04b}"
+                );
+            }
         }
     }
     Ok(())
@@ -118,7 +142,7 @@ fn a_place_keeps_the_bits_that_only_its_fields_meet(rt: HostRuntime) -> Result<(
 
 /// What keys are, by the rows that a port has: those of one family that is keyed, of both, and of
 /// none. Where a port has a handler for IPv6 the bits up to 318 count, whichever family is keyed.
-const ROWS: [(&str, &str); 6] = [
+const ROWS: [(&str, &str); 7] = [
     (
         "1 six 0 | 0six:src_ip",
         "6d5a56da255b0ec24167253d43a38fb0000000000000000000000000000000000000000000000000",
@@ -140,6 +164,11 @@ const ROWS: [(&str, &str); 6] = [
         "6d5a56da000000000000000000000000000000000000000000000000000000000000000000000000",
     ),
     ("1 six 0 | 0:dst_port | 0six:dst_port", "none"),
+    (
+        "2 512 52 | 1:dst_ip",
+        "6d5a56da255b0ec24167253d43a38fb0d0ca2bcbae7b30b477cb2da38030f20c6a42b73bbeac01fa6d5a56da255b0ec24167253d \
+         00000000000000010000000000000000000000000000000000000000000000000000000000000000000000000000000000000000",
+    ),
 ];
 
 #[test]

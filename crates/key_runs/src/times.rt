@@ -1,6 +1,7 @@
 //! How long it takes to find keys.
 use crate::line::{objects, text};
 use key_rows::nearest_keys;
+use nf_base::card::Card;
 use std::io;
 use std::time::Instant;
 
@@ -30,7 +31,7 @@ fn print_one(rt: &HostRuntime, places: &str, six: [bool; 4]) -> io::Result<()> {
         objects.append(&mut crate::line::objects(alloc, places)?)?;
     }
     let start = Instant::now(rt)?;
-    let keys = nearest_keys(alloc, &six, objects.as_slice())?;
+    let keys = nearest_keys(alloc, &six, objects.as_slice(), Card::usual())?;
     let spent = start.elapsed(rt)?.as_micros();
     match keys {
         Some(keys) => {

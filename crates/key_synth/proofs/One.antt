@@ -42,7 +42,7 @@ causes_one objects standings cause.Hash (cause.Object object rule) first second 
 causes_one objects standings cause.Hash cause.Hash first second = refl
 
 pub verdicts_are_one : VerdictsAreOne
-verdicts_are_one f (Sharded keys) (Sharded other) first second = ap (λ (k : Keys). Sharded k) (given_keys_one f keys other first second)
-verdicts_are_one f (Sharded keys) (Locked why) first second = absurd (second.0.none keys first.may)
-verdicts_are_one f (Locked why) (Sharded keys) first second = absurd (first.0.none keys second.may)
-verdicts_are_one f (Locked why) (Locked other) first second = ap (λ (c : Cause). Locked c) (causes_one f.objects (own_plan f).standings why other first.1 second.1)
+verdicts_are_one f card (Sharded keys) (Sharded other) first second = ap (λ (k : Keys). Sharded k) (given_keys_one f card keys other first second)
+verdicts_are_one f card (Sharded keys) (Locked why) first second = absurd (second.0.none keys first.may)
+verdicts_are_one f card (Locked why) (Sharded keys) first second = absurd (first.0.none keys second.may)
+verdicts_are_one f card (Locked why) (Locked other) first second = ap (λ (c : Cause). Locked c) (causes_one f.objects (own_plan f).standings why other first.1 second.1)

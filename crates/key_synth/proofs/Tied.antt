@@ -2,6 +2,7 @@
 use Rattle.std.proofs.Common.{◌≡◌, ℕ, ◌<◌, ◌≤◌, ◌||◌, Bool, true, false, refl, ap, sym, ◌∙◌, subst, List, length, inl, inr, Option, Some, None, if◌then◌else◌}
 use Rattle.std.proofs.lemmas.Bool.{false≢true}
 use Rattle.std.proofs.lemmas.List.{length-map}
+use Rattle.nf_base.specs.declared.card.Card.{Card}
 use Rattle.nf_base.specs.declared.keys.Keys.{Keys}
 use Rattle.nf_base.specs.declared.packet.Family.TheVariants.{Six}
 use Rattle.nf_base.specs.Doors.{has_six, six_ports, six_at}
@@ -19,16 +20,18 @@ use Rattle.key_synth.specs.Laws.{GivenKeysAreOne}
 use Rattle.key_synth.proofs.Placed.{keyed_to, keyed_from, keyed_for_to, keyed_for_from}
 use Rattle.key_synth.proofs.Handled.{six_there}
 
-may_to : (f : Function) (keys : Keys) → given.MayBeGiven (length f.handlers) (own_plan f).objects keys → MayBeGiven f keys
-may_to f keys may = record {
+may_to : (f : Function) (card : Card) (keys : Keys) → given.MayBeGiven (length f.handlers) (own_plan f).objects card keys → MayBeGiven f card keys
+may_to f card keys may = record {
+  table = may.table;
   count = may.count;
   whole = may.whole;
   admissible = (say_the_same f keys).0 may.admissible;
   spreading = record { each = λ port family is. may.spreading.each port family (keyed_for_from f family port is) };
 }
 
-may_from : (f : Function) (keys : Keys) → MayBeGiven f keys → given.MayBeGiven (length f.handlers) (own_plan f).objects keys
-may_from f keys may = record {
+may_from : (f : Function) (card : Card) (keys : Keys) → MayBeGiven f card keys → given.MayBeGiven (length f.handlers) (own_plan f).objects card keys
+may_from f card keys may = record {
+  table = may.table;
   count = may.count;
   whole = may.whole;
   admissible = (say_the_same f keys).1 may.admissible;
@@ -61,29 +64,29 @@ before_from f port i keys other before = record {
 }
 
 -- keys given over the places of a function's plan
-abbrev pub AreGivenAt : Function → Keys → Type 0
-AreGivenAt f keys = given.AreGiven (positions_at (six_ports f) (own_plan f).objects) (length f.handlers) (own_plan f).objects keys
+abbrev pub AreGivenAt : Function → Card → Keys → Type 0
+AreGivenAt f card keys = given.AreGiven (positions_at (six_ports f) (own_plan f).objects) (length f.handlers) (own_plan f).objects card keys
 
-given_to : (f : Function) (keys : Keys) → AreGivenAt f keys → AreGiven f keys
-given_to f keys are = record {
-  may = may_to f keys are.may;
+given_to : (f : Function) (card : Card) (keys : Keys) → AreGivenAt f card keys → AreGiven f card keys
+given_to f card keys are = record {
+  may = may_to f card keys are.may;
   nearest = λ port i within low.
       elim (are.nearest port i within (subst (λ (n : ℕ). i < n) (sym (positions_same f port)) low)) [
         | inl default ↦ inl default
-        | inr out ↦ inr (record { none = λ other may before. out.none other (may_from f other may) (before_from f port i keys other before) })
+        | inr out ↦ inr (record { none = λ other may before. out.none other (may_from f card other may) (before_from f port i keys other before) })
       ];
   past = λ port i within is high. are.past port i within (keyed_from f port is) (subst (λ (n : ℕ). n ≤ i) (sym (positions_same f port)) high);
   unkeyed = λ port within none. are.unkeyed port within (not_keyed f port none (keyed.is_keyed (own_plan f).objects port) refl);
 }
 
 -- and back: given keys of a function are given over the places
-pub given_from : (f : Function) (keys : Keys) → AreGiven f keys → AreGivenAt f keys
-given_from f keys are = record {
-  may = may_from f keys are.may;
+pub given_from : (f : Function) (card : Card) (keys : Keys) → AreGiven f card keys → AreGivenAt f card keys
+given_from f card keys are = record {
+  may = may_from f card keys are.may;
   nearest = λ port i within low.
       elim (are.nearest port i within (subst (λ (n : ℕ). i < n) (positions_same f port) low)) [
         | inl default ↦ inl default
-        | inr out ↦ inr (record { none = λ other may before. out.none other (may_to f other may) (before_to f port i keys other before) })
+        | inr out ↦ inr (record { none = λ other may before. out.none other (may_to f card other may) (before_to f port i keys other before) })
       ];
   past = λ port i within is high. are.past port i within (keyed_to f port is) (subst (λ (n : ℕ). n ≤ i) (positions_same f port) high);
   unkeyed = λ port within none. are.unkeyed port within (λ is. false≢true (sym none ∙ keyed_from f port is));
@@ -91,18 +94,18 @@ given_from f keys are = record {
 
 -- two given keys of a function are equal
 pub given_keys_one : GivenKeysAreOne
-given_keys_one f keys other first second =
-    given_keys_are_one (positions_at (six_ports f) (own_plan f).objects) (length f.handlers) (own_plan f).objects keys other (given_from f keys first) (given_from f other second)
+given_keys_one f card keys other first second =
+    given_keys_are_one (positions_at (six_ports f) (own_plan f).objects) (length f.handlers) (own_plan f).objects card keys other (given_from f card keys first) (given_from f card other second)
 
-answer_to : (f : Function) (answer : Option Keys) → given.AreAnswer (positions_at (six_ports f) (own_plan f).objects) (length f.handlers) (own_plan f).objects answer → AreAnswer f answer
-answer_to f None none = record { none = λ keys may. none.none keys (may_from f keys may) }
-answer_to f (Some keys) are = given_to f keys are
+answer_to : (f : Function) (card : Card) (answer : Option Keys) → given.AreAnswer (positions_at (six_ports f) (own_plan f).objects) (length f.handlers) (own_plan f).objects card answer → AreAnswer f card answer
+answer_to f card None none = record { none = λ keys may. none.none keys (may_from f card keys may) }
+answer_to f card (Some keys) are = given_to f card keys are
 
 -- the same of what is answered for a plan that is the function's
-pub answered : (f : Function) (plan : Plan) (six : List Bool) (objects : List Object) (answer : Option Keys) → plan ≡ own_plan f → six ≡ six_ports f → objects ≡ plan.objects
-    → given.AreAnswer (positions_at six objects) (length six) objects answer → AreAnswer f answer
-answered f plan six objects answer own ports are says =
-    answer_to f answer
-    (subst (λ (n : ℕ). given.AreAnswer (positions_at (six_ports f) (own_plan f).objects) n (own_plan f).objects answer) (length-map f.handlers has_six)
-    (subst (λ (list : List Bool). given.AreAnswer (positions_at list (own_plan f).objects) (length list) (own_plan f).objects answer) ports
-    (subst (λ (list : List Object). given.AreAnswer (positions_at six list) (length six) list answer) (are ∙ ap (λ (p : Plan). p.objects) own) says)))
+pub answered : (f : Function) (card : Card) (plan : Plan) (six : List Bool) (objects : List Object) (answer : Option Keys) → plan ≡ own_plan f → six ≡ six_ports f → objects ≡ plan.objects
+    → given.AreAnswer (positions_at six objects) (length six) objects card answer → AreAnswer f card answer
+answered f card plan six objects answer own ports are says =
+    answer_to f card answer
+    (subst (λ (n : ℕ). given.AreAnswer (positions_at (six_ports f) (own_plan f).objects) n (own_plan f).objects card answer) (length-map f.handlers has_six)
+    (subst (λ (list : List Bool). given.AreAnswer (positions_at list (own_plan f).objects) (length list) (own_plan f).objects card answer) ports
+    (subst (λ (list : List Object). given.AreAnswer (positions_at six list) (length six) list card answer) (are ∙ ap (λ (p : Plan). p.objects) own) says)))

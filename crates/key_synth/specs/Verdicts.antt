@@ -1,5 +1,6 @@
 -- Verdicts on a function, and their causes.
 use Rattle.std.specs.Prelude.{◌≡◌, ℕ, ◌<◌, List, [], ◌∷◌, length, Option, Some, None, slice_get}
+use Rattle.nf_base.specs.declared.card.Card.{Card}
 use Rattle.nf_base.specs.declared.decl.ObjectId.{ObjectId}
 use Rattle.nf_base.specs.Text.{Function}
 use Rattle.shard_rules.specs.declared.rule.Rule.{Rule}
@@ -45,14 +46,14 @@ IsCause objects standings (cause.Object object rule) = IsFirstUnkept objects sta
 IsCause objects standings cause.Hash = AreKeptBefore standings (length standings)
 
 -- Sharded with the given keys; locked, with the cause, where no admissible keys spread
-abbrev pub IsVerdict : Function → Verdict → Type 0
-IsVerdict f (Sharded keys) = AreGiven f keys
-IsVerdict f (Locked why) = NoneMayBeGiven f × IsCause f.objects (own_plan f).standings why
+abbrev pub IsVerdict : Function → Card → Verdict → Type 0
+IsVerdict f card (Sharded keys) = AreGiven f card keys
+IsVerdict f card (Locked why) = NoneMayBeGiven f card × IsCause f.objects (own_plan f).standings why
 
--- two verdicts on one function are equal
+-- two verdicts on one function, for one card, are equal
 abbrev pub VerdictsAreOne : Type 0
-VerdictsAreOne = (f : Function) (verdict other : Verdict) →
-    IsVerdict f verdict → IsVerdict f other → verdict ≡ other
+VerdictsAreOne = (f : Function) (card : Card) (verdict other : Verdict) →
+    IsVerdict f card verdict → IsVerdict f card other → verdict ≡ other
 
 -- Packets that meet have equal hashes under the keys of a verdict.
 abbrev pub Separates : Function → Verdict → Type 0

@@ -10,7 +10,7 @@ pub fn meeting_packets_hash_alike()
     ensures { MeetingPacketsHashAlike }
 {}
 
-/// The given keys of a function are one.
+/// The given keys of a function for a card are one.
 pub fn given_keys_are_one()
     ensures { GivenKeysAreOne }
 {}
@@ -21,7 +21,7 @@ pub fn unkept_objects_keep_none()
     ensures { UnkeptObjectsKeepNone }
 {}
 
-/// A function has one verdict: its given keys are one, they are given exactly where there are any,
+/// A function has one verdict for a card: its given keys are one, they are given exactly where there are any,
 /// and where there are none the cause is one.
 pub fn verdicts_are_one()
     ensures { VerdictsAreOne }

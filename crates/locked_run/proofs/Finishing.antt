@@ -4,6 +4,7 @@ use Rattle.std.proofs.Common.{◌≡◌, ◌≢◌, ◌⊎◌, ⊎_elim, inl, in
 use Rattle.std.specs.List.{AllByRecursion, slice_get}
 use Rattle.std.specs.Prelude.{OnOk}
 use Rattle.std.proofs.lemmas.List.{length-map}
+use Rattle.nf_base.specs.declared.card.Card.{Card}
 use Rattle.nf_base.specs.declared.state.State.{State}
 use Rattle.nf_base.specs.Text.{Function}
 use Rattle.nf_base.specs.Step.{opening}
@@ -46,10 +47,10 @@ lock_mode w workers e = ap (λ (b : Bool). if b then Lock else One) (eq-eqb w wo
 one_mode : (w workers : ℕ) → w ≢ workers → mode_of w workers ≡ One
 one_mode w workers ne = ap (λ (b : Bool). if b then Lock else One) (ne_eqb w workers ne)
 
-pub heading_of : (w workers : ℕ) → 1 < workers → workers ≤ 16 → IsHeading (record { mode = mode_of w workers; workers = workers })
-heading_of w workers several most = one (w == workers)
+pub heading_of : (w workers : ℕ) (card : Card) → 1 < workers → workers ≤ 16 → IsHeading (record { mode = mode_of w workers; workers = workers; card = card })
+heading_of w workers card several most = one (w == workers)
   where
-    one : (b : Bool) → IsHeading (record { mode = if b then Lock else One; workers = workers })
+    one : (b : Bool) → IsHeading (record { mode = if b then Lock else One; workers = workers; card = card })
     one true = record { least = omega (arith, several); most = most }
     one false = record { least = omega (arith, several); most = most }
 
@@ -66,21 +67,21 @@ settled_of f workers Refused batch xs places state w several h (inr r) =
     (record { undivided = undivided_of f batch xs places state g.at g.runs; in_mode = (r.1, all_zero (joined batch xs places) (workers_are f 1 batch xs places state g), in_capture_order f batch xs places state g) })
 
 -- nothing was handled
-pub halted_none : (f : Function) (workers : ℕ) (Refused : Type 0) (ports : ℕ) (batch : List Arrival) (now : Told) (files : List ℕ) → ((k file : ℕ) → slice_get files k ≡ Some file → IsEmptyIfTold (now.given file)) → IsHalted f workers Refused ports batch now files
-halted_none f workers Refused ports batch now files empty = record {
+pub halted_none : (f : Function) (workers : ℕ) (card : Card) (Refused : Type 0) (ports : ℕ) (batch : List Arrival) (now : Told) (files : List ℕ) → ((k file : ℕ) → slice_get files k ≡ Some file → IsEmptyIfTold (now.given file)) → IsHalted f workers card Refused ports batch now files
+halted_none f workers card Refused ports batch now files empty = record {
   mode = Lock;
   given = [];
   hs = [];
   state = opening f;
   some = inl refl;
   are = record { undivided = refl; in_mode = (tt, λ port. refl) };
-  fronts = λ k file e. empty_front (bytes_of Lock workers ports k []) (now.given file) (empty k file e);
+  fronts = λ k file e. empty_front (bytes_of Lock workers card ports k []) (now.given file) (empty k file e);
 }
 
 -- what was held is written
-pub written_by : (T E : Type 0) (mode : Mode) (workers ports : ℕ) (hs : List Handled) (now : Told) (sinks : List Holding) (files : List ℕ) (result : Result T E) → files_of sinks ≡ files → AllGoOn mode workers ports hs now sinks result → OnOk result (AreEmpty sinks) → Writes mode workers ports hs now files result
-written_by T E mode workers ports hs now sinks files (Ok x) same held empty = λ k file e. empty_told mode workers ports now sinks hs held empty k file (ap (λ (fs : List ℕ). slice_get fs k) same ∙ e)
-written_by T E mode workers ports hs now sinks files (Err x) same fronts empty = subst (λ (fs : List ℕ). AreFronts mode workers ports hs now fs) same fronts
+pub written_by : (T E : Type 0) (mode : Mode) (workers : ℕ) (card : Card) (ports : ℕ) (hs : List Handled) (now : Told) (sinks : List Holding) (files : List ℕ) (result : Result T E) → files_of sinks ≡ files → AllGoOn mode workers card ports hs now sinks result → OnOk result (AreEmpty sinks) → Writes mode workers card ports hs now files result
+written_by T E mode workers card ports hs now sinks files (Ok x) same held empty = λ k file e. empty_told mode workers card ports now sinks hs held empty k file (ap (λ (fs : List ℕ). slice_get fs k) same ∙ e)
+written_by T E mode workers card ports hs now sinks files (Err x) same fronts empty = subst (λ (fs : List ℕ). AreFronts mode workers card ports hs now fs) same fronts
 
 -- ---- the run of packets that were handled
 
@@ -92,27 +93,29 @@ zero_turns : (hs : List Handled) → AllByRecursion (λ (h : Handled). h.worker 
 zero_turns [] h = tt
 zero_turns (x ∷ hs) h = (h.0, zero_turns hs h.1)
 
-run_in : (mode : Mode) (f : Function) (workers : ℕ) (Refused : Type 0) (given : List Arrival) (hs : List Handled) (state : State) → AreSettled f mode workers Refused given hs state → IsRunIn mode f workers Refused given (run_of f mode workers hs)
-run_in Lock f workers Refused given hs state s = record {
+run_in : (mode : Mode) (f : Function) (workers : ℕ) (card : Card) (Refused : Type 0) (given : List Arrival) (hs : List Handled) (state : State) → AreSettled f mode workers Refused given hs state → IsRunIn mode f workers card Refused given (run_of f mode workers card hs)
+run_in Lock f workers card Refused given hs state s = record {
   function = refl;
   mode = refl;
   workers_are = refl;
+  card_is = refl;
   own = all_turns workers hs s.in_mode.0;
   order = subst (KeepsPortOrder port_of given) (sym (same_arrivals hs)) s.in_mode.1;
-  legal = record { result = result_in hs state; ran = ran_of f Lock workers hs state s.undivided };
+  legal = record { result = result_in hs state; ran = ran_of f Lock workers card hs state s.undivided };
 }
-run_in One f workers Refused given hs state s = (
+run_in One f workers card Refused given hs state s = (
   s.in_mode.0,
   record {
     function = refl;
     mode = refl;
     workers_are = refl;
+    card_is = refl;
     alone = zero_turns hs s.in_mode.1;
     order = same_arrivals hs ∙ s.in_mode.2;
-    legal = record { result = result_in hs state; ran = ran_of f One workers hs state s.undivided };
+    legal = record { result = result_in hs state; ran = ran_of f One workers card hs state s.undivided };
   },
 )
-run_in Shard f workers Refused given hs state s = absurd s.in_mode
+run_in Shard f workers card Refused given hs state s = absurd s.in_mode
 
 all_pass : (as_list : List Arrival) → filter (λ (a : Arrival). true) as_list ≡ as_list
 all_pass [] = refl
@@ -160,15 +163,15 @@ ends_so ending.TooMany ports begun feed start now before batch none g over b = (
 
 -- ---- how a run ends
 
-pub finished_of : (f : Function) (workers : ℕ) (Refused : Type 0) (n ports : ℕ) (begun feed : Feeding) (start read now : Told) (files : List ℕ) (batch : List Arrival) (e : Ending) (settled : Settled) (packets : ℕ) → n ≡ length f.handlers → begun.given ≡ 0 → Gathers ports begun feed start read batch → IsOver e begun start feed batch
-    → IsWritten f workers Refused n batch now files settled → packets ≡ feed.given → IsFinished f workers Refused begun start feed now files (record { mode = settled.mode; ran = record { ending = e; packets = packets; state = settled.state } })
-finished_of f workers Refused n ports begun feed start read now files batch e settled packets same none g over w count =
+pub finished_of : (f : Function) (workers : ℕ) (card : Card) (Refused : Type 0) (n ports : ℕ) (begun feed : Feeding) (start read now : Told) (files : List ℕ) (batch : List Arrival) (e : Ending) (settled : Settled) (packets : ℕ) → n ≡ length f.handlers → begun.given ≡ 0 → Gathers ports begun feed start read batch → IsOver e begun start feed batch
+    → IsWritten f workers card Refused n batch now files settled → packets ≡ feed.given → IsFinished f workers card Refused begun start feed now files (record { mode = settled.mode; ran = record { ending = e; packets = packets; state = settled.state } })
+finished_of f workers card Refused n ports begun feed start read now files batch e settled packets same none g over w count =
     let mode = settled.mode in
     let u = w.are.undivided in
     record {
-      run = run_of f mode workers w.hs;
+      run = run_of f mode workers card w.hs;
       given = batch;
-      is_run = run_in mode f workers Refused batch w.hs settled.state w.are;
+      is_run = run_in mode f workers card Refused batch w.hs settled.state w.are;
       within = given_within ports begun feed start read batch none g;
       packets = λ before b. the_first e ports begun feed start read before batch none g over b;
       ending = λ before b. ends_so e ports begun feed start read before batch none g over b;
@@ -176,36 +179,36 @@ finished_of f workers Refused n ports begun feed start read now files batch e se
       same_six = g.same_six;
       same_most = g.same_most;
       count = length-map w.hs turn_of ∙ same_count mode workers Refused batch w.hs w.are.in_mode ∙ sym (count_of ports begun feed start read batch none g) ∙ sym count;
-      left = (map (λ (x : Handled). x.done) w.hs, ran_of f mode workers w.hs settled.state u);
-      wholes = λ k file at. subst (λ (t : List ℕ). IsToldAs t (now.given file)) (sym (bytes_are f mode workers w.hs settled.state k u)) (subst (λ (m : ℕ). AreWhole mode workers m w.hs now files) same w.wholes k file at);
+      left = (map (λ (x : Handled). x.done) w.hs, ran_of f mode workers card w.hs settled.state u);
+      wholes = λ k file at. subst (λ (t : List ℕ). IsToldAs t (now.given file)) (sym (bytes_are f mode workers card w.hs settled.state k u)) (subst (λ (m : ℕ). AreWhole mode workers card m w.hs now files) same w.wholes k file at);
     }
 
-cut_at : (f : Function) (workers : ℕ) (Refused : Type 0) (n : ℕ) (begun : Feeding) (start now : Told) (files : List ℕ) (batch : List Arrival) → n ≡ length f.handlers → (h : IsHalted f workers Refused n batch now files) → length h.given ≤ begun.most
-    → ((before : Told) → StandsFor before [] begun start → AreFirst (packets_of (sixes_in begun.sources) (files_in begun.sources) before) h.given) → IsCutShort f workers Refused begun start now files
-cut_at f workers Refused n begun start now files batch same h within first =
+cut_at : (f : Function) (workers : ℕ) (card : Card) (Refused : Type 0) (n : ℕ) (begun : Feeding) (start now : Told) (files : List ℕ) (batch : List Arrival) → n ≡ length f.handlers → (h : IsHalted f workers card Refused n batch now files) → length h.given ≤ begun.most
+    → ((before : Told) → StandsFor before [] begun start → AreFirst (packets_of (sixes_in begun.sources) (files_in begun.sources) before) h.given) → IsCutShort f workers card Refused begun start now files
+cut_at f workers card Refused n begun start now files batch same h within first =
     let u = h.are.undivided in
     record {
-      run = run_of f h.mode workers h.hs;
+      run = run_of f h.mode workers card h.hs;
       given = h.given;
       mode = h.mode;
-      is_run = run_in h.mode f workers Refused h.given h.hs h.state h.are;
+      is_run = run_in h.mode f workers card Refused h.given h.hs h.state h.are;
       within = within;
       packets = first;
-      fronts = λ k file at. subst (λ (t : List ℕ). IsFrontIfTold t (now.given file)) (sym (bytes_are f h.mode workers h.hs h.state k u)) (subst (λ (m : ℕ). AreFronts h.mode workers m h.hs now files) same h.fronts k file at);
+      fronts = λ k file at. subst (λ (t : List ℕ). IsFrontIfTold t (now.given file)) (sym (bytes_are f h.mode workers card h.hs h.state k u)) (subst (λ (m : ℕ). AreFronts h.mode workers card m h.hs now files) same h.fronts k file at);
     }
 
 -- it was stopped before all packets were read
-pub cut_none : (f : Function) (workers : ℕ) (Refused : Type 0) (n : ℕ) (begun : Feeding) (start now : Told) (files : List ℕ) → n ≡ length f.handlers → ((k file : ℕ) → slice_get files k ≡ Some file → IsEmptyIfTold (now.given file)) → IsCutShort f workers Refused begun start now files
+pub cut_none : (f : Function) (workers : ℕ) (card : Card) (Refused : Type 0) (n : ℕ) (begun : Feeding) (start now : Told) (files : List ℕ) → n ≡ length f.handlers → ((k file : ℕ) → slice_get files k ≡ Some file → IsEmptyIfTold (now.given file)) → IsCutShort f workers card Refused begun start now files
 unfolding halted_none
-cut_none f workers Refused n begun start now files same empty =
-    let h = halted_none f workers Refused n [] now files empty in
+cut_none f workers card Refused n begun start now files same empty =
+    let h = halted_none f workers card Refused n [] now files empty in
     let none : length h.given ≡ 0 = refl in
-    cut_at f workers Refused n begun start now files [] same h (omega (arith, none)) (λ before b. first_none (packets_of (sixes_in begun.sources) (files_in begun.sources) before))
+    cut_at f workers card Refused n begun start now files [] same h (omega (arith, none)) (λ before b. first_none (packets_of (sixes_in begun.sources) (files_in begun.sources) before))
 
 -- it was stopped behind that
-pub cut_short_of : (f : Function) (workers : ℕ) (Refused : Type 0) (n ports : ℕ) (begun feed : Feeding) (start read now : Told) (files : List ℕ) (batch : List Arrival) → n ≡ length f.handlers → begun.given ≡ 0 → Gathers ports begun feed start read batch → IsHalted f workers Refused n batch now files → IsCutShort f workers Refused begun start now files
-cut_short_of f workers Refused n ports begun feed start read now files batch same none g h =
-    cut_at f workers Refused n begun start now files batch same h
+pub cut_short_of : (f : Function) (workers : ℕ) (card : Card) (Refused : Type 0) (n ports : ℕ) (begun feed : Feeding) (start read now : Told) (files : List ℕ) (batch : List Arrival) → n ≡ length f.handlers → begun.given ≡ 0 → Gathers ports begun feed start read batch → IsHalted f workers card Refused n batch now files → IsCutShort f workers card Refused begun start now files
+cut_short_of f workers card Refused n ports begun feed start read now files batch same none g h =
+    cut_at f workers card Refused n begun start now files batch same h
     (⊎_elim (λ (e : h.given ≡ []). let l = ap (λ (xs : List Arrival). length xs) e in omega (arith, l)) (λ (e : h.given ≡ batch). let l = ap (λ (xs : List Arrival). length xs) e in let w = given_within ports begun feed start read batch none g in omega (arith, l, w)) h.some)
     (λ before b. ⊎_elim (λ (e : h.given ≡ []). subst (AreFirst (packets_of (sixes_in begun.sources) (files_in begun.sources) before)) (sym e) (first_none (packets_of (sixes_in begun.sources) (files_in begun.sources) before)))
     (λ (e : h.given ≡ batch). subst (AreFirst (packets_of (sixes_in begun.sources) (files_in begun.sources) before)) (sym e) (first_of ports begun feed start read before batch g b)) h.some)

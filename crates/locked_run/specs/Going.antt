@@ -1,6 +1,7 @@
 -- How a run in mode `lock` goes: packets that were read are handled, and what they leave is written.
 use Rattle.std.specs.Prelude.{◌≡◌, ◌⊎◌, ◌%◌, ◌==◌, ℕ, List, [], map, slice_get, Some, Result, Ok, Err, if◌then◌else◌}
 use Rattle.std.specs.List.{AllByRecursion}
+use Rattle.nf_base.specs.declared.card.Card.{Card}
 use Rattle.nf_base.specs.declared.state.State.{State}
 use Rattle.nf_base.specs.Text.{Function}
 use Rattle.nf_files.specs.Told.{Told, IsToldAs}
@@ -34,32 +35,32 @@ pub record AreSettled (f : Function) (mode : Mode) (workers : ℕ) (Refused : Ty
   pub in_mode : AreInMode mode workers Refused given hs
 
 -- each file was given what packets leave there
-abbrev pub AreWhole : Mode → ℕ → ℕ → List Handled → Told → List ℕ → Type 0
-AreWhole mode workers ports hs now files =
-    (k file : ℕ) → slice_get files k ≡ Some file → IsToldAs (bytes_of mode workers ports k hs) (now.given file)
+abbrev pub AreWhole : Mode → ℕ → Card → ℕ → List Handled → Told → List ℕ → Type 0
+AreWhole mode workers card ports hs now files =
+    (k file : ℕ) → slice_get files k ≡ Some file → IsToldAs (bytes_of mode workers card ports k hs) (now.given file)
 
 -- what writing comes to: all was written, or fronts of it
-abbrev pub Writes : {T E : Type 0} → Mode → ℕ → ℕ → List Handled → Told → List ℕ → Result T E → Type 0
-Writes mode workers ports hs now files (Ok x) = AreWhole mode workers ports hs now files
-Writes mode workers ports hs now files (Err e) = AreFronts mode workers ports hs now files
+abbrev pub Writes : {T E : Type 0} → Mode → ℕ → Card → ℕ → List Handled → Told → List ℕ → Result T E → Type 0
+Writes mode workers card ports hs now files (Ok x) = AreWhole mode workers card ports hs now files
+Writes mode workers card ports hs now files (Err e) = AreFronts mode workers card ports hs now files
 
 -- all packets were handled, and written
-pub record IsWritten (f : Function) (workers : ℕ) (Refused : Type 0) (ports : ℕ) (batch : List Arrival) (now : Told) (files : List ℕ) (settled : Settled) : Type 0 where
+pub record IsWritten (f : Function) (workers : ℕ) (card : Card) (Refused : Type 0) (ports : ℕ) (batch : List Arrival) (now : Told) (files : List ℕ) (settled : Settled) : Type 0 where
   pub hs : List Handled
   pub are : AreSettled f settled.mode workers Refused batch hs settled.state
-  pub wholes : AreWhole settled.mode workers ports hs now files
+  pub wholes : AreWhole settled.mode workers card ports hs now files
 
 -- it was stopped: all packets were handled or none was, and fronts were written
-pub record IsHalted (f : Function) (workers : ℕ) (Refused : Type 0) (ports : ℕ) (batch : List Arrival) (now : Told) (files : List ℕ) : Type 0 where
+pub record IsHalted (f : Function) (workers : ℕ) (card : Card) (Refused : Type 0) (ports : ℕ) (batch : List Arrival) (now : Told) (files : List ℕ) : Type 0 where
   pub mode : Mode
   pub given : List Arrival
   pub hs : List Handled
   pub state : State
   pub some : (given ≡ []) ⊎ (given ≡ batch)
   pub are : AreSettled f mode workers Refused given hs state
-  pub fronts : AreFronts mode workers ports hs now files
+  pub fronts : AreFronts mode workers card ports hs now files
 
 -- what handling and writing packets comes to
-abbrev pub Settles : {E : Type 0} → Function → ℕ → Type 0 → ℕ → List Arrival → Told → List ℕ → Result Settled E → Type 0
-Settles f workers Refused ports batch now files (Ok settled) = IsWritten f workers Refused ports batch now files settled
-Settles f workers Refused ports batch now files (Err stop) = IsHalted f workers Refused ports batch now files
+abbrev pub Settles : {E : Type 0} → Function → ℕ → Card → Type 0 → ℕ → List Arrival → Told → List ℕ → Result Settled E → Type 0
+Settles f workers card Refused ports batch now files (Ok settled) = IsWritten f workers card Refused ports batch now files settled
+Settles f workers card Refused ports batch now files (Err stop) = IsHalted f workers card Refused ports batch now files

@@ -1,5 +1,6 @@
 -- A run of captures in mode `lock`, and what it leaves.
 use Rattle.std.specs.Prelude.{◌≡◌, ◌≤◌, ℕ, List, [], length, slice_get, Some, Result, Ok, Err}
+use Rattle.nf_base.specs.declared.card.Card.{Card}
 use Rattle.nf_base.specs.declared.done.Done.{Done}
 use Rattle.nf_base.specs.Text.{Function}
 use Rattle.nf_files.specs.Told.{Told, IsToldAs}
@@ -19,10 +20,10 @@ use Rattle.locked_run.specs.Locked.{IsRunIn}
 
 -- The packets that were given are the first ones of the captures in capture order, at most so many, and
 -- the run's are these. Its files are whole, its last state is told, and how it ended.
-pub record IsFinished (f : Function) (workers : ℕ) (Refused : Type 0) (begun : Feeding) (start : Told) (feed : Feeding) (now : Told) (files : List ℕ) (came : Came) : Type 0 where
+pub record IsFinished (f : Function) (workers : ℕ) (card : Card) (Refused : Type 0) (begun : Feeding) (start : Told) (feed : Feeding) (now : Told) (files : List ℕ) (came : Came) : Type 0 where
   pub run : Run
   pub given : List Arrival
-  pub is_run : IsRunIn came.mode f workers Refused given run
+  pub is_run : IsRunIn came.mode f workers card Refused given run
   pub within : length given ≤ begun.most
   pub packets : (before : Told) → StandsFor before [] begun start → AreTheFirst begun.most (packets_of (sixes_in begun.sources) (files_in begun.sources) before) given
   pub ending : (before : Told) → StandsFor before [] begun start → EndsSo came.ran.ending feed before given
@@ -35,16 +36,16 @@ pub record IsFinished (f : Function) (workers : ℕ) (Refused : Type 0) (begun :
 
 -- The run was stopped. Each file holds a front of what a run over some first packets of the captures
 -- leaves there.
-pub record IsCutShort (f : Function) (workers : ℕ) (Refused : Type 0) (begun : Feeding) (start now : Told) (files : List ℕ) : Type 0 where
+pub record IsCutShort (f : Function) (workers : ℕ) (card : Card) (Refused : Type 0) (begun : Feeding) (start now : Told) (files : List ℕ) : Type 0 where
   pub run : Run
   pub given : List Arrival
   pub mode : Mode
-  pub is_run : IsRunIn mode f workers Refused given run
+  pub is_run : IsRunIn mode f workers card Refused given run
   pub within : length given ≤ begun.most
   pub packets : (before : Told) → StandsFor before [] begun start → AreFirst (packets_of (sixes_in begun.sources) (files_in begun.sources) before) given
   pub fronts : (k file : ℕ) → slice_get files k ≡ Some file → IsFrontIfTold (file_bytes run k) (now.given file)
 
 -- what a run comes to
-abbrev pub Runs : Function → ℕ → Type 0 → Feeding → Told → Feeding → Told → List ℕ → Result Came Stop → Type 0
-Runs f workers Refused begun start feed now files (Ok came) = IsFinished f workers Refused begun start feed now files came
-Runs f workers Refused begun start feed now files (Err stop) = IsCutShort f workers Refused begun start now files
+abbrev pub Runs : Function → ℕ → Card → Type 0 → Feeding → Told → Feeding → Told → List ℕ → Result Came Stop → Type 0
+Runs f workers card Refused begun start feed now files (Ok came) = IsFinished f workers card Refused begun start feed now files came
+Runs f workers card Refused begun start feed now files (Err stop) = IsCutShort f workers card Refused begun start now files

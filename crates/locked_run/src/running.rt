@@ -20,6 +20,7 @@ use crate::reading::read_all;
 use crate::writing::write_all;
 use lock_mode::Gate;
 use lock_workers::{Turns, Worked};
+use nf_base::card::Card;
 use nf_base::func::Func;
 use nf_base::seq::Seq;
 use nf_base::workers::Workers;
@@ -80,12 +81,13 @@ fn write<F: Files>(
     files: &mut F,
     mode: Mode,
     workers: Workers,
+    card: Card,
     ports: u32,
     batch: &Seq<Kept>,
     worked: &Worked,
     targets: &[u32],
 ) -> Result<(), Stop>
-    requires heading { IsHeading (record { mode = mode; workers = workers }) }
+    requires heading { IsHeading (record { mode = mode; workers = workers; card = card }) }
     requires at { AreAt (map packet_of batch.now) worked.now.order.items worked.now.places.items }
     requires created { EachFile (F.is_written files.old) targets.now }
     requires apart { IsApart targets.now }
@@ -93,12 +95,12 @@ fn write<F: Files>(
     requires empty { (k : ℕ) → (file : ℕ) → slice_get targets.now k ≡ Some file →
         IsEmptyIfTold ((F.told files.old).given file) }
     ensures written { let hs = joined batch.now worked.now.order.items worked.now.places.items in
-        Writes mode workers ports hs (F.told files.new) targets.now result }
+        Writes mode workers card ports hs (F.told files.new) targets.now result }
     ensures kept { KeepsBut targets.now (F.told files.old) (F.told files.new) }
     ensures cause { IsStopCause (F.counted files.old) (F.counted files.new) result }
     ensures among { StopsAmong [] targets.now result }
 {
-    let mut sinks = match begin_sinks(alloc, mode, workers, ports, targets) {
+    let mut sinks = match begin_sinks(alloc, mode, workers, card, ports, targets) {
         Ok(sinks) => sinks,
         Err(_) => return Err(Stop::Memory),
     };
@@ -116,6 +118,7 @@ fn settle<R: Threads + Wait + Sync, F: Files, T: Turns + Sync, G: Gate + Drop + 
     files: &mut F,
     func: &Func,
     workers: Workers,
+    card: Card,
     batch: &Seq<Kept>,
     targets: &[u32],
     turns: &T,
@@ -132,7 +135,7 @@ fn settle<R: Threads + Wait + Sync, F: Files, T: Turns + Sync, G: Gate + Drop + 
     requires empty { (k : ℕ) → (file : ℕ) → slice_get targets.now k ≡ Some file →
         IsEmptyIfTold ((F.told files.old).given file) }
     ensures settles { let Refused = Rose (G.refused gate.old) (G.refused gate.new) in
-        Settles (function_of func.now) workers Refused (length func.now.handlers)
+        Settles (function_of func.now) workers card Refused (length func.now.handlers)
         batch.now (F.told files.new) targets.now result }
     ensures rises { G.refused gate.old ≤ G.refused gate.new }
     ensures kept { KeepsBut targets.now (F.told files.old) (F.told files.new) }
@@ -145,7 +148,9 @@ fn settle<R: Threads + Wait + Sync, F: Files, T: Turns + Sync, G: Gate + Drop + 
     };
     let mode = mode_of(worked.workers, workers.get());
     let ports = func.handlers.len();
-    match write(alloc, files, mode, workers, ports, batch, &worked, targets) {
+    match write(
+        alloc, files, mode, workers, card, ports, batch, &worked, targets,
+    ) {
         Ok(()) => Ok(Settled {
             mode,
             state: worked.state,
@@ -173,6 +178,7 @@ pub fn run<R: Threads + Wait + Sync, F: Files, T: Turns + Sync, G: Gate + Drop +
     files: &mut F,
     func: &Func,
     workers: Workers,
+    card: Card,
     feed: &mut Feed,
     captures: &[u32],
     targets: &[u32],
@@ -195,7 +201,7 @@ pub fn run<R: Threads + Wait + Sync, F: Files, T: Turns + Sync, G: Gate + Drop +
     // order; or each file holds a front of what such a run leaves there. It is in mode `one`, and in
     // capture order, only where the gate's count rose.
     ensures runs { let Refused = Rose (G.refused gate.old) (G.refused gate.new) in
-        Runs (function_of func.now) workers Refused feed.old (F.told files.old)
+        Runs (function_of func.now) workers card Refused feed.old (F.told files.old)
         feed.new (F.told files.new) targets.now result }
     ensures rises { G.refused gate.old ≤ G.refused gate.new }
     ensures kept { KeepsBut targets.now (F.told files.old) (F.told files.new) }
@@ -210,7 +216,7 @@ pub fn run<R: Threads + Wait + Sync, F: Files, T: Turns + Sync, G: Gate + Drop +
     };
     let packets = feed.given();
     match settle(
-        rt, alloc, files, func, workers, &batch, targets, turns, gate,
+        rt, alloc, files, func, workers, card, &batch, targets, turns, gate,
     ) {
         Ok(settled) => Ok(Came {
             mode: settled.mode,

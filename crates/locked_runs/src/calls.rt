@@ -9,6 +9,7 @@ ghost use Rattle.packet_feed.specs.Sources.{files_in, sixes_in};
 
 use lock_mode::Gate;
 use locked_run::{Came, run};
+use nf_base::card::Card;
 use nf_base::func::Func;
 use nf_base::workers::Workers;
 use nf_files::{Files, FilesFault};
@@ -84,6 +85,7 @@ pub fn run_all<R: Threads + Wait + Sync, F: Files, T: Turns + Sync, G: Gate + Dr
     alloc: Global,
     files: &mut F,
     func: &Func,
+    card: Card,
     feed: &mut Feed,
     opened: &[u32],
     made: &[u32],
@@ -107,6 +109,7 @@ pub fn run_all<R: Threads + Wait + Sync, F: Files, T: Turns + Sync, G: Gate + Dr
         files,
         func,
         Workers::new(2),
+        card,
         feed,
         opened,
         made,

@@ -8,6 +8,7 @@ ghost use Rattle.packet_feed.specs.Sources.{files_in, sixes_in};
 
 use crate::calls::{create_all, open_all, run_all, start};
 use lock_mode::Gate;
+use nf_base::card::Card;
 use nf_base::func::Func;
 use nf_files::{Files, MemoryFiles};
 use nf_syntax::parse;
@@ -127,7 +128,18 @@ fn run_made<R: Threads + Wait + Sync, F: Files, T: Turns + Sync, G: Gate + Drop 
         outcome.end = End::Uncreated;
         return Ok(());
     }
-    match run_all(rt, alloc, files, func, feed, opened, made, turns, gate) {
+    match run_all(
+        rt,
+        alloc,
+        files,
+        func,
+        Card::usual(),
+        feed,
+        opened,
+        made,
+        turns,
+        gate,
+    ) {
         Err(stop) => outcome.end = End::Stopped(stop),
         Ok(came) => {
             outcome.end = End::Ran(came.mode, came.ran.ending, came.ran.packets);

@@ -127,7 +127,7 @@ fn run_over<R: Threads + Wait + Sync, F: Files>(
             by,
             outcome,
         ),
-        By::TwoApart => match keys_of(alloc, func)? {
+        By::TwoApart => match keys_of(alloc, func, asked.card)? {
             Some(keys) => run_by(
                 rt,
                 alloc,

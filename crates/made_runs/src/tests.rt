@@ -1,6 +1,7 @@
 //! A firewall under made-up traffic.
 use crate::functions::{FIREWALL, WIDE};
 use crate::outcome::{By, End, Outcome, outcome_of};
+use nf_base::card::{Card, KeySize, TableSize};
 use std::test::Fail;
 use stream_run::Stop;
 use traffic_run::Asked;
@@ -44,6 +45,7 @@ fn four_of(flows: u32) -> Asked {
         seed: 0,
         count: 4,
         flows,
+        card: Card::usual(),
     }
 }
 
@@ -100,6 +102,7 @@ fn two_workers_leave_the_same_outputs(rt: HostRuntime) -> Result<(), Fail> {
         seed: 7,
         count: 300,
         flows: 9,
+        card: Card::usual(),
     };
     let one = outcome_of(&rt, rt.alloc(), WIDE, asked, By::One, &[])?;
     let two = outcome_of(&rt, rt.alloc(), WIDE, asked, By::TwoApart, &[])?;
@@ -146,6 +149,7 @@ fn two_workers_share_all_tables(rt: HostRuntime) -> Result<(), Fail> {
         seed: 7,
         count: 40,
         flows: 3,
+        card: Card::usual(),
     };
     let got = outcome_of(&rt, rt.alloc(), WIDE, asked, By::TwoTogether, &[])?;
     assert_eq!(rt; got.end, End::Whole);
@@ -153,5 +157,20 @@ fn two_workers_share_all_tables(rt: HostRuntime) -> Result<(), Fail> {
     assert!(rt; got.summary.as_slice() == lines);
     assert!(rt; file(&got, 2).starts_with(b"maestro journal 1 lock 2\n"));
     assert_eq!(rt; file(&got, 1).len(), bytes_of(20));
+    Ok(())
+}
+
+/// The card stands in the journal's first line, and one worker knows nothing else of it.
+#[test]
+fn another_card_is_told(rt: HostRuntime) -> Result<(), Fail> {
+    let mut asked = four_of(1);
+    asked.card = Card {
+        table: TableSize::Entries512,
+        key: KeySize::Bytes40,
+    };
+    let got = outcome_of(&rt, rt.alloc(), FIREWALL, asked, By::One, &[])?;
+    let journal: &[u8] =
+        b"maestro journal 2 one 1 512 40\n0 0 0 to:1 0\n1 0 0 to:0 -\n0 1 0 to:1 -\n1 1 0 to:0 -\n";
+    assert!(rt; file(&got, 2) == journal);
     Ok(())
 }

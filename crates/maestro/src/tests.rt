@@ -1,6 +1,7 @@
 // The program as its user meets it: words and files go in, a status and files come out.
 mod calls;
 mod captures;
+mod cards;
 mod checks;
 mod commands;
 mod ends;

@@ -4,6 +4,7 @@ use Rattle.std.proofs.lemmas.Bool.{lt-ltb, le-ltb, le-leb, lt-leb, eq-eqb, ne_eq
 use Rattle.std.proofs.lemmas.List.{take-append-drop}
 use Rattle.std.specs.List.{AllByRecursion}
 use Rattle.nf_base.specs.Text.{Function}
+use Rattle.nf_base.specs.declared.card.Card.{Card}
 use Rattle.nf_files.specs.Told.{Told}
 use Rattle.packet_feed.specs.Arrivals.{Arrival}
 use Rattle.packet_feed.specs.Order.{in_order}
@@ -115,9 +116,9 @@ stands_at before now first made k name bytes named given left lt is same =
     subst (λ (n : List ℕ). StandsUnder now n (first + k) given) is
     (subst (λ (t : List ℕ). StandsUnder now (name k) (first + k) t) same (record { created = left.names k lt; standing = left.standing k lt; whole = left.wholes k lt }))
 
-headline_of : (Gave : Function → List Arrival → Type 0) (Refused : Type 0) (m : ModeChoice) (workers : ℕ) (name out : List ℕ) (first : ℕ) (before now : Told) (r : Run) (packets : List Arrival) → IsFunctionUnder before name r.function → Gave r.function packets → AreHandled Refused m workers packets r → IsLegal r
-    → (n : ℕ) → n ≡ length r.function.handlers → Left before now first (name_at out n) (bytes_at r) (n + 2) (n + 2) → Headline Gave Refused m workers name out first before now
-headline_of Gave Refused m workers name out first before now r packets is gave handled legal n as_many some =
+headline_of : (Gave : Function → List Arrival → Type 0) (Refused : Type 0) (m : ModeChoice) (workers : ℕ) (card : Card) (name out : List ℕ) (first : ℕ) (before now : Told) (r : Run) (packets : List Arrival) → IsFunctionUnder before name r.function → Gave r.function packets → AreHandled Refused m workers card packets r → IsLegal r → r.card ≡ card
+    → (n : ℕ) → n ≡ length r.function.handlers → Left before now first (name_at out n) (bytes_at r) (n + 2) (n + 2) → Headline Gave Refused m workers card name out first before now
+headline_of Gave Refused m workers card name out first before now r packets is gave handled legal card_is n as_many some =
     let p = length r.function.handlers in
     let left = subst (λ (k : ℕ). Left before now first (name_at out k) (bytes_at r) (k + 2) (k + 2)) as_many some in
     record {
@@ -128,6 +129,7 @@ headline_of Gave Refused m workers name out first before now r packets is gave h
       handled = handled;
       result = legal.result;
       one_undivided_run = legal.ran;
+      card_is_told = card_is;
       sent = λ port lt. stands_at before now first (p + 2) port (name_at out p) (bytes_at r) (output_name out port) (file_bytes r port) left (omega (arith, lt)) (name_output out p port lt) (leaves r port (omega (arith, lt)));
       journal = stands_at before now first (p + 2) p (name_at out p) (bytes_at r) (journal_name out) (file_bytes r p) left (omega arith) (name_journal out p) (leaves r p (omega arith));
       tables = stands_at before now first (p + 2) (p + 1) (name_at out p) (bytes_at r) (state_name out) _ left (omega arith) (name_state out p) (leaves_state r ∙ ap (text_of r.function) legal.ran);
@@ -141,10 +143,10 @@ are_first most None packets h = tt
 are_first most (Some all) packets h =
     (drop most (in_order all), sym (ap (λ (t : List Arrival). t ++ drop most (in_order all)) h ∙ take-append-drop most (in_order all)))
 
-none_shared : (m : ModeChoice) (f : Function) → ShareTables m f → m ≢ choice.Lock → NoneMayBeGiven f
-none_shared choice.Auto f share ne = share.locked.0
-none_shared choice.Shard f share ne = absurd share
-none_shared choice.Lock f share ne = absurd (ne refl)
+none_shared : (m : ModeChoice) (card : Card) (f : Function) → ShareTables m card f → m ≢ choice.Lock → NoneMayBeGiven f card
+none_shared choice.Auto card f share ne = share.locked.0
+none_shared choice.Shard card f share ne = absurd share
+none_shared choice.Lock card f share ne = absurd (ne refl)
 
 may_not_lock : (m : ModeChoice) → MayShard m → m ≢ choice.Lock
 may_not_lock choice.Auto may = λ e. absurd (cc e)
@@ -153,22 +155,24 @@ may_not_lock choice.Lock may = absurd may
 
 -- a run's packets, by whom they were handled, and that this is legal
 record IsHandled (Refused : Type 0) (c : RunAsked) (told : Told) (packets : List Arrival) (r : Run) : Type 0 where
-  handled : AreHandled Refused c.mode c.workers packets r
+  handled : AreHandled Refused c.mode c.workers c.card packets r
   legal : IsLegal r
+  card_is : r.card ≡ c.card
   first : AreFirst (packets_under r.function c.captures told) packets
 
-ported : (Refused : Type 0) (f : Function) (workers : ℕ) (packets : List Arrival) (r : Run) → IsLockRun f workers packets r ⊎ (Refused × IsLoneRun f workers packets r) → InPortOrder workers packets r ⊎ WhereRefused Refused packets r
-ported Refused f workers packets r (inl k) = inl (record { each_once_in_port_order = k.order; by_their_ports = k.own })
-ported Refused f workers packets r (inr k) = inr (record { refused = k.0; each_once_in_capture_order = k.1.order; by_worker_0 = k.1.alone })
+ported : (Refused : Type 0) (f : Function) (workers : ℕ) (card : Card) (packets : List Arrival) (r : Run) → IsLockRun f workers card packets r ⊎ (Refused × IsLoneRun f workers card packets r) → InPortOrder workers packets r ⊎ WhereRefused Refused packets r
+ported Refused f workers card packets r (inl k) = inl (record { each_once_in_port_order = k.order; by_their_ports = k.own })
+ported Refused f workers card packets r (inr k) = inr (record { refused = k.0; each_once_in_capture_order = k.1.order; by_worker_0 = k.1.alone })
 
-ported_legal : (Refused : Type 0) (f : Function) (workers : ℕ) (packets : List Arrival) (r : Run) → IsLockRun f workers packets r ⊎ (Refused × IsLoneRun f workers packets r) → IsLegal r
-ported_legal Refused f workers packets r (inl k) = k.legal
-ported_legal Refused f workers packets r (inr k) = k.1.legal
+ported_legal : (Refused : Type 0) (f : Function) (workers : ℕ) (card : Card) (packets : List Arrival) (r : Run) → IsLockRun f workers card packets r ⊎ (Refused × IsLoneRun f workers card packets r) → IsLegal r × (r.card ≡ card)
+ported_legal Refused f workers card packets r (inl k) = (k.legal, k.card_is)
+ported_legal Refused f workers card packets r (inr k) = (k.1.legal, k.1.card_is)
 
 handled_so : (alike : MeetingPacketsHashAlike) (Refused : Type 0) (c : RunAsked) (told : Told) (packets : List Arrival) (r : Run) → IsByOne c told packets r ⊎ (IsByShards c told packets r ⊎ IsByTables Refused c told packets r) → IsHandled Refused c told packets r
 handled_so alike Refused c told packets r (inl k) = record {
   handled = inl (record { one = k.alone; each_once_in_capture_order = k.order; by_worker_0 = k.is_run.alone });
   legal = k.is_run.legal;
+  card_is = k.is_run.card_is;
   first = are_first c.most (packets_under r.function c.captures told) packets (subst (AreTheFirst c.most (packets_under r.function c.captures told)) k.order k.is_run.packets);
 }
 handled_so alike Refused c told packets r (inr (inl k)) = record {
@@ -182,15 +186,17 @@ handled_so alike Refused c told packets r (inr (inl k)) = record {
     by_their_queues = k.is_run.queues;
   }));
   legal = k.is_run.legal;
+  card_is = k.is_run.card_is;
   first = subst (AreFirst (packets_under r.function c.captures told)) k.order k.first;
 }
 handled_so alike Refused c told packets r (inr (inr k)) = record {
   handled = inr (inr (record {
     several = k.several;
-    only_where_no_keys_spread = none_shared c.mode r.function k.share;
-    handled = ported Refused r.function c.workers packets r k.is_run;
+    only_where_no_keys_spread = none_shared c.mode c.card r.function k.share;
+    handled = ported Refused r.function c.workers c.card packets r k.is_run;
   }));
-  legal = ported_legal Refused r.function c.workers packets r k.is_run;
+  legal = (ported_legal Refused r.function c.workers c.card packets r k.is_run).0;
+  card_is = (ported_legal Refused r.function c.workers c.card packets r k.is_run).1;
   first = k.first;
 }
 
@@ -199,12 +205,12 @@ packets_at status c told f packets = ArePackets status c.most (packets_under f c
 
 of_files : (alike : MeetingPacketsHashAlike) (Refused : Type 0) (c : RunAsked) (before now : Told) (status : Status) (packets : List Arrival) (r : Run) → IsRunOf Refused c before packets r → ArePackets status c.most (packets_under r.function c.captures before) packets
     → Left before now (before.next + 1 + length c.captures) (name_at c.out (length c.captures)) (bytes_at r) (length c.captures + 2) (length c.captures + 2)
-    → Headline (packets_at status c before) Refused c.mode c.workers c.function c.out (before.next + 1 + length c.captures) before now
+    → Headline (packets_at status c before) Refused c.mode c.workers c.card c.function c.out (before.next + 1 + length c.captures) before now
 of_files alike Refused c before now status packets r is gave left =
     let h = handled_so alike Refused c before packets r is.handled in
-    headline_of (packets_at status c before) Refused c.mode c.workers c.function c.out (before.next + 1 + length c.captures) before now r packets is.has_ports.is_function gave h.handled h.legal (length c.captures) is.has_ports.as_many left
+    headline_of (packets_at status c before) Refused c.mode c.workers c.card c.function c.out (before.next + 1 + length c.captures) before now r packets is.has_ports.is_function gave h.handled h.legal h.card_is (length c.captures) is.has_ports.as_many left
 
-of_end : (alike : MeetingPacketsHashAlike) (Refused : Type 0) (c : RunAsked) (before now : Outside) (end : End) → IsFinished Refused c before now end → IsDone (end_status end) → Headline (packets_at (end_status end) c before.told) Refused c.mode c.workers c.function c.out (before.told.next + 1 + length c.captures) before.told now.told
+of_end : (alike : MeetingPacketsHashAlike) (Refused : Type 0) (c : RunAsked) (before now : Outside) (end : End) → IsFinished Refused c before now end → IsDone (end_status end) → Headline (packets_at (end_status end) c before.told) Refused c.mode c.workers c.card c.function c.out (before.told.next + 1 + length c.captures) before.told now.told
 of_end alike Refused c before now ends.Whole k done = of_files alike Refused c before.told now.told Done k.arrivals k.run k.is_run k.ending.0 k.files
 of_end alike Refused c before now (ends.Torn port offset) k done = of_files alike Refused c before.told now.told (Torn port offset) k.arrivals k.run k.is_run k.ending.0 k.files
 of_end alike Refused c before now (ends.TooMany most) k done =
@@ -215,14 +221,14 @@ of_end alike Refused c before now (ends.TooMany most) k done =
 of_end alike Refused c before now (ends.ShareFull full) k done = absurd done
 
 -- what a run comes to, at such a status
-of_run : (alike : MeetingPacketsHashAlike) (Refused : Type 0) (c : RunAsked) (before now : Outside) (status : Status) → Runs Refused c before now status → IsDone status → Headline (packets_at status c before.told) Refused c.mode c.workers c.function c.out (before.told.next + 1 + length c.captures) before.told now.told
+of_run : (alike : MeetingPacketsHashAlike) (Refused : Type 0) (c : RunAsked) (before now : Outside) (status : Status) → Runs Refused c before now status → IsDone status → Headline (packets_at status c before.told) Refused c.mode c.workers c.card c.function c.out (before.told.next + 1 + length c.captures) before.told now.told
 of_run alike Refused c before now status (inl k) done =
-    subst (λ (s : Status). Headline (packets_at s c before.told) Refused c.mode c.workers c.function c.out (before.told.next + 1 + length c.captures) before.told now.told) (sym k.status_is)
+    subst (λ (s : Status). Headline (packets_at s c before.told) Refused c.mode c.workers c.card c.function c.out (before.told.next + 1 + length c.captures) before.told now.told) (sym k.status_is)
     (of_end alike Refused c before now k.how k.ends (subst IsDone k.status_is done))
 of_run alike Refused c before now status (inr (inl k)) done = absurd (not_refused k.how (subst IsDone k.status_is done))
 of_run alike Refused c before now status (inr (inr k)) done = absurd (not_stopped_so k.how (subst IsDone k.status_is done))
 
-of_answer : (alike : MeetingPacketsHashAlike) (Refused : Type 0) (c : RunAsked) (before ended : Outside) (due status : Status) → ComesTo Refused (Some (RunCommand c)) before ended due → due ≡ status → IsDone status → Headline (packets_at status c before.told) Refused c.mode c.workers c.function c.out (before.told.next + 1 + length c.captures) before.told ended.told
+of_answer : (alike : MeetingPacketsHashAlike) (Refused : Type 0) (c : RunAsked) (before ended : Outside) (due status : Status) → ComesTo Refused (Some (RunCommand c)) before ended due → due ≡ status → IsDone status → Headline (packets_at status c before.told) Refused c.mode c.workers c.card c.function c.out (before.told.next + 1 + length c.captures) before.told ended.told
 of_answer alike Refused c before ended due status (inl k) same done = of_run alike Refused c before ended status (subst (Runs Refused c before ended) same k) done
 of_answer alike Refused c before ended due status (inr k) same done = absurd (subst IsDone (sym same ∙ k.0) done)
 
@@ -233,25 +239,27 @@ headline_of_run alike = λ was is c before after status a done.
 
 -- ---- a run over made-up traffic
 
-none_may_share : (m : ModeChoice) (f : Function) → MayShare m f → m ≢ choice.Lock → NoneMayBeGiven f
-none_may_share choice.Auto f share ne = share.1.0
-none_may_share choice.Shard f share ne = absurd share
-none_may_share choice.Lock f share ne = absurd (ne refl)
+none_may_share : (m : ModeChoice) (card : Card) (f : Function) → MayShare m card f → m ≢ choice.Lock → NoneMayBeGiven f card
+none_may_share choice.Auto card f share ne = share.1.0
+none_may_share choice.Shard card f share ne = absurd share
+none_may_share choice.Lock card f share ne = absurd (ne refl)
 
-in_mode : (m : Mode) (Refused : Type 0) (f : Function) (workers : ℕ) (packets : List Arrival) (r : Run) → IsRunIn m f workers Refused packets r → IsLockRun f workers packets r ⊎ (Refused × IsLoneRun f workers packets r)
-in_mode mode.Lock Refused f workers packets r k = inl k
-in_mode mode.One Refused f workers packets r k = inr k
-in_mode mode.Shard Refused f workers packets r k = absurd k
+in_mode : (m : Mode) (Refused : Type 0) (f : Function) (workers : ℕ) (card : Card) (packets : List Arrival) (r : Run) → IsRunIn m f workers card Refused packets r → IsLockRun f workers card packets r ⊎ (Refused × IsLoneRun f workers card packets r)
+in_mode mode.Lock Refused f workers card packets r k = inl k
+in_mode mode.One Refused f workers card packets r k = inr k
+in_mode mode.Shard Refused f workers card packets r k = absurd k
 
 -- packets of a run over made-up traffic, by whom they were handled, and that this is legal
 record AreMade (Refused : Type 0) (c : Gen) (packets : List Arrival) (r : Run) : Type 0 where
-  handled : AreHandled Refused c.mode c.workers packets r
+  handled : AreHandled Refused c.mode c.workers c.card packets r
   legal : IsLegal r
+  card_is : r.card ≡ c.card
 
-made_so : (alike : MeetingPacketsHashAlike) (Refused : Type 0) (c : Gen) (packets : List Arrival) (r : Run) (who : Who) → IsWho c r.function who → IsRunBy who Refused r.function packets r → AreMade Refused c packets r
+made_so : (alike : MeetingPacketsHashAlike) (Refused : Type 0) (c : Gen) (packets : List Arrival) (r : Run) (who : Who) → IsWho c r.function who → IsRunBy who c.card Refused r.function packets r → AreMade Refused c packets r
 made_so alike Refused c packets r One by k = record {
   handled = inl (record { one = by.0; each_once_in_capture_order = k.packets; by_worker_0 = k.alone });
   legal = k.legal;
+  card_is = k.card_is;
 }
 made_so alike Refused c packets r (Shards keys workers) by k = record {
   handled = inr (inl (record {
@@ -264,35 +272,38 @@ made_so alike Refused c packets r (Shards keys workers) by k = record {
     by_their_queues = subst (λ (w : ℕ). AllByRecursion (λ (t : Turn). t.worker ≡ queue_by keys w t.arrival.packet) r.turns) by.0 k.is_run.queues;
   }));
   legal = k.is_run.legal;
+  card_is = k.is_run.card_is;
 }
 made_so alike Refused c packets r (Sharing workers) by k =
-    let one = in_mode r.mode Refused r.function workers packets r k in
+    let one = in_mode r.mode Refused r.function workers c.card packets r k in
+    let legal = ported_legal Refused r.function workers c.card packets r one in
     record {
       handled = inr (inr (record {
         several = omega (arith, by.0, by.1);
-        only_where_no_keys_spread = none_may_share c.mode r.function by.2;
-        handled = subst (λ (w : ℕ). InPortOrder w packets r ⊎ WhereRefused Refused packets r) by.0 (ported Refused r.function workers packets r one);
+        only_where_no_keys_spread = none_may_share c.mode c.card r.function by.2;
+        handled = subst (λ (w : ℕ). InPortOrder w packets r ⊎ WhereRefused Refused packets r) by.0 (ported Refused r.function workers c.card packets r one);
       }));
-      legal = ported_legal Refused r.function workers packets r one;
+      legal = legal.0;
+      card_is = legal.1;
     }
 
 abbrev made_for : Gen → Function → List Arrival → Type 0
 made_for c f packets = packets ≡ packets_for c f
 
-of_made : (alike : MeetingPacketsHashAlike) (Refused : Type 0) (c : Gen) (before now : Outside) (end : End) → IsMade c Refused before now end → IsDone (end_status end) → Headline (made_for c) Refused c.mode c.workers c.function c.out (before.told.next + 1) before.told now.told
+of_made : (alike : MeetingPacketsHashAlike) (Refused : Type 0) (c : Gen) (before now : Outside) (end : End) → IsMade c Refused before now end → IsDone (end_status end) → Headline (made_for c) Refused c.mode c.workers c.card c.function c.out (before.told.next + 1) before.told now.told
 of_made alike Refused c before now ends.Whole k done =
     let h = made_so alike Refused c k.given k.run k.is_run.who k.is_run.is_who k.is_run.is_run in
-    headline_of (made_for c) Refused c.mode c.workers c.function c.out (before.told.next + 1) before.told now.told k.run k.given k.is_run.is_function k.ending h.handled h.legal (length k.run.function.handlers) refl k.files
+    headline_of (made_for c) Refused c.mode c.workers c.card c.function c.out (before.told.next + 1) before.told now.told k.run k.given k.is_run.is_function k.ending h.handled h.legal h.card_is (length k.run.function.handlers) refl k.files
 of_made alike Refused c before now (ends.Torn port offset) k done = absurd k.ending
 of_made alike Refused c before now (ends.TooMany most) k done = absurd k.ending
 of_made alike Refused c before now (ends.ShareFull full) k done = absurd done
 
-of_gen : (alike : MeetingPacketsHashAlike) (Refused : Type 0) (c : Gen) (before now : Outside) (status : Status) → Gens Refused c before now status → IsDone status → Headline (made_for c) Refused c.mode c.workers c.function c.out (before.told.next + 1) before.told now.told
+of_gen : (alike : MeetingPacketsHashAlike) (Refused : Type 0) (c : Gen) (before now : Outside) (status : Status) → Gens Refused c before now status → IsDone status → Headline (made_for c) Refused c.mode c.workers c.card c.function c.out (before.told.next + 1) before.told now.told
 of_gen alike Refused c before now status (inl k) done = of_made alike Refused c before now k.how k.ends (subst IsDone k.status_is done)
 of_gen alike Refused c before now status (inr (inl k)) done = absurd (not_refused k.how (subst IsDone k.status_is done))
 of_gen alike Refused c before now status (inr (inr k)) done = absurd (not_stopped_so k.how (subst IsDone k.status_is done))
 
-of_made_answer : (alike : MeetingPacketsHashAlike) (Refused : Type 0) (c : Gen) (before ended : Outside) (due status : Status) → ComesTo Refused (Some (GenCommand c)) before ended due → due ≡ status → IsDone status → Headline (made_for c) Refused c.mode c.workers c.function c.out (before.told.next + 1) before.told ended.told
+of_made_answer : (alike : MeetingPacketsHashAlike) (Refused : Type 0) (c : Gen) (before ended : Outside) (due status : Status) → ComesTo Refused (Some (GenCommand c)) before ended due → due ≡ status → IsDone status → Headline (made_for c) Refused c.mode c.workers c.card c.function c.out (before.told.next + 1) before.told ended.told
 of_made_answer alike Refused c before ended due status (inl k) same done = of_gen alike Refused c before ended status (subst (Gens Refused c before ended) same k) done
 of_made_answer alike Refused c before ended due status (inr k) same done = absurd (subst IsDone (sym same ∙ k.0) done)
 
@@ -348,25 +359,25 @@ stop_with_keys : (how : Stop) → IsKeyless (stop_status how) → ⊥
 stop_with_keys (stops.File file) h = absurd h
 stop_with_keys stops.Memory h = absurd h
 
-none_refused : (c : RunAsked) (before now : Outside) (how : Refusal) → IsRefused c before now how → IsKeyless (refusal_status how) → HasNoneToGive before.told c.function
+none_refused : (c : RunAsked) (before now : Outside) (how : Refusal) → IsRefused c before now how → IsKeyless (refusal_status how) → HasNoneToGive before.told c.card c.function
 none_refused c before now (refusals.NoKeys why) k h = record { function = k.0.function; function_is = k.0.is_function; none = k.0.locked.locked.0 }
 none_refused c before now refusals.Usage k h = absurd h
 none_refused c before now (refusals.Text fault) k h = absurd h
 none_refused c before now (refusals.NotCapture port) k h = absurd h
 
-none_of_run : (Refused : Type 0) (c : RunAsked) (before now : Outside) (due : Status) → ComesTo Refused (Some (RunCommand c)) before now due → IsKeyless due → HasNoneToGive before.told c.function
+none_of_run : (Refused : Type 0) (c : RunAsked) (before now : Outside) (due : Status) → ComesTo Refused (Some (RunCommand c)) before now due → IsKeyless due → HasNoneToGive before.told c.card c.function
 none_of_run Refused c before now due (inl (inl k)) h = absurd (end_with_keys k.how (subst IsKeyless k.status_is h))
 none_of_run Refused c before now due (inl (inr (inl k))) h = none_refused c before now k.how k.ends (subst IsKeyless k.status_is h)
 none_of_run Refused c before now due (inl (inr (inr k))) h = absurd (stop_with_keys k.how (subst IsKeyless k.status_is h))
 none_of_run Refused c before now due (inr k) h = absurd (subst IsKeyless k.0 h)
 
-none_unmade : (c : Gen) (before now : Outside) (how : Refusal) → IsUnmade c before now how → IsKeyless (refusal_status how) → HasNoneToGive before.told c.function
+none_unmade : (c : Gen) (before now : Outside) (how : Refusal) → IsUnmade c before now how → IsKeyless (refusal_status how) → HasNoneToGive before.told c.card c.function
 none_unmade c before now (refusals.NoKeys why) k h = record { function = k.0.function; function_is = k.0.is_function; none = k.0.locked.0 }
 none_unmade c before now refusals.Usage k h = absurd h
 none_unmade c before now (refusals.Text fault) k h = absurd h
 none_unmade c before now (refusals.NotCapture port) k h = absurd h
 
-none_of_gen : (Refused : Type 0) (c : Gen) (before now : Outside) (due : Status) → ComesTo Refused (Some (GenCommand c)) before now due → IsKeyless due → HasNoneToGive before.told c.function
+none_of_gen : (Refused : Type 0) (c : Gen) (before now : Outside) (due : Status) → ComesTo Refused (Some (GenCommand c)) before now due → IsKeyless due → HasNoneToGive before.told c.card c.function
 none_of_gen Refused c before now due (inl (inl k)) h = absurd (end_with_keys k.how (subst IsKeyless k.status_is h))
 none_of_gen Refused c before now due (inl (inr (inl k))) h = none_unmade c before now k.how k.ends (subst IsKeyless k.status_is h)
 none_of_gen Refused c before now due (inl (inr (inr k))) h = absurd (stop_with_keys k.how (subst IsKeyless k.status_is h))

@@ -6,6 +6,7 @@ use Rattle.nf_base.specs.Orders.{KeepsPortOrder}
 use Rattle.nf_base.specs.Text.{Function}
 use Rattle.nf_base.specs.Runs.{RunResult}
 use Rattle.nf_base.specs.declared.keys.Keys.{Keys}
+use Rattle.nf_base.specs.declared.card.Card.{Card}
 use Rattle.nf_files.specs.Told.{Told, IsToldAs}
 use Rattle.packet_feed.specs.Arrivals.{Arrival}
 use Rattle.packet_feed.specs.Feeding.{AreAll, HasMore}
@@ -73,14 +74,14 @@ pub record ByOneWorker (workers : ℕ) (packets : List Arrival) (run : Run) : Ty
   pub by_worker_0 : AllByRecursion (λ (t : Turn). t.worker ≡ 0) run.turns
 
 -- Several workers that share nothing handle each packet once, in capture order, each those of its own
--- queue. The keys are those that the function is given, and under them any two packets that meet in any
+-- queue. The keys are those that the function is given for the network card that is asked for, and under them any two packets that meet in any
 -- run of it have equal hashes.
-pub record SharingNothing (mode : ModeChoice) (workers : ℕ) (packets : List Arrival) (run : Run) : Type 0 where
+pub record SharingNothing (mode : ModeChoice) (workers : ℕ) (card : Card) (packets : List Arrival) (run : Run) : Type 0 where
   pub several : 1 < workers
   pub allowed : mode ≢ Lock
   pub each_once_in_capture_order : map arrival_in run.turns ≡ packets
   pub keys : Keys
-  pub keys_are_given : AreGiven run.function keys
+  pub keys_are_given : AreGiven run.function card keys
   pub keys_hash_alike_packets_that_meet : HashAlikeWhereTheyMeet run.function keys
   pub by_their_queues : AllByRecursion (λ (t : Turn). t.worker ≡ queue_by keys workers t.arrival.packet) run.turns
 
@@ -96,15 +97,15 @@ pub record WhereRefused (Refused : Type 0) (packets : List Arrival) (run : Run) 
   pub by_worker_0 : AllByRecursion (λ (t : Turn). t.worker ≡ 0) run.turns
 
 -- Several workers share the tables. Where that isn't asked for, no admissible keys of the function spread.
-pub record SharingTables (Refused : Type 0) (mode : ModeChoice) (workers : ℕ) (packets : List Arrival) (run : Run) : Type 0 where
+pub record SharingTables (Refused : Type 0) (mode : ModeChoice) (workers : ℕ) (card : Card) (packets : List Arrival) (run : Run) : Type 0 where
   pub several : 1 < workers
-  pub only_where_no_keys_spread : mode ≢ Lock → NoneMayBeGiven run.function
+  pub only_where_no_keys_spread : mode ≢ Lock → NoneMayBeGiven run.function card
   pub handled : InPortOrder workers packets run ⊎ WhereRefused Refused packets run
 
-abbrev pub AreHandled : Type 0 → ModeChoice → ℕ → List Arrival → Run → Type 0
-AreHandled Refused mode workers packets run =
+abbrev pub AreHandled : Type 0 → ModeChoice → ℕ → Card → List Arrival → Run → Type 0
+AreHandled Refused mode workers card packets run =
     ByOneWorker workers packets run
-    ⊎ (SharingNothing mode workers packets run ⊎ SharingTables Refused mode workers packets run)
+    ⊎ (SharingNothing mode workers card packets run ⊎ SharingTables Refused mode workers card packets run)
 
 -- ---- what it leaves
 
@@ -116,23 +117,25 @@ pub record StandsUnder (now : Told) (name : List ℕ) (file : ℕ) (bytes : List
 
 -- The function under a name was run over packets. Its turns, in the order of the journal's lines, are those
 -- of one undivided run from empty tables, which every choice in the journal allows; the packets sent out at
--- each port and the final tables are those of this one run. Files are numbered from one on.
-pub record Headline (Gave : Function → List Arrival → Type 0) (Refused : Type 0) (mode : ModeChoice) (workers : ℕ) (name out : List ℕ) (first : ℕ) (before now : Told) : Type 0 where
+-- each port and the final tables are those of this one run, and the journal's first line tells the network
+-- card that is asked for. Files are numbered from one on.
+pub record Headline (Gave : Function → List Arrival → Type 0) (Refused : Type 0) (mode : ModeChoice) (workers : ℕ) (card : Card) (name out : List ℕ) (first : ℕ) (before now : Told) : Type 0 where
   pub run : Run
   pub function_is : IsFunctionUnder before name run.function
   pub packets : List Arrival
   pub packets_are : Gave run.function packets
-  pub handled : AreHandled Refused mode workers packets run
+  pub handled : AreHandled Refused mode workers card packets run
   pub result : RunResult
   pub one_undivided_run : course_of run ≡ Some result
+  pub card_is_told : run.card ≡ card
   pub sent : (port : ℕ) → port < length run.function.handlers → StandsUnder now (output_name out port) (first + port) (file_bytes run port)
   pub journal : let ports = length run.function.handlers in StandsUnder now (journal_name out) (first + ports) (file_bytes run ports)
   pub tables : let ports = length run.function.handlers in StandsUnder now (state_name out) (first + (ports + 1)) (state_text run.function result.state)
 
 -- So it was, and then the status was told on standard error, and nothing else was done.
-pub record Holds (Gave : Function → List Arrival → Type 0) (Refused : Type 0) (mode : ModeChoice) (workers : ℕ) (name out : List ℕ) (first : ℕ) (before after : Outside) (status : Status) : Type 0 where
+pub record Holds (Gave : Function → List Arrival → Type 0) (Refused : Type 0) (mode : ModeChoice) (workers : ℕ) (card : Card) (name out : List ℕ) (first : ℕ) (before after : Outside) (status : Status) : Type 0 where
   pub ended : Outside
-  pub headline : Headline Gave Refused mode workers name out first before.told ended.told
+  pub headline : Headline Gave Refused mode workers card name out first before.told ended.told
   pub said : IsSaid ended after status status
 
 -- ---- the statements
@@ -142,21 +145,21 @@ pub record Holds (Gave : Function → List Arrival → Type 0) (Refused : Type 0
 -- the captures.
 abbrev pub HeadlineOfRun : Type 0
 HeadlineOfRun = (was is : ℕ) (c : RunAsked) (before after : Outside) (status : Status) → Answers (Rose was is) (Some (RunCommand c)) before after status → IsDone status →
-    Holds (λ f packets. ArePackets status c.most (packets_under f c.captures before.told) packets) (Rose was is) c.mode c.workers c.function c.out (before.told.next + 1 + length c.captures) before after status
+    Holds (λ f packets. ArePackets status c.most (packets_under f c.captures before.told) packets) (Rose was is) c.mode c.workers c.card c.function c.out (before.told.next + 1 + length c.captures) before after status
 
 -- Of `gen`: the packets are those of the traffic that is asked for.
 abbrev pub HeadlineOfGen : Type 0
 HeadlineOfGen = (was is : ℕ) (c : Gen) (before after : Outside) (status : Status) → Answers (Rose was is) (Some (GenCommand c)) before after status → IsDone status →
-    Holds (λ f packets. packets ≡ packets_for c f) (Rose was is) c.mode c.workers c.function c.out (before.told.next + 1) before after status
+    Holds (λ f packets. packets ≡ packets_for c f) (Rose was is) c.mode c.workers c.card c.function c.out (before.told.next + 1) before after status
 
--- no admissible keys of the function under a name spread
-pub record HasNoneToGive (told : Told) (name : List ℕ) : Type 0 where
+-- no admissible keys of the function under a name spread on a network card
+pub record HasNoneToGive (told : Told) (card : Card) (name : List ℕ) : Type 0 where
   pub function : Function
   pub function_is : IsFunctionUnder told name function
-  pub none : NoneMayBeGiven function
+  pub none : NoneMayBeGiven function card
 
 -- Of status 8: keys are refused only where none spread.
 abbrev pub OnlyWhereNoneSpread : Type 0
 OnlyWhereNoneSpread = (was is : ℕ) (before after : Outside) (why : Why) →
-    ((c : RunAsked) → Answers (Rose was is) (Some (RunCommand c)) before after (NoKeys why) → HasNoneToGive before.told c.function)
-    × ((c : Gen) → Answers (Rose was is) (Some (GenCommand c)) before after (NoKeys why) → HasNoneToGive before.told c.function)
+    ((c : RunAsked) → Answers (Rose was is) (Some (RunCommand c)) before after (NoKeys why) → HasNoneToGive before.told c.card c.function)
+    × ((c : Gen) → Answers (Rose was is) (Some (GenCommand c)) before after (NoKeys why) → HasNoneToGive before.told c.card c.function)

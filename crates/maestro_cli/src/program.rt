@@ -164,15 +164,16 @@ fn carry_out<R: Threads + Wait + Sync, F: Files, G: Turns + Sync, L: Gate + Drop
 ///
 /// The words begin with the program's name. Then stand
 /// - `run`, a network function's file, the front of the outputs' names, and one to four captures; with the
-///   options `--workers`, 1 to 16, `--mode`, `auto`, `shard` or `lock`, and `--max-packets N`, 10,000,000 where it is
+///   options `--workers`, 1 to 16, `--mode`, `auto`, `shard` or `lock`, `--max-packets N`, 10,000,000 where it is left
+///   out, and those of a network card: `--table`, 128 or 512, and `--key-bytes`, 40 or 52, 128 and 40 where they are
 ///   left out;
 /// - `replay`, a network function's file, a journal, the front of the outputs' names, and one to four captures;
 ///   with the option `--max-packets`;
 /// - `gen`, a network function's file, the front of the outputs' names, a seed, how many packets are made, and of
-///   how many flows, 1 to 65,536; with the options `--workers` and `--mode`;
-/// - `hash`, a source and a destination as `ADDRESS:PORT`; with the options `--key`, 80 hexadecimal digits, and
-///   `--workers`, 1 to 16;
-/// - `check`, `explain` or `keys`, a network function's file.
+///   how many flows, 1 to 65,536; with the options `--workers`, `--mode` and those of a network card;
+/// - `hash`, a source and a destination as `ADDRESS:PORT`; with the options `--key`, 80 or 104 hexadecimal digits,
+///   `--workers`, 1 to 16, and those of a network card;
+/// - `check`, `explain` or `keys`, a network function's file; the last two with the options of a network card.
 ///
 /// Several workers of a run, over captures or made-up traffic, are threads of `rt`; where one can't be started,
 /// the caller does its work. What they come to is told to `turns`. Workers that share tables go in by `gate`;

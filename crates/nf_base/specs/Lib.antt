@@ -24,3 +24,4 @@ pub mod Orders
 pub mod Runs
 pub mod Families
 pub mod Doors
+pub mod Cards

@@ -3,12 +3,14 @@
 #![tactic(auto)]
 
 pub mod block;
+pub mod card;
 mod copy;
 pub mod decl;
 pub mod done;
 pub mod expr;
 pub mod func;
 pub mod handler;
+pub mod hash_key;
 pub mod indexed;
 pub mod key;
 pub mod keys;

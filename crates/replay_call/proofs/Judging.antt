@@ -1,5 +1,5 @@
 -- A replay whose journal and outputs were opened and judged.
-use Rattle.std.proofs.Common.{◌≡◌, ◌≢◌, ◌⊎◌, inl, inr, ℕ, zero, suc, ◌+◌, ◌<◌, ◌≤◌, Bool, List, [], ◌∷◌, ◌++◌, length, map, get_or, Option, Some, None, Result, Ok, Err, refl, ap, ap₂, sym, subst, ◌∙◌, append-nil, arith}
+use Rattle.std.proofs.Common.{◌≡◌, ◌≢◌, ◌⊎◌, inl, inr, ℕ, zero, suc, ◌+◌, ◌<◌, ◌≤◌, Bool, List, [], ◌∷◌, ◌++◌, length, map, get_or, Option, Some, None, Result, Ok, Err, refl, ap, ap₂, sym, subst, ◌∙◌, append_assoc, append-nil, arith}
 use Rattle.std.specs.List.{slice_get, range_with_len}
 use Rattle.std.specs.Option.{option_map, option_and_then}
 use Rattle.std.proofs.lemmas.List.{length-map}
@@ -13,21 +13,27 @@ use Rattle.nf_base.specs.declared.state.State.{State}
 use Rattle.nf_files.specs.Told.{Told}
 use Rattle.nf_files.specs.Causes.{Counted, Faulted, Asked, asking}
 use Rattle.nf_files.specs.Pieces.{Gains}
+use Rattle.nf_files.specs.Reads.{Keeps}
 use Rattle.packet_feed.specs.Arrivals.{Arrival}
 use Rattle.packet_feed.specs.Told.{both, gathered, packets_in, packets_of, KeepsOthers}
 use Rattle.packet_feed.specs.Sources.{files_in, sixes_in}
 use Rattle.packet_feed.specs.Feeding.{Feeding}
 use Rattle.run_history.specs.StateText.{state_text}
+use Rattle.run_history.specs.Headings.{Heading}
+use Rattle.run_history.specs.Line.{line_bytes}
+use Rattle.run_history.specs.declared.line.JournalLine.TheVariants.{Header}
+use Rattle.journal_read.specs.Journals.{Reading, Stands, HasNoHeader}
 use Rattle.stream_run.specs.declared.stop.Stop.{Stop as NumberStop}
 use Rattle.stream_run.specs.declared.stop.Stop.TheVariants as numbered
-use Rattle.stream_run.specs.Writing.{IsStopCause, StopsAmong}
-use Rattle.replay_run.specs.Queues.{lent}
-use Rattle.replay_run.specs.Turns.{IsStarted, rest_at, beside_of}
+use Rattle.stream_run.specs.Writing.{IsStopCause, StopsAt, StopsAmong}
+use Rattle.replay_run.specs.Turns.{Begins, rest_at, beside_of}
 use Rattle.replay_run.specs.Heads.{Comes}
+use Rattle.replay_run.specs.declared.begun.Begun.{Begun}
 use Rattle.replay_run.specs.declared.replayed.Replayed.{Replayed}
 use Rattle.replay_run.specs.declared.replayed.Replayed.TheVariants as came
 use Rattle.replay_run.proofs.Ends.{started_while}
 use Rattle.replay_run.proofs.Heads.{comes_as}
+use Rattle.replay_run.proofs.Kept.{others_both, others_one}
 use Rattle.command_words.specs.Commands.{Replay}
 use Rattle.call_base.specs.declared.status.RunFile.TheVariants.{Stdout}
 use Rattle.call_base.specs.declared.status.Stop.{Stop}
@@ -44,9 +50,9 @@ use Rattle.replay_call.specs.declared.checked.Checked.{Checked}
 use Rattle.replay_call.specs.declared.job.Job.{Job}
 use Rattle.replay_call.specs.Numbers.{file_of, number_of, numbering, stop_named}
 use Rattle.replay_call.specs.Names.{inputs_of, names_of, asked_by}
-use Rattle.replay_call.specs.Contents.{HasReplayed, beside_under, keys_by}
+use Rattle.replay_call.specs.Contents.{HasReplayed, BeginsWith, beside_under, keys_by}
 use Rattle.replay_call.specs.Checked.{KnowsHeaders, KnowsSame, KnownAt, IsKnown, IsChecked, IsStopped, ReplaysTo, checked_by, printed_by}
-use Rattle.replay_call.specs.Progress.{IsJob, IsSized, HasFed, HasReady, HasCome, asked, ports_of}
+use Rattle.replay_call.specs.Progress.{AreKeysOf, IsJob, IsSized, HasFed, HasReady, HasBegun, HasCome, asked, ports_of}
 use Rattle.replay_call.proofs.Numbering.{own_capture, own_other, own_stdout, file_of_stdout}
 use Rattle.replay_call.proofs.Stopping.{IsNumbered, stopped_behind, memory_behind}
 use Rattle.replay_call.proofs.Beginning.{job_ports, stopped_untouched}
@@ -107,37 +113,82 @@ file_there [] k lt = absurd (omega (arith, lt))
 file_there (file ∷ files) zero lt = (file, refl)
 file_there (file ∷ files) (suc k) lt = file_there files k (omega (arith, lt))
 
-pub has_come : (before a b : Outside) (job : Job) (captures : List ℕ) (v : Feeding) (journal : ℕ) (outputs : List ℕ) (came : Replayed) → IsJob before job → IsSized job → HasReady before a job captures v journal outputs → files_in v.sources ≡ captures → sixes_in v.sources ≡ six_ports (function_of job.func.now) → length captures ≡ job.numbers.ports → length outputs ≡ job.numbers.ports
-    → ((start : Told) → IsStarted start v a.told → Comes {E = NumberStop} (function_of job.func.now) (lent job.keys) (length captures) (beside_of v start (a.told.rest journal) outputs a.told job.command.now.most) (Ok came))
-    → KeepsOthers (captures ++ journal ∷ outputs) a.told b.told → b.counted ≡ a.counted → HasCome before b job came
-has_come before a b job captures v journal outputs came is sized h files six all as_many comes kept counted =
+-- a journal whose first line was read begins with it
+begins_with : (start now : Option (List ℕ)) (v : Reading) (heading : Heading) → Stands start (Header heading ∷ []) v now → BeginsWith heading start
+begins_with None now v heading h = tt
+begins_with (Some all) None v heading h = absurd h
+begins_with (Some all) (Some left) v heading h =
+    let mine = line_bytes (Header heading) in
+    (v.held ++ left, sym (h ∙ append_assoc (mine ++ []) v.held left ∙ ap (λ (l : List ℕ). l ++ (v.held ++ left)) (append-nil mine)))
+
+-- the captures are another's than the journal's file
+other_capture : (before a : Outside) (job : Job) (captures : List ℕ) (v : Feeding) (journal : ℕ) (outputs : List ℕ) → HasReady before a job captures v journal outputs → length captures ≡ ports_of job → (i f : ℕ) → slice_get captures i ≡ Some f → f ≢ journal
+other_capture before a job captures v journal outputs h all i f e = λ same. omega (arith, same, h.captures_at i f e, h.journal_at, slice_get_within captures i f e, all)
+
+-- and so are the outputs
+other_output : (before a : Outside) (job : Job) (captures : List ℕ) (v : Feeding) (journal : ℕ) (outputs : List ℕ) → HasReady before a job captures v journal outputs → (i f : ℕ) → slice_get outputs i ≡ Some f → f ≢ journal
+other_output before a job captures v journal outputs h i f e = λ same. omega (arith, same, h.outputs_at i f e, h.journal_at)
+
+pub has_come : (before a b : Outside) (job : Job) (keys : Option Keys) (captures : List ℕ) (v : Feeding) (begun : Begun) (outputs : List ℕ) (came : Replayed) → IsJob before job → IsSized job → HasBegun before a job captures v begun outputs → AreKeysOf (function_of job.func.now) begun.header.card keys
+    → files_in v.sources ≡ captures → sixes_in v.sources ≡ six_ports (function_of job.func.now) → length captures ≡ job.numbers.ports → length outputs ≡ job.numbers.ports
+    → ((start : Told) (bytes : Option (List ℕ)) → Begins begun.header v begun.lines start bytes a.told → Comes {E = NumberStop} (function_of job.func.now) keys begun.header (length captures) (beside_of v start bytes outputs a.told job.command.now.most) (Ok came))
+    → KeepsOthers (captures ++ begun.lines.file ∷ outputs) a.told b.told → b.counted ≡ a.counted → HasCome before b job came
+has_come before a b job keys captures v begun outputs came is sized h of_card files six all as_many comes kept counted =
     let c = asked job in
     let f = function_of job.func.now in
+    let r = h.ready in
+    let journal = begun.lines.file in
     let ports : job.numbers.ports ≡ length c.captures = sym (length-map job.command.now.captures.items _ ∙ sized.captures) in
     let long : length captures ≡ length c.captures = all ∙ ports in
-    let one = beside_of v h.start (a.told.rest journal) outputs a.told job.command.now.most in
-    let here = subst (λ (ks : Option Keys). Comes {E = NumberStop} f ks (length c.captures) one (Ok came)) (sym is.keys.same)
-    (subst (λ (n : ℕ). Comes {E = NumberStop} f (lent job.keys) n one (Ok came)) long (comes h.start h.started)) in
+    let bytes = h.old.told.rest journal in
+    let one = beside_of v r.start bytes outputs a.told job.command.now.most in
+    let begins : Begins begun.header v begun.lines r.start bytes a.told = record {
+      captures = started_while r.start v h.old.told a.told (λ port g e. h.kept.rests g (other_capture before h.old job captures v journal outputs r long port g (subst (λ (fs : List ℕ). slice_get fs port ≡ Some g) files e))) r.started;
+      lines = h.lines;
+    } in
+    let here = subst (λ (ks : Option Keys). Comes {E = NumberStop} f ks begun.header (length c.captures) one (Ok came)) (sym of_card.same)
+    (subst (λ (n : ℕ). Comes {E = NumberStop} f keys begun.header n one (Ok came)) long (comes r.start bytes begins)) in
+    let others = others_both (captures ++ journal ∷ outputs) h.old.told a.told b.told (others_one captures journal outputs h.old.told a.told h.kept) kept in
     record {
       replayed = record {
         has_ports = is.has_ports;
-        captures = headers_of h.start before.told a.told v captures c.captures files long h.rests h.started;
-        verdict = is.keys.verdict;
-        is_verdict = is.keys.is_verdict;
-        comes = comes_as f (keys_by is.keys.verdict) (length c.captures) one (beside_under f c before.told) (Ok came)
-            (sym (ap₂ (λ (ports : List Bool) (fs : List ℕ). packets_of ports fs h.start) six files ∙ same_packets (six_ports f) h.start before.told 0 captures c.captures long h.rests))
-            (sym h.journal_is)
-            refl
-            (λ port lt.
-            let there = file_there outputs port (omega (arith, lt, as_many, ports)) in
-            sym (ap (option_and_then (λ (g : ℕ). a.told.rest g)) there.1 ∙ h.outputs_are port there.0 there.1))
-            here;
+        captures = headers_of r.start before.told h.old.told v captures c.captures files long r.rests r.started;
+        judged = inr (record {
+          heading = begun.header;
+          is_heading = h.is_heading;
+          first = subst (BeginsWith begun.header) r.journal_is (begins_with bytes (a.told.rest journal) begun.lines begun.header h.lines);
+          verdict = of_card.verdict;
+          is_verdict = of_card.is_verdict;
+          comes = comes_as f (keys_by of_card.verdict) begun.header (length c.captures) one (beside_under f c before.told) (Ok came)
+              (sym (ap₂ (λ (ports : List Bool) (fs : List ℕ). packets_of ports fs r.start) six files ∙ same_packets (six_ports f) r.start before.told 0 captures c.captures long r.rests))
+              (sym r.journal_is)
+              refl
+              (λ port lt.
+              let there = file_there outputs port (omega (arith, lt, as_many, ports)) in
+              sym (ap (option_and_then (λ (g : ℕ). a.told.rest g)) there.1 ∙ h.kept.rests there.0 (other_output before h.old job captures v journal outputs r port there.0 there.1) ∙ r.outputs_are port there.0 there.1))
+              here;
+        });
       };
-      contents = λ n. kept.contents n ∙ h.only.untouched.contents n;
-      stdout = kept.givens 0 ∙ h.only.untouched.standard 0 (omega arith);
-      stderr = kept.givens 1 ∙ h.only.untouched.standard 1 (omega arith);
-      asked_for = counted ∙ h.only.asked;
+      contents = λ n. others.contents n ∙ r.only.untouched.contents n;
+      stdout = others.givens 0 ∙ r.only.untouched.standard 0 (omega arith);
+      stderr = others.givens 1 ∙ r.only.untouched.standard 1 (omega arith);
+      asked_for = counted ∙ h.counted ∙ r.only.asked;
     }
+
+-- the journal begins with no first line
+pub headless : (before a b : Outside) (job : Job) (captures : List ℕ) (v : Feeding) (journal : ℕ) (outputs : List ℕ) → IsJob before job → HasReady before a job captures v journal outputs → files_in v.sources ≡ captures → length captures ≡ ports_of job
+    → HasNoHeader (a.told.rest journal) → Keeps a.told b.told journal → b.counted ≡ a.counted → HasCome before b job (came.Line 1)
+headless before a b job captures v journal outputs is h files all none kept counted = record {
+  replayed = record {
+    has_ports = is.has_ports;
+    captures = headers_of h.start before.told a.told v captures (asked job).captures files all h.rests h.started;
+    judged = inl (record { first = refl; none = subst HasNoHeader h.journal_is none });
+  };
+  contents = λ n. kept.contents n ∙ h.only.untouched.contents n;
+  stdout = kept.givens 0 ∙ h.only.untouched.standard 0 (omega arith);
+  stderr = kept.givens 1 ∙ h.only.untouched.standard 1 (omega arith);
+  asked_for = counted ∙ h.only.asked;
+}
 
 -- ---- a stop while lines are judged
 
@@ -170,6 +221,35 @@ is_unjudged before a b job captures v journal outputs stop is h files all kept a
     (record { contents = λ n. kept.contents n ∙ h.only.untouched.contents n; standard = λ g lt. kept.givens g ∙ h.only.untouched.standard g lt })
     (stopped_behind (asked_by (asked job)) (asked_by (asked job)) before.told.next (ports_of job) before.counted a.counted b.counted stop (numbered_behind before a job captures v journal outputs stop is h all among) (front_all (asked_by (asked job))) h.only.asked cause)
     (known_behind before a b.told job captures v journal outputs stop is h all known among) (due_others (asked job) before.told _ known)
+
+-- the journal's file alone is one of all
+at_among : (captures : List ℕ) (journal : ℕ) (outputs : List ℕ) (stop : NumberStop) → StopsAt {T = Unit {0}} journal (Err stop) → StopsAmong {T = Replayed} captures (journal ∷ outputs) (Err stop)
+at_among captures journal outputs numbered.Memory h = tt
+at_among captures journal outputs (numbered.File file) h = inr (0, ap (λ (n : ℕ). Some n) (sym h))
+
+-- the first line could not be read
+pub is_unbegun : (before a b : Outside) (job : Job) (captures : List ℕ) (v : Feeding) (journal : ℕ) (outputs : List ℕ) (stop : NumberStop) → IsJob before job → HasReady before a job captures v journal outputs → files_in v.sources ≡ captures → length captures ≡ ports_of job → Keeps a.told b.told journal
+    → StopsAt {T = Unit {0}} journal (Err stop) → IsStopCause {T = Unit {0}} a.counted b.counted (Err stop) → IsStopped (asked job) before b (stop_named before.told.next (ports_of job) stop)
+is_unbegun before a b job captures v journal outputs stop is h files all kept at cause =
+    is_unjudged before a b job captures v journal outputs stop is h files all (others_one captures journal outputs a.told b.told kept) (at_among captures journal outputs stop at) cause
+
+-- what follows the first line could not be judged
+pub is_unended : (before a b : Outside) (job : Job) (captures : List ℕ) (v : Feeding) (begun : Begun) (outputs : List ℕ) (stop : NumberStop) → IsJob before job → HasBegun before a job captures v begun outputs → files_in v.sources ≡ captures → length captures ≡ ports_of job → KeepsOthers (captures ++ begun.lines.file ∷ outputs) a.told b.told
+    → StopsAmong {T = Replayed} captures (begun.lines.file ∷ outputs) (Err stop) → IsStopCause {T = Unit {0}} a.counted b.counted (Err stop) → IsStopped (asked job) before b (stop_named before.told.next (ports_of job) stop)
+is_unended before a b job captures v begun outputs stop is h files all kept among cause =
+    is_unjudged before h.old b job captures v begun.lines.file outputs stop is h.ready files all
+    (others_both (captures ++ begun.lines.file ∷ outputs) h.old.told a.told b.told (others_one captures begun.lines.file outputs h.old.told a.told h.kept) kept)
+    among (subst (λ (n : Counted). IsStopCause {T = Unit {0}} n b.counted (Err stop)) h.counted cause)
+
+-- memory ran out behind the first line
+pub unkept_begun : (before now : Outside) (job : Job) (captures : List ℕ) (v : Feeding) (begun : Begun) (outputs : List ℕ) → IsJob before job → HasBegun before now job captures v begun outputs → files_in v.sources ≡ captures → length captures ≡ ports_of job → IsStopped (asked job) before now stops.Memory
+unkept_begun before now job captures v begun outputs is h files all =
+    let r = h.ready in
+    let known : KnowsHeaders (asked job) before.told = record { ports = job_ports before job is; captures = headers_of r.start before.told h.old.told v captures (asked job).captures files all r.rests r.started } in
+    stopped_untouched (asked job) before now stops.Memory
+    (record { contents = λ n. h.kept.contents n ∙ r.only.untouched.contents n; standard = λ g lt. h.kept.givens g ∙ r.only.untouched.standard g lt })
+    (memory_behind (asked_by (asked job)) (asked_by (asked job)) before.told.next (ports_of job) before.counted now.counted (front_all (asked_by (asked job))) (h.counted ∙ r.only.asked))
+    tt (due_others (asked job) before.told _ known)
 
 -- ---- what is told
 

@@ -1,5 +1,5 @@
 -- What a replay finds under its names.
-use Rattle.std.specs.Prelude.{◌≡◌, ◌≢◌, ℕ, List, length, slice_get, Option, Some, None, Ok}
+use Rattle.std.specs.Prelude.{◌≡◌, ◌≢◌, ◌⊎◌, ℕ, List, ◌++◌, length, slice_get, Option, Some, None, Ok}
 use Rattle.nf_base.specs.Text.{Function}
 use Rattle.nf_base.specs.declared.keys.Keys.{Keys}
 use Rattle.nf_files.specs.Told.{Told}
@@ -7,10 +7,15 @@ use Rattle.packet_feed.specs.Told.{IsCapture, IsNoCapture}
 use Rattle.key_synth.specs.declared.verdict.Verdict.{Verdict}
 use Rattle.key_synth.specs.declared.verdict.Verdict.TheVariants.{Sharded, Locked}
 use Rattle.key_synth.specs.Verdicts.{IsVerdict}
+use Rattle.run_history.specs.Headings.{Heading, IsHeading}
+use Rattle.run_history.specs.Line.{line_bytes}
+use Rattle.run_history.specs.declared.line.JournalLine.TheVariants.{Header}
+use Rattle.journal_read.specs.Journals.{HasNoHeader}
 use Rattle.stream_run.specs.declared.stop.Stop.{Stop}
 use Rattle.replay_run.specs.Replaying.{Beside}
 use Rattle.replay_run.specs.Heads.{Comes}
 use Rattle.replay_run.specs.declared.replayed.Replayed.{Replayed}
+use Rattle.replay_run.specs.declared.replayed.Replayed.TheVariants.{Line}
 use Rattle.command_words.specs.Commands.{Replay}
 use Rattle.call_base.specs.Captures.{packets_under, Below}
 use Rattle.call_base.specs.Names.{output_name}
@@ -52,12 +57,29 @@ beside_under f c told = record {
   most = c.most;
 }
 
+-- bytes, where they are told, begin with a journal's first line
+abbrev pub BeginsWith : Heading → Option (List ℕ) → Type 0
+BeginsWith heading None = Unit {0}
+BeginsWith heading (Some all) = (later : List ℕ) × (line_bytes (Header heading) ++ later ≡ all)
+
+-- The journal begins with no first line: line 1 is wrong.
+pub record IsHeadless (c : Replay) (told : Told) (came : Replayed) : Type 0 where
+  pub first : came ≡ Line 1
+  pub none : HasNoHeader (told.content c.journal)
+
+-- The journal's first line tells a network card, and the journal and the outputs are judged beside the
+-- captures, under the keys that the function is given for this card, if any.
+pub record IsJudged (c : Replay) (told : Told) (f : Function) (came : Replayed) : Type 0 where
+  pub heading : Heading
+  pub is_heading : IsHeading heading
+  pub first : BeginsWith heading (told.content c.journal)
+  pub verdict : Verdict
+  pub is_verdict : IsVerdict f heading.card verdict
+  pub comes : Comes {E = Stop} f (keys_by verdict) heading (length c.captures) (beside_under f c told) (Ok came)
+
 -- What a replay comes to: the text is a network function with as many ports as there are captures, all
--- of which are captures, and the journal and the outputs are judged beside them, under the keys that
--- the function is given, if any.
+-- of which are captures, and the journal has no first line, or is judged by it.
 pub record HasReplayed (c : Replay) (told : Told) (f : Function) (came : Replayed) : Type 0 where
   pub has_ports : HasPorts c told f
   pub captures : Below IsCapture told c.captures (length c.captures)
-  pub verdict : Verdict
-  pub is_verdict : IsVerdict f verdict
-  pub comes : Comes {E = Stop} f (keys_by verdict) (length c.captures) (beside_under f c told) (Ok came)
+  pub judged : IsHeadless c told came ⊎ IsJudged c told f came

@@ -1,17 +1,22 @@
 -- How far a replay came, before its end.
-use Rattle.std.specs.Prelude.{◌≡◌, ℕ, ◌+◌, ◌≤◌, List, [], ◌∷◌, length, map, Option, Some, None, slice_get, IfSome}
+use Rattle.std.specs.Prelude.{◌≡◌, ℕ, ◌+◌, ◌≤◌, List, [], ◌∷◌, length, map, Option, Some, None, slice_get}
 use Rattle.nf_base.specs.Functions.{function_of}
 use Rattle.nf_base.specs.Text.{Function}
 use Rattle.nf_base.specs.declared.keys.Keys.{Keys}
+use Rattle.nf_base.specs.declared.card.Card.{Card}
 use Rattle.nf_files.specs.Told.{Told}
 use Rattle.nf_files.specs.Causes.{asking}
+use Rattle.nf_files.specs.Reads.{Keeps}
 use Rattle.packet_feed.specs.Sources.{files_in}
 use Rattle.packet_feed.specs.Feeding.{Feeding}
 use Rattle.packet_feed.specs.declared.fault.FeedFault.{FeedFault}
 use Rattle.packet_feed.specs.declared.fault.FeedFault.TheVariants as feed
 use Rattle.key_synth.specs.declared.verdict.Verdict.{Verdict}
 use Rattle.key_synth.specs.Verdicts.{IsVerdict}
-use Rattle.replay_run.specs.Queues.{lent}
+use Rattle.run_history.specs.Headings.{IsHeading}
+use Rattle.run_history.specs.declared.line.JournalLine.TheVariants.{Header}
+use Rattle.journal_read.specs.Journals.{Stands}
+use Rattle.replay_run.specs.declared.begun.Begun.{Begun}
 use Rattle.replay_run.specs.Turns.{IsStarted}
 use Rattle.command_words.specs.Commands.{Replay}
 use Rattle.command_words.specs.View as view
@@ -42,10 +47,10 @@ pub record HasFound (c : Replay) (before now : Outside) (found : Found) : Type 0
   pub next : now.told.next ≡ before.told.next + 1
   pub only : HasOnlyAsked (reading c.function ∷ []) before now
 
--- these are the keys that a function is given, or it is given none
-pub record AreKeysOf (f : Function) (keys : Option Keys) : Type 0 where
+-- these are the keys that a function is given for a network card, or it is given none
+pub record AreKeysOf (f : Function) (card : Card) (keys : Option Keys) : Type 0 where
   pub verdict : Verdict
-  pub is_verdict : IsVerdict f verdict
+  pub is_verdict : IsVerdict f card verdict
   pub same : keys_by verdict ≡ keys
 
 abbrev pub asked : Job → Replay
@@ -54,19 +59,17 @@ asked job = view.replay job.command.now
 abbrev pub ports_of : Job → ℕ
 ports_of job = length (asked job).captures
 
--- how many ports a job has: as many as captures and handlers, and its keys are for all
+-- how many ports a job has: as many as captures and handlers; and few paths bound the work on its keys
 pub record IsSized (job : Job) : Type 0 where
   pub handlers : length job.func.now.handlers ≡ job.numbers.ports
   pub captures : length job.command.now.captures.items ≡ job.numbers.ports
   pub some : 1 ≤ job.numbers.ports
   pub few : job.numbers.ports ≤ 4
-  pub keyed : IfSome job.keys (λ k. length job.func.now.handlers ≤ length k.now.ports)
+  pub paths : HasFewPaths (function_of job.func.now)
 
--- what a job is: the replay that a command asks for, with its function, the keys of that, and the
--- number of its first file
+-- what a job is: the replay that a command asks for, with its function and the number of its first file
 pub record IsJob (before : Outside) (job : Job) : Type 0 where
   pub has_ports : HasPorts (asked job) before.told (function_of job.func.now)
-  pub keys : AreKeysOf (function_of job.func.now) (lent job.keys)
   pub first : job.numbers.first ≡ before.told.next
   pub from_two : 2 ≤ job.numbers.first
 
@@ -105,6 +108,15 @@ pub record HasReady (before now : Outside) (job : Job) (captures : List ℕ) (fe
   pub journal_is : now.told.rest journal ≡ before.told.content (asked job).journal
   pub outputs_are : (i f : ℕ) → slice_get outputs i ≡ Some f → now.told.rest f ≡ before.told.content (output_name (asked job).out i)
   pub only : HasOnlyAsked (asked_by (asked job)) before now
+
+-- The journal's first line was read, and nothing of the outputs yet.
+pub record HasBegun (before now : Outside) (job : Job) (captures : List ℕ) (feed : Feeding) (begun : Begun) (outputs : List ℕ) : Type 0 where
+  pub old : Outside
+  pub ready : HasReady before old job captures feed begun.lines.file outputs
+  pub kept : Keeps old.told now.told begun.lines.file
+  pub counted : now.counted ≡ old.counted
+  pub is_heading : IsHeading begun.header
+  pub lines : Stands (old.told.rest begun.lines.file) (Header begun.header ∷ []) begun.lines (now.told.rest begun.lines.file)
 
 -- The journal and the outputs were judged.
 pub record HasCome (before now : Outside) (job : Job) (came : Replayed) : Type 0 where

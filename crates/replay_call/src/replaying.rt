@@ -14,7 +14,7 @@ ghost use Rattle.call_base.specs.Source.{HasFewPaths};
 ghost use Rattle.call_base.specs.Outside.{Outside, HasOnlyAsked, seen};
 ghost use Rattle.replay_call.specs.Names.{names_of};
 ghost use Rattle.replay_call.specs.Checked.{ReplaysTo};
-ghost use Rattle.replay_call.specs.Progress.{AreKeysOf, IsSized, HasFound, IsJob, AreLatest, HasOpened, HasFed, HasReady, HasCome, asked, unfed, unfound};
+ghost use Rattle.replay_call.specs.Progress.{AreKeysOf, IsSized, HasFound, IsJob, AreLatest, HasOpened, HasFed, HasReady, HasBegun, HasCome, asked, unfed, unfound};
 
 use crate::checked::Checked;
 use crate::job::Job;
@@ -31,7 +31,7 @@ use nf_base::keys::Keys;
 use nf_base::state::State;
 use nf_files::Files;
 use packet_feed::{Feed, FeedFault};
-use replay_run::Replayed;
+use replay_run::{Begun, Replayed, first_line};
 use run_history::state_text::state_text;
 use std::alloc::Global;
 use stream_run::Stop as NumberStop;
@@ -74,6 +74,90 @@ fn told<F: Files>(alloc: Global, files: &mut F, job: &Job, came: Replayed) -> Re
     }
 }
 
+// Judges the journal behind its first line, and the outputs, under keys for the network card that this
+// line tells, if the function is given some.
+fn replay_keyed<F: Files>(
+    alloc: Global,
+    files: &mut F,
+    job: &Job,
+    keys: Option<&Keys>,
+    feed: &mut Feed,
+    captures: &[u32],
+    begun: Begun,
+    outputs: &[u32],
+) -> Result<Checked, Halt>
+    requires sized { IsSized job.now }
+    requires keyed { IfSome keys (λ k. length job.now.func.now.handlers ≤ length k.now.ports) }
+    requires of_card { IfSome keys (λ k. k.now.table ≡ begun.header.card.table) }
+    requires captures { files_in feed.old.sources ≡ captures.now }
+    requires six { sixes_in feed.old.sources ≡ six_ports (function_of job.now.func.now) }
+    requires new { feed.old.given ≡ 0 }
+    requires most { feed.old.most ≡ job.now.command.now.most }
+    requires all { length captures.now ≡ job.now.numbers.ports }
+    requires as_many { length outputs.now ≡ job.now.numbers.ports }
+    requires read { EachFile (F.is_read files.old) captures.now }
+    requires opened { EachFile (F.is_read files.old) outputs.now }
+    requires opened_journal { F.is_read files.old begun.lines.file }
+    requires apart { IsApart (captures.now ++ begun.lines.file ∷ outputs.now) }
+    ensures replays { let now = seen (F.told files.old) (F.counted files.old) in
+        (before : Outside) → IsJob before job.now →
+        HasBegun before now job.now captures.now feed.old begun outputs.now →
+        AreKeysOf (function_of job.now.func.now) begun.header.card (lent keys.entry) →
+        ReplaysTo (asked job.now) before (seen (F.told files.new) (F.counted files.new)) result }
+{
+    let most = job.command.most;
+    match replay_run::replay(
+        alloc, files, job.func, keys, feed, most, captures, begun, outputs,
+    ) {
+        Ok(came) => told(alloc, files, job, came),
+        Err(stop) => Err(job.numbers.halt(stop)),
+    }
+}
+
+// Finds the keys for the network card that the journal's first line tells, and judges what follows.
+fn replay_begun<F: Files>(
+    alloc: Global,
+    files: &mut F,
+    job: &Job,
+    feed: &mut Feed,
+    captures: &[u32],
+    begun: Begun,
+    outputs: &[u32],
+) -> Result<Checked, Halt>
+    requires sized { IsSized job.now }
+    requires captures { files_in feed.old.sources ≡ captures.now }
+    requires six { sixes_in feed.old.sources ≡ six_ports (function_of job.now.func.now) }
+    requires new { feed.old.given ≡ 0 }
+    requires most { feed.old.most ≡ job.now.command.now.most }
+    requires all { length captures.now ≡ job.now.numbers.ports }
+    requires as_many { length outputs.now ≡ job.now.numbers.ports }
+    requires read { EachFile (F.is_read files.old) captures.now }
+    requires opened { EachFile (F.is_read files.old) outputs.now }
+    requires opened_journal { F.is_read files.old begun.lines.file }
+    requires apart { IsApart (captures.now ++ begun.lines.file ∷ outputs.now) }
+    ensures replays { let now = seen (F.told files.old) (F.counted files.old) in
+        (before : Outside) → IsJob before job.now →
+        HasBegun before now job.now captures.now feed.old begun outputs.now →
+        ReplaysTo (asked job.now) before (seen (F.told files.new) (F.counted files.new)) result }
+{
+    match verdict_of(alloc, job.func, begun.header.card()) {
+        Ok(Verdict::Sharded(keys)) => replay_keyed(
+            alloc,
+            files,
+            job,
+            Some(&keys),
+            feed,
+            captures,
+            begun,
+            outputs,
+        ),
+        Ok(Verdict::Locked(_)) => replay_keyed(
+            alloc, files, job, None, feed, captures, begun, outputs,
+        ),
+        Err(_) => Err(Halt::Stop(Stop::Memory)),
+    }
+}
+
 // Judges the journal and the outputs, which were opened behind the captures.
 fn replay_ready<F: Files>(
     alloc: Global,
@@ -100,11 +184,9 @@ fn replay_ready<F: Files>(
         HasReady before now job.now captures.now feed.old journal outputs.now →
         ReplaysTo (asked job.now) before (seen (F.told files.new) (F.counted files.new)) result }
 {
-    let most = job.command.most;
-    match replay_run::replay(
-        alloc, files, job.func, job.keys, feed, most, captures, journal, outputs,
-    ) {
-        Ok(came) => told(alloc, files, job, came),
+    match first_line(alloc, files, journal) {
+        Ok(Some(begun)) => replay_begun(alloc, files, job, feed, captures, begun, outputs),
+        Ok(None) => told(alloc, files, job, Replayed::Line(1)),
         Err(stop) => Err(job.numbers.halt(stop)),
     }
 }
@@ -228,39 +310,6 @@ fn replay_job<F: Files>(alloc: Global, files: &mut F, job: &Job) -> Result<Check
     }
 }
 
-// Goes on under the keys of the function, if it is given some.
-fn replay_keyed<F: Files>(
-    alloc: Global,
-    files: &mut F,
-    command: &ReplayCommand,
-    found: &Found,
-    keys: Option<&Keys>,
-) -> Result<Checked, Halt>
-    requires some { 1 ≤ length command.now.captures.items }
-    requires few { length command.now.captures.items ≤ 4 }
-    requires as_many { length command.now.captures.items ≡ length found.now.source.func.handlers }
-    requires keyed { IfSome keys (λ k. length found.now.source.func.handlers ≤ length k.now.ports) }
-    requires next { (F.told files.old).next ≡ found.now.file + 1 }
-    ensures replays { let now = seen (F.told files.old) (F.counted files.old) in
-        (before : Outside) → HasFound (view.replay command.now) before now found.now →
-        AreKeysOf (function_of found.now.source.func) (lent keys.entry) →
-        ReplaysTo (view.replay command.now) before
-        (seen (F.told files.new) (F.counted files.new)) result }
-{
-    let func = &found.source.func;
-    let numbers = Numbers {
-        first: found.file,
-        ports: func.handlers.len(),
-    };
-    let job = Job {
-        command,
-        func,
-        keys,
-        numbers,
-    };
-    replay_job(alloc, files, &job)
-}
-
 // Goes on where the captures are as many as the function's ports.
 fn replay_found<F: Files>(
     alloc: Global,
@@ -281,11 +330,16 @@ fn replay_found<F: Files>(
     if command.captures.len() != func.handlers.len() as usize {
         return Err(Halt::Refusal(Refusal::Usage));
     }
-    match verdict_of(alloc, func) {
-        Ok(Verdict::Sharded(keys)) => replay_keyed(alloc, files, command, found, Some(&keys)),
-        Ok(Verdict::Locked(_)) => replay_keyed(alloc, files, command, found, None),
-        Err(_) => Err(Halt::Stop(Stop::Memory)),
-    }
+    let numbers = Numbers {
+        first: found.file,
+        ports: func.handlers.len(),
+    };
+    let job = Job {
+        command,
+        func,
+        numbers,
+    };
+    replay_job(alloc, files, &job)
 }
 
 // Why there is no function under a name, for a replay.

@@ -22,7 +22,7 @@ use Rattle.run_history.specs.declared.line.JournalLine.{JournalLine}
 use Rattle.run_history.specs.declared.line.JournalLine.TheVariants.{Header}
 use Rattle.run_history.specs.declared.line.JournalLine.TheVariants as line
 use Rattle.file_match.specs.Comparing.{IsOtherIfTold}
-use Rattle.journal_read.specs.Journals.{lines_bytes, AreAllLines, AreMoreLines}
+use Rattle.journal_read.specs.Journals.{lines_bytes, Stands, HasNoHeader, AreAllLines, AreMoreLines}
 use Rattle.journal_read.proofs.Firsts.{same_line, line_some}
 use Rattle.shard_laws.specs.Queues.{Throughout}
 use Rattle.shard_laws.specs.Rule.{KeepsRule, KeepShareRule}
@@ -32,9 +32,9 @@ use Rattle.stream_run.specs.Streaming.{arrival_of, handling_in, result_in, IsUnd
 use Rattle.stream_run.specs.declared.stop.Stop.{Stop}
 use Rattle.replay_run.specs.Replaying.{RunKind, Beside, line_in, journal_lines, sent, IsRun, IsRunBy, AreFirstIn, NoneGoesOn, BeginsWith, IsWrong, IsRight, IsJournal, Replays}
 use Rattle.replay_run.specs.Queues.{keys_or_none}
-use Rattle.replay_run.specs.Heads.{HasNoHeaderFor, IsHeaded, Comes}
+use Rattle.replay_run.specs.Heads.{Comes}
 use Rattle.replay_run.proofs.Ports.{same_front, first_front, same_packets}
-use Rattle.replay_run.specs.Laws.{IsThere, RightIsAccepted}
+use Rattle.replay_run.specs.Laws.{IsThere, RightIsAccepted, IsFirst, FirstIsFound}
 use Rattle.replay_run.specs.declared.replayed.Replayed.{Replayed}
 use Rattle.replay_run.specs.declared.replayed.Replayed.TheVariants.{Same, TooMany, Line, Output}
 
@@ -277,33 +277,24 @@ module _ (f : Function) (keys : Option Keys) (heading : Heading) (ports : ℕ) (
       let same : Header other ≡ Header heading = same_line (Header other) (Header heading) rest (lines_bytes (map line_in hs)) is there.header (sym e) in
       cc
 
-  first_of : (other : Heading) (came : Replayed) → IsHeading other → Replays {E = Stop} (IsRun f (keys_or_none keys) other) other ports beside (Ok came) → other ≡ heading
-  first_of other (Same s) is r =
-      let told = subst (λ (o : Option (List ℕ)). AreAllLines o (journal_lines other r.hs)) there.journal_is r.journal_is.whole in
-      same_first other (lines_bytes (map line_in r.hs)) is told
-  first_of other TooMany is r =
-      let more = subst (λ (o : Option (List ℕ)). AreMoreLines o (journal_lines other r.hs)) there.journal_is r.more in
-      same_first other (lines_bytes (map line_in r.hs) ++ more.rest) is (more.behind ∙ append_assoc (line_bytes (Header other)) (lines_bytes (map line_in r.hs)) more.rest)
-  first_of other (Line n) is r =
-      let wrong = subst (λ (o : Option (List ℕ)). IsWrong (IsRun f (keys_or_none keys) other) other beside.packets r.hs o) there.journal_is r.wrong in
-      same_first other (lines_bytes (map line_in r.hs) ++ wrong.rest) is (wrong.behind ∙ append_assoc (line_bytes (Header other)) (lines_bytes (map line_in r.hs)) wrong.rest)
-  first_of other (Output port) is r =
-      let told = subst (λ (o : Option (List ℕ)). AreAllLines o (journal_lines other r.hs)) there.journal_is r.journal_is.whole in
-      same_first other (lines_bytes (map line_in r.hs)) is told
+  pub all_accepted : (came : Replayed) → Comes {E = Stop} f keys heading ports beside (Ok came) → came ≡ Same state
+  all_accepted (Same s) h = accepted (Same s) h.replays
+  all_accepted TooMany h = accepted TooMany h.replays
+  all_accepted (Output port) h = accepted (Output port) h.replays
+  all_accepted (Line n) (inr h) = accepted (Line n) h.replays
+  all_accepted (Line n) (inl h) = absurd (h.none there.keyed)
 
-  headed_accepted : (came : Replayed) → IsHeaded f keys ports beside came → came ≡ Same state
-  headed_accepted came h =
-      let same : h.heading ≡ heading = first_of h.heading came h.is_heading h.replays in
-      accepted came (subst (λ (x : Heading). Replays {E = Stop} (IsRun f (keys_or_none keys) x) x ports beside (Ok came)) same h.replays)
-
-  pub all_accepted : (came : Replayed) → Comes {E = Stop} f keys ports beside (Ok came) → came ≡ Same state
-  all_accepted (Same s) h = headed_accepted (Same s) h
-  all_accepted TooMany h = headed_accepted TooMany h
-  all_accepted (Output port) h = headed_accepted (Output port) h
-  all_accepted (Line n) (inr h) = headed_accepted (Line n) h
-  all_accepted (Line n) (inl h) =
-      let none = subst (HasNoHeaderFor keys) there.journal_is h.none in
-      absurd (none heading (lines_bytes (map line_in hs)) there.header there.keyed refl)
+  pub first_found : IsFirst heading beside.journal
+  first_found = record {
+    some = λ none. subst HasNoHeader there.journal_is none heading (lines_bytes (map line_in hs)) there.header refl;
+    one = λ other v left is stands.
+        let told = subst (λ (o : Option (List ℕ)). Stands o (Header other ∷ []) v (Some left)) there.journal_is stands in
+        same_first other (v.held ++ left) is
+        (told ∙ append_assoc (lines_bytes (Header other ∷ [])) v.held left ∙ ap (λ (l : List ℕ). l ++ (v.held ++ left)) (append-nil (line_bytes (Header other))));
+  }
 
 pub right_accepted : RightIsAccepted
 right_accepted f keys heading ports beside hs state came there r = all_accepted f keys heading ports beside hs state there came r
+
+pub first_is_found : FirstIsFound
+first_is_found f keys heading ports beside hs state there = first_found f keys heading ports beside hs state there

@@ -5,6 +5,7 @@ use Rattle.std.specs.Option.{option_map}
 use Rattle.std.proofs.lemmas.List.{length-map}
 use Rattle.std.proofs.lemmas.Bool.{lt-ltb}
 use Rattle.std.proofs.lemmas.Option.{slice_get-map, slice_get_within}
+use Rattle.nf_base.specs.declared.card.Card.{Card}
 use Rattle.nf_base.proofs.Mixes.{got_set}
 use Rattle.nf_files.specs.Told.{Told, IsToldAs}
 use Rattle.nf_files.specs.Pieces.{Takes}
@@ -84,11 +85,11 @@ found_none c told fresh = subst (λ (b : Bool). FoundSo b [] (told.rest c.file) 
 pub piece_sent : (ports k : ℕ) (h : Handled) → k < ports → piece ports k h ≡ sent_bytes k h
 piece_sent ports k h lt = ap (λ (b : Bool). cond b (sent_bytes k h) (line_of h)) (lt-ltb k ports lt)
 
-pub sent_more : (mode : Mode) (workers ports k : ℕ) (hs : List Handled) (h : Handled) → k < ports → bytes_of mode workers ports k hs ++ sent_bytes k h ≡ bytes_of mode workers ports k (hs ++ h ∷ [])
-sent_more mode workers ports k hs h lt = ap (λ (t : List ℕ). bytes_of mode workers ports k hs ++ t) (sym (piece_sent ports k h lt)) ∙ sym (bytes_more mode workers ports k hs h)
+pub sent_more : (mode : Mode) (workers : ℕ) (card : Card) (ports k : ℕ) (hs : List Handled) (h : Handled) → k < ports → bytes_of mode workers card ports k hs ++ sent_bytes k h ≡ bytes_of mode workers card ports k (hs ++ h ∷ [])
+sent_more mode workers card ports k hs h lt = ap (λ (t : List ℕ). bytes_of mode workers card ports k hs ++ t) (sym (piece_sent ports k h lt)) ∙ sym (bytes_more mode workers card ports k hs h)
 
-pub sent_none : (mode : Mode) (workers ports k : ℕ) → k < ports → header_bytes ≡ bytes_of mode workers ports k []
-sent_none mode workers ports k lt = ap (λ (b : Bool). cond b header_bytes (header_line mode workers)) (sym (lt-ltb k ports lt)) ∙ sym (bytes_none mode workers ports k)
+pub sent_none : (mode : Mode) (workers : ℕ) (card : Card) (ports k : ℕ) → k < ports → header_bytes ≡ bytes_of mode workers card ports k []
+sent_none mode workers card ports k lt = ap (λ (b : Bool). cond b header_bytes (header_line mode workers card)) (sym (lt-ltb k ports lt)) ∙ sym (bytes_none mode workers card ports k)
 
 -- other outputs stay as they were found
 pub found_still : (bytes : ℕ → List ℕ) (start : ℕ → Option (List ℕ)) (all : List Comparing) (old new : Told) → ((k : ℕ) (c : Comparing) → slice_get all k ≡ Some c → new.rest c.file ≡ old.rest c.file) → AreFound bytes start all old → AreFound bytes start all new

@@ -99,7 +99,7 @@ shown_is packet original frame feed o f = rw (o, f) refl
 
 -- the outputs were not read on meanwhile
 pub compares_after : (h : Handled) (held found : List Comparing) (old read now : Told) → ((k : ℕ) (c : Comparing) → slice_get held k ≡ Some c → read.rest c.file ≡ old.rest c.file) → Compares h held found read now → Compares h held found old now
-compares_after h held found old read now same step = λ start mode workers ports hs few was. step start mode workers ports hs few (found_still (λ k. bytes_of mode workers ports k hs) start held old read same was)
+compares_after h held found old read now same step = λ start mode workers card ports hs few was. step start mode workers card ports hs few (found_still (λ k. bytes_of mode workers card ports k hs) start held old read same was)
 
 -- ---- captures, while other files are read
 
@@ -160,7 +160,7 @@ reached_more Run heading ports start bytes rest file old mid new feed next journ
           subst (λ (o : Option (List ℕ)). Stands bytes (journal_lines heading (r.hs ++ h ∷ [])) read o) (sym same)
           (subst (λ (ls : List JournalLine). Stands bytes ls read (mid.rest file)) is on.1);
       are_lines = lines_all r.hs h r.are_lines (subst IsLine (sym turn.is_line) on.0);
-      compared = turn.compares rest heading.mode heading.workers ports r.hs few (found_still (sent heading ports r.hs) rest held old mid outputs r.compared);
+      compared = turn.compares rest heading.mode heading.workers heading.card ports r.hs few (found_still (sent heading ports r.hs) rest held old mid outputs r.compared);
       count = omega (arith, length-append r.hs (h ∷ []), r.count);
     }
 

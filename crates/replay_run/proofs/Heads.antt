@@ -1,17 +1,11 @@
 -- The first line of a journal.
-use Rattle.std.proofs.Common.{◌≡◌, ℕ, ◌<◌, List, [], ◌∷◌, ◌++◌, map, Option, Some, None, Result, Ok, Err, inl, inr, sym, ap, ◌∙◌, subst, append_assoc, append-nil, arith}
+use Rattle.std.proofs.Common.{◌≡◌, ℕ, ◌<◌, List, [], ◌++◌, map, Option, Some, None, Result, Ok, Err, inl, inr, sym, ap, ◌∙◌, subst, arith}
 use Rattle.nf_base.specs.declared.keys.Keys.{Keys}
 use Rattle.nf_base.specs.declared.state.State.{State}
 use Rattle.nf_base.specs.Text.{Function}
 use Rattle.packet_feed.specs.Arrivals.{Arrival}
 use Rattle.run_history.specs.Headings.{Heading, IsHeading}
-use Rattle.run_history.specs.declared.line.Mode.{Mode}
-use Rattle.run_history.specs.declared.line.Mode.TheVariants.{One}
-use Rattle.run_history.specs.declared.line.JournalLine.{JournalLine}
-use Rattle.run_history.specs.declared.line.JournalLine.TheVariants.{Header, Packet}
-use Rattle.run_history.specs.Line.{line_bytes}
-use Rattle.journal_read.specs.Journals.{Reading, Stands, HasNoHeader, AreAllLines, AreMoreLines}
-use Rattle.journal_read.proofs.Firsts.{same_line}
+use Rattle.journal_read.specs.Journals.{Reading, Stands, AreAllLines, AreMoreLines}
 use Rattle.stream_run.specs.declared.stop.Stop.{Stop}
 use Rattle.stream_run.specs.Runs.{Handled}
 use Rattle.stream_run.specs.Streaming.{arrival_of}
@@ -19,7 +13,7 @@ use Rattle.nf_files.specs.Told.{IsToldAs}
 use Rattle.file_match.specs.Comparing.{IsOtherIfTold}
 use Rattle.replay_run.specs.Queues.{keys_or_none, IsKeyedBy}
 use Rattle.replay_run.specs.Replaying.{RunKind, Beside, IsRun, AreFirstIn, IsWrong, IsRight, IsJournal, Replays, AreSent, journal_lines, sent}
-use Rattle.replay_run.specs.Heads.{HasNoHeaderFor, IsHeaded, Comes}
+use Rattle.replay_run.specs.Heads.{IsHeaded, Comes}
 use Rattle.replay_run.specs.declared.replayed.Replayed.{Replayed}
 use Rattle.replay_run.specs.declared.replayed.Replayed.TheVariants.{Same, TooMany, Line, Output}
 
@@ -28,34 +22,14 @@ pub stands_none : (o : Option (List ℕ)) (v : Reading) → v.held ≡ [] → St
 stands_none None v e = tt
 stands_none (Some all) v e = ap (λ (t : List ℕ). t ++ all) (sym e)
 
-pub headless : (keys : Option Keys) (start : Option (List ℕ)) → HasNoHeader start → HasNoHeaderFor keys start
-headless keys None h = tt
-headless keys (Some all) h = λ heading later is keyed e. h heading later is e
-
--- the mode that a first line tells
-abbrev mode_in : JournalLine → Mode
-mode_in (Header heading) = heading.mode
-mode_in (Packet id worker action picks) = One
-
-pub unkeyed : (keys : Option Keys) (heading : Heading) (start now : Option (List ℕ)) (v : Reading) → IsHeading heading → (IsKeyedBy heading.mode keys → ⊥) → Stands start (Header heading ∷ []) v now → HasNoHeaderFor keys start
-unkeyed keys heading None now v is none t = tt
-unkeyed keys heading (Some all) None v is none t = absurd t
-unkeyed keys heading (Some all) (Some left) v is none t = λ other later is_other keyed e.
-    let mine = line_bytes (Header heading) in
-    let behind = v.held ++ left in
-    let whole : line_bytes (Header other) ++ later ≡ mine ++ behind =
-    e ∙ t ∙ append_assoc (mine ++ []) v.held left ∙ ap (λ (l : List ℕ). l ++ behind) (append-nil mine) in
-    let same : Header other ≡ Header heading = same_line (Header other) (Header heading) later behind is_other is whole in
-    none (subst (λ (m : Mode). IsKeyedBy m keys) (ap mode_in same) keyed)
-
 -- ---- what a replay comes to
 
-pub headed : (f : Function) (keys : Option Keys) (ports : ℕ) (beside : Beside) (heading : Heading) (r : Result Replayed Stop) → IsHeading heading → IsKeyedBy heading.mode keys → Replays (IsRun f (keys_or_none keys) heading) heading ports beside r → Comes f keys ports beside r
-headed f keys ports beside heading (Ok (Same state)) is keyed h = record { heading = heading; is_heading = is; keyed = keyed; replays = h }
-headed f keys ports beside heading (Ok TooMany) is keyed h = record { heading = heading; is_heading = is; keyed = keyed; replays = h }
-headed f keys ports beside heading (Ok (Line line)) is keyed h = inr (record { heading = heading; is_heading = is; keyed = keyed; replays = h })
-headed f keys ports beside heading (Ok (Output port)) is keyed h = record { heading = heading; is_heading = is; keyed = keyed; replays = h }
-headed f keys ports beside heading (Err e) is keyed h = tt
+pub headed : (f : Function) (keys : Option Keys) (heading : Heading) (ports : ℕ) (beside : Beside) (r : Result Replayed Stop) → IsHeading heading → IsKeyedBy heading.mode keys → Replays (IsRun f (keys_or_none keys) heading) heading ports beside r → Comes f keys heading ports beside r
+headed f keys heading ports beside (Ok (Same state)) is keyed h = record { is_heading = is; keyed = keyed; replays = h }
+headed f keys heading ports beside (Ok TooMany) is keyed h = record { is_heading = is; keyed = keyed; replays = h }
+headed f keys heading ports beside (Ok (Line line)) is keyed h = inr (record { is_heading = is; keyed = keyed; replays = h })
+headed f keys heading ports beside (Ok (Output port)) is keyed h = record { is_heading = is; keyed = keyed; replays = h }
+headed f keys heading ports beside (Err e) is keyed h = tt
 
 -- ---- the same, of what is told at another time
 
@@ -112,21 +86,20 @@ replays_as Run heading ports one other (Ok (Output port)) packets journal most o
 }
 replays_as Run heading ports one other (Err e) packets journal most outputs h = tt
 
-headed_as : (f : Function) (keys : Option Keys) (ports : ℕ) (one other : Beside) (came : Replayed) → other.packets ≡ one.packets → other.journal ≡ one.journal → other.most ≡ one.most → ((port : ℕ) → port < ports → other.outputs port ≡ one.outputs port)
-    → IsHeaded f keys ports one came → IsHeaded f keys ports other came
-headed_as f keys ports one other came packets journal most outputs h = record {
-  heading = h.heading;
+headed_as : (f : Function) (keys : Option Keys) (heading : Heading) (ports : ℕ) (one other : Beside) (came : Replayed) → other.packets ≡ one.packets → other.journal ≡ one.journal → other.most ≡ one.most → ((port : ℕ) → port < ports → other.outputs port ≡ one.outputs port)
+    → IsHeaded f keys heading ports one came → IsHeaded f keys heading ports other came
+headed_as f keys heading ports one other came packets journal most outputs h = record {
   is_heading = h.is_heading;
   keyed = h.keyed;
-  replays = replays_as (IsRun f (keys_or_none keys) h.heading) h.heading ports one other (Ok came) packets journal most outputs h.replays;
+  replays = replays_as (IsRun f (keys_or_none keys) heading) heading ports one other (Ok came) packets journal most outputs h.replays;
 }
 
 -- what a replay comes to, of the same that is told
-pub comes_as : (f : Function) (keys : Option Keys) (ports : ℕ) (one other : Beside) (r : Result Replayed Stop) → other.packets ≡ one.packets → other.journal ≡ one.journal → other.most ≡ one.most → ((port : ℕ) → port < ports → other.outputs port ≡ one.outputs port)
-    → Comes f keys ports one r → Comes f keys ports other r
-comes_as f keys ports one other (Ok (Same state)) packets journal most outputs h = headed_as f keys ports one other (Same state) packets journal most outputs h
-comes_as f keys ports one other (Ok TooMany) packets journal most outputs h = headed_as f keys ports one other TooMany packets journal most outputs h
-comes_as f keys ports one other (Ok (Line line)) packets journal most outputs (inl h) = inl (record { first = h.first; none = subst (HasNoHeaderFor keys) (sym journal) h.none })
-comes_as f keys ports one other (Ok (Line line)) packets journal most outputs (inr h) = inr (headed_as f keys ports one other (Line line) packets journal most outputs h)
-comes_as f keys ports one other (Ok (Output port)) packets journal most outputs h = headed_as f keys ports one other (Output port) packets journal most outputs h
-comes_as f keys ports one other (Err e) packets journal most outputs h = tt
+pub comes_as : (f : Function) (keys : Option Keys) (heading : Heading) (ports : ℕ) (one other : Beside) (r : Result Replayed Stop) → other.packets ≡ one.packets → other.journal ≡ one.journal → other.most ≡ one.most → ((port : ℕ) → port < ports → other.outputs port ≡ one.outputs port)
+    → Comes f keys heading ports one r → Comes f keys heading ports other r
+comes_as f keys heading ports one other (Ok (Same state)) packets journal most outputs h = headed_as f keys heading ports one other (Same state) packets journal most outputs h
+comes_as f keys heading ports one other (Ok TooMany) packets journal most outputs h = headed_as f keys heading ports one other TooMany packets journal most outputs h
+comes_as f keys heading ports one other (Ok (Line line)) packets journal most outputs (inl h) = inl h
+comes_as f keys heading ports one other (Ok (Line line)) packets journal most outputs (inr h) = inr (headed_as f keys heading ports one other (Line line) packets journal most outputs h)
+comes_as f keys heading ports one other (Ok (Output port)) packets journal most outputs h = headed_as f keys heading ports one other (Output port) packets journal most outputs h
+comes_as f keys heading ports one other (Err e) packets journal most outputs h = tt

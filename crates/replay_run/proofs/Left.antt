@@ -2,6 +2,7 @@
 use Rattle.std.proofs.Common.{◌≡◌, ℕ, ◌%◌, List, [], ◌∷◌, ◌++◌, length, map, Some, refl, sym, ap, ◌∙◌, subst, arith}
 use Rattle.std.specs.List.{AllByRecursion, flat_map}
 use Rattle.std.proofs.lemmas.List.{length-map}
+use Rattle.nf_base.specs.declared.card.Card.{Card}
 use Rattle.nf_base.specs.declared.done.Done.{Done}
 use Rattle.nf_base.specs.declared.state.State.{State}
 use Rattle.nf_base.specs.Text.{Function}
@@ -60,7 +61,7 @@ journal_is : (r : Run) → file_bytes r (length r.function.handlers) ≡ lines_b
 journal_is r = are_lines r ∙ ap (λ (t : List ℕ). line_bytes (Header (heading_of r)) ++ t) (lines_are (handled_in r))
 
 pub one_right : OneRunsAreRight
-one_right f most all r state answers is e =
+one_right f card most all r state answers is e =
     let legal : IsLegal r = record { result = record { state = state; answers = answers }; ran = e } in
     record {
       is_run = record {
@@ -72,7 +73,7 @@ one_right f most all r state answers is e =
     }
 
 pub shard_right : ShardRunsAreRight
-shard_right f keys workers r state answers is e =
+shard_right f keys workers card r state answers is e =
     let legal : IsLegal r = record { result = record { state = state; answers = answers }; ran = e } in
     record {
       is_run = record {
@@ -87,7 +88,7 @@ shard_right f keys workers r state answers is e =
     }
 
 pub lock_right : LockRunsAreRight
-lock_right f workers r state answers is e =
+lock_right f workers card r state answers is e =
     let legal : IsLegal r = record { result = record { state = state; answers = answers }; ran = e } in
     record {
       is_run = record {
@@ -104,49 +105,52 @@ paired_again : (hs : List Handled) → paired (map turn_of hs) (map (λ (h : Han
 paired_again [] = refl
 paired_again (h ∷ hs) = ap (λ (t : List Handled). h ∷ t) (paired_again hs)
 
-handled_of : (f : Function) (mode : Mode) (workers : ℕ) (hs : List Handled) (state : State) → IsUndivided f hs state → handled_in (run_of f mode workers hs) ≡ hs
-handled_of f mode workers hs state u = handled_is (run_of f mode workers hs) (result_in hs state) (ran_of f mode workers hs state u) ∙ paired_again hs
+handled_of : (f : Function) (mode : Mode) (workers : ℕ) (card : Card) (hs : List Handled) (state : State) → IsUndivided f hs state → handled_in (run_of f mode workers card hs) ≡ hs
+handled_of f mode workers card hs state u = handled_is (run_of f mode workers card hs) (result_in hs state) (ran_of f mode workers card hs state u) ∙ paired_again hs
 
 turns_of : (P : Turn → Type 0) (hs : List Handled) → AllByRecursion (λ (h : Handled). P (turn_of h)) hs → AllByRecursion P (map turn_of hs)
 turns_of P [] h = tt
 turns_of P (x ∷ hs) h = (h.0, turns_of P hs h.1)
 
 pub taken_one : TakenAreOneRuns
-taken_one f most all hs state r within first = (
+taken_one f card most all hs state r within first = (
   record {
     function = refl;
     mode = refl;
     workers = refl;
+    card_is = refl;
     alone = turns_of (λ (t : Turn). t.worker ≡ 0) hs r.alone;
-    legal = record { result = result_in hs state; ran = ran_of f One 1 hs state r.undivided };
+    legal = record { result = result_in hs state; ran = ran_of f One 1 card hs state r.undivided };
     within = omega (arith, length-map hs turn_of, within);
     packets = subst (AreTheFirst most all) (sym (same_arrivals hs)) first;
   },
-  handled_of f One 1 hs state r.undivided,
+  handled_of f One 1 card hs state r.undivided,
 )
 
 pub taken_shard : TakenAreShardRuns
-taken_shard f keys workers hs state s = (
+taken_shard f keys workers card hs state s = (
   record {
     function = refl;
     mode = refl;
     workers_are = refl;
+    card_is = refl;
     queues = turns_of (λ (t : Turn). t.worker ≡ queue_by keys workers t.arrival.packet) hs s.queues;
-    legal = record { result = result_in hs state; ran = ran_of f Shard workers hs state s.undivided };
+    legal = record { result = result_in hs state; ran = ran_of f Shard workers card hs state s.undivided };
     share = s.share;
     shares = s.shares;
     rule = subst (KeepShareRule s.share (queue_by keys workers) f (opening f)) (sym (same_handlings hs)) s.rule;
   },
-  handled_of f Shard workers hs state s.undivided,
+  handled_of f Shard workers card hs state s.undivided,
 )
 
 pub taken_lock : TakenAreLockRuns
-taken_lock f workers hs state s = (
+taken_lock f workers card hs state s = (
   record {
     function = refl;
     mode = refl;
     workers_are = refl;
+    card_is = refl;
     own = turns_of (λ (t : Turn). t.worker ≡ t.arrival.packet.id.port % workers) hs s.own;
   },
-  handled_of f Lock workers hs state s.undivided,
+  handled_of f Lock workers card hs state s.undivided,
 )

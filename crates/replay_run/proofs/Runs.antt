@@ -218,11 +218,11 @@ last_goes f keys heading hs h old s some keyed r more = of_mode heading.mode key
     p : Packet
     p = h.arrival.packet
 
-    told : (mode : Mode) (q : ℕ) → h.worker ≡ worker_by mode heading.workers q p.id.port → line_in h ≡ judging.line_of (record { mode = mode; workers = heading.workers }) q (record { packet = p; done = h.done })
+    told : (mode : Mode) (q : ℕ) → h.worker ≡ worker_by mode heading.workers q p.id.port → line_in h ≡ judging.line_of (record { mode = mode; workers = heading.workers; card = heading.card }) q (record { packet = p; done = h.done })
     told mode q e = ap (λ (n : ℕ). line.Packet p.id n h.done.action h.done.picks) e
 
     of_mode : (mode : Mode) (ks : Option (Bor Keys)) → IsKeyed mode ks → IsRunBy mode heading.workers f (keys_in ks) hs old → IsRunBy mode heading.workers f (keys_in ks) (hs ++ h ∷ []) s
-        → IsLastOf f (record { mode = mode; workers = heading.workers }) (queue_in ks heading.workers p) old h
+        → IsLastOf f (record { mode = mode; workers = heading.workers; card = heading.card }) (queue_in ks heading.workers p) old h
     of_mode One ks keyed run longer = record {
       next = record { state = s; done = h.done };
       steps = record { ruled = tt; steps = undivided_last f hs h old s run.undivided longer.undivided };

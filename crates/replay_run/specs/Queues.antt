@@ -2,6 +2,7 @@
 use Rattle.std.specs.Prelude.{ℕ, [], Option, Some, None}
 use denote.Ref.{Bor}
 use Rattle.nf_base.specs.declared.keys.Keys.{Keys}
+use Rattle.nf_base.specs.Cards.{usual_card}
 use Rattle.nf_base.specs.declared.packet.Packet.{Packet}
 use Rattle.run_history.specs.declared.line.Mode.{Mode}
 use Rattle.run_history.specs.declared.line.Mode.TheVariants.{One, Shard, Lock}
@@ -14,7 +15,7 @@ lent (Some keys) = Some keys.now
 
 -- keys, none of which is for a port where none are given
 abbrev pub keys_or_none : Option Keys → Keys
-keys_or_none None = record { ports = [] }
+keys_or_none None = record { table = usual_card.table; ports = [] }
 keys_or_none (Some keys) = keys
 
 abbrev pub keys_in : Option (Bor Keys) → Keys

@@ -106,7 +106,7 @@ pub record IsRight (Run : RunKind) (heading : Heading) (beside : Beside) (hs : L
 
 -- what outputs hold, by port
 abbrev pub sent : Heading → ℕ → List Handled → ℕ → List ℕ
-sent heading ports hs port = bytes_of heading.mode heading.workers ports port hs
+sent heading ports hs port = bytes_of heading.mode heading.workers heading.card ports port hs
 
 -- the outputs of these ports hold these bytes, where they are told
 abbrev pub AreSent : (ℕ → List ℕ) → (ℕ → Option (List ℕ)) → ℕ → Type 0

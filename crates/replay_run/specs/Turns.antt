@@ -1,6 +1,7 @@
 -- One line more of a journal, and its packet.
 use Rattle.std.specs.Prelude.{◌≡◌, ◌≢◌, ℕ, ◌+◌, ◌≤◌, Bool, true, false, List, [], ◌∷◌, ◌++◌, length, map, slice_get, option_and_then, Option, Some, None, Result, Ok, Err}
 use Rattle.std.specs.List.{All, AllByRecursion}
+use Rattle.nf_base.specs.declared.card.Card.{Card}
 use Rattle.nf_base.specs.declared.packet.Packet.{Packet}
 use Rattle.nf_base.specs.declared.done.Done.{Done}
 use Rattle.nf_base.specs.declared.state.State.{State}
@@ -78,8 +79,8 @@ CountsOne old new (Err e) = Unit {0}
 -- what a packet left was compared with the outputs
 abbrev pub Compares : Handled → List Comparing → List Comparing → Told → Told → Type 0
 Compares h held found old now =
-    (start : ℕ → Option (List ℕ)) (mode : Mode) (workers ports : ℕ) (hs : List Handled) → length held ≤ ports →
-    AreFound (λ k. bytes_of mode workers ports k hs) start held old → AreFound (λ k. bytes_of mode workers ports k (hs ++ h ∷ [])) start found now
+    (start : ℕ → Option (List ℕ)) (mode : Mode) (workers : ℕ) (card : Card) (ports : ℕ) (hs : List Handled) → length held ≤ ports →
+    AreFound (λ k. bytes_of mode workers card ports k hs) start held old → AreFound (λ k. bytes_of mode workers card ports k (hs ++ h ∷ [])) start found now
 
 -- A line's packet was handled: it came next, the run goes on with it, and what it left was compared.
 pub record IsTurn (Run : RunKind) (mode : Mode) (line : JournalLine) (before after : State) (feed next : Feeding) (old now : Told) (held found : List Comparing) : Type 0 where

@@ -1,7 +1,7 @@
 //! Laws of replays.
 //!
 //! Each function's contract is a law; its body does nothing.
-ghost use Rattle.replay_run.specs.Laws.{OneRunsAreRight, ShardRunsAreRight, LockRunsAreRight, RightIsAccepted, TakenAreOneRuns, TakenAreShardRuns, TakenAreLockRuns, FirstAreOfPorts, OthersMayBeFirst, NoneIsPassedOver};
+ghost use Rattle.replay_run.specs.Laws.{OneRunsAreRight, ShardRunsAreRight, LockRunsAreRight, RightIsAccepted, FirstIsFound, TakenAreOneRuns, TakenAreShardRuns, TakenAreLockRuns, FirstAreOfPorts, OthersMayBeFirst, NoneIsPassedOver};
 
 /// What a run leaves is right: its packets are a run that a replay takes, and its journal and outputs
 /// hold what a replay asks for.
@@ -22,6 +22,11 @@ pub fn taken_are_runs()
 /// and tells the state that the run left, and nothing else.
 pub fn right_is_accepted()
     ensures { RightIsAccepted }
+{}
+
+/// The first line of a run's journal is found where that is there, and no other one.
+pub fn first_is_found()
+    ensures { FirstIsFound }
 {}
 
 /// Where each port's packets stand in their order: so they do in capture order; a packet of another port

@@ -2,6 +2,7 @@
 //! are read, and what their packets leave is compared with the outputs.
 #![tactic(auto)]
 
+mod begun;
 pub mod laws;
 mod lines;
 mod outputs;
@@ -10,5 +11,6 @@ mod replayed;
 mod replaying;
 mod turn;
 
+pub use begun::Begun;
 pub use replayed::Replayed;
-pub use replaying::replay;
+pub use replaying::{first_line, replay};

@@ -105,7 +105,8 @@ pub(crate) fn read_lines<F: Files>(
     requires mode { judge.old.heading.mode ≡ mode }
     requires keyed { IsKeyed judge.old.heading.mode keys }
     requires keys { IfSome keys (λ k. length func.now.handlers ≤ length k.now.ports) }
-    requires table { table.now ≡ even_table judge.old.heading.workers }
+    requires table { let workers = judge.old.heading.workers in
+        IfSome keys (λ k. table.now ≡ even_table k.now.table workers) }
     requires some { 0 < judge.old.heading.workers }
     // No line was judged yet.
     requires opens { let heading = judge.old.heading in

@@ -1,5 +1,6 @@
 //! Outputs that are compared side by side, by port.
 ghost use Rattle.std.specs.Prelude.{◌≡◌, ◌^◌, ◌≤◌, ◌∷◌, ◌++◌, [], ℕ, List, Option, Some, true, length, slice_get, IfOk, OnOk};
+ghost use Rattle.nf_base.specs.declared.card.Card.{Card};
 ghost use Rattle.nf_files.specs.Reads.{Keeps};
 ghost use Rattle.pcap_file.specs.Record.{greatest_time};
 ghost use Rattle.packet_feed.specs.Told.{EachFile, IsApart, KeepsOthers};
@@ -125,8 +126,8 @@ pub(crate) fn compare_headers<F: Files>(
     requires opened { EachFile (F.is_read files.old) (files_of all.old) }
     requires apart { IsApart (files_of all.old) }
     requires fresh { (k : ℕ) → (c : Comparing) → slice_get all.old k ≡ Some c → c.same ≡ true }
-    ensures compares { (mode : Mode) → (workers : ℕ) → OnOk result
-        (AreFound (λ k. bytes_of mode workers (length all.old) k [])
+    ensures compares { (mode : Mode) → (workers : ℕ) → (card : Card) → OnOk result
+        (AreFound (λ k. bytes_of mode workers card (length all.old) k [])
         (F.told files.old).rest all.new (F.told files.new)) }
     ensures same_files { files_of all.new ≡ files_of all.old }
     ensures kept { KeepsOthers (files_of all.old) (F.told files.old) (F.told files.new) }
@@ -163,10 +164,10 @@ pub(crate) fn compare_all<F: Files>(
     requires captured { length frame.now ≤ 262144 }
     // Whoever handled it.
     ensures compares { (worker : ℕ) → let h = came_to worker packet.now original frame.now done.now in
-        (start : ℕ → Option (List ℕ)) → (mode : Mode) → (workers : ℕ) → (ports : ℕ) →
-        (hs : List Handled) → length all.old ≤ ports →
-        AreFound (λ k. bytes_of mode workers ports k hs) start all.old (F.told files.old) →
-        OnOk result (AreFound (λ k. bytes_of mode workers ports k (hs ++ h ∷ []))
+        (start : ℕ → Option (List ℕ)) → (mode : Mode) → (workers : ℕ) → (card : Card) →
+        (ports : ℕ) → (hs : List Handled) → length all.old ≤ ports →
+        AreFound (λ k. bytes_of mode workers card ports k hs) start all.old (F.told files.old) →
+        OnOk result (AreFound (λ k. bytes_of mode workers card ports k (hs ++ h ∷ []))
         start all.new (F.told files.new)) }
     ensures same_files { files_of all.new ≡ files_of all.old }
     ensures kept { KeepsOthers (files_of all.old) (F.told files.old) (F.told files.new) }

@@ -8,14 +8,14 @@ ghost use Rattle.packet_feed.specs.Told.{EachFile, IsApart, KeepsOthers};
 ghost use Rattle.packet_feed.specs.Sources.{files_in, sixes_in};
 ghost use Rattle.run_history.specs.Headings.{IsHeading};
 ghost use Rattle.rss_table.specs.Tables.{even_table};
-ghost use Rattle.journal_read.specs.Journals.{Stands};
 ghost use Rattle.stream_run.specs.Writing.{IsStopCause, StopsAt, StopsAmong};
 ghost use Rattle.replay_run.specs.Outputs.{files_of, AreFound};
 ghost use Rattle.replay_run.specs.Queues.{lent, keys_in, IsKeyed};
 ghost use Rattle.replay_run.specs.Replaying.{IsRun, Replays, Finishes};
-ghost use Rattle.replay_run.specs.Turns.{IsStarted, Begins, beside_of};
-ghost use Rattle.replay_run.specs.Heads.{HeadsFor, Comes};
+ghost use Rattle.replay_run.specs.Turns.{Begins, beside_of};
+ghost use Rattle.replay_run.specs.Heads.{Heads, Comes};
 
+use crate::begun::Begun;
 use crate::lines::{End, read_lines};
 use crate::outputs::{begin, first_other};
 use crate::replayed::Replayed;
@@ -62,14 +62,14 @@ fn finish<F: Files>(
     }
 }
 
-// The table of a run's queues, of as many workers as its first line tells.
+// The table of a run's queues, of the card and of as many workers as its first line tells.
 fn table_of(header: &Header) -> Table
-    ensures table { result ≡ even_table header.now.workers }
+    ensures table { result ≡ even_table header.now.card.table header.now.workers }
     ensures heading { IsHeading header.now }
     ensures some { 0 < header.now.workers }
 {
     let _mode = header.mode();
-    Table::even(header.workers())
+    Table::even(header.workers(), header.card().table)
 }
 
 // Checks a journal, of which the header was read, and the outputs beside it.
@@ -87,6 +87,7 @@ fn replay_with<F: Files>(
 ) -> Result<Replayed, Stop>
     requires keyed { IsKeyed header.mode keys }
     requires keys { IfSome keys (λ k. length func.now.handlers ≤ length k.now.ports) }
+    requires of_card { IfSome keys (λ k. k.now.table ≡ header.card.table) }
     requires captures { files_in feed.old.sources ≡ captures.now }
     requires ports { length captures.now ≡ length func.now.handlers }
     requires six { sixes_in feed.old.sources ≡ six_ports (function_of func.now) }
@@ -159,34 +160,30 @@ fn is_keyed(mode: Mode, keys: Option<&Keys>) -> bool
     }
 }
 
-// The first line, of a journal of which nothing was read yet; None where it is no header, or one of
-// mode `shard` where no keys are given.
-fn first_line<F: Files>(
+/// The first line of a journal, of which nothing was read yet; None where it is no header.
+pub fn first_line<F: Files>(
     alloc: Global,
     files: &mut F,
-    keys: Option<&Keys>,
-    journal: &mut Journal,
-) -> Result<Option<Header>, Stop>
-    requires opened { F.is_read files.old journal.old.file }
-    ensures heads { let file = journal.old.file in
-        (start : Option (List ℕ)) → Stands start [] journal.old ((F.told files.old).rest file) →
-        HeadsFor (lent keys.entry) start journal.new ((F.told files.new).rest file) result }
-    ensures keyed { IfOk result (λ found. IfSome found (λ header. IsKeyed header.mode keys.entry)) }
-    ensures same_file { journal.new.file ≡ journal.old.file }
-    ensures kept { Keeps (F.told files.old) (F.told files.new) journal.old.file }
+    journal: u32,
+) -> Result<Option<Begun>, Stop>
+    requires opened { F.is_read files.old journal }
+    ensures heads { let old = (F.told files.old).rest journal in
+        Heads old ((F.told files.new).rest journal) result }
+    ensures same_file { IfOk result (λ found. IfSome found (λ begun. begun.lines.file ≡ journal)) }
+    ensures kept { Keeps (F.told files.old) (F.told files.new) journal }
     ensures cause { IsStopCause (F.counted files.old) (F.counted files.new) result }
-    ensures at { StopsAt journal.old.file result }
+    ensures at { StopsAt journal result }
     ensures reads { (g : ℕ) → F.is_read files.old g → F.is_read files.new g }
     ensures writes { (g : ℕ) → F.is_written files.old g → F.is_written files.new g }
 {
-    match journal.header(alloc, files) {
-        Ok(Some(header)) => if is_keyed(header.mode(), keys) {
-            Ok(Some(header))
-        } else {
-            Ok(None)
-        },
+    let mut lines = match Journal::new(alloc, journal) {
+        Ok(lines) => lines,
+        Err(_) => return Err(Stop::Memory),
+    };
+    match lines.header(alloc, files) {
+        Ok(Some(header)) => Ok(Some(Begun { lines, header })),
         Ok(None) => Ok(None),
-        Err(fault) => Err(Stop::of(journal.file(), fault)),
+        Err(fault) => Err(Stop::of(journal, fault)),
     }
 }
 
@@ -199,11 +196,11 @@ fn first_line<F: Files>(
 /// stopped as well, a line that keeps to this is right. In mode `lock` the packets of each port stand in
 /// their order, each handled by the worker whose number is its port modulo theirs.
 ///
-/// The captures are those of the feed, which gave no packet yet, and `most` is how many it gives at
-/// most. The outputs are in the order of their ports; nothing was read of them and of the journal yet.
-/// The journal may end early. Of as many lines of packets as `most` each is judged; what stands behind
-/// them is not. Of no file more is held than what was read at once and a record. The feed and the files
-/// are not to be used on.
+/// The keys are for the card that the first line tells. The captures are those of the feed, which gave no
+/// packet yet, and `most` is how many it gives at most. The outputs are in the order of their ports;
+/// nothing was read of them yet, and of the journal the first line alone. The journal may end early. Of as
+/// many lines of packets as `most` each is judged; what stands behind them is not. Of no file more is held
+/// than what was read at once and a record. The feed and the files are not to be used on.
 pub fn replay<F: Files>(
     alloc: Global,
     files: &mut F,
@@ -212,10 +209,11 @@ pub fn replay<F: Files>(
     feed: &mut Feed,
     most: u32,
     captures: &[u32],
-    journal: u32,
+    begun: Begun,
     outputs: &[u32],
 ) -> Result<Replayed, Stop>
     requires keys { IfSome keys (λ k. length func.now.handlers ≤ length k.now.ports) }
+    requires of_card { IfSome keys (λ k. k.now.table ≡ begun.header.card.table) }
     requires captures { files_in feed.old.sources ≡ captures.now }
     requires ports { length captures.now ≡ length func.now.handlers }
     requires six { sixes_in feed.old.sources ≡ six_ports (function_of func.now) }
@@ -223,34 +221,30 @@ pub fn replay<F: Files>(
     requires most { feed.old.most ≡ most }
     requires read { EachFile (F.is_read files.old) captures.now }
     requires opened { EachFile (F.is_read files.old) outputs.now }
-    requires opened_journal { F.is_read files.old journal }
+    requires opened_journal { F.is_read files.old begun.lines.file }
     // No file stands there twice.
-    requires apart { IsApart (captures.now ++ journal ∷ outputs.now) }
+    requires apart { IsApart (captures.now ++ begun.lines.file ∷ outputs.now) }
     requires as_many { length outputs.now ≡ length captures.now }
     requires few { length outputs.now ≤ 2 ^ 32 }
     // All lines are those of a run and the outputs are its, or the first line or the least output
     // that isn't is told, or there are more lines than were asked for.
-    ensures comes { let told = F.told files.old in
-        (start : Told) → IsStarted start feed.old told →
-        Comes (function_of func.now) (lent keys.entry) (length captures.now)
-        (beside_of feed.old start (told.rest journal) outputs.now told most) result }
-    ensures kept { let all = captures.now ++ journal ∷ outputs.now in
+    ensures comes { (start : Told) → (bytes : Option (List ℕ)) →
+        Begins begun.header feed.old begun.lines start bytes (F.told files.old) →
+        Comes (function_of func.now) (lent keys.entry) begun.header (length captures.now)
+        (beside_of feed.old start bytes outputs.now (F.told files.old) most) result }
+    ensures kept { let all = captures.now ++ begun.lines.file ∷ outputs.now in
         KeepsOthers all (F.told files.old) (F.told files.new) }
     ensures cause { IsStopCause (F.counted files.old) (F.counted files.new) result }
     // The file that failed is one of the captures, the journal or one of the outputs.
-    ensures among { StopsAmong captures.now (journal ∷ outputs.now) result }
+    ensures among { StopsAmong captures.now (begun.lines.file ∷ outputs.now) result }
     ensures reads { (g : ℕ) → F.is_read files.old g → F.is_read files.new g }
     ensures writes { (g : ℕ) → F.is_written files.old g → F.is_written files.new g }
 {
-    let mut lines = match Journal::new(alloc, journal) {
-        Ok(lines) => lines,
-        Err(_) => return Err(Stop::Memory),
-    };
-    let header = match first_line(alloc, files, keys, &mut lines) {
-        Ok(Some(header)) => header,
-        Ok(None) => return Ok(Replayed::Line(1)),
-        Err(stop) => return Err(stop),
-    };
+    let Begun { lines, header } = begun;
+    if !is_keyed(header.mode(), keys) {
+        return Ok(Replayed::Line(1));
+    }
+    let mut lines = lines;
     replay_with(
         alloc, files, func, keys, feed, most, captures, &mut lines, header, outputs,
     )

@@ -29,7 +29,8 @@ use stream_run::Stop;
 // The queue of a packet, of so many workers; 0 where no keys are given.
 fn queue_of(keys: Option<&Keys>, table: &Table, packet: &Packet) -> u32
     requires port { IfSome keys (λ k. packet.now.id.port < length k.now.ports) }
-    ensures { (workers : ℕ) → table.now ≡ even_table workers →
+    ensures { (workers : ℕ) →
+        IfSome keys.entry (λ k. table.now ≡ even_table k.now.table workers) →
         result ≡ queue_in keys.entry workers packet.now }
 {
     match keys {
@@ -57,7 +58,8 @@ pub(crate) fn one_turn<F: Files>(
     requires mode { judge.old.heading.mode ≡ mode }
     requires keyed { IsKeyed judge.old.heading.mode keys }
     requires keys { IfSome keys (λ k. length func.now.handlers ≤ length k.now.ports) }
-    requires table { table.now ≡ even_table judge.old.heading.workers }
+    requires table { let workers = judge.old.heading.workers in
+        IfSome keys (λ k. table.now ≡ even_table k.now.table workers) }
     requires some { 0 < judge.old.heading.workers }
     requires captures { files_in feed.old.sources ≡ captures.now }
     requires ports { length captures.now ≡ length func.now.handlers }

@@ -10,7 +10,7 @@ use nf_base::func::Func;
 use nf_base::keys::Keys;
 use nf_files::{Files, FilesFault};
 use packet_feed::{Feed, FeedFault};
-use replay_run::{Replayed, replay};
+use replay_run::{Begun, Replayed, first_line, replay};
 use std::alloc::Global;
 use stream_run::Stop;
 
@@ -53,6 +53,15 @@ pub fn start<F: Files>(
     Feed::start(alloc, files, func, captures, most)
 }
 
+/// Reads the first line of a journal.
+pub fn begin<F: Files>(alloc: Global, files: &mut F, journal: u32) -> Result<Option<Begun>, Stop>
+    requires opened { F.is_read files.old journal }
+    ensures same_file { IfOk result (λ found. IfSome found (λ begun. begun.lines.file ≡ journal)) }
+    ensures reads { (g : ℕ) → F.is_read files.old g → F.is_read files.new g }
+{
+    first_line(alloc, files, journal)
+}
+
 /// Checks a journal and outputs beside captures.
 pub fn check<F: Files>(
     alloc: Global,
@@ -62,10 +71,11 @@ pub fn check<F: Files>(
     feed: &mut Feed,
     most: u32,
     captures: &[u32],
-    journal: u32,
+    begun: Begun,
     outputs: &[u32],
 ) -> Result<Replayed, Stop>
     requires keys { IfSome keys (λ k. length func.now.handlers ≤ length k.now.ports) }
+    requires of_card { IfSome keys (λ k. k.now.table ≡ begun.header.card.table) }
     requires captures { files_in feed.old.sources ≡ captures.now }
     requires ports { length captures.now ≡ length func.now.handlers }
     requires six { sixes_in feed.old.sources ≡ six_ports (function_of func.now) }
@@ -73,12 +83,12 @@ pub fn check<F: Files>(
     requires most { feed.old.most ≡ most }
     requires read { EachFile (F.is_read files.old) captures.now }
     requires opened { EachFile (F.is_read files.old) outputs.now }
-    requires opened_journal { F.is_read files.old journal }
-    requires apart { IsApart (captures.now ++ journal ∷ outputs.now) }
+    requires opened_journal { F.is_read files.old begun.lines.file }
+    requires apart { IsApart (captures.now ++ begun.lines.file ∷ outputs.now) }
     requires as_many { length outputs.now ≡ length captures.now }
     requires few { length outputs.now ≤ 2 ^ 32 }
 {
     replay(
-        alloc, files, func, keys, feed, most, captures, journal, outputs,
+        alloc, files, func, keys, feed, most, captures, begun, outputs,
     )
 }

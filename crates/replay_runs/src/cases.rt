@@ -301,6 +301,82 @@ pub static SIX_JOURNALS: [Journal; 3] = [
     ),
 ];
 
+/// The low 7 bits of its hash are 0, and the low 9 are 128: of three queues that is the first in a table of 128, and the
+/// third in one of 512.
+const LOW: Record = Record {
+    time: 2,
+    from: OUTSIDE,
+    to: ([1, 0, 0, 5], 2),
+    macs: None,
+};
+
+/// Packets to two hosts, both of which are sent on.
+pub static CARDS: Beside = Beside {
+    captures: &[&[], &[FAR_1, LOW]],
+    outputs: &[&[FAR_1, LOW], &[]],
+    longer: None,
+    most: 9,
+};
+
+pub static CARDS_JOURNALS: [Journal; 14] = [
+    (
+        "three workers by a table of 128",
+        "maestro journal 1 shard 3\n1 0 1 to:0 1\n1 1 0 to:0 0\n",
+    ),
+    (
+        "three workers by a table of 512",
+        "maestro journal 2 shard 3 512 52\n1 0 1 to:0 1\n1 1 2 to:0 2\n",
+    ),
+    (
+        "keys of 40 bytes beside a table of 512",
+        "maestro journal 2 shard 3 512 40\n1 0 1 to:0 1\n1 1 2 to:0 2\n",
+    ),
+    (
+        "keys of 52 bytes beside a table of 128",
+        "maestro journal 2 shard 3 128 52\n1 0 1 to:0 1\n1 1 0 to:0 0\n",
+    ),
+    (
+        "the worker of the other table",
+        "maestro journal 2 shard 3 512 52\n1 0 1 to:0 1\n1 1 0 to:0 0\n",
+    ),
+    (
+        "the same the other way round",
+        "maestro journal 1 shard 3\n1 0 1 to:0 1\n1 1 2 to:0 2\n",
+    ),
+    (
+        "one worker beside a table of 512",
+        "maestro journal 2 one 1 512 52\n1 0 0 to:0 0\n1 1 0 to:0 1\n",
+    ),
+    (
+        "two workers that share tables",
+        "maestro journal 2 lock 2 512 52\n1 0 1 to:0 0\n1 1 1 to:0 1\n",
+    ),
+    (
+        "the usual sizes in version 2",
+        "maestro journal 2 shard 3 128 40\n1 0 1 to:0 1\n1 1 0 to:0 0\n",
+    ),
+    (
+        "version 3",
+        "maestro journal 3 shard 3 512 52\n1 0 1 to:0 1\n1 1 2 to:0 2\n",
+    ),
+    (
+        "a table of 256",
+        "maestro journal 2 shard 3 256 52\n1 0 1 to:0 1\n1 1 2 to:0 2\n",
+    ),
+    (
+        "keys of 41 bytes",
+        "maestro journal 2 shard 3 512 41\n1 0 1 to:0 1\n1 1 2 to:0 2\n",
+    ),
+    (
+        "a number behind them",
+        "maestro journal 2 shard 3 512 52 1\n1 0 1 to:0 1\n1 1 2 to:0 2\n",
+    ),
+    (
+        "no key bytes",
+        "maestro journal 2 shard 3 512\n1 0 1 to:0 1\n1 1 2 to:0 2\n",
+    ),
+];
+
 const HERE: End = ([1, 1, 1, 1], 1);
 
 const THERE: End = ([2, 2, 2, 2], 2);

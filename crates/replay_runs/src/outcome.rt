@@ -5,7 +5,7 @@ ghost use Rattle.nf_base.specs.Functions.{function_of};
 ghost use Rattle.packet_feed.specs.Told.{EachFile, IsApart};
 ghost use Rattle.packet_feed.specs.Sources.{files_in, sixes_in};
 
-use crate::calls::{check, open_all, start};
+use crate::calls::{begin, check, open_all, start};
 use crate::verdict::keys_of;
 use nf_base::func::Func;
 use nf_files::{Files, MemoryFiles};
@@ -117,7 +117,7 @@ fn replay_over<F: Files>(
     )
 }
 
-/// Finds the function's keys, and replays.
+/// Reads the journal's first line, finds the function's keys for its card, and replays.
 fn replay_opened<F: Files>(
     alloc: Global,
     files: &mut F,
@@ -141,7 +141,19 @@ fn replay_opened<F: Files>(
     requires apart { IsApart (captures.now ++ journal ∷ outputs.now) }
     requires as_many { length outputs.now ≡ 2 }
 {
-    let replayed = match keys_of(alloc, func)? {
+    let begun = match begin(alloc, files, journal) {
+        Ok(Some(begun)) => begun,
+        Ok(None) => {
+            outcome.end = End::Line(1);
+            return Ok(());
+        }
+        Err(stop) => {
+            outcome.end = End::Stopped(stop);
+            return Ok(());
+        }
+    };
+    let card = begun.header.card();
+    let replayed = match keys_of(alloc, func, card)? {
         Some(keys) => check(
             alloc,
             files,
@@ -150,11 +162,11 @@ fn replay_opened<F: Files>(
             feed,
             most,
             captures,
-            journal,
+            begun,
             outputs,
         ),
         None => check(
-            alloc, files, func, None, feed, most, captures, journal, outputs,
+            alloc, files, func, None, feed, most, captures, begun, outputs,
         ),
     };
     put(alloc, func, replayed, outcome)

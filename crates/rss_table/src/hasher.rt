@@ -3,6 +3,8 @@ ghost use Rattle.std.specs.Prelude.{◌≡◌, ◌≤◌, ◌<◌, ◌∷◌, �
 ghost use Rattle.toeplitz_hash.specs.Packets.{hash_of};
 ghost use Rattle.toeplitz_hash.specs.Toeplitz.{toeplitz_of};
 
+use nf_base::card::TableSize;
+use nf_base::hash_key::HashKey;
 use nf_base::keys::Keys;
 use nf_base::packet::Packet;
 use nf_base::seq::Seq;
@@ -16,7 +18,7 @@ const BYTES: usize = 36;
 /// A key, which contracts see as its bytes, and the hash of each byte at each place of an input.
 #[derive(Drop)]
 pub(crate) struct KeyTable {
-    key: [u8; 40],
+    key: HashKey,
     /// Of byte `b` at place `i` at index `256 i + b`.
     hashes: Vec<u32>,
 }
@@ -33,14 +35,17 @@ impl Model for KeyTable {
 }
 
 impl KeyTable {
-    fn new(alloc: Global, key: &[u8; 40]) -> Result<KeyTable, AllocError>
+    fn new(alloc: Global, key: &HashKey) -> Result<KeyTable, AllocError>
         ensures { IfOk result (λ t. t ≡ key.now) }
     {
         let mut hashes = Vec::with_capacity(alloc, BYTES * 256)?;
         for k in 0..BYTES * 256 {
-            hashes.push_reserved(hash_at(key, k / 256, (k % 256) as u8));
+            hashes.push_reserved(hash_at(key.as_slice(), k / 256, (k % 256) as u8));
         }
-        Ok(KeyTable { key: *key, hashes })
+        Ok(KeyTable {
+            key: key.again(),
+            hashes,
+        })
     }
 
     /// The hash of an input under the key.
@@ -57,8 +62,9 @@ impl KeyTable {
 }
 
 /// The hash of a byte at a place of an input, where all other bytes are 0.
-fn hash_at(key: &[u8; 40], i: usize, byte: u8) -> u32
-    requires { i < 36 }
+fn hash_at(key: &[u8], i: usize, byte: u8) -> u32
+    requires key { 40 ≤ length key.now }
+    requires place { i < 36 }
     ensures { result ≡ toeplitz_of (drop i key.now) (byte ∷ []) }
 {
     let mut input = [0u8; BYTES];
@@ -69,6 +75,7 @@ fn hash_at(key: &[u8; 40], i: usize, byte: u8) -> u32
 /// The keys of ports with tables of hashes. Contracts see the keys.
 #[derive(Drop)]
 pub struct Hasher {
+    table: TableSize,
     ports: Seq<KeyTable>,
 }
 
@@ -77,7 +84,7 @@ impl Model for Hasher {
 
     ghost Value = { Keys };
 
-    ghost view = { λ h. record { ports = h.ports } };
+    ghost view = { λ h. record { table = h.table; ports = h.ports } };
 }
 
 impl Hasher {
@@ -89,7 +96,10 @@ impl Hasher {
         for port in 0..keys.ports.len() {
             ports.push(KeyTable::new(alloc, keys.ports.item(port))?)?;
         }
-        Ok(Hasher { ports })
+        Ok(Hasher {
+            table: keys.table,
+            ports,
+        })
     }
 
     /// The hash of a packet under the key of the port that it came in at, and None for one that is

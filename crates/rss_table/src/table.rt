@@ -1,40 +1,44 @@
 //! From a hash to a queue.
 ghost use Rattle.std.specs.Prelude.{◌≡◌, ℕ, ◌<◌, length, Some};
+ghost use Rattle.nf_base.specs.Cards.{entries};
 ghost use Rattle.rss_table.specs.Tables.{AllBelow, table_index, even_table, queue_at, queue_of};
 
 use crate::hasher::Hasher;
+use nf_base::card::TableSize;
 use nf_base::keys::Keys;
 use nf_base::packet::Packet;
 use nf_base::workers::Workers;
 use std::marker::Model;
 use toeplitz_hash::hash_packet;
 
-/// The queues of the 128 table indices, which contracts see as the list of these queues.
+/// The queues of the 128 or 512 table indices, which contracts see as the list of these queues.
 #[derive(Drop)]
 pub struct Table {
-    queues: [u32; 128],
+    queues: [u32; 512],
+    size: TableSize,
 }
 
 impl Model for Table {
-    ghost use Rattle.std.specs.Prelude.{List, ℕ};
+    ghost use Rattle.std.specs.Prelude.{List, ℕ, take};
+    ghost use Rattle.nf_base.specs.Cards.{entries};
 
     ghost Value = { List ℕ };
 
-    ghost view = { λ table. table.queues };
+    ghost view = { λ table. take (entries table.size) table.queues };
 }
 
 impl Table {
     /// The table whose entry `i` is queue `i` modulo the number of workers.
-    pub fn even(workers: Workers) -> Table
-        ensures value { result ≡ even_table workers }
+    pub fn even(workers: Workers, size: TableSize) -> Table
+        ensures value { result ≡ even_table size workers }
         ensures below { AllBelow workers result }
     {
         let count = workers.get();
-        let mut queues = [0; 128];
-        for i in 0..128u32 {
+        let mut queues = [0; 512];
+        for i in 0..512u32 {
             queues[i as usize] = i % count;
         }
-        Table { queues }
+        Table { queues, size }
     }
 
     /// The queue of a packet: the entry at the table index of its hash, and 0 for one that is
@@ -67,14 +71,17 @@ impl Table {
         ensures value { result ≡ queue_at self.now (Some hash) }
         ensures below { (count : ℕ) → AllBelow count self.now → result < count }
     {
-        self.queues[table_index(hash) as usize]
+        self.queues[table_index(self.size, hash) as usize]
     }
 }
 
-/// The table index of a hash: its low 7 bits.
-pub fn table_index(hash: u32) -> u32
-    ensures value { result ≡ table_index hash }
-    ensures below { result < 128 }
+/// The table index of a hash: its low 7 bits, or its low 9 bits.
+pub fn table_index(size: TableSize, hash: u32) -> u32
+    ensures value { result ≡ table_index size hash }
+    ensures below { result < entries size }
 {
-    hash % 128
+    match size {
+        TableSize::Entries128 => hash % 128,
+        TableSize::Entries512 => hash % 512,
+    }
 }

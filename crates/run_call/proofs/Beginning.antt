@@ -201,10 +201,10 @@ is_unfound Refused c before b (none.Stop stop) untouched finds cause = inl (unre
 -- ---- who handles the packets
 
 -- a function has keys where they are needed
-pub keyed_by : (c : RunAsked) (f : Function) (course : Course) → IsCourse c f course → NeedsKeys c → HasKeys f
+pub keyed_by : (c : RunAsked) (f : Function) (course : Course) → IsCourse c f course → NeedsKeys c → HasKeys f c.card
 keyed_by c f course.One is needs = is.1 needs
 keyed_by c f (course.Shards keys) is needs = record { keys = keys; given = is.2 }
-keyed_by c f course.Tables is needs = absurd (subst (λ (m : ModeChoice). ShareTables m f) needs is.1)
+keyed_by c f course.Tables is needs = absurd (subst (λ (m : ModeChoice). ShareTables m c.card f) needs is.1)
 
 -- the function has no keys, and they are needed; or memory ran out
 pub is_unserved : (Refused : Type 0) (c : RunAsked) (before now : Outside) (found : Found) (halt : Halt) → HasFound c before now found → length c.captures ≡ length (function_of found.source.func).handlers → Serves c (function_of found.source.func) (Err halt) → RunsTo Refused c before now (Err halt)

@@ -4,6 +4,7 @@ use Rattle.nf_base.specs.Functions.{function_of}
 use Rattle.nf_base.specs.Text.{Function}
 use Rattle.nf_base.specs.Step.{opening}
 use Rattle.nf_base.specs.declared.keys.Keys.{Keys}
+use Rattle.nf_base.specs.declared.card.Card.{Card}
 use Rattle.packet_feed.specs.Arrivals.{Arrival}
 use Rattle.packet_feed.specs.Order.{in_order}
 use Rattle.packet_feed.specs.Told.{packets_of}
@@ -42,7 +43,7 @@ use Rattle.run_call.proofs.Sharing.{tables_of}
 
 -- ---- a run of the feed's packets is one that was asked for
 
-shards_of : (Refused : Type 0) (before old : Outside) (job : Job) (captures : List ℕ) (feed : Feeding) (keys : Keys) (r : Run) → IsJob before.told job → IsCourse (asked job) (function_of job.func.now) (course.Shards keys) → (h : HasFed before old job captures feed) → IsShardRun (function_of job.func.now) keys (asked job).workers r → length r.turns ≤ feed.most → AreFirst (packets_of (sixes_in feed.sources) (files_in feed.sources) h.start) (map arrival_in r.turns) → IsRunOf Refused (asked job) before.told (packets r) r
+shards_of : (Refused : Type 0) (before old : Outside) (job : Job) (captures : List ℕ) (feed : Feeding) (keys : Keys) (r : Run) → IsJob before.told job → IsCourse (asked job) (function_of job.func.now) (course.Shards keys) → (h : HasFed before old job captures feed) → IsShardRun (function_of job.func.now) keys (asked job).workers (asked job).card r → length r.turns ≤ feed.most → AreFirst (packets_of (sixes_in feed.sources) (files_in feed.sources) h.start) (map arrival_in r.turns) → IsRunOf Refused (asked job) before.told (packets r) r
 shards_of Refused before old job captures feed keys r is several h run within first = record {
   has_ports = subst (HasPorts (asked job) before.told) (sym run.function) is.has_ports;
   captures = all_captures before old job captures feed h;
@@ -51,8 +52,8 @@ shards_of Refused before old job captures feed keys r is several h run within fi
     may = several.1;
     order = refl;
     keys = keys;
-    given = subst (λ (f : Function). AreGiven f keys) (sym run.function) several.2;
-    is_run = subst (λ (f : Function). IsShardRun f keys (asked job).workers r) (sym run.function) run;
+    given = subst (λ (f : Function). AreGiven f (asked job).card keys) (sym run.function) several.2;
+    is_run = subst (λ (f : Function). IsShardRun f keys (asked job).workers (asked job).card r) (sym run.function) run;
     within = subst (λ (m : ℕ). length r.turns ≤ m) h.most within;
     first = subst (λ (all : Option (List Arrival)). AreFirst all (map arrival_in r.turns)) (under before old job captures feed feed r.function run.function refl refl h) first;
   }));
@@ -64,14 +65,15 @@ first_before None given stop h = tt
 first_before (Some all) given stop h = (h.0 ∷ h.1, h.3)
 
 -- workers that handled nothing yet
-abbrev empty_run : Function → ℕ → Run
-empty_run f workers = record { function = f; mode = Shard; workers = workers; turns = [] }
+abbrev empty_run : Function → ℕ → Card → Run
+empty_run f workers card = record { function = f; mode = Shard; workers = workers; card = card; turns = [] }
 
-empty_shards : (f : Function) (keys : Keys) (workers : ℕ) → 0 < workers → workers ≤ 16 → IsShardRun f keys workers (empty_run f workers)
-empty_shards f keys workers some most = record {
+empty_shards : (f : Function) (keys : Keys) (workers : ℕ) (card : Card) → 0 < workers → workers ≤ 16 → IsShardRun f keys workers card (empty_run f workers card)
+empty_shards f keys workers card some most = record {
   function = refl;
   mode = refl;
   workers_are = refl;
+  card_is = refl;
   queues = tt;
   legal = record { result = record { state = opening f; answers = [] }; ran = refl };
   share = share_by workers some most;
@@ -84,14 +86,15 @@ none_first None = tt
 none_first (Some all) = (in_order all, refl)
 
 -- workers that share the tables and handled nothing yet
-abbrev lock_run : Function → ℕ → Run
-lock_run f workers = record { function = f; mode = Lock; workers = workers; turns = [] }
+abbrev lock_run : Function → ℕ → Card → Run
+lock_run f workers card = record { function = f; mode = Lock; workers = workers; card = card; turns = [] }
 
-empty_tables : (f : Function) (workers : ℕ) → IsLockRun f workers [] (lock_run f workers)
-empty_tables f workers = record {
+empty_tables : (f : Function) (workers : ℕ) (card : Card) → IsLockRun f workers card [] (lock_run f workers card)
+empty_tables f workers card = record {
   function = refl;
   mode = refl;
   workers_are = refl;
+  card_is = refl;
   own = tt;
   order = λ port. refl;
   legal = record { result = record { state = opening f; answers = [] }; ran = refl };
@@ -102,10 +105,10 @@ begun_by : (Refused : Type 0) (before a : Outside) (job : Job) (captures : List 
 begun_by Refused before a job captures feed course.One is by h = begun_one Refused before a job captures feed is by.0 h
 begun_by Refused before a job captures feed (course.Shards keys) is by h =
     let f = function_of job.func.now in
-    (empty_run f (asked job).workers, shards_of Refused before a job captures feed keys (empty_run f (asked job).workers) is by h (empty_shards f keys (asked job).workers (omega (arith, by.0.0)) by.0.1) (omega arith) (none_first (packets_of (sixes_in feed.sources) (files_in feed.sources) h.start)))
+    (empty_run f (asked job).workers (asked job).card, shards_of Refused before a job captures feed keys (empty_run f (asked job).workers (asked job).card) is by h (empty_shards f keys (asked job).workers (asked job).card (omega (arith, by.0.0)) by.0.1) (omega arith) (none_first (packets_of (sixes_in feed.sources) (files_in feed.sources) h.start)))
 begun_by Refused before a job captures feed course.Tables is by h =
     let f = function_of job.func.now in
-    (lock_run f (asked job).workers, tables_of Refused before a job captures feed [] Lock (lock_run f (asked job).workers) is by h (empty_tables f (asked job).workers) (omega arith) (none_first (packets_of (sixes_in feed.sources) (files_in feed.sources) h.start)))
+    (lock_run f (asked job).workers (asked job).card, tables_of Refused before a job captures feed [] Lock (lock_run f (asked job).workers (asked job).card) is by h (empty_tables f (asked job).workers (asked job).card) (omega arith) (none_first (packets_of (sixes_in feed.sources) (files_in feed.sources) h.start)))
 
 pub begun : (Refused : Type 0) (before a : Outside) (job : Job) (captures : List ℕ) (feed : Feeding) → IsJob before.told job → HasFed before a job captures feed → (r : Run) × IsRunOf Refused (asked job) before.told (packets r) r
 begun Refused before a job captures feed is h = begun_by Refused before a job captures feed job.course.now is is.course h
@@ -114,7 +117,7 @@ begun Refused before a job captures feed is h = begun_by Refused before a job ca
 
 -- all packets were handled
 pub shards_finished : (Refused : Type 0) (before a b : Outside) (job : Job) (captures targets : List ℕ) (feed next : Feeding) (keys : Keys) (ran : Ran) → IsJob before.told job → IsCourse (asked job) (function_of job.func.now) (course.Shards keys) → HasReady before a job captures targets feed
-    → shards.IsFinished (function_of job.func.now) keys (asked job).workers feed a.told next b.told targets ran → KeepsBut targets a.told b.told → b.counted ≡ a.counted
+    → shards.IsFinished (function_of job.func.now) keys (asked job).workers (asked job).card feed a.told next b.told targets ran → KeepsBut targets a.told b.told → b.counted ≡ a.counted
     → HasRun Refused before b job Shard ran.packets ran.state (end_of (asked job).most ran.ending (first_tear 0 (tears_in next.sources))) (ports_of job + 1) (ports_of job + 1)
 shards_finished Refused before a b job captures targets feed next keys ran is several h fin kept counted =
     let stands = ready_stands before a job captures targets feed h in
@@ -139,7 +142,7 @@ shards_finished Refused before a b job captures targets feed next keys ran is se
 
 -- the share stop was met
 pub shards_full : (Refused : Type 0) (before a b : Outside) (job : Job) (captures targets : List ℕ) (feed : Feeding) (keys : Keys) (full : Full) (said : FullShare) → IsToldStop (function_of job.func.now) full.stop said → IsJob before.told job → IsCourse (asked job) (function_of job.func.now) (course.Shards keys) → HasReady before a job captures targets feed
-    → (fin : shards.IsFull (function_of job.func.now) keys (asked job).workers feed a.told b.told targets full) → KeepsBut targets a.told b.told → b.counted ≡ a.counted
+    → (fin : shards.IsFull (function_of job.func.now) keys (asked job).workers (asked job).card feed a.told b.told targets full) → KeepsBut targets a.told b.told → b.counted ≡ a.counted
     → HasRun Refused before b job Shard full.packets fin.stops.state (ShareFull said) (ports_of job + 1) (ports_of job + 1)
 shards_full Refused before a b job captures targets feed keys full said told is several h fin kept counted =
     let f = function_of job.func.now in
@@ -157,7 +160,7 @@ shards_full Refused before a b job captures targets feed keys full said told is 
         fin.is_run.mode,
         record {
           keys = keys;
-          given = subst (λ (g : Function). AreGiven g keys) (sym fin.is_run.function) several.2;
+          given = subst (λ (g : Function). AreGiven g (asked job).card keys) (sym fin.is_run.function) several.2;
           stop = full.stop;
           behind = subst (λ (g : Function). IsStopBehind g keys (asked job).workers fin.run full.stop) (sym fin.is_run.function) fin.stops;
           next = subst (λ (all : Option (List Arrival)). AreBefore all (map arrival_in fin.run.turns) full.stop.packet) (under before h.old job captures feed feed fin.run.function fin.is_run.function refl refl h.fed) next;
@@ -177,7 +180,7 @@ shards_full Refused before a b job captures targets feed keys full said told is 
 
 -- the run was stopped
 pub shards_halted : (Refused : Type 0) (before a b : Outside) (job : Job) (captures targets : List ℕ) (feed : Feeding) (keys : Keys) (stop : NumberStop) → IsJob before.told job → IsCourse (asked job) (function_of job.func.now) (course.Shards keys) → HasReady before a job captures targets feed
-    → shards.IsCutShort (function_of job.func.now) keys (asked job).workers feed a.told b.told targets → KeepsBut targets a.told b.told → IsStopCause {T = Unit {0}} a.counted b.counted (Err stop) → StopsAmong {T = Unit {0}} captures targets (Err stop) → IsStopped Refused (asked job) before b (stop_named before.told.next (ports_of job) stop)
+    → shards.IsCutShort (function_of job.func.now) keys (asked job).workers (asked job).card feed a.told b.told targets → KeepsBut targets a.told b.told → IsStopCause {T = Unit {0}} a.counted b.counted (Err stop) → StopsAmong {T = Unit {0}} captures targets (Err stop) → IsStopped Refused (asked job) before b (stop_named before.told.next (ports_of job) stop)
 shards_halted Refused before a b job captures targets feed keys stop is several h cut kept cause among =
     let n = ports_of job in
     let run = shards_of Refused before h.old job captures feed keys cut.run is several h.fed cut.is_run cut.within (cut.packets h.fed.start (ready_stands before a job captures targets feed h)) in

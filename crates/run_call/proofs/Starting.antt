@@ -120,16 +120,16 @@ all_captures before old job captures feed h =
     subst (λ (g : ℕ). IsCapture (h.start.rest g)) s.2 (tear_capture (h.start.rest s.0.reading.file) _ (h.stands.sources.each p s.0 s.1).torn))
 
 -- a run of the feed's packets by one worker is one that was asked for
-run_of : (Refused : Type 0) (before old : Outside) (job : Job) (captures : List ℕ) (feed : Feeding) (r : Run) → IsJob before.told job → (asked job).workers ≡ 1 → (h : HasFed before old job captures feed) → IsOneRun (function_of job.func.now) feed.most (packets_of (sixes_in feed.sources) (files_in feed.sources) h.start) r → IsRunOf Refused (asked job) before.told (packets r) r
+run_of : (Refused : Type 0) (before old : Outside) (job : Job) (captures : List ℕ) (feed : Feeding) (r : Run) → IsJob before.told job → (asked job).workers ≡ 1 → (h : HasFed before old job captures feed) → IsOneRun (function_of job.func.now) (asked job).card feed.most (packets_of (sixes_in feed.sources) (files_in feed.sources) h.start) r → IsRunOf Refused (asked job) before.told (packets r) r
 run_of Refused before old job captures feed r is alone h one = record {
   has_ports = subst (HasPorts (asked job) before.told) (sym one.function) is.has_ports;
   captures = all_captures before old job captures feed h;
   handled = inl (record {
     alone = alone;
     order = refl;
-    is_run = subst (λ (f : Function). IsOneRun f (asked job).most (packets_under r.function (asked job).captures before.told) r) (sym one.function)
-        (subst (λ (m : ℕ). IsOneRun (function_of job.func.now) m (packets_under r.function (asked job).captures before.told) r) h.most
-        (subst (λ (all : Option (List Arrival)). IsOneRun (function_of job.func.now) feed.most all r) (under before old job captures feed feed r.function one.function refl refl h) one));
+    is_run = subst (λ (f : Function). IsOneRun f (asked job).card (asked job).most (packets_under r.function (asked job).captures before.told) r) (sym one.function)
+        (subst (λ (m : ℕ). IsOneRun (function_of job.func.now) (asked job).card m (packets_under r.function (asked job).captures before.told) r) h.most
+        (subst (λ (all : Option (List Arrival)). IsOneRun (function_of job.func.now) (asked job).card feed.most all r) (under before old job captures feed feed r.function one.function refl refl h) one));
   });
 }
 
@@ -261,7 +261,7 @@ pub ready_next : {now : ℕ} (before a : Outside) (job : Job) (captures targets 
 ready_next before a job captures targets feed h same = omega (arith, same, h.created.created.next, h.fed.next, h.fed.all)
 
 -- all packets were handled
-pub run_finished : (Refused : Type 0) (before a b : Outside) (job : Job) (captures targets : List ℕ) (feed next : Feeding) (ran : Ran) → IsJob before.told job → (asked job).workers ≡ 1 → HasReady before a job captures targets feed → lawful.IsFinished (function_of job.func.now) feed a.told next b.told targets ran → KeepsBut targets a.told b.told → b.counted ≡ a.counted
+pub run_finished : (Refused : Type 0) (before a b : Outside) (job : Job) (captures targets : List ℕ) (feed next : Feeding) (ran : Ran) → IsJob before.told job → (asked job).workers ≡ 1 → HasReady before a job captures targets feed → lawful.IsFinished (function_of job.func.now) (asked job).card feed a.told next b.told targets ran → KeepsBut targets a.told b.told → b.counted ≡ a.counted
     → HasRun Refused before b job One ran.packets ran.state (end_of (asked job).most ran.ending (first_tear 0 (tears_in next.sources))) (ports_of job + 1) (ports_of job + 1)
 run_finished Refused before a b job captures targets feed next ran is alone h fin kept counted =
     let stands = ready_stands before a job captures targets feed h in
@@ -302,7 +302,7 @@ own_running before a job captures targets feed (numbered.File file) is h (inr on
     (omega (arith, slice_get_within targets one.0 file one.1, h.created.all))
 
 -- the run was stopped
-pub run_halted : (Refused : Type 0) (before a b : Outside) (job : Job) (captures targets : List ℕ) (feed : Feeding) (stop : NumberStop) → IsJob before.told job → (asked job).workers ≡ 1 → HasReady before a job captures targets feed → lawful.IsCutShort (function_of job.func.now) feed a.told b.told targets → KeepsBut targets a.told b.told
+pub run_halted : (Refused : Type 0) (before a b : Outside) (job : Job) (captures targets : List ℕ) (feed : Feeding) (stop : NumberStop) → IsJob before.told job → (asked job).workers ≡ 1 → HasReady before a job captures targets feed → lawful.IsCutShort (function_of job.func.now) (asked job).card feed a.told b.told targets → KeepsBut targets a.told b.told
     → IsStopCause {T = Unit {0}} a.counted b.counted (Err stop) → StopsAmong {T = Unit {0}} captures targets (Err stop) → IsStopped Refused (asked job) before b (stop_named before.told.next (ports_of job) stop)
 run_halted Refused before a b job captures targets feed stop is alone h cut kept cause among =
     let n = ports_of job in
@@ -340,7 +340,7 @@ pub begun_one : (Refused : Type 0) (before a : Outside) (job : Job) (captures : 
 begun_one Refused before a job captures feed is alone h =
     let f = function_of job.func.now in
     let as_many : length (files_in feed.sources) ≡ length f.handlers = ap (λ (fs : List ℕ). length fs) h.files ∙ h.all ∙ is.has_ports.as_many in
-    let cut = cut_short f feed a.told a.told [] as_many h.six (halts_none f (length f.handlers) feed a.told [] (λ k file e. absurd (cc e))) in
+    let cut = cut_short f (asked job).card feed a.told a.told [] as_many h.six (halts_none f (asked job).card (length f.handlers) feed a.told [] (λ k file e. absurd (cc e))) in
     let some = cut.lawful h.start h.stands in
     (some.run, run_of Refused before a job captures feed some.run is alone h some.is_run)
 

@@ -2,6 +2,7 @@
 use Rattle.std.specs.Prelude.{◌≡◌, ℕ, ◌<◌, ◌≤◌, Result, Ok, Err}
 use Rattle.nf_base.specs.Text.{Function}
 use Rattle.nf_base.specs.declared.keys.Keys.{Keys}
+use Rattle.nf_base.specs.declared.card.Card.{Card}
 use Rattle.command_words.specs.declared.command.ModeChoice.{ModeChoice}
 use Rattle.command_words.specs.declared.command.ModeChoice.TheVariants.{Auto, Shard, Lock}
 use Rattle.command_words.specs.Commands.{Run as RunAsked}
@@ -24,20 +25,20 @@ use Rattle.call_base.specs.declared.status.Stop.TheVariants as stops
 abbrev pub NeedsKeys : RunAsked → Type 0
 NeedsKeys c = c.mode ≡ Shard
 
--- a function has keys
-pub record HasKeys (f : Function) : Type 0 where
+-- a function has keys for a network card
+pub record HasKeys (f : Function) (card : Card) : Type 0 where
   pub keys : Keys
-  pub given : AreGiven f keys
+  pub given : AreGiven f card keys
 
--- a function has no keys
-pub record IsKeyless (f : Function) : Type 0 where
+-- a function has no keys for a network card
+pub record IsKeyless (f : Function) (card : Card) : Type 0 where
   pub cause : Cause
-  pub locked : IsVerdict f (Locked cause)
+  pub locked : IsVerdict f card (Locked cause)
 
--- A function has no keys, for this cause.
-pub record IsLocked (f : Function) (why : NoKeys) : Type 0 where
+-- A function has no keys for a network card, for this cause.
+pub record IsLocked (f : Function) (card : Card) (why : NoKeys) : Type 0 where
   pub cause : Cause
-  pub locked : IsVerdict f (Locked cause)
+  pub locked : IsVerdict f card (Locked cause)
   pub says : SaysCause f cause why
 
 -- The verdict is asked for: mode `shard` is, or several workers are in any mode.
@@ -56,22 +57,22 @@ MayShard Shard = Unit {0}
 MayShard Lock = ⊥
 
 -- Several workers share the tables: mode `lock` is asked for, or any, and the function has no keys.
-abbrev pub ShareTables : ModeChoice → Function → Type 0
-ShareTables Auto f = IsKeyless f
-ShareTables Shard f = ⊥
-ShareTables Lock f = Unit {0}
+abbrev pub ShareTables : ModeChoice → Card → Function → Type 0
+ShareTables Auto card f = IsKeyless f card
+ShareTables Shard card f = ⊥
+ShareTables Lock card f = Unit {0}
 
 -- who handles the packets: one worker, or as many as are asked for, which share nothing, under the
--- function's keys, or share the tables
+-- function's keys for the network card that is asked for, or share the tables
 abbrev pub IsCourse : RunAsked → Function → Course → Type 0
-IsCourse c f One = (c.workers ≡ 1) × (NeedsKeys c → HasKeys f)
+IsCourse c f One = (c.workers ≡ 1) × (NeedsKeys c → HasKeys f c.card)
 IsCourse c f (Shards keys) =
-    ((1 < c.workers) × (c.workers ≤ 16)) × MayShard c.mode × AreGiven f keys × HashAlikeWhereTheyMeet f keys
-IsCourse c f Tables = (1 < c.workers) × ShareTables c.mode f
+    ((1 < c.workers) × (c.workers ≤ 16)) × MayShard c.mode × AreGiven f c.card keys × HashAlikeWhereTheyMeet f keys
+IsCourse c f Tables = (1 < c.workers) × ShareTables c.mode c.card f
 
 -- why there is none
 abbrev pub IsUnserved : RunAsked → Function → Refusal → Type 0
-IsUnserved c f (refusals.NoKeys why) = NeedsKeys c × IsLocked f why
+IsUnserved c f (refusals.NoKeys why) = NeedsKeys c × IsLocked f c.card why
 IsUnserved c f refusals.Usage = ⊥
 IsUnserved c f (refusals.Text fault) = ⊥
 IsUnserved c f (refusals.NotCapture port) = ⊥

@@ -25,12 +25,12 @@ use Rattle.run_call.specs.Modes.{NeedsKeys, HasKeys, IsLocked, MayShard, ShareTa
 use Rattle.run_history.specs.declared.line.Mode.TheVariants.{Shard}
 use Rattle.locked_run.specs.Locked.{IsLockRun, IsLoneRun}
 
--- The text is a network function that has as many ports as there are captures, and keys where they are
--- needed.
+-- The text is a network function that has as many ports as there are captures, and keys for the network
+-- card that is asked for, where they are needed.
 pub record HasPorts (c : RunAsked) (told : Told) (f : Function) : Type 0 where
   pub is_function : IsFunctionUnder told c.function f
   pub as_many : length c.captures ≡ length f.handlers
-  pub keyed : NeedsKeys c → HasKeys f
+  pub keyed : NeedsKeys c → HasKeys f c.card
 
 -- the packets of a run
 abbrev pub packets : Run → List Arrival
@@ -41,18 +41,18 @@ packets run = map arrival_in run.turns
 pub record IsByOne (c : RunAsked) (told : Told) (arrivals : List Arrival) (run : Run) : Type 0 where
   pub alone : c.workers ≡ 1
   pub order : packets run ≡ arrivals
-  pub is_run : IsOneRun run.function c.most (packets_under run.function c.captures told) run
+  pub is_run : IsOneRun run.function c.card c.most (packets_under run.function c.captures told) run
 
 -- As many workers as are asked for, which share nothing, handle the first packets of the captures, each
--- once, in capture order, each by the worker of its queue under the function's keys: at most as many as
--- may be handled.
+-- once, in capture order, each by the worker of its queue under the function's keys for the network card
+-- that is asked for: at most as many as may be handled.
 pub record IsByShards (c : RunAsked) (told : Told) (arrivals : List Arrival) (run : Run) : Type 0 where
   pub several : 1 < c.workers
   pub may : MayShard c.mode
   pub order : packets run ≡ arrivals
   pub keys : Keys
-  pub given : AreGiven run.function keys
-  pub is_run : IsShardRun run.function keys c.workers run
+  pub given : AreGiven run.function c.card keys
+  pub is_run : IsShardRun run.function keys c.workers c.card run
   pub within : length run.turns ≤ c.most
   pub first : AreFirst (packets_under run.function c.captures told) (packets run)
 
@@ -62,9 +62,9 @@ pub record IsByShards (c : RunAsked) (told : Told) (arrivals : List Arrival) (ru
 -- tables refused.
 pub record IsByTables (Refused : Type 0) (c : RunAsked) (told : Told) (arrivals : List Arrival) (run : Run) : Type 0 where
   pub several : 1 < c.workers
-  pub share : ShareTables c.mode run.function
-  pub is_run : IsLockRun run.function c.workers arrivals run
-      ⊎ (Refused × IsLoneRun run.function c.workers arrivals run)
+  pub share : ShareTables c.mode c.card run.function
+  pub is_run : IsLockRun run.function c.workers c.card arrivals run
+      ⊎ (Refused × IsLoneRun run.function c.workers c.card arrivals run)
   pub within : length arrivals ≤ c.most
   pub first : AreFirst (packets_under run.function c.captures told) arrivals
 
@@ -92,7 +92,7 @@ pub record IsToldStop (f : Function) (stop : ShareStop) (full : FullShare) : Typ
 -- share of a chain, of this name, has no index left for it.
 pub record IsFullBehind (c : RunAsked) (told : Told) (run : Run) (full : FullShare) : Type 0 where
   pub keys : Keys
-  pub given : AreGiven run.function keys
+  pub given : AreGiven run.function c.card keys
   pub stop : ShareStop
   pub behind : IsStopBehind run.function keys c.workers run stop
   pub next : AreBefore (packets_under run.function c.captures told) (packets run) stop.packet
@@ -130,7 +130,7 @@ pub record HasNoKeys (c : RunAsked) (told : Told) (why : NoKeys) : Type 0 where
   pub is_function : IsFunctionUnder told c.function function
   pub as_many : length c.captures ≡ length function.handlers
   pub needs : NeedsKeys c
-  pub locked : IsLocked function why
+  pub locked : IsLocked function c.card why
 
 -- The captures are as many as the function's ports, and the file of this port is the first that is no
 -- capture.

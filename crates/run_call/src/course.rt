@@ -43,7 +43,7 @@ fn no_keys(func: &Func, cause: Cause) -> NoKeys
 // Who handles the packets, where this is the verdict on the function.
 fn course_by(command: &RunCommand, func: &Func, verdict: Verdict) -> Result<Course, Refusal>
     requires asks { Asks (view.run command.now) }
-    requires verdict { IsVerdict (function_of func.now) verdict }
+    requires verdict { IsVerdict (function_of func.now) (view.run command.now).card verdict }
     requires separates { Separates (function_of func.now) verdict }
     ensures serves { ServesBy (view.run command.now) (function_of func.now) result }
 {
@@ -68,7 +68,7 @@ fn course_found(alloc: Global, command: &RunCommand, func: &Func) -> Result<Cour
     requires few { HasFewPaths (function_of func.now) }
     ensures serves { Serves (view.run command.now) (function_of func.now) result }
 {
-    match verdict_of(alloc, func) {
+    match verdict_of(alloc, func, command.card) {
         Ok(verdict) => match course_by(command, func, verdict) {
             Ok(course) => Ok(course),
             Err(why) => Err(Halt::Refusal(why)),

@@ -58,7 +58,8 @@ fn run_one<F: Files>(
     ensures runs { (old new : ℕ) → RunsTo (Rose old new) (asked job.now) before
         (seen (F.told files.new) (F.counted files.new)) result }
 {
-    match run_stream(alloc, files, job.func, feed, captures, targets) {
+    let card = job.command.card;
+    match run_stream(alloc, files, job.func, card, feed, captures, targets) {
         Ok(ran) => {
             let last = targets[job.numbers.ports as usize];
             leave_ran(alloc, files, job, Mode::One, &ran, feed.torn(), last)
@@ -106,8 +107,9 @@ fn run_shards<R: Threads + Sync, F: Files, G: Turns + Sync>(
         (seen (F.told files.new) (F.counted files.new)) result }
 {
     let workers = job.command.workers;
+    let card = job.command.card;
     match run_sharded(
-        rt, alloc, files, job.func, keys, workers, feed, captures, targets, turns,
+        rt, alloc, files, job.func, keys, workers, card, feed, captures, targets, turns,
     ) {
         Ok(Came::Ran(ran)) => {
             let last = targets[job.numbers.ports as usize];
@@ -144,8 +146,9 @@ fn run_tables<R: Threads + Wait + Sync, F: Files, G: Turns + Sync, L: Gate + Dro
         (seen (F.told files.new) (F.counted files.new)) result }
 {
     let workers = job.command.workers;
+    let card = job.command.card;
     match run_locked(
-        rt, alloc, files, job.func, workers, feed, captures, targets, turns, gate,
+        rt, alloc, files, job.func, workers, card, feed, captures, targets, turns, gate,
     ) {
         Ok(came) => {
             let last = targets[job.numbers.ports as usize];

@@ -4,5 +4,6 @@ pub mod Words
 pub mod Cutting
 pub mod Fronts
 pub mod Choices
+pub mod Cards
 pub mod Unique
 pub mod Answered

@@ -48,8 +48,11 @@ digits_free : (sep : ℕ) (xs : List ℕ) → sep < 48 → AreDigits xs → IsFr
 digits_free sep [] lt h = tt
 digits_free sep (x ∷ xs) lt h = ((λ e. absurd (omega (arith, h.0.0))), digits_free sep xs lt h.1)
 
+pub long_free : (sep n : ℕ) → sep < 48 → n < 2 ^ 64 → IsFree sep (decimal n)
+long_free sep n lt small = digits_free sep (decimal n) lt (digits_of n small)
+
 pub number_free : (sep n : ℕ) → sep < 48 → IsShort n → IsFree sep (decimal n)
-number_free sep n lt small = digits_free sep (decimal n) lt (digits_of n (omega arith))
+number_free sep n lt small = long_free sep n lt (omega arith)
 
 pub number_one : (m n : ℕ) → IsShort m → IsShort n → decimal m ≡ decimal n → m ≡ n
 number_one m n h k e = decimal_injective m n (omega arith) (omega arith) e

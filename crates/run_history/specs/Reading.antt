@@ -3,8 +3,14 @@ use Rattle.std.specs.Prelude.{◌≡◌, ◌≢◌, ℕ, Bool, true, false, List
 use Rattle.std.specs.List.{AllByRecursion}
 use denote.Ref.{Bor}
 use Rattle.nf_base.specs.declared.done.Action.{Action}
-use Rattle.run_history.specs.Headings.{Heading}
-use Rattle.run_history.specs.Line.{journal_title, mode_word, action_word, choices_word}
+use Rattle.nf_base.specs.declared.card.TableSize.{TableSize}
+use Rattle.nf_base.specs.declared.card.KeySize.{KeySize}
+use Rattle.nf_base.specs.declared.card.Card.{Card}
+use Rattle.nf_base.specs.Cards.{entries, key_bytes}
+use Rattle.run_history.specs.declared.version.Version.{Version}
+use Rattle.run_history.specs.declared.version.Version.TheVariants.{First, Second}
+use Rattle.run_history.specs.Headings.{Heading, IsHeading, version_of}
+use Rattle.run_history.specs.Line.{journal_title, sizes_words, mode_word, action_word, choices_word}
 use Rattle.run_history.specs.Lines.{IsShort, IsPacket, AreChoices}
 use Rattle.run_history.specs.declared.line.Mode.{Mode}
 use Rattle.run_history.specs.declared.line.JournalLine.{JournalLine}
@@ -22,12 +28,19 @@ pub record AreNumbers (n : Numbers) : Type 0 where
   pub seq : IsShort n.id.seq
   pub handled_by : IsShort n.worker
 
+-- how many entries a table and how many bytes a key has
+abbrev pub table_word : TableSize → List ℕ
+table_word table = decimal (entries table)
+
+abbrev pub key_word : KeySize → List ℕ
+key_word key = decimal (key_bytes key)
+
 -- what the first line has behind the title
 abbrev pub heading_end : Heading → List ℕ
-heading_end h = mode_word h.mode ++ 32 ∷ decimal h.workers
+heading_end h = mode_word h.mode ++ 32 ∷ (decimal h.workers ++ sizes_words (version_of h.card) h.card)
 
 abbrev pub heading_words : Heading → List ℕ
-heading_words h = journal_title ++ heading_end h
+heading_words h = journal_title (version_of h.card) ++ heading_end h
 
 abbrev pub packet_words : Numbers → Action → List ℕ → List ℕ
 packet_words n action picks = numbers_words n ++ 32 ∷ (action_word action ++ 32 ∷ choices_word picks)
@@ -44,6 +57,27 @@ IsPacketLine (Packet id worker action picks) = IsPacket id worker action picks
 -- whatever the mode
 abbrev pub IsMode : Mode → Type 0
 IsMode mode = Unit {0}
+
+-- whatever the size
+abbrev pub IsTable : TableSize → Type 0
+IsTable table = Unit {0}
+
+abbrev pub IsKey : KeySize → Type 0
+IsKey key = Unit {0}
+
+-- a card that version 1 doesn't tell
+abbrev pub IsOtherCard : Card → Type 0
+IsOtherCard card = version_of card ≡ Second
+
+-- what version 1 tells
+pub record IsUsual (h : Heading) : Type 0 where
+  pub heading : IsHeading h
+  pub usual : version_of h.card ≡ First
+
+-- what version 2 tells
+pub record IsOther (h : Heading) : Type 0 where
+  pub heading : IsHeading h
+  pub other : IsOtherCard h.card
 
 -- ---- reading
 
@@ -67,9 +101,9 @@ ReadsFront {A} spell separator IsRight bytes None = (a : A) (rest : List ℕ) �
 ReadsFront spell separator IsRight bytes (Some p) = IsRight p.0 × (spell p.0 ++ separator ∷ p.1.now ≡ bytes)
 
 -- what stands behind the title of a journal
-abbrev pub IsBehindTitle : List ℕ → Option (Bor (List ℕ)) → Type 0
-IsBehindTitle bytes None = (rest : List ℕ) → journal_title ++ rest ≢ bytes
-IsBehindTitle bytes (Some rest) = journal_title ++ rest.now ≡ bytes
+abbrev pub IsBehindTitle : Version → List ℕ → Option (Bor (List ℕ)) → Type 0
+IsBehindTitle version bytes None = (rest : List ℕ) → journal_title version ++ rest ≢ bytes
+IsBehindTitle version bytes (Some rest) = journal_title version ++ rest.now ≡ bytes
 
 -- what stands in front of an LF at the end
 abbrev pub IsEnded : List ℕ → Option (Bor (List ℕ)) → Type 0

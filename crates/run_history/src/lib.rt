@@ -7,4 +7,5 @@ pub mod line;
 pub mod reader;
 pub mod state_text;
 mod text;
+pub mod version;
 mod word;

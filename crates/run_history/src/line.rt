@@ -2,16 +2,21 @@
 //!
 //! | line | text |
 //! |---|---|
-//! | header | `maestro journal 1 <mode> <workers>` |
+//! | header of a run with the usual card | `maestro journal 1 <mode> <workers>` |
+//! | header of a run with another card | `maestro journal 2 <mode> <workers> <table> <key bytes>` |
 //! | packet | `<port> <seq> <worker> <action> <choices>` |
 //!
-//! An action is `skip`, `drop`, `flood` or `to:<port>`. The choices are `-` where there are none, and
-//! else indices joined by `,`. Numbers are decimals, and each line ends by LF.
+//! A table has 128 or 512 entries, and a key 40 or 52 bytes; the usual card has 128 and 40. An action is
+//! `skip`, `drop`, `flood` or `to:<port>`. The choices are `-` where there are none, and else indices
+//! joined by `,`. Numbers are decimals, and each line ends by LF.
 ghost use Rattle.std.specs.Prelude.{◌≡◌, ◌++◌, OnOk, OnErr, IfOk, drop, take, length};
-ghost use Rattle.run_history.specs.Line.{line_bytes, mode_word, action_word, choices_word, more_choices, header_line, packet_line, numbers_word, journal_title};
+ghost use Rattle.run_history.specs.Line.{line_bytes, mode_word, action_word, choices_word, more_choices, header_line, packet_line, numbers_word, sizes_words};
+ghost use Rattle.run_history.specs.Headings.{version_of};
 
 use crate::header::Header;
 use crate::text::{push_bytes, push_decimal};
+use crate::version::Version;
+use nf_base::card::Card;
 use nf_base::done::Action;
 use nf_base::packet::PacketId;
 use nf_base::picks::Picks;
@@ -96,20 +101,34 @@ fn push_mode(out: &mut Vec<u8>, mode: Mode) -> Result<(), AllocError>
     push_bytes(out, mode.word().as_bytes())
 }
 
-#[tactic(auto, unfolding(crate::specs::Line::journal_title))]
-fn push_title(out: &mut Vec<u8>) -> Result<(), AllocError>
-    ensures ok { OnOk result (out.new.items ≡ out.old.items ++ journal_title) }
+fn push_sizes(out: &mut Vec<u8>, version: Version, card: Card) -> Result<(), AllocError>
+    ensures ok { OnOk result (out.new.items ≡ out.old.items ++ sizes_words version card) }
 {
-    push_bytes(out, b"maestro journal 1 ")
+    match version {
+        Version::First => Ok(()),
+        Version::Second => {
+            push_bytes(out, b" ")?;
+            push_decimal(out, u64::from(card.table.entries()))?;
+            push_bytes(out, b" ")?;
+            push_decimal(out, u64::from(card.key.bytes()))
+        }
+    }
 }
 
-fn push_header(out: &mut Vec<u8>, mode: Mode, workers: Workers) -> Result<(), AllocError>
-    ensures ok { OnOk result (out.new.items ≡ out.old.items ++ header_line mode workers) }
+fn push_header(
+    out: &mut Vec<u8>,
+    mode: Mode,
+    workers: Workers,
+    card: Card,
+) -> Result<(), AllocError>
+    ensures ok { OnOk result (out.new.items ≡ out.old.items ++ header_line mode workers card) }
 {
-    push_title(out)?;
+    let version = Version::of(card);
+    push_bytes(out, version.title())?;
     push_mode(out, mode)?;
     push_bytes(out, b" ")?;
     push_decimal(out, u64::from(workers.get()))?;
+    push_sizes(out, version, card)?;
     push_bytes(out, b"\n")
 }
 
@@ -150,7 +169,9 @@ pub fn push_line(out: &mut Vec<u8>, line: &JournalLine) -> Result<(), AllocError
     ensures ok { OnOk result (out.new.items ≡ out.old.items ++ line_bytes line.now) }
 {
     match line {
-        JournalLine::Header(header) => push_header(out, header.mode(), header.workers()),
+        JournalLine::Header(header) => {
+            push_header(out, header.mode(), header.workers(), header.card())
+        }
         JournalLine::Packet {
             id,
             worker,

@@ -2,13 +2,15 @@
 ghost use Rattle.std.specs.Prelude.{◌≡◌, ◌≢◌, ◌↔◌, None, Some, IfSome};
 ghost use Rattle.run_history.specs.declared.line.JournalLine.{JournalLine};
 ghost use Rattle.run_history.specs.Headings.{IsHeading};
-ghost use Rattle.run_history.specs.Line.{line_bytes};
+ghost use Rattle.run_history.specs.Line.{line_bytes, card_words};
 ghost use Rattle.run_history.specs.Lines.{IsLine};
-ghost use Rattle.run_history.specs.Reading.{Reads, ReadsFront, numbers_words, AreNumbers, heading_end, heading_words, line_words, IsPacketLine, IsBehindTitle, IsEnded};
+ghost use Rattle.run_history.specs.Reading.{Reads, ReadsFront, numbers_words, AreNumbers, heading_end, heading_words, IsOtherCard, IsUsual, IsOther, line_words, IsPacketLine, IsBehindTitle, IsEnded};
 
 use crate::header::Header;
 use crate::line::JournalLine;
-use crate::word::{action_first, choices, mode_first, number, number_first};
+use crate::version::Version;
+use crate::word::{action_first, choices, key_size, mode_first, number, number_first, table_first};
+use nf_base::card::Card;
 use nf_base::packet::PacketId;
 use nf_base::picks::Picks;
 
@@ -36,33 +38,68 @@ fn numbers_first(bytes: &[u8]) -> Option<(Numbers, &[u8])>
     Some((Numbers { id, worker }, rest))
 }
 
-/// What stands behind the title in the first line.
-fn heading(words: &[u8]) -> Option<Header>
-    ensures { Reads heading_end IsHeading words.now result }
+/// The sizes of a card that isn't the usual one.
+fn other_card(words: &[u8]) -> Option<Card>
+    ensures { Reads card_words IsOtherCard words.now result }
+{
+    let Some((table, rest)) = table_first(words) else {
+        return None;
+    };
+    let Some(key) = key_size(rest) else {
+        return None;
+    };
+    let card = Card { table, key };
+    match Version::of(card) {
+        Version::First => None,
+        Version::Second => Some(card),
+    }
+}
+
+/// What stands behind the title in the first line of version 1.
+fn usual_heading(words: &[u8]) -> Option<Header>
+    ensures { Reads heading_end IsUsual words.now result }
 {
     let Some((mode, rest)) = mode_first(words) else {
         return None;
     };
     match number(rest) {
-        Some(workers) => Header::of(mode, workers),
+        Some(workers) => Header::of(mode, workers, Card::usual()),
+        None => None,
+    }
+}
+
+/// What stands behind the title in the first line of version 2.
+fn other_heading(words: &[u8]) -> Option<Header>
+    ensures { Reads heading_end IsOther words.now result }
+{
+    let Some((mode, rest)) = mode_first(words) else {
+        return None;
+    };
+    let Some((workers, rest)) = number_first(rest) else {
+        return None;
+    };
+    match other_card(rest) {
+        Some(card) => Header::of(mode, workers, card),
         None => None,
     }
 }
 
 /// What follows the title of a journal.
-#[tactic(auto, unfolding(crate::specs::Line::journal_title))]
-fn behind_title(words: &[u8]) -> Option<&[u8]>
-    ensures { IsBehindTitle words.now result }
+fn behind_title(words: &[u8], version: Version) -> Option<&[u8]>
+    ensures { IsBehindTitle version words.now result }
 {
-    words.strip_prefix(b"maestro journal 1 ")
+    words.strip_prefix(version.title())
 }
 
 /// The first line, without its LF.
 fn header(words: &[u8]) -> Option<Header>
     ensures { Reads heading_words IsHeading words.now result }
 {
-    match behind_title(words) {
-        Some(rest) => heading(rest),
+    if let Some(rest) = behind_title(words, Version::First) {
+        return usual_heading(rest);
+    }
+    match behind_title(words, Version::Second) {
+        Some(rest) => other_heading(rest),
         None => None,
     }
 }

@@ -2,9 +2,10 @@
 ghost use Rattle.std.specs.Prelude.{◌≡◌, ◌<◌, [], length, decimal};
 ghost use Rattle.run_history.specs.Line.{mode_word, action_word};
 ghost use Rattle.run_history.specs.Lines.{IsShort, IsAction};
-ghost use Rattle.run_history.specs.Reading.{IsCut, IsMode, Reads, ReadsFront, ReadsChoices, ReadsIndices, PutsIndex};
+ghost use Rattle.run_history.specs.Reading.{IsCut, IsMode, IsTable, IsKey, table_word, key_word, Reads, ReadsFront, ReadsChoices, ReadsIndices, PutsIndex};
 
 use crate::line::Mode;
+use nf_base::card::{KeySize, TableSize};
 use nf_base::done::Action;
 use nf_base::picks::Picks;
 use nf_tokens::decimal;
@@ -40,6 +41,29 @@ pub fn number_first(bytes: &[u8]) -> Option<(u32, &[u8])>
     };
     match number(word) {
         Some(number) => Some((number, rest)),
+        None => None,
+    }
+}
+
+/// How many entries a table has and a space, and the bytes behind them.
+pub fn table_first(bytes: &[u8]) -> Option<(TableSize, &[u8])>
+    ensures { ReadsFront table_word 32 IsTable bytes.now result }
+{
+    let Some((entries, rest)) = number_first(bytes) else {
+        return None;
+    };
+    match TableSize::of(u64::from(entries)) {
+        Some(table) => Some((table, rest)),
+        None => None,
+    }
+}
+
+/// How many bytes a key has.
+pub fn key_size(word: &[u8]) -> Option<KeySize>
+    ensures { Reads key_word IsKey word.now result }
+{
+    match number(word) {
+        Some(bytes) => KeySize::of(u64::from(bytes)),
         None => None,
     }
 }

@@ -114,9 +114,9 @@ if_ok (Ok t) P Q a f = f t a
 if_ok (Err e) P Q a f = tt
 
 pub queue_below : (func : Func) (keys : Keys) (count : ℕ) (ws : List Held) (queues table : List ℕ) (q : ℕ) → IsSharded func keys count ws queues table → ((n : ℕ) → AllBelow n table → q < n) → q < count
-queue_below func keys count ws queues table q is below = below count (subst (AllBelow count) (sym is.table_is) (even_below count is.some))
+queue_below func keys count ws queues table q is below = below count (subst (AllBelow count) (sym is.table_is) (even_below keys.table count is.some))
 
-pub given_to : (func : Func) (keys : Keys) (count : ℕ) (ws : List Held) (queues more : Pending ℕ) (time q : ℕ) (p : Packet) (before after : Held) → slice_get ws q ≡ Some before → q ≡ queue_of (even_table count) keys p → GivenOne p before after → more.items ≡ queues.items ++ q ∷ [] →
+pub given_to : (func : Func) (keys : Keys) (count : ℕ) (ws : List Held) (queues more : Pending ℕ) (time q : ℕ) (p : Packet) (before after : Held) → slice_get ws q ≡ Some before → q ≡ queue_of (even_table keys.table count) keys p → GivenOne p before after → more.items ≡ queues.items ++ q ∷ [] →
     GivenTo p (sharded_of func keys count ws queues time) (sharded_of func keys count (slice_set ws q after) more time)
 given_to func keys count ws queues more time q p before after at e n f = record {
   before = before;

@@ -21,5 +21,5 @@ reported_sent f hs sent a within there =
 pub keys_give : KeysGiveOneQueue
 keys_give x keys count sent alike queue input hs within a b meet =
     queue a.packet
-    ∙ ap (queue_at (even_table count)) (alike hs a b (input a.packet (reported_sent x.function hs sent a within meet.first)) (input b.packet (reported_sent x.function hs sent b within meet.second)) meet)
+    ∙ ap (queue_at (even_table keys.table count)) (alike hs a b (input a.packet (reported_sent x.function hs sent a within meet.first)) (input b.packet (reported_sent x.function hs sent b within meet.second)) meet)
     ∙ sym (queue b.packet)

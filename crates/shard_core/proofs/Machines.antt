@@ -39,7 +39,7 @@ same_setup x w old new before after c s = record {
   is = s.is;
   function = s.function ∙ ap function_of (sym c.func);
   workers = s.workers ∙ sym c.count;
-  queue = λ p. s.queue p ∙ ap₂ (λ n keys. queue_of (even_table n) keys p) (sym c.count) (sym c.keys);
+  queue = λ p. s.queue p ∙ ap₂ (λ n keys. queue_of (even_table keys.table n) keys p) (sym c.count) (sym c.keys);
 }
 
 -- all workers are there as before
@@ -184,7 +184,7 @@ same_rooms x m old new s h = record {
     is = h.setup.is;
     function = h.setup.function ∙ ap function_of (sym s.func);
     workers = h.setup.workers ∙ sym s.count;
-    queue = λ p. h.setup.queue p ∙ ap₂ (λ n keys. queue_of (even_table n) keys p) (sym s.count) (sym s.keys);
+    queue = λ p. h.setup.queue p ∙ ap₂ (λ n keys. queue_of (even_table keys.table n) keys p) (sym s.count) (sym s.keys);
   };
   holds = h.holds;
   workers = λ w held at.

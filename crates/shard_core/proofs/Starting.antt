@@ -65,7 +65,7 @@ new_stands f keys n v new x s = record {
 none_of : {A : Type 0} (P : A → Type 0) → All P []
 none_of P k d lt = absurd (omega (arith, lt))
 
-pub new_sharded : (func : Func) (keys : Keys) (n : ℕ) (ws : List Held) (queues table : List ℕ) → AreNew (function_of func) n n ws → 0 < n → n ≤ 16 → length func.handlers ≤ length keys.ports → table ≡ even_table n → queues ≡ [] → IsSharded func keys n ws queues table
+pub new_sharded : (func : Func) (keys : Keys) (n : ℕ) (ws : List Held) (queues table : List ℕ) → AreNew (function_of func) n n ws → 0 < n → n ≤ 16 → length func.handlers ≤ length keys.ports → table ≡ even_table keys.table n → queues ≡ [] → IsSharded func keys n ws queues table
 new_sharded func keys n ws queues table new some most fit t e = record {
   table_is = t;
   some = some;

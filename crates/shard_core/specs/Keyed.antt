@@ -13,6 +13,6 @@ abbrev pub KeysGiveOneQueue : Type 0
 KeysGiveOneQueue =
     (x : Setup) (keys : Keys) (count : ℕ) (sent : List Packet) →
     HashAlikeWhereTheyMeet x.function keys →
-    ((packet : Packet) → x.queue packet ≡ queue_of (even_table count) keys packet) →
+    ((packet : Packet) → x.queue packet ≡ queue_of (even_table keys.table count) keys packet) →
     ((packet : Packet) → Contains sent packet → HasInput packet) →
     OneQueueWhereTheyMeet x sent

@@ -53,7 +53,7 @@ with_workers workers v = record v { workers = workers }
 
 -- the queue of a packet
 abbrev pub queue_in : Sharded → Packet → ℕ
-queue_in v packet = queue_of (even_table v.count) v.keys packet
+queue_in v packet = queue_of (even_table v.keys.table v.count) v.keys packet
 
 -- a worker of queue w of n, of a function
 pub record IsWorker (func : Func) (n w : ℕ) (held : Held) : Type 0 where
@@ -67,7 +67,7 @@ pub record IsWorker (func : Func) (n w : ℕ) (held : Held) : Type 0 where
 -- queue, and each key and each queue that is asked for is there.
 pub record IsSharded (func : Func) (keys : Keys) (count : ℕ) (workers : List Held)
     (queues : List ℕ) (table : List ℕ) : Type 0 where
-  pub table_is : table ≡ even_table count
+  pub table_is : table ≡ even_table keys.table count
   pub some : 0 < count
   pub most : count ≤ 16
   pub keys_fit : length func.handlers ≤ length keys.ports

@@ -305,13 +305,14 @@ fn make(alloc: Global, func: &Func, keys: Keys, workers: Workers) -> Result<Shar
     ensures { IfOk result (IsNewSharded (function_of func.now) keys workers) }
 {
     let func = func.copy(alloc)?;
+    let table = Table::even(workers, keys.table);
     let keys = Hasher::new(alloc, &keys)?;
     let made = make_workers(alloc, &func, workers)?;
     Ok(Shards {
         alloc,
         func,
         keys,
-        table: Table::even(workers),
+        table,
         count: workers,
         workers: made,
         queues: Fifo::new(alloc),

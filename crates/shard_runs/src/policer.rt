@@ -2,7 +2,9 @@
 ghost use Rattle.std.specs.Prelude.{◌≡◌, length, IfOk};
 ghost use Rattle.shard_core.specs.Sharded.{IsWhole};
 
+use nf_base::card::{KeySize, TableSize};
 use nf_base::func::Func;
+use nf_base::hash_key::HashKey;
 use nf_base::keys::Keys;
 use nf_base::limited::Limited;
 use nf_base::mac::Mac;
@@ -12,7 +14,7 @@ use nf_syntax::parse;
 use nf_types::check;
 use shard_core::Shards;
 use std::alloc::{AllocError, Global};
-use toeplitz_hash::DEFAULT_KEY;
+use toeplitz_hash::default_key;
 
 /// Of five indices queue 0 owns 0, 2 and 4, and queue 1 owns 1 and 3.
 const POLICER: &[u8] = b"nf policer {
@@ -45,12 +47,15 @@ fn policer(alloc: Global) -> Option<Func> {
 fn keys(alloc: Global) -> Result<Keys, AllocError>
     ensures { IfOk result (λ keys. length keys.ports ≡ 2) }
 {
-    let mut first_bit = [0; 40];
+    let mut first_bit = [0; 52];
     first_bit[7] = 1;
     let mut ports = Limited::new(alloc);
-    ports.push(DEFAULT_KEY)?;
-    ports.push(first_bit)?;
-    Ok(Keys { ports })
+    ports.push(default_key(KeySize::Bytes40))?;
+    ports.push(HashKey::new(&first_bit, KeySize::Bytes40))?;
+    Ok(Keys {
+        table: TableSize::Entries128,
+        ports,
+    })
 }
 
 /// Two workers of the policer, before the first packet.

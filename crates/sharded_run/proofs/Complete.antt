@@ -2,6 +2,7 @@
 use Rattle.std.proofs.Common.{◌≡◌, ◌⊎◌, ℕ, Bool, List, [], ◌∷◌, length, map, Some, refl, sym, ◌∙◌, subst, arith}
 use Rattle.std.specs.List.{AllByRecursion, slice_get}
 use Rattle.std.proofs.lemmas.List.{length-map}
+use Rattle.nf_base.specs.declared.card.Card.{Card}
 use Rattle.nf_base.specs.declared.func.Func.{Func}
 use Rattle.nf_base.specs.declared.keys.Keys.{Keys}
 use Rattle.nf_base.specs.declared.packet.Packet.{Packet}
@@ -40,42 +41,43 @@ all_queues : (queue : Packet → ℕ) (hs : List Handled) → AllByRecursion (λ
 all_queues queue [] h = tt
 all_queues queue (x ∷ hs) h = (h.0, all_queues queue hs h.1)
 
-is_shard_run : (f : Function) (keys : Keys) (workers : ℕ) (hs : List Handled) (state : State) → AreSharded f keys workers hs state → IsShardRun f keys workers (run_of f Shard workers hs)
-is_shard_run f keys workers hs state s = record {
+is_shard_run : (f : Function) (keys : Keys) (workers : ℕ) (card : Card) (hs : List Handled) (state : State) → AreSharded f keys workers hs state → IsShardRun f keys workers card (run_of f Shard workers card hs)
+is_shard_run f keys workers card hs state s = record {
   function = refl;
   mode = refl;
   workers_are = refl;
+  card_is = refl;
   queues = all_queues (queue_by keys workers) hs s.queues;
-  legal = record { result = result_in hs state; ran = ran_of f Shard workers hs state s.undivided };
+  legal = record { result = result_in hs state; ran = ran_of f Shard workers card hs state s.undivided };
   share = s.share;
   shares = s.shares;
   rule = subst (λ (ls : List Handling). KeepShareRule s.share (queue_by keys workers) f (opening f) ls) (sym (same_handlings hs)) s.rule;
 }
 
-wholes_of : (f : Function) (workers : ℕ) (hs : List Handled) (state : State) (now : Told) (files : List ℕ) → IsUndivided f hs state → AreWhole workers (length f.handlers) now files hs → (k file : ℕ) → slice_get files k ≡ Some file → IsToldAs (file_bytes (run_of f Shard workers hs) k) (now.given file)
-wholes_of f workers hs state now files u wholes k file e = subst (λ (t : List ℕ). IsToldAs t (now.given file)) (sym (bytes_are f Shard workers hs state k u)) (wholes k file e)
+wholes_of : (f : Function) (workers : ℕ) (card : Card) (hs : List Handled) (state : State) (now : Told) (files : List ℕ) → IsUndivided f hs state → AreWhole workers card (length f.handlers) now files hs → (k file : ℕ) → slice_get files k ≡ Some file → IsToldAs (file_bytes (run_of f Shard workers card hs) k) (now.given file)
+wholes_of f workers card hs state now files u wholes k file e = subst (λ (t : List ℕ). IsToldAs t (now.given file)) (sym (bytes_are f Shard workers card hs state k u)) (wholes k file e)
 
 -- ---- how a run ends
 
-pub cut_short : (f : Function) (keys : Keys) (workers : ℕ) (begun : Feeding) (start now : Told) (files : List ℕ) → Halts f keys workers (length f.handlers) begun start now files → IsCutShort f keys workers begun start now files
-cut_short f keys workers begun start now files h = record {
-  run = run_of f Shard workers h.hs;
-  is_run = is_shard_run f keys workers h.hs h.state h.sharded;
+pub cut_short : (f : Function) (keys : Keys) (workers : ℕ) (card : Card) (begun : Feeding) (start now : Told) (files : List ℕ) → Halts f keys workers card (length f.handlers) begun start now files → IsCutShort f keys workers card begun start now files
+cut_short f keys workers card begun start now files h = record {
+  run = run_of f Shard workers card h.hs;
+  is_run = is_shard_run f keys workers card h.hs h.state h.sharded;
   within = omega (arith, length-map h.hs turn_of, h.within);
   packets = λ before b. subst (AreFirst (packets_of (sixes_in begun.sources) (files_in begun.sources) before)) (sym (same_arrivals h.hs)) (h.first before b);
-  fronts = λ k file e. subst (λ (t : List ℕ). IsFrontIfTold t (now.given file)) (sym (bytes_are f Shard workers h.hs h.state k h.sharded.undivided)) (h.fronts k file e);
+  fronts = λ k file e. subst (λ (t : List ℕ). IsFrontIfTold t (now.given file)) (sym (bytes_are f Shard workers card h.hs h.state k h.sharded.undivided)) (h.fronts k file e);
 }
 
-pub is_full : (f : Function) (keys : Keys) (workers : ℕ) (begun : Feeding) (start now : Told) (files : List ℕ) (full : ShareFull) → StopsWith f keys workers begun start full.stop full.packets (AreWhole workers (length f.handlers) now files)
-    → IsFull f keys workers begun start now files full
-is_full f keys workers begun start now files full h = record {
-  run = run_of f Shard workers h.hs;
-  is_run = is_shard_run f keys workers h.hs h.state h.sharded;
+pub is_full : (f : Function) (keys : Keys) (workers : ℕ) (card : Card) (begun : Feeding) (start now : Told) (files : List ℕ) (full : ShareFull) → StopsWith f keys workers begun start full.stop full.packets (AreWhole workers card (length f.handlers) now files)
+    → IsFull f keys workers card begun start now files full
+is_full f keys workers card begun start now files full h = record {
+  run = run_of f Shard workers card h.hs;
+  is_run = is_shard_run f keys workers card h.hs h.state h.sharded;
   stops = record {
     queue_is = h.queue_is;
     state = h.state;
     answers = map (λ (x : Handled). x.done) h.hs;
-    ran = ran_of f Shard workers h.hs h.state h.sharded.undivided;
+    ran = ran_of f Shard workers card h.hs h.state h.sharded.undivided;
     fields = h.fields;
     choices = h.choices;
     share = h.share;
@@ -85,14 +87,14 @@ is_full f keys workers begun start now files full h = record {
   within = omega (arith, length-map h.hs turn_of, h.within);
   packets = λ before b. subst (λ (as_list : List Arrival). AreBefore (packets_of (sixes_in begun.sources) (files_in begun.sources) before) as_list full.stop.packet) (sym (same_arrivals h.hs)) (h.before_it before b);
   count = length-map h.hs turn_of ∙ h.count;
-  wholes = wholes_of f workers h.hs h.state now files h.sharded.undivided h.left;
+  wholes = wholes_of f workers card h.hs h.state now files h.sharded.undivided h.left;
 }
 
-pub finished : (f : Function) (keys : Keys) (workers : ℕ) (begun : Feeding) (start : Told) (feed : Feeding) (v : Sharded) (e : Ending) (now : Told) (files : List ℕ) (ran : ran_type.Ran) → (n : ℕ) → n ≡ length f.handlers → (h : EndsWith f keys workers begun start feed v e (AreWhole workers n now files))
-    → ran.ending ≡ e → feed.given ≡ ran.packets → AreSharded f keys workers h.hs ran.state → IsFinished f keys workers begun start feed now files ran
-finished f keys workers begun start feed v e now files ran n ports h same packets s = record {
-  run = run_of f Shard workers h.hs;
-  is_run = is_shard_run f keys workers h.hs ran.state s;
+pub finished : (f : Function) (keys : Keys) (workers : ℕ) (card : Card) (begun : Feeding) (start : Told) (feed : Feeding) (v : Sharded) (e : Ending) (now : Told) (files : List ℕ) (ran : ran_type.Ran) → (n : ℕ) → n ≡ length f.handlers → (h : EndsWith f keys workers begun start feed v e (AreWhole workers card n now files))
+    → ran.ending ≡ e → feed.given ≡ ran.packets → AreSharded f keys workers h.hs ran.state → IsFinished f keys workers card begun start feed now files ran
+finished f keys workers card begun start feed v e now files ran n ports h same packets s = record {
+  run = run_of f Shard workers card h.hs;
+  is_run = is_shard_run f keys workers card h.hs ran.state s;
   within = omega (arith, length-map h.hs turn_of, h.within);
   packets = λ before b.
       let how = how_ended e feed before h.hs begun.most h.same_most (h.ending_is before b) in
@@ -105,8 +107,8 @@ finished f keys workers begun start feed v e now files ran n ports h same packet
   same_six = h.same_six;
   same_most = h.same_most;
   count = length-map h.hs turn_of ∙ h.count ∙ packets;
-  left = (map (λ (x : Handled). x.done) h.hs, ran_of f Shard workers h.hs ran.state s.undivided);
-  wholes = wholes_of f workers h.hs ran.state now files s.undivided (subst (λ (m : ℕ). AreWhole workers m now files h.hs) ports h.left);
+  left = (map (λ (x : Handled). x.done) h.hs, ran_of f Shard workers card h.hs ran.state s.undivided);
+  wholes = wholes_of f workers card h.hs ran.state now files s.undivided (subst (λ (m : ℕ). AreWhole workers card m now files h.hs) ports h.left);
 }
 
 -- ---- the same, of a function's ports as they are counted
@@ -114,9 +116,9 @@ finished f keys workers begun start feed v e now files ran n ports h same packet
 pub counted : (func : Func) → length func.handlers ≡ length (function_of func).handlers
 counted func = sym (length-map func.handlers blocks_of)
 
-pub cut_short_at : (f : Function) (n : ℕ) (keys : Keys) (workers : ℕ) (begun : Feeding) (start now : Told) (files : List ℕ) → n ≡ length f.handlers → Halts f keys workers n begun start now files → IsCutShort f keys workers begun start now files
-cut_short_at f n keys workers begun start now files same h = cut_short f keys workers begun start now files (subst (λ (m : ℕ). Halts f keys workers m begun start now files) same h)
+pub cut_short_at : (f : Function) (n : ℕ) (keys : Keys) (workers : ℕ) (card : Card) (begun : Feeding) (start now : Told) (files : List ℕ) → n ≡ length f.handlers → Halts f keys workers card n begun start now files → IsCutShort f keys workers card begun start now files
+cut_short_at f n keys workers card begun start now files same h = cut_short f keys workers card begun start now files (subst (λ (m : ℕ). Halts f keys workers card m begun start now files) same h)
 
-pub is_full_at : (f : Function) (n : ℕ) (keys : Keys) (workers : ℕ) (begun : Feeding) (start now : Told) (files : List ℕ) (full : ShareFull) → n ≡ length f.handlers → StopsWith f keys workers begun start full.stop full.packets (AreWhole workers n now files)
-    → IsFull f keys workers begun start now files full
-is_full_at f n keys workers begun start now files full same h = is_full f keys workers begun start now files full (subst (λ (m : ℕ). StopsWith f keys workers begun start full.stop full.packets (AreWhole workers m now files)) same h)
+pub is_full_at : (f : Function) (n : ℕ) (keys : Keys) (workers : ℕ) (card : Card) (begun : Feeding) (start now : Told) (files : List ℕ) (full : ShareFull) → n ≡ length f.handlers → StopsWith f keys workers begun start full.stop full.packets (AreWhole workers card n now files)
+    → IsFull f keys workers card begun start now files full
+is_full_at f n keys workers card begun start now files full same h = is_full f keys workers card begun start now files full (subst (λ (m : ℕ). StopsWith f keys workers begun start full.stop full.packets (AreWhole workers card m now files)) same h)

@@ -41,7 +41,7 @@ own_turns f keys workers share s (t ∷ ts) r lt shares e at rule =
     )
 
 pub turns_own : TurnsAreOwn
-turns_own f keys workers r lt h =
+turns_own f keys workers card r lt h =
     All-from_recursion (IsOwnTurn workers) r.turns
     (own_turns f keys workers h.share (opening f) r.turns h.legal.result lt h.shares (subst (λ (g : Function). run g (opening g) (map handling_of r.turns) ≡ Some h.legal.result) h.function h.legal.ran) h.queues h.rule)
 

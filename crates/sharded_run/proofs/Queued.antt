@@ -8,8 +8,8 @@ use Rattle.sharded_run.specs.Laws.{QueuesAreOfHashes, NextIsNext}
 
 pub of_hashes : QueuesAreOfHashes
 of_hashes keys workers packet = (
-  λ hash e. ap (queue_at (even_table workers)) e ∙ (entries_go_round workers).of_hash hash,
-  λ e. ap (queue_at (even_table workers)) e ∙ (entries_go_round workers).of_skipped,
+  λ hash e. ap (queue_at (even_table keys.table workers)) e ∙ (entries_go_round keys.table workers).of_hash hash,
+  λ e. ap (queue_at (even_table keys.table workers)) e ∙ (entries_go_round keys.table workers).of_skipped,
 )
 
 taken : (given : List Arrival) (next : Arrival) (later : List Arrival) → take (length given) (given ++ next ∷ later) ≡ given

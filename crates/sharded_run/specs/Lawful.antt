@@ -1,5 +1,6 @@
 -- A run of captures in mode `shard`, and what it leaves.
 use Rattle.std.specs.Prelude.{◌≡◌, ◌≤◌, ◌<◌, ℕ, List, [], length, map, slice_get, Some, Result, Ok, Err}
+use Rattle.nf_base.specs.declared.card.Card.{Card}
 use Rattle.nf_base.specs.declared.done.Done.{Done}
 use Rattle.nf_base.specs.declared.keys.Keys.{Keys}
 use Rattle.nf_base.specs.Text.{Function}
@@ -21,9 +22,9 @@ use Rattle.sharded_run.specs.Sharded.{IsShardRun, IsStopBehind, AreBefore}
 
 -- The run's packets are the first ones of the captures in capture order, at most so many. Its files are
 -- whole, its last state is told, and how it ended.
-pub record IsFinished (f : Function) (keys : Keys) (workers : ℕ) (begun : Feeding) (start : Told) (feed : Feeding) (now : Told) (files : List ℕ) (ran : Ran) : Type 0 where
+pub record IsFinished (f : Function) (keys : Keys) (workers : ℕ) (card : Card) (begun : Feeding) (start : Told) (feed : Feeding) (now : Told) (files : List ℕ) (ran : Ran) : Type 0 where
   pub run : Run
-  pub is_run : IsShardRun f keys workers run
+  pub is_run : IsShardRun f keys workers card run
   pub within : length run.turns ≤ begun.most
   pub packets : (before : Told) → StandsFor before [] begun start → AreTheFirst begun.most (packets_of (sixes_in begun.sources) (files_in begun.sources) before) (map arrival_in run.turns)
   pub ending : (before : Told) → StandsFor before [] begun start → EndsSo ran.ending feed before (map arrival_in run.turns)
@@ -36,9 +37,9 @@ pub record IsFinished (f : Function) (keys : Keys) (workers : ℕ) (begun : Feed
 
 -- The run's packets are those before the packet at which a share has no index left, and its files are
 -- whole.
-pub record IsFull (f : Function) (keys : Keys) (workers : ℕ) (begun : Feeding) (start now : Told) (files : List ℕ) (full : ShareFull) : Type 0 where
+pub record IsFull (f : Function) (keys : Keys) (workers : ℕ) (card : Card) (begun : Feeding) (start now : Told) (files : List ℕ) (full : ShareFull) : Type 0 where
   pub run : Run
-  pub is_run : IsShardRun f keys workers run
+  pub is_run : IsShardRun f keys workers card run
   pub stops : IsStopBehind f keys workers run full.stop
   pub within : length run.turns < begun.most
   pub packets : (before : Told) → StandsFor before [] begun start → AreBefore (packets_of (sixes_in begun.sources) (files_in begun.sources) before) (map arrival_in run.turns) full.stop.packet
@@ -47,15 +48,15 @@ pub record IsFull (f : Function) (keys : Keys) (workers : ℕ) (begun : Feeding)
 
 -- The run was stopped. Each file holds a front of what a run over some first packets of the captures
 -- leaves there.
-pub record IsCutShort (f : Function) (keys : Keys) (workers : ℕ) (begun : Feeding) (start now : Told) (files : List ℕ) : Type 0 where
+pub record IsCutShort (f : Function) (keys : Keys) (workers : ℕ) (card : Card) (begun : Feeding) (start now : Told) (files : List ℕ) : Type 0 where
   pub run : Run
-  pub is_run : IsShardRun f keys workers run
+  pub is_run : IsShardRun f keys workers card run
   pub within : length run.turns ≤ begun.most
   pub packets : (before : Told) → StandsFor before [] begun start → AreFirst (packets_of (sixes_in begun.sources) (files_in begun.sources) before) (map arrival_in run.turns)
   pub fronts : (k file : ℕ) → slice_get files k ≡ Some file → IsFrontIfTold (file_bytes run k) (now.given file)
 
 -- what a run comes to
-abbrev pub Runs : Function → Keys → ℕ → Feeding → Told → Feeding → Told → List ℕ → Result came.Came Stop → Type 0
-Runs f keys workers begun start feed now files (Ok (outcome.Ran ran)) = IsFinished f keys workers begun start feed now files ran
-Runs f keys workers begun start feed now files (Ok (outcome.Full full)) = IsFull f keys workers begun start now files full
-Runs f keys workers begun start feed now files (Err stop) = IsCutShort f keys workers begun start now files
+abbrev pub Runs : Function → Keys → ℕ → Card → Feeding → Told → Feeding → Told → List ℕ → Result came.Came Stop → Type 0
+Runs f keys workers card begun start feed now files (Ok (outcome.Ran ran)) = IsFinished f keys workers card begun start feed now files ran
+Runs f keys workers card begun start feed now files (Ok (outcome.Full full)) = IsFull f keys workers card begun start now files full
+Runs f keys workers card begun start feed now files (Err stop) = IsCutShort f keys workers card begun start now files

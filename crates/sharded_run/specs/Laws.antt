@@ -1,5 +1,6 @@
 -- Laws of runs in mode `shard`.
 use Rattle.std.specs.Prelude.{◌≡◌, ◌<◌, ◌%◌, ℕ, List, [], length, map, take, Some, None, slice_get, All}
+use Rattle.nf_base.specs.declared.card.Card.{Card}
 use Rattle.nf_base.specs.declared.keys.Keys.{Keys}
 use Rattle.nf_base.specs.declared.packet.Packet.{Packet}
 use Rattle.nf_base.specs.Doors.{handler_at}
@@ -10,6 +11,7 @@ use Rattle.nf_laws.specs.Shares.{StopsAtNew}
 use Rattle.packet_feed.specs.Arrivals.{Arrival, packet_of}
 use Rattle.packet_feed.specs.Order.{in_order}
 use Rattle.toeplitz_hash.specs.Packets.{hash_of}
+use Rattle.rss_table.specs.Tables.{table_index}
 use Rattle.shard_core.specs.declared.collected.Stop.{Stop}
 use Rattle.stream_run.specs.Runs.{Run, Turn}
 use Rattle.sharded_run.specs.Setups.{queue_by}
@@ -23,8 +25,8 @@ pub record IsOwnTurn (workers : ℕ) (t : Turn) : Type 0 where
 
 -- so it is of each packet of a run
 abbrev pub TurnsAreOwn : Type 0
-TurnsAreOwn = (f : Function) (keys : Keys) (workers : ℕ) (r : Run) → 0 < workers →
-    IsShardRun f keys workers r → All (IsOwnTurn workers) r.turns
+TurnsAreOwn = (f : Function) (keys : Keys) (workers : ℕ) (card : Card) (r : Run) → 0 < workers →
+    IsShardRun f keys workers card r → All (IsOwnTurn workers) r.turns
 
 -- Where a run stops: the handler of the packet comes to a `new` of the chain with no key taken, where
 -- no index of its queue's share is vacant.
@@ -40,11 +42,11 @@ abbrev pub SharesAreFull : Type 0
 SharesAreFull = (f : Function) (keys : Keys) (workers : ℕ) (r : Run) (stop : Stop) →
     (s : IsStopBehind f keys workers r stop) → StopsWhereNoneIsLeft f keys workers r stop s
 
--- the queue of a packet is the low 7 bits of its hash, modulo the number of workers, and 0 where it is
--- skipped and has none
+-- the queue of a packet is the low bits of its hash that index the table, modulo the number of workers, and 0
+-- where it is skipped and has none
 abbrev pub QueuesAreOfHashes : Type 0
 QueuesAreOfHashes = (keys : Keys) (workers : ℕ) (packet : Packet) →
-    ((hash : ℕ) → hash_of keys packet ≡ Some hash → queue_by keys workers packet ≡ hash % 128 % workers)
+    ((hash : ℕ) → hash_of keys packet ≡ Some hash → queue_by keys workers packet ≡ table_index keys.table hash % workers)
     × (hash_of keys packet ≡ None → queue_by keys workers packet ≡ 0)
 
 -- where packets are those before a packet, they are as many of the first as they are, and it is the next

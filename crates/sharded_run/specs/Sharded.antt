@@ -1,6 +1,7 @@
 -- A run in mode `shard`: workers that share nothing handle the packets of their own queues.
 use Rattle.std.specs.Prelude.{◌≡◌, ℕ, List, ◌∷◌, ◌++◌, map, Option, Some, None}
 use Rattle.std.specs.List.{AllByRecursion}
+use Rattle.nf_base.specs.declared.card.Card.{Card}
 use Rattle.nf_base.specs.declared.done.Done.{Done}
 use Rattle.nf_base.specs.declared.keys.Keys.{Keys}
 use Rattle.nf_base.specs.declared.packet.Packet.{Packet}
@@ -21,10 +22,11 @@ use Rattle.sharded_run.specs.Setups.{queue_by}
 -- Each packet is handled by the worker of its queue, with indices of that queue's share, and no `new`
 -- answers that its chain is full. What the packets come to is what the undivided function does with
 -- them, in this order.
-pub record IsShardRun (f : Function) (keys : Keys) (workers : ℕ) (r : Run) : Type 0 where
+pub record IsShardRun (f : Function) (keys : Keys) (workers : ℕ) (card : Card) (r : Run) : Type 0 where
   pub function : r.function ≡ f
   pub mode : r.mode ≡ Shard
   pub workers_are : r.workers ≡ workers
+  pub card_is : r.card ≡ card
   pub queues : AllByRecursion (λ (t : Turn). t.worker ≡ queue_by keys workers t.arrival.packet) r.turns
   pub legal : IsLegal r
   pub share : ℕ → Share

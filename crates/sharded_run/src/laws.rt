@@ -13,7 +13,8 @@ pub fn shares_are_full()
     ensures { SharesAreFull }
 {}
 
-/// A packet's queue is the low 7 bits of its hash modulo the number of workers, and 0 where it has none.
+/// A packet's queue is the low bits of its hash that index the table, modulo the number of workers, and 0
+/// where it has none.
 pub fn queues_are_of_hashes()
     ensures { QueuesAreOfHashes }
 {}

@@ -20,6 +20,7 @@ ghost use Rattle.sharded_run.specs.Lawful.{Runs};
 
 use crate::came::{Came, Ended};
 use crate::rounds::all_rounds;
+use nf_base::card::Card;
 use nf_base::func::Func;
 use nf_base::keys::Keys;
 use nf_base::seq::Seq;
@@ -54,11 +55,11 @@ fn flow<R: Threads + Sync, F: Files, G: Turns + Sync>(
     requires apart { IsApart (files_of sinks.old) }
     requires few { length sinks.old ≤ 2 ^ 32 }
     ensures flows { let f = function_of shards.old.func in let ports = length captures.now in
-        (keys : keys.Keys) → (workers : ℕ) → (begun : Feeding) → (start : Told) →
+        (keys : keys.Keys) → (workers : ℕ) → (card : Card) → (begun : Feeding) → (start : Told) →
         1 < workers → HashAlikeWhereTheyMeet f keys →
-        Reaches f keys workers ports begun start
+        Reaches f keys workers card ports begun start
         feed.old (F.told files.old) sinks.old shards.old →
-        Flows f keys workers ports begun start
+        Flows f keys workers card ports begun start
         feed.new (F.told files.new) (files_of sinks.old) shards.new result }
     ensures same { SameSize shards.old shards.new }
     ensures kept { KeepsBut (files_of sinks.old) (F.told files.old) (F.told files.new) }
@@ -104,8 +105,8 @@ fn shards_of(
     ensures stands { IfOk result (λ shards. (x : Setup) → IsSetupOf x shards →
         StandsFor x (new_machine x.function) shards) }
 {
-    let ports = keys.ports.copy(alloc)?;
-    Shards::new(alloc, func, Keys { ports }, workers)
+    let keys = keys.copy(alloc)?;
+    Shards::new(alloc, func, keys, workers)
 }
 
 // The same from new shards, and the state that is left.
@@ -133,9 +134,12 @@ fn stream<R: Threads + Sync, F: Files, G: Turns + Sync>(
     requires created { EachFile (F.is_written files.old) (files_of sinks.old) }
     requires apart { IsApart (files_of sinks.old) }
     requires few { length sinks.old ≤ 2 ^ 32 }
+    // All files are held as they begin, with some card.
     requires heads { let ports = length func.now.handlers in
-        AreHeld mode.Shard workers ports [] (F.told files.old) sinks.old }
-    ensures runs { Runs (function_of func.now) keys.now workers feed.old (F.told files.old)
+        (card : Card) × AreHeld mode.Shard workers card ports [] (F.told files.old) sinks.old }
+    ensures runs { let ports = length func.now.handlers in
+        (card : Card) → AreHeld mode.Shard workers card ports [] (F.told files.old) sinks.old →
+        Runs (function_of func.now) keys.now workers card feed.old (F.told files.old)
         feed.new (F.told files.new) (files_of sinks.old) result }
     ensures kept { KeepsBut (files_of sinks.old) (F.told files.old) (F.told files.new) }
     ensures cause { IsStopCause (F.counted files.old) (F.counted files.new) result }
@@ -174,6 +178,7 @@ pub fn run<R: Threads + Sync, F: Files, G: Turns + Sync>(
     func: &Func,
     keys: &Keys,
     workers: Workers,
+    card: Card,
     feed: &mut Feed,
     captures: &[u32],
     targets: &[u32],
@@ -195,7 +200,7 @@ pub fn run<R: Threads + Sync, F: Files, G: Turns + Sync>(
         IsEmptyIfTold ((F.told files.old).given file) }
     // One run's files are whole, and it handled the first packets of the captures in capture order, or
     // those before a share stop; or each file holds a front of what such a run leaves there.
-    ensures runs { Runs (function_of func.now) keys.now workers feed.old (F.told files.old)
+    ensures runs { Runs (function_of func.now) keys.now workers card feed.old (F.told files.old)
         feed.new (F.told files.new) targets.now result }
     ensures kept { KeepsBut targets.now (F.told files.old) (F.told files.new) }
     ensures cause { IsStopCause (F.counted files.old) (F.counted files.new) result }
@@ -203,7 +208,7 @@ pub fn run<R: Threads + Sync, F: Files, G: Turns + Sync>(
     ensures among { StopsAmong captures.now targets.now result }
 {
     let ports = func.handlers.len();
-    let mut sinks = match begin_sinks(alloc, Mode::Shard, workers, ports, targets) {
+    let mut sinks = match begin_sinks(alloc, Mode::Shard, workers, card, ports, targets) {
         Ok(sinks) => sinks,
         Err(_) => return Err(Stop::Memory),
     };

@@ -8,6 +8,7 @@ ghost use Rattle.nf_files.specs.Told.{IsEmptyIfTold};
 ghost use Rattle.packet_feed.specs.Told.{EachFile, IsApart};
 ghost use Rattle.packet_feed.specs.Sources.{files_in, sixes_in};
 
+use nf_base::card::Card;
 use nf_base::func::Func;
 use nf_base::keys::Keys;
 use nf_base::workers::Workers;
@@ -85,6 +86,7 @@ pub fn run_all<R: Threads + Sync, F: Files>(
     files: &mut F,
     func: &Func,
     keys: &Keys,
+    card: Card,
     feed: &mut Feed,
     opened: &[u32],
     made: &[u32],
@@ -109,6 +111,7 @@ pub fn run_all<R: Threads + Sync, F: Files>(
         func,
         keys,
         Workers::new(2),
+        card,
         feed,
         opened,
         made,

@@ -10,6 +10,7 @@ mod verdict;
 
 use frames::{Frame, Record, captures};
 use functions::{FIREWALL, NARROW};
+use nf_base::card::{Card, KeySize, TableSize};
 use outcome::{Outcome, outcome_of};
 use std::alloc::{AllocError, Global};
 use std::io::{self, Write};
@@ -29,16 +30,33 @@ const FLOWS: [&[Record]; 2] = [
     &[(5, Frame::Reply)],
 ];
 
+/// Captures of their headers alone.
+const NOTHING: [&[Record]; 2] = [&[], &[]];
+
+const LARGE: Card = Card {
+    table: TableSize::Entries512,
+    key: KeySize::Bytes52,
+};
+
 fn case<R: Threads + Sync>(
     rt: &R,
     alloc: Global,
+    card: Card,
     text: &str,
     ports: &[&[Record]],
     most: u32,
     fails: &[u64],
 ) -> Result<Outcome, AllocError> {
     let captures = captures(alloc, ports)?;
-    outcome_of(rt, alloc, text.as_bytes(), captures.as_slice(), most, fails)
+    outcome_of(
+        rt,
+        alloc,
+        card,
+        text.as_bytes(),
+        captures.as_slice(),
+        most,
+        fails,
+    )
 }
 
 fn tell(rt: &HostRuntime, outcome: &Outcome) -> io::Result<()> {
@@ -52,9 +70,11 @@ fn tell(rt: &HostRuntime, outcome: &Outcome) -> io::Result<()> {
 
 fn main(rt: HostRuntime) -> io::Result<()> {
     let alloc = rt.alloc();
-    tell(&rt, &case(&rt, alloc, FIREWALL, &FLOW, 9, &[])?)?;
-    tell(&rt, &case(&rt, alloc, FIREWALL, &FLOWS, 9, &[])?)?;
-    tell(&rt, &case(&rt, alloc, FIREWALL, &FLOWS, 3, &[])?)?;
-    tell(&rt, &case(&rt, alloc, NARROW, &FLOW, 9, &[])?)?;
-    tell(&rt, &case(&rt, alloc, FIREWALL, &FLOW, 9, &[12])?)
+    let usual = Card::usual();
+    tell(&rt, &case(&rt, alloc, usual, FIREWALL, &FLOW, 9, &[])?)?;
+    tell(&rt, &case(&rt, alloc, usual, FIREWALL, &FLOWS, 9, &[])?)?;
+    tell(&rt, &case(&rt, alloc, usual, FIREWALL, &FLOWS, 3, &[])?)?;
+    tell(&rt, &case(&rt, alloc, usual, NARROW, &FLOW, 9, &[])?)?;
+    tell(&rt, &case(&rt, alloc, usual, FIREWALL, &FLOW, 9, &[12])?)?;
+    tell(&rt, &case(&rt, alloc, LARGE, FIREWALL, &NOTHING, 9, &[])?)
 }

@@ -8,6 +8,7 @@ ghost use Rattle.packet_feed.specs.Sources.{files_in, sixes_in};
 
 use crate::calls::{create_all, open_all, run_all, start, torn};
 use crate::verdict::keys_of;
+use nf_base::card::Card;
 use nf_base::func::Func;
 use nf_files::{Files, MemoryFiles};
 use nf_syntax::parse;
@@ -78,11 +79,12 @@ fn function(alloc: Global, text: &[u8]) -> Option<Func> {
     check(alloc, &tree).ok()
 }
 
-/// Runs a function over captures, of which there are at most four, and at most so many packets; the calls on files that
-/// are listed fail.
+/// Runs a function over captures, of which there are at most four, and at most so many packets, with a card; the calls
+/// on files that are listed fail.
 pub fn outcome_of<R: Threads + Sync>(
     rt: &R,
     alloc: Global,
+    card: Card,
     text: &[u8],
     captures: &[Vec<u8>],
     most: u32,
@@ -102,7 +104,16 @@ pub fn outcome_of<R: Threads + Sync>(
     };
     if let Some(func) = function(alloc, text) {
         if func.handlers.len() as usize == names.len() {
-            run_over(rt, alloc, &mut files, &func, names, most, &mut outcome)?;
+            run_over(
+                rt,
+                alloc,
+                &mut files,
+                &func,
+                card,
+                names,
+                most,
+                &mut outcome,
+            )?;
         }
     }
     for name in outputs(names.len()) {
@@ -118,6 +129,7 @@ fn run_made<R: Threads + Sync, F: Files>(
     alloc: Global,
     files: &mut F,
     func: &Func,
+    card: Card,
     feed: &mut Feed,
     opened: &[u32],
     made: &[u32],
@@ -137,11 +149,11 @@ fn run_made<R: Threads + Sync, F: Files>(
         outcome.end = End::Uncreated;
         return Ok(());
     }
-    let Some(keys) = keys_of(alloc, func)? else {
+    let Some(keys) = keys_of(alloc, func, card)? else {
         outcome.end = End::NoKeys;
         return Ok(());
     };
-    let ran = run_all(rt, alloc, files, func, &keys, feed, opened, made);
+    let ran = run_all(rt, alloc, files, func, &keys, card, feed, opened, made);
     outcome.torn = torn(feed);
     match ran {
         Err(stop) => outcome.end = End::Stopped(stop),
@@ -160,6 +172,7 @@ fn run_over<R: Threads + Sync, F: Files>(
     alloc: Global,
     files: &mut F,
     func: &Func,
+    card: Card,
     names: &[&str],
     most: u32,
     outcome: &mut Outcome,
@@ -175,7 +188,9 @@ fn run_over<R: Threads + Sync, F: Files>(
                 Err(_) => outcome.end = End::Uncreated,
                 Ok(made) => {
                     let (opened, made) = (opened.as_slice(), made.as_slice());
-                    return run_made(rt, alloc, files, func, &mut feed, opened, made, outcome);
+                    return run_made(
+                        rt, alloc, files, func, card, &mut feed, opened, made, outcome,
+                    );
                 }
             },
         },

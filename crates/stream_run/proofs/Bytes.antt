@@ -2,6 +2,7 @@
 use Rattle.std.proofs.Common.{◌≡◌, ℕ, Bool, true, false, cond, ltb, List, [], ◌∷◌, ◌++◌, length, map, filter, refl, sym, ap, ◌∙◌, append_assoc, append-nil, arith}
 use Rattle.std.specs.List.{flat_map}
 use Rattle.std.proofs.lemmas.Bool.{lt-ltb, le-ltb}
+use Rattle.nf_base.specs.declared.card.Card.{Card}
 use Rattle.pcap_file.specs.Spelled.{written_bytes, header_bytes}
 use Rattle.run_history.specs.Line.{header_line}
 use Rattle.run_history.specs.declared.line.Mode.{Mode}
@@ -15,21 +16,21 @@ flat_both f [] ys = refl
 flat_both {B = B} f (x ∷ xs) ys = ap (λ (t : List B). f x ++ t) (flat_both f xs ys) ∙ sym (append_assoc (f x) (flat_map f xs) (flat_map f ys))
 
 -- more packets
-pub bytes_both : (mode : Mode) (workers ports file : ℕ) (hs more : List Handled) → bytes_of mode workers ports file (hs ++ more) ≡ bytes_of mode workers ports file hs ++ flat_map (piece ports file) more
+pub bytes_both : (mode : Mode) (workers : ℕ) (card : Card) (ports file : ℕ) (hs more : List Handled) → bytes_of mode workers card ports file (hs ++ more) ≡ bytes_of mode workers card ports file hs ++ flat_map (piece ports file) more
 unfolding bytes_of
-bytes_both mode workers ports file hs more =
-    ap (λ (t : List ℕ). head mode workers ports file ++ t) (flat_both (piece ports file) hs more)
-    ∙ sym (append_assoc (head mode workers ports file) (flat_map (piece ports file) hs) (flat_map (piece ports file) more))
+bytes_both mode workers card ports file hs more =
+    ap (λ (t : List ℕ). head mode workers card ports file ++ t) (flat_both (piece ports file) hs more)
+    ∙ sym (append_assoc (head mode workers card ports file) (flat_map (piece ports file) hs) (flat_map (piece ports file) more))
 
 -- one packet more
-pub bytes_more : (mode : Mode) (workers ports file : ℕ) (hs : List Handled) (h : Handled) → bytes_of mode workers ports file (hs ++ h ∷ []) ≡ bytes_of mode workers ports file hs ++ piece ports file h
-bytes_more mode workers ports file hs h =
-    bytes_both mode workers ports file hs (h ∷ []) ∙ ap (λ (t : List ℕ). bytes_of mode workers ports file hs ++ t) (append-nil (piece ports file h))
+pub bytes_more : (mode : Mode) (workers : ℕ) (card : Card) (ports file : ℕ) (hs : List Handled) (h : Handled) → bytes_of mode workers card ports file (hs ++ h ∷ []) ≡ bytes_of mode workers card ports file hs ++ piece ports file h
+bytes_more mode workers card ports file hs h =
+    bytes_both mode workers card ports file hs (h ∷ []) ∙ ap (λ (t : List ℕ). bytes_of mode workers card ports file hs ++ t) (append-nil (piece ports file h))
 
 -- none yet
-pub bytes_none : (mode : Mode) (workers ports file : ℕ) → bytes_of mode workers ports file [] ≡ head mode workers ports file
+pub bytes_none : (mode : Mode) (workers : ℕ) (card : Card) (ports file : ℕ) → bytes_of mode workers card ports file [] ≡ head mode workers card ports file
 unfolding bytes_of
-bytes_none mode workers ports file = append-nil (head mode workers ports file)
+bytes_none mode workers card ports file = append-nil (head mode workers card ports file)
 
 pub only_grow : FilesOnlyGrow
 only_grow r later file legal long =
@@ -37,7 +38,7 @@ only_grow r later file legal long =
     let ports = length r.function.handlers in
     record {
       later = flat_map (piece ports file) on.0;
-      all = sym (ap (bytes_of r.mode r.workers ports file) on.1 ∙ bytes_both r.mode r.workers ports file (handled_in r) on.0);
+      all = sym (ap (bytes_of r.mode r.workers r.card ports file) on.1 ∙ bytes_both r.mode r.workers r.card ports file (handled_in r) on.0);
     }
 
 -- ---- outputs and the journal
@@ -64,7 +65,7 @@ are_captures r port lt =
     let ports = length r.function.handlers in
     let test : ltb port ports ≡ true = lt-ltb port ports lt in
     let hs = handled_in r in
-    ap (λ (b : Bool). cond b header_bytes (header_line r.mode r.workers) ++ flat_map (piece ports port) hs) test
+    ap (λ (b : Bool). cond b header_bytes (header_line r.mode r.workers r.card) ++ flat_map (piece ports port) hs) test
     ∙ ap (λ (t : List ℕ). header_bytes ++ t) (pieces_are (ltb port ports) port hs test ∙ sent_all port hs)
 
 pub are_lines : JournalsAreLines
@@ -73,5 +74,5 @@ are_lines r =
     let ports = length r.function.handlers in
     let test : ltb ports ports ≡ false = le-ltb ports ports (omega arith) in
     let hs = handled_in r in
-    ap (λ (b : Bool). cond b header_bytes (header_line r.mode r.workers) ++ flat_map (piece ports ports) hs) test
-    ∙ ap (λ (t : List ℕ). header_line r.mode r.workers ++ t) (lines_are (ltb ports ports) ports hs test)
+    ap (λ (b : Bool). cond b header_bytes (header_line r.mode r.workers r.card) ++ flat_map (piece ports ports) hs) test
+    ∙ ap (λ (t : List ℕ). header_line r.mode r.workers r.card ++ t) (lines_are (ltb ports ports) ports hs test)

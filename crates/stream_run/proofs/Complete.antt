@@ -9,6 +9,7 @@ use Rattle.nf_base.specs.Step.{opening}
 use Rattle.nf_base.specs.Runs.{Handling, run}
 use Rattle.nf_base.specs.declared.state.State.{State}
 use Rattle.nf_base.specs.declared.packet.Fields.{Fields}
+use Rattle.nf_base.specs.declared.card.Card.{Card}
 use Rattle.nf_base.specs.declared.packet.Packet.{Packet}
 use Rattle.nf_base.specs.Doors.{six_ports, IsServed}
 use Rattle.nf_laws.specs.Steps.{HasHandler, skips, handles}
@@ -65,22 +66,23 @@ all_alone : (hs : List Handled) → AllByRecursion (λ (h : Handled). h.worker �
 all_alone [] h = tt
 all_alone (x ∷ hs) h = (h.0, all_alone hs h.1)
 
-pub ran_of : (f : Function) (mode : Mode) (workers : ℕ) (hs : List Handled) (state : State) → IsUndivided f hs state → course_of (run_of f mode workers hs) ≡ Some (result_in hs state)
-ran_of f mode workers hs state u = ap (run f (opening f)) (same_handlings hs) ∙ u
+pub ran_of : (f : Function) (mode : Mode) (workers : ℕ) (card : Card) (hs : List Handled) (state : State) → IsUndivided f hs state → course_of (run_of f mode workers card hs) ≡ Some (result_in hs state)
+ran_of f mode workers card hs state u = ap (run f (opening f)) (same_handlings hs) ∙ u
 
-handled_of : (f : Function) (mode : Mode) (workers : ℕ) (hs : List Handled) (state : State) → IsUndivided f hs state → handled_in (run_of f mode workers hs) ≡ hs
-handled_of f mode workers hs state u = handled_is (run_of f mode workers hs) (result_in hs state) (ran_of f mode workers hs state u) ∙ paired_again hs
+handled_of : (f : Function) (mode : Mode) (workers : ℕ) (card : Card) (hs : List Handled) (state : State) → IsUndivided f hs state → handled_in (run_of f mode workers card hs) ≡ hs
+handled_of f mode workers card hs state u = handled_is (run_of f mode workers card hs) (result_in hs state) (ran_of f mode workers card hs state u) ∙ paired_again hs
 
-pub bytes_are : (f : Function) (mode : Mode) (workers : ℕ) (hs : List Handled) (state : State) (k : ℕ) → IsUndivided f hs state → file_bytes (run_of f mode workers hs) k ≡ bytes_of mode workers (length f.handlers) k hs
-bytes_are f mode workers hs state k u = ap (bytes_of mode workers (length f.handlers) k) (handled_of f mode workers hs state u)
+pub bytes_are : (f : Function) (mode : Mode) (workers : ℕ) (card : Card) (hs : List Handled) (state : State) (k : ℕ) → IsUndivided f hs state → file_bytes (run_of f mode workers card hs) k ≡ bytes_of mode workers card (length f.handlers) k hs
+bytes_are f mode workers card hs state k u = ap (bytes_of mode workers card (length f.handlers) k) (handled_of f mode workers card hs state u)
 
-is_one : (f : Function) (most : ℕ) (all : Option (List Arrival)) (hs : List Handled) (state : State) → IsUndivided f hs state → AllByRecursion (λ (h : Handled). h.worker ≡ 0) hs → length hs ≤ most → AreTheFirst most all (map arrival_of hs) → IsOneRun f most all (run_of f One 1 hs)
-is_one f most all hs state u alone within first = record {
+is_one : (f : Function) (card : Card) (most : ℕ) (all : Option (List Arrival)) (hs : List Handled) (state : State) → IsUndivided f hs state → AllByRecursion (λ (h : Handled). h.worker ≡ 0) hs → length hs ≤ most → AreTheFirst most all (map arrival_of hs) → IsOneRun f card most all (run_of f One 1 card hs)
+is_one f card most all hs state u alone within first = record {
   function = refl;
   mode = refl;
   workers = refl;
+  card_is = refl;
   alone = all_alone hs alone;
-  legal = record { result = result_in hs state; ran = ran_of f One 1 hs state u };
+  legal = record { result = result_in hs state; ran = ran_of f One 1 card hs state u };
   within = omega (arith, length-map hs turn_of, within);
   packets = subst (AreTheFirst most all) (sym (same_arrivals hs)) first;
 }
@@ -106,10 +108,10 @@ ends_so ending.TooMany feed before hs h =
     let long : length (map arrival_in (map turn_of hs)) ≡ length hs = length-map (map turn_of hs) arrival_in ∙ length-map hs turn_of in
     (long ∙ h.0, subst (λ (n : ℕ). HasMore (packets_of (sixes_in feed.sources) (files_in feed.sources) before) n) (sym long) h.1)
 
-finished : (f : Function) (begun : Feeding) (start : Told) (feed : Feeding) (now : Told) (files : List ℕ) (ran : Ran) → Finishes f (length f.handlers) begun start feed now files ran.ending ran.packets ran.state → IsFinished f begun start feed now files ran
-finished f begun start feed now files ran h = record {
-  run = run_of f One 1 h.hs;
-  some = is_one f begun.most None h.hs ran.state h.undivided h.alone h.within tt;
+finished : (f : Function) (card : Card) (begun : Feeding) (start : Told) (feed : Feeding) (now : Told) (files : List ℕ) (ran : Ran) → Finishes f card (length f.handlers) begun start feed now files ran.ending ran.packets ran.state → IsFinished f card begun start feed now files ran
+finished f card begun start feed now files ran h = record {
+  run = run_of f One 1 card h.hs;
+  some = is_one f card begun.most None h.hs ran.state h.undivided h.alone h.within tt;
   same_files = h.same_files;
   same_six = h.same_six;
   same_most = h.same_most;
@@ -117,12 +119,12 @@ finished f begun start feed now files ran h = record {
       let how = how_ended ran.ending feed before h.hs begun.most h.same_most (h.ending_is before b) in
       let by_file = subst (λ (fs : List ℕ). ((ran.ending ≡ ending.All) × AreAll (packets_of (sixes_in feed.sources) fs before) (map arrival_of h.hs)) ⊎ ((ran.ending ≡ ending.TooMany) × (length h.hs ≡ begun.most))) h.same_files how in
       let moved = subst (λ (bs : List Bool). ((ran.ending ≡ ending.All) × AreAll (packets_of bs (files_in begun.sources) before) (map arrival_of h.hs)) ⊎ ((ran.ending ≡ ending.TooMany) × (length h.hs ≡ begun.most))) h.same_six by_file in
-      is_one f begun.most (packets_of (sixes_in begun.sources) (files_in begun.sources) before) h.hs ran.state h.undivided h.alone h.within
+      is_one f card begun.most (packets_of (sixes_in begun.sources) (files_in begun.sources) before) h.hs ran.state h.undivided h.alone h.within
       (first_most ran.ending (packets_of (sixes_in begun.sources) (files_in begun.sources) before) (map arrival_of h.hs) (length h.hs) begun.most (h.first before b) h.within (length-map h.hs arrival_of) moved);
   ending = λ before b. ends_so ran.ending feed before h.hs (h.ending_is before b);
   count = length-map h.hs turn_of ∙ h.count;
-  left = (map (λ (x : Handled). x.done) h.hs, ran_of f One 1 h.hs ran.state h.undivided);
-  wholes = λ k file e. subst (λ (t : List ℕ). IsToldAs t (now.given file)) (sym (bytes_are f One 1 h.hs ran.state k h.undivided)) (h.wholes k file e);
+  left = (map (λ (x : Handled). x.done) h.hs, ran_of f One 1 card h.hs ran.state h.undivided);
+  wholes = λ k file e. subst (λ (t : List ℕ). IsToldAs t (now.given file)) (sym (bytes_are f One 1 card h.hs ran.state k h.undivided)) (h.wholes k file e);
 }
 
 -- ---- a run that was stopped
@@ -157,19 +159,19 @@ alone_later : (ts later : List Turn) → AllByRecursion (λ (t : Turn). t.worker
 alone_later [] later h k = k
 alone_later (t ∷ ts) later h k = (h.0, alone_later ts later h.1 k)
 
-fronts_of : (f : Function) (hs : List Handled) (state : State) (now : Told) (files : List ℕ) → IsUndivided f hs state → AreFronts One 1 (length f.handlers) hs now files → (k file : ℕ) → slice_get files k ≡ Some file → IsFrontIfTold (file_bytes (run_of f One 1 hs) k) (now.given file)
-fronts_of f hs state now files u fronts k file e = subst (λ (t : List ℕ). IsFrontIfTold t (now.given file)) (sym (bytes_are f One 1 hs state k u)) (fronts k file e)
+fronts_of : (f : Function) (card : Card) (hs : List Handled) (state : State) (now : Told) (files : List ℕ) → IsUndivided f hs state → AreFronts One 1 card (length f.handlers) hs now files → (k file : ℕ) → slice_get files k ≡ Some file → IsFrontIfTold (file_bytes (run_of f One 1 card hs) k) (now.given file)
+fronts_of f card hs state now files u fronts k file e = subst (λ (t : List ℕ). IsFrontIfTold t (now.given file)) (sym (bytes_are f One 1 card hs state k u)) (fronts k file e)
 
-holds_fronts : (f : Function) (most : ℕ) (all : Option (List Arrival)) (hs : List Handled) (state : State) (now : Told) (files : List ℕ) → IsUndivided f hs state → AllByRecursion (λ (h : Handled). h.worker ≡ 0) hs → length hs ≤ most
-    → AreFirst all (map arrival_of hs) → AllIn (λ (a : Arrival). IsServed f a.packet) all → AreFronts One 1 (length f.handlers) hs now files → HoldsFronts f most all now files
-holds_fronts f most None hs state now files u alone within first served fronts = record {
-  run = run_of f One 1 hs;
-  is_run = is_one f most None hs state u alone within tt;
-  fronts = fronts_of f hs state now files u fronts;
+holds_fronts : (f : Function) (card : Card) (most : ℕ) (all : Option (List Arrival)) (hs : List Handled) (state : State) (now : Told) (files : List ℕ) → IsUndivided f hs state → AllByRecursion (λ (h : Handled). h.worker ≡ 0) hs → length hs ≤ most
+    → AreFirst all (map arrival_of hs) → AllIn (λ (a : Arrival). IsServed f a.packet) all → AreFronts One 1 card (length f.handlers) hs now files → HoldsFronts f card most all now files
+holds_fronts f card most None hs state now files u alone within first served fronts = record {
+  run = run_of f One 1 card hs;
+  is_run = is_one f card most None hs state u alone within tt;
+  fronts = fronts_of f card hs state now files u fronts;
 }
-holds_fronts f most (Some all) hs state now files u alone within first served fronts =
-    let r = run_of f One 1 hs in
-    let one = is_one f most None hs state u alone within tt in
+holds_fronts f card most (Some all) hs state now files u alone within first served fronts =
+    let r = run_of f One 1 card hs in
+    let one = is_one f card most None hs state u alone within tt in
     let given = map arrival_of hs in
     let more = take (most - length given) first.0 in
     let P : Arrival → Type 0 = λ a. IsServed f a.packet in
@@ -185,21 +187,22 @@ holds_fronts f most (Some all) hs state now files u alone within first served fr
         function = refl;
         mode = refl;
         workers = refl;
+        card_is = refl;
         alone = alone_later r.turns on.0 one.alone (recursion_from_All (λ (t : Turn). t.worker ≡ 0) on.0 on.1.1);
         legal = on.1.2;
         within = omega (arith, length-append r.turns on.0, ap (λ (t : List Arrival). length t) on.1.0, length-map on.0 arrival_in, taken_within (most - length given) first.0, length-map hs turn_of, long, within);
         packets = map-append arrival_in r.turns on.0 ∙ ap (λ (t : List Arrival). t ++ map arrival_in on.0) (same_arrivals hs) ∙ ap (λ (t : List Arrival). given ++ t) on.1.0 ∙ sym whole;
       };
-      fronts = λ k file e. front_longer (file_bytes r k) (file_bytes (longer r on.0) k) (now.given file) (only_grow r on.0 k one.legal on.1.2) (fronts_of f hs state now files u fronts k file e);
+      fronts = λ k file e. front_longer (file_bytes r k) (file_bytes (longer r on.0) k) (now.given file) (only_grow r on.0 k one.legal on.1.2) (fronts_of f card hs state now files u fronts k file e);
     }
 
-pub cut_short : (f : Function) (begun : Feeding) (start now : Told) (files : List ℕ) → length (files_in begun.sources) ≡ length f.handlers → sixes_in begun.sources ≡ six_ports f → Halts f (length f.handlers) begun start now files → IsCutShort f begun start now files
-cut_short f begun start now files ports six h = record {
-  some = holds_fronts f begun.most None h.hs h.state now files h.undivided h.alone h.within tt tt h.fronts;
+pub cut_short : (f : Function) (card : Card) (begun : Feeding) (start now : Told) (files : List ℕ) → length (files_in begun.sources) ≡ length f.handlers → sixes_in begun.sources ≡ six_ports f → Halts f card (length f.handlers) begun start now files → IsCutShort f card begun start now files
+cut_short f card begun start now files ports six h = record {
+  some = holds_fronts f card begun.most None h.hs h.state now files h.undivided h.alone h.within tt tt h.fronts;
   lawful = λ before b.
       let served : AllIn (λ (a : Arrival). IsServed f a.packet) (packets_of (sixes_in begun.sources) (files_in begun.sources) before) =
       subst (λ (bs : List Bool). AllIn (λ (a : Arrival). IsServed f a.packet) (packets_of bs (files_in begun.sources) before)) (sym six) (all_served f (files_in begun.sources) before ports) in
-      holds_fronts f begun.most (packets_of (sixes_in begun.sources) (files_in begun.sources) before) h.hs h.state now files h.undivided h.alone h.within (h.first before b) served h.fronts;
+      holds_fronts f card begun.most (packets_of (sixes_in begun.sources) (files_in begun.sources) before) h.hs h.state now files h.undivided h.alone h.within (h.first before b) served h.fronts;
 }
 
 -- ---- what is told of files
@@ -226,34 +229,34 @@ whole_front bytes (Some g) h = record { later = []; all = append-nil g ∙ h }
 
 -- ---- what the code comes to
 
-pub is_run : (f : Function) (begun : Feeding) (start : Told) (feed : Feeding) (now : Told) (files : List ℕ) (result : Result Ran Stop) → length (files_in begun.sources) ≡ length f.handlers → sixes_in begun.sources ≡ six_ports f → Streams f (length f.handlers) begun start feed now files result → Runs f begun start feed now files result
-is_run f begun start feed now files (Ok ran) ports six h = finished f begun start feed now files ran h
-is_run f begun start feed now files (Err stop) ports six h = cut_short f begun start now files ports six h
+pub is_run : (f : Function) (card : Card) (begun : Feeding) (start : Told) (feed : Feeding) (now : Told) (files : List ℕ) (result : Result Ran Stop) → length (files_in begun.sources) ≡ length f.handlers → sixes_in begun.sources ≡ six_ports f → Streams f card (length f.handlers) begun start feed now files result → Runs f card begun start feed now files result
+is_run f card begun start feed now files (Ok ran) ports six h = finished f card begun start feed now files ran h
+is_run f card begun start feed now files (Err stop) ports six h = cut_short f card begun start now files ports six h
 
 -- nothing was handled
-pub halts_none : (f : Function) (ports : ℕ) (begun : Feeding) (start : Told) (files : List ℕ) → ((k file : ℕ) → slice_get files k ≡ Some file → IsEmptyIfTold (start.given file)) → Halts f ports begun start start files
-halts_none f ports begun start files empty = record {
+pub halts_none : (f : Function) (card : Card) (ports : ℕ) (begun : Feeding) (start : Told) (files : List ℕ) → ((k file : ℕ) → slice_get files k ≡ Some file → IsEmptyIfTold (start.given file)) → Halts f card ports begun start start files
+halts_none f card ports begun start files empty = record {
   hs = [];
   state = opening f;
   undivided = refl;
   alone = tt;
   first = λ before b. first_none (packets_of (sixes_in begun.sources) (files_in begun.sources) before);
   within = omega arith;
-  fronts = λ k file e. empty_front (bytes_of One 1 ports k []) (start.given file) (empty k file e);
+  fronts = λ k file e. empty_front (bytes_of One 1 card ports k []) (start.given file) (empty k file e);
 }
 
-pub heads_held : (mode : Mode) (workers ports : ℕ) (now : Told) (sinks : List Holding) (files : List ℕ) → files_of sinks ≡ files → ((k : ℕ) (s : Holding) → slice_get sinks k ≡ Some s → s.held ≡ head mode workers ports k) → ((k file : ℕ) → slice_get files k ≡ Some file → IsEmptyIfTold (now.given file)) → AreHeld mode workers ports [] now sinks
-heads_held mode workers ports now sinks files same heads empty k s e =
+pub heads_held : (mode : Mode) (workers : ℕ) (card : Card) (ports : ℕ) (now : Told) (sinks : List Holding) (files : List ℕ) → files_of sinks ≡ files → ((k : ℕ) (s : Holding) → slice_get sinks k ≡ Some s → s.held ≡ head mode workers card ports k) → ((k file : ℕ) → slice_get files k ≡ Some file → IsEmptyIfTold (now.given file)) → AreHeld mode workers card ports [] now sinks
+heads_held mode workers card ports now sinks files same heads empty k s e =
     let file = ap (λ (fs : List ℕ). slice_get fs k) (sym same) ∙ file_at sinks k s e in
-    subst (λ (t : List ℕ). Holds t (now.given s.file) s.held) (heads k s e ∙ sym (bytes_none mode workers ports k)) (fresh_held (now.given s.file) s.held (empty k s.file file))
+    subst (λ (t : List ℕ). Holds t (now.given s.file) s.held) (heads k s e ∙ sym (bytes_none mode workers card ports k)) (fresh_held (now.given s.file) s.held (empty k s.file file))
 
-pub empty_told : (mode : Mode) (workers ports : ℕ) (now : Told) (sinks : List Holding) (hs : List Handled) → AreHeld mode workers ports hs now sinks → AreEmpty sinks → (k file : ℕ) → slice_get (files_of sinks) k ≡ Some file → IsToldAs (bytes_of mode workers ports k hs) (now.given file)
-empty_told mode workers ports now sinks hs held empty k file e =
+pub empty_told : (mode : Mode) (workers : ℕ) (card : Card) (ports : ℕ) (now : Told) (sinks : List Holding) (hs : List Handled) → AreHeld mode workers card ports hs now sinks → AreEmpty sinks → (k file : ℕ) → slice_get (files_of sinks) k ≡ Some file → IsToldAs (bytes_of mode workers card ports k hs) (now.given file)
+empty_told mode workers card ports now sinks hs held empty k file e =
     let s = stays_in sinks k file e in
-    subst (λ (n : ℕ). IsToldAs (bytes_of mode workers ports k hs) (now.given n)) s.2 (all_told (bytes_of mode workers ports k hs) (now.given s.0.file) s.0.held (empty k s.0 s.1) (held k s.0 s.1))
+    subst (λ (n : ℕ). IsToldAs (bytes_of mode workers card ports k hs) (now.given n)) s.2 (all_told (bytes_of mode workers card ports k hs) (now.given s.0.file) s.0.held (empty k s.0 s.1) (held k s.0 s.1))
 
-pub halts_at : (f : Function) (ports : ℕ) (begun : Feeding) (start : Told) (feed : Feeding) (now : Told) (sinks : List Holding) (state : State) (e : Ending) (new : Told) (files : List ℕ) → (h : Ends f ports begun start feed now sinks state e) → AreFronts One 1 ports h.reached.hs new files → Halts f ports begun start new files
-halts_at f ports begun start feed now sinks state e new files h fronts = record {
+pub halts_at : (f : Function) (card : Card) (ports : ℕ) (begun : Feeding) (start : Told) (feed : Feeding) (now : Told) (sinks : List Holding) (state : State) (e : Ending) (new : Told) (files : List ℕ) → (h : Ends f card ports begun start feed now sinks state e) → AreFronts One 1 card ports h.reached.hs new files → Halts f card ports begun start new files
+halts_at f card ports begun start feed now sinks state e new files h fronts = record {
   hs = h.reached.hs;
   state = state;
   undivided = h.reached.undivided;
@@ -263,8 +266,8 @@ halts_at f ports begun start feed now sinks state e new files h fronts = record 
   fronts = fronts;
 }
 
-pub finishes : (f : Function) (ports : ℕ) (begun : Feeding) (start : Told) (feed : Feeding) (now : Told) (sinks : List Holding) (state : State) (e : Ending) (new : Told) (files : List ℕ) → (h : Ends f ports begun start feed now sinks state e) → ((k file : ℕ) → slice_get files k ≡ Some file → IsToldAs (bytes_of One 1 ports k h.reached.hs) (new.given file)) → Finishes f ports begun start feed new files e feed.given state
-finishes f ports begun start feed now sinks state e new files h wholes = record {
+pub finishes : (f : Function) (card : Card) (ports : ℕ) (begun : Feeding) (start : Told) (feed : Feeding) (now : Told) (sinks : List Holding) (state : State) (e : Ending) (new : Told) (files : List ℕ) → (h : Ends f card ports begun start feed now sinks state e) → ((k file : ℕ) → slice_get files k ≡ Some file → IsToldAs (bytes_of One 1 card ports k h.reached.hs) (new.given file)) → Finishes f card ports begun start feed new files e feed.given state
+finishes f card ports begun start feed now sinks state e new files h wholes = record {
   hs = h.reached.hs;
   undivided = h.reached.undivided;
   alone = h.reached.alone;
@@ -279,20 +282,20 @@ finishes f ports begun start feed now sinks state e new files h wholes = record 
 }
 
 -- the state could not be told
-pub halts_whole : (f : Function) (ports : ℕ) (begun : Feeding) (start : Told) (feed : Feeding) (now : Told) (files : List ℕ) (e : Ending) (packets : ℕ) (state : State) → Finishes f ports begun start feed now files e packets state → Halts f ports begun start now files
-halts_whole f ports begun start feed now files e packets state h = record {
+pub halts_whole : (f : Function) (card : Card) (ports : ℕ) (begun : Feeding) (start : Told) (feed : Feeding) (now : Told) (files : List ℕ) (e : Ending) (packets : ℕ) (state : State) → Finishes f card ports begun start feed now files e packets state → Halts f card ports begun start now files
+halts_whole f card ports begun start feed now files e packets state h = record {
   hs = h.hs;
   state = state;
   undivided = h.undivided;
   alone = h.alone;
   first = h.first;
   within = h.within;
-  fronts = λ k file q. whole_front (bytes_of One 1 ports k h.hs) (now.given file) (h.wholes k file q);
+  fronts = λ k file q. whole_front (bytes_of One 1 card ports k h.hs) (now.given file) (h.wholes k file q);
 }
 
 -- the tables could not be made
-pub halts_begun : (f : Function) (ports : ℕ) (begun : Feeding) (start : Told) (sinks : List Holding) → AreHeld One 1 ports [] start sinks → Halts f ports begun start start (files_of sinks)
-halts_begun f ports begun start sinks held = record {
+pub halts_begun : (f : Function) (card : Card) (ports : ℕ) (begun : Feeding) (start : Told) (sinks : List Holding) → AreHeld One 1 card ports [] start sinks → Halts f card ports begun start start (files_of sinks)
+halts_begun f card ports begun start sinks held = record {
   hs = [];
   state = opening f;
   undivided = refl;
@@ -301,13 +304,13 @@ halts_begun f ports begun start sinks held = record {
   within = omega arith;
   fronts = λ k file e.
       let s = stays_in sinks k file e in
-      subst (λ (n : ℕ). IsFrontIfTold (bytes_of One 1 ports k []) (start.given n)) s.2 (front_all (bytes_of One 1 ports k []) (start.given s.0.file) s.0.held (held k s.0 s.1));
+      subst (λ (n : ℕ). IsFrontIfTold (bytes_of One 1 card ports k []) (start.given n)) s.2 (front_all (bytes_of One 1 card ports k []) (start.given s.0.file) s.0.held (held k s.0 s.1));
 }
 
 -- the same, of a function's ports as they are counted
-pub is_run_at : (f : Function) (n : ℕ) (begun : Feeding) (start : Told) (feed : Feeding) (now : Told) (files : List ℕ) (result : Result Ran Stop) → n ≡ length f.handlers → length (files_in begun.sources) ≡ n → sixes_in begun.sources ≡ six_ports f → Streams f n begun start feed now files result → Runs f begun start feed now files result
-is_run_at f n begun start feed now files result same ports six h =
-    is_run f begun start feed now files result (ports ∙ same) six (subst (λ (m : ℕ). Streams f m begun start feed now files result) same h)
+pub is_run_at : (f : Function) (card : Card) (n : ℕ) (begun : Feeding) (start : Told) (feed : Feeding) (now : Told) (files : List ℕ) (result : Result Ran Stop) → n ≡ length f.handlers → length (files_in begun.sources) ≡ n → sixes_in begun.sources ≡ six_ports f → Streams f card n begun start feed now files result → Runs f card begun start feed now files result
+is_run_at f card n begun start feed now files result same ports six h =
+    is_run f card begun start feed now files result (ports ∙ same) six (subst (λ (m : ℕ). Streams f card m begun start feed now files result) same h)
 
-pub cut_short_at : (f : Function) (n : ℕ) (begun : Feeding) (start now : Told) (files : List ℕ) → n ≡ length f.handlers → length (files_in begun.sources) ≡ n → sixes_in begun.sources ≡ six_ports f → Halts f n begun start now files → IsCutShort f begun start now files
-cut_short_at f n begun start now files same ports six h = cut_short f begun start now files (ports ∙ same) six (subst (λ (m : ℕ). Halts f m begun start now files) same h)
+pub cut_short_at : (f : Function) (card : Card) (n : ℕ) (begun : Feeding) (start now : Told) (files : List ℕ) → n ≡ length f.handlers → length (files_in begun.sources) ≡ n → sixes_in begun.sources ≡ six_ports f → Halts f card n begun start now files → IsCutShort f card begun start now files
+cut_short_at f card n begun start now files same ports six h = cut_short f card begun start now files (ports ∙ same) six (subst (λ (m : ℕ). Halts f card m begun start now files) same h)

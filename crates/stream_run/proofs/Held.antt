@@ -6,6 +6,7 @@ use Rattle.std.proofs.lemmas.List.{take-append-drop, length-map}
 use Rattle.std.proofs.lemmas.List.Elements.{All-get_or, All-weaker}
 use Rattle.std.proofs.lemmas.Option.{slice_get-map, slice_get_within, get_or_from_slice_get}
 use Rattle.std.proofs.lemmas.Bool.{cases_eq, cases_lt}
+use Rattle.nf_base.specs.declared.card.Card.{Card}
 use Rattle.nf_base.proofs.Mixes.{got_set}
 use Rattle.nf_files.specs.Told.{Told, IsCurrent}
 use Rattle.nf_files.specs.Pieces.{Gains}
@@ -115,8 +116,8 @@ partly_fronts before after sinks k s old new apart e kept fronts step h j file q
     one_is : (x y : Holding) → Some x ≡ Some y → x ≡ y
     one_is x y e = cc
 
-pub grows : (mode : Mode) (workers ports : ℕ) (hs : List Handled) (h : Handled) (j : ℕ) → IsFrontOf (bytes_of mode workers ports j (hs ++ h ∷ [])) (bytes_of mode workers ports j hs)
-grows mode workers ports hs h j = record { later = piece ports j h; all = sym (bytes_more mode workers ports j hs h) }
+pub grows : (mode : Mode) (workers : ℕ) (card : Card) (ports : ℕ) (hs : List Handled) (h : Handled) (j : ℕ) → IsFrontOf (bytes_of mode workers card ports j (hs ++ h ∷ [])) (bytes_of mode workers card ports j hs)
+grows mode workers card ports hs h j = record { later = piece ports j h; all = sym (bytes_more mode workers card ports j hs h) }
 
 pub same_bytes : (bytes : List ℕ) → IsFrontOf bytes bytes
 same_bytes bytes = record { later = []; all = append-nil bytes }

@@ -7,10 +7,11 @@ use Rattle.std.proofs.lemmas.Bool.{eqb-false}
 use Rattle.std.proofs.lemmas.Fmt.{decimal_by_steps, decimal_injective, decimal_nonempty}
 use Rattle.nf_base.specs.declared.done.Action.{Action}
 use Rattle.nf_base.specs.declared.done.Action.TheVariants.{Skip, Drop, To, Flood}
-use Rattle.run_history.specs.declared.line.Mode.{Mode}
-use Rattle.run_history.specs.declared.line.Mode.TheVariants.{One, Shard, Lock}
-use Rattle.run_history.specs.Line.{action_word, choices_word, more_choices, mode_word, header_line, journal_title}
-use Rattle.stream_run.specs.Runs.{Handled, handled_in}
+use Rattle.run_history.specs.Headings.{Heading}
+use Rattle.run_history.specs.Line.{action_word, choices_word, more_choices, header_line}
+use Rattle.run_history.specs.Reading.{heading_words}
+use Rattle.run_history.proofs.Cards.{headings_one, heading_in_line}
+use Rattle.stream_run.specs.Runs.{Run, Handled, handled_in}
 use Rattle.stream_run.specs.Texts.{line_of}
 use Rattle.stream_run.specs.Journals.{Entry, entry_of, entry_line, ActionFits, EntryFits, JournalsAreOne}
 use Rattle.stream_run.proofs.Bytes.{are_lines}
@@ -138,22 +139,6 @@ action_one (To p) Drop h k e = clash _ _ e refl
 action_one (To p) Flood h k e = clash _ _ e refl
 action_one (To p) (To q) h k e = ap To (decimal_injective p q h k (append_cancel_left (codes "to:") (decimal p) (decimal q) e))
 
-mode_free : (m : Mode) → IsFree 32 (mode_word m)
-mode_free One = (other_byte 111 32 refl, (other_byte 110 32 refl, (other_byte 101 32 refl, tt)))
-mode_free Shard = (other_byte 115 32 refl, (other_byte 104 32 refl, (other_byte 97 32 refl, (other_byte 114 32 refl, (other_byte 100 32 refl, tt)))))
-mode_free Lock = (other_byte 108 32 refl, (other_byte 111 32 refl, (other_byte 99 32 refl, (other_byte 107 32 refl, tt))))
-
-mode_one : (a b : Mode) → mode_word a ≡ mode_word b → a ≡ b
-mode_one One One e = refl
-mode_one One Shard e = clash _ _ e refl
-mode_one One Lock e = clash _ _ e refl
-mode_one Shard One e = clash _ _ e refl
-mode_one Shard Shard e = refl
-mode_one Shard Lock e = clash _ _ e refl
-mode_one Lock One e = clash _ _ e refl
-mode_one Lock Shard e = clash _ _ e refl
-mode_one Lock Lock e = refl
-
 -- ---- lines
 
 abbrev right_line : Entry → List ℕ → List ℕ
@@ -198,18 +183,22 @@ lines_of (h ∷ hs) = ap (λ (t : List ℕ). line_of h ++ t) (lines_of hs)
 
 -- ---- whole journals
 
-header_right : (m : Mode) (w : ℕ) (rest : List ℕ) → header_line m w ++ rest ≡ journal_title ++ (mode_word m ++ (32 ∷ (decimal w ++ (10 ∷ rest))))
-header_right m w rest = simp append_assoc
+abbrev heading_of : Run → Heading
+heading_of r = record { mode = r.mode; workers = r.workers; card = r.card }
+
+header_right : (h : Heading) (rest : List ℕ) → header_line h.mode h.workers h.card ++ rest ≡ heading_words h ++ (10 ∷ rest)
+header_right h rest = simp append_assoc
 
 pub journals_one : JournalsAreOne
 journals_one r s h k e =
     let hs = flat_map line_of (handled_in r) in
     let ks = flat_map line_of (handled_in s) in
-    let all : journal_title ++ (mode_word r.mode ++ (32 ∷ (decimal r.workers ++ (10 ∷ hs)))) ≡ journal_title ++ (mode_word s.mode ++ (32 ∷ (decimal s.workers ++ (10 ∷ ks)))) =
-    sym (header_right r.mode r.workers hs) ∙ sym (are_lines r) ∙ e ∙ are_lines s ∙ header_right s.mode s.workers ks in
-    let modes = cut 32 (mode_word r.mode) (mode_word s.mode) _ _ (mode_free r.mode) (mode_free s.mode) (append_cancel_left journal_title _ _ all) in
-    let workers = cut 10 (decimal r.workers) (decimal s.workers) hs ks (free_digits 10 (decimal r.workers) (omega arith) (digits_of r.workers h.workers)) (free_digits 10 (decimal s.workers) (omega arith) (digits_of s.workers k.workers)) modes.1 in (
-      mode_one r.mode s.mode modes.0,
-      decimal_injective r.workers s.workers h.workers k.workers workers.0,
-      lines_one (map entry_of (handled_in r)) (map entry_of (handled_in s)) h.entries k.entries (sym (lines_of (handled_in r)) ∙ workers.1 ∙ lines_of (handled_in s)),
+    let all : heading_words (heading_of r) ++ (10 ∷ hs) ≡ heading_words (heading_of s) ++ (10 ∷ ks) =
+    sym (header_right (heading_of r) hs) ∙ sym (are_lines r) ∙ e ∙ are_lines s ∙ header_right (heading_of s) ks in
+    let two = cut 10 (heading_words (heading_of r)) (heading_words (heading_of s)) hs ks (heading_in_line (heading_of r) h.workers) (heading_in_line (heading_of s) k.workers) all in
+    let same = headings_one (heading_of r) (heading_of s) h.workers k.workers two.0 in (
+      ap (λ (x : Heading). x.mode) same,
+      ap (λ (x : Heading). x.workers) same,
+      ap (λ (x : Heading). x.card) same,
+      lines_one (map entry_of (handled_in r)) (map entry_of (handled_in s)) h.entries k.entries (sym (lines_of (handled_in r)) ∙ two.1 ∙ lines_of (handled_in s)),
     )

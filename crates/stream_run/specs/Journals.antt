@@ -45,8 +45,8 @@ pub record JournalFits (r : Run) : Type 0 where
 abbrev pub journal_of : Run → List ℕ
 journal_of r = file_bytes r (length r.function.handlers)
 
--- two runs with one journal were handled in one mode, by as many workers, and their packets were the
--- same, in the same order, with the same workers, actions and choices
+-- two runs with one journal were handled in one mode, by as many workers, with one card, and their packets
+-- were the same, in the same order, with the same workers, actions and choices
 abbrev pub JournalsAreOne : Type 0
 JournalsAreOne = (r s : Run) → JournalFits r → JournalFits s → journal_of r ≡ journal_of s →
-    (r.mode ≡ s.mode) × (r.workers ≡ s.workers) × (map entry_of (handled_in r) ≡ map entry_of (handled_in s))
+    (r.mode ≡ s.mode) × (r.workers ≡ s.workers) × (r.card ≡ s.card) × (map entry_of (handled_in r) ≡ map entry_of (handled_in s))

@@ -25,11 +25,11 @@ abbrev pub OutputsAreCaptures : Type 0
 OutputsAreCaptures = (r : Run) (port : ℕ) → port < length r.function.handlers →
     file_bytes r port ≡ capture_bytes (sent_records port (handled_in r))
 
--- the journal is a header with the mode and the number of workers, and a line for each packet
+-- the journal is a header with the mode, the number of workers and the card, and a line for each packet
 abbrev pub JournalsAreLines : Type 0
 JournalsAreLines = (r : Run) →
     file_bytes r (length r.function.handlers)
-    ≡ header_line r.mode r.workers ++ flat_map line_of (handled_in r)
+    ≡ header_line r.mode r.workers r.card ++ flat_map line_of (handled_in r)
 
 -- the packets that a legal run handles are those of its turns, with their choices
 abbrev pub HandledAreTurns : Type 0

@@ -3,6 +3,7 @@ use Rattle.std.specs.Prelude.{◌≡◌, ℕ, List, [], ◌∷◌, ◌++◌, map
 use Rattle.nf_base.specs.Text.{Function}
 use Rattle.nf_base.specs.Runs.{Handling, RunResult, run}
 use Rattle.nf_base.specs.Step.{opening}
+use Rattle.nf_base.specs.declared.card.Card.{Card}
 use Rattle.nf_base.specs.declared.done.Done.{Done}
 use Rattle.run_history.specs.declared.line.Mode.{Mode}
 use Rattle.packet_feed.specs.Arrivals.{Arrival}
@@ -13,12 +14,13 @@ pub record Turn : Type 0 where
   pub worker : ℕ
   pub choices : List ℕ
 
--- The function, how its packets were handled and by how many workers, and the packets in the order
--- in which they were. All else of a run is a function of these.
+-- The function, how its packets were handled and by how many workers, what the network card has, and the
+-- packets in the order in which they were handled. All else of a run is a function of these.
 pub record Run : Type 0 where
   pub function : Function
   pub mode : Mode
   pub workers : ℕ
+  pub card : Card
   pub turns : List Turn
 
 -- a packet with its choices
@@ -61,12 +63,12 @@ handled_in r = handled_if r.turns (course_of r)
 
 -- a run with these packets more
 abbrev pub longer : Run → List Turn → Run
-longer r later = record { function = r.function; mode = r.mode; workers = r.workers; turns = r.turns ++ later }
+longer r later = record { function = r.function; mode = r.mode; workers = r.workers; card = r.card; turns = r.turns ++ later }
 
 -- a packet with the choices that it was given
 abbrev pub turn_of : Handled → Turn
 turn_of h = record { arrival = h.arrival; worker = h.worker; choices = h.done.picks }
 
 -- the run in which packets came to this
-abbrev pub run_of : Function → Mode → ℕ → List Handled → Run
-run_of f mode workers hs = record { function = f; mode = mode; workers = workers; turns = map turn_of hs }
+abbrev pub run_of : Function → Mode → ℕ → Card → List Handled → Run
+run_of f mode workers card hs = record { function = f; mode = mode; workers = workers; card = card; turns = map turn_of hs }

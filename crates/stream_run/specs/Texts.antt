@@ -1,6 +1,7 @@
 -- The bytes of the files that a run leaves.
 use Rattle.std.specs.Prelude.{◌≡◌, ℕ, Bool, false, not, ◌==◌, List, [], ◌++◌, length, map, filter, nat_lt, if◌then◌else◌}
 use Rattle.std.specs.List.{flat_map}
+use Rattle.nf_base.specs.declared.card.Card.{Card}
 use Rattle.nf_base.specs.declared.done.Action.{Action}
 use Rattle.nf_base.specs.declared.done.Action.TheVariants.{Skip, Drop, To, Flood}
 use Rattle.nf_base.specs.declared.done.Edits.{Edits}
@@ -46,16 +47,16 @@ abbrev pub piece : ℕ → ℕ → Handled → List ℕ
 piece ports file h = if nat_lt file ports then sent_bytes file h else line_of h
 
 -- what a file begins with
-abbrev pub head : Mode → ℕ → ℕ → ℕ → List ℕ
-head mode workers ports file = if nat_lt file ports then header_bytes else header_line mode workers
+abbrev pub head : Mode → ℕ → Card → ℕ → ℕ → List ℕ
+head mode workers card ports file = if nat_lt file ports then header_bytes else header_line mode workers card
 
 -- what packets leave in a file
-unfoldable pub bytes_of : Mode → ℕ → ℕ → ℕ → List Handled → List ℕ
-bytes_of mode workers ports file hs = head mode workers ports file ++ flat_map (piece ports file) hs
+unfoldable pub bytes_of : Mode → ℕ → Card → ℕ → ℕ → List Handled → List ℕ
+bytes_of mode workers card ports file hs = head mode workers card ports file ++ flat_map (piece ports file) hs
 
 -- what a run leaves in a file
 abbrev pub file_bytes : Run → ℕ → List ℕ
-file_bytes r file = bytes_of r.mode r.workers (length r.function.handlers) file (handled_in r)
+file_bytes r file = bytes_of r.mode r.workers r.card (length r.function.handlers) file (handled_in r)
 
 -- the records of the packets that are sent out at a port, in the order in which they were handled
 abbrev pub sent_records : ℕ → List Handled → List Record

@@ -1,6 +1,7 @@
 -- Files that are written side by side, each by its own buffer.
 use Rattle.std.specs.Prelude.{◌<◌, ◌≡◌, ◌≢◌, ◌⊎◌, ℕ, List, ◌++◌, length, map, slice_get, Option, Some, None, Result, Ok, Err}
 use Rattle.std.specs.List.{All}
+use Rattle.nf_base.specs.declared.card.Card.{Card}
 use Rattle.nf_base.specs.declared.packet.Packet.{Packet}
 use Rattle.nf_base.specs.declared.done.Done.{Done}
 use Rattle.nf_files.specs.Told.{Told, IsCurrent}
@@ -76,14 +77,14 @@ abbrev pub files_of : List Holding → List ℕ
 files_of sinks = map (λ s. s.file) sinks
 
 -- Of each file what packets leave there was given, but for what is held.
-abbrev pub AreHeld : Mode → ℕ → ℕ → List Handled → Told → List Holding → Type 0
-AreHeld mode workers ports hs told sinks =
-    (k : ℕ) (s : Holding) → slice_get sinks k ≡ Some s → Holds (bytes_of mode workers ports k hs) (told.given s.file) s.held
+abbrev pub AreHeld : Mode → ℕ → Card → ℕ → List Handled → Told → List Holding → Type 0
+AreHeld mode workers card ports hs told sinks =
+    (k : ℕ) (s : Holding) → slice_get sinks k ≡ Some s → Holds (bytes_of mode workers card ports k hs) (told.given s.file) s.held
 
 -- Each file was given a front of what packets leave there.
-abbrev pub AreFronts : Mode → ℕ → ℕ → List Handled → Told → List ℕ → Type 0
-AreFronts mode workers ports hs told files =
-    (k file : ℕ) → slice_get files k ≡ Some file → IsFrontIfTold (bytes_of mode workers ports k hs) (told.given file)
+abbrev pub AreFronts : Mode → ℕ → Card → ℕ → List Handled → Told → List ℕ → Type 0
+AreFronts mode workers card ports hs told files =
+    (k file : ℕ) → slice_get files k ≡ Some file → IsFrontIfTold (bytes_of mode workers card ports k hs) (told.given file)
 
 -- a file is this one, or another one that stands under another name
 abbrev pub IsSameOrOther : Told → List ℕ → ℕ → ℕ → Type 0
@@ -100,9 +101,9 @@ pub record KeepsAllBut (files : List ℕ) (old new : Told) : Type 0 where
   pub next_same : new.next ≡ old.next
 
 -- what writing to all files comes to: all is held or was given, or fronts were given
-abbrev pub AllGoOn : {T E : Type 0} → Mode → ℕ → ℕ → List Handled → Told → List Holding → Result T E → Type 0
-AllGoOn mode workers ports hs told sinks (Ok x) = AreHeld mode workers ports hs told sinks
-AllGoOn mode workers ports hs told sinks (Err e) = AreFronts mode workers ports hs told (files_of sinks)
+abbrev pub AllGoOn : {T E : Type 0} → Mode → ℕ → Card → ℕ → List Handled → Told → List Holding → Result T E → Type 0
+AllGoOn mode workers card ports hs told sinks (Ok x) = AreHeld mode workers card ports hs told sinks
+AllGoOn mode workers card ports hs told sinks (Err e) = AreFronts mode workers card ports hs told (files_of sinks)
 
 -- less than 65,536 bytes are held
 abbrev pub IsLittle : Holding → Type 0

@@ -5,6 +5,7 @@ ghost use Rattle.stream_run.specs.Texts.{head};
 ghost use Rattle.stream_run.specs.Writing.{Holding, files_of};
 
 use crate::sink::Sink;
+use nf_base::card::Card;
 use nf_base::seq::Seq;
 use nf_base::workers::Workers;
 use pcap_file::push_header;
@@ -17,17 +18,21 @@ fn head(
     alloc: Global,
     mode: Mode,
     workers: Workers,
+    card: Card,
     ports: u32,
     file: u32,
 ) -> Result<Vec<u8>, AllocError>
-    requires { IsHeading (record { mode = mode; workers = workers }) }
-    ensures { IfOk result (λ bytes. bytes.items ≡ head mode workers ports file) }
+    requires { IsHeading (record { mode = mode; workers = workers; card = card }) }
+    ensures { IfOk result (λ bytes. bytes.items ≡ head mode workers card ports file) }
 {
     let mut bytes = Vec::new(alloc);
     if file < ports {
         push_header(&mut bytes)?;
     } else {
-        push_line(&mut bytes, &JournalLine::Header(Header::new(mode, workers)))?;
+        push_line(
+            &mut bytes,
+            &JournalLine::Header(Header::new(mode, workers, card)),
+        )?;
     }
     Ok(bytes)
 }
@@ -38,18 +43,19 @@ pub fn begin_sinks(
     alloc: Global,
     mode: Mode,
     workers: Workers,
+    card: Card,
     ports: u32,
     targets: &[u32],
 ) -> Result<Seq<Sink>, AllocError>
-    requires heading { IsHeading (record { mode = mode; workers = workers }) }
+    requires heading { IsHeading (record { mode = mode; workers = workers; card = card }) }
     requires few { length targets.now ≤ 2 ^ 32 }
     ensures files { IfOk result (λ sinks. files_of sinks ≡ targets.now) }
     ensures heads { IfOk result (λ sinks. (k : ℕ) → (s : Holding) →
-        slice_get sinks k ≡ Some s → s.held ≡ head mode workers ports k) }
+        slice_get sinks k ≡ Some s → s.held ≡ head mode workers card ports k) }
 {
     let mut sinks = Seq::new(alloc);
     for (k, file) in targets.iter().enumerate() {
-        let bytes = head(alloc, mode, workers, ports, k as u32)?;
+        let bytes = head(alloc, mode, workers, card, ports, k as u32)?;
         sinks.push(Sink::new(*file, bytes))?;
     }
     Ok(sinks)

@@ -26,8 +26,8 @@ pub fn handled_are_turns()
     ensures { HandledAreTurns }
 {}
 
-/// A journal's bytes determine the mode, the number of workers, and each packet's number, worker, action
-/// and choices.
+/// A journal's bytes determine the mode, the number of workers, the card, and each packet's number, worker,
+/// action and choices.
 pub fn journals_are_one()
     ensures { JournalsAreOne }
 {}

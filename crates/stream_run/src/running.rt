@@ -1,5 +1,6 @@
 //! Packets, handled as they come.
 ghost use Rattle.std.specs.Prelude.{◌≡◌, ◌^◌, ◌<◌, ◌≤◌, ◌+◌, [], ℕ, Some, length};
+ghost use Rattle.nf_base.specs.declared.card.Card.{Card};
 ghost use Rattle.nf_base.specs.Doors.{six_ports, IsServed};
 ghost use Rattle.nf_base.specs.Functions.{function_of};
 ghost use Rattle.nf_base.specs.Step.{step, opening};
@@ -126,9 +127,10 @@ pub fn handle_all<F: Files>(
     requires created { EachFile (F.is_written files.old) (files_of sinks.old) }
     requires apart { IsApart (files_of sinks.old) }
     requires few { length sinks.old ≤ 2 ^ 32 }
-    requires heads { let ports = length func.now.handlers in
-        AreHeld One 1 ports [] (F.told files.old) sinks.old }
-    ensures comes { Comes (function_of func.now) (length func.now.handlers)
+    // Where the sinks hold what each file begins with, with some card.
+    ensures comes { let ports = length func.now.handlers in
+        (card : Card) → AreHeld One 1 card ports [] (F.told files.old) sinks.old →
+        Comes (function_of func.now) card ports
         feed.old (F.told files.old) feed.new (F.told files.new)
         sinks.new tables.new.state result }
     ensures same { fixed_of tables.new ≡ fixed_of tables.old }

@@ -17,6 +17,7 @@ use crate::running::handle_all;
 use crate::sink::Sink;
 use crate::sinks::flush_all;
 use crate::stop::Stop;
+use nf_base::card::Card;
 use nf_base::func::Func;
 use nf_base::seq::Seq;
 use nf_base::share::Share;
@@ -47,9 +48,9 @@ fn flow<F: Files>(
     requires created { EachFile (F.is_written files.old) (files_of sinks.old) }
     requires apart { IsApart (files_of sinks.old) }
     requires few { length sinks.old ≤ 2 ^ 32 }
-    requires heads { let ports = length func.now.handlers in
-        AreHeld One 1 ports [] (F.told files.old) sinks.old }
-    ensures flows { Flows (function_of func.now) (length func.now.handlers)
+    ensures flows { let ports = length func.now.handlers in
+        (card : Card) → AreHeld One 1 card ports [] (F.told files.old) sinks.old →
+        Flows (function_of func.now) card ports
         feed.old (F.told files.old) feed.new (F.told files.new)
         (files_of sinks.old) tables.new.state result }
     ensures kept { KeepsBut (files_of sinks.old) (F.told files.old) (F.told files.new) }
@@ -83,9 +84,9 @@ fn stream<F: Files>(
     requires created { EachFile (F.is_written files.old) (files_of sinks.old) }
     requires apart { IsApart (files_of sinks.old) }
     requires few { length sinks.old ≤ 2 ^ 32 }
-    requires heads { let ports = length func.now.handlers in
-        AreHeld One 1 ports [] (F.told files.old) sinks.old }
-    ensures streams { Streams (function_of func.now) (length func.now.handlers)
+    ensures streams { let ports = length func.now.handlers in
+        (card : Card) → AreHeld One 1 card ports [] (F.told files.old) sinks.old →
+        Streams (function_of func.now) card ports
         feed.old (F.told files.old) feed.new (F.told files.new) (files_of sinks.old) result }
     ensures kept { KeepsBut (files_of sinks.old) (F.told files.old) (F.told files.new) }
     ensures cause { IsStopCause (F.counted files.old) (F.counted files.new) result }
@@ -120,6 +121,7 @@ pub fn run<F: Files>(
     alloc: Global,
     files: &mut F,
     func: &Func,
+    card: Card,
     feed: &mut Feed,
     captures: &[u32],
     targets: &[u32],
@@ -137,7 +139,7 @@ pub fn run<F: Files>(
         IsEmptyIfTold ((F.told files.old).given file) }
     // One run's files are whole, and it handled the first packets of the captures in capture order;
     // or each file holds a front of what such a run leaves there.
-    ensures runs { Runs (function_of func.now) feed.old (F.told files.old)
+    ensures runs { Runs (function_of func.now) card feed.old (F.told files.old)
         feed.new (F.told files.new) targets.now result }
     ensures kept { KeepsBut targets.now (F.told files.old) (F.told files.new) }
     ensures cause { IsStopCause (F.counted files.old) (F.counted files.new) result }
@@ -145,7 +147,7 @@ pub fn run<F: Files>(
     ensures among { StopsAmong captures.now targets.now result }
 {
     let ports = func.handlers.len();
-    let mut sinks = match begin_sinks(alloc, Mode::One, Workers::new(1), ports, targets) {
+    let mut sinks = match begin_sinks(alloc, Mode::One, Workers::new(1), card, ports, targets) {
         Ok(sinks) => sinks,
         Err(_) => return Err(Stop::Memory),
     };

@@ -7,6 +7,7 @@ ghost use Rattle.nf_files.specs.Told.{IsEmptyIfTold};
 ghost use Rattle.packet_feed.specs.Told.{EachFile, IsApart};
 ghost use Rattle.packet_feed.specs.Sources.{files_in, sixes_in};
 
+use nf_base::card::Card;
 use nf_base::func::Func;
 use nf_files::{Files, FilesFault};
 use packet_feed::{Feed, FeedFault};
@@ -77,6 +78,7 @@ pub fn run_all<F: Files>(
     alloc: Global,
     files: &mut F,
     func: &Func,
+    card: Card,
     feed: &mut Feed,
     opened: &[u32],
     made: &[u32],
@@ -92,7 +94,7 @@ pub fn run_all<F: Files>(
     requires few { length made.now ≤ 2 ^ 32 }
     requires empty { EachFile (λ file. IsEmptyIfTold ((F.told files.old).given file)) made.now }
 {
-    run(alloc, files, func, feed, opened, made)
+    run(alloc, files, func, card, feed, opened, made)
 }
 
 /// Where the captures are torn.

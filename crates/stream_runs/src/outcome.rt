@@ -7,6 +7,7 @@ ghost use Rattle.packet_feed.specs.Told.{EachFile, IsApart};
 ghost use Rattle.packet_feed.specs.Sources.{files_in, sixes_in};
 
 use crate::calls::{create_all, open_all, run_all, start, torn};
+use nf_base::card::Card;
 use nf_base::func::Func;
 use nf_files::{Files, MemoryFiles};
 use nf_syntax::parse;
@@ -76,10 +77,22 @@ fn function(alloc: Global, text: &[u8]) -> Option<Func> {
     check(alloc, &tree).ok()
 }
 
-/// Runs a function over captures, of which there are at most four, and at most so many packets; the calls on files that
-/// are listed fail.
+/// The same with the usual card.
 pub fn outcome_of(
     alloc: Global,
+    text: &[u8],
+    captures: &[Vec<u8>],
+    most: u32,
+    fails: &[u64],
+) -> Result<Outcome, AllocError> {
+    outcome_with(alloc, Card::usual(), text, captures, most, fails)
+}
+
+/// Runs a function over captures, of which there are at most four, and at most so many packets, with a card; the calls
+/// on files that are listed fail.
+pub fn outcome_with(
+    alloc: Global,
+    card: Card,
     text: &[u8],
     captures: &[Vec<u8>],
     most: u32,
@@ -99,7 +112,7 @@ pub fn outcome_of(
     };
     if let Some(func) = function(alloc, text) {
         if func.handlers.len() as usize == names.len() {
-            run_over(alloc, &mut files, &func, names, most, &mut outcome)?;
+            run_over(alloc, &mut files, &func, card, names, most, &mut outcome)?;
         }
     }
     for name in outputs(names.len()) {
@@ -114,6 +127,7 @@ fn run_made<F: Files>(
     alloc: Global,
     files: &mut F,
     func: &Func,
+    card: Card,
     feed: &mut Feed,
     opened: &[u32],
     made: &[u32],
@@ -133,7 +147,7 @@ fn run_made<F: Files>(
         outcome.end = End::Uncreated;
         return Ok(());
     }
-    let ran = run_all(alloc, files, func, feed, opened, made);
+    let ran = run_all(alloc, files, func, card, feed, opened, made);
     outcome.torn = torn(feed);
     match ran {
         Err(stop) => outcome.end = End::Stopped(stop),
@@ -150,6 +164,7 @@ fn run_over<F: Files>(
     alloc: Global,
     files: &mut F,
     func: &Func,
+    card: Card,
     names: &[&str],
     most: u32,
     outcome: &mut Outcome,
@@ -165,7 +180,7 @@ fn run_over<F: Files>(
                 Err(_) => outcome.end = End::Uncreated,
                 Ok(made) => {
                     let (opened, made) = (opened.as_slice(), made.as_slice());
-                    return run_made(alloc, files, func, &mut feed, opened, made, outcome);
+                    return run_made(alloc, files, func, card, &mut feed, opened, made, outcome);
                 }
             },
         },

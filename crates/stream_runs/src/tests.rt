@@ -1,7 +1,8 @@
 //! Runs as streams, with all files that they leave.
 use crate::frames::{Frame, Record, capture, captures};
 use crate::functions::{EDIT, FIREWALL, MIRROR, SPREAD};
-use crate::outcome::{End, Outcome, is_absent, outcome_of};
+use crate::outcome::{End, Outcome, is_absent, outcome_of, outcome_with};
+use nf_base::card::{Card, KeySize, TableSize};
 use packet_feed::FeedFault;
 use std::alloc::{AllocError, Global};
 use std::test::Fail;
@@ -11,6 +12,7 @@ use stream_run::{Ending, Stop};
 struct Case {
     shows: &'static str,
     text: &'static str,
+    card: Card,
     captures: &'static [&'static [Record]],
     most: u32,
     end: End,
@@ -19,10 +21,21 @@ struct Case {
     outputs: &'static [&'static [Record]],
 }
 
-static CASES: [Case; 7] = [
+const USUAL: Card = Card {
+    table: TableSize::Entries128,
+    key: KeySize::Bytes40,
+};
+
+const LARGE: Card = Card {
+    table: TableSize::Entries512,
+    key: KeySize::Bytes52,
+};
+
+static CASES: [Case; 8] = [
     Case {
         shows: "a firewall answers its flow",
         text: FIREWALL,
+        card: USUAL,
         captures: &[&[(1, Frame::Query)], &[(5, Frame::Reply)]],
         most: 9,
         end: End::Ran(Ending::All, 2),
@@ -31,8 +44,20 @@ static CASES: [Case; 7] = [
         outputs: &[&[(5, Frame::Reply)], &[(1, Frame::Query)]],
     },
     Case {
+        shows: "another card changes the journal's first line alone",
+        text: FIREWALL,
+        card: LARGE,
+        captures: &[&[(1, Frame::Query)], &[(5, Frame::Reply)]],
+        most: 9,
+        end: End::Ran(Ending::All, 2),
+        journal: "maestro journal 2 one 1 512 52\n0 0 0 to:1 0\n1 0 0 to:0 -\n",
+        state: "chain flows greatest 5\n0 5 a=167772161 b=167772162 c=1000 d=80\n",
+        outputs: &[&[(5, Frame::Reply)], &[(1, Frame::Query)]],
+    },
+    Case {
         shows: "capture order is time, then port, then place in the file, and times never fall",
         text: FIREWALL,
+        card: USUAL,
         captures: &[&[(7, Frame::Query), (3, Frame::Cut)], &[(7, Frame::Reply)]],
         most: 3,
         end: End::Ran(Ending::All, 3),
@@ -43,6 +68,7 @@ static CASES: [Case; 7] = [
     Case {
         shows: "captures of their header alone",
         text: FIREWALL,
+        card: USUAL,
         captures: &[&[], &[]],
         most: 0,
         end: End::Ran(Ending::All, 0),
@@ -53,6 +79,7 @@ static CASES: [Case; 7] = [
     Case {
         shows: "a fragment, and a frame that is not of IPv4, are skipped",
         text: FIREWALL,
+        card: USUAL,
         captures: &[&[(1, Frame::Fragment), (2, Frame::Arp)], &[]],
         most: 9,
         end: End::Ran(Ending::All, 2),
@@ -63,6 +90,7 @@ static CASES: [Case; 7] = [
     Case {
         shows: "as many packets as are asked for, of more",
         text: FIREWALL,
+        card: USUAL,
         captures: &[
             &[(1, Frame::Query), (2, Frame::Query)],
             &[(3, Frame::Reply), (4, Frame::Reply)],
@@ -79,6 +107,7 @@ static CASES: [Case; 7] = [
     Case {
         shows: "a packet goes where its action sends it",
         text: SPREAD,
+        card: USUAL,
         captures: &[
             &[(1, Frame::Query), (5, Frame::Arp)],
             &[(2, Frame::Reply)],
@@ -99,6 +128,7 @@ static CASES: [Case; 7] = [
     Case {
         shows: "a frame is sent with its edits, and its checksums brought up to date",
         text: EDIT,
+        card: USUAL,
         captures: &[&[(1, Frame::Summed), (2, Frame::Arp)], &[]],
         most: 9,
         end: End::Ran(Ending::All, 2),
@@ -122,8 +152,9 @@ fn is_left(outcome: &Outcome, file: usize, bytes: &[u8]) -> bool {
 /// What of a run isn't as it should be.
 fn wrong_part(alloc: Global, case: &Case) -> Result<&'static str, AllocError> {
     let captures = captures(alloc, case.captures)?;
-    let got = outcome_of(
+    let got = outcome_with(
         alloc,
+        case.card,
         case.text.as_bytes(),
         captures.as_slice(),
         case.most,

@@ -13,6 +13,8 @@ mod merge_tests;
 mod table_calls;
 #[cfg(test)]
 mod tables_tests;
+#[cfg(test)]
+mod tag_tests;
 
 use calls::{allocate, due, expire_one, greatest, is_full, open, stamp, take};
 use nf_base::share::Share;

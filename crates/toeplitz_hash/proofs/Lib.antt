@@ -8,3 +8,4 @@ pub mod OneBit
 pub mod HighFirst
 pub mod InputBits
 pub mod Hashed
+pub mod Defaults

@@ -4,3 +4,4 @@ pub mod Packets
 pub mod Meeting
 pub mod Laws
 pub mod Suite
+pub mod DefaultKey

@@ -10,8 +10,10 @@ ghost use Rattle.toeplitz_hash.specs.Toeplitz.{toeplitz_of};
 ///
 /// Bit `j` of the hash, 0 the highest of 32, is the sum modulo 2 over the bits `i` of the input of
 /// `input_i * key_(i+j)`. Of bytes the highest bit comes first.
-pub fn toeplitz(key: &[u8; 40], input: &[u8]) -> u32
-    requires { length input.now ≤ 36 }
+/// No other bits of the key are met than its first 319, which 40 bytes hold.
+pub fn toeplitz(key: &[u8], input: &[u8]) -> u32
+    requires key { 40 ≤ length key.now }
+    requires input { length input.now ≤ 36 }
     ensures { result ≡ toeplitz_of key.now input.now }
 {
     let mut hash = 0;

@@ -80,7 +80,8 @@ pub fn hash_packet(keys: &Keys, packet: &Packet) -> Option<u32>
     match packet.fields {
         Some(fields) => {
             let input = input_of(&fields);
-            Some(toeplitz(keys.ports.item(packet.id.port), input.as_slice()))
+            let key = keys.ports.item(packet.id.port);
+            Some(toeplitz(key.as_slice(), input.as_slice()))
         }
         None => None,
     }

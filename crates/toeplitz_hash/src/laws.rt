@@ -2,6 +2,7 @@
 //! of the input. Each function's contract is one law; its body does nothing.
 ghost use Rattle.toeplitz_hash.specs.Laws.{HashesHaveBits, IsLinearInKey, IsLinearInInput, OnlyFirstBitsMatter, OnlyPositionsMatter, ZerosHashToZero, OneKeyBitSelects, OneInputBitSelects, InputsAddUp, InputsAreLaidOut, OnlyHashedFieldsMatter, PacketsUseTheKeyOfTheirPort};
 ghost use Rattle.toeplitz_hash.specs.Suite.{SuiteIsMet};
+ghost use Rattle.toeplitz_hash.specs.DefaultKey.{DefaultKeysAgree};
 
 /// Bit `j` of a hash is the sum modulo 2 over the bits `i` of the input of `input_i * key_(i+j)`,
 /// and it has no other bits.
@@ -73,4 +74,10 @@ pub fn packets_use_the_key_of_their_port()
 /// inputs reach every bit of that key but the last one, which no input of 36 bytes does.
 pub fn suite_is_met()
     ensures { SuiteIsMet }
+{}
+
+/// The default keys of both sizes have the same first 320 bits, so that packets hash alike under
+/// them.
+pub fn default_keys_agree()
+    ensures { DefaultKeysAgree }
 {}

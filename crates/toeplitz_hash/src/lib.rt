@@ -9,4 +9,4 @@ pub mod laws;
 
 pub use hash::toeplitz;
 pub use input::{Input, hash_packet, input_of};
-pub use key::DEFAULT_KEY;
+pub use key::{DEFAULT_KEY, default_key};

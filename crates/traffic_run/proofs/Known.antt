@@ -4,6 +4,7 @@ use Rattle.std.specs.Prelude.{Option, Some, None, Result, Ok, Err, option_map}
 use Rattle.std.proofs.lemmas.Option.{slice_get_within}
 use Rattle.std.specs.List.{slice_get}
 use Rattle.std.proofs.lemmas.Bool.{le-leb, lt-leb}
+use Rattle.nf_base.specs.declared.card.Card.{Card}
 use Rattle.nf_base.specs.Text.{Function}
 use Rattle.nf_files.specs.Told.{Told, IsEmptyIfTold}
 use Rattle.nf_files.specs.Causes.{Counted, Faulted, FirstAfter}
@@ -133,8 +134,8 @@ came_among captures files first n bytes (Err stop) is as_many numbers low among 
 
 -- ---- what a run came to
 
-pub came_runs : (who : Who) (Refused : Type 0) (f : Function) (made : Recipe) (now : Told) (files : List ℕ) (first n bytes : ℕ) (result : Result Left Stop) → length (arrivals_of made) < 2 ^ 32 → length f.handlers ≡ n → n ≤ 4 → length files ≡ n + 1 → ((k file : ℕ) → slice_get files k ≡ Some file → file ≡ first + k)
-    → CountsTo first n now bytes → Leaves who Refused f (arrivals_of made) now files result → Runs who Refused f (arrivals_of made) now files first (came_of first n bytes result)
-came_runs who Refused f made now files first n bytes (Ok (Whole m state)) short ports few as_many numbers right h = record { whole = h; sent_is = is_sent_by who Refused f made now files m state h first n bytes short ports few as_many numbers right }
-came_runs who Refused f made now files first n bytes (Ok (Full full)) short ports few as_many numbers right h = h
-came_runs who Refused f made now files first n bytes (Err stop) short ports few as_many numbers right h = h
+pub came_runs : (who : Who) (card : Card) (Refused : Type 0) (f : Function) (made : Recipe) (now : Told) (files : List ℕ) (first n bytes : ℕ) (result : Result Left Stop) → length (arrivals_of made) < 2 ^ 32 → length f.handlers ≡ n → n ≤ 4 → length files ≡ n + 1 → ((k file : ℕ) → slice_get files k ≡ Some file → file ≡ first + k)
+    → CountsTo first n now bytes → Leaves who card Refused f (arrivals_of made) now files result → Runs who card Refused f (arrivals_of made) now files first (came_of first n bytes result)
+came_runs who card Refused f made now files first n bytes (Ok (Whole m state)) short ports few as_many numbers right h = record { whole = h; sent_is = is_sent_by who card Refused f made now files m state h first n bytes short ports few as_many numbers right }
+came_runs who card Refused f made now files first n bytes (Ok (Full full)) short ports few as_many numbers right h = h
+came_runs who card Refused f made now files first n bytes (Err stop) short ports few as_many numbers right h = h

@@ -4,6 +4,7 @@ use Rattle.std.specs.Prelude.{Option, Some, None, option_map}
 use Rattle.std.specs.List.{AllByRecursion, flat_map, slice_get}
 use Rattle.std.proofs.lemmas.Bool.{eqb-true, lt-ltb}
 use Rattle.std.proofs.lemmas.List.{length-map}
+use Rattle.nf_base.specs.declared.card.Card.{Card}
 use Rattle.nf_base.specs.Text.{Function}
 use Rattle.nf_base.specs.Runs.{RunResult}
 use Rattle.nf_base.specs.declared.done.Done.{Done}
@@ -75,10 +76,10 @@ port_long : (port : ℕ) (hs : List Handled) → AllByRecursion Has42 hs → len
 port_long port [] all = refl
 port_long port (h ∷ hs) all = one_long (is_sent port h) port h hs (record_long h all.0) (port_long port hs all.1)
 
-file_long : (m : Mode) (workers ports port : ℕ) (hs : List Handled) → port < ports → AllByRecursion Has42 hs → length (bytes_of m workers ports port hs) ≡ 24 + 58 * length (sent_records port hs)
+file_long : (m : Mode) (workers : ℕ) (card : Card) (ports port : ℕ) (hs : List Handled) → port < ports → AllByRecursion Has42 hs → length (bytes_of m workers card ports port hs) ≡ 24 + 58 * length (sent_records port hs)
 unfolding bytes_of
-file_long m workers ports port hs lt all =
-    ap (λ (b : Bool). length (cond b header_bytes (header_line m workers) ++ flat_map (λ (h : Handled). cond b (sent_bytes port h) (line_of h)) hs)) (lt-ltb port ports lt)
+file_long m workers card ports port hs lt all =
+    ap (λ (b : Bool). length (cond b header_bytes (header_line m workers card) ++ flat_map (λ (h : Handled). cond b (sent_bytes port h) (line_of h)) hs)) (lt-ltb port ports lt)
     ∙ length-append header_bytes (flat_map (sent_bytes port) hs)
     ∙ ap (λ (n : ℕ). 24 + n) (port_long port hs all)
 
@@ -152,25 +153,25 @@ count_is n s bytes few small right =
 
 -- ---- whose run it is
 
-function_in : (m : Mode) (f : Function) (workers : ℕ) (Refused : Type 0) (arrivals : List Arrival) (r : Run) → IsRunIn m f workers Refused arrivals r → r.function ≡ f
-function_in mode.Lock f workers Refused arrivals r is = is.function
-function_in mode.One f workers Refused arrivals r is = is.1.function
-function_in mode.Shard f workers Refused arrivals r is = absurd is
+function_in : (m : Mode) (f : Function) (workers : ℕ) (card : Card) (Refused : Type 0) (arrivals : List Arrival) (r : Run) → IsRunIn m f workers card Refused arrivals r → r.function ≡ f
+function_in mode.Lock f workers card Refused arrivals r is = is.function
+function_in mode.One f workers card Refused arrivals r is = is.1.function
+function_in mode.Shard f workers card Refused arrivals r is = absurd is
 
-pub function_by : (who : Who) (Refused : Type 0) (f : Function) (arrivals : List Arrival) (r : Run) → IsRunBy who Refused f arrivals r → r.function ≡ f
-function_by One Refused f arrivals r is = is.function
-function_by (Shards keys workers) Refused f arrivals r is = is.is_run.function
-function_by (Sharing workers) Refused f arrivals r is = function_in r.mode f workers Refused arrivals r is
+pub function_by : (who : Who) (card : Card) (Refused : Type 0) (f : Function) (arrivals : List Arrival) (r : Run) → IsRunBy who card Refused f arrivals r → r.function ≡ f
+function_by One card Refused f arrivals r is = is.function
+function_by (Shards keys workers) card Refused f arrivals r is = is.is_run.function
+function_by (Sharing workers) card Refused f arrivals r is = function_in r.mode f workers card Refused arrivals r is
 
-order_in : (m : Mode) (f : Function) (workers : ℕ) (Refused : Type 0) (arrivals : List Arrival) (r : Run) → IsRunIn m f workers Refused arrivals r → m ≢ mode.Lock → map arrival_in r.turns ≡ arrivals
-order_in mode.Lock f workers Refused arrivals r is other = absurd (other refl)
-order_in mode.One f workers Refused arrivals r is other = is.1.order
-order_in mode.Shard f workers Refused arrivals r is other = absurd is
+order_in : (m : Mode) (f : Function) (workers : ℕ) (card : Card) (Refused : Type 0) (arrivals : List Arrival) (r : Run) → IsRunIn m f workers card Refused arrivals r → m ≢ mode.Lock → map arrival_in r.turns ≡ arrivals
+order_in mode.Lock f workers card Refused arrivals r is other = absurd (other refl)
+order_in mode.One f workers card Refused arrivals r is other = is.1.order
+order_in mode.Shard f workers card Refused arrivals r is other = absurd is
 
-order_by : (who : Who) (Refused : Type 0) (f : Function) (arrivals : List Arrival) (r : Run) → IsRunBy who Refused f arrivals r → r.mode ≢ mode.Lock → map arrival_in r.turns ≡ arrivals
-order_by One Refused f arrivals r is other = is.packets
-order_by (Shards keys workers) Refused f arrivals r is other = is.packets
-order_by (Sharing workers) Refused f arrivals r is other = order_in r.mode f workers Refused arrivals r is other
+order_by : (who : Who) (card : Card) (Refused : Type 0) (f : Function) (arrivals : List Arrival) (r : Run) → IsRunBy who card Refused f arrivals r → r.mode ≢ mode.Lock → map arrival_in r.turns ≡ arrivals
+order_by One card Refused f arrivals r is other = is.packets
+order_by (Shards keys workers) card Refused f arrivals r is other = is.packets
+order_by (Sharing workers) card Refused f arrivals r is other = order_in r.mode f workers card Refused arrivals r is other
 
 sent_of : (made : Recipe) (r : Run) (now : Told) (files : List ℕ) (first n bytes : ℕ) → map arrival_in r.turns ≡ arrivals_of made → length (map arrival_in r.turns) < 2 ^ 32 → length r.function.handlers ≡ n → n ≤ 4 → length files ≡ n + 1
     → ((k file : ℕ) → slice_get files k ≡ Some file → file ≡ first + k) → ((k file : ℕ) → slice_get files k ≡ Some file → IsToldAs (file_bytes r k) (now.given file)) → CountsTo first n now bytes
@@ -181,13 +182,13 @@ sent_of made r now files first n bytes packets short ports few as_many numbers w
     let lots : length hs < 2 ^ 32 = omega (arith, handled_short r.turns (course_of r), length-map r.turns arrival_in, short) in
     let given = all_given now first n hs (file_bytes r) 0 n (omega arith)
     (λ p lt. given_at (now.given (first + p)) (file_bytes r p) (wholes p (first + p) (file_at files first p (omega (arith, lt, as_many)) numbers)) (told p (omega (arith, lt, ports))))
-    (λ p lt. file_long r.mode r.workers (length r.function.handlers) p hs (omega (arith, lt, ports)) all) in
+    (λ p lt. file_long r.mode r.workers r.card (length r.function.handlers) p hs (omega (arith, lt, ports)) all) in
     let zeroth : first + 0 ≡ first = omega arith in
     let sum : is_right (Some (24 * n + 58 * sent_from hs 0 n)) bytes ≡ true = subst (λ (o : Option ℕ). is_right o bytes ≡ true) (ap (λ (f : ℕ). bytes_from now.given f n) (sym zeroth) ∙ given) right in
     count_is n (sent_from hs 0 n) bytes few (sent_small hs 0 n lots) sum ∙ ap (sent_from hs 0) (sym ports)
 
-pub is_sent_by : (who : Who) (Refused : Type 0) (f : Function) (made : Recipe) (now : Told) (files : List ℕ) (m : Mode) (state : State) (w : IsWhole who Refused f (arrivals_of made) now files m state) (first n bytes : ℕ) → length (arrivals_of made) < 2 ^ 32 → length f.handlers ≡ n → n ≤ 4 → length files ≡ n + 1
+pub is_sent_by : (who : Who) (card : Card) (Refused : Type 0) (f : Function) (made : Recipe) (now : Told) (files : List ℕ) (m : Mode) (state : State) (w : IsWhole who card Refused f (arrivals_of made) now files m state) (first n bytes : ℕ) → length (arrivals_of made) < 2 ^ 32 → length f.handlers ≡ n → n ≤ 4 → length files ≡ n + 1
     → ((k file : ℕ) → slice_get files k ≡ Some file → file ≡ first + k) → CountsTo first n now bytes → IsSent now first w.run (records_in bytes n)
-is_sent_by who Refused f made now files m state w first n bytes short ports few as_many numbers right other told =
-    let packets = order_by who Refused f (arrivals_of made) w.run w.is_run other in
-    sent_of made w.run now files first n bytes packets (omega (arith, short, ap (λ (t : List Arrival). length t) packets)) (ap (λ (g : Function). length g.handlers) (function_by who Refused f (arrivals_of made) w.run w.is_run) ∙ ports) few as_many numbers w.wholes right told
+is_sent_by who card Refused f made now files m state w first n bytes short ports few as_many numbers right other told =
+    let packets = order_by who card Refused f (arrivals_of made) w.run w.is_run other in
+    sent_of made w.run now files first n bytes packets (omega (arith, short, ap (λ (t : List Arrival). length t) packets)) (ap (λ (g : Function). length g.handlers) (function_by who card Refused f (arrivals_of made) w.run w.is_run) ∙ ports) few as_many numbers w.wholes right told

@@ -1,6 +1,7 @@
 -- A run of made-up traffic, and what it leaves.
 use Rattle.std.specs.Prelude.{◌≡◌, ◌≢◌, ◌<◌, ◌≤◌, ℕ, zero, suc, ◌+◌, Bool, List, ◌∷◌, ◌++◌, length, map, slice_get, Some, None, Result, Ok, Err}
 use Rattle.std.specs.List.{AllByRecursion}
+use Rattle.nf_base.specs.declared.card.Card.{Card}
 use Rattle.nf_base.specs.Text.{Function}
 use Rattle.nf_base.specs.declared.done.Done.{Done}
 use Rattle.nf_base.specs.declared.keys.Keys.{Keys}
@@ -37,25 +38,26 @@ pub record ArePackets (six : List Bool) (captures : List ℕ) (told : Told) (arr
 -- ---- who handles the packets
 
 -- One worker, whose number is 0, handles these packets in this order, each with choices that are legal.
-pub record IsByOne (f : Function) (arrivals : List Arrival) (r : Run) : Type 0 where
+pub record IsByOne (f : Function) (card : Card) (arrivals : List Arrival) (r : Run) : Type 0 where
   pub function : r.function ≡ f
   pub mode_is : r.mode ≡ mode.One
   pub workers : r.workers ≡ 1
+  pub card_is : r.card ≡ card
   pub alone : AllByRecursion (λ (t : Turn). t.worker ≡ 0) r.turns
   pub legal : IsLegal r
   pub packets : map arrival_in r.turns ≡ arrivals
 
 -- Workers that share nothing handle these packets in this order, each its own queue's.
-pub record IsByShards (f : Function) (keys : Keys) (workers : ℕ) (arrivals : List Arrival) (r : Run) : Type 0 where
-  pub is_run : IsShardRun f keys workers r
+pub record IsByShards (f : Function) (keys : Keys) (workers : ℕ) (card : Card) (arrivals : List Arrival) (r : Run) : Type 0 where
+  pub is_run : IsShardRun f keys workers card r
   pub packets : map arrival_in r.turns ≡ arrivals
 
 -- A run of these packets: by one worker, or by several that share nothing, or by several that share all
 -- tables, where each port's packets keep their order; where the gate refused these, by one.
-abbrev pub IsRunBy : Who → Type 0 → Function → List Arrival → Run → Type 0
-IsRunBy One Refused f arrivals r = IsByOne f arrivals r
-IsRunBy (Shards keys workers) Refused f arrivals r = IsByShards f keys workers arrivals r
-IsRunBy (Sharing workers) Refused f arrivals r = IsRunIn r.mode f workers Refused arrivals r
+abbrev pub IsRunBy : Who → Card → Type 0 → Function → List Arrival → Run → Type 0
+IsRunBy One card Refused f arrivals r = IsByOne f card arrivals r
+IsRunBy (Shards keys workers) card Refused f arrivals r = IsByShards f keys workers card arrivals r
+IsRunBy (Sharing workers) card Refused f arrivals r = IsRunIn r.mode f workers card Refused arrivals r
 
 -- What is needed of who handles packets: several are more than one and at most 16, and keys are those
 -- of the function.
@@ -67,9 +69,9 @@ Serves f (Sharing workers) = (1 < workers) × (workers ≤ 16)
 -- ---- what a run leaves
 
 -- Its files are whole, and its last state is told.
-pub record IsWhole (who : Who) (Refused : Type 0) (f : Function) (arrivals : List Arrival) (now : Told) (files : List ℕ) (m : Mode) (state : State) : Type 0 where
+pub record IsWhole (who : Who) (card : Card) (Refused : Type 0) (f : Function) (arrivals : List Arrival) (now : Told) (files : List ℕ) (m : Mode) (state : State) : Type 0 where
   pub run : Run
-  pub is_run : IsRunBy who Refused f arrivals run
+  pub is_run : IsRunBy who card Refused f arrivals run
   pub mode_is : m ≡ run.mode
   pub left : (answers : List Done) × (course_of run ≡ Some (record { state = state; answers = answers }))
   pub wholes : (k file : ℕ) → slice_get files k ≡ Some file → IsToldAs (file_bytes run k) (now.given file)
@@ -81,36 +83,36 @@ AreBefore arrivals given packet =
 
 -- The run's packets are those before the packet at which a share has no index left, and its files are
 -- whole.
-pub record IsStopped (f : Function) (keys : Keys) (workers : ℕ) (arrivals : List Arrival) (now : Told) (files : List ℕ) (full : ShareFull) : Type 0 where
+pub record IsStopped (f : Function) (keys : Keys) (workers : ℕ) (card : Card) (arrivals : List Arrival) (now : Told) (files : List ℕ) (full : ShareFull) : Type 0 where
   pub run : Run
-  pub is_run : IsShardRun f keys workers run
+  pub is_run : IsShardRun f keys workers card run
   pub stops : IsStopBehind f keys workers run full.stop
   pub packets : AreBefore arrivals (map arrival_in run.turns) full.stop.packet
   pub wholes : (k file : ℕ) → slice_get files k ≡ Some file → IsToldAs (file_bytes run k) (now.given file)
 
 -- that is met by workers that share nothing, and by them alone
-abbrev pub IsFull : Who → Function → List Arrival → Told → List ℕ → ShareFull → Type 0
-IsFull One f arrivals now files full = ⊥
-IsFull (Shards keys workers) f arrivals now files full = IsStopped f keys workers arrivals now files full
-IsFull (Sharing workers) f arrivals now files full = ⊥
+abbrev pub IsFull : Who → Card → Function → List Arrival → Told → List ℕ → ShareFull → Type 0
+IsFull One card f arrivals now files full = ⊥
+IsFull (Shards keys workers) card f arrivals now files full = IsStopped f keys workers card arrivals now files full
+IsFull (Sharing workers) card f arrivals now files full = ⊥
 
 -- these are the first of packets
 abbrev pub AreFirst : List Arrival → List Arrival → Type 0
 AreFirst arrivals given = (later : List Arrival) × (arrivals ≡ given ++ later)
 
 -- The run was stopped. Each file holds a front of what a run over some first packets leaves there.
-pub record IsCutShort (who : Who) (Refused : Type 0) (f : Function) (arrivals : List Arrival) (now : Told) (files : List ℕ) : Type 0 where
+pub record IsCutShort (who : Who) (card : Card) (Refused : Type 0) (f : Function) (arrivals : List Arrival) (now : Told) (files : List ℕ) : Type 0 where
   pub run : Run
   pub given : List Arrival
   pub first : AreFirst arrivals given
-  pub is_run : IsRunBy who Refused f given run
+  pub is_run : IsRunBy who card Refused f given run
   pub fronts : (k file : ℕ) → slice_get files k ≡ Some file → IsFrontIfTold (file_bytes run k) (now.given file)
 
 -- what handling packets comes to
-abbrev pub Leaves : Who → Type 0 → Function → List Arrival → Told → List ℕ → Result Left Stop → Type 0
-Leaves who Refused f arrivals now files (Ok (left.Whole m state)) = IsWhole who Refused f arrivals now files m state
-Leaves who Refused f arrivals now files (Ok (left.Full full)) = IsFull who f arrivals now files full
-Leaves who Refused f arrivals now files (Err stop) = IsCutShort who Refused f arrivals now files
+abbrev pub Leaves : Who → Card → Type 0 → Function → List Arrival → Told → List ℕ → Result Left Stop → Type 0
+Leaves who card Refused f arrivals now files (Ok (left.Whole m state)) = IsWhole who card Refused f arrivals now files m state
+Leaves who card Refused f arrivals now files (Ok (left.Full full)) = IsFull who card f arrivals now files full
+Leaves who card Refused f arrivals now files (Err stop) = IsCutShort who card Refused f arrivals now files
 
 -- ---- how many records it sent
 
@@ -133,12 +135,12 @@ abbrev pub IsSent : Told → ℕ → Run → ℕ → Type 0
 IsSent now first r sent = r.mode ≢ mode.Lock → AreTold now first (length r.function.handlers) → sent ≡ sent_in r
 
 -- its files are whole, its last state is told, and how many records it sent
-pub record IsFinished (who : Who) (Refused : Type 0) (f : Function) (arrivals : List Arrival) (now : Told) (files : List ℕ) (first : ℕ) (m : Mode) (state : State) (sent : ℕ) : Type 0 where
-  pub whole : IsWhole who Refused f arrivals now files m state
+pub record IsFinished (who : Who) (card : Card) (Refused : Type 0) (f : Function) (arrivals : List Arrival) (now : Told) (files : List ℕ) (first : ℕ) (m : Mode) (state : State) (sent : ℕ) : Type 0 where
+  pub whole : IsWhole who card Refused f arrivals now files m state
   pub sent_is : IsSent now first whole.run sent
 
 -- what a run comes to
-abbrev pub Runs : Who → Type 0 → Function → List Arrival → Told → List ℕ → ℕ → Result Came Stop → Type 0
-Runs who Refused f arrivals now files first (Ok (came.Whole m state sent)) = IsFinished who Refused f arrivals now files first m state sent
-Runs who Refused f arrivals now files first (Ok (came.Full full)) = IsFull who f arrivals now files full
-Runs who Refused f arrivals now files first (Err stop) = IsCutShort who Refused f arrivals now files
+abbrev pub Runs : Who → Card → Type 0 → Function → List Arrival → Told → List ℕ → ℕ → Result Came Stop → Type 0
+Runs who card Refused f arrivals now files first (Ok (came.Whole m state sent)) = IsFinished who card Refused f arrivals now files first m state sent
+Runs who card Refused f arrivals now files first (Ok (came.Full full)) = IsFull who card f arrivals now files full
+Runs who card Refused f arrivals now files first (Err stop) = IsCutShort who card Refused f arrivals now files

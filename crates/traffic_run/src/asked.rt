@@ -1,12 +1,16 @@
 //! What traffic is asked for.
 ghost use Rattle.std.specs.Prelude.{◌≡◌, ◌<◌, ◌^◌};
 
-/// What traffic is asked for: a seed, how many packets, and of how many flows.
+use nf_base::card::Card;
+
+/// What traffic is asked for: a seed, how many packets, of how many flows, and through what network card they
+/// come.
 #[derive(Clone, Copy, Debug, PartialEq, Eq)]
 pub struct Asked {
     pub seed: u32,
     pub count: u32,
     pub flows: u32,
+    pub card: Card,
 }
 
 impl Asked {

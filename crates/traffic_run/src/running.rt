@@ -62,7 +62,8 @@ fn run_beside<'a, R: Threads + Wait + Sync, F: Files, T: Turns + Sync, G: Gate +
     ensures same_files { beside.new.files.ghost_name ≡ beside.old.files.ghost_name }
     ensures leaves { let Refused = Rose (G.refused gate.old) (G.refused gate.new) in
         let all = asked_for asked.now (length func.now.handlers) in
-        Leaves who.now Refused (function_of func.now) all (F.told beside.new.files.now) targets.now result }
+        Leaves who.now asked.now.card Refused (function_of func.now) all
+        (F.told beside.new.files.now) targets.now result }
     ensures counts { let c = beside.old.outputs in
         CountsTo c.first c.count (F.told beside.new.files.now) beside.new.outputs.bytes }
     ensures known { StaysKnown (journal_of beside.old.outputs)
@@ -119,7 +120,8 @@ fn run_made<R: Threads + Wait + Sync, F: Files, T: Turns + Sync, G: Gate + Drop 
         IsEmptyIfTold ((F.told files.old).given file) }
     ensures leaves { let Refused = Rose (G.refused gate.old) (G.refused gate.new) in
         let all = asked_for asked.now (length func.now.handlers) in
-        Leaves who.now Refused (function_of func.now) all (F.told files.new) targets.now result.result }
+        Leaves who.now asked.now.card Refused (function_of func.now) all
+        (F.told files.new) targets.now result.result }
     ensures counts { CountsTo first (length func.now.handlers) (F.told files.new) result.bytes }
     ensures known { StaysKnown (first + length func.now.handlers)
         (F.counted files.old) (F.counted files.new) }
@@ -222,7 +224,8 @@ pub fn run<R: Threads + Wait + Sync, F: Files, T: Turns + Sync, G: Gate + Drop +
     // stop; or each file holds a front of what such a run leaves there.
     ensures runs { let Refused = Rose (G.refused gate.old) (G.refused gate.new) in
         let all = asked_for asked (length func.now.handlers) in
-        Runs who.now Refused (function_of func.now) all (F.told files.new) targets.now first result }
+        Runs who.now asked.card Refused (function_of func.now) all
+        (F.told files.new) targets.now first result }
     ensures kept { KeepsBut targets.now (F.told files.old) (F.told files.new) }
     ensures cause { IsStopCause (F.counted files.old) (F.counted files.new) result }
     // The file that failed is one of the targets.

@@ -2,6 +2,7 @@
 
 use access_keys::sites;
 use key_synth::synthesise;
+use nf_base::card::Card;
 use nf_base::func::Func;
 use nf_base::packet::{Door, Family};
 use nf_syntax::parse;
@@ -47,7 +48,7 @@ fn explained(alloc: Global, func: &Func) -> Result<Vec<u8>, Fault> {
     let Ok(plan) = join(alloc, func, all.as_slice()) else {
         return Err(Fault::Memory);
     };
-    let Ok(verdict) = synthesise(alloc, func, &plan) else {
+    let Ok(verdict) = synthesise(alloc, func, &plan, Card::usual()) else {
         return Err(Fault::Memory);
     };
     match explain(alloc, func, all.as_slice(), &plan, &verdict) {

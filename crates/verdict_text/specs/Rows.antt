@@ -17,7 +17,10 @@ use Rattle.shard_rules.specs.declared.plan.Standing.{Standing}
 use Rattle.shard_rules.specs.declared.plan.Standing.TheVariants.{ReadOnly, Unused, Ruled}
 use Rattle.shard_rules.specs.declared.plan.Plan.{Plan}
 use Rattle.shard_rules.specs.Rows.{at_chain, at_array, policer, translator, hidden, narrowed, counter}
+use Rattle.nf_base.specs.declared.card.TableSize.TheVariants.{Entries128, Entries512}
+use Rattle.nf_base.specs.declared.card.KeySize.TheVariants.{Bytes52}
 use Rattle.toeplitz_hash.specs.declared.key.TheConstants.{DEFAULT_KEY}
+use Rattle.toeplitz_hash.specs.DefaultKey.{default_key}
 use Rattle.key_synth.specs.declared.verdict.Cause.TheVariants as cause
 use Rattle.key_synth.specs.declared.verdict.Verdict.{Verdict}
 use Rattle.key_synth.specs.declared.verdict.Verdict.TheVariants.{Sharded, Locked}
@@ -152,7 +155,15 @@ both_text = explained
 -- the verdicts on some functions: keys by destination at port 1, two objects, and a hash
 abbrev pub policer_keys : Verdict
 policer_keys = Sharded (record {
+  table = Entries128;
   ports = DEFAULT_KEY ∷ (replicate 7 0 ++ 1 ∷ replicate 32 0) ∷ [];
+})
+
+-- the same for a card with a table of 512 entries and keys of 52 bytes
+abbrev pub long_keys : Verdict
+long_keys = Sharded (record {
+  table = Entries512;
+  ports = default_key Bytes52 ∷ (replicate 7 0 ++ 1 ∷ replicate 44 0) ∷ [];
 })
 
 -- a bridge keeps no label
@@ -203,5 +214,10 @@ pub record TextsAreSo : Type 0 where
       ++ codes "d0ca2bcbae7b30b477cb2da38030f20c6a42b73bbeac01fa\n"
       ++ codes "key 1 00000000000000010000000000000000"
       ++ codes "000000000000000000000000000000000000000000000000\n"
+  pub long_keys_are_told : verdict_text bridge long_keys
+      ≡ codes "sharded\nkey 0 6d5a56da255b0ec24167253d43a38fb0"
+      ++ codes "d0ca2bcbae7b30b477cb2da38030f20c6a42b73bbeac01fa6d5a56da255b0ec24167253d\n"
+      ++ codes "key 1 00000000000000010000000000000000"
+      ++ codes "000000000000000000000000000000000000000000000000000000000000000000000000\n"
   pub bridge_has_none : verdict_text bridge bridge_cause ≡ codes "locked macs J4\n"
   pub the_hash_is_named : verdict_text bridge (Locked cause.Hash) ≡ codes "locked hash\n"

@@ -12,7 +12,7 @@ use Rattle.key_synth.specs.declared.verdict.Verdict.TheVariants.{Sharded, Locked
 use Rattle.nf_base.specs.Names.{object_name}
 use Rattle.verdict_text.specs.Objects.{explained}
 
--- the line of a port's key: 80 hexadecimal digits
+-- the line of a port's key: 80 or 104 hexadecimal digits
 abbrev pub key_text : ℕ → List ℕ → List ℕ
 key_text port key =
     codes "key " ++ decimal port ++ codes " " ++ encode_lower key ++ codes "\n"

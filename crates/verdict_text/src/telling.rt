@@ -2,7 +2,7 @@
 //!
 //! | verdict | text |
 //! |---|---|
-//! | keys | `sharded`, and per port `key <port> <80 hexadecimal digits>` |
+//! | keys | `sharded`, and per port `key <port> <80 or 104 hexadecimal digits>` |
 //! | none, for an object keeps no label | `locked <object> <rule>` |
 //! | none, for another cause | `locked hash` |
 //!
@@ -20,13 +20,13 @@ use nf_base::keys::Keys;
 use shard_rules::Plan;
 use std::alloc::{AllocError, Global};
 
-fn push_key(alloc: Global, out: &mut Vec<u8>, port: u32, key: &[u8; 40]) -> Result<(), AllocError>
+fn push_key(alloc: Global, out: &mut Vec<u8>, port: u32, key: &[u8]) -> Result<(), AllocError>
     ensures ok { OnOk result (out.new.items ≡ out.old.items ++ key_text port key.now) }
 {
     push_bytes(out, b"key ")?;
     push_decimal(out, u64::from(port))?;
     push_bytes(out, b" ")?;
-    let digits = hex::encode(alloc, *key)?;
+    let digits = hex::encode(alloc, key)?;
     push_bytes(out, digits.as_bytes())?;
     push_bytes(out, b"\n")
 }
@@ -35,7 +35,7 @@ fn push_keys(alloc: Global, out: &mut Vec<u8>, keys: &Keys) -> Result<(), AllocE
     ensures ok { OnOk result (out.new.items ≡ out.old.items ++ keys_text 0 keys.now.ports) }
 {
     for port in 0..keys.ports.len() {
-        push_key(alloc, out, port, keys.ports.item(port))?;
+        push_key(alloc, out, port, keys.ports.item(port).as_slice())?;
     }
     Ok(())
 }

@@ -11,14 +11,14 @@ use Rattle.nf_base.specs.Chains as chains
 use Rattle.nf_base.specs.Shares.{owns}
 use Rattle.vig_chain.specs.Stamps.{Stamps, stamp_of, raised, stamped, freed, next_stamp, is_due_at, NoIndexHas}
 use Rattle.vig_tables.specs.Grid.{Grid, row_at, with_row}
-use Rattle.vig_tables.specs.Keyed.{Keyed, AreBound, IsUnbound}
+use Rattle.vig_tables.specs.Keyed.{Keyed, IsUnbound}
 use Rattle.vig_tables.specs.Slots.{live}
 use Rattle.vig_tables.specs.Table.{with_chain, without_past, overwritten}
 use Rattle.vig_tables.specs.Joined.{entries, table_of, IsJoined, AreJoined}
 use Rattle.vig_tables.proofs.Changes.{true_after, same_after}
 use Rattle.vig_tables.proofs.Entries.{stamp-set_other, stamp_set, columns_set, none_again, live-set, weight, entry_within}
 use Rattle.vig_tables.proofs.Expiring.{kept_freed, kept_all}
-use Rattle.vig_tables.proofs.Joining.{joined_freed, joined_changed, bound_own}
+use Rattle.vig_tables.proofs.Joining.{joined_freed, joined_changed}
 use Rattle.vig_tables.proofs.Reading.{past_is, past_match, entry_with, stands, stands_not}
 
 -- a renewed entry
@@ -53,13 +53,6 @@ pub not_touched :
     → AreJoined decl s maps labels columns → stamp_of s.slots i ≡ None
     → table_of decl s labels columns ≡ with_chain (touched time i (record { slots = entries s labels columns; greatest = s.greatest })) (table_of decl s labels columns)
 not_touched decl s maps labels columns time i j none = rw (stands_not decl s maps labels columns i j none) refl
-
--- the keys of an entry are bound
-pub keys_bound :
-    (decl : ChainDecl) (s : Stamps) (maps : List Keyed) (labels columns : Grid) (i stamp : ℕ)
-    → AreJoined decl s maps labels columns → stamp_of s.slots i ≡ Some stamp
-    → AreBound (row_at labels i) maps
-keys_bound decl s maps labels columns i stamp j at k d lt = bound_own decl.size (entries s labels columns) i (entry_with stamp labels columns i) _ (j.joined k d lt) (stands decl s maps labels columns i stamp j at)
 
 -- an entry given up
 pub freed_joined :

@@ -149,11 +149,17 @@ joined_entered size slots labels i e old new j to lt none unbound same = record 
           to.put.others key (λ q. none-some k (sym unbound ∙ ap (value_of old.map.pairs) (sym q) ∙ was)) ∙ was
     ]
 
--- the key of an entry is bound
+-- the key of an entry is bound to its index
 pub bound_own :
     (size : ℕ) (slots : List (Option Entry)) (i : ℕ) (e : Entry) (m : Keyed) → IsJoined size slots m
-    → entry_at slots i ≡ Some e → keyed.is_bound e.labels m ≡ true
-bound_own size slots i e m j stood = ap (λ (o : Option ℕ). is_some o) (j.back (key_of e.labels m) i (ap (has_key m.decl (key_of e.labels m)) stood ∙ has_own m.decl e e.labels refl))
+    → entry_at slots i ≡ Some e → value_for e.labels m ≡ Some i
+bound_own size slots i e m j stood = j.back (key_of e.labels m) i (ap (has_key m.decl (key_of e.labels m)) stood ∙ has_own m.decl e e.labels refl)
+
+-- none is bound to an index without an entry
+pub bound_none :
+    (size : ℕ) (slots : List (Option Entry)) (i : ℕ) (m : Keyed) → IsJoined size slots m
+    → entry_at slots i ≡ None → (key : List ℕ) → value_of m.map.pairs key ≡ Some i → ⊥
+bound_none size slots i m j none key bound = no_key m.decl key (entry_at slots i) none (j.there key i bound)
 
 -- an entry given up
 pub joined_freed :

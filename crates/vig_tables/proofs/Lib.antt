@@ -1,4 +1,8 @@
 pub mod RowLemmas
+pub mod TagMembers
+pub mod Tagging
+pub mod TagLemmas
+pub mod Mapped
 pub mod Changes
 pub mod Entries
 pub mod Joining
@@ -8,6 +12,7 @@ pub mod Merging
 pub mod Reading
 pub mod Making
 pub mod Changing
+pub mod Kept
 pub mod StateLemmas
 pub mod United
 pub mod Owners

@@ -59,14 +59,14 @@ pub opened_is :
 opened_is decl share labels columns l f = rw (l, f, slots_of_none decl.size (replicate (length decl.labels) 0) (replicate (length decl.columns) 0)) refl
 
 -- an index that may be given out, by the fields
-record IsFresh (s : Stamps) (labels columns : Grid) (i : ℕ) : Type 0 where
+pub record IsFresh (s : Stamps) (labels columns : Grid) (i : ℕ) : Type 0 where
   pub own : IsTrue (owns s.share i)
   pub vacant : IsTrue (is_vacant (slice_get (entries s labels columns) i))
   pub within : i < length (entries s labels columns)
   pub within_stamps : i < length s.slots
   pub none : entry_at (entries s labels columns) i ≡ None
 
-fresh :
+pub fresh :
     (decl : ChainDecl) (s : Stamps) (maps : List Keyed) (labels columns : Grid) (i : ℕ)
     → AreJoined decl s maps labels columns → IsTrue (stamps.is_available s i)
     → IsFresh s labels columns i

@@ -3,6 +3,7 @@ pub mod Keyed
 pub mod Slots
 pub mod Table
 pub mod Joined
+pub mod Tagged
 pub mod TablesState
 pub mod Union
 pub mod Merging

@@ -30,7 +30,7 @@ use vig_chain::{Chain, is_past};
 pub struct ChainTables {
     decl: ChainDecl,
     chain: Chain,
-    /// In the order of their declarations.
+    /// In the order of their declarations. Their keys stand in the rows of labels.
     maps: Vec<KeyMap>,
     /// By index the labels of its entry, and its free columns.
     labels: Rows,
@@ -39,13 +39,14 @@ pub struct ChainTables {
 
 impl Model for ChainTables {
     ghost use Rattle.vig_tables.specs.Table.{Table};
-    ghost use Rattle.vig_tables.specs.Joined.{AreJoined, table_of};
+    ghost use Rattle.vig_tables.specs.Joined.{table_of};
+    ghost use Rattle.vig_tables.specs.Tagged.{AreKept};
 
     ghost Value = { Table };
 
     ghost view = { λ a. table_of a.decl a.chain a.labels a.columns };
 
-    ghost invariant = { λ a. AreJoined a.decl a.chain a.maps.items a.labels a.columns };
+    ghost invariant = { λ a. AreKept a.decl a.chain a.maps.items a.labels a.columns };
 }
 
 impl ChainTables {
@@ -88,7 +89,7 @@ impl ChainTables {
         ensures { result ≡ index_under self.now.decl.maps map key.now self.now.chain.slots }
     {
         match self.maps.get(map as usize) {
-            Some(map) => map.get(key),
+            Some(map) => map.get(&self.labels, key.as_slice()),
             None => None,
         }
     }
@@ -142,7 +143,7 @@ impl ChainTables {
     pub fn is_taken(&self, labels: &[u128]) -> bool
         ensures { result ≡ is_taken self.now.decl.maps labels.now self.now.chain.slots }
     {
-        is_any_bound(self.maps.as_slice(), labels)
+        is_any_bound(self.maps.as_slice(), &self.labels, labels)
     }
 
     /// Makes an entry with these labels at an own vacant index, and with zeros in its free columns.
@@ -155,7 +156,7 @@ impl ChainTables {
         ensures changes { self.new ≡
             if_made result (λ i. entered time i labels.now self.old) self.old }
     {
-        if is_any_bound(self.maps.as_slice(), labels) {
+        if is_any_bound(self.maps.as_slice(), &self.labels, labels) {
             return Created::Taken;
         }
         let i = match self.chain.allocate(time) {
@@ -164,7 +165,7 @@ impl ChainTables {
         };
         self.labels.set_row(i, labels);
         self.columns.clear_row(i);
-        bind_all(&mut self.maps, labels, i);
+        bind_all(&mut self.maps, &self.labels, i);
         Created::Made(i)
     }
 
@@ -177,7 +178,7 @@ impl ChainTables {
         ensures entered { OnTrue result (self.new ≡ entered time i labels.now self.old) }
         ensures unchanged { OnFalse result (self.new ≡ self.old) }
     {
-        if is_any_bound(self.maps.as_slice(), labels) {
+        if is_any_bound(self.maps.as_slice(), &self.labels, labels) {
             return false;
         }
         if !self.chain.take(i, time) {
@@ -185,7 +186,7 @@ impl ChainTables {
         }
         self.labels.set_row(i, labels);
         self.columns.clear_row(i);
-        bind_all(&mut self.maps, labels, i);
+        bind_all(&mut self.maps, &self.labels, i);
         true
     }
 
@@ -204,7 +205,7 @@ impl ChainTables {
         ensures { self.new ≡ with_chain (freed i self.old.chain) self.old }
     {
         if self.chain.free(i) {
-            unbind_all(&mut self.maps, self.labels.row(i));
+            unbind_all(&mut self.maps, &self.labels, i);
         }
     }
 
@@ -314,7 +315,7 @@ impl ChainTables {
             Some(i) => i,
             None => return false,
         };
-        unbind_all(&mut self.maps, self.labels.row(i));
+        unbind_all(&mut self.maps, &self.labels, i);
         true
     }
 

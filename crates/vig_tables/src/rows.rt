@@ -48,6 +48,7 @@ impl Rows {
         requires { i < length self.now.rows }
         ensures value { result.now ≡ row_at self.now i }
         ensures wide { length result.now ≡ self.now.width }
+        ensures few { i < 65536 }
     {
         let width = self.width as usize;
         let start = i as usize * width;

@@ -1,6 +1,8 @@
 // The command that each line's words ask for, and lines that are none.
 use super::calls::words_of;
 use command_words::{Command, Description, Ends, ModeChoice, command_of};
+use nf_base::card::Card;
+use nf_base::hash_key::HashKey;
 use nf_base::packet::Addresses;
 use std::alloc::{AllocError, Global};
 use std::test::Fail;
@@ -37,7 +39,7 @@ fn run_line(alloc: Global, line: &str) -> Result<String, Fail> {
     Ok(said)
 }
 
-const NO_COMMANDS: [&str; 90] = [
+const NO_COMMANDS: [&str; 116] = [
     "",
     "maestro",
     "maestro run",
@@ -128,6 +130,34 @@ const NO_COMMANDS: [&str; 90] = [
     "maestro hash 1.2.3.4:1 5.6.7.8:2 --workers 0",
     "maestro hash 1.2.3.4:1 5.6.7.8:2 --workers 17",
     "maestro hash 1.2.3.4:1 5.6.7.8:2 --key 00",
+    "maestro hash 1.2.3.4:1 5.6.7.8:2 --key \
+     00000000000000000000000000000000000000000000000000000000000000000000000000000000000000000000000000000000000",
+    "maestro hash 1.2.3.4:1 5.6.7.8:2 --key \
+     000000000000000000000000000000000000000000000000000000000000000000000000000000000000000000000000000000",
+    "maestro hash 1.2.3.4:1 5.6.7.8:2 --table 64",
+    "maestro hash 1.2.3.4:1 5.6.7.8:2 --key-bytes 64",
+    "maestro run x.nf out a --table",
+    "maestro run x.nf out a --table 0",
+    "maestro run x.nf out a --table 127",
+    "maestro run x.nf out a --table 256",
+    "maestro run x.nf out a --table 0512",
+    "maestro run x.nf out a --table +512",
+    "maestro run x.nf out a --table 0x80",
+    "maestro run x.nf out a --table 512 --table 512",
+    "maestro run x.nf out a --table 128 --table 512",
+    "maestro run x.nf out a --tables 512",
+    "maestro run x.nf out a --key-bytes",
+    "maestro run x.nf out a --key-bytes 0",
+    "maestro run x.nf out a --key-bytes 41",
+    "maestro run x.nf out a --key-bytes 052",
+    "maestro run x.nf out a --key-bytes 40 --key-bytes 40",
+    "maestro gen x.nf out 0 4 1 --table 1024",
+    "maestro keys x.nf --key-bytes 104",
+    "maestro explain x.nf --table one",
+    "maestro check x.nf --table 128",
+    "maestro check x.nf --key-bytes 40",
+    "maestro replay x.nf journal out a --table 512",
+    "maestro replay x.nf journal out a --key-bytes 52",
 ];
 
 fn no_commands() -> &'static [&'static str] {
@@ -276,17 +306,27 @@ fn lines_that_are_replays_and_traffic(rt: HostRuntime) -> Result<(), Fail> {
     Ok(())
 }
 
+/// The first and the last byte of a key, and how many it has.
+fn ends_of(key: &Option<HashKey>) -> Option<(u8, u8, usize)> {
+    match key {
+        Some(key) => {
+            let bytes = key.as_slice();
+            Some((bytes[0], bytes[bytes.len() - 1], bytes.len()))
+        }
+        None => None,
+    }
+}
+
 /// The ends, the first and last bytes of the key, and the workers of a hash that is asked for.
-fn hash_of(alloc: Global, line: &str) -> Result<Option<(Ends, Option<(u8, u8)>, u32)>, AllocError> {
+fn hash_of(
+    alloc: Global,
+    line: &str,
+) -> Result<Option<(Ends, Option<(u8, u8, usize)>, u32)>, AllocError> {
     let Some(command) = asked(alloc, line)? else {
         return Ok(None);
     };
     match &command {
-        Command::Hash(hash) => Ok(Some((
-            hash.ends,
-            hash.key.map(|key| (key[0], key[39])),
-            hash.workers.get(),
-        ))),
+        Command::Hash(hash) => Ok(Some((hash.ends, ends_of(&hash.key), hash.workers.get()))),
         _ => Ok(None),
     }
 }
@@ -330,7 +370,13 @@ fn lines_that_are_hashes(rt: HostRuntime) -> Result<(), Fail> {
         "maestro hash 66.9.149.187:2794 161.142.100.80:1766 --key \
          0f0000000000000000000000000000000000000000000000000000000000000000000000000000a9",
     )?;
-    assert!(rt; keyed == Some((ENDS, Some((0x0f, 0xa9)), 1)));
+    assert!(rt; keyed == Some((ENDS, Some((0x0f, 0xa9, 40)), 1)));
+    let longer = hash_of(
+        alloc,
+        "maestro hash 66.9.149.187:2794 161.142.100.80:1766 --key \
+         0f0000000000000000000000000000000000000000000000000000000000000000000000000000000000000000000000000000a9",
+    )?;
+    assert!(rt; longer == Some((ENDS, Some((0x0f, 0xa9, 52)), 1)));
     let upper = hash_of(
         alloc,
         "maestro hash 66.9.149.187:2794 161.142.100.80:1766 --key \
@@ -392,6 +438,66 @@ fn lines_that_ask_for_a_text(rt: HostRuntime) -> Result<(), Fail> {
     for (line, what, expected) in all_described() {
         let function = described(alloc, line, *what)?;
         assert_eq!(rt; function.as_str(), *expected, "{line}");
+    }
+    Ok(())
+}
+
+/// How many entries the table has, and how many bytes a key, of the network card that is asked for.
+fn card_of(alloc: Global, line: &str) -> Result<Option<(u32, u32)>, AllocError> {
+    let Some(command) = asked(alloc, line)? else {
+        return Ok(None);
+    };
+    let card: Option<Card> = match &command {
+        Command::Run(run) => Some(run.card),
+        Command::Gen(made) => Some(made.card),
+        Command::Hash(hash) => Some(hash.card),
+        Command::Describe(describe) => Some(describe.card),
+        Command::Replay(_) => None,
+    };
+    match card {
+        Some(card) => Ok(Some((card.table.entries(), card.key.bytes()))),
+        None => Ok(None),
+    }
+}
+
+const CARDS: [(&str, (u32, u32)); 14] = [
+    ("maestro run x.nf out a", (128, 40)),
+    ("maestro run x.nf out a --table 512", (512, 40)),
+    ("maestro run x.nf out a --key-bytes=52", (128, 52)),
+    (
+        "maestro run --key-bytes 52 x.nf --table 512 out a",
+        (512, 52),
+    ),
+    (
+        "maestro run x.nf out a --table=128 --key-bytes 40",
+        (128, 40),
+    ),
+    ("maestro gen x.nf out 0 4 1", (128, 40)),
+    (
+        "maestro gen x.nf out 0 4 1 --table 512 --key-bytes 52",
+        (512, 52),
+    ),
+    ("maestro keys x.nf", (128, 40)),
+    ("maestro keys x.nf --table 512", (512, 40)),
+    ("maestro keys --key-bytes 52 x.nf", (128, 52)),
+    ("maestro explain x.nf --table=512 --key-bytes=52", (512, 52)),
+    ("maestro hash 1.2.3.4:1 5.6.7.8:2", (128, 40)),
+    (
+        "maestro hash 1.2.3.4:1 5.6.7.8:2 --key-bytes 52 --table 512",
+        (512, 52),
+    ),
+    ("maestro check x.nf", (128, 40)),
+];
+
+fn cards() -> &'static [(&'static str, (u32, u32))] {
+    &CARDS
+}
+
+#[test]
+fn lines_that_tell_a_card(rt: HostRuntime) -> Result<(), Fail> {
+    let alloc = rt.alloc();
+    for (line, card) in cards() {
+        assert!(rt; card_of(alloc, line)? == Some(*card), "{line}");
     }
     Ok(())
 }

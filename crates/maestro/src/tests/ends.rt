@@ -155,7 +155,7 @@ fn more_packets_than_may_be_handled(rt: HostRuntime) -> Result<(), Fail> {
 
 // The words of a hash, and what is printed. The first two and that for IPv6 are of Microsoft's verification
 // suite.
-const HASHES: [(&str, &str); 11] = [
+const HASHES: [(&str, &str); 17] = [
     (
         "maestro hash 66.9.149.187:2794 161.142.100.80:1766",
         "51ccc178 120 0\n",
@@ -200,6 +200,34 @@ const HASHES: [(&str, &str); 11] = [
         "maestro hash 10.0.0.1:1000 8.8.8.8:53 --workers 2 --key \
          6d5a56da000000000000000000000000000000000000000000000000000000000000000000000000",
         "8330db20 32 0\n",
+    ),
+    // Of 512 entries the low 9 bits of the hash are the index.
+    (
+        "maestro hash 66.9.149.187:2794 161.142.100.80:1766 --table 512",
+        "51ccc178 376 0\n",
+    ),
+    (
+        "maestro hash 66.9.149.187:2794 161.142.100.80:1766 --table 512 --workers 3",
+        "51ccc178 376 1\n",
+    ),
+    (
+        "maestro hash --table=512 199.92.111.2:14230 65.69.140.83:4739",
+        "c626b0ea 234 0\n",
+    ),
+    // The default key of 52 bytes begins as that of 40, and a packet meets no more.
+    (
+        "maestro hash 199.92.111.2:14230 65.69.140.83:4739 --key-bytes 52",
+        "c626b0ea 106 0\n",
+    ),
+    (
+        "maestro hash 9.9.9.9:1 10.128.0.1:2 --workers 3 --table 512 --key-bytes 40 --key \
+         00000000000000010000000000000000000000000000000000000000000000000000000000000000ffffffffffffffffffffffff",
+        "80000150 336 0\n",
+    ),
+    (
+        "maestro hash 9.9.9.9:1 10.128.0.1:2 --workers 3 --key-bytes 52 --key \
+         00000000000000010000000000000000000000000000000000000000000000000000000000000000",
+        "80000150 80 2\n",
     ),
 ];
 

@@ -9,7 +9,7 @@ use std::sync::Wait;
 use std::test::Fail;
 use std::thread::Threads;
 
-const BAD_LINES: [&str; 43] = [
+const BAD_LINES: [&str; 48] = [
     "",
     "maestro",
     "maestro run",
@@ -53,6 +53,11 @@ const BAD_LINES: [&str; 43] = [
     "maestro hash 1.2.3.4:5 6.7.8.9:65536",
     "maestro hash 1.2.3.4:5 6.7.8.9:10 --workers 17",
     "maestro hash 1.2.3.4:5 6.7.8.9:10 --key 00",
+    "maestro run x.nf out a.pcap b.pcap --table 256",
+    "maestro run x.nf out a.pcap b.pcap --key-bytes 40 --key-bytes 52",
+    "maestro keys x.nf --table 0128",
+    "maestro check x.nf --table 512",
+    "maestro replay x.nf out.journal out a.pcap b.pcap --key-bytes 52",
 ];
 
 fn bad_lines() -> &'static [&'static str] {

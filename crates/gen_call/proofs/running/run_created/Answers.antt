@@ -2,7 +2,7 @@ use Rattle.std.proofs.Common.{refl}
 use Rattle.nf_base.specs.Functions.{function_of}
 use Rattle.call_base.specs.Outside.{seen}
 use Rattle.traffic_run.proofs.Sending.{function_by}
-use Rattle.gen_call.specs.Progress.{Since, HasRefused}
+use Rattle.gen_call.specs.Progress.{Since, HasRefused, asked}
 use Rattle.gen_call.proofs.Finishing.{halted}
 use Rattle.gen_call.proofs.Starting.{first_is, last_is, done, keys_of, cut, finished, unfinished}
 use Rattle.gen_call.proofs.running.run_created.Goals as goal
@@ -66,5 +66,5 @@ returns g c =
     let b = seen (told c.run.new.files) (counted c.run.new.files) in
     let came = c.in-Err.ensures.runs in
     let stopped = cut since a b job c.args.targets.now c.args.who.now _ c.in-Err.stop requires.0 requires.1.1.1.1.1 requires.1.1.0 refl came c.in-Err.ensures.kept c.in-Err.ensures.cause c.in-Err.ensures.among in
-    let f = function_by c.args.who.now (HasRefused since) (function_of job.func.now) came.given came.run came.is_run in
+    let f = function_by c.args.who.now (asked job).card (HasRefused since) (function_of job.func.now) came.given came.run came.is_run in
     record { gens = halted since b job came.run c.in-Err.stop c.halt-in-Err.result requires.0 f c.halt-in-Err.ensures stopped }

@@ -1,6 +1,7 @@
 use Rattle.std.proofs.Common.{◌≡◌, refl, subst, arith}
 use Rattle.nf_base.specs.Functions.{function_of}
 use Rattle.nf_base.specs.Text.{Function}
+use Rattle.nf_base.specs.declared.card.Card.{Card}
 use Rattle.key_synth.specs.declared.verdict.Cause.{Cause}
 use Rattle.key_synth.specs.declared.verdict.Verdict.TheVariants.{Locked}
 use Rattle.key_synth.specs.Verdicts.{IsVerdict, Separates}
@@ -9,15 +10,15 @@ use Rattle.command_words.specs.declared.command.ModeChoice.TheVariants as choice
 use Rattle.gen_call.specs.Runs.{MayShare}
 use Rattle.gen_call.proofs.who.several_by.Goals as goal
 
-may_share : (mode : ModeChoice) (f : Function) (cause : Cause) → (mode ≡ choice.Shard → ⊥) → IsVerdict f (Locked cause) → MayShare mode f
-may_share choice.Lock f cause other locked = tt
-may_share choice.Auto f cause other locked = (cause, locked)
-may_share choice.Shard f cause other locked = absurd (other refl)
+may_share : (mode : ModeChoice) (card : Card) (f : Function) (cause : Cause) → (mode ≡ choice.Shard → ⊥) → IsVerdict f card (Locked cause) → MayShare mode card f
+may_share choice.Lock card f cause other locked = tt
+may_share choice.Auto card f cause other locked = (cause, locked)
+may_share choice.Shard card f cause other locked = absurd (other refl)
 
 pub returns-in-Sharded : goal.returns-in-Sharded
 returns-in-Sharded c =
     let f = function_of c.args.func.now in
-    let given = subst (IsVerdict f) c.in-Sharded.is c.requires.verdict in
+    let given = subst (IsVerdict f c.args.command.now.card) c.in-Sharded.is c.requires.verdict in
     record {
       serves = (
         (refl, c.requires.several, c.requires.unlocked, given),
@@ -30,7 +31,7 @@ returns-in_default c =
     let f = function_of c.args.func.now in
     record {
       serves = (
-        (refl, c.requires.several, may_share c.args.command.now.mode f c.in-Locked.cause c.in_default.not-Shard (subst (IsVerdict f) c.in-Locked.is c.requires.verdict)),
+        (refl, c.requires.several, may_share c.args.command.now.mode c.args.command.now.card f c.in-Locked.cause c.in_default.not-Shard (subst (IsVerdict f c.args.command.now.card) c.in-Locked.is c.requires.verdict)),
         (c.requires.several, c.requires.few),
       );
     }

@@ -1,5 +1,5 @@
 use Rattle.std.proofs.Common.{◌≡◌, length, get_or, arith}
-use Rattle.gf2_solve.proofs.Reducing.{reduced_zero, leads_there, reduced_led, reduced_free}
+use Rattle.gf2_solve.proofs.Reducing.{reduced_zero, leads_there, reduced_led, reduced_same, reduced_free}
 use Rattle.gf2_solve.proofs.elimination.rest_of.Goals as goal
 
 pub loop-lead-preserved-in-Some-rows : goal.loop-lead-preserved-in-Some-rows
@@ -7,7 +7,8 @@ loop-lead-preserved-in-Some-rows c =
     let read : c.index-rows-len.result ≡ get_or c.args.rows.now (length c.pop.new.self) c.index-rows-len.result = grind arith in
     let there = leads_there _ _ _ _ _ _ _ _ c.in-Some.ensures c.loop-lead.invariant read c.in-Some-rows.is in
     let sums = c.add.ensures.sums in
-    rw c.plus-sum.ensures (reduced_led _ _ _ _ _ _ _ _ c.in-Some.ensures c.if-lead.true there sums c.add.ensures.length c.loop-lead.invariant)
+    let led = reduced_led _ _ _ _ _ _ _ _ c.in-Some.ensures c.if-lead.true there sums c.add.ensures.length c.loop-lead.invariant in
+    rw c.plus-sum.ensures (reduced_same _ _ _ _ _ led c.trim-in-Some-rows.ensures.sums c.trim-in-Some-rows.ensures.shorter)
 
 pub returns-in-None : goal.returns-in-None
 returns-in-None c =

@@ -4,6 +4,6 @@ use Rattle.key_rows.proofs.solution.key_from.Given as goal
 
 abbrev pub invariant-loop-i : goal.invariant-loop-i
 invariant-loop-i l = record {
-  long : length l.key ≡ 40;
-  front : (k : ℕ) → k < l.i → get_or l.key k 0 ≡ byte_of l.bits l.port l.count k;
+  long : length l.bytes ≡ 52;
+  front : (k : ℕ) → k < l.i → get_or l.bytes k 0 ≡ byte_of l.bits l.port l.count k;
 }

@@ -12,23 +12,23 @@ use Rattle.key_synth.proofs.synthesis.synthesise.Goals as goal
 
 pub returns-in-Some-clause-verdict : goal.returns-in-Some-clause-verdict
 returns-in-Some-clause-verdict c =
-    subst (AreAnswer (function_of c.args.func.now)) c.in-Some.is
-    (answered (function_of c.args.func.now) c.args.plan.now c.as_slice.result.now c.as_slice-2.result.now c.in_ok-keys.field-0 c.requires
+    subst (AreAnswer (function_of c.args.func.now) c.args.card) c.in-Some.is
+    (answered (function_of c.args.func.now) c.args.card c.args.plan.now c.as_slice.result.now c.as_slice-2.result.now c.in_ok-keys.field-0 c.requires
     (c.as_slice.ensures.value ∙ c.in_ok-six.ensures) c.as_slice-2.ensures c.in_ok-keys.ensures)
 
 pub returns-in-Some-clause-separation : goal.returns-in-Some-clause-separation
 returns-in-Some-clause-separation c = λ hs a b fits fits_too meet.
-    let given : AreGiven (function_of c.args.func.now) c.in-Some.keys =
-    subst (AreAnswer (function_of c.args.func.now)) c.in-Some.is
-    (answered (function_of c.args.func.now) c.args.plan.now c.as_slice.result.now c.as_slice-2.result.now c.in_ok-keys.field-0 c.requires
+    let given : AreGiven (function_of c.args.func.now) c.args.card c.in-Some.keys =
+    subst (AreAnswer (function_of c.args.func.now) c.args.card) c.in-Some.is
+    (answered (function_of c.args.func.now) c.args.card c.args.plan.now c.as_slice.result.now c.as_slice-2.result.now c.in_ok-keys.field-0 c.requires
     (c.as_slice.ensures.value ∙ c.in_ok-six.ensures) c.as_slice-2.ensures c.in_ok-keys.ensures) in
     hash_alike (function_of c.args.func.now) (hash_by c.in-Some.keys) hs a b given.may.admissible fits fits_too meet
 
 pub returns-clause-verdict : goal.returns-clause-verdict
 returns-clause-verdict c =
-    let none : NoneMayBeGiven (function_of c.args.func.now) =
-    subst (AreAnswer (function_of c.args.func.now)) c.in-None.is
-    (answered (function_of c.args.func.now) c.args.plan.now c.as_slice.result.now c.as_slice-2.result.now c.in_ok-keys.field-0 c.requires
+    let none : NoneMayBeGiven (function_of c.args.func.now) c.args.card =
+    subst (AreAnswer (function_of c.args.func.now) c.args.card) c.in-None.is
+    (answered (function_of c.args.func.now) c.args.card c.args.plan.now c.as_slice.result.now c.as_slice-2.result.now c.in_ok-keys.field-0 c.requires
     (c.as_slice.ensures.value ∙ c.in_ok-six.ensures) c.as_slice-2.ensures c.in_ok-keys.ensures) in (
       none,
       subst (λ (all : List Standing). IsCause c.args.func.now.objects all c.cause.result) (c.as_slice-in-None-2.ensures ∙ ap (λ (p : Plan). p.standings) c.requires)

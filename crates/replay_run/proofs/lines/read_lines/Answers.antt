@@ -59,7 +59,7 @@ lines-init g c =
       reached = λ start bytes b. reached_none (IsRun (function_of c.args.func.now) (keys_in c.args.keys) j.heading) j.heading (length captures) start bytes c.args.feed.now c.args.journal.now old now c.compare_headers.new.all j.tables.state c.requires.opens c.requires.new
           (λ port f e. kept.rests f (c.requires.clear.behind port f (sym (ap (λ (fs : List ℕ). slice_get fs port) c.requires.captures) ∙ e)))
           (kept.rests c.args.journal.now.file c.requires.no_output)
-          (subst (λ (n : ℕ). AreFound (λ k. bytes_of j.heading.mode j.heading.workers n k []) old.rest c.compare_headers.new.all now) c.requires.as_many (c.in-Ok.ensures.compares j.heading.mode j.heading.workers))
+          (subst (λ (n : ℕ). AreFound (λ k. bytes_of j.heading.mode j.heading.workers j.heading.card n k []) old.rest c.compare_headers.new.all now) c.requires.as_many (c.in-Ok.ensures.compares j.heading.mode j.heading.workers j.heading.card))
           b;
       captures = c.requires.captures;
       six = refl;

@@ -1,18 +1,25 @@
-use Rattle.std.proofs.Common.{◌≡◌, Bool, true, false, IsTrue, sym, subst}
-use Rattle.run_history.specs.declared.line.Mode.{Mode}
-use Rattle.replay_run.specs.Queues.{lent, IsKeyedBy}
-use Rattle.replay_run.proofs.Heads.{unkeyed}
+use Rattle.std.proofs.Common.{◌≡◌, ◌∷◌, [], ℕ, ap, subst}
+use Rattle.run_history.specs.Headings.{IsHeading}
+use Rattle.run_history.specs.declared.line.JournalLine.TheVariants.{Header}
+use Rattle.journal_read.specs.Journals.{Reading, Stands, HasNoHeader}
+use Rattle.replay_run.proofs.Heads.{stands_none}
 use Rattle.replay_run.proofs.replaying.first_line.Goals as goal
 
-not_both : (b : Bool) → IsTrue b → b ≡ false → ⊥
-not_both true t e = cc
-not_both false t e = cc
-
-pub returns-else-is_keyed-clause-heads : goal.returns-else-is_keyed-clause-heads
-returns-else-is_keyed-clause-heads g c = λ start stands.
-    let now = (g.F.Files.told c.header.new.files).rest c.args.journal.now.file in
+pub returns-in-Ok-Some-clause-heads : goal.returns-in-Ok-Some-clause-heads
+returns-in-Ok-Some-clause-heads g c =
+    let told = g.F.Files.told in
+    let old = told c.args.files.now in
+    let new = told c.header.new.files in
+    let v = c.in-Ok.lines in
     let header = c.in-Ok-Some.header in
-    let heads = (rw c.in-Ok-Some.field-0-is at c.in-Ok-Some.ensures.heads) start stands in
-    unkeyed (lent c.args.keys) header start now c.header.new.self heads.0
-    (λ keyed. not_both c.is_keyed.result (c.is_keyed.ensures.1 (subst (λ (m : Mode). IsKeyedBy m (lent c.args.keys)) (sym c.mode.ensures.value) keyed)) c.if-is_keyed.false)
-    heads.1
+    let file : v.file ≡ c.args.journal = ap (λ (x : Reading). x.file) c.in-Ok.ensures in
+    let heads = (rw c.in-Ok-Some.field-0-is at c.in-Ok-Some.ensures.heads) (old.rest v.file) (stands_none (old.rest v.file) v (ap (λ (x : Reading). x.held) c.in-Ok.ensures)) in
+    subst (λ (n : ℕ). IsHeading header × Stands (old.rest n) (Header header ∷ []) c.header.new.self (new.rest n)) file heads
+
+pub returns-in-Ok-None-clause-heads : goal.returns-in-Ok-None-clause-heads
+returns-in-Ok-None-clause-heads g c =
+    let old = g.F.Files.told c.args.files.now in
+    let v = c.in-Ok.lines in
+    let file : v.file ≡ c.args.journal = ap (λ (x : Reading). x.file) c.in-Ok.ensures in
+    let heads = (rw c.in-Ok-None.field-0-is at c.in-Ok-None.ensures.heads) (old.rest v.file) (stands_none (old.rest v.file) v (ap (λ (x : Reading). x.held) c.in-Ok.ensures)) in
+    subst (λ (n : ℕ). HasNoHeader (old.rest n)) file heads

@@ -1,9 +1,11 @@
-use Rattle.std.proofs.Common.{◌≡◌, ◌-◌, ◌≤◌, ℕ, length}
+use Rattle.std.proofs.Common.{◌≡◌, ◌-◌, ◌≤◌, ℕ, [], length}
+use Rattle.nf_base.specs.declared.card.Card.{Card}
 use Rattle.nf_base.specs.Doors.{six_ports}
 use Rattle.nf_base.specs.Functions.{function_of}
 use Rattle.nf_engine.specs.View.{fixed_of}
 use Rattle.packet_feed.specs.Sources.{files_in, sixes_in}
-use Rattle.stream_run.specs.Writing.{files_of, KeepsBut}
+use Rattle.run_history.specs.declared.line.Mode.TheVariants.{One}
+use Rattle.stream_run.specs.Writing.{files_of, AreHeld, KeepsBut}
 use Rattle.stream_run.specs.Streaming.{Reaches}
 use Rattle.stream_run.proofs.running.handle_all.Given as goal
 
@@ -12,7 +14,7 @@ abbrev pub invariant-packets : goal.invariant-packets
 invariant-packets g l =
     let told = g.F.Files.told in
     record {
-      reached : Reaches (function_of l.func) (length l.func.handlers) l.fn.feed (told l.fn.files) l.feed (told l.files) l.sinks l.tables.state;
+      reached : (card : Card) → AreHeld One 1 card (length l.func.handlers) [] (told l.fn.files) l.fn.sinks → Reaches (function_of l.func) card (length l.func.handlers) l.fn.feed (told l.fn.files) l.feed (told l.files) l.sinks l.tables.state;
       captures : files_in l.feed.sources ≡ l.captures;
       six : sixes_in l.feed.sources ≡ six_ports (function_of l.func);
       most : l.feed.most ≡ l.fn.feed.most;

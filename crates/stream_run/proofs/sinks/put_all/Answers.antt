@@ -23,7 +23,7 @@ put-requires g c =
     record { created = inv.writes s.file (c.requires.created k s.file file) }
 
 pub returns-in-Err-clause-goes_on : goal.returns-in-Err-clause-goes_on
-returns-in-Err-clause-goes_on g c = λ mode workers hs held j f q.
+returns-in-Err-clause-goes_on g c = λ mode workers card hs held j f q.
     let told = g.F.Files.told in
     let now = c.loop-k.sinks in
     let k = c.loop-k.k in
@@ -35,7 +35,7 @@ returns-in-Err-clause-goes_on g c = λ mode workers hs held j f q.
     let apart = subst (λ (fs : List ℕ). IsApart fs) (sym inv.same_files) c.requires.apart in
     let h = c.args.handled.now in
     let same = map_kept (λ (x : Holding). x.file) now k s c.put.new.self at c.put.ensures.same_file in
-    partly_fronts (λ j. bytes_of mode workers c.args.ports j hs) (λ j. bytes_of mode workers c.args.ports j (hs ++ h ∷ [])) now k s (told c.loop-k.files) (told c.put.new.files) apart at c.put.ensures.kept (grows mode workers c.args.ports hs h) (λ x. subst (λ (xs : List ℕ). IsFrontIfTold xs ((told c.put.new.files).given s.file)) (sym (bytes_more mode workers c.args.ports k hs h)) (c.in-Err.ensures.goes_on (bytes_of mode workers c.args.ports k hs) x)) (inv.partly mode workers hs held) j f (ap (λ (fs : List ℕ). slice_get fs j) (sym same) ∙ q)
+    partly_fronts (λ j. bytes_of mode workers card c.args.ports j hs) (λ j. bytes_of mode workers card c.args.ports j (hs ++ h ∷ [])) now k s (told c.loop-k.files) (told c.put.new.files) apart at c.put.ensures.kept (grows mode workers card c.args.ports hs h) (λ x. subst (λ (xs : List ℕ). IsFrontIfTold xs ((told c.put.new.files).given s.file)) (sym (bytes_more mode workers card c.args.ports k hs h)) (c.in-Err.ensures.goes_on (bytes_of mode workers card c.args.ports k hs) x)) (inv.partly mode workers card hs held) j f (ap (λ (fs : List ℕ). slice_get fs j) (sym same) ∙ q)
 
 pub returns-in-Err-clause-same_files : goal.returns-in-Err-clause-same_files
 returns-in-Err-clause-same_files g c =
@@ -76,7 +76,7 @@ loop-k-preserved g c =
     let apart = subst (λ (fs : List ℕ). IsApart fs) (sym inv.same_files) c.requires.apart in
     let h = c.args.handled.now in
     record {
-      partly = λ mode workers hs held. partly_more (λ j. bytes_of mode workers c.args.ports j hs) (λ j. bytes_of mode workers c.args.ports j (hs ++ h ∷ [])) now k s c.put.new.self (told c.loop-k.files) (told c.put.new.files) apart at c.put.ensures.same_file c.put.ensures.kept (λ x. subst (λ (xs : List ℕ). Holds xs ((told c.put.new.files).given s.file) c.put.new.self.held) (sym (bytes_more mode workers c.args.ports k hs h)) (c.in-Ok.ensures.goes_on (bytes_of mode workers c.args.ports k hs) x)) (inv.partly mode workers hs held);
+      partly = λ mode workers card hs held. partly_more (λ j. bytes_of mode workers card c.args.ports j hs) (λ j. bytes_of mode workers card c.args.ports j (hs ++ h ∷ [])) now k s c.put.new.self (told c.loop-k.files) (told c.put.new.files) apart at c.put.ensures.same_file c.put.ensures.kept (λ x. subst (λ (xs : List ℕ). Holds xs ((told c.put.new.files).given s.file) c.put.new.self.held) (sym (bytes_more mode workers card c.args.ports k hs h)) (c.in-Ok.ensures.goes_on (bytes_of mode workers card c.args.ports k hs) x)) (inv.partly mode workers card hs held);
       little = little_more now k c.put.new.self c.in-Ok.ensures.little inv.little;
       same_files = map_kept (λ (x : Holding). x.file) now k s c.put.new.self at c.put.ensures.same_file ∙ inv.same_files;
       kept = kept_more (files_of c.args.sinks.now) k s.file (told c.args.files.now) (told c.loop-k.files) (told c.put.new.files) file inv.kept c.put.ensures.kept;
@@ -86,9 +86,9 @@ loop-k-preserved g c =
     }
 
 pub returns-clause-goes_on : goal.returns-clause-goes_on
-returns-clause-goes_on g c = λ mode workers hs held.
+returns-clause-goes_on g c = λ mode workers card hs held.
     let h = c.args.handled.now in
-    all_partly (λ j. bytes_of mode workers c.args.ports j hs) (λ j. bytes_of mode workers c.args.ports j (hs ++ h ∷ [])) c.loop-k.sinks c.loop-k.k (g.F.Files.told c.loop-k.files) (omega (arith, c.len-k-end.ensures, c.loop-k-test.false, same_length c.loop-k.sinks c.args.sinks.now c.loop-k.invariant.same_files)) (c.loop-k.invariant.partly mode workers hs held)
+    all_partly (λ j. bytes_of mode workers card c.args.ports j hs) (λ j. bytes_of mode workers card c.args.ports j (hs ++ h ∷ [])) c.loop-k.sinks c.loop-k.k (g.F.Files.told c.loop-k.files) (omega (arith, c.len-k-end.ensures, c.loop-k-test.false, same_length c.loop-k.sinks c.args.sinks.now c.loop-k.invariant.same_files)) (c.loop-k.invariant.partly mode workers card hs held)
 
 pub returns-clause-little : goal.returns-clause-little
 returns-clause-little g c = λ k s e.

@@ -1,5 +1,6 @@
 use Rattle.std.proofs.Common.{◌≡◌, ◌<◌, ◌∷◌, ◌++◌, [], ℕ, List, Some}
 use Rattle.std.specs.List.{slice_get}
+use Rattle.nf_base.specs.declared.card.Card.{Card}
 use Rattle.run_history.specs.declared.line.Mode.{Mode}
 use Rattle.stream_run.specs.Runs.{Handled}
 use Rattle.stream_run.specs.Texts.{bytes_of}
@@ -13,8 +14,8 @@ invariant-loop-k g l =
     let told = g.F.Files.told in
     let h = l.handled in
     record {
-      partly : (mode : Mode) (workers : ℕ) (hs : List Handled) → AreHeld mode workers l.ports hs (told l.fn.files) l.fn.sinks
-          → IsPartly (λ j. bytes_of mode workers l.ports j hs) (λ j. bytes_of mode workers l.ports j (hs ++ h ∷ [])) l.k (told l.files) l.sinks;
+      partly : (mode : Mode) (workers : ℕ) (card : Card) (hs : List Handled) → AreHeld mode workers card l.ports hs (told l.fn.files) l.fn.sinks
+          → IsPartly (λ j. bytes_of mode workers card l.ports j hs) (λ j. bytes_of mode workers card l.ports j (hs ++ h ∷ [])) l.k (told l.files) l.sinks;
       little : (j : ℕ) (s : Holding) → j < l.k → slice_get l.sinks j ≡ Some s → IsLittle s;
       same_files : files_of l.sinks ≡ files_of l.fn.sinks;
       kept : KeepsAllBut (files_of l.fn.sinks) (told l.fn.files) (told l.files);

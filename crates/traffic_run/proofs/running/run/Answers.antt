@@ -23,17 +23,17 @@ handlers_are func = length-map func.handlers blocks_of
 pub returns-then-not-is_low-clause-runs : goal.returns-then-not-is_low-clause-runs
 returns-then-not-is_low-clause-runs g c =
     let Refused = Rose (g.G.Gate.refused c.args.gate.now) (g.G.Gate.refused c.args.gate.now) in
-    none_by c.args.who.now Refused (function_of c.args.func.now) (asked_for c.args.asked (length c.args.func.now.handlers)) (g.F.Files.told c.args.files.now) c.args.targets.now c.requires.serves c.requires.empty
+    none_by c.args.who.now c.args.asked.card Refused (function_of c.args.func.now) (asked_for c.args.asked (length c.args.func.now.handlers)) (g.F.Files.told c.args.files.now) c.args.targets.now c.requires.serves c.requires.empty
 
 pub returns-in-Err-clause-runs : goal.returns-in-Err-clause-runs
 returns-in-Err-clause-runs g c =
     let Refused = Rose (g.G.Gate.refused c.args.gate.now) (g.G.Gate.refused c.args.gate.now) in
-    none_by c.args.who.now Refused (function_of c.args.func.now) (asked_for c.args.asked (length c.args.func.now.handlers)) (g.F.Files.told c.args.files.now) c.args.targets.now c.requires.serves c.requires.empty
+    none_by c.args.who.now c.args.asked.card Refused (function_of c.args.func.now) (asked_for c.args.asked (length c.args.func.now.handlers)) (g.F.Files.told c.args.files.now) c.args.targets.now c.requires.serves c.requires.empty
 
 pub returns-in-Err-numbers-clause-runs : goal.returns-in-Err-numbers-clause-runs
 returns-in-Err-numbers-clause-runs g c =
     let Refused = Rose (g.G.Gate.refused c.args.gate.now) (g.G.Gate.refused c.args.gate.now) in
-    none_by c.args.who.now Refused (function_of c.args.func.now) (asked_for c.args.asked (length c.args.func.now.handlers)) (g.F.Files.told c.args.files.now) c.args.targets.now c.requires.serves c.requires.empty
+    none_by c.args.who.now c.args.asked.card Refused (function_of c.args.func.now) (asked_for c.args.asked (length c.args.func.now.handlers)) (g.F.Files.told c.args.files.now) c.args.targets.now c.requires.serves c.requires.empty
 
 pub run_made-handled-requires-clause-made : goal.run_made-handled-requires-clause-made
 run_made-handled-requires-clause-made g c = λ κs lives.
@@ -63,8 +63,8 @@ returns-clause-runs g c =
     let handled = c.run_made-handled.result in
     let count : c.len-ports.result ≡ n = c.len-ports.ensures.value in
     let came : c.came_of.result ≡ came_of c.args.first n handled.bytes handled.result = c.came_of.ensures ∙ ap (λ (p : ℕ). came_of c.args.first p handled.bytes handled.result) count in
-    subst (λ (x : Result Came Stop). Runs c.args.who.now Refused (function_of c.args.func.now) (asked_for c.args.asked n) (told c.run_made-handled.new.files) c.args.targets.now c.args.first x) (sym came)
-    (came_runs c.args.who.now Refused (function_of c.args.func.now) r (told c.run_made-handled.new.files) c.args.targets.now c.args.first n handled.bytes handled.result (omega (arith, arrivals_long r, c.count.ensures.value, c.count.ensures.within)) (handlers_are c.args.func.now) c.requires.few_ports c.requires.as_many c.requires.numbers
+    subst (λ (x : Result Came Stop). Runs c.args.who.now c.args.asked.card Refused (function_of c.args.func.now) (asked_for c.args.asked n) (told c.run_made-handled.new.files) c.args.targets.now c.args.first x) (sym came)
+    (came_runs c.args.who.now c.args.asked.card Refused (function_of c.args.func.now) r (told c.run_made-handled.new.files) c.args.targets.now c.args.first n handled.bytes handled.result (omega (arith, arrivals_long r, c.count.ensures.value, c.count.ensures.within)) (handlers_are c.args.func.now) c.requires.few_ports c.requires.as_many c.requires.numbers
     c.run_made-handled.ensures.counts c.run_made-handled.ensures.leaves)
 
 pub returns-clause-cause : goal.returns-clause-cause

@@ -14,6 +14,7 @@ returns c = record {
   six_is_told = refl;
   six_comes_behind = refl;
   policer_has_keys = refl;
+  long_keys_are_told = refl;
   bridge_has_none = refl;
   the_hash_is_named = refl;
 }

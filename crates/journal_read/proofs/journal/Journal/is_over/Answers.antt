@@ -1,6 +1,6 @@
-use Rattle.std.proofs.Common.{◌≡◌, ◌<◌, ℕ, length, drop, sym, ap, length-drop, arith}
+use Rattle.std.proofs.Common.{◌≡◌, ◌<◌, length, ap, length-drop, arith}
 use Rattle.nf_files.specs.declared.fault.FilesFault.{FilesFault}
-use Rattle.journal_read.specs.Journals.{Reading, lines_bytes}
+use Rattle.journal_read.specs.Journals.{Reading}
 use Rattle.journal_read.proofs.Standing.{more_held, over_of}
 use Rattle.journal_read.proofs.journal.Journal.is_over.Goals as goal
 

@@ -1,4 +1,4 @@
-use Rattle.std.proofs.Common.{◌≡◌, ℕ, sym, ap, subst, ◌∙◌}
+use Rattle.std.proofs.Common.{◌≡◌, ℕ, subst, ◌∙◌}
 use Rattle.nf_files.specs.declared.fault.FilesFault.{FilesFault}
 use Rattle.nf_files.specs.Told.{IsEmptyIfTold}
 use Rattle.journal_read.specs.Journals.{lines_bytes}

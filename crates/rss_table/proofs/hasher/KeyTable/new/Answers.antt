@@ -13,5 +13,5 @@ loop-k-preserved c =
       room = c.push_reserved.ensures.capacity ∙ inv.room;
       each = λ j within.
           ap (λ (ys : List ℕ). get_or ys j 0) c.push_reserved.ensures.items
-          ∙ given_more (λ n. toeplitz_of (drop (n / 256) c.args.key.now) ((n % 256) ∷ [])) xs c.loop-k.k c.hash_at.result long c.hash_at.ensures inv.each j within;
+          ∙ given_more (λ n. toeplitz_of (drop (n / 256) c.args.key.now) ((n % 256) ∷ [])) xs c.loop-k.k c.hash_at.result long (c.hash_at.ensures ∙ ap (λ (key : List ℕ). toeplitz_of (drop (c.loop-k.k / 256) key) ((c.loop-k.k % 256) ∷ [])) c.as_slice.ensures.value) inv.each j within;
     }

@@ -5,23 +5,23 @@ use Rattle.vig_tables.proofs.Reading.{rows_within, entry_with, stands, stands_no
 use Rattle.vig_tables.proofs.chain_tables.ChainTables.adopt.Goals as goal
 
 pub returns-in-None-clause-cause : goal.returns-in-None-clause-cause
-returns-in-None-clause-cause c = rw (← c.other.view_is, stands_not _ _ _ _ _ c.args.i c.other.invariant (sym c.in-None.ensures.value)) refl
+returns-in-None-clause-cause c = rw (← c.other.view_is, stands_not _ _ _ _ _ c.args.i c.other.invariant.joined (sym c.in-None.ensures.value)) refl
 
 pub row-requires : goal.row-requires
-row-requires c = (rows_within _ _ _ _ _ c.args.i c.in-Some.stamp c.other.invariant (sym c.in-Some.ensures.value)).0
+row-requires c = (rows_within _ _ _ _ _ c.args.i c.in-Some.stamp c.other.invariant.joined (sym c.in-Some.ensures.value)).0
 
 pub returns-then-not-create_at-clause-cause : goal.returns-then-not-create_at-clause-cause
 returns-then-not-create_at-clause-cause c =
-    let here = stands _ _ _ _ _ c.args.i c.in-Some.stamp c.other.invariant (sym c.in-Some.ensures.value) in
+    let here = stands _ _ _ _ _ c.args.i c.in-Some.stamp c.other.invariant.joined (sym c.in-Some.ensures.value) in
     let old = c.args.self.now in
     rw (← c.other.view_is, here) (sym c.if-not-create_at.true ∙ c.create_at.ensures.cause ∙ ap (λ (row : List ℕ). can_make_at old.decl.maps row old.share old.chain.slots c.args.i) c.row.ensures.value)
 
 pub row-requires-2 : goal.row-requires-2
-row-requires-2 c = (rows_within _ _ _ _ _ c.args.i c.in-Some.stamp c.other.invariant (sym c.in-Some.ensures.value)).1
+row-requires-2 c = (rows_within _ _ _ _ _ c.args.i c.in-Some.stamp c.other.invariant.joined (sym c.in-Some.ensures.value)).1
 
 pub returns-clause-cause : goal.returns-clause-cause
 returns-clause-cause c =
-    let here = stands _ _ _ _ _ c.args.i c.in-Some.stamp c.other.invariant (sym c.in-Some.ensures.value) in
+    let here = stands _ _ _ _ _ c.args.i c.in-Some.stamp c.other.invariant.joined (sym c.in-Some.ensures.value) in
     let old = c.args.self.now in
     rw (← c.other.view_is, here) (sym c.if-not-create_at.false ∙ c.create_at.ensures.cause ∙ ap (λ (row : List ℕ). can_make_at old.decl.maps row old.share old.chain.slots c.args.i) c.row.ensures.value)
 
@@ -29,7 +29,7 @@ pub returns-clause-adopted : goal.returns-clause-adopted
 returns-clause-adopted c =
     let old = c.args.self.now in
     let e = entry_with c.in-Some.stamp c.other.inside.labels c.other.inside.columns c.args.i in
-    let here = stands _ _ _ _ _ c.args.i c.in-Some.stamp c.other.invariant (sym c.in-Some.ensures.value) in
+    let here = stands _ _ _ _ _ c.args.i c.in-Some.stamp c.other.invariant.joined (sym c.in-Some.ensures.value) in
     let lt = made_within old.decl.maps c.row.result.now old.share old.chain.slots c.args.i (sym c.create_at.ensures.cause ∙ c.if-not-create_at.false) in
     let made = rw c.row.ensures.value at c.if-not-create_at.ensures.entered in
     let over = rw c.row-2.ensures.value at c.set_columns.ensures in

@@ -1,47 +1,60 @@
-use Rattle.std.proofs.Common.{◌∙◌, ap, sym, refl}
+use Rattle.std.proofs.Common.{◌∙◌, ap, sym, arith, refl}
 use Rattle.std.specs.List.{list_any}
+use Rattle.std.proofs.lemmas.List.{length-set}
 use Rattle.std.proofs.lemmas.Bool.{and_right}
-use Rattle.vig_tables.specs.Keyed.{is_bound}
+use Rattle.vig_tables.specs.Tagged.{is_bound_in}
+use Rattle.vig_tables.proofs.Kept.{all_ready, entered_kept}
+use Rattle.vig_tables.proofs.Mapped.{any_bound}
 use Rattle.vig_tables.proofs.Reading.{open_is}
-use Rattle.vig_tables.proofs.Making.{bindable, open_rows, entered_joined, entered_is, bound_taken}
+use Rattle.vig_tables.proofs.Making.{open_rows, entered_is, bound_taken}
 use Rattle.vig_tables.proofs.chain_tables.ChainTables.create_at.Goals as goal
+
+pub is_any_bound-requires : goal.is_any_bound-requires
+is_any_bound-requires c = rw c.as_slice.ensures.value c.self.invariant.tagged
 
 pub returns-then-is_any_bound-clause-cause : goal.returns-then-is_any_bound-clause-cause
 returns-then-is_any_bound-clause-cause c =
-    let bound = ap (list_any (is_bound c.args.labels.now)) (sym c.as_slice.ensures.value) ∙ sym c.is_any_bound.ensures ∙ c.if-is_any_bound.true in
-    let taken = sym (bound_taken _ _ _ _ _ c.args.labels.now c.self.invariant) ∙ bound in
+    let a = c.self.inside in
+    let bound = sym (any_bound a.labels c.args.labels.now a.maps.items) ∙ ap (list_any (is_bound_in a.labels c.args.labels.now)) (sym c.as_slice.ensures.value) ∙ sym c.is_any_bound.ensures ∙ c.if-is_any_bound.true in
+    let taken = sym (bound_taken _ _ _ _ _ c.args.labels.now c.self.invariant.joined) ∙ bound in
     rw (← c.self.view_is, taken) refl
 
 pub returns-then-not-take-clause-cause : goal.returns-then-not-take-clause-cause
 returns-then-not-take-clause-cause c =
-    let shut = open_is _ _ _ _ _ c.self.invariant c.args.i ∙ sym c.take.ensures.cause ∙ c.if-not-take.true in
+    let shut = open_is _ _ _ _ _ c.self.invariant.joined c.args.i ∙ sym c.take.ensures.cause ∙ c.if-not-take.true in
     rw (← c.self.view_is) (sym (and_right _ _ shut))
 
 pub set_row-requires-clause-within : goal.set_row-requires-clause-within
-set_row-requires-clause-within c = (open_rows _ _ _ _ _ c.args.i c.self.invariant (sym c.take.ensures.cause ∙ c.if-not-take.false)).0
+set_row-requires-clause-within c = (open_rows _ _ _ _ _ c.args.i c.self.invariant.joined (sym c.take.ensures.cause ∙ c.if-not-take.false)).0
 
 pub clear_row-requires : goal.clear_row-requires
-clear_row-requires c = (open_rows _ _ _ _ _ c.args.i c.self.invariant (sym c.take.ensures.cause ∙ c.if-not-take.false)).1
+clear_row-requires c = (open_rows _ _ _ _ _ c.args.i c.self.invariant.joined (sym c.take.ensures.cause ∙ c.if-not-take.false)).1
 
-pub bind_all-requires : goal.bind_all-requires
-bind_all-requires c =
-    let unbound = ap (list_any (is_bound c.args.labels.now)) (sym c.as_slice.ensures.value) ∙ sym c.is_any_bound.ensures ∙ c.if-is_any_bound.false in
-    bindable _ _ _ _ _ c.args.i c.args.labels.now c.self.invariant (sym c.take.ensures.cause ∙ c.if-not-take.false) unbound
+pub bind_all-requires-clause-ready : goal.bind_all-requires-clause-ready
+bind_all-requires-clause-ready c =
+    let a = c.self.inside in
+    let unbound = sym (any_bound a.labels c.args.labels.now a.maps.items) ∙ ap (list_any (is_bound_in a.labels c.args.labels.now)) (sym c.as_slice.ensures.value) ∙ sym c.is_any_bound.ensures ∙ c.if-is_any_bound.false in
+    rw c.set_row.ensures (all_ready _ _ _ _ _ c.args.i c.args.labels.now c.self.invariant (sym c.take.ensures.cause ∙ c.if-not-take.false) unbound)
+
+pub bind_all-requires-clause-within : goal.bind_all-requires-clause-within
+bind_all-requires-clause-within c = rw c.set_row.ensures (omega (arith, length-set c.self.inside.labels.rows c.args.i c.args.labels.now, (open_rows _ _ _ _ _ c.args.i c.self.invariant.joined (sym c.take.ensures.cause ∙ c.if-not-take.false)).0))
 
 pub invariant_of-self-2 : goal.invariant_of-self-2
 invariant_of-self-2 c =
-    let unbound = ap (list_any (is_bound c.args.labels.now)) (sym c.as_slice.ensures.value) ∙ sym c.is_any_bound.ensures ∙ c.if-is_any_bound.false in
+    let a = c.self.inside in
+    let unbound = sym (any_bound a.labels c.args.labels.now a.maps.items) ∙ ap (list_any (is_bound_in a.labels c.args.labels.now)) (sym c.as_slice.ensures.value) ∙ sym c.is_any_bound.ensures ∙ c.if-is_any_bound.false in
     rw (c.if-not-take.ensures.stamped, c.set_row.ensures, c.clear_row.ensures)
-    (entered_joined _ _ _ _ _ _ c.args.time c.args.i c.args.labels.now _ c.self.invariant (sym c.take.ensures.cause ∙ c.if-not-take.false) unbound c.bind_all.ensures)
+    (entered_kept _ _ _ _ _ _ c.args.time c.args.i c.args.labels.now _ c.self.invariant (sym c.take.ensures.cause ∙ c.if-not-take.false) unbound (rw c.set_row.ensures at c.bind_all.ensures))
 
 pub returns-clause-cause : goal.returns-clause-cause
 returns-clause-cause c =
-    let unbound = ap (list_any (is_bound c.args.labels.now)) (sym c.as_slice.ensures.value) ∙ sym c.is_any_bound.ensures ∙ c.if-is_any_bound.false in
-    let taken = sym (bound_taken _ _ _ _ _ c.args.labels.now c.self.invariant) ∙ unbound in
-    let may = open_is _ _ _ _ _ c.self.invariant c.args.i ∙ sym c.take.ensures.cause ∙ c.if-not-take.false in
+    let a = c.self.inside in
+    let unbound = sym (any_bound a.labels c.args.labels.now a.maps.items) ∙ ap (list_any (is_bound_in a.labels c.args.labels.now)) (sym c.as_slice.ensures.value) ∙ sym c.is_any_bound.ensures ∙ c.if-is_any_bound.false in
+    let taken = sym (bound_taken _ _ _ _ _ c.args.labels.now c.self.invariant.joined) ∙ unbound in
+    let may = open_is _ _ _ _ _ c.self.invariant.joined c.args.i ∙ sym c.take.ensures.cause ∙ c.if-not-take.false in
     rw (← c.self.view_is, taken, may) refl
 
 pub returns-clause-entered : goal.returns-clause-entered
 returns-clause-entered c =
     rw (← c.self.view_is, c.if-not-take.ensures.stamped, c.set_row.ensures, c.clear_row.ensures)
-    (entered_is _ _ _ _ _ c.args.time c.args.i c.args.labels.now c.self.invariant)
+    (entered_is _ _ _ _ _ c.args.time c.args.i c.args.labels.now c.self.invariant.joined)

@@ -3,4 +3,4 @@ use Rattle.vig_tables.proofs.Reading.{stamp_is}
 use Rattle.vig_tables.proofs.chain_tables.ChainTables.stamp.Goals as goal
 
 pub returns : goal.returns
-returns c = rw (← c.self.view_is) (c.stamp.ensures.value ∙ stamp_is _ _ _ _ _ c.self.invariant c.args.i)
+returns c = rw (← c.self.view_is) (c.stamp.ensures.value ∙ stamp_is _ _ _ _ _ c.self.invariant.joined c.args.i)

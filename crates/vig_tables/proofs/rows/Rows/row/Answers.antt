@@ -22,3 +22,8 @@ returns-clause-wide c =
     rw (same, c.deref.ensures.value, ← c.self.view_is)
     (ap length (sym (row_of c.self.inside.count width c.args.i (c.args.i * width) c.self.inside.cells.items lt refl))
     ∙ length-row_of c.self.inside.count width c.args.i c.self.inside.cells.items lt c.self.invariant.each)
+
+pub returns-clause-few : goal.returns-clause-few
+returns-clause-few c =
+    let lt = rw (← c.self.view_is, length-rows_of) at c.requires in
+    omega (arith, lt, c.self.invariant.few)

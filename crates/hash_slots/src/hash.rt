@@ -1,0 +1,40 @@
+//! The tag of a key.
+ghost use Rattle.std.specs.Prelude.{◌≡◌};
+ghost use Rattle.hash_slots.specs.Hashes.{tag_of, mixed, step};
+
+/// An odd number near 2^64 divided by the golden ratio.
+const FIRST: u64 = 0x9e37_79b9_7f4a_7c15;
+
+/// Another odd number, for the first round and the last.
+const SECOND: u64 = 0xd1b5_4a32_d192_ed03;
+
+/// A number times another, both halves of the product folded into one.
+#[inline]
+fn mixed(hash: u64, by: u64) -> u64
+    ensures { result ≡ mixed hash by }
+{
+    let product = u128::from(hash) * u128::from(by);
+    (product >> 64) as u64 ^ (product & 0xffff_ffff_ffff_ffff) as u64
+}
+
+/// A hash with a key's part mixed in, by one multiplication for both of the part's words.
+#[inline]
+fn stirred(hash: u64, part: u128) -> u64
+    ensures { result ≡ step hash part }
+{
+    let low = (part & 0xffff_ffff_ffff_ffff) as u64;
+    let high = (part >> 64) as u64;
+    mixed(hash ^ low, high ^ FIRST)
+}
+
+/// 32 bits of the hash of a key.
+#[inline]
+pub fn tag_of(key: &[u128]) -> u32
+    ensures { result ≡ tag_of key.now }
+{
+    let mut hash = SECOND;
+    for part in key {
+        hash = stirred(hash, *part);
+    }
+    (mixed(hash, SECOND) & 0xffff_ffff) as u32
+}
