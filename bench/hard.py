@@ -3,9 +3,14 @@ import random
 
 LONGEST = 1 << 20
 # A label's width by the field that it mostly is, and the fields that it may be.
-WIDTHS = {"src_ip": 32, "dst_ip": 32, "src_port": 16, "dst_port": 16}
-TURNED = {"src_ip": "dst_ip", "dst_ip": "src_ip", "src_port": "dst_port", "dst_port": "src_port"}
-FOUR, EIGHT = (*WIDTHS,), (*WIDTHS, *WIDTHS)
+WIDTHS = {"src_ip": 32, "dst_ip": 32, "src_port": 16, "dst_port": 16, "src_ip6": 128, "dst_ip6": 128}
+TURNED = {
+    "src_ip": "dst_ip", "dst_ip": "src_ip", "src_port": "dst_port", "dst_port": "src_port", "src_ip6": "dst_ip6",
+    "dst_ip6": "src_ip6",
+}
+BY_PORTS = ("src_port", "dst_port")
+FOUR, FOUR_SIX = ("src_ip", "dst_ip", *BY_PORTS), ("src_ip6", "dst_ip6", *BY_PORTS)
+EIGHT, EIGHT_SIX, EIGHT_BY_PORTS = 2 * FOUR, 2 * FOUR_SIX, 4 * BY_PORTS
 PORTS, CHAINS = range(4), range(8)
 # So many look-ups and two `new` are at each port.
 LOOKS = 28
@@ -29,26 +34,48 @@ def turned_by_chance(source):
     return fields
 
 
-def chains(homes):
+def chains(homes, numbers=CHAINS):
     labels = ", ".join(f"l{number}: {WIDTHS[home]}" for number, home in enumerate(homes))
-    return " ".join(f"chain c{chain} 16 lifetime 1000 {{ map m({labels}); }}" for chain in CHAINS)
+    return " ".join(f"chain c{chain} 16 lifetime 1000 {{ map m({labels}); }}" for chain in numbers)
 
 
 def new(chain, fields, name="f"):
     return f"new {name} = c{chain}({', '.join(f'l{number} = {field}' for number, field in enumerate(fields))})"
 
 
+def by_eight(port, field, homes, numbers=CHAINS):
+    """What is done at a port: an entry of each of these chains is looked up, and made where there is none."""
+    parts = []
+    for chain in numbers:
+        fields = [field(port, home) for home in homes]
+        made = f"{new(chain, fields)} {{ }} drop;"
+        parts.append(f"get e = c{chain}.m({', '.join(fields)}) {{ touch e; }} else {{ {made} }}")
+    return " ".join(parts)
+
+
 def eight_chains(field):
     """At four ports an entry of each of eight chains is looked up, and made where there is none, by eight labels."""
+    handlers = [f"on {port} {{ {by_eight(port, field, EIGHT)} }}" for port in PORTS]
+    return f"nf eight {{ ports 4; {chains(EIGHT)} {' '.join(handlers)} }}"
+
+
+def four_chains_each(field):
+    """The same at four ports of both versions of IP: four of the chains are of one, and four of the other."""
+    four, six = CHAINS[:4], CHAINS[4:]
     handlers = []
     for port in PORTS:
-        parts = []
-        for chain in CHAINS:
-            fields = [field(port, home) for home in EIGHT]
-            made = f"{new(chain, fields)} {{ }} drop;"
-            parts.append(f"get e = c{chain}.m({', '.join(fields)}) {{ touch e; }} else {{ {made} }}")
-        handlers.append(f"on {port} {{ {' '.join(parts)} }}")
-    return f"nf eight {{ ports 4; {chains(EIGHT)} {' '.join(handlers)} }}"
+        handlers.append(f"on {port} {{ {by_eight(port, field, EIGHT, four)} }}")
+        handlers.append(f"on {port} six {{ {by_eight(port, field, EIGHT_SIX, six)} }}")
+    return f"nf each {{ ports 4; {chains(EIGHT, four)} {chains(EIGHT_SIX, six)} {' '.join(handlers)} }}"
+
+
+def eight_chains_shared(field):
+    """The same where all eight chains are used at both, by ports alone."""
+    handlers = []
+    for port in PORTS:
+        for version in ("", " six"):
+            handlers.append(f"on {port}{version} {{ {by_eight(port, field, EIGHT_BY_PORTS)} }}")
+    return f"nf shared {{ ports 4; {chains(EIGHT_BY_PORTS)} {' '.join(handlers)} }}"
 
 
 def looks(source, fields):
@@ -104,6 +131,10 @@ def functions():
     return [
         ("eight chains of eight labels, four ports", eight_chains(plain), None),
         ("the same, at random", eight_chains(by_chance(random.Random(1))), None),
+        ("IPv4 and IPv6: eight chains of eight labels, four ports", four_chains_each(plain), None),
+        ("IPv4 and IPv6: the same, at random", four_chains_each(by_chance(random.Random(1))), None),
+        ("IPv4 and IPv6: the same, by ports alone", eight_chains_shared(plain), None),
+        ("IPv4 and IPv6: by ports alone, at random", eight_chains_shared(by_chance(random.Random(1))), None),
         ("112 look-ups, turned at random", looks(turned, turned_by_chance(turned)), None),
         ("112 look-ups, at random", looks(at_random, any_fields(at_random)), None),
         ("1 MiB of reads by one field", reads("dst_port"), None),

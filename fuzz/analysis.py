@@ -1,11 +1,12 @@
 """What `check`, `explain` and `keys` say of a function: its feasible paths, its sites with the labels that each knows,
 the rule of each object, and the given keys. Read from the definitions, without a look at the program's code.
 """
+from copy import copy
 from dataclasses import dataclass
 
 import tree
 from faults import first_fault
-from keys import DEFAULT, RSS, RSS6, Place, given_keys, key_of, text_of
+from keys import RSS, RSS6, USUAL, Place, given_keys, key_of
 from language import place_of, read
 
 MOST_PATHS = 4096
@@ -207,12 +208,11 @@ class Object:
         """The labels known at every site, in text order."""
         return [label for label in self.widths if all(label in site.known for site in self.sites)]
 
-    @property
-    def places(self):
-        """Each site as keys see it, with the fields that it knows of the kept labels."""
+    def places(self, card):
+        """Each site as keys for a card see it, with the fields that it knows of the kept labels."""
         kept = self.kept
         return [
-            Place(site.port, RSS6 if site.six else RSS, tuple(site.known[it] for it in kept)) for site in self.sites
+            Place(site.port, card.hashing(site.six), tuple(site.known[it] for it in kept)) for site in self.sites
         ]
 
     @property
@@ -225,11 +225,11 @@ class Object:
 
 
 class Analysis:
-    """A function without a fault, analysed. TooManyPaths is raised at the least port that has too many, at its handler
-    for IPv4 first. A door is a port, and whether it is the one for IPv6."""
+    """A function without a fault, analysed for a network card. TooManyPaths is raised at the least port that has too
+    many, at its handler for IPv4 first. A door is a port, and whether it is the one for IPv6."""
 
-    def __init__(self, function):
-        self.function = function
+    def __init__(self, function, card=USUAL):
+        self.function, self.card = function, card
         walks = {door: walked(it.block, it.at) for door, it in sorted(function.by_door.items())}
         self.paths = {door: count for door, (count, _) in walks.items()}
         statements = [it for handler in function.handlers for it in all_statements(handler.block)]
@@ -265,12 +265,21 @@ class Analysis:
     def judge(self):
         """Finds the keys, or the cause for which there are none."""
         shared = [it for it in self.objects.values() if it.written and it.sites]
-        self.plan = [it.places for it in shared]
-        self.keys = self.keys_near(key_of(DEFAULT))
+        self.plan = [it.places(self.card) for it in shared]
+        self.keys = self.keys_near(key_of(self.card.default))
         self.cause = "hash"
         for it in reversed(shared):
             if not it.kept:
                 self.cause = f"{it.name} {it.rule}"
+
+    def on(self, card):
+        """The analysis of the function for another card."""
+        if card == self.card:
+            return self
+        found = copy(self)
+        found.card = card
+        found.judge()
+        return found
 
     @property
     def lengths(self):
@@ -296,7 +305,7 @@ class Analysis:
         """What `keys` prints."""
         if self.keys is None:
             return f"locked {self.cause}\n"
-        lines = [f"key {port} {text_of(key)}\n" for port, key in enumerate(self.keys)]
+        lines = [f"key {port} {self.card.text_of(key)}\n" for port, key in enumerate(self.keys)]
         return "".join(["sharded\n", *lines])
 
     def described(self):
@@ -316,11 +325,12 @@ class Analysis:
         return self.described() + self.verdict()
 
 
-def analysed(text):
-    """The analysis of a text's bytes and None; or None and the text's first fault, as its kind, line and column."""
+def analysed(text, card=USUAL):
+    """The analysis of a text's bytes for a card and None; or None and the text's first fault, as its kind, line and
+    column."""
     if fault := first_fault(text):
         return None, fault
     try:
-        return Analysis(read(text)), None
+        return Analysis(read(text), card), None
     except TooManyPaths as many:
         return None, ("P1", *place_of(text, many.at))

@@ -1,12 +1,13 @@
 """One text with its captures, given to the program and to the independent reading of docs/FORMATS.md."""
 import subprocess
-from dataclasses import dataclass
+from dataclasses import dataclass, field
 
 from analysis import analysed
 from faults import first_fault
 from interpreter import IllegalChoice
+from keys import USUAL, Card
 from language import read
-from runs import MOST_PACKETS, Result, expected, refused
+from runs import MOST_PACKETS, OneWorker, Result, expected, refused
 
 # Seconds, after which a run is taken as one that doesn't end.
 LIMIT = 60
@@ -15,11 +16,13 @@ LIMIT = 60
 @dataclass
 class Case:
     """A text's bytes, the captures of its ports, how many packets may be handled, and whether paths are counted before
-    a run."""
+    a run; the network card, and the options that tell of it."""
     text: bytes
     captures: list
     most: int = MOST_PACKETS
     counts_paths: bool = False
+    card: Card = USUAL
+    card_words: list = field(default_factory=list)
 
 
 def run(program, folder, case, options=()):
@@ -29,7 +32,7 @@ def run(program, folder, case, options=()):
     inputs = {"x.nf": case.text, **{f"in.{port}.pcap": data for port, data in enumerate(case.captures)}}
     for name, data in inputs.items():
         (folder / name).write_bytes(data)
-    words = [program, "run", *inputs, "--max-packets", str(case.most), *options]
+    words = [program, "run", *inputs, "--max-packets", str(case.most), *case.card_words, *options]
     words.insert(3, "out")
     try:
         took = subprocess.run(words, cwd=folder, stdin=subprocess.DEVNULL, capture_output=True, timeout=LIMIT)
@@ -46,7 +49,8 @@ def wanted(case, got, events):
     events[fault[0] if fault else "no fault"] += 1
     if fault:
         return refused(fault)
-    return expected(read(case.text), case.captures, got.files.get(".journal", b""), case.most, events)
+    journal = got.files.get(".journal", b"")
+    return expected(read(case.text), case.captures, journal, case.most, events, OneWorker(case.card))
 
 
 def differences(got, want):

@@ -4,8 +4,8 @@ from dataclasses import dataclass
 
 from captures import OUTPUT_HEADER, edited, fields_of, output_record, records_of
 from interpreter import Handling, State
-from keys import TABLE, hash_of
-from runs import MOST_PACKETS, capture_order, receivers
+from keys import CARDS, hash_of
+from runs import MOST_PACKETS, capture_order, first_line, receivers
 from shards import ShareFull, Worker
 
 # How often an index is drawn before all free ones are listed.
@@ -76,22 +76,22 @@ def interleaved(packets, random):
 
 
 def made(found, captures, mode, workers, random, most=MOST_PACKETS, events=None, pick=any_free, state=None):
-    """A run of an analysed function in a mode, over the first packets of captures, from its opening state. In mode
-    `lock` any order may come."""
+    """A run of an analysed function in a mode, over the first packets of captures, from its opening state, for the card
+    of the analysis. In mode `lock` any order may come."""
     function, events = found.function, Counter() if events is None else events
     state = state or State(function)
     packets = capture_order([records_of(data)[0] for data in captures])[:most]
     if mode == "lock":
         packets = interleaved(packets, random)
     sent_at = [bytearray(OUTPUT_HEADER) for _ in range(function.ports)]
-    run = Made([b"maestro journal 1 %s %d" % (mode.encode(), workers)], sent_at, state)
+    run = Made([first_line(mode, workers, found.card).encode()], sent_at, state)
     for port, number, record in packets:
         fields, action, edits, indices = function.seen(port, fields_of(record)), "skip", {}, []
         worker = port % workers if mode == "lock" else 0
         if fields is not None:
             way = Undivided(state, port, fields, random, events, pick)
             if mode == "shard":
-                worker = hash_of(found.keys[port], fields) % TABLE % workers
+                worker = found.card.queue(hash_of(found.keys[port], fields), workers)
                 way = Sharing(state, port, fields, random, events, worker, workers, pick)
             try:
                 action, edits = way.handle(function.block(port, fields))
@@ -192,6 +192,21 @@ def a_header(lines, random):
         b"maestro journal 2 one 1", b"Maestro journal 1 one 1", lines[0] + b" ", lines[0] + b"\r", b"",
     ))
     return joined([head, *lines[1:]])
+
+
+def a_card(lines, random):
+    """A first line of the same mode and workers that tells another card, or tells one in another way."""
+    version, mode, count, *sizes = lines[0].split(b" ")[2:]
+    table, key_bytes = sizes or (b"128", b"40")
+    other = random.choice(CARDS)
+    ways = (
+        (b"1", ()), (b"2", ()), (b"3", sizes), (b"0", sizes), (b"02", sizes), (version, (b"128", b"40")),
+        (b"1", (table, key_bytes)), (b"2", (b"128", b"40")), (b"2", (b"%d" % other.table, b"%d" % other.key_bytes)),
+        (b"2", (b"256", key_bytes)), (b"2", (table, b"41")), (b"2", (key_bytes, table)), (b"2", (table,)),
+        (b"2", (table, key_bytes, b"0")), (b"2", (b"0" + table, key_bytes)), (b"2", (table, key_bytes + b" ")),
+    )
+    version, sizes = random.choice(ways)
+    return joined([b" ".join((b"maestro journal", version, mode, count, *sizes)), *lines[1:]])
 
 
 JOURNAL_CHANGES = {

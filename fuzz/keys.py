@@ -5,7 +5,7 @@ unknowns, port behind port. What is asked of them is taken from the definition: 
 basis of all pairs of inputs that agree in their fields, and for each such pair and each bit of the hash one equation.
 How many keys spread is counted by inclusion and exclusion over the ports whose table index would be constant.
 """
-from dataclasses import dataclass
+from dataclasses import dataclass, replace
 from functools import lru_cache
 from itertools import accumulate, combinations_with_replacement
 
@@ -48,25 +48,54 @@ class Hashing:
 # Microsoft's receive side scaling over addresses and ports, with a table of 128 entries, for IPv4 and for IPv6.
 RSS = Hashing((("src_ip", 32), ("dst_ip", 32), ("src_port", 16), ("dst_port", 16)), 32, 7)
 RSS6 = Hashing((("src_ip6", 128), ("dst_ip6", 128), ("src_port", 16), ("dst_port", 16)), 32, 7)
-TABLE = 128
-KEY_BITS = 320
 # The key of Microsoft's verification suite.
 DEFAULT = "6d5a56da255b0ec24167253d43a38fb0d0ca2bcbae7b30b477cb2da38030f20c6a42b73bbeac01fa"
 
 
+@dataclass(frozen=True)
+class Card:
+    """A network card: how many entries its table has, 128 or 512, and how many bytes its keys, 40 or 52."""
+    table: int = 128
+    key_bytes: int = 40
+
+    @property
+    def key_bits(self):
+        return 8 * self.key_bytes
+
+    @property
+    def default(self):
+        """The digits of the default key: of 52 bytes it is that of 40, and then its first 12."""
+        return (2 * DEFAULT)[:2 * self.key_bytes]
+
+    def hashing(self, six):
+        """The hash of IPv4 or IPv6, with the index of this card's table."""
+        return replace(RSS6 if six else RSS, index=self.table.bit_length() - 1)
+
+    def index(self, hashed):
+        """The table's index of a hash."""
+        return hashed % self.table
+
+    def queue(self, hashed, workers):
+        """The queue of a hash: entry i of the table is queue i modulo the workers."""
+        return self.index(hashed) % workers
+
+    def text_of(self, key):
+        """The digits of a key's vector."""
+        return format(vector(key, self.key_bits), f"0{2 * self.key_bytes}x")
+
+
+USUAL = Card()
+CARDS = tuple(Card(table, key_bytes) for table in (128, 512) for key_bytes in (40, 52))
+
+
 def vector(value, width):
-    """A number of so many bits as a vector, its highest bit the first."""
+    """A number of so many bits as a vector, its highest bit the first; and a vector as a number."""
     return int(format(value, f"0{width}b")[::-1], 2)
 
 
 def key_of(text):
-    """A key's vector by its 80 digits."""
-    return vector(int(text, 16), KEY_BITS)
-
-
-def text_of(key):
-    """The 80 digits of a key's vector."""
-    return format(int(format(key, f"0{KEY_BITS}b")[::-1], 2), f"0{KEY_BITS // 4}x")
+    """A key's vector by its digits."""
+    return vector(int(text, 16), 4 * len(text))
 
 
 def input_of(hashing, fields):

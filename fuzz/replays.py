@@ -6,11 +6,11 @@ from dataclasses import dataclass
 from analysis import analysed
 from captures import OUTPUT_HEADER, edited, fields_of, output_record, records_of
 from interpreter import IllegalChoice, State, handle
-from keys import TABLE, hash_of
+from keys import USUAL, Card, hash_of
 from runs import MOST_PACKETS, Result, capture_order, receivers, refused
 
 NUMBER = rb"(?:0|[1-9][0-9]{0,9})"
-HEADER = re.compile(rb"maestro journal 1 (one|shard|lock) (%s)" % NUMBER)
+HEADER = re.compile(rb"maestro journal (1|2) (one|shard|lock) (%s)(?: (128|512) (40|52))?" % NUMBER)
 PACKET = re.compile(
     rb"(%s) (%s) (%s) (skip|drop|flood|to:%s) (-|%s(?:,%s){0,15})" % (NUMBER, NUMBER, NUMBER, NUMBER, NUMBER, NUMBER)
 )
@@ -21,6 +21,7 @@ class Header:
     """A journal's first line."""
     mode: str
     workers: int
+    card: Card
 
 
 @dataclass
@@ -44,9 +45,18 @@ def numbers_in(text):
 def header_of(text):
     """The first line that some bytes without LF are, None where they are none."""
     found = HEADER.fullmatch(text)
-    if not found or not (1 if found[1] == b"one" else 2) <= int(found[2]) <= 16:
+    card = card_of(found[1], found[4], found[5]) if found else None
+    if card is None or not (1 if found[2] == b"one" else 2) <= int(found[3]) <= 16:
         return None
-    return Header(found[1].decode(), int(found[2]))
+    return Header(found[2].decode(), int(found[3]), card)
+
+
+def card_of(version, table, key_bytes):
+    """The card of a first line by its version and by what it tells of a card, None where it is no line so."""
+    if table is None:
+        return USUAL if version == b"1" else None
+    card = Card(int(table), int(key_bytes))
+    return card if version == b"2" and card != USUAL else None
 
 
 def line_of(text):
@@ -65,11 +75,12 @@ def lines_in(journal):
 
 
 class Replay:
-    """The undivided run over a journal's packets, with the journal's choices. `course` is the journal's first line,
-    `keys` are the function's, where it has some."""
+    """The undivided run over a journal's packets, with the journal's choices. `course` is the journal's first line. The
+    keys are those of the analysed function for the card that stands there, where it has some."""
 
-    def __init__(self, function, keys, captures, course, events=None):
-        self.function, self.keys, self.course = function, keys, course
+    def __init__(self, found, captures, course, events=None):
+        function = found.function
+        self.function, self.keys, self.course = function, found.on(course.card).keys, course
         self.events = Counter() if events is None else events
         self.state = State(function)
         self.outputs = [bytearray(OUTPUT_HEADER) for _ in range(function.ports)]
@@ -96,7 +107,7 @@ class Replay:
             return port % self.course.workers
         if self.course.mode == "one" or fields is None:
             return 0
-        return hash_of(self.keys[port], fields) % TABLE % self.course.workers
+        return self.course.card.queue(hash_of(self.keys[port], fields), self.course.workers)
 
     def take(self, line):
         """Does what a line tells; Differs where it isn't right."""
@@ -169,9 +180,9 @@ def answer(found, captures, journal, outputs, most, events):
             return Result(7, err=f"maestro: more than {most} packets\n".encode())
         if number == 1:
             course = header_of(text) if ended else None
-            if course is None or course.mode == "shard" and found.keys is None:
+            replay = Replay(found, captures, course, events) if course else None
+            if replay is None or course.mode == "shard" and replay.keys is None:
                 return differs_at("line 1")
-            replay = Replay(found.function, found.keys, captures, course, events)
             continue
         line = line_of(text) if ended else None
         try:

@@ -5,6 +5,7 @@ from dataclasses import dataclass, field
 
 from captures import OUTPUT_HEADER, edited, fields_of, output_record, records_of
 from interpreter import IllegalChoice, State, handle
+from keys import USUAL
 from tree import is_six
 
 MOST_PACKETS = 10_000_000
@@ -26,9 +27,19 @@ def refused(fault):
     return Result(2, err=f"maestro: refused {kind} at {line}:{column}\n".encode())
 
 
+def first_line(mode, workers, card):
+    """A journal's first line, without its LF: of version 1 exactly where the card is the usual one."""
+    if card == USUAL:
+        return f"maestro journal 1 {mode} {workers}"
+    return f"maestro journal 2 {mode} {workers} {card.table} {card.key_bytes}"
+
+
 class OneWorker:
     """A run by one worker."""
     mode, workers = "one", 1
+
+    def __init__(self, card=USUAL):
+        self.card = card
 
     def worker(self, port, fields):
         """Who handles a packet with these fields, None where it is skipped."""
@@ -84,7 +95,8 @@ def expected(function, captures, journal, most=MOST_PACKETS, events=None, course
         return Result(4, err=f"maestro: capture {read.index(None)} has no pcap header\n".encode())
     packets = capture_order([records for records, _ in read])
     state, choices = State(function), Choices(journal)
-    lines, outputs, before = [f"maestro journal 1 {course.mode} {course.workers}"], [OUTPUT_HEADER] * function.ports, None
+    lines, outputs = [first_line(course.mode, course.workers, course.card)], [OUTPUT_HEADER] * function.ports
+    before = None
     for position, (port, number, record) in enumerate(packets[:most]):
         fields, told, edits = function.seen(port, fields_of(record)), [], {}
         worker = course.worker(port, fields)

@@ -3,7 +3,7 @@ its share. What its packets come to, and the tables put together in the end, hav
 """
 from captures import fields_of, records_of
 from interpreter import Handling, State, handle
-from keys import TABLE, hash_of
+from keys import hash_of
 from runs import capture_order
 
 
@@ -66,7 +66,7 @@ def compare(analysis, keys, captures, workers, random, events):
         fields = function.seen(port, fields_of(record))
         if fields is None:
             continue
-        queue = hash_of(keys[port], fields) % TABLE % workers
+        queue = analysis.card.queue(hash_of(keys[port], fields), workers)
         time = fields["time"]
         way = Worker(states[queue], port, fields, random, events, queue, workers)
         try:

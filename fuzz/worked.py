@@ -1,11 +1,12 @@
-"""Functions whose analysis was worked out by hand: the text, and what `check`, `explain` and `keys` say of it.
+"""Functions whose analysis was worked out by hand: the text, and what `check`, `explain` and `keys` say of it for a
+network card; and hashes of Microsoft's verification suite.
 
 `check` is what it prints, `objects` what `explain` prints before the verdict, and `verdict` what `keys` prints; each is
 None where it wasn't worked out.
 """
 from dataclasses import dataclass
 
-from keys import DEFAULT
+from keys import DEFAULT, USUAL, Card
 
 
 @dataclass
@@ -14,6 +15,17 @@ class Worked:
     check: str = None
     objects: str = None
     verdict: str = None
+    card: Card = USUAL
+
+
+@dataclass
+class Hash:
+    """What `hash` prints of a packet under the default key."""
+    source: str
+    target: str
+    said: str
+    card: Card = USUAL
+    workers: int = 1
 
 
 def zeros(count):
@@ -175,6 +187,18 @@ CASES = {
         "site 1 name by_dst host=dst_ip\n",
         sharded(DEFAULT, f"{zeros(7)}01{zeros(32)}"),
     ),
+    "a policer, 512 entries and keys of 52 bytes": Worked(
+        POLICER, None, None,
+        sharded(f"{DEFAULT}6d5a56da255b0ec24167253d", f"{zeros(7)}01{zeros(44)}"), Card(512, 52),
+    ),
+    "a policer, 512 entries": Worked(
+        POLICER, None, None, sharded(DEFAULT, f"{zeros(7)}01{zeros(32)}"), Card(512, 40),
+    ),
+    "a firewall, keys of 52 bytes": Worked(
+        FIREWALL, None, None,
+        sharded(f"6d5a56da56db6d5a6d5a56db6d5a56da{zeros(36)}", f"56db6d5a6d5a56da56db6d5a56db6d5a{zeros(36)}"),
+        Card(128, 52),
+    ),
     "by source, IPv6 alone": Worked(
         BY_SOURCE_6, "ok bysrc: ports 1, chains 1, arrays 0, paths 1/4\n",
         "nf bysrc\n"
@@ -283,4 +307,15 @@ CASES = {
         "nf p { ports 1; on 0 { if src_port == 1 { } if src_port == 2 { } } }",
         "ok p: ports 1, chains 0, arrays 0, paths 3\n",
     ),
+}
+ROW, LATER = ("66.9.149.187:2794", "161.142.100.80:1766"), ("199.92.111.2:14230", "65.69.140.83:4739")
+HASHES = {
+    "the first packet": Hash(*ROW, "51ccc178 120 0"),
+    "the first packet, 16 queues": Hash(*ROW, "51ccc178 120 8", workers=16),
+    "the first packet, 512 entries": Hash(*ROW, "51ccc178 376 0", Card(512, 40)),
+    "the first packet, 512 entries and three queues": Hash(*ROW, "51ccc178 376 1", Card(512, 40), 3),
+    "the first packet, 512 entries and keys of 52 bytes": Hash(*ROW, "51ccc178 376 0", Card(512, 52)),
+    "the first packet, keys of 52 bytes": Hash(*ROW, "51ccc178 120 0", Card(128, 52)),
+    "the second packet": Hash(*LATER, "c626b0ea 106 10", workers=16),
+    "the second packet, 512 entries": Hash(*LATER, "c626b0ea 234 0", Card(512, 40)),
 }
