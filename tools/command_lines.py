@@ -3,6 +3,8 @@
 EMPTY = bytes.fromhex("4d3cb2a1020004000000000000000000000004 0001000000".replace(" ", ""))
 # The key of Microsoft's verification suite.
 DEFAULT_KEY = "6d5a56da255b0ec24167253d43a38fb0d0ca2bcbae7b30b477cb2da38030f20c6a42b73bbeac01fa"
+# Of 52 bytes it begins anew behind its 40.
+LONG_KEY = DEFAULT_KEY + DEFAULT_KEY[:24]
 SHORT = "capture 0 is short.pcap\nit has 23 bytes, and the header of a capture has 24"
 HUB = "nf hub {\n  ports 1;\n  on 0 { forward 0; }\n}\n"
 # Of two workers the second one's share has two of five hosts.
@@ -65,11 +67,15 @@ def command_lines():
         (["run", "--mode", "locks", "a b.nf", "o u t", "c d.pcap"], *bad("--mode is auto, shard or lock, not locks")),
         (["run", "--workers", "17", "a b.nf", "o u t", "c d.pcap"], *bad("--workers is 1 to 16, not 17")),
         (["hash", "66.9.149.187:2794", "161.142.100.80:1766"], 0, "51ccc178 120 0\n", "", ""),
+        (["hash", "66.9.149.187:2794", "161.142.100.80:1766", "--table", "512"], 0, "51ccc178 376 0\n", "", ""),
+        (["hash", "--key", LONG_KEY, "--table=512", "--workers=3", "66.9.149.187:2794", "161.142.100.80:1766"], 0, "51ccc178 376 1\n", "", ""),
         (["check", "a b.nf"], 0, "ok hub: ports 1, chains 0, arrays 0, paths 1\n", "", ""),
         (["check", "--", "a b.nf"], 0, "ok hub: ports 1, chains 0, arrays 0, paths 1\n", "", ""),
         (["explain", "a b.nf"], 0, f"nf hub\nsharded\nkey 0 {DEFAULT_KEY}\n", "", ""),
         (["keys", "a b.nf"], 0, f"sharded\nkey 0 {DEFAULT_KEY}\n", "", ""),
         (["keys", "--", "a b.nf"], 0, f"sharded\nkey 0 {DEFAULT_KEY}\n", "", ""),
+        (["keys", "a b.nf", "--key-bytes=52"], 0, f"sharded\nkey 0 {LONG_KEY}\n", "", ""),
+        (["explain", "--table", "512", "a b.nf"], 0, f"nf hub\nsharded\nkey 0 {DEFAULT_KEY}\n", "", ""),
         (["check"], *bad("check takes NF: 0 names given")),
         (["explain"], *bad("explain takes NF: 0 names given")),
         (["keys", "a b.nf", "a b.nf"], *bad("keys takes NF: 2 names given")),
@@ -96,6 +102,7 @@ def command_lines():
         (["run", "--workers", "2", "--max-packets=1", "bridge.nf", "o", *two], 7, "ran 1 lock 2\n", "more than 1 packets", ""),
         (["run", "--workers", "2", "--mode", "shard", "bridge.nf", "o", *two], 8, "", "no keys: macs J4", ""),
         (["run", "--mode", "shard", "bridge.nf", "o", *two], 8, "", "no keys: macs J4", ""),
+        (["run", "--workers", "2", "--table", "512", "--key-bytes", "52", "a b.nf", "o u t", "c d.pcap"], 0, "ran 0 shard 2\n", "", ""),
         *made_up(no_file),
         *replays(no_file),
     ]
@@ -128,7 +135,7 @@ def made_up(no_file):
         (["gen", "a b.nf", "o", "0", "4", "0"], *bad("FLOWS is 1 to 65536, not 0")),
         (["gen", "a b.nf", "o", "0", "4", "65537"], *bad("FLOWS is 1 to 65536, not 65537")),
         (["gen", "a b.nf", "o", "00", "4", "1"], *bad("SEED is 0 to 4294967295, not 00")),
-        (["gen", "a b.nf", "o", "0", "4", "1", "--max-packets", "4"], *bad("--max-packets is no option of gen; it has --workers --mode")),
+        (["gen", "a b.nf", "o", "0", "4", "1", "--max-packets", "4"], *bad("--max-packets is no option of gen; it has --workers --mode --table --key-bytes")),
     ]
 
 
@@ -172,6 +179,8 @@ def replays(no_file):
         ([*bridge("worker"), "--max-packets", "0"], 7, "", "more than 0 packets", ""),
         ([*bridge("nothing"), "--max-packets", "0"], *at(1, "")),
         (["replay", "policer.nf", "full.journal", "full", *hosts], 0, full, "", ""),
+        (["replay", "policer.nf", "second.journal", "full", *hosts], 0, full, "", ""),
+        (["replay", "policer.nf", "usual.journal", "full", *hosts], *at(1, "maestro journal 2 shard 2 128 40")),
         (["replay", "policer.nf", "further.journal", "full", *hosts], *at(4, "1 2 1 drop -")),
         (["replay", "policer.nf", "share.journal", "full", *hosts], *at(2, "1 0 1 to:0 0")),
         (["replay", "a b.nf", "none.journal", "none", "torn.pcap"], 0, "", "", ""),
@@ -219,6 +228,7 @@ def fill_replays(room):
         "index": f"{head}{first}0 0 0 to:1 0\n", "again": head + first + second + second,
         "cut line": (head + first + second)[:-1], "nothing": "", "sharded": head.replace("lock", "shard") + first,
         "odd": f"{head}1 0 1 flood \x1b0\r\n", "full": policed, "none": "maestro journal 1 one 1\n",
+        "second": policed.replace("1 shard 2", "2 shard 2 512 52", 1), "usual": policed.replace("1 shard 2", "2 shard 2 128 40", 1),
         "further": f"{policed}1 2 1 drop -\n", "share": policed.replace("to:0 1", "to:0 0"),
     }
     fronts = {

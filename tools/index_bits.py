@@ -1,14 +1,21 @@
 """Which bits of a packet move the table's index under a key, and over how many entries packets spread at most.
 
-A table's index is the low 7 bits of the hash, so bit i of the hash's input moves it where one of the key's bits i + 25 to
-i + 31 is 1; it takes 2^r values, r the rank of those columns. An IPv4 packet has 96 bits of input, an IPv6 packet 288.
+The index of a table of 128 entries is the low 7 bits of the hash, that of one of 512 the low 9, so bit i of the hash's
+input moves it where one of the key's bits i + 25 (512: i + 23) to i + 31 is 1; it takes 2^r values, r the rank of those
+columns. An IPv4 packet has 96 bits of input, an IPv6 packet 288; of a key no packet meets more than the first 40 bytes.
 """
+import re
+
 PORTS = (("src_port", 16), ("dst_port", 16))
 FIELDS = {
     False: (("src_ip", 32), ("dst_ip", 32), *PORTS),
     True: (("src_ip6", 128), ("dst_ip6", 128), *PORTS),
 }
-INDEX_BITS, HASH_BITS, KEY_BITS = 7, 32, 320
+HASH_BITS, KEY_BITS = 32, 320
+# Of a table with so many entries how many low bits of the hash are its index.
+INDEX_BITS = {128: 7, 512: 9}
+# A key's line of `maestro keys`: its port, the 40 bytes that packets meet, and 12 more where it has 52.
+KEY_LINE = re.compile(r"key ([0-3]) ([0-9a-f]{80})(?:[0-9a-f]{24})?")
 
 
 def input_bits(six):
@@ -16,9 +23,9 @@ def input_bits(six):
     return sum(width for _, width in FIELDS[six])
 
 
-def columns(key, six):
-    """For each bit of the input what it adds to the index, under a key that is a number of 320 bits."""
-    return [key >> KEY_BITS - HASH_BITS - at & (1 << INDEX_BITS) - 1 for at in range(input_bits(six))]
+def columns(key, six, table):
+    """For each bit of the input what it adds to a table's index, under a key that is a number of 320 bits."""
+    return [key >> KEY_BITS - HASH_BITS - at & (1 << INDEX_BITS[table]) - 1 for at in range(input_bits(six))]
 
 
 def six_ports(said):
@@ -49,11 +56,11 @@ def spans(numbers):
     return ",".join(str(first) if first == last else f"{first}-{last}" for first, last in found)
 
 
-def told(key, six=False):
+def told(key, six=False, table=128):
     """What is told of a key: bits count from the highest of their field, from 0."""
-    given, start, said = columns(key, six), 0, []
+    given, start, said = columns(key, six, table), 0, []
     for name, width in FIELDS[six]:
         if moving := [at for at in range(width) if given[start + at]]:
             said.append(f"{name} bits {spans(moving)} of {width}")
         start += width
-    return f"index by {', '.join(said) or 'nothing'}; up to {2 ** rank(given)} of 128 entries"
+    return f"index by {', '.join(said) or 'nothing'}; up to {2 ** rank(given)} of {table} entries"

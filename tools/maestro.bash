@@ -63,17 +63,20 @@ _maestro() {
     case $previous in
     --mode) _maestro_words "$word" 'auto shard lock' && return ;;
     --workers) _maestro_words "$word" '1 2 3 4 5 6 7 8 9 10 11 12 13 14 15 16' && return ;;
+    --table) _maestro_words "$word" '128 512' && return ;;
+    --key-bytes) _maestro_words "$word" '40 52' && return ;;
     --max-packets | --key) return ;;
     -o) _maestro_files "$word" '*.svg' && return ;;
     esac
     case $command in
-    run) options='--workers --mode --max-packets --help' ;;
+    run) options='--workers --mode --max-packets --table --key-bytes --help' ;;
     replay) options='--max-packets --help' ;;
-    gen) options='--workers --mode --help' ;;
-    hash) options='--key --workers --help' ;;
-    spread) options='--workers --help' ;;
+    gen) options='--workers --mode --table --key-bytes --help' ;;
+    hash) options='--key --workers --table --key-bytes --help' ;;
+    explain | keys | card) options='--table --key-bytes --help' ;;
+    spread) options='--workers --table --help' ;;
     plot) options='-o --help' ;;
-    check | explain | keys | summary | show | card | draw | split) options='--help' ;;
+    check | summary | show | draw | split) options='--help' ;;
     help) _maestro_words "$word" "${commands% help} language $kinds" && return ;;
     *) return ;;
     esac
@@ -85,7 +88,7 @@ _maestro() {
     for ((at = 2; at < COMP_CWORD; at++)); do
         it=${COMP_WORDS[at]}
         case $it in
-        --mode | --workers | --max-packets | --key | -o)
+        --mode | --workers | --max-packets | --table | --key-bytes | --key | -o)
             [ "${COMP_WORDS[at + 1]-}" != = ] || ((at++))
             ((at++))
             ;;

@@ -120,9 +120,18 @@ WRONG_WORDS = [
     ("rpelay fw.nf", f"rpelay is no command; did you mean replay? {THERE}"),
     ("sumary o", f"sumary is no command; did you mean summary? {THERE}"),
     ("frobnicate", f"frobnicate is no command; {THERE.replace('There', 'there')}"),
-    ("run fw.nf o left.pcap right.pcap --worker 2", "--worker is no option of run; did you mean --workers? It has --workers --mode --max-packets"),
-    ("run fw.nf o left.pcap right.pcap -w 2", "-w is no option of run; it has --workers --mode --max-packets"),
+    ("run fw.nf o left.pcap right.pcap --worker 2", "--worker is no option of run; did you mean --workers? It has --workers --mode --max-packets --table --key-bytes"),
+    ("run fw.nf o left.pcap right.pcap -w 2", "-w is no option of run; it has --workers --mode --max-packets --table --key-bytes"),
     ("check fw.nf --mode auto", "--mode is no option of check, which has none"),
+    ("check fw.nf --table 512", "--table is no option of check, which has none"),
+    ("keys fw.nf --key 00", "--key is no option of keys; did you mean --key-bytes? It has --table --key-bytes"),
+    ("keys fw.nf --table 256", "--table is 128 or 512, not 256"),
+    ("explain fw.nf --table=0512", "--table is 128 or 512, not 0512"),
+    ("run fw.nf o left.pcap right.pcap --table 512 --table 512", "--table stands twice"),
+    ("run fw.nf o left.pcap right.pcap --key-bytes 48", "--key-bytes is 40 or 52, not 48"),
+    ("gen fw.nf o 1 4 1 --key-bytes=", "--key-bytes is 40 or 52, not nothing"),
+    ("hash 1.2.3.4:1 1.2.3.4:2 --key-bytes", "--key-bytes wants a value"),
+    ("replay fw.nf none.journal none left.pcap right.pcap --table 128", "--table is no option of replay; it has --max-packets"),
     ("run fw.nf o left.pcap right.pcap --workers 32", "--workers is 1 to 16, not 32"),
     ("run fw.nf o left.pcap right.pcap --workers=0", "--workers is 1 to 16, not 0"),
     ("run fw.nf o left.pcap right.pcap --workers=", "--workers is 1 to 16, not nothing"),
@@ -136,14 +145,14 @@ WRONG_WORDS = [
     ("run fw.nf o", "run takes NF OUT CAPTURE..: 2 names given"),
     ("--workers 2 run fw.nf o left.pcap right.pcap", f"--workers stands where a command does, and options stand behind it; {THERE.replace('There', 'there')}"),
     ("gen fw.nf o x 4 1", "SEED is 0 to 4294967295, not x"),
-    ("gen fw.nf o 1 4 1 --max-packets 2", "--max-packets is no option of gen; it has --workers --mode"),
+    ("gen fw.nf o 1 4 1 --max-packets 2", "--max-packets is no option of gen; it has --workers --mode --table --key-bytes"),
     ("hash fe80::1:1 1.2.3.4:2", "fe80::1:1 is no address and port, as 10.0.0.1:80"),
     ("hash 1.2.3.4 1.2.3.4:2", "1.2.3.4 is no address and port, as 10.0.0.1:80"),
     ("hash 1.2.3.4:1 1.2.3.256:2", "1.2.3.256:2 is no address and port, as 10.0.0.1:80"),
     ("hash 1.2.3.4:1 1.2.3:2", "1.2.3:2 is no address and port, as 10.0.0.1:80"),
     ("hash 1.2.3.4:1 1.2.3.4:65536", "1.2.3.4:65536 is no address and port, as 10.0.0.1:80"),
-    ("hash 1.2.3.4:1 1.2.3.4:2 --key 00ff", "--key is 80 digits of 0-9 a-f, not 4"),
-    (f"hash 1.2.3.4:1 1.2.3.4:2 --key {KEY[1:]}F", "--key is 80 digits of 0-9 a-f, and has another sign"),
+    ("hash 1.2.3.4:1 1.2.3.4:2 --key 00ff", "--key is 80 or 104 digits of 0-9 a-f, not 4"),
+    (f"hash 1.2.3.4:1 1.2.3.4:2 --key {KEY[1:]}F", "--key is 80 or 104 digits of 0-9 a-f, and has another sign"),
     ("hash 1.2.3.4:1", "hash takes SRC:PORT DST:PORT: 1 name given"),
 ]
 # Of functions of command_lines.py and captures for them, how the summary of a run begins.
@@ -155,3 +164,4 @@ SUMMARIES = [
 # What the keys of the firewall go by: none of the first 127 bits is without a 1 among the seven from it on.
 EVERY = "index by src_ip bits 0-31 of 32, dst_ip bits 0-31 of 32, src_port bits 0-15 of 16, dst_port bits 0-15 of 16"
 INDEX_BITS = "".join(f"port {port}: {EVERY}; up to 128 of 128 entries\n" for port in (0, 1))
+INDEX_BITS_OF_512 = INDEX_BITS.replace("128 of 128", "512 of 512")
