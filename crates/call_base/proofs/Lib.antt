@@ -7,5 +7,7 @@ pub mod Printing
 pub mod Naming
 pub mod Creating
 pub mod Leaving
-pub mod Numbering
-pub mod Stopping
+pub mod Layouts
+pub mod Stops
+pub mod Reading
+pub mod Ending

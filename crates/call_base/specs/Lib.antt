@@ -14,3 +14,6 @@ pub mod Printed
 pub mod Loading
 pub mod Far
 pub mod PrintedOut
+pub mod Layout
+pub mod Reading
+pub mod Leaving

@@ -3,12 +3,14 @@
 #![tactic(auto)]
 
 pub mod analysing;
+pub mod finishing;
 pub mod function;
+pub mod inputs;
 pub mod laws;
+pub mod layout;
 pub mod line;
 pub mod loading;
 pub mod names;
-pub mod numbers;
 pub mod object_name;
 pub mod opening;
 pub mod say;

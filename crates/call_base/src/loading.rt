@@ -4,9 +4,10 @@ ghost use Rattle.nf_files.specs.Causes.{HasAsked};
 ghost use Rattle.call_base.specs.Names.{reading};
 ghost use Rattle.call_base.specs.Outside.{IsUntouched};
 ghost use Rattle.call_base.specs.Loading.{IsTextAt, FindsFunction, HasFoundCause};
+ghost use Rattle.call_base.specs.Reading.{halt_of};
 
 use crate::function::{Source, Unread, function_in};
-use crate::status::{RunFile, Stop, TextFault};
+use crate::status::{Halt, Refusal, RunFile, Stop, TextFault};
 use nf_files::{Files, FilesFault, read_whole};
 use std::alloc::Global;
 
@@ -30,6 +31,18 @@ pub enum NoFunction {
     /// The text has this fault.
     Text(TextFault),
     Stop(Stop),
+}
+
+impl NoFunction {
+    /// Why a call goes on no further.
+    pub fn halt(self) -> Halt
+        ensures { result ≡ halt_of self }
+    {
+        match self {
+            NoFunction::Text(fault) => Halt::Refusal(Refusal::Text(fault)),
+            NoFunction::Stop(stop) => Halt::Stop(stop),
+        }
+    }
 }
 
 // The bytes under a name.

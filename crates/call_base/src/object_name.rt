@@ -1,11 +1,14 @@
-//! The name of a chain or an array, as a status tells it.
+//! The name of a chain or an array, as a status tells it, and what a status tells by it.
 ghost use Rattle.std.specs.Prelude.{◌≡◌, ◌≤◌, ◌++◌, ℕ, List, length};
 ghost use Rattle.nf_base.specs.Functions.{function_of};
 ghost use Rattle.nf_base.specs.Names.{object_name};
-ghost use Rattle.call_base.specs.Named.{name_bytes};
+ghost use Rattle.call_base.specs.Named.{name_bytes, IsToldStop, SaysCause};
 
+use crate::status::{FullShare, NoKeys};
+use key_synth::Cause;
 use nf_base::decl::ObjectId;
 use nf_base::func::Func;
+use shard_core::Stop as ShareStop;
 
 /// The name of a chain or an array, which takes no memory: the first so many of 32 bytes.
 #[derive(Clone, Copy, Debug, PartialEq, Eq)]
@@ -53,5 +56,34 @@ impl ObjectName {
         } else {
             &self.bytes
         }
+    }
+}
+
+/// Why a function has no keys.
+pub fn no_keys(func: &Func, cause: Cause) -> NoKeys
+    ensures { SaysCause (function_of func.now) cause result }
+{
+    match cause {
+        Cause::Object { object, rule } => NoKeys::Object {
+            name: ObjectName::in_func(func, object),
+            rule,
+        },
+        Cause::Hash => NoKeys::Hash,
+    }
+}
+
+/// The share stop of a run: the chain's name, the queue and the packet.
+pub fn full_share(func: &Func, stop: ShareStop) -> FullShare
+    ensures { IsToldStop (function_of func.now) stop result }
+{
+    let ShareStop {
+        chain,
+        queue,
+        packet,
+    } = stop;
+    FullShare {
+        chain: ObjectName::in_func(func, ObjectId::Chain(chain)),
+        queue,
+        packet: packet.id,
     }
 }

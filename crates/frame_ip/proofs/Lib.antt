@@ -15,3 +15,4 @@ pub mod SixWhole
 pub mod SixUnedited
 pub mod Unedited
 pub mod Families
+pub mod Reading

@@ -22,6 +22,10 @@ fields_in frame original =
     if is_four frame then Some (four.fields_at frame original)
     else (if is_six frame then Some (six.fields_at frame original) else None)
 
+-- the fields of a frame that is handled
+abbrev pub fields_at : List ℕ → ℕ → Fields
+fields_at frame original = if is_four frame then four.fields_at frame original else six.fields_at frame original
+
 -- a frame as it is seen: its captured bytes, and how many it had
 pub record Seen : Type 0 where
   pub frame : List ℕ

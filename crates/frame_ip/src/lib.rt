@@ -4,6 +4,7 @@
 mod bytes;
 mod checksum;
 mod edits;
+mod field;
 mod four_edits;
 mod four_layout;
 mod handled;
@@ -13,5 +14,6 @@ mod six_layout;
 mod words;
 
 pub use edits::edit;
+pub use field::{family_of, field_of};
 pub use handled::View;
 pub use layout::{fields, fields_of, view};

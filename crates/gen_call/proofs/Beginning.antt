@@ -1,5 +1,5 @@
 -- A run over made-up traffic that was refused or stopped before it created anything.
-use Rattle.std.proofs.Common.{◌≡◌, inl, inr, ◌+◌, Ok, Err, sym, subst}
+use Rattle.std.proofs.Common.{◌≡◌, inl, inr, Err, sym, subst}
 use Rattle.nf_base.specs.Functions.{function_of}
 use Rattle.command_words.specs.Commands.{Gen}
 use Rattle.call_base.specs.declared.loading.Found.{Found}
@@ -11,34 +11,25 @@ use Rattle.call_base.specs.declared.status.Halt.TheVariants as halts
 use Rattle.call_base.specs.declared.status.Refusal.TheVariants as refusals
 use Rattle.call_base.specs.Outside.{Outside, IsUntouched}
 use Rattle.call_base.specs.Loading.{FindsFunction, HasFoundCause}
+use Rattle.call_base.specs.Reading.{HasFound, halt_of}
 use Rattle.gen_call.specs.Who.{Serves}
 use Rattle.gen_call.specs.Ending.{GensTo}
-use Rattle.gen_call.specs.Progress.{HasFound, unfound}
 
 -- ---- the function
 
 -- there is no function
-pub is_unfound : (c : Gen) (Refused : Type 0) (before b : Outside) (why : NoFunction) → IsUntouched before.told b.told → FindsFunction before.told c.function (Err why) → HasFoundCause c.function before.told.next before.counted b.counted (Err why) → GensTo c Refused before b (Err (unfound why))
+pub is_unfound : (c : Gen) (Refused : Type 0) (before b : Outside) (why : NoFunction) → IsUntouched before.told b.told → FindsFunction before.told c.function (Err why) → HasFoundCause c.function before.told.next before.counted b.counted (Err why) → GensTo c Refused before b (Err (halt_of why))
 is_unfound c Refused before b (none.Text fault) untouched finds cause = (finds, record { untouched = untouched; asked = cause })
 is_unfound c Refused before b (none.Stop stop) untouched finds cause = inl (record { untouched = untouched; cause = cause })
 
-pub found_since : (c : Gen) (a before now : Outside) (found : Found) → a ≡ before → FindsFunction a.told c.function (Ok found) → now.told.next ≡ a.told.next + 1 → IsUntouched a.told now.told → HasFoundCause c.function a.told.next a.counted now.counted (Ok found) → HasFound c before now found
-found_since c a before now found same finds next untouched cause = subst (λ (o : Outside). HasFound c o now found) same (record {
-  is_function = finds.is_function;
-  number = finds.number;
-  from_two = finds.from_two;
-  next = next;
-  only = record { untouched = untouched; asked = cause };
-})
-
-pub none_since : (c : Gen) (Refused : Type 0) (a before now : Outside) (why : NoFunction) (halt : Halt) → a ≡ before → halt ≡ unfound why → IsUntouched a.told now.told → FindsFunction a.told c.function (Err why) → HasFoundCause c.function a.told.next a.counted now.counted (Err why) → GensTo c Refused before now (Err halt)
+pub none_since : (c : Gen) (Refused : Type 0) (a before now : Outside) (why : NoFunction) (halt : Halt) → a ≡ before → halt ≡ halt_of why → IsUntouched a.told now.told → FindsFunction a.told c.function (Err why) → HasFoundCause c.function a.told.next a.counted now.counted (Err why) → GensTo c Refused before now (Err halt)
 none_since c Refused a before now why halt same is untouched finds cause =
-    subst (λ (h : Halt). GensTo c Refused before now (Err h)) (sym is) (subst (λ (o : Outside). GensTo c Refused o now (Err (unfound why))) same (is_unfound c Refused a now why untouched finds cause))
+    subst (λ (h : Halt). GensTo c Refused before now (Err h)) (sym is) (subst (λ (o : Outside). GensTo c Refused o now (Err (halt_of why))) same (is_unfound c Refused a now why untouched finds cause))
 
 -- ---- who handles the packets
 
 -- nobody may
-pub is_unserved : (c : Gen) (Refused : Type 0) (before now : Outside) (found : Found) (halt : Halt) → HasFound c before now found → Serves c (function_of found.source.func) (Err halt) → GensTo c Refused before now (Err halt)
+pub is_unserved : (c : Gen) (Refused : Type 0) (before now : Outside) (found : Found) (halt : Halt) → HasFound c.function before now found → Serves c (function_of found.source.func) (Err halt) → GensTo c Refused before now (Err halt)
 is_unserved c Refused before now found (halts.Refusal (refusals.NoKeys why)) h none =
     (record { function = function_of found.source.func; is_function = h.is_function; needs = none.0; cause = none.1.cause; locked = none.1.locked; says = none.1.says }, h.only)
 is_unserved c Refused before now found (halts.Refusal refusals.Usage) h none = absurd none

@@ -1,7 +1,5 @@
 mod Ports
-mod Numbering
-mod Stopping
 mod Finishing
 mod Nothing
-mod Starting
+mod Workers
 mod Beginning

@@ -2,5 +2,4 @@ pub mod Numbers
 pub mod Runs
 pub mod Who
 pub mod Ending
-pub mod Leaving
 pub mod Progress

@@ -1,5 +1,5 @@
 -- The run over made-up traffic that a command asks for, and how it ends.
-use Rattle.std.specs.Prelude.{◌≡◌, ◌≢◌, ℕ, ◌+◌, ◌<◌, List, [], ◌∷◌, ◌++◌, length, Some, slice_get}
+use Rattle.std.specs.Prelude.{◌≡◌, ◌≢◌, ℕ, ◌+◌, ◌<◌, List, [], ◌∷◌, ◌++◌, length, Some}
 use Rattle.nf_base.specs.Text.{Function}
 use Rattle.nf_base.specs.declared.done.Done.{Done}
 use Rattle.nf_base.specs.declared.keys.Keys.{Keys}
@@ -16,7 +16,6 @@ use Rattle.key_synth.specs.Verdicts.{IsVerdict}
 use Rattle.key_synth.specs.Keys.{AreGiven}
 use Rattle.shard_core.specs.declared.collected.Stop.{Stop as ShareStop}
 use Rattle.sharded_run.specs.Sharded.{IsStopBehind}
-use Rattle.nf_base.specs.Names.{chain_name}
 use Rattle.stream_run.specs.Runs.{Run, course_of}
 use Rattle.traffic_run.specs.declared.asked.Asked.{Asked as Traffic}
 use Rattle.traffic_run.specs.declared.who.Who.{Who}
@@ -32,7 +31,7 @@ use Rattle.call_base.specs.declared.status.End.TheVariants.{Whole, Torn, TooMany
 use Rattle.call_base.specs.declared.status.FullShare.{FullShare}
 use Rattle.call_base.specs.declared.status.NoKeys.{NoKeys}
 use Rattle.call_base.specs.Source.{IsFunctionUnder}
-use Rattle.call_base.specs.Named.{name_bytes, SaysCause}
+use Rattle.call_base.specs.Named.{IsToldStop, SaysCause}
 use Rattle.call_base.specs.Names.{reading, created_by}
 
 -- ---- the packets
@@ -73,12 +72,6 @@ pub record IsRunOf (c : Gen) (Refused : Type 0) (told : Told) (given : List Arri
   pub is_run : IsRunBy who c.card Refused run.function given run
 
 -- ---- how it ends
-
--- a share stop as it is told, with the name of its chain
-pub record IsToldStop (f : Function) (stop : ShareStop) (full : FullShare) : Type 0 where
-  pub chain : name_bytes full.chain ≡ chain_name (slice_get f.chains stop.chain)
-  pub queue : full.queue ≡ stop.queue
-  pub packet : full.packet ≡ stop.packet.id
 
 -- Behind a run of several workers the next packet meets the share stop: its queue's share of a chain, of
 -- this name, has no index left for it.

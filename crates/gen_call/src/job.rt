@@ -1,6 +1,6 @@
 //! A run over made-up traffic that is to be done.
 
-use crate::naming::Naming;
+use call_base::layout::Layout;
 use command_words::GenCommand;
 use nf_base::func::Func;
 
@@ -9,5 +9,5 @@ use nf_base::func::Func;
 pub(crate) struct Job<'a> {
     pub(crate) command: &'a GenCommand,
     pub(crate) func: &'a Func,
-    pub(crate) naming: Naming,
+    pub(crate) layout: Layout,
 }

@@ -3,9 +3,7 @@
 #![tactic(auto)]
 
 mod job;
-mod naming;
 mod running;
-mod state;
 mod summing;
 mod who;
 

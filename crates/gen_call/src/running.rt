@@ -6,31 +6,27 @@ ghost use Rattle.packet_feed.specs.Told.{EachFile};
 ghost use Rattle.traffic_run.specs.Runs.{Serves};
 ghost use Rattle.command_words.specs.View as view;
 ghost use Rattle.call_base.specs.Names.{reading};
+ghost use Rattle.call_base.specs.Leaving.{FinishesTo, HasCreated};
 ghost use Rattle.call_base.specs.Outside.{Outside, HasOnlyAsked, seen};
-ghost use Rattle.gen_call.specs.Runs.{IsToldStop, IsWho};
+ghost use Rattle.call_base.specs.Reading.{HasFound};
+ghost use Rattle.gen_call.specs.Runs.{IsWho};
 ghost use Rattle.gen_call.specs.Ending.{GensTo};
-ghost use Rattle.gen_call.specs.Progress as progress;
-ghost use Rattle.gen_call.specs.Progress.{HasFound, IsJob, HasCreated, asked, lines_of, state_name, state_text};
-ghost use Rattle.gen_call.specs.Leaving.{PrintsTo, FinishesTo};
+ghost use Rattle.gen_call.specs.Progress.{IsJob, asked, leaves_of, lines_of, state_name, state_text};
 
 use crate::job::Job;
-use crate::naming::Naming;
-use crate::state::leave_state;
 use crate::summing::lines_on;
 use crate::who::who_of;
-use call_base::loading::{Found, NoFunction, read_function};
-use call_base::object_name::ObjectName;
+use call_base::finishing::finish;
+use call_base::layout::{Behind, Layout};
+use call_base::loading::{Found, read_function};
+use call_base::object_name::full_share;
 use call_base::opening::create_targets;
-use call_base::say::say;
-use call_base::status::{End, FullShare, Halt, Refusal};
+use call_base::status::{End, Halt};
 use command_words::GenCommand;
 use lock_mode::Gate;
-use nf_base::decl::ObjectId;
-use nf_base::func::Func;
 use nf_base::state::State;
 use nf_files::Files;
 use run_history::line::Mode;
-use shard_core::Stop as ShareStop;
 use std::alloc::Global;
 use std::sync::Wait;
 use std::thread::Threads;
@@ -38,27 +34,8 @@ use stream_run::Stop as NumberStop;
 use traffic_run::{Asked, Came, Who, run};
 use worker_turns::Turns;
 
-// Prints the lines on a run.
-fn print_lines<F: Files>(
-    alloc: Global,
-    files: &mut F,
-    job: &Job,
-    mode: Mode,
-    state: &State,
-    sent: u64,
-) -> Result<(), NumberStop>
-    requires some { 1 ≤ length job.now.func.now.handlers }
-    ensures { PrintsTo (lines_of job.now mode state.now sent) (seen (F.told files.old) (F.counted files.old))
-        (seen (F.told files.new) (F.counted files.new)) result }
-{
-    match lines_on(alloc, job.command, job.func, mode, state, sent) {
-        Ok(text) => say(files, 0, text.as_slice()),
-        Err(_) => Err(NumberStop::Memory),
-    }
-}
-
 // Leaves the last state, behind a number that was given last, and prints the lines on the run.
-fn finish<F: Files>(
+fn leave_run<F: Files>(
     alloc: Global,
     files: &mut F,
     job: &Job,
@@ -73,25 +50,10 @@ fn finish<F: Files>(
         (lines_of job.now mode state.now sent) (seen (F.told files.old) (F.counted files.old))
         (seen (F.told files.new) (F.counted files.new)) result }
 {
-    match leave_state(alloc, files, job.func, &job.command.out, state, last) {
-        Ok(()) => print_lines(alloc, files, job, mode, state, sent),
-        Err(stop) => Err(stop),
-    }
-}
-
-// The share stop of a run: the chain's name, the queue and the packet.
-fn full_share(func: &Func, stop: ShareStop) -> FullShare
-    ensures { IsToldStop (function_of func.now) stop result }
-{
-    let ShareStop {
-        chain,
-        queue,
-        packet,
-    } = stop;
-    FullShare {
-        chain: ObjectName::in_func(func, ObjectId::Chain(chain)),
-        queue,
-        packet: packet.id,
+    let out = &job.command.out;
+    match lines_on(alloc, job.command, job.func, mode, state, sent) {
+        Ok(lines) => finish(alloc, files, job.func, out, state, lines.as_slice(), last),
+        Err(_) => Err(NumberStop::Memory),
     }
 }
 
@@ -112,7 +74,8 @@ fn run_created<R: Threads + Wait + Sync, F: Files, T: Turns + Sync, G: Gate + Dr
     requires who { IsWho (asked job.now) (function_of job.now.func.now) who.now }
     requires serves { Serves (function_of job.now.func.now) who.now }
     requires created { EachFile (F.is_written files.old) targets.now }
-    requires ready { HasCreated before (seen (F.told files.old) (F.counted files.old)) job.now targets.now }
+    requires ready { let l = leaves_of (asked job.now) before job.now.layout.ports in
+        HasCreated l before (seen (F.told files.old) (F.counted files.old)) targets.now }
     ensures gens { let Refused = Rose (G.refused gate.old) (G.refused gate.new) in
         GensTo (asked job.now) Refused before (seen (F.told files.new) (F.counted files.new)) result }
 {
@@ -127,14 +90,14 @@ fn run_created<R: Threads + Wait + Sync, F: Files, T: Turns + Sync, G: Gate + Dr
         rt, alloc, files, job.func, who, asked, first, targets, turns, gate,
     ) {
         Ok(Came::Whole { mode, state, sent }) => {
-            let last = targets[job.naming.ports as usize];
-            match finish(alloc, files, job, mode, &state, sent, last) {
+            let last = targets[job.layout.ports as usize];
+            match leave_run(alloc, files, job, mode, &state, sent, last) {
                 Ok(()) => Ok(End::Whole),
-                Err(stop) => Err(job.naming.halt(stop)),
+                Err(stop) => Err(job.layout.halt(stop)),
             }
         }
         Ok(Came::Full(full)) => Ok(End::ShareFull(full_share(job.func, full.stop))),
-        Err(stop) => Err(job.naming.halt(stop)),
+        Err(stop) => Err(job.layout.halt(stop)),
     }
 }
 
@@ -159,10 +122,10 @@ fn run_served<R: Threads + Wait + Sync, F: Files, T: Turns + Sync, G: Gate + Dro
     ensures gens { let Refused = Rose (G.refused gate.old) (G.refused gate.new) in
         GensTo (asked job.now) Refused before (seen (F.told files.new) (F.counted files.new)) result }
 {
-    let Naming { first, ports } = job.naming;
+    let Layout { first, ports, .. } = job.layout;
     match create_targets(alloc, files, &job.command.out, ports, first) {
         Ok(targets) => run_created(rt, alloc, files, job, who, targets.as_slice(), turns, gate),
-        Err(stop) => Err(job.naming.halt(stop)),
+        Err(stop) => Err(job.layout.halt(stop)),
     }
 }
 
@@ -178,7 +141,7 @@ fn run_found<R: Threads + Wait + Sync, F: Files, T: Turns + Sync, G: Gate + Drop
 ) -> Result<End, Halt>
     ghost before: { Outside }
     requires flows { 1 ≤ (view.gen command.now).flows }
-    requires found { HasFound (view.gen command.now) before
+    requires found { HasFound (view.gen command.now).function before
         (seen (F.told files.old) (F.counted files.old)) found.now }
     ensures gens { let Refused = Rose (G.refused gate.old) (G.refused gate.new) in
         GensTo (view.gen command.now) Refused before
@@ -192,22 +155,14 @@ fn run_found<R: Threads + Wait + Sync, F: Files, T: Turns + Sync, G: Gate + Drop
     let job = Job {
         command,
         func,
-        naming: Naming {
+        layout: Layout {
             first: found.file,
+            captures: 0,
             ports: func.handlers.len(),
+            behind: Behind::Created,
         },
     };
     run_served(rt, alloc, files, &job, &who, turns, gate)
-}
-
-// Why there is no function under a name, for a run.
-fn unfound(none: NoFunction) -> Halt
-    ensures { result ≡ progress.unfound none }
-{
-    match none {
-        NoFunction::Text(fault) => Halt::Refusal(Refusal::Text(fault)),
-        NoFunction::Stop(stop) => Halt::Stop(stop),
-    }
 }
 
 /// Runs a function over the traffic that is asked for, and sums the run up.
@@ -228,6 +183,6 @@ pub fn generate<R: Threads + Wait + Sync, F: Files, T: Turns + Sync, G: Gate + D
 {
     match read_function(alloc, files, &command.function) {
         Ok(found) => run_found(rt, alloc, files, command, &found, turns, gate),
-        Err(none) => Err(unfound(none)),
+        Err(none) => Err(none.halt()),
     }
 }

@@ -7,30 +7,16 @@ ghost use Rattle.command_words.specs.Commands.{Gen};
 ghost use Rattle.command_words.specs.View as view;
 ghost use Rattle.command_words.specs.declared.command.ModeChoice.TheVariants.{Lock, Shard};
 ghost use Rattle.call_base.specs.Source.{HasFewPaths};
-ghost use Rattle.call_base.specs.Named.{SaysCause};
 ghost use Rattle.gen_call.specs.Who.{Serves, ServesBy};
 
 use call_base::analysing::verdict_of;
-use call_base::object_name::ObjectName;
-use call_base::status::{Halt, NoKeys, Refusal, Stop};
+use call_base::object_name::no_keys;
+use call_base::status::{Halt, Refusal, Stop};
 use command_words::{GenCommand, ModeChoice};
-use key_synth::{Cause, Verdict};
+use key_synth::Verdict;
 use nf_base::func::Func;
 use std::alloc::Global;
 use traffic_run::Who;
-
-// Why a function has no keys.
-fn no_keys(func: &Func, cause: Cause) -> NoKeys
-    ensures { SaysCause (function_of func.now) cause result }
-{
-    match cause {
-        Cause::Object { object, rule } => NoKeys::Object {
-            name: ObjectName::in_func(func, object),
-            rule,
-        },
-        Cause::Hash => NoKeys::Hash,
-    }
-}
 
 // Several share nothing where the function has keys, and else all tables, where they may.
 fn several_by(command: &GenCommand, func: &Func, verdict: Verdict) -> Result<Who, Refusal>

@@ -72,10 +72,7 @@ impl Cells {
     pub fn new(alloc: Global, count: usize) -> Result<Cells, AllocError>
         ensures { IfOk result (λ cells. cells ≡ replicate count None) }
     {
-        let mut slots = Vec::with_capacity(alloc, count)?;
-        for _index in 0..count {
-            slots.push(Slot { tag: 0, link: 0 })?;
-        }
+        let slots = vec![in alloc; Slot { tag: 0, link: 0 }; count]?;
         Ok(Cells { slots })
     }
 

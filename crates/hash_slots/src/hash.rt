@@ -18,13 +18,15 @@ fn mixed(hash: u64, by: u64) -> u64
 }
 
 /// A hash with a key's part mixed in, by one multiplication for both of the part's words.
+///
+/// The factor with the low word is added once more, so that it counts where the other one is 0.
 #[inline]
 fn stirred(hash: u64, part: u128) -> u64
     ensures { result ≡ step hash part }
 {
-    let low = (part & 0xffff_ffff_ffff_ffff) as u64;
-    let high = (part >> 64) as u64;
-    mixed(hash ^ low, high ^ FIRST)
+    let low = hash ^ (part & 0xffff_ffff_ffff_ffff) as u64;
+    let high = (part >> 64) as u64 ^ FIRST;
+    mixed(low, high).wrapping_add(low)
 }
 
 /// 32 bits of the hash of a key.

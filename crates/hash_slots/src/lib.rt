@@ -4,9 +4,11 @@
 mod cells;
 mod gap;
 mod hash;
+mod laws;
 mod probe;
 mod tags;
 
 pub use cells::Pair;
 pub use hash::tag_of;
+pub use laws::low_words_count;
 pub use tags::Slots;

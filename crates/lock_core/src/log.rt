@@ -11,10 +11,10 @@ ghost use Rattle.lock_core.specs.Steps.{AreIn, AreIn-prop};
 use crate::call::{Event, Ordered, Placed, Way};
 use crate::done::again;
 use crate::order::{place_behind, seen_by};
-use crate::tables::{WHOLE, handle_whole, is_served, sight};
+use crate::tables::{WHOLE, is_served, sight};
 use nf_base::func::Func;
 use nf_base::packet::Packet;
-use nf_engine::Look;
+use nf_engine::{Look, handle_whole};
 use std::alloc::{AllocError, Global};
 use vig_tables::Tables;
 

@@ -3,7 +3,6 @@ ghost use Rattle.std.specs.Prelude.{◌≡◌, ◌<◌, ◌↔◌, length, take,
 ghost use Rattle.nf_base.specs.declared.state.State.{State};
 ghost use Rattle.nf_base.specs.Doors.{IsServed};
 ghost use Rattle.nf_base.specs.Functions.{function_of};
-ghost use Rattle.nf_base.specs.Step.{step};
 ghost use Rattle.nf_engine.specs.View.{fixed_of};
 ghost use Rattle.nf_engine.specs.Looks.{IfDone, IfNeedsWrite};
 ghost use Rattle.lock_core.specs.Calls.{history};
@@ -13,12 +12,11 @@ ghost use Rattle.lock_core.specs.Replays.{StepsAlone, GoesAlone, AreBehind};
 
 use crate::call::{Ordered, Way};
 use crate::order::place_behind;
-use nf_base::done::Done;
 use nf_base::func::Func;
 use nf_base::packet::Packet;
 use nf_base::share::Share;
 use nf_base::value::door_of;
-use nf_engine::{Handled, Look, handle, look, replay};
+use nf_engine::{Look, look, replay};
 use std::alloc::{AllocError, Global};
 use vig_tables::Tables;
 
@@ -32,23 +30,6 @@ pub fn is_served(func: &Func, packet: &Packet) -> bool
     match &packet.fields {
         None => true,
         Some(fields) => func.handler_at(door_of(packet.id.port, fields)).is_some(),
-    }
-}
-
-/// Handles a packet in tables with the whole share, which is never full: a handler goes on in its
-/// `full` block there.
-pub(crate) fn handle_whole(tables: &mut Tables, func: &Func, packet: &Packet) -> Done
-    requires of_func { tables.old.decls ≡ func.now.chains }
-    requires whole { tables.old.share.of ≡ 1 }
-    requires port { packet.now.id.port < length func.now.handlers }
-    requires served { IsServed (function_of func.now) packet.now }
-    ensures steps { step (function_of func.now) tables.old.state packet.now result.picks
-        ≡ Some (record { state = tables.new.state; done = result }) }
-    ensures same { fixed_of tables.new ≡ fixed_of tables.old }
-{
-    match handle(tables, func, packet) {
-        Handled::Done(done) => done,
-        Handled::ShareFull(_) => unreachable!(),
     }
 }
 

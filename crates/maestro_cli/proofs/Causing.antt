@@ -22,7 +22,8 @@ use Rattle.replay_call.specs.Checked.{checked_status, IsRefused as IsUnjudged}
 use Rattle.replay_call.specs.Numbers.{numbering as replay_numbering}
 use Rattle.call_base.specs.Statuses.{end_status, refusal_status, stop_status}
 use Rattle.call_base.specs.Outside.{Outside}
-use Rattle.call_base.specs.Numbers.{Numbering, run_numbering, number_of, Faults, StopsBy}
+use Rattle.call_base.specs.Layout.{run_numbering}
+use Rattle.call_base.specs.Numbers.{Numbering, Faults, StopsBy}
 use Rattle.run_call.specs.Ending.{IsRefused, IsStopped}
 use Rattle.gen_call.specs.Numbers.{made_numbering}
 use Rattle.gen_call.specs.Ending.{IsRefused as IsUnmade, IsStopped as IsBrokenOff}
@@ -83,17 +84,17 @@ at_stopped R c before now stop (inr h) = at_stop (run_numbering before.told.next
 
 at_print : (first ports : ℕ) (names : List Asked) (old new : Counted) (stop : Stop) → IsPrintCause (asking names old) new stop → HasStatusCause (run_numbering first ports) old new (stop_status stop)
 at_print first ports names old new (stops.File file) h =
-    subst (λ (f : RunFile). CountsSome old new (number_of first ports f)) (sym h.0) (some_faulted names old new 0 (inl h.1))
+    subst (λ (f : RunFile). CountsSome old new ((run_numbering first ports).number_of f)) (sym h.0) (some_faulted names old new 0 (inl h.1))
 at_print first ports names old new stops.Memory h = asked_none names old new h
 
 at_print_alone : (first ports : ℕ) (old new : Counted) (stop : Stop) → IsPrintCause old new stop → HasStatusCause (run_numbering first ports) old new (stop_status stop)
 at_print_alone first ports old new (stops.File file) h =
-    subst (λ (f : RunFile). CountsSome old new (number_of first ports f)) (sym h.0) (record { later = h.1.later; rose = h.1.rose; first = h.1.first })
+    subst (λ (f : RunFile). CountsSome old new ((run_numbering first ports).number_of f)) (sym h.0) (record { later = h.1.later; rose = h.1.rose; first = h.1.first })
 at_print_alone first ports old new stops.Memory h = subst (CountsNone old) (sym h) (counts_none old)
 
 at_text : (name : List ℕ) (first ports : ℕ) (old new : Counted) (stop : Stop) → IsTextCause name first old new stop → HasStatusCause (run_numbering first ports) old new (stop_status stop)
 at_text name first ports old new (stops.File file) h =
-    subst (λ (f : RunFile). CountsSome old new (number_of first ports f)) (sym h.0) (some_asking _ old new first h.1)
+    subst (λ (f : RunFile). CountsSome old new ((run_numbering first ports).number_of f)) (sym h.0) (some_asking _ old new first h.1)
 at_text name first ports old new stops.Memory (inl same) = subst (CountsNone old) (sym same) (counts_none old)
 at_text name first ports old new stops.Memory (inr more) = asked_none _ old new more
 

@@ -8,7 +8,8 @@ use Rattle.call_base.specs.declared.status.RunFile.{RunFile}
 use Rattle.call_base.specs.declared.status.RunFile.TheVariants.{Nf, Capture, Journal, Output, OutJournal, State, Stdout, Stderr}
 use Rattle.call_base.specs.declared.status.Status.{Status}
 use Rattle.call_base.specs.declared.status.Status.TheVariants.{Done, Usage, Refused, FileFault, NotCapture, Torn, ShareFull, TooMany, NoKeys, Memory, Differs}
-use Rattle.call_base.specs.Numbers.{Numbering, run_numbering}
+use Rattle.call_base.specs.Layout.{run_numbering}
+use Rattle.call_base.specs.Numbers.{Numbering}
 use Rattle.call_base.specs.Source.{IsFunctionUnder}
 use Rattle.replay_call.specs.Numbers.{numbering as replay_numbering}
 use Rattle.gen_call.specs.Numbers.{made_numbering}

@@ -8,7 +8,7 @@ use Rattle.nf_base.specs.Chains.{chain_at, maps_of}
 use Rattle.nf_base.specs.Operations as step
 use Rattle.nf_base.specs.Shares.{owns, none_vacant}
 use Rattle.vig_tables.specs.Table.{is_open, FindsFull, FindsOpen}
-use Rattle.nf_engine.specs.declared.context.Input.{Input}
+use Rattle.nf_engine.specs.Input.{Input}
 use Rattle.nf_engine.specs.declared.creation.NewResult.{NewResult}
 use Rattle.nf_engine.specs.declared.creation.NewResult.TheVariants.{Made, Taken, Full, Illegal, Stopped}
 use Rattle.nf_engine.specs.Choices.{MayBe, AreGiven, are_own}
@@ -22,7 +22,7 @@ and_false true = refl
 and_false false = refl
 
 -- the next choice is made
-made_is : (p : Input) (k : ℕ) (labels : List ℕ) (chains : List Chain) (i : ℕ) (left : List ℕ) → FindsOpen (maps_of p.decls.now k) labels p.share (chain_at chains k).slots i → result_with p k labels chains (i ∷ left) ≡ step.Made i
+made_is : (p : Input) (k : ℕ) (labels : List ℕ) (chains : List Chain) (i : ℕ) (left : List ℕ) → FindsOpen (maps_of p.decls k) labels p.share (chain_at chains k).slots i → result_with p k labels chains (i ∷ left) ≡ step.Made i
 made_is p k labels chains i left h =
     let slots = (chain_at chains k).slots in
     let some = some_vacant (owns p.share) slots i h.own h.vacant in
@@ -32,14 +32,14 @@ not_part : (a b : Bool) → a ≡ false → (a && b) ≡ false
 not_part a b e = rw e refl
 
 -- the share is the whole, and full
-full_is : (p : Input) (k : ℕ) (labels : List ℕ) (chains : List Chain) (left : List ℕ) → p.share.of ≡ 1 → may_halt p ≡ false → FindsFull (maps_of p.decls.now k) labels p.share (chain_at chains k).slots → result_with p k labels chains left ≡ step.Full
+full_is : (p : Input) (k : ℕ) (labels : List ℕ) (chains : List Chain) (left : List ℕ) → p.share.of ≡ 1 → may_halt p ≡ false → FindsFull (maps_of p.decls k) labels p.share (chain_at chains k).slots → result_with p k labels chains left ≡ step.Full
 full_is p k labels chains left whole not h =
     let slots = (chain_at chains k).slots in
     let full = all_full (owns p.share) slots (owns_all p.share whole) h.full in
     rw (h.untaken, not_part (may_halt p) (none_vacant (owns p.share) slots) not, full) refl
 
 -- a `new` stops there, and the share is full
-stopped_is : (p : Input) (k : ℕ) (labels : List ℕ) (chains : List Chain) (left : List ℕ) → may_halt p ≡ true → FindsFull (maps_of p.decls.now k) labels p.share (chain_at chains k).slots → result_with p k labels chains left ≡ step.Stopped
+stopped_is : (p : Input) (k : ℕ) (labels : List ℕ) (chains : List Chain) (left : List ℕ) → may_halt p ≡ true → FindsFull (maps_of p.decls k) labels p.share (chain_at chains k).slots → result_with p k labels chains left ≡ step.Stopped
 stopped_is p k labels chains left part h = rw (h.untaken, part, h.full) refl
 
 -- a choice that is own and closed is not vacant
@@ -64,7 +64,7 @@ closed_is p k labels chains all n (Some i) at own h closed =
     rw (next_at all n i at) (illegal_is p k labels chains (i ∷ drop (suc n) all) h (chosen_illegal p (chain_at chains k).slots i (drop (suc n) all) (own_at p.share all n i own at) closed))
 
 -- an entry is made at the next choice
-comes_made : (p : Input) (taken : List ℕ) (k : ℕ) (labels : List ℕ) (chains : List Chain) (i : ℕ) → FindsOpen (maps_of p.decls.now k) labels p.share (chain_at chains k).slots i → ((all : List ℕ) → MayBe p.choices (taken ++ i ∷ []) all → MayBe p.choices taken all × (drop (length taken) all ≡ i ∷ drop (length (taken ++ i ∷ [])) all)) → ComesTo (Made i) p taken (result_with p k labels chains)
+comes_made : (p : Input) (taken : List ℕ) (k : ℕ) (labels : List ℕ) (chains : List Chain) (i : ℕ) → FindsOpen (maps_of p.decls k) labels p.share (chain_at chains k).slots i → ((all : List ℕ) → MayBe p.choices (taken ++ i ∷ []) all → MayBe p.choices taken all × (drop (length taken) all ≡ i ∷ drop (length (taken ++ i ∷ [])) all)) → ComesTo (Made i) p taken (result_with p k labels chains)
 comes_made p taken k labels chains i h front = λ all may.
     let f = front all may in
     record {

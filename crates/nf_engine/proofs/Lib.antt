@@ -4,10 +4,14 @@ pub mod Fronts
 pub mod Comings
 pub mod Answering
 pub mod Rooms
+pub mod Ending
 pub mod Undivided
 pub mod Finishing
+pub mod Steps
 pub mod QuietReads
 pub mod Unchanged
 pub mod QuietOperations
 pub mod Refusing
 pub mod Looking
+pub mod Branches
+pub mod OnCode

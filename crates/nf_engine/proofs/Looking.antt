@@ -1,5 +1,5 @@
 -- What is run without a write is a packet's step.
-use Rattle.std.proofs.Common.{◌≡◌, ◌∙◌, ap, ap₂, sym, refl, ℕ, suc, Bool, true, false, not, List, [], ◌∷◌, map, Option, Some, None, slice_get, if◌then◌else◌}
+use Rattle.std.proofs.Common.{◌≡◌, ◌∙◌, ap, ap₂, sym, refl, ℕ, suc, Bool, true, false, not, List, [], ◌∷◌, map, Option, Some, None, if◌then◌else◌}
 use Rattle.std.proofs.lemmas.Bool.{and_parts}
 use Rattle.nf_base.specs.Doors.{handler_at}
 use Rattle.nf_base.specs.Families.{door_of}
@@ -19,9 +19,9 @@ use Rattle.nf_base.specs.Step.{StepResult, step_result, step, quiet, recorded, c
 use Rattle.nf_base.specs.Text.{Block, Function}
 use Rattle.vig_tables.specs.TablesState.{TablesState}
 use Rattle.nf_engine.specs.declared.context.Context.{Context}
-use Rattle.nf_engine.specs.declared.context.Input.{Input}
+use Rattle.nf_engine.specs.Input.{Input}
 use Rattle.nf_engine.specs.declared.context.Flow.{Flow}
-use Rattle.nf_engine.specs.declared.context.Flow.TheVariants.{Falls, Ends}
+use Rattle.nf_engine.specs.declared.context.Flow.TheVariants.{Falls, Drop, Flood, To}
 use Rattle.nf_engine.specs.Handlings.{finished}
 use Rattle.nf_engine.specs.Looks.{IsQuietStep, AlwaysWrites}
 use Rattle.nf_engine.specs.Quiet.{record_after, GoesQuietly, IsToldQuiet, WritesSome}
@@ -74,7 +74,9 @@ quiet_as f s packet fields choices r b has is none told = rw (is, has, none, rw 
 
 nothing_after : (flow : Flow) → is_quiet (record_after flow []) ≡ true
 nothing_after Falls = refl
-nothing_after (Ends a) = refl
+nothing_after Drop = refl
+nothing_after Flood = refl
+nothing_after (To port) = refl
 
 only_none : (choices : List ℕ) (s : State) (done : Done) (r : StepResult) → finished choices choices s done ≡ Some r → choices ≡ []
 only_none [] s done r e = refl

@@ -11,7 +11,7 @@ use Rattle.nf_base.specs.Text.{Operation, Touch, Write, Store, Given, Expression
 use Rattle.nf_base.specs.Values.{narrowed}
 use Rattle.vig_tables.specs.TablesState.{TablesState}
 use Rattle.nf_engine.specs.declared.context.Context.{Context}
-use Rattle.nf_engine.specs.declared.context.Input.{Input}
+use Rattle.nf_engine.specs.Input.{Input}
 use Rattle.nf_engine.specs.Quiet.{DoesQuietly, Writes}
 use Rattle.nf_engine.specs.View.{context_of, input_of}
 use Rattle.nf_engine.proofs.QuietReads.{reads_quiet}

@@ -11,7 +11,7 @@ use Rattle.nf_base.specs.Shares.{owns, none_vacant}
 use Rattle.nf_base.specs.Text.{Creation}
 use Rattle.vig_tables.specs.TablesState.{TablesState, slots_at}
 use Rattle.nf_engine.specs.declared.context.Context.{Context}
-use Rattle.nf_engine.specs.declared.context.Input.{Input}
+use Rattle.nf_engine.specs.Input.{Input}
 use Rattle.nf_engine.specs.declared.quiet_block.Refusal.{Refusal}
 use Rattle.nf_engine.specs.declared.quiet_block.Refusal.TheVariants.{Taken, Full}
 use Rattle.nf_engine.specs.Quiet.{IsRefused, IsToldRefused, MakesSome}
@@ -27,15 +27,15 @@ pub record Says (p : Input) (n : Creation) (t : TablesState) (c : Context) (labe
   pub taken : is_taken (maps_of t.decls n.chain) labels (slots_at t n.chain) ≡ is_bound
   pub full : none_vacant (owns t.share) (slots_at t n.chain) ≡ none_left
 
-taken_is : (p : Input) (n : Creation) (t : TablesState) (c : Context) (labels : List ℕ) (taken full : Bool) → Says p n t c labels taken full → is_taken (maps_of p.decls.now n.chain) (all_given p t c n.labels) (slots_at t n.chain) ≡ taken
+taken_is : (p : Input) (n : Creation) (t : TablesState) (c : Context) (labels : List ℕ) (taken full : Bool) → Says p n t c labels taken full → is_taken (maps_of p.decls n.chain) (all_given p t c n.labels) (slots_at t n.chain) ≡ taken
 taken_is p n t c labels taken full h =
-    let decls : t.decls ≡ p.decls.now = ap (λ (x : Fixed). x.decls) h.over in
+    let decls : t.decls ≡ p.decls = ap (λ (x : Fixed). x.decls) h.over in
     rw (decls, h.given) at h.taken
 
 pub refused_taken : (p : Input) (n : Creation) (t : TablesState) (c : Context) (labels : List ℕ) → fixed_of t ≡ fixed_in p → labels ≡ all_given p t c n.labels → is_taken (maps_of t.decls n.chain) labels (slots_at t n.chain) ≡ true → IsRefused Taken p n t c
 refused_taken p n t c labels over given taken = λ left.
-    let decls : t.decls ≡ p.decls.now = ap (λ (x : Fixed). x.decls) over in
-    let is : is_taken (maps_of p.decls.now n.chain) (all_given p t c n.labels) (slots_at t n.chain) ≡ true = rw (decls, given) at taken in
+    let decls : t.decls ≡ p.decls = ap (λ (x : Fixed). x.decls) over in
+    let is : is_taken (maps_of p.decls n.chain) (all_given p t c n.labels) (slots_at t n.chain) ≡ true = rw (decls, given) at taken in
     rw is refl
 
 pub refused_full : (p : Input) (n : Creation) (t : TablesState) (c : Context) (labels : List ℕ) → Says p n t c labels false true → IsRefused Full p n t c

@@ -1,11 +1,8 @@
 -- What a handler keeps, block by block.
-use Rattle.std.proofs.Common.{◌≡◌, ◌∙◌, ℕ, ◌+◌, ◌<◌, All, List, [], ◌∷◌, ◌++◌, length, get_or, map, refl, ap, sym, subst, arith, Bool, cond, Some, slice_get}
+use Rattle.std.proofs.Common.{◌≡◌, ◌∙◌, ◌+◌, All, List, [], ◌∷◌, ◌++◌, refl, ap, arith, Bool, cond, Some}
 use Rattle.std.specs.List.{count_by, AllByRecursion}
 use Rattle.std.proofs.lemmas.List.Sums.{sum_by-cons, sum_by-append}
 use Rattle.std.proofs.lemmas.List.Elements.{recursion_from_All}
-use Rattle.std.proofs.lemmas.Option.{slice_get_read, slice_get-map}
-use Rattle.std.proofs.Math.ListN.{get_or-map}
-use Rattle.std.proofs.lemmas.List.{length-map}
 use Rattle.std.proofs.lemmas.List.Elements.{All-contains}
 use Rattle.nf_laws.proofs.Doors.{at_door}
 use Rattle.nf_base.specs.Functions.{function_of}
@@ -14,7 +11,6 @@ use Rattle.nf_base.specs.declared.packet.Door.{Door}
 use Rattle.nf_base.specs.Doors.{blocks, handler_at}
 use Rattle.nf_base.specs.declared.decl.ChainDecl.{ChainDecl}
 use Rattle.nf_base.specs.declared.handler.Handler.{Handler}
-use Rattle.nf_base.specs.FitsOnce.{AllFit}
 use Rattle.nf_base.specs.Limits.{Fits}
 use Rattle.nf_base.specs.Statements.{Statement, Does, Asks, Makes, statements, is_new, is_lookup, is_entry_question}
 use Rattle.nf_base.specs.Text.{Block, End, Do, Ask, Make, Question, Get, Find, Test}

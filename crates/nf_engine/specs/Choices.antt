@@ -7,7 +7,7 @@ use Rattle.std.specs.List.{list_all}
 use Rattle.nf_base.specs.Shares.{owns}
 use Rattle.vig_tables.specs.TablesState.{TablesState}
 use Rattle.nf_engine.specs.declared.context.Context.{Context}
-use Rattle.nf_engine.specs.declared.context.Input.{Input}
+use Rattle.nf_engine.specs.Input.{Input}
 use Rattle.nf_engine.specs.View.{context_of}
 
 -- the choices given, or none: then an entry gets any vacant index of the share

@@ -1,17 +1,17 @@
 -- What the interpreter's calls come to, by all the choices that a packet may have.
-use Rattle.std.specs.Prelude.{◌≡◌, ℕ, ◌+◌, ◌≤◌, Bool, IsTrue, true, false, List, length, drop, Option, Some, None, Result, Ok, Err}
+use Rattle.std.specs.Prelude.{◌≡◌, ℕ, ◌+◌, ◌≤◌, Bool, IsTrue, true, false, List, length, Option, Some, None}
 use Rattle.nf_base.specs.declared.decl.ChainDecl.{ChainDecl}
 use Rattle.nf_base.specs.Context as context
-use Rattle.nf_base.specs.Course.{NoStep, StoppedAt, exec}
+use Rattle.nf_base.specs.declared.done.Action.TheVariants as action
+use Rattle.nf_base.specs.Course.{Completion, Normal, Ended, NoStep, StoppedAt, exec}
 use Rattle.nf_base.specs.Limits.{QuestionFits, CreationFits}
 use Rattle.nf_base.specs.Text.{Block, End, Do, Ask, Make, Question, Get, Find, Test}
 use Rattle.vig_tables.specs.TablesState.{TablesState}
 use Rattle.nf_engine.specs.declared.context.Context.{Context}
-use Rattle.nf_engine.specs.declared.context.Input.{Input}
-use Rattle.nf_engine.specs.declared.context.Flow.{Flow}
-use Rattle.nf_engine.specs.declared.context.Halt.{Halt}
-use Rattle.nf_engine.specs.declared.context.Halt.TheVariants.{ShareFull, BadChoice}
-use Rattle.nf_engine.specs.View.{context_of, input_of, completion_of}
+use Rattle.nf_engine.specs.Input.{Input}
+use Rattle.nf_engine.specs.declared.context.Went.{Went}
+use Rattle.nf_engine.specs.declared.context.Went.TheVariants.{Falls, Drop, Flood, To, ShareFull, BadChoice}
+use Rattle.nf_engine.specs.View.{context_of, input_of}
 use Rattle.nf_engine.specs.Stops.{may_halt, stops_of}
 use Rattle.nf_engine.specs.Choices.{MayBe, AreGiven, Consumes, are_own, context_by}
 
@@ -67,25 +67,35 @@ Answers true t old new meant =
 Answers false t old new meant =
     (new ≡ old) × ((left : List ℕ) → meant (context_of t left old) ≡ None)
 
--- How a block goes for a share: for all choices that follow those consumed.
-abbrev pub Goes :
-    Result Flow Halt → Input → Block → TablesState → Context → TablesState → Context → Type 0
-Goes (Ok flow) p b t old u new =
+-- what a block completes as for a share, in the context that it left: for all choices that follow those
+-- consumed
+abbrev pub Comes : Input → Block → TablesState → Context → TablesState → Context → (context.Context → Completion) → Type 0
+Comes p b t old u new meant =
     (all : List ℕ)
     → MayBe p.choices new.picks all
     → Consumes p old.picks new.picks all
-    × (exec (stops_of p) (input_of p) b (context_by all t old)
-    ≡ completion_of flow (context_by all u new))
-Goes (Err (ShareFull chain)) p b t old u new =
-    IsTrue (may_halt p)
-    × ((all : List ℕ)
-    → MayBe p.choices new.picks all
-    → Consumes p old.picks new.picks all
-    × (exec (stops_of p) (input_of p) b (context_by all t old)
-    ≡ StoppedAt chain (drop (length new.picks) all)))
-Goes (Err BadChoice) p b t old u new =
+    × (exec (stops_of p) (input_of p) b (context_by all t old) ≡ meant (context_by all u new))
+
+-- how a block goes for a share
+abbrev pub Goes : Went → Input → Block → TablesState → Context → TablesState → Context → Type 0
+Goes Falls p b t old u new = Comes p b t old u new Normal
+Goes Drop p b t old u new = Comes p b t old u new (Ended action.Drop)
+Goes Flood p b t old u new = Comes p b t old u new (Ended action.Flood)
+Goes (To port) p b t old u new = Comes p b t old u new (Ended (action.To port))
+Goes (ShareFull chain) p b t old u new =
+    IsTrue (may_halt p) × Comes p b t old u new (λ c. StoppedAt chain c.left)
+Goes BadChoice p b t old u new =
     AreGiven p.choices
     × ((all : List ℕ)
     → MayBe p.choices new.picks all
     → IsTrue (are_own p.share all)
     → exec (stops_of p) (input_of p) b (context_by all t old) ≡ NoStep)
+
+-- where a block falls off its end
+abbrev pub IfFalls : Went → Type 0 → Type 0
+IfFalls Falls P = P
+IfFalls Drop P = Unit {0}
+IfFalls Flood P = Unit {0}
+IfFalls (To port) P = Unit {0}
+IfFalls (ShareFull chain) P = Unit {0}
+IfFalls BadChoice P = Unit {0}

@@ -11,7 +11,7 @@ use Rattle.nf_base.specs.Text.{Creation}
 use Rattle.vig_tables.specs.Table.{is_open, FindsFull, FindsOpen}
 use Rattle.vig_tables.specs.TablesState.{TablesState, changed}
 use Rattle.nf_engine.specs.declared.context.Context.{Context}
-use Rattle.nf_engine.specs.declared.context.Input.{Input}
+use Rattle.nf_engine.specs.Input.{Input}
 use Rattle.nf_engine.specs.declared.creation.NewResult.{NewResult}
 use Rattle.nf_engine.specs.declared.creation.NewResult.TheVariants.{Made, Taken, Full, Illegal, Stopped}
 use Rattle.nf_engine.specs.Stops.{may_halt, stops_of}
@@ -41,18 +41,18 @@ without_vacant p = if may_halt p then Stopped else Full
 -- no key is taken, and an own index is vacant
 pub record FindsSome (p : Input) (k : ℕ) (labels : List ℕ) (slots : List (Option Entry))
     : Type 0 where
-  pub untaken : is_taken (maps_of p.decls.now k) labels slots ≡ false
+  pub untaken : is_taken (maps_of p.decls k) labels slots ≡ false
   pub some : none_vacant (owns p.share) slots ≡ false
 
 -- what a `new` with these labels finds at the indices of its chain
 abbrev pub Finds : NewResult → Input → ℕ → List ℕ → List (Option Entry) → Type 0
-Finds (Made i) p chain labels slots = FindsOpen (maps_of p.decls.now chain) labels p.share slots i
-Finds Taken p chain labels slots = is_taken (maps_of p.decls.now chain) labels slots ≡ true
+Finds (Made i) p chain labels slots = FindsOpen (maps_of p.decls chain) labels p.share slots i
+Finds Taken p chain labels slots = is_taken (maps_of p.decls chain) labels slots ≡ true
 Finds Full p chain labels slots =
-    (p.share.of ≡ 1) × (may_halt p ≡ false) × FindsFull (maps_of p.decls.now chain) labels p.share slots
+    (p.share.of ≡ 1) × (may_halt p ≡ false) × FindsFull (maps_of p.decls chain) labels p.share slots
 Finds Illegal p chain labels slots = FindsSome p chain labels slots
 Finds Stopped p chain labels slots =
-    IsTrue (may_halt p) × FindsFull (maps_of p.decls.now chain) labels p.share slots
+    IsTrue (may_halt p) × FindsFull (maps_of p.decls chain) labels p.share slots
 
 -- an index that is not own or not vacant, or none
 abbrev pub IsClosed : Share → List (Option Entry) → Option ℕ → Type 0
@@ -62,7 +62,7 @@ IsClosed share slots (Some i) = is_open share slots i ≡ false
 -- the tables with the entry that a `new` made
 abbrev pub entered : NewResult → Input → ℕ → List ℕ → TablesState → TablesState
 entered (Made i) p chain labels t =
-    changed chain (stamped p.time i (fresh labels (zeros_of p.decls.now chain))) t
+    changed chain (stamped p.time i (fresh labels (zeros_of p.decls chain))) t
 entered Taken p chain labels t = t
 entered Full p chain labels t = t
 entered Illegal p chain labels t = t
@@ -72,7 +72,7 @@ entered Stopped p chain labels t = t
 abbrev pub result_with : Input → ℕ → List ℕ → List Chain → List ℕ → step.NewResult
 result_with p k labels chains left =
     let chain = chain_at chains k in
-    if is_taken (maps_of p.decls.now k) labels chain.slots then step.Taken
+    if is_taken (maps_of p.decls k) labels chain.slots then step.Taken
     else if stops_of p k chain then step.Stopped
     else if is_full chain.slots then step.Full
     else step.chosen chain.slots left

@@ -1,3 +1,4 @@
+pub mod Input
 pub mod View
 pub mod Choices
 pub mod Stops
@@ -6,3 +7,4 @@ pub mod Course
 pub mod Handlings
 pub mod Quiet
 pub mod Looks
+pub mod Ways

@@ -9,9 +9,9 @@ use Rattle.nf_base.specs.Record.{is_quiet}
 use Rattle.nf_base.specs.Text.{Block, Creation, Operation, Question}
 use Rattle.vig_tables.specs.TablesState.{TablesState}
 use Rattle.nf_engine.specs.declared.context.Context.{Context}
-use Rattle.nf_engine.specs.declared.context.Input.{Input}
+use Rattle.nf_engine.specs.Input.{Input}
 use Rattle.nf_engine.specs.declared.context.Flow.{Flow}
-use Rattle.nf_engine.specs.declared.context.Flow.TheVariants.{Falls, Ends}
+use Rattle.nf_engine.specs.declared.context.Flow.TheVariants.{Falls, Drop, Flood, To}
 use Rattle.nf_engine.specs.declared.quiet_block.Refusal.{Refusal}
 use Rattle.nf_engine.specs.declared.quiet_block.Refusal.TheVariants.{Taken, Full}
 use Rattle.nf_engine.specs.View.{context_of, input_of, completion_of}
@@ -19,7 +19,9 @@ use Rattle.nf_engine.specs.View.{context_of, input_of, completion_of}
 -- the record of what follows a block that went so
 abbrev pub record_after : Flow → List Event → List Event
 record_after Falls rest = rest
-record_after (Ends a) rest = []
+record_after Drop rest = []
+record_after Flood rest = []
+record_after (To port) rest = []
 
 -- an operation that changes no table
 pub record DoesQuietly (p : Input) (op : Operation) (t : TablesState) (old new : Context)

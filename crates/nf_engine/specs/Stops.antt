@@ -4,7 +4,7 @@ use Rattle.nf_base.specs.declared.share.Share.{Share}
 use Rattle.nf_base.specs.Chains.{is_full}
 use Rattle.nf_base.specs.Operations.{Stops}
 use Rattle.nf_base.specs.Shares.{owns, none_vacant}
-use Rattle.nf_engine.specs.declared.context.Input.{Input}
+use Rattle.nf_engine.specs.Input.{Input}
 
 -- whether one may: there are several shares, or no `new` is told that its chain is full
 abbrev pub may_stop : Bool → Share → Bool

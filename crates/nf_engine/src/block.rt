@@ -1,36 +1,55 @@
 // How a block goes.
-ghost use Rattle.std.specs.Prelude.{◌≡◌, List, ℕ, IfOk};
+ghost use Rattle.std.specs.Prelude.{◌≡◌, List, [], ℕ};
 ghost use Rattle.nf_base.specs.Context as meant;
-ghost use Rattle.nf_base.specs.Course.{sent, ended};
+ghost use Rattle.nf_base.specs.Course.{Ended, sent, ended};
 ghost use Rattle.nf_base.specs.Events.{Event, ended_by};
 ghost use Rattle.nf_base.specs.Record.{is_quiet};
-ghost use Rattle.nf_base.specs.View.{block_of, ending_of};
-ghost use Rattle.nf_engine.specs.Course.{BlockFits, HasRoom, UsesRoom, Goes};
+ghost use Rattle.nf_base.specs.View.{block_of, ending_of, expression_of};
+ghost use Rattle.nf_base.specs.Text.{Forward};
+ghost use Rattle.nf_engine.specs.Course.{BlockFits, HasRoom, UsesRoom, Goes, IfFalls};
 ghost use Rattle.nf_engine.specs.Quiet.{record_after};
-ghost use Rattle.nf_engine.specs.View.{context_of, input_of, completion_of, fixed_of, fixed_in};
+ghost use Rattle.nf_engine.specs.View.{context_of, input_of, completion_of, went_of, fixed_of, fixed_in};
 
-use crate::context::{Context, Flow, Halt, Input};
+use crate::context::{Context, Flow, Went};
 use crate::creation::{NewResult, make};
+use crate::input::Input;
 use crate::operation::operate;
 use crate::question::ask;
+use crate::reads::Reads;
 use crate::values::value;
 use nf_base::block::{Block, Ending};
-use nf_base::done::Action;
+use nf_base::expr::Expr;
 use vig_tables::Tables;
 
 /// A packet goes out at a port that there is.
-fn sent(ports: u32, port: u128) -> Action
-    ensures { result ≡ sent ports port }
+#[inline]
+fn sent(ports: u32, port: u128) -> Flow
+    ensures goes { (c : meant.Context) → completion_of result c ≡ Ended (sent ports port) c }
+    ensures ends { (es : List Event) → record_after result es ≡ [] }
 {
     if port < u128::from(ports) {
-        Action::To(port as u32)
+        Flow::To(port as u32)
     } else {
-        Action::Drop
+        Flow::Drop
     }
 }
 
+/// Where a packet goes that is sent to a port.
 #[tactic(auto, using(crate::proofs::QuietReads::reads_quiet))]
-pub fn end(tables: &Tables, context: &Context, p: &Input, ending: &Ending) -> Flow
+pub fn forward<R: Reads>(tables: &Tables, context: &Context, p: &Input<R>, port: &Expr) -> Flow
+    ensures goes { (left : List ℕ)
+        → ended (input_of p.now) (context_of tables.now left context.now)
+        (Forward (expression_of port.now))
+        ≡ completion_of result (context_of tables.now left context.now) }
+    ensures quiet { (c : meant.Context) (k : meant.Context → List Event)
+        → is_quiet (ended_by (input_of p.now) c (Forward (expression_of port.now)) k)
+        ≡ is_quiet (record_after result (k c)) }
+{
+    sent(p.ports(), value(tables, context, p, port))
+}
+
+#[tactic(auto, using(crate::proofs::QuietReads::reads_quiet))]
+pub fn end<R: Reads>(tables: &Tables, context: &Context, p: &Input<R>, ending: &Ending) -> Flow
     ensures goes { (left : List ℕ)
         → ended (input_of p.now) (context_of tables.now left context.now) (ending_of ending.now)
         ≡ completion_of result (context_of tables.now left context.now) }
@@ -40,32 +59,46 @@ pub fn end(tables: &Tables, context: &Context, p: &Input, ending: &Ending) -> Fl
 {
     match ending {
         Ending::FallsOff => Flow::Falls,
-        Ending::Forward(port) => Flow::Ends(sent(p.ports, value(tables, context, p, port))),
-        Ending::Flood => Flow::Ends(Action::Flood),
-        Ending::Discard => Flow::Ends(Action::Drop),
+        Ending::Forward(port) => forward(tables, context, p, port),
+        Ending::Flood => Flow::Flood,
+        Ending::Discard => Flow::Drop,
+    }
+}
+
+/// A block that came to its end.
+#[inline]
+pub fn went(flow: Flow) -> Went
+    ensures { result ≡ went_of flow }
+{
+    match flow {
+        Flow::Falls => Went::Falls,
+        Flow::Drop => Went::Drop,
+        Flow::Flood => Went::Flood,
+        Flow::To(port) => Went::To(port),
     }
 }
 
 /// Runs a block in its context, in a loop along its statements, calling itself for nested blocks
 /// alone.
-pub fn exec(
+#[tactic(auto, using(crate::proofs::Ending::goes_to_end))]
+pub fn exec<R: Reads>(
     tables: &mut Tables,
     context: &mut Context,
-    p: &Input,
+    p: &Input<R>,
     block: &Block,
-) -> Result<Flow, Halt>
+) -> Went
     requires over { fixed_of tables.old ≡ fixed_in p.now }
-    requires fits { BlockFits p.now.decls.now (block_of block.now) }
+    requires fits { BlockFits p.now.decls (block_of block.now) }
     requires room { HasRoom context.old (block_of block.now) }
     ensures goes { Goes result p.now (block_of block.now)
         tables.old context.old tables.new context.new }
-    ensures room { IfOk result (λ _. UsesRoom (block_of block.now) context.old context.new) }
+    ensures room { IfFalls result (UsesRoom (block_of block.now) context.old context.new) }
     ensures stays { fixed_of tables.new ≡ fixed_of tables.old }
 {
     let mut rest = block;
     loop {
         match rest {
-            Block::End(ending) => return Ok(end(tables, context, p, ending)),
+            Block::End(ending) => return went(end(tables, context, p, ending)),
             Block::Do { operation, next } => {
                 operate(tables, context, p, operation);
                 rest = next;
@@ -81,9 +114,9 @@ pub fn exec(
                 } else {
                     miss
                 };
-                match exec(tables, context, p, inner)? {
-                    Flow::Ends(action) => return Ok(Flow::Ends(action)),
-                    Flow::Falls => rest = next,
+                match exec(tables, context, p, inner) {
+                    Went::Falls => rest = next,
+                    ended => return ended,
                 }
             }
             Block::Make {
@@ -97,12 +130,12 @@ pub fn exec(
                     NewResult::Made(_) => made,
                     NewResult::Taken => taken,
                     NewResult::Full => full,
-                    NewResult::Illegal => return Err(Halt::BadChoice),
-                    NewResult::Stopped => return Err(Halt::ShareFull(creation.chain)),
+                    NewResult::Illegal => return Went::BadChoice,
+                    NewResult::Stopped => return Went::ShareFull(creation.chain),
                 };
-                match exec(tables, context, p, inner)? {
-                    Flow::Ends(action) => return Ok(Flow::Ends(action)),
-                    Flow::Falls => rest = next,
+                match exec(tables, context, p, inner) {
+                    Went::Falls => rest = next,
+                    ended => return ended,
                 }
             }
         }

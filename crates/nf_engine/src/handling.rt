@@ -1,24 +1,25 @@
 // The steps of packets, in place on tables.
 ghost use Rattle.std.specs.Prelude.{◌≡◌, ◌<◌, ◌≤◌, [], length, Some, None, IsSome, IfSome, IfNone};
 ghost use Rattle.nf_base.specs.Doors.{IsServed, handler_at};
-ghost use Rattle.nf_base.specs.Families.{door_of};
 ghost use Rattle.nf_base.specs.View.{block_of};
 ghost use Rattle.nf_base.specs.Functions.{function_of};
 ghost use Rattle.nf_base.specs.Shares.{AreOwn, share_stops};
 ghost use Rattle.nf_base.specs.Step.{step, step_by, no_edits};
 ghost use Rattle.nf_base.specs.declared.done.Action.TheVariants.{Skip};
 ghost use Rattle.nf_engine.specs.Stops.{full_stops, halts};
-ghost use Rattle.nf_engine.specs.Handlings.{IfDone, IfShareFull, StopsAt, Runs, completes_for};
+ghost use Rattle.nf_engine.specs.Handlings.{IfDone, IfShareFull, StopsAt, Runs, completes_for, done_of, end_of, IsChosen, outcome_of, IfEnds, IfStops, handled_of};
+ghost use Rattle.nf_engine.specs.Input.{packet_of};
 ghost use Rattle.nf_engine.specs.View.{action_of, fixed_of};
 
 use crate::block::exec;
-use crate::context::{Context, Flow, Halt, Input};
+use crate::context::{Context, Flow, Outcome, Went};
+use crate::input::Input;
+use crate::reads::{PacketFields, Reads};
 use nf_base::done::{Action, Done, Edits};
 use nf_base::func::Func;
 use nf_base::handler::Handler;
-use nf_base::packet::{Fields, Packet};
+use nf_base::packet::{Door, Packet};
 use nf_base::picks::Picks;
-use nf_base::value::door_of;
 use vig_tables::Tables;
 
 /// What the handling of a packet came to.
@@ -53,15 +54,47 @@ pub fn handle(tables: &mut Tables, func: &Func, packet: &Packet) -> Handled
     ensures shared { IfShareFull result (λ _. 2 ≤ tables.old.share.of) }
     ensures stays { fixed_of tables.new ≡ fixed_of tables.old }
 {
-    let Some(fields) = packet.fields else {
+    let Some(fields) = &packet.fields else {
         return Handled::Done(skipped());
     };
-    match run(tables, func, packet, fields, false, None) {
-        Ok(done) => Handled::Done(done),
-        Err(Halt::ShareFull(chain)) => Handled::ShareFull(chain),
-        // No choices are given.
-        Err(Halt::BadChoice) => unreachable!(),
-    }
+    let seen = PacketFields {
+        id: packet.id,
+        time: packet.time,
+        fields,
+    };
+    let mut context = Context::new();
+    let outcome = handle_in(tables, func, &seen, &mut context);
+    told(outcome, context)
+}
+
+/// Handles a packet in place as `handle` does, in a context that is kept from packet to packet.
+///
+/// The context's edits and indices are those of the packet where it comes to an action.
+pub fn handle_in<R: Reads>(
+    tables: &mut Tables,
+    func: &Func,
+    packet: &R,
+    context: &mut Context,
+) -> Outcome
+    requires of_func { tables.old.decls ≡ func.now.chains }
+    requires port { (R.seen packet.now).id.port < length func.now.handlers }
+    requires served { IsServed (function_of func.now) (packet_of (R.seen packet.now)) }
+    // It is the undivided step with the indices that were taken, and the share's own step too.
+    ensures done { let p = packet_of (R.seen packet.now) in IfEnds result (λ action.
+        step (function_of func.now) tables.old.state p context.new.picks
+        ≡ Some (record { state = tables.new.state; done = done_of action context.new })) }
+    ensures by_share { let p = packet_of (R.seen packet.now) in IfEnds result (λ action.
+        step_by (share_stops tables.old.share) (function_of func.now)
+        tables.old.state p context.new.picks
+        ≡ Some (record { state = tables.new.state; done = done_of action context.new })) }
+    ensures own { IfEnds result (λ _. AreOwn tables.old.share context.new.picks) }
+    ensures stop { let p = packet_of (R.seen packet.now) in IfStops result (λ chain.
+        StopsAt tables.old.share (function_of func.now) tables.old.state p chain) }
+    ensures shared { IfStops result (λ _. 2 ≤ tables.old.share.of) }
+    ensures stays { fixed_of tables.new ≡ fixed_of tables.old }
+{
+    let went = run(tables, func, packet, false, None, context);
+    outcome(went)
 }
 
 /// Handles a packet with given choices: None exactly where the share has no step with them, or one
@@ -141,34 +174,69 @@ fn replay_by(
         → step_by stops (function_of func.now) tables.old.state packet.now picks.now ≡ None) }
     ensures stays { fixed_of tables.new ≡ fixed_of tables.old }
 {
-    let Some(fields) = packet.fields else {
+    let Some(fields) = &packet.fields else {
         return if picks.len() == 0 {
             Some(skipped())
         } else {
             None
         };
     };
-    match run(tables, func, packet, fields, strict, Some(picks)) {
-        Ok(done) => if done.picks.len() < picks.len() {
-            None
-        } else {
-            Some(Done {
-                action: done.action,
-                edits: done.edits,
-                picks: picks.again(),
-            })
-        },
-        Err(_) => None,
+    let seen = PacketFields {
+        id: packet.id,
+        time: packet.time,
+        fields,
+    };
+    let mut context = Context::new();
+    match rerun(tables, func, &seen, picks, strict, &mut context) {
+        Some(action) => Some(Done {
+            action,
+            edits: *context.edits(),
+            picks: picks.again(),
+        }),
+        None => None,
     }
 }
 
-/// The handler of a port for packets with these fields, where there is one.
-pub fn handler_of<'a>(func: &'a Func, port: u32, fields: &Fields) -> &'a Handler
-    requires { IsSome (handler_at (function_of func.now) (door_of port fields.now)) }
-    ensures { handler_at (function_of func.now) (door_of port fields.now)
-        ≡ Some (block_of result.now.block) }
+/// Handles a packet with given choices, in a context that is kept.
+fn rerun<R: Reads>(
+    tables: &mut Tables,
+    func: &Func,
+    packet: &R,
+    picks: &Picks,
+    strict: bool,
+    context: &mut Context,
+) -> Option<Action>
+    requires of_func { tables.old.decls ≡ func.now.chains }
+    requires port { (R.seen packet.now).id.port < length func.now.handlers }
+    requires served { IsServed (function_of func.now) (packet_of (R.seen packet.now)) }
+    ensures by { let stops = halts strict tables.old.share in
+        let p = packet_of (R.seen packet.now) in IfSome result (λ action.
+        step_by stops (function_of func.now) tables.old.state p picks.now
+        ≡ Some (record { state = tables.new.state; done = record (done_of action context.new) { picks = picks.now } })) }
+    ensures own { IfSome result (λ _. AreOwn tables.old.share picks.now) }
+    ensures bad { let stops = halts strict tables.old.share in
+        let p = packet_of (R.seen packet.now) in IfNone result (
+        AreOwn tables.old.share picks.now
+        → step_by stops (function_of func.now) tables.old.state p picks.now ≡ None) }
+    ensures stays { fixed_of tables.new ≡ fixed_of tables.old }
 {
-    match func.handler_at(door_of(port, fields)) {
+    let went = run(tables, func, packet, strict, Some(picks), context);
+    match end_of(went) {
+        Some(action) => if context.picks.len() < picks.len() {
+            None
+        } else {
+            Some(action)
+        },
+        None => None,
+    }
+}
+
+/// The handler behind a door, where there is one.
+pub fn handler_of(func: &Func, door: Door) -> &Handler
+    requires { IsSome (handler_at (function_of func.now) door) }
+    ensures { handler_at (function_of func.now) door ≡ Some (block_of result.now.block) }
+{
+    match func.handler_at(door) {
         Some(handler) => handler,
         // There is one.
         None => unreachable!(),
@@ -176,55 +244,80 @@ pub fn handler_of<'a>(func: &'a Func, port: u32, fields: &Fields) -> &'a Handler
 }
 
 /// Runs the handler of a packet's port, after expiry.
-fn run(
+fn run<'x, R: Reads>(
     tables: &mut Tables,
-    func: &Func,
-    packet: &Packet,
-    fields: Fields,
+    func: &'x Func,
+    packet: &'x R,
     strict: bool,
-    choices: Option<&Picks>,
-) -> Result<Done, Halt>
+    choices: Option<&'x Picks>,
+    context: &mut Context,
+) -> Went
     requires of_func { tables.old.decls ≡ func.now.chains }
-    requires port { packet.now.id.port < length func.now.handlers }
-    requires served { IsServed (function_of func.now) packet.now }
-    requires handled { packet.now.fields ≡ Some fields }
-    ensures runs { let old = tables.old in
-        let meant = completes_for strict old.share (function_of func.now) old.state packet.now fields in
-        Runs result strict old.share choices.entry meant tables.new.state }
+    requires port { (R.seen packet.now).id.port < length func.now.handlers }
+    requires served { IsServed (function_of func.now) (packet_of (R.seen packet.now)) }
+    ensures runs { let old = tables.old in let seen = R.seen packet.now in
+        let meant = completes_for strict old.share (function_of func.now) old.state
+        (packet_of seen) seen.fields in
+        Runs result context.new strict old.share choices.entry meant tables.new.state }
     ensures stays { fixed_of tables.new ≡ fixed_of tables.old }
 {
-    let handler = handler_of(func, packet.id.port, &fields);
+    let door = Door {
+        port: packet.port(),
+        family: packet.family(),
+    };
+    let handler = handler_of(func, door);
     let p = Input {
         decls: func.chains.as_slice(),
         ports: func.handlers.len(),
-        time: packet.time,
-        fields,
+        packet,
         share: tables.share(),
         strict,
         choices,
     };
-    let mut context = Context::new();
-    tables.expire(packet.time);
-    match exec(tables, &mut context, &p, &handler.block) {
-        Ok(flow) => Ok(ended(flow, context)),
-        Err(halt) => Err(halt),
+    context.clear();
+    tables.expire(packet.time());
+    exec(tables, context, &p, &handler.block)
+}
+
+/// The action of a handler that came to its end.
+fn end_of(went: Went) -> Option<Action>
+    ensures { result ≡ end_of went }
+{
+    match went {
+        Went::Falls => Some(Action::Drop),
+        Went::Drop => Some(Action::Drop),
+        Went::Flood => Some(Action::Flood),
+        Went::To(port) => Some(Action::To(port)),
+        Went::ShareFull(_) => None,
+        Went::BadChoice => None,
     }
 }
 
-/// The answer of a handler that came to its end.
-fn ended(flow: Flow, context: Context) -> Done
-    ensures { let action = action_of flow in
-        result ≡ record { action = action; edits = context.edits; picks = context.picks } }
+/// What a handler comes to that was not given choices.
+pub fn outcome(went: Went) -> Outcome
+    requires { IsChosen went }
+    ensures { result ≡ outcome_of went }
 {
-    let Context {
-        vars: _,
-        edits,
-        picks,
-    } = context;
-    Done {
-        action: action_of(flow),
-        edits,
-        picks,
+    match went {
+        Went::Falls => Outcome::Drop,
+        Went::Drop => Outcome::Drop,
+        Went::Flood => Outcome::Flood,
+        Went::To(port) => Outcome::To(port),
+        Went::ShareFull(chain) => Outcome::ShareFull(chain),
+        // No choices are given.
+        Went::BadChoice => unreachable!(),
+    }
+}
+
+/// The same with all that its context holds.
+fn told(outcome: Outcome, context: Context) -> Handled
+    ensures { result ≡ handled_of outcome context }
+{
+    match outcome {
+        Outcome::Drop => Handled::Done(context.done(Action::Drop)),
+        Outcome::Flood => Handled::Done(context.done(Action::Flood)),
+        Outcome::To(port) => Handled::Done(context.done(Action::To(port))),
+        Outcome::ShareFull(chain) => Handled::ShareFull(chain),
     }
 }
 
@@ -234,7 +327,9 @@ pub fn action_of(flow: Flow) -> Action
 {
     match flow {
         Flow::Falls => Action::Drop,
-        Flow::Ends(action) => action,
+        Flow::Drop => Action::Drop,
+        Flow::Flood => Action::Flood,
+        Flow::To(port) => Action::To(port),
     }
 }
 

@@ -2,18 +2,18 @@
 ghost use Rattle.std.specs.Prelude.{◌≡◌, ◌≤◌, List, ℕ, length};
 ghost use Rattle.nf_base.specs.Chains.{touched, freed, written};
 ghost use Rattle.nf_base.specs.Context.{var_at};
-ghost use Rattle.nf_base.specs.Operations.{after, on_var, without, edited};
+ghost use Rattle.nf_base.specs.Operations.{after, on_var, without};
 ghost use Rattle.nf_base.specs.View.{operation_of};
 ghost use Rattle.vig_tables.specs.TablesState.{with_chains};
 ghost use Rattle.nf_engine.specs.View.{context_of, input_of, fixed_of};
 
-use crate::context::{Context, Input};
+use crate::context::Context;
 use crate::entry_ref::EntryRef;
+use crate::input::Input;
+use crate::reads::Reads;
 use crate::values::{given, value};
 use crate::vars::Vars;
 use nf_base::block::Operation;
-use nf_base::done::Edits;
-use nf_base::packet::Field;
 use nf_base::value::narrowed;
 use nf_base::width::Width;
 use vig_tables::Tables;
@@ -59,26 +59,12 @@ fn forget(vars: &mut Vars, var: &Option<EntryRef>)
     }
 }
 
-pub fn set(edits: &mut Edits, field: Field, v: u128)
-    ensures { edits.new ≡ edited field v edits.old }
-{
-    match field {
-        Field::SrcMac => edits.src_mac = Some((v % 0x1_0000_0000_0000) as u64),
-        Field::DstMac => edits.dst_mac = Some((v % 0x1_0000_0000_0000) as u64),
-        Field::SrcIp => edits.src_ip = Some((v % 0x1_0000_0000) as u64),
-        Field::DstIp => edits.dst_ip = Some((v % 0x1_0000_0000) as u64),
-        Field::SrcIp6 => edits.src_ip6 = Some(v),
-        Field::DstIp6 => edits.dst_ip6 = Some(v),
-        Field::Ttl => edits.ttl = Some((v % 0x100) as u64),
-        Field::SrcPort => edits.src_port = Some((v % 0x1_0000) as u64),
-        Field::DstPort => edits.dst_port = Some((v % 0x1_0000) as u64),
-        Field::Time => {}
-        Field::Length => {}
-        Field::Proto => {}
-    }
-}
-
-pub fn operate(tables: &mut Tables, context: &mut Context, p: &Input, operation: &Operation)
+pub fn operate<R: Reads>(
+    tables: &mut Tables,
+    context: &mut Context,
+    p: &Input<R>,
+    operation: &Operation,
+)
     ensures done { (left : List ℕ)
         → context_of tables.new left context.new
         ≡ after (input_of p.now) (context_of tables.old left context.old)
@@ -90,7 +76,7 @@ pub fn operate(tables: &mut Tables, context: &mut Context, p: &Input, operation:
     match operation {
         Operation::Touch { var } => {
             let at = context.vars.at(*var);
-            touch(tables, p.time, at);
+            touch(tables, p.time(), at);
         }
         Operation::Free { var } => {
             let at = context.vars.at(*var);
@@ -99,7 +85,7 @@ pub fn operate(tables: &mut Tables, context: &mut Context, p: &Input, operation:
         }
         Operation::Set { field, given: g } => {
             let v = given(tables, context, p, g);
-            set(&mut context.edits, *field, v);
+            context.edits.set(*field, v);
         }
         Operation::Write {
             var,

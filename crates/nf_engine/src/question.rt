@@ -11,19 +11,22 @@ ghost use Rattle.vig_tables.specs.TablesState.{TablesState};
 ghost use Rattle.nf_engine.specs.View.{context_of, input_of, fixed_of, fixed_in, all_given};
 ghost use Rattle.nf_engine.specs.Course.{Answers, bound_by};
 
-use crate::context::{Context, Input};
+use crate::context::Context;
 use crate::entry_ref::EntryRef;
-use crate::values::{given, key_of, value};
+use crate::input::Input;
+use crate::reads::Reads;
+use crate::values::{fill_key, given, value};
 use nf_base::block::Question;
-use nf_base::expr::{Expr, Given, Guard};
+use nf_base::expr::{Given, Guard};
+use nf_base::key::Key;
 use nf_base::value::compares;
 use vig_tables::Tables;
 
 /// The index that a `get` finds.
-fn look_up(
+fn look_up<R: Reads>(
     tables: &Tables,
     context: &Context,
-    p: &Input,
+    p: &Input<R>,
     chain: u32,
     m: u32,
     key: &[Given],
@@ -34,15 +37,16 @@ fn look_up(
         let k = all_given p.now tables.now context.now (map given_of key.now) in
         result ≡ key_found (input_of p.now) c chain m k }
 {
-    let key = key_of(tables, context, p, key);
-    tables.lookup_in(chain, m, &key)
+    let mut parts = Key::new();
+    fill_key(&mut parts, tables, context, p, key);
+    tables.lookup_in(chain, m, &parts)
 }
 
 /// The index that a `find` finds in a chain.
-fn search(
+fn search<R: Reads>(
     tables: &Tables,
     context: &Context,
-    p: &Input,
+    p: &Input<R>,
     chain: u32,
     i: u128,
     guards: &[Guard],
@@ -78,7 +82,12 @@ fn bind_found(context: &mut Context, hit: Option<u32>, chain: u32, var: u32) -> 
 }
 
 /// Whether a question hits; a variable that it binds is bound then.
-pub fn ask(tables: &Tables, context: &mut Context, p: &Input, question: &Question) -> bool
+pub fn ask<R: Reads>(
+    tables: &Tables,
+    context: &mut Context,
+    p: &Input<R>,
+    question: &Question,
+) -> bool
     requires over { fixed_of tables.now ≡ fixed_in p.now }
     requires fits { QuestionFits (question_of question.now) }
     requires room { length context.old.vars + bound_by (question_of question.now) ≤ 32 }

@@ -11,10 +11,11 @@ ghost use Rattle.nf_engine.specs.Quiet.{DoesQuietly, Writes, IsToldAsked, IsRefu
 ghost use Rattle.nf_engine.specs.View.{input_of, fixed_of, fixed_in};
 
 use crate::block::end;
-use crate::context::{Context, Flow, Input};
+use crate::context::{Context, Flow};
 use crate::entry_ref::EntryRef;
-use crate::operation::set;
+use crate::input::Input;
 use crate::question::ask;
+use crate::reads::Reads;
 use crate::values::{given, labels_of, value};
 use nf_base::block::{Block, Creation, Operation, Question};
 use nf_base::value::narrowed;
@@ -67,7 +68,12 @@ fn differs(v: u128, cell: Option<u128>) -> bool
 
 /// Does an operation that changes no table: false where it would change one.
 #[tactic(auto, using(crate::proofs::QuietReads::reads_quiet))]
-fn operate_quietly(tables: &Tables, context: &mut Context, p: &Input, operation: &Operation) -> bool
+pub fn operate_quietly<R: Reads>(
+    tables: &Tables,
+    context: &mut Context,
+    p: &Input<R>,
+    operation: &Operation,
+) -> bool
     ensures done { OnTrue result (DoesQuietly p.now (operation_of operation.now)
         tables.now context.old context.new) }
     ensures writes { OnFalse result (Writes p.now (operation_of operation.now)
@@ -77,12 +83,12 @@ fn operate_quietly(tables: &Tables, context: &mut Context, p: &Input, operation:
     match operation {
         Operation::Touch { var } => {
             let at = context.vars.at(*var);
-            !restamps(tables, p.time, at)
+            !restamps(tables, p.time(), at)
         }
         Operation::Free { var } => context.vars.at(*var).is_none(),
         Operation::Set { field, given: g } => {
             let v = given(tables, context, p, g);
-            set(&mut context.edits, *field, v);
+            context.edits.set(*field, v);
             true
         }
         Operation::Write {
@@ -109,7 +115,12 @@ fn operate_quietly(tables: &Tables, context: &mut Context, p: &Input, operation:
 
 /// Whether a question hits: nothing that it reads is changed.
 #[tactic(auto, using(crate::proofs::QuietReads::asked_quiet))]
-fn ask_quietly(tables: &Tables, context: &mut Context, p: &Input, question: &Question) -> bool
+pub fn ask_quietly<R: Reads>(
+    tables: &Tables,
+    context: &mut Context,
+    p: &Input<R>,
+    question: &Question,
+) -> bool
     requires over { fixed_of tables.now ≡ fixed_in p.now }
     requires fits { QuestionFits (question_of question.now) }
     requires room { length context.old.vars + bound_by (question_of question.now) ≤ 32 }
@@ -123,15 +134,15 @@ fn ask_quietly(tables: &Tables, context: &mut Context, p: &Input, question: &Que
 }
 
 /// Why a `new` makes no entry: None where it would make one.
-fn make_quietly(
+pub fn make_quietly<R: Reads>(
     tables: &Tables,
     context: &Context,
-    p: &Input,
+    p: &Input<R>,
     creation: &Creation,
 ) -> Option<Refusal>
     requires over { fixed_of tables.now ≡ fixed_in p.now }
     requires whole { tables.now.share.of ≡ 1 }
-    requires fits { CreationFits p.now.decls.now (creation_of creation.now) }
+    requires fits { CreationFits p.now.decls (creation_of creation.now) }
     ensures result { IfSome result (λ r.
         IsRefused r p.now (creation_of creation.now) tables.now context.now) }
     ensures told { IfSome result (λ _.
@@ -152,15 +163,15 @@ fn make_quietly(
 /// Runs a block in its context until it would write: None where it would.
 ///
 /// It goes along the statements in a loop, and calls itself for nested blocks alone.
-pub fn exec_quietly(
+pub fn exec_quietly<R: Reads>(
     tables: &Tables,
     context: &mut Context,
-    p: &Input,
+    p: &Input<R>,
     block: &Block,
 ) -> Option<Flow>
     requires over { fixed_of tables.now ≡ fixed_in p.now }
     requires whole { tables.now.share.of ≡ 1 }
-    requires fits { BlockFits p.now.decls.now (block_of block.now) }
+    requires fits { BlockFits p.now.decls (block_of block.now) }
     requires room { length context.old.vars + lookups (block_of block.now) ≤ 32 }
     ensures goes { IfSome result (λ flow. GoesQuietly flow p.now (block_of block.now)
         tables.now context.old context.new) }
@@ -193,8 +204,8 @@ pub fn exec_quietly(
                     miss
                 };
                 match exec_quietly(tables, context, p, inner)? {
-                    Flow::Ends(action) => return Some(Flow::Ends(action)),
                     Flow::Falls => rest = next,
+                    ended => return Some(ended),
                 }
             }
             Block::Make {
@@ -209,8 +220,8 @@ pub fn exec_quietly(
                     Refusal::Full => full,
                 };
                 match exec_quietly(tables, context, p, inner)? {
-                    Flow::Ends(action) => return Some(Flow::Ends(action)),
                     Flow::Falls => rest = next,
+                    ended => return Some(ended),
                 }
             }
         }

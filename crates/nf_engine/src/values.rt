@@ -4,8 +4,10 @@ ghost use Rattle.nf_base.specs.Context.{value, given, var_at, entry_in, label_of
 ghost use Rattle.nf_base.specs.View.{expression_of, given_of};
 ghost use Rattle.nf_engine.specs.View.{context_of, input_of, all_given};
 
-use crate::context::{Context, Input};
+use crate::context::Context;
+use crate::input::Input;
 use crate::labels::Labels;
+use crate::reads::Reads;
 use crate::vars::Vars;
 use nf_base::expr::{Expr, Given};
 use nf_base::key::Key;
@@ -40,18 +42,19 @@ fn column(tables: &Tables, vars: &Vars, var: u32, column: u32) -> u128
     }
 }
 
-pub fn value(tables: &Tables, context: &Context, p: &Input, e: &Expr) -> u128
+/// The value of an expression of any depth.
+fn evaluate<R: Reads>(tables: &Tables, context: &Context, p: &Input<R>, e: &Expr) -> u128
     ensures { let c = context_of tables.now [] context.now in
         result ≡ value (input_of p.now) c (expression_of e.now) }
 {
     match e {
         Expr::Number(n) => u128::from(*n),
-        Expr::Read(field) => field_of(p.time, &p.fields, *field),
+        Expr::Read(field) => p.field(*field),
         Expr::Index { var } => index(&context.vars, *var),
         Expr::Label { var, label: k } => label(tables, &context.vars, *var, *k),
         Expr::Column { var, column: k } => column(tables, &context.vars, *var, *k),
         Expr::Cell { array, at, .. } => {
-            let i = narrowed(Width::W16, value(tables, context, p, at));
+            let i = narrowed(Width::W16, evaluate(tables, context, p, at));
             tables.read(*array, i)
         }
         Expr::Both {
@@ -59,33 +62,52 @@ pub fn value(tables: &Tables, context: &Context, p: &Input, e: &Expr) -> u128
             left,
             right,
         } => {
-            let a = value(tables, context, p, left);
-            let b = value(tables, context, p, right);
+            let a = evaluate(tables, context, p, left);
+            let b = evaluate(tables, context, p, right);
             result_of(*operator, a, b)
         }
     }
 }
 
+/// The value of an expression. A number and a field, which most are, need no call.
+#[inline]
+pub fn value<R: Reads>(tables: &Tables, context: &Context, p: &Input<R>, e: &Expr) -> u128
+    ensures { let c = context_of tables.now [] context.now in
+        result ≡ value (input_of p.now) c (expression_of e.now) }
+{
+    match e {
+        Expr::Number(n) => u128::from(*n),
+        Expr::Read(field) => p.field(*field),
+        _ => evaluate(tables, context, p, e),
+    }
+}
+
 /// A value taken to the width of what it is given to.
-pub fn given(tables: &Tables, context: &Context, p: &Input, g: &Given) -> u128
+pub fn given<R: Reads>(tables: &Tables, context: &Context, p: &Input<R>, g: &Given) -> u128
     ensures { let c = context_of tables.now [] context.now in
         result ≡ given (input_of p.now) c (given_of g.now) }
 {
     narrowed(g.width, value(tables, context, p, &g.value))
 }
 
-pub fn key_of(tables: &Tables, context: &Context, p: &Input, gs: &[Given]) -> Key
-    requires { length gs.now ≤ 8 }
-    ensures { result ≡ all_given p.now tables.now context.now (map given_of gs.now) }
+/// Fills an empty key with the values that its parts are given.
+pub fn fill_key<R: Reads>(
+    key: &mut Key,
+    tables: &Tables,
+    context: &Context,
+    p: &Input<R>,
+    gs: &[Given],
+)
+    requires few { length gs.now ≤ 8 }
+    requires empty { key.old ≡ [] }
+    ensures { key.new ≡ all_given p.now tables.now context.now (map given_of gs.now) }
 {
-    let mut key = Key::new();
     for g in gs {
         key.push(given(tables, context, p, g));
     }
-    key
 }
 
-pub fn labels_of(tables: &Tables, context: &Context, p: &Input, gs: &[Given]) -> Labels
+pub fn labels_of<R: Reads>(tables: &Tables, context: &Context, p: &Input<R>, gs: &[Given]) -> Labels
     requires { length gs.now ≤ 136 }
     ensures { result ≡ all_given p.now tables.now context.now (map given_of gs.now) }
 {

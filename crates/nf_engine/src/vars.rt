@@ -33,6 +33,14 @@ impl Vars {
         }
     }
 
+    /// No variable is in scope any more.
+    #[inline]
+    pub fn clear(&mut self)
+        ensures { self.new ≡ [] }
+    {
+        self.len = 0;
+    }
+
     fn as_slice(&self) -> &[Option<EntryRef>]
         ensures { result.now ≡ self.now }
     {

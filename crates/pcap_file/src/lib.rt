@@ -15,4 +15,4 @@ pub use fault::CapFault;
 pub use form::{Endian, Form, TimeUnit};
 pub use head::Head;
 pub use reader::{Next, Reader, State};
-pub use writing::{push_header, push_record};
+pub use writing::{push_header, push_record, put_record};

@@ -71,3 +71,30 @@ pub fn push_record(
     }
     done
 }
+
+#[inline(always)]
+fn put_bytes(room: &mut [u8], at: usize, bytes: &[u8]) -> usize
+    requires { at + length bytes.now ≤ length room.old }
+    ensures end { result ≡ at + length bytes.now }
+    ensures put { take result room.new ≡ take at room.old ++ bytes.now }
+{
+    let end = at + bytes.len();
+    room[at..end].copy_from_slice(bytes);
+    end
+}
+
+/// Puts a record into some room, from a place on: where it ends.
+///
+/// What stands before that place stays.
+#[inline(always)]
+pub fn put_record(room: &mut [u8], at: usize, time: u64, original: u32, frame: &[u8]) -> usize
+    requires time { time ≤ greatest_time }
+    requires frame { length frame.now ≤ 262144 }
+    requires room { at + 16 + length frame.now ≤ length room.old }
+    ensures end { result ≡ at + 16 + length frame.now }
+    ensures put { take result room.new ≡ take at room.old ++ written_bytes (record_at time original frame.now) }
+{
+    let numbers = numbers(time, frame.len() as u32, original);
+    let middle = put_bytes(room, at, &numbers);
+    put_bytes(room, middle, frame)
+}

@@ -1,22 +1,18 @@
 -- A replay whose journal and outputs were opened and judged.
-use Rattle.std.proofs.Common.{◌≡◌, ◌≢◌, ◌⊎◌, inl, inr, ℕ, zero, suc, ◌+◌, ◌<◌, ◌≤◌, Bool, List, [], ◌∷◌, ◌++◌, length, map, get_or, Option, Some, None, Result, Ok, Err, refl, ap, ap₂, sym, subst, ◌∙◌, append_assoc, append-nil, arith}
+use Rattle.std.proofs.Common.{◌≡◌, ◌≢◌, inl, inr, ℕ, zero, suc, ◌+◌, ◌<◌, ◌≤◌, List, [], ◌∷◌, ◌++◌, length, map, get_or, Option, Some, None, Result, Ok, Err, refl, ap, sym, subst, ◌∙◌, append_assoc, append-nil, arith}
 use Rattle.std.specs.List.{slice_get, range_with_len}
 use Rattle.std.specs.Option.{option_map, option_and_then}
 use Rattle.std.proofs.lemmas.List.{length-map}
 use Rattle.std.proofs.lemmas.List.FromFn.{get_or-range_with_len, length-range_with_len}
 use Rattle.std.proofs.lemmas.Option.{slice_get_within, slice_get-map, slice_get-get_or}
-use Rattle.nf_base.specs.Doors.{six_at, six_ports}
 use Rattle.nf_base.specs.Functions.{function_of}
-use Rattle.nf_base.specs.Text.{Function}
 use Rattle.nf_base.specs.declared.keys.Keys.{Keys}
 use Rattle.nf_base.specs.declared.state.State.{State}
 use Rattle.nf_files.specs.Told.{Told}
-use Rattle.nf_files.specs.Causes.{Counted, Faulted, Asked, asking}
+use Rattle.nf_files.specs.Causes.{Counted, Faulted, asking}
 use Rattle.nf_files.specs.Pieces.{Gains}
 use Rattle.nf_files.specs.Reads.{Keeps}
-use Rattle.packet_feed.specs.Arrivals.{Arrival}
-use Rattle.packet_feed.specs.Told.{both, gathered, packets_in, packets_of, KeepsOthers}
-use Rattle.packet_feed.specs.Sources.{files_in, sixes_in}
+use Rattle.packet_feed.specs.Told.{KeepsOthers}
 use Rattle.packet_feed.specs.Feeding.{Feeding}
 use Rattle.run_history.specs.StateText.{state_text}
 use Rattle.run_history.specs.Headings.{Heading}
@@ -26,7 +22,7 @@ use Rattle.journal_read.specs.Journals.{Reading, Stands, HasNoHeader}
 use Rattle.stream_run.specs.declared.stop.Stop.{Stop as NumberStop}
 use Rattle.stream_run.specs.declared.stop.Stop.TheVariants as numbered
 use Rattle.stream_run.specs.Writing.{IsStopCause, StopsAt, StopsAmong}
-use Rattle.replay_run.specs.Turns.{Begins, rest_at, beside_of}
+use Rattle.replay_run.specs.Turns.{Begins, beside_of}
 use Rattle.replay_run.specs.Heads.{Comes}
 use Rattle.replay_run.specs.declared.begun.Begun.{Begun}
 use Rattle.replay_run.specs.declared.replayed.Replayed.{Replayed}
@@ -34,29 +30,30 @@ use Rattle.replay_run.specs.declared.replayed.Replayed.TheVariants as came
 use Rattle.replay_run.proofs.Ends.{started_while}
 use Rattle.replay_run.proofs.Heads.{comes_as}
 use Rattle.replay_run.proofs.Kept.{others_both, others_one}
-use Rattle.command_words.specs.Commands.{Replay}
+use Rattle.call_base.specs.declared.layout.Behind.TheVariants.{Read}
 use Rattle.call_base.specs.declared.status.RunFile.TheVariants.{Stdout}
 use Rattle.call_base.specs.declared.status.Stop.{Stop}
 use Rattle.call_base.specs.declared.status.Stop.TheVariants as stops
-use Rattle.call_base.specs.Outside.{Outside, IsUntouched, HasOnlyAsked}
+use Rattle.call_base.specs.Outside.{Outside, IsUntouched}
 use Rattle.call_base.specs.Names.{reading, output_name}
 use Rattle.call_base.specs.Numbers.{StopsBy}
+use Rattle.call_base.specs.Layout.{number_of, stop_named}
 use Rattle.call_base.specs.Opened.{AreOpened}
 use Rattle.call_base.specs.Printed.{Printed, PrintedFront}
 use Rattle.call_base.specs.PrintedOut.{IsPrinted, IsHalfPrinted, IsPrintCause}
 use Rattle.call_base.proofs.Asking.{asking_both, front_all}
 use Rattle.call_base.proofs.Creating.{untouched_both}
+use Rattle.call_base.proofs.Layouts.{IsNumbered, own_capture, own_read, file_stdout}
+use Rattle.call_base.proofs.Reading.{got_at, fed_next, fed_only, all_captures, packets_fed}
+use Rattle.call_base.proofs.Stops.{stopped_behind, memory_behind}
 use Rattle.replay_call.specs.declared.checked.Checked.{Checked}
 use Rattle.replay_call.specs.declared.job.Job.{Job}
-use Rattle.replay_call.specs.Numbers.{file_of, number_of, numbering, stop_named}
+use Rattle.replay_call.specs.Numbers.{numbering}
 use Rattle.replay_call.specs.Names.{inputs_of, names_of, asked_by}
-use Rattle.replay_call.specs.Contents.{HasReplayed, BeginsWith, beside_under, keys_by}
-use Rattle.replay_call.specs.Checked.{KnowsHeaders, KnowsSame, KnownAt, IsKnown, IsChecked, IsStopped, ReplaysTo, checked_by, printed_by}
+use Rattle.replay_call.specs.Contents.{BeginsWith, beside_under, keys_by}
+use Rattle.replay_call.specs.Checked.{KnowsHeaders, KnowsSame, KnownAt, IsKnown, IsChecked, IsStopped, checked_by, printed_by}
 use Rattle.replay_call.specs.Progress.{AreKeysOf, IsJob, IsSized, HasFed, HasReady, HasBegun, HasCome, asked, ports_of}
-use Rattle.replay_call.proofs.Numbering.{own_capture, own_other, own_stdout, file_of_stdout}
-use Rattle.replay_call.proofs.Stopping.{IsNumbered, stopped_behind, memory_behind}
-use Rattle.replay_call.proofs.Beginning.{job_ports, stopped_untouched}
-use Rattle.replay_call.proofs.Known.{headers_of, known_capture, known_other, due_others}
+use Rattle.replay_call.proofs.Beginning.{two_of, fed_headers, stopped_untouched, known_capture, known_other, due_others}
 
 -- ---- the names
 
@@ -76,42 +73,28 @@ has_ready before a b job captures v opened journal outputs h opens same all unto
     let here : slice_get opened 0 ≡ Some journal = ap (λ (xs : List ℕ). slice_get xs 0) same in
     let there : (i f : ℕ) → slice_get outputs i ≡ Some f → slice_get opened (suc i) ≡ Some f = λ i f e. ap (λ (xs : List ℕ). slice_get xs (suc i)) same ∙ e in
     let count : length opened ≡ suc (length outputs) = ap (λ (xs : List ℕ). length xs) same in
+    let only = fed_only h in
     record {
-      start = h.start;
-      rests = h.rests;
-      started = started_while h.start v a.told b.told
+      mid = a;
+      fed = h;
+      started = started_while h.old.told v a.told b.told
           (λ port f e.
-          let at : slice_get captures port ≡ Some f = ap (λ (fs : List ℕ). slice_get fs port) (sym h.files) ∙ e in
-          rests f (omega (arith, h.numbers port f at, slice_get_within captures port f at, h.next)))
-          h.started;
-      captures_at = h.numbers;
-      journal_at = omega (arith, opens.numbers 0 journal here, h.next, h.all);
-      outputs_at = λ i f e. omega (arith, opens.numbers (suc i) f (there i f e), h.next, h.all);
-      journal_is = opens.rests 0 journal (asked job).journal here refl ∙ h.only.untouched.contents (asked job).journal;
+          let at : slice_get captures port ≡ Some f = ap (λ (fs : List ℕ). slice_get fs port) (sym h.fresh.files) ∙ e in
+          rests f (omega (arith, h.opened.numbers port f at, slice_get_within captures port f at, fed_next h)))
+          (record { in_order = h.stands; by_port = h.by_port });
+      journal_at = omega (arith, opens.numbers 0 journal here, fed_next h, h.opened.all);
+      outputs_at = λ i f e. omega (arith, opens.numbers (suc i) f (there i f e), fed_next h, h.opened.all);
+      journal_is = opens.rests 0 journal (asked job).journal here refl ∙ only.untouched.contents (asked job).journal;
       outputs_are = λ i f e.
           let lt : i < ports_of job = omega (arith, slice_get_within outputs i f e, count, all) in
-          opens.rests (suc i) f (output_name (asked job).out i) (there i f e) (name_there (asked job).out (ports_of job) i lt) ∙ h.only.untouched.contents (output_name (asked job).out i);
+          opens.rests (suc i) f (output_name (asked job).out i) (there i f e) (name_there (asked job).out (ports_of job) i lt) ∙ only.untouched.contents (output_name (asked job).out i);
       only = record {
-        untouched = untouched_both before.told a.told b.told h.only.untouched untouched;
-        asked = counted ∙ ap (asking (map reading (names_of (asked job)))) h.only.asked ∙ asking_both (inputs_of (asked job)) (map reading (names_of (asked job))) before.counted;
+        untouched = untouched_both before.told a.told b.told only.untouched untouched;
+        asked = counted ∙ ap (asking (map reading (names_of (asked job)))) only.asked ∙ asking_both (inputs_of (asked job)) (map reading (names_of (asked job))) before.counted;
       };
     }
 
 -- ---- what was judged, by what stood under the names
-
-same_packets : (six : List Bool) (start before : Told) (port : ℕ) (captures : List ℕ) (names : List (List ℕ)) → length captures ≡ length names → ((i f : ℕ) (n : List ℕ) → slice_get captures i ≡ Some f → slice_get names i ≡ Some n → start.rest f ≡ before.content n)
-    → gathered (λ (p : ℕ) (f : ℕ). packets_in (six_at six p) p (start.rest f)) port captures ≡ gathered (λ (p : ℕ) (n : List ℕ). packets_in (six_at six p) p (before.content n)) port names
-same_packets six start before port [] [] e h = refl
-same_packets six start before port [] (n ∷ names) e h = absurd (omega (arith, e))
-same_packets six start before port (f ∷ captures) [] e h = absurd (omega (arith, e))
-same_packets six start before port (f ∷ captures) (n ∷ names) e h =
-    ap (λ (o : Option (List ℕ)). both (packets_in (six_at six port) port o) (gathered (λ (p : ℕ) (g : ℕ). packets_in (six_at six p) p (start.rest g)) (port + 1) captures)) (h 0 f n refl refl)
-    ∙ ap (both (packets_in (six_at six port) port (before.content n))) (same_packets six start before (port + 1) captures names (omega (arith, e)) (λ i g m p q. h (suc i) g m p q))
-
-file_there : (files : List ℕ) (k : ℕ) → k < length files → (file : ℕ) × (slice_get files k ≡ Some file)
-file_there [] k lt = absurd (omega (arith, lt))
-file_there (file ∷ files) zero lt = (file, refl)
-file_there (file ∷ files) (suc k) lt = file_there files k (omega (arith, lt))
 
 -- a journal whose first line was read begins with it
 begins_with : (start now : Option (List ℕ)) (v : Reading) (heading : Heading) → Stands start (Header heading ∷ []) v now → BeginsWith heading start
@@ -122,37 +105,37 @@ begins_with (Some all) (Some left) v heading h =
     (v.held ++ left, sym (h ∙ append_assoc (mine ++ []) v.held left ∙ ap (λ (l : List ℕ). l ++ (v.held ++ left)) (append-nil mine)))
 
 -- the captures are another's than the journal's file
-other_capture : (before a : Outside) (job : Job) (captures : List ℕ) (v : Feeding) (journal : ℕ) (outputs : List ℕ) → HasReady before a job captures v journal outputs → length captures ≡ ports_of job → (i f : ℕ) → slice_get captures i ≡ Some f → f ≢ journal
-other_capture before a job captures v journal outputs h all i f e = λ same. omega (arith, same, h.captures_at i f e, h.journal_at, slice_get_within captures i f e, all)
+other_capture : (before a : Outside) (job : Job) (captures : List ℕ) (v : Feeding) (journal : ℕ) (outputs : List ℕ) → HasReady before a job captures v journal outputs → (i f : ℕ) → slice_get captures i ≡ Some f → f ≢ journal
+other_capture before a job captures v journal outputs h i f e = λ same. omega (arith, same, h.fed.opened.numbers i f e, h.journal_at, slice_get_within captures i f e, h.fed.opened.all)
 
 -- and so are the outputs
 other_output : (before a : Outside) (job : Job) (captures : List ℕ) (v : Feeding) (journal : ℕ) (outputs : List ℕ) → HasReady before a job captures v journal outputs → (i f : ℕ) → slice_get outputs i ≡ Some f → f ≢ journal
 other_output before a job captures v journal outputs h i f e = λ same. omega (arith, same, h.outputs_at i f e, h.journal_at)
 
 pub has_come : (before a b : Outside) (job : Job) (keys : Option Keys) (captures : List ℕ) (v : Feeding) (begun : Begun) (outputs : List ℕ) (came : Replayed) → IsJob before job → IsSized job → HasBegun before a job captures v begun outputs → AreKeysOf (function_of job.func.now) begun.header.card keys
-    → files_in v.sources ≡ captures → sixes_in v.sources ≡ six_ports (function_of job.func.now) → length captures ≡ job.numbers.ports → length outputs ≡ job.numbers.ports
+    → length outputs ≡ job.layout.ports
     → ((start : Told) (bytes : Option (List ℕ)) → Begins begun.header v begun.lines start bytes a.told → Comes {E = NumberStop} (function_of job.func.now) keys begun.header (length captures) (beside_of v start bytes outputs a.told job.command.now.most) (Ok came))
     → KeepsOthers (captures ++ begun.lines.file ∷ outputs) a.told b.told → b.counted ≡ a.counted → HasCome before b job came
-has_come before a b job keys captures v begun outputs came is sized h of_card files six all as_many comes kept counted =
+has_come before a b job keys captures v begun outputs came is sized h of_card as_many comes kept counted =
     let c = asked job in
     let f = function_of job.func.now in
     let r = h.ready in
     let journal = begun.lines.file in
-    let ports : job.numbers.ports ≡ length c.captures = sym (length-map job.command.now.captures.items _ ∙ sized.captures) in
-    let long : length captures ≡ length c.captures = all ∙ ports in
+    let ports : job.layout.ports ≡ length c.captures = sym (length-map job.command.now.captures.items _ ∙ sized.captures) in
+    let fed = r.fed in
     let bytes = h.old.told.rest journal in
-    let one = beside_of v r.start bytes outputs a.told job.command.now.most in
-    let begins : Begins begun.header v begun.lines r.start bytes a.told = record {
-      captures = started_while r.start v h.old.told a.told (λ port g e. h.kept.rests g (other_capture before h.old job captures v journal outputs r long port g (subst (λ (fs : List ℕ). slice_get fs port ≡ Some g) files e))) r.started;
+    let one = beside_of v fed.old.told bytes outputs a.told job.command.now.most in
+    let begins : Begins begun.header v begun.lines fed.old.told bytes a.told = record {
+      captures = started_while fed.old.told v h.old.told a.told (λ port g e. h.kept.rests g (other_capture before h.old job captures v journal outputs r port g (subst (λ (fs : List ℕ). slice_get fs port ≡ Some g) fed.fresh.files e))) r.started;
       lines = h.lines;
     } in
     let here = subst (λ (ks : Option Keys). Comes {E = NumberStop} f ks begun.header (length c.captures) one (Ok came)) (sym of_card.same)
-    (subst (λ (n : ℕ). Comes {E = NumberStop} f keys begun.header n one (Ok came)) long (comes r.start bytes begins)) in
+    (subst (λ (n : ℕ). Comes {E = NumberStop} f keys begun.header n one (Ok came)) fed.opened.all (comes fed.old.told bytes begins)) in
     let others = others_both (captures ++ journal ∷ outputs) h.old.told a.told b.told (others_one captures journal outputs h.old.told a.told h.kept) kept in
     record {
       replayed = record {
         has_ports = is.has_ports;
-        captures = headers_of r.start before.told h.old.told v captures c.captures files long r.rests r.started;
+        captures = all_captures fed;
         judged = inr (record {
           heading = begun.header;
           is_heading = h.is_heading;
@@ -160,11 +143,11 @@ has_come before a b job keys captures v begun outputs came is sized h of_card fi
           verdict = of_card.verdict;
           is_verdict = of_card.is_verdict;
           comes = comes_as f (keys_by of_card.verdict) begun.header (length c.captures) one (beside_under f c before.told) (Ok came)
-              (sym (ap₂ (λ (ports : List Bool) (fs : List ℕ). packets_of ports fs r.start) six files ∙ same_packets (six_ports f) r.start before.told 0 captures c.captures long r.rests))
+              (sym (packets_fed f v fed refl refl refl))
               (sym r.journal_is)
               refl
               (λ port lt.
-              let there = file_there outputs port (omega (arith, lt, as_many, ports)) in
+              let there = got_at outputs port (omega (arith, lt, as_many, ports)) in
               sym (ap (option_and_then (λ (g : ℕ). a.told.rest g)) there.1 ∙ h.kept.rests there.0 (other_output before h.old job captures v journal outputs r port there.0 there.1) ∙ r.outputs_are port there.0 there.1))
               here;
         });
@@ -176,12 +159,12 @@ has_come before a b job keys captures v begun outputs came is sized h of_card fi
     }
 
 -- the journal begins with no first line
-pub headless : (before a b : Outside) (job : Job) (captures : List ℕ) (v : Feeding) (journal : ℕ) (outputs : List ℕ) → IsJob before job → HasReady before a job captures v journal outputs → files_in v.sources ≡ captures → length captures ≡ ports_of job
+pub headless : (before a b : Outside) (job : Job) (captures : List ℕ) (v : Feeding) (journal : ℕ) (outputs : List ℕ) → IsJob before job → HasReady before a job captures v journal outputs
     → HasNoHeader (a.told.rest journal) → Keeps a.told b.told journal → b.counted ≡ a.counted → HasCome before b job (came.Line 1)
-headless before a b job captures v journal outputs is h files all none kept counted = record {
+headless before a b job captures v journal outputs is h none kept counted = record {
   replayed = record {
     has_ports = is.has_ports;
-    captures = headers_of h.start before.told a.told v captures (asked job).captures files all h.rests h.started;
+    captures = all_captures h.fed;
     judged = inl (record { first = refl; none = subst HasNoHeader h.journal_is none });
   };
   contents = λ n. kept.contents n ∙ h.only.untouched.contents n;
@@ -192,35 +175,34 @@ headless before a b job captures v journal outputs is h files all none kept coun
 
 -- ---- a stop while lines are judged
 
-numbered_behind : (before a : Outside) (job : Job) (captures : List ℕ) (v : Feeding) (journal : ℕ) (outputs : List ℕ) (stop : NumberStop) → IsJob before job → HasReady before a job captures v journal outputs → length captures ≡ ports_of job → StopsAmong {T = Replayed} captures (journal ∷ outputs) (Err stop) → IsNumbered before.told.next (ports_of job) stop
-numbered_behind before a job captures v journal outputs numbered.Memory is h all among = tt
-numbered_behind before a job captures v journal outputs (numbered.File file) is h all (inl one) =
-    own_capture before.told.next (ports_of job) file one.0 (omega (arith, is.from_two, is.first)) (h.captures_at one.0 file one.1) (omega (arith, slice_get_within captures one.0 file one.1, all))
-numbered_behind before a job captures v journal outputs (numbered.File file) is h all (inr one) = own_other before.told.next (ports_of job) file one.0 (omega (arith, is.from_two, is.first)) (at_place one.0 one.1)
+-- a capture, the journal or an output
+at_judging : (before a : Outside) (now : Told) (job : Job) (captures : List ℕ) (v : Feeding) (journal : ℕ) (outputs : List ℕ) (stop : NumberStop) → 2 ≤ before.told.next → KnowsHeaders (asked job) before.told → HasReady before a job captures v journal outputs → StopsAmong {T = Replayed} captures (journal ∷ outputs) (Err stop)
+    → IsNumbered (numbering before.told.next (ports_of job)) stop × IsKnown (asked job) before.told now (stop_named (numbering before.told.next (ports_of job)) stop)
+at_judging before a now job captures v journal outputs numbered.Memory two known h among = (tt, tt)
+at_judging before a now job captures v journal outputs (numbered.File file) two known h (inl one) =
+    let n = ports_of job in
+    let at = h.fed.opened.numbers one.0 file one.1 in
+    let lt : one.0 < n = omega (arith, slice_get_within captures one.0 file one.1, h.fed.opened.all) in
+    (own_capture Read before.told.next n n file one.0 two at lt, known_capture (asked job) before.told now file one.0 known two at lt)
+at_judging before a now job captures v journal outputs (numbered.File file) two known h (inr one) =
+    let n = ports_of job in
+    let at = at_place one.0 one.1 in
+    (own_read before.told.next n n file one.0 two at, known_other (asked job) before.told now file one.0 known two at)
   where
     at_place : (k : ℕ) → slice_get (journal ∷ outputs) k ≡ Some file → file ≡ before.told.next + 1 + ports_of job + k
     at_place zero e = let same : journal ≡ file = cc in omega (arith, same, h.journal_at)
     at_place (suc k) e = omega (arith, h.outputs_at k file e)
 
-known_behind : (before a : Outside) (now : Told) (job : Job) (captures : List ℕ) (v : Feeding) (journal : ℕ) (outputs : List ℕ) (stop : NumberStop) → IsJob before job → HasReady before a job captures v journal outputs → length captures ≡ ports_of job → KnowsHeaders (asked job) before.told → StopsAmong {T = Replayed} captures (journal ∷ outputs) (Err stop) → IsKnown (asked job) before.told now (stop_named before.told.next (ports_of job) stop)
-known_behind before a now job captures v journal outputs numbered.Memory is h all known among = tt
-known_behind before a now job captures v journal outputs (numbered.File file) is h all known (inl one) =
-    known_capture (asked job) before.told now before.told.next (ports_of job) file one.0 known.ports (omega (arith, is.from_two, is.first)) (h.captures_at one.0 file one.1) (omega (arith, slice_get_within captures one.0 file one.1, all))
-    (λ next. λ p n lt at. known.captures p n (omega (arith, lt, slice_get_within captures one.0 file one.1, all)) at)
-known_behind before a now job captures v journal outputs (numbered.File file) is h all known (inr one) = known_other (asked job) before.told now before.told.next (ports_of job) file one.0 known (omega (arith, is.from_two, is.first)) (at_place one.0 one.1)
-  where
-    at_place : (k : ℕ) → slice_get (journal ∷ outputs) k ≡ Some file → file ≡ before.told.next + 1 + ports_of job + k
-    at_place zero e = let same : journal ≡ file = cc in omega (arith, same, h.journal_at)
-    at_place (suc k) e = omega (arith, h.outputs_at k file e)
-
-pub is_unjudged : (before a b : Outside) (job : Job) (captures : List ℕ) (v : Feeding) (journal : ℕ) (outputs : List ℕ) (stop : NumberStop) → IsJob before job → HasReady before a job captures v journal outputs → files_in v.sources ≡ captures → length captures ≡ ports_of job → KeepsOthers (captures ++ journal ∷ outputs) a.told b.told
-    → StopsAmong {T = Replayed} captures (journal ∷ outputs) (Err stop) → IsStopCause {T = Unit {0}} a.counted b.counted (Err stop) → IsStopped (asked job) before b (stop_named before.told.next (ports_of job) stop)
-is_unjudged before a b job captures v journal outputs stop is h files all kept among cause =
-    let known : KnowsHeaders (asked job) before.told = record { ports = job_ports before job is; captures = headers_of h.start before.told a.told v captures (asked job).captures files all h.rests h.started } in
-    stopped_untouched (asked job) before b (stop_named before.told.next (ports_of job) stop)
-    (record { contents = λ n. kept.contents n ∙ h.only.untouched.contents n; standard = λ g lt. kept.givens g ∙ h.only.untouched.standard g lt })
-    (stopped_behind (asked_by (asked job)) (asked_by (asked job)) before.told.next (ports_of job) before.counted a.counted b.counted stop (numbered_behind before a job captures v journal outputs stop is h all among) (front_all (asked_by (asked job))) h.only.asked cause)
-    (known_behind before a b.told job captures v journal outputs stop is h all known among) (due_others (asked job) before.told _ known)
+pub is_unjudged : (before a b : Outside) (job : Job) (captures : List ℕ) (v : Feeding) (journal : ℕ) (outputs : List ℕ) (stop : NumberStop) → IsJob before job → IsSized job → HasReady before a job captures v journal outputs → KeepsOthers (captures ++ journal ∷ outputs) a.told b.told
+    → StopsAmong {T = Replayed} captures (journal ∷ outputs) (Err stop) → IsStopCause {T = Unit {0}} a.counted b.counted (Err stop) → IsStopped (asked job) before b (stop_named (numbering before.told.next (ports_of job)) stop)
+is_unjudged before a b job captures v journal outputs stop is sized h kept among cause =
+    let n = numbering before.told.next (ports_of job) in
+    let names = asked_by (asked job) in
+    let known = fed_headers before h.mid job captures v is h.fed in
+    let at = at_judging before a b.told job captures v journal outputs stop (two_of before job is sized) known h among in
+    stopped_untouched (asked job) before b (stop_named n stop)
+    (record { contents = λ m. kept.contents m ∙ h.only.untouched.contents m; standard = λ g lt. kept.givens g ∙ h.only.untouched.standard g lt })
+    (stopped_behind n names names before.counted a.counted b.counted stop at.0 (front_all names) h.only.asked cause) at.1 (due_others (asked job) before.told _ known)
 
 -- the journal's file alone is one of all
 at_among : (captures : List ℕ) (journal : ℕ) (outputs : List ℕ) (stop : NumberStop) → StopsAt {T = Unit {0}} journal (Err stop) → StopsAmong {T = Replayed} captures (journal ∷ outputs) (Err stop)
@@ -228,28 +210,28 @@ at_among captures journal outputs numbered.Memory h = tt
 at_among captures journal outputs (numbered.File file) h = inr (0, ap (λ (n : ℕ). Some n) (sym h))
 
 -- the first line could not be read
-pub is_unbegun : (before a b : Outside) (job : Job) (captures : List ℕ) (v : Feeding) (journal : ℕ) (outputs : List ℕ) (stop : NumberStop) → IsJob before job → HasReady before a job captures v journal outputs → files_in v.sources ≡ captures → length captures ≡ ports_of job → Keeps a.told b.told journal
-    → StopsAt {T = Unit {0}} journal (Err stop) → IsStopCause {T = Unit {0}} a.counted b.counted (Err stop) → IsStopped (asked job) before b (stop_named before.told.next (ports_of job) stop)
-is_unbegun before a b job captures v journal outputs stop is h files all kept at cause =
-    is_unjudged before a b job captures v journal outputs stop is h files all (others_one captures journal outputs a.told b.told kept) (at_among captures journal outputs stop at) cause
+pub is_unbegun : (before a b : Outside) (job : Job) (captures : List ℕ) (v : Feeding) (journal : ℕ) (outputs : List ℕ) (stop : NumberStop) → IsJob before job → IsSized job → HasReady before a job captures v journal outputs → Keeps a.told b.told journal
+    → StopsAt {T = Unit {0}} journal (Err stop) → IsStopCause {T = Unit {0}} a.counted b.counted (Err stop) → IsStopped (asked job) before b (stop_named (numbering before.told.next (ports_of job)) stop)
+is_unbegun before a b job captures v journal outputs stop is sized h kept at cause =
+    is_unjudged before a b job captures v journal outputs stop is sized h (others_one captures journal outputs a.told b.told kept) (at_among captures journal outputs stop at) cause
 
 -- what follows the first line could not be judged
-pub is_unended : (before a b : Outside) (job : Job) (captures : List ℕ) (v : Feeding) (begun : Begun) (outputs : List ℕ) (stop : NumberStop) → IsJob before job → HasBegun before a job captures v begun outputs → files_in v.sources ≡ captures → length captures ≡ ports_of job → KeepsOthers (captures ++ begun.lines.file ∷ outputs) a.told b.told
-    → StopsAmong {T = Replayed} captures (begun.lines.file ∷ outputs) (Err stop) → IsStopCause {T = Unit {0}} a.counted b.counted (Err stop) → IsStopped (asked job) before b (stop_named before.told.next (ports_of job) stop)
-is_unended before a b job captures v begun outputs stop is h files all kept among cause =
-    is_unjudged before h.old b job captures v begun.lines.file outputs stop is h.ready files all
+pub is_unended : (before a b : Outside) (job : Job) (captures : List ℕ) (v : Feeding) (begun : Begun) (outputs : List ℕ) (stop : NumberStop) → IsJob before job → IsSized job → HasBegun before a job captures v begun outputs → KeepsOthers (captures ++ begun.lines.file ∷ outputs) a.told b.told
+    → StopsAmong {T = Replayed} captures (begun.lines.file ∷ outputs) (Err stop) → IsStopCause {T = Unit {0}} a.counted b.counted (Err stop) → IsStopped (asked job) before b (stop_named (numbering before.told.next (ports_of job)) stop)
+is_unended before a b job captures v begun outputs stop is sized h kept among cause =
+    is_unjudged before h.old b job captures v begun.lines.file outputs stop is sized h.ready
     (others_both (captures ++ begun.lines.file ∷ outputs) h.old.told a.told b.told (others_one captures begun.lines.file outputs h.old.told a.told h.kept) kept)
     among (subst (λ (n : Counted). IsStopCause {T = Unit {0}} n b.counted (Err stop)) h.counted cause)
 
 -- memory ran out behind the first line
-pub unkept_begun : (before now : Outside) (job : Job) (captures : List ℕ) (v : Feeding) (begun : Begun) (outputs : List ℕ) → IsJob before job → HasBegun before now job captures v begun outputs → files_in v.sources ≡ captures → length captures ≡ ports_of job → IsStopped (asked job) before now stops.Memory
-unkept_begun before now job captures v begun outputs is h files all =
+pub unkept_begun : (before now : Outside) (job : Job) (captures : List ℕ) (v : Feeding) (begun : Begun) (outputs : List ℕ) → IsJob before job → HasBegun before now job captures v begun outputs → IsStopped (asked job) before now stops.Memory
+unkept_begun before now job captures v begun outputs is h =
     let r = h.ready in
-    let known : KnowsHeaders (asked job) before.told = record { ports = job_ports before job is; captures = headers_of r.start before.told h.old.told v captures (asked job).captures files all r.rests r.started } in
+    let names = asked_by (asked job) in
     stopped_untouched (asked job) before now stops.Memory
     (record { contents = λ n. h.kept.contents n ∙ r.only.untouched.contents n; standard = λ g lt. h.kept.givens g ∙ r.only.untouched.standard g lt })
-    (memory_behind (asked_by (asked job)) (asked_by (asked job)) before.told.next (ports_of job) before.counted now.counted (front_all (asked_by (asked job))) (h.counted ∙ r.only.asked))
-    tt (due_others (asked job) before.told _ known)
+    (memory_behind (numbering before.told.next (ports_of job)) names names before.counted now.counted (front_all names) (h.counted ∙ r.only.asked))
+    tt (due_others (asked job) before.told _ (fed_headers before r.mid job captures v is r.fed))
 
 -- ---- what is told
 
@@ -286,18 +268,18 @@ printed_whole before a b job state text h is p = record {
   asked = p.counted ∙ h.asked_for;
 }
 
-print_stops : (before : Outside) (job : Job) (a b : Counted) (stop : Stop) → IsJob before job → a ≡ asking (asked_by (asked job)) before.counted → IsPrintCause a b stop → StopsBy (numbering before.told.next (ports_of job)) (asked_by (asked job)) before.counted b stop
-print_stops before job a b (stops.File file) is so_far cause = record {
+print_stops : (before : Outside) (job : Job) (a b : Counted) (stop : Stop) → 2 ≤ before.told.next → a ≡ asking (asked_by (asked job)) before.counted → IsPrintCause a b stop → StopsBy (numbering before.told.next (ports_of job)) (asked_by (asked job)) before.counted b stop
+print_stops before job a b (stops.File file) two so_far cause = record {
   front = asked_by (asked job);
   is_front = front_all (asked_by (asked job));
   cause = record {
     number = 0;
     faulted = inl (subst (λ (c : Counted). Faulted c b 0) so_far cause.1);
-    file_is = cause.0 ∙ sym (file_of_stdout before.told.next (ports_of job) (omega (arith, is.from_two, is.first)));
-    number_is = sym (ap (number_of before.told.next (ports_of job)) cause.0);
+    file_is = cause.0 ∙ sym (file_stdout Read before.told.next (ports_of job) (ports_of job) two);
+    number_is = sym (ap (number_of Read before.told.next (ports_of job) (ports_of job)) cause.0);
   };
 }
-print_stops before job a b stops.Memory is so_far cause = record { front = asked_by (asked job); is_front = front_all (asked_by (asked job)); cause = cause ∙ so_far }
+print_stops before job a b stops.Memory two so_far cause = memory_behind (numbering before.told.next (ports_of job)) (asked_by (asked job)) (asked_by (asked job)) before.counted b (front_all (asked_by (asked job))) (cause ∙ so_far)
 
 known_printed : (before : Outside) (now : Told) (job : Job) (a b : Counted) (stop : Stop) → KnowsSame (asked job) before.told → IsPrintCause a b stop → IsKnown (asked job) before.told now stop
 known_printed before now job a b (stops.File file) same cause = subst (KnownAt (asked job) before.told now) (sym cause.0) same
@@ -307,8 +289,8 @@ come_headers : (before now : Outside) (job : Job) (came : Replayed) → HasCome 
 come_headers before now job came h = record { ports = record { function = function_of job.func.now; has_ports = h.replayed.has_ports }; captures = h.replayed.captures }
 
 -- a front of it was
-pub printed_half : (before a b : Outside) (job : Job) (state : State) (text : List ℕ) (stop : Stop) → IsJob before job → HasCome before a job (came.Same state) → text ≡ state_text (function_of job.func.now) state → IsHalfPrinted a b text stop → IsStopped (asked job) before b stop
-printed_half before a b job state text stop is h same p = record {
+pub printed_half : (before a b : Outside) (job : Job) (state : State) (text : List ℕ) (stop : Stop) → 2 ≤ before.told.next → HasCome before a job (came.Same state) → text ≡ state_text (function_of job.func.now) state → IsHalfPrinted a b text stop → IsStopped (asked job) before b stop
+printed_half before a b job state text stop two h same p = record {
   contents = λ n. p.contents n ∙ h.contents n;
   stdout = inr (record {
     function = function_of job.func.now;
@@ -322,7 +304,7 @@ printed_half before a b job state text stop is h same p = record {
     });
   });
   stderr = p.stderr ∙ h.stderr;
-  stops = print_stops before job a.counted b.counted stop is h.asked_for p.cause;
+  stops = print_stops before job a.counted b.counted stop two h.asked_for p.cause;
   known = known_printed before b.told job a.counted b.counted stop (record { function = function_of job.func.now; state = state; replayed = h.replayed }) p.cause;
   due = due_others (asked job) before.told _ (come_headers before a job (came.Same state) h);
 }
@@ -333,7 +315,7 @@ unkept_come before now job came h = record {
   contents = h.contents;
   stdout = inl h.stdout;
   stderr = h.stderr;
-  stops = memory_behind (asked_by (asked job)) (asked_by (asked job)) before.told.next (ports_of job) before.counted now.counted (front_all (asked_by (asked job))) h.asked_for;
+  stops = memory_behind (numbering before.told.next (ports_of job)) (asked_by (asked job)) (asked_by (asked job)) before.counted now.counted (front_all (asked_by (asked job))) h.asked_for;
   known = tt;
   due = due_others (asked job) before.told _ (come_headers before now job came h);
 }

@@ -1,5 +1,2 @@
-mod Numbering
-mod Stopping
-mod Known
 mod Beginning
 mod Judging

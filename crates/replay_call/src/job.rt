@@ -1,6 +1,6 @@
 //! A replay that is asked for, with its function.
 
-use crate::numbers::Numbers;
+use call_base::layout::Layout;
 use command_words::ReplayCommand;
 use nf_base::func::Func;
 
@@ -9,5 +9,5 @@ use nf_base::func::Func;
 pub(crate) struct Job<'a> {
     pub(crate) command: &'a ReplayCommand,
     pub(crate) func: &'a Func,
-    pub(crate) numbers: Numbers,
+    pub(crate) layout: Layout,
 }

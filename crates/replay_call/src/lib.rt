@@ -5,7 +5,6 @@
 mod checked;
 mod job;
 mod names;
-mod numbers;
 mod replaying;
 
 pub use checked::Checked;

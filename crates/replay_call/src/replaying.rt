@@ -3,25 +3,25 @@
 //! Each function goes on from where a replay came, whatever was there before it began.
 ghost use Rattle.std.specs.Prelude.{◌≡◌, ◌+◌, ◌≤◌, ◌++◌, [], ◌∷◌, length, map, IfSome, string_bytes};
 ghost use Rattle.nf_base.specs.Functions.{function_of};
-ghost use Rattle.nf_base.specs.Doors.{six_ports};
 ghost use Rattle.packet_feed.specs.Told.{EachFile, IsApart};
-ghost use Rattle.packet_feed.specs.Sources.{files_in, sixes_in};
 ghost use Rattle.replay_run.specs.Queues.{lent};
 ghost use Rattle.replay_run.specs.declared.replayed.Replayed.TheVariants.{Same};
 ghost use Rattle.command_words.specs.View as view;
 ghost use Rattle.call_base.specs.Names.{reading};
 ghost use Rattle.call_base.specs.Source.{HasFewPaths};
 ghost use Rattle.call_base.specs.Outside.{Outside, HasOnlyAsked, seen};
+ghost use Rattle.call_base.specs.Reading.{IsFresh, HasFound, AreFrom};
 ghost use Rattle.replay_call.specs.Names.{names_of};
 ghost use Rattle.replay_call.specs.Checked.{ReplaysTo};
-ghost use Rattle.replay_call.specs.Progress.{AreKeysOf, IsSized, HasFound, IsJob, AreLatest, HasOpened, HasFed, HasReady, HasBegun, HasCome, asked, unfed, unfound};
+ghost use Rattle.replay_call.specs.Progress.{AreKeysOf, IsSized, IsJob, HasFed, HasReady, HasBegun, HasCome, asked};
 
 use crate::checked::Checked;
 use crate::job::Job;
 use crate::names::names_behind;
-use crate::numbers::Numbers;
 use call_base::analysing::verdict_of;
-use call_base::loading::{Found, NoFunction, read_function};
+use call_base::inputs::{Inputs, open_inputs};
+use call_base::layout::{Behind, Layout};
+use call_base::loading::{Found, read_function};
 use call_base::opening::open_captures;
 use call_base::say::print_out;
 use call_base::status::{Difference, Halt, Refusal, Stop};
@@ -30,11 +30,10 @@ use key_synth::Verdict;
 use nf_base::keys::Keys;
 use nf_base::state::State;
 use nf_files::Files;
-use packet_feed::{Feed, FeedFault};
+use packet_feed::Feed;
 use replay_run::{Begun, Replayed, first_line};
 use run_history::state_text::state_text;
 use std::alloc::Global;
-use stream_run::Stop as NumberStop;
 
 // Prints the text of the state that a run left.
 fn print_state<F: Files>(
@@ -89,12 +88,10 @@ fn replay_keyed<F: Files>(
     requires sized { IsSized job.now }
     requires keyed { IfSome keys (λ k. length job.now.func.now.handlers ≤ length k.now.ports) }
     requires of_card { IfSome keys (λ k. k.now.table ≡ begun.header.card.table) }
-    requires captures { files_in feed.old.sources ≡ captures.now }
-    requires six { sixes_in feed.old.sources ≡ six_ports (function_of job.now.func.now) }
-    requires new { feed.old.given ≡ 0 }
-    requires most { feed.old.most ≡ job.now.command.now.most }
-    requires all { length captures.now ≡ job.now.numbers.ports }
-    requires as_many { length outputs.now ≡ job.now.numbers.ports }
+    requires fresh { let f = function_of job.now.func.now in
+        IsFresh f job.now.command.now.most captures.now feed.old }
+    requires all { length captures.now ≡ job.now.layout.ports }
+    requires as_many { length outputs.now ≡ job.now.layout.ports }
     requires read { EachFile (F.is_read files.old) captures.now }
     requires opened { EachFile (F.is_read files.old) outputs.now }
     requires opened_journal { F.is_read files.old begun.lines.file }
@@ -110,7 +107,7 @@ fn replay_keyed<F: Files>(
         alloc, files, job.func, keys, feed, most, captures, begun, outputs,
     ) {
         Ok(came) => told(alloc, files, job, came),
-        Err(stop) => Err(job.numbers.halt(stop)),
+        Err(stop) => Err(job.layout.halt(stop)),
     }
 }
 
@@ -125,12 +122,10 @@ fn replay_begun<F: Files>(
     outputs: &[u32],
 ) -> Result<Checked, Halt>
     requires sized { IsSized job.now }
-    requires captures { files_in feed.old.sources ≡ captures.now }
-    requires six { sixes_in feed.old.sources ≡ six_ports (function_of job.now.func.now) }
-    requires new { feed.old.given ≡ 0 }
-    requires most { feed.old.most ≡ job.now.command.now.most }
-    requires all { length captures.now ≡ job.now.numbers.ports }
-    requires as_many { length outputs.now ≡ job.now.numbers.ports }
+    requires fresh { let f = function_of job.now.func.now in
+        IsFresh f job.now.command.now.most captures.now feed.old }
+    requires all { length captures.now ≡ job.now.layout.ports }
+    requires as_many { length outputs.now ≡ job.now.layout.ports }
     requires read { EachFile (F.is_read files.old) captures.now }
     requires opened { EachFile (F.is_read files.old) outputs.now }
     requires opened_journal { F.is_read files.old begun.lines.file }
@@ -169,12 +164,10 @@ fn replay_ready<F: Files>(
     outputs: &[u32],
 ) -> Result<Checked, Halt>
     requires sized { IsSized job.now }
-    requires captures { files_in feed.old.sources ≡ captures.now }
-    requires six { sixes_in feed.old.sources ≡ six_ports (function_of job.now.func.now) }
-    requires new { feed.old.given ≡ 0 }
-    requires most { feed.old.most ≡ job.now.command.now.most }
-    requires all { length captures.now ≡ job.now.numbers.ports }
-    requires as_many { length outputs.now ≡ job.now.numbers.ports }
+    requires fresh { let f = function_of job.now.func.now in
+        IsFresh f job.now.command.now.most captures.now feed.old }
+    requires all { length captures.now ≡ job.now.layout.ports }
+    requires as_many { length outputs.now ≡ job.now.layout.ports }
     requires read { EachFile (F.is_read files.old) captures.now }
     requires opened { EachFile (F.is_read files.old) outputs.now }
     requires opened_journal { F.is_read files.old journal }
@@ -187,7 +180,7 @@ fn replay_ready<F: Files>(
     match first_line(alloc, files, journal) {
         Ok(Some(begun)) => replay_begun(alloc, files, job, feed, captures, begun, outputs),
         Ok(None) => told(alloc, files, job, Replayed::Line(1)),
-        Err(stop) => Err(job.numbers.halt(stop)),
+        Err(stop) => Err(job.layout.halt(stop)),
     }
 }
 
@@ -202,15 +195,14 @@ fn replay_named<F: Files>(
     last: u32,
 ) -> Result<Checked, Halt>
     requires sized { IsSized job.now }
-    requires captures { files_in feed.old.sources ≡ captures.now }
-    requires six { sixes_in feed.old.sources ≡ six_ports (function_of job.now.func.now) }
-    requires new { feed.old.given ≡ 0 }
-    requires most { feed.old.most ≡ job.now.command.now.most }
-    requires all { length captures.now ≡ job.now.numbers.ports }
-    requires some { length names.now ≡ job.now.numbers.ports + 1 }
+    requires fresh { let f = function_of job.now.func.now in
+        IsFresh f job.now.command.now.most captures.now feed.old }
+    requires all { length captures.now ≡ job.now.layout.ports }
+    requires some { length names.now ≡ job.now.layout.ports + 1 }
     requires read { EachFile (F.is_read files.old) captures.now }
     requires last { (F.told files.old).next ≡ last + 1 }
-    requires latest { AreLatest captures.now (F.told files.old).next }
+    requires from { AreFrom (job.now.layout.first + 1) captures.now job.now.layout.ports }
+    requires next { (F.told files.old).next ≡ job.now.layout.first + 1 + job.now.layout.ports }
     ensures replays { let now = seen (F.told files.old) (F.counted files.old) in
         (before : Outside) → IsJob before job.now →
         HasFed before now job.now captures.now feed.old →
@@ -224,7 +216,7 @@ fn replay_named<F: Files>(
             ),
             None => Err(Halt::Stop(Stop::Memory)),
         },
-        Err(stop) => Err(job.numbers.halt(stop)),
+        Err(stop) => Err(job.layout.halt(stop)),
     }
 }
 
@@ -237,19 +229,18 @@ fn replay_fed<F: Files>(
     captures: &[u32],
 ) -> Result<Checked, Halt>
     requires sized { IsSized job.now }
-    requires captures { files_in feed.old.sources ≡ captures.now }
-    requires six { sixes_in feed.old.sources ≡ six_ports (function_of job.now.func.now) }
-    requires new { feed.old.given ≡ 0 }
-    requires most { feed.old.most ≡ job.now.command.now.most }
-    requires all { length captures.now ≡ job.now.numbers.ports }
+    requires fresh { let f = function_of job.now.func.now in
+        IsFresh f job.now.command.now.most captures.now feed.old }
+    requires all { length captures.now ≡ job.now.layout.ports }
     requires read { EachFile (F.is_read files.old) captures.now }
-    requires latest { AreLatest captures.now (F.told files.old).next }
+    requires from { AreFrom (job.now.layout.first + 1) captures.now job.now.layout.ports }
+    requires next { (F.told files.old).next ≡ job.now.layout.first + 1 + job.now.layout.ports }
     ensures replays { let now = seen (F.told files.old) (F.counted files.old) in
         (before : Outside) → IsJob before job.now →
         HasFed before now job.now captures.now feed.old →
         ReplaysTo (asked job.now) before (seen (F.told files.new) (F.counted files.new)) result }
 {
-    let ports = job.numbers.ports;
+    let ports = job.layout.ports;
     let last = captures[ports as usize - 1];
     let command = job.command;
     match names_behind(alloc, &command.journal, &command.out, ports) {
@@ -258,55 +249,22 @@ fn replay_fed<F: Files>(
     }
 }
 
-// Why captures can't be read, of which these are the files.
-fn unfed(numbers: Numbers, captures: &[u32], fault: FeedFault) -> Halt
-    requires { numbers.ports ≤ 4 }
-    ensures { result ≡ unfed numbers captures.now fault }
-{
-    match fault {
-        FeedFault::NotCapture { port } => Halt::Refusal(Refusal::NotCapture { port }),
-        FeedFault::File { port } => match captures.get(port as usize) {
-            Some(file) => numbers.halt(NumberStop::File(*file)),
-            None => Halt::Stop(Stop::Memory),
-        },
-        FeedFault::Memory => Halt::Stop(Stop::Memory),
-    }
-}
-
-// Reads the headers of the captures, and goes on.
-fn replay_opened<F: Files>(
-    alloc: Global,
-    files: &mut F,
-    job: &Job,
-    captures: &[u32],
-) -> Result<Checked, Halt>
-    requires sized { IsSized job.now }
-    requires all { length captures.now ≡ job.now.numbers.ports }
-    requires read { EachFile (F.is_read files.old) captures.now }
-    requires latest { AreLatest captures.now (F.told files.old).next }
-    ensures replays { let now = seen (F.told files.old) (F.counted files.old) in
-        (before : Outside) → IsJob before job.now → HasOpened before now job.now captures.now →
-        ReplaysTo (asked job.now) before (seen (F.told files.new) (F.counted files.new)) result }
-{
-    match Feed::start(alloc, files, job.func, captures, job.command.most) {
-        Ok(mut feed) => replay_fed(alloc, files, job, &mut feed, captures),
-        Err(fault) => Err(unfed(job.numbers, captures, fault)),
-    }
-}
-
 // Opens the captures, and goes on.
 fn replay_job<F: Files>(alloc: Global, files: &mut F, job: &Job) -> Result<Checked, Halt>
     requires sized { IsSized job.now }
-    requires next { (F.told files.old).next ≡ job.now.numbers.first + 1 }
+    requires next { (F.told files.old).next ≡ job.now.layout.first + 1 }
     ensures replays { let now = seen (F.told files.old) (F.counted files.old) in
         (before : Outside) → IsJob before job.now →
         HasOnlyAsked (reading (asked job.now).function ∷ []) before now →
         ReplaysTo (asked job.now) before (seen (F.told files.new) (F.counted files.new)) result }
 {
     let names = job.command.captures.as_slice();
-    match open_captures(alloc, files, names, job.numbers.first) {
-        Ok(captures) => replay_opened(alloc, files, job, captures.as_slice()),
-        Err(stop) => Err(job.numbers.halt(stop)),
+    let most = job.command.most;
+    match open_inputs(alloc, files, job.func, names, most, job.layout) {
+        Ok(Inputs { captures, mut feed }) => {
+            replay_fed(alloc, files, job, &mut feed, captures.as_slice())
+        }
+        Err(halt) => Err(halt),
     }
 }
 
@@ -320,36 +278,30 @@ fn replay_found<F: Files>(
     requires some { 1 ≤ length command.now.captures.items }
     requires few { length command.now.captures.items ≤ 4 }
     requires few_paths { HasFewPaths (function_of found.now.source.func) }
+    requires from_two { 2 ≤ found.now.file }
     requires next { (F.told files.old).next ≡ found.now.file + 1 }
     ensures replays { let now = seen (F.told files.old) (F.counted files.old) in
-        (before : Outside) → HasFound (view.replay command.now) before now found.now →
+        (before : Outside) → HasFound (view.replay command.now).function before now found.now →
         ReplaysTo (view.replay command.now) before
         (seen (F.told files.new) (F.counted files.new)) result }
 {
     let func = &found.source.func;
-    if command.captures.len() != func.handlers.len() as usize {
+    let ports = func.handlers.len();
+    if command.captures.len() != ports as usize {
         return Err(Halt::Refusal(Refusal::Usage));
     }
-    let numbers = Numbers {
+    let layout = Layout {
         first: found.file,
-        ports: func.handlers.len(),
+        captures: ports,
+        ports,
+        behind: Behind::Read,
     };
     let job = Job {
         command,
         func,
-        numbers,
+        layout,
     };
     replay_job(alloc, files, &job)
-}
-
-// Why there is no function under a name, for a replay.
-fn unfound(none: NoFunction) -> Halt
-    ensures { result ≡ unfound none }
-{
-    match none {
-        NoFunction::Text(fault) => Halt::Refusal(Refusal::Text(fault)),
-        NoFunction::Stop(stop) => Halt::Stop(stop),
-    }
 }
 
 /// Does the replay that is asked for.
@@ -369,6 +321,6 @@ pub fn replay<F: Files>(
 {
     match read_function(alloc, files, &command.function) {
         Ok(found) => replay_found(alloc, files, command, &found),
-        Err(none) => Err(unfound(none)),
+        Err(none) => Err(none.halt()),
     }
 }

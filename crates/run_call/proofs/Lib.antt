@@ -1,5 +1,4 @@
-pub mod Finishing
-pub mod Starting
-pub mod Sharing
-pub mod Sharding
-pub mod Beginning
+mod Beginning
+mod Ends
+mod Finishing
+mod Workers

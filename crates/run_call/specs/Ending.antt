@@ -16,7 +16,7 @@ use Rattle.call_base.specs.declared.status.Halt.{Halt}
 use Rattle.call_base.specs.declared.status.Halt.TheVariants as halts
 use Rattle.call_base.specs.Outside.{Outside, IsUntouched, HasOnlyAsked}
 use Rattle.call_base.specs.Names.{reading, inputs_of, asked_by, asked_until, name_at}
-use Rattle.call_base.specs.Numbers.{Stops}
+use Rattle.call_base.specs.Layout.{Stops}
 use Rattle.call_base.specs.Far.{IsFar}
 use Rattle.call_base.specs.Captures.{Below}
 use Rattle.call_base.specs.Created.{Left, bytes_at}

@@ -12,14 +12,13 @@ use Rattle.stream_run.specs.Streaming.{AreFirst}
 use Rattle.key_synth.specs.Keys.{AreGiven}
 use Rattle.shard_core.specs.declared.collected.Stop.{Stop as ShareStop}
 use Rattle.sharded_run.specs.Sharded.{IsShardRun, IsStopBehind, AreBefore}
-use Rattle.nf_base.specs.Names.{chain_name}
 use Rattle.command_words.specs.Commands.{Run as RunAsked}
 use Rattle.call_base.specs.declared.status.End.{End}
 use Rattle.call_base.specs.declared.status.End.TheVariants.{Whole, Torn, TooMany, ShareFull}
 use Rattle.call_base.specs.declared.status.FullShare.{FullShare}
 use Rattle.call_base.specs.declared.status.NoKeys.{NoKeys}
 use Rattle.call_base.specs.Source.{IsFunctionUnder}
-use Rattle.call_base.specs.Named.{name_bytes}
+use Rattle.call_base.specs.Named.{IsToldStop}
 use Rattle.call_base.specs.Captures.{packets_under, Below}
 use Rattle.run_call.specs.Modes.{NeedsKeys, HasKeys, IsLocked, MayShard, ShareTables}
 use Rattle.run_history.specs.declared.line.Mode.TheVariants.{Shard}
@@ -81,12 +80,6 @@ pub record IsLeastTear (told : Told) (names : List (List ℕ)) (port offset : �
   pub at : slice_get names port ≡ Some name
   pub torn : IsTear (told.content name) (Some (Some offset))
   pub lesser : Below (λ bytes. IsTear bytes (Some None)) told names port
-
--- a share stop as it is told, with the name of its chain
-pub record IsToldStop (f : Function) (stop : ShareStop) (full : FullShare) : Type 0 where
-  pub chain : name_bytes full.chain ≡ chain_name (slice_get f.chains stop.chain)
-  pub queue : full.queue ≡ stop.queue
-  pub packet : full.packet ≡ stop.packet.id
 
 -- Behind a run of several workers the next packet of the captures meets the share stop: its queue's
 -- share of a chain, of this name, has no index left for it.

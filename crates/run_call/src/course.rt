@@ -5,13 +5,12 @@ ghost use Rattle.key_synth.specs.Verdicts.{IsVerdict, Separates};
 ghost use Rattle.command_words.specs.View as view;
 ghost use Rattle.call_base.specs.Source.{HasFewPaths};
 ghost use Rattle.run_call.specs.Modes.{Asks, Serves, ServesBy};
-ghost use Rattle.call_base.specs.Named.{SaysCause};
 
 use call_base::analysing::verdict_of;
-use call_base::object_name::ObjectName;
-use call_base::status::{Halt, NoKeys, Refusal, Stop};
+use call_base::object_name::no_keys;
+use call_base::status::{Halt, Refusal, Stop};
 use command_words::{ModeChoice, RunCommand};
-use key_synth::{Cause, Verdict};
+use key_synth::Verdict;
 use nf_base::func::Func;
 use nf_base::keys::Keys;
 use std::alloc::Global;
@@ -25,19 +24,6 @@ pub enum Course {
     Shards(Keys),
     /// Several, which share the tables.
     Tables,
-}
-
-// Why a function has no keys.
-fn no_keys(func: &Func, cause: Cause) -> NoKeys
-    ensures { SaysCause (function_of func.now) cause result }
-{
-    match cause {
-        Cause::Object { object, rule } => NoKeys::Object {
-            name: ObjectName::in_func(func, object),
-            rule,
-        },
-        Cause::Hash => NoKeys::Hash,
-    }
 }
 
 // Who handles the packets, where this is the verdict on the function.

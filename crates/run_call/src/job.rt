@@ -1,7 +1,7 @@
 //! A run that is to be done.
 
 use crate::course::Course;
-use call_base::numbers::Numbers;
+use call_base::layout::Layout;
 use command_words::RunCommand;
 use nf_base::func::Func;
 
@@ -12,5 +12,5 @@ pub struct Job<'a> {
     pub command: &'a RunCommand,
     pub func: &'a Func,
     pub course: &'a Course,
-    pub numbers: Numbers,
+    pub layout: Layout,
 }

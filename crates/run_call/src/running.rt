@@ -6,37 +6,34 @@ ghost use Rattle.packet_feed.specs.Told.{EachFile};
 ghost use Rattle.command_words.specs.View as view;
 ghost use Rattle.call_base.specs.Names.{reading};
 ghost use Rattle.call_base.specs.Outside.{Outside, HasOnlyAsked, seen};
+ghost use Rattle.call_base.specs.Reading.{HasFound};
 ghost use Rattle.run_call.specs.Ending.{RunsTo};
 ghost use Rattle.run_call.specs.Modes.{IsCourse, Serves};
-ghost use Rattle.run_call.specs.Runs.{left_by, IsToldStop};
-ghost use Rattle.run_call.specs.Progress as progress;
-ghost use Rattle.run_call.specs.Progress.{HasFound, IsJob, HasOpened, HasFed, HasReady, HasRun, HasEnded, asked, ports_of, unfed, unfound};
+ghost use Rattle.run_call.specs.Progress.{IsJob, HasFed, HasReady, asked};
 ghost use Rattle.run_call.specs.declared.course.Course.TheVariants.{Shards, Tables};
 ghost use Rattle.lock_mode.specs.Gates.{Rose};
 
 use crate::course::{Course, course_of};
 use crate::job::Job;
 use crate::leaving::{leave_ran, print_ran};
-use call_base::loading::{Found, NoFunction, read_function};
-use call_base::numbers::Numbers;
-use call_base::object_name::ObjectName;
-use call_base::opening::{create_targets, open_captures};
-use call_base::status::{End, FullShare, Halt, Refusal, Stop};
+use call_base::inputs::{Inputs, open_inputs};
+use call_base::layout::{Behind, Layout};
+use call_base::loading::{Found, read_function};
+use call_base::object_name::full_share;
+use call_base::opening::create_targets;
+use call_base::status::{End, Halt, Refusal};
 use command_words::RunCommand;
 use lock_mode::Gate;
 use locked_run::run as run_locked;
-use nf_base::decl::ObjectId;
-use nf_base::func::Func;
 use nf_base::keys::Keys;
 use nf_files::Files;
-use packet_feed::{Feed, FeedFault};
+use packet_feed::Feed;
 use run_history::line::Mode;
-use shard_core::Stop as ShareStop;
 use sharded_run::{Came, run as run_sharded};
 use std::alloc::Global;
 use std::sync::Wait;
 use std::thread::Threads;
-use stream_run::{Stop as NumberStop, run as run_stream};
+use stream_run::run as run_stream;
 use worker_turns::Turns;
 
 // Handles all packets by one worker, and leaves what comes of them in the files that were created.
@@ -61,26 +58,10 @@ fn run_one<F: Files>(
     let card = job.command.card;
     match run_stream(alloc, files, job.func, card, feed, captures, targets) {
         Ok(ran) => {
-            let last = targets[job.numbers.ports as usize];
+            let last = targets[job.layout.ports as usize];
             leave_ran(alloc, files, job, Mode::One, &ran, feed.torn(), last)
         }
-        Err(stop) => Err(job.numbers.halt(stop)),
-    }
-}
-
-// The share stop of a run: the chain's name, the queue and the packet.
-fn full_share(func: &Func, stop: ShareStop) -> FullShare
-    ensures { IsToldStop (function_of func.now) stop result }
-{
-    let ShareStop {
-        chain,
-        queue,
-        packet,
-    } = stop;
-    FullShare {
-        chain: ObjectName::in_func(func, ObjectId::Chain(chain)),
-        queue,
-        packet: packet.id,
+        Err(stop) => Err(job.layout.halt(stop)),
     }
 }
 
@@ -112,14 +93,14 @@ fn run_shards<R: Threads + Sync, F: Files, G: Turns + Sync>(
         rt, alloc, files, job.func, keys, workers, card, feed, captures, targets, turns,
     ) {
         Ok(Came::Ran(ran)) => {
-            let last = targets[job.numbers.ports as usize];
+            let last = targets[job.layout.ports as usize];
             leave_ran(alloc, files, job, Mode::Shard, &ran, feed.torn(), last)
         }
         Ok(Came::Full(full)) => {
             let end = End::ShareFull(full_share(job.func, full.stop));
             print_ran(files, job, Mode::Shard, full.packets, end)
         }
-        Err(stop) => Err(job.numbers.halt(stop)),
+        Err(stop) => Err(job.layout.halt(stop)),
     }
 }
 
@@ -151,10 +132,10 @@ fn run_tables<R: Threads + Wait + Sync, F: Files, G: Turns + Sync, L: Gate + Dro
         rt, alloc, files, job.func, workers, card, feed, captures, targets, turns, gate,
     ) {
         Ok(came) => {
-            let last = targets[job.numbers.ports as usize];
+            let last = targets[job.layout.ports as usize];
             leave_ran(alloc, files, job, came.mode, &came.ran, feed.torn(), last)
         }
-        Err(stop) => Err(job.numbers.halt(stop)),
+        Err(stop) => Err(job.layout.halt(stop)),
     }
 }
 
@@ -207,52 +188,14 @@ fn run_fed<R: Threads + Wait + Sync, F: Files, G: Turns + Sync, L: Gate + Drop +
     ensures runs { RunsTo (Rose (L.refused gate.old) (L.refused gate.new)) (asked job.now) before
         (seen (F.told files.new) (F.counted files.new)) result }
 {
-    let ports = job.numbers.ports;
+    let ports = job.layout.ports;
     let last = captures[ports as usize - 1];
     match create_targets(alloc, files, &job.command.out, ports, last) {
         Ok(targets) => {
             let targets = targets.as_slice();
             run_ready(rt, alloc, files, job, feed, captures, targets, turns, gate)
         }
-        Err(stop) => Err(job.numbers.halt(stop)),
-    }
-}
-
-// Why captures can't be read, of which these are the files.
-fn unfed(numbers: Numbers, captures: &[u32], fault: FeedFault) -> Halt
-    requires { numbers.ports ≤ 4 }
-    ensures { result ≡ unfed numbers captures.now fault }
-{
-    match fault {
-        FeedFault::NotCapture { port } => Halt::Refusal(Refusal::NotCapture { port }),
-        FeedFault::File { port } => match captures.get(port as usize) {
-            Some(file) => numbers.halt(NumberStop::File(*file)),
-            None => Halt::Stop(Stop::Memory),
-        },
-        FeedFault::Memory => Halt::Stop(Stop::Memory),
-    }
-}
-
-// Reads the headers of the captures, and runs.
-fn run_opened<R: Threads + Wait + Sync, F: Files, G: Turns + Sync, L: Gate + Drop + Send>(
-    rt: &R,
-    alloc: Global,
-    files: &mut F,
-    job: &Job,
-    captures: &[u32],
-    turns: &G,
-    gate: &mut L,
-) -> Result<End, Halt>
-    ghost before: { Outside }
-    requires job { IsJob before.told job.now }
-    requires opened { EachFile (F.is_read files.old) captures.now }
-    requires has_opened { HasOpened before (seen (F.told files.old) (F.counted files.old)) job.now captures.now }
-    ensures runs { RunsTo (Rose (L.refused gate.old) (L.refused gate.new)) (asked job.now) before
-        (seen (F.told files.new) (F.counted files.new)) result }
-{
-    match Feed::start(alloc, files, job.func, captures, job.command.most) {
-        Ok(mut feed) => run_fed(rt, alloc, files, job, &mut feed, captures, turns, gate),
-        Err(fault) => Err(unfed(job.numbers, captures, fault)),
+        Err(stop) => Err(job.layout.halt(stop)),
     }
 }
 
@@ -273,14 +216,13 @@ fn run_job<R: Threads + Wait + Sync, F: Files, G: Turns + Sync, L: Gate + Drop +
     ensures runs { RunsTo (Rose (L.refused gate.old) (L.refused gate.new)) (asked job.now) before
         (seen (F.told files.new) (F.counted files.new)) result }
 {
-    match open_captures(
-        alloc,
-        files,
-        job.command.captures.as_slice(),
-        job.numbers.first,
-    ) {
-        Ok(captures) => run_opened(rt, alloc, files, job, captures.as_slice(), turns, gate),
-        Err(stop) => Err(job.numbers.halt(stop)),
+    let names = job.command.captures.as_slice();
+    match open_inputs(alloc, files, job.func, names, job.command.most, job.layout) {
+        Ok(Inputs { captures, mut feed }) => {
+            let captures = captures.as_slice();
+            run_fed(rt, alloc, files, job, &mut feed, captures, turns, gate)
+        }
+        Err(halt) => Err(halt),
     }
 }
 
@@ -300,21 +242,24 @@ fn run_served<R: Threads + Wait + Sync, F: Files, G: Turns + Sync, L: Gate + Dro
     requires few { length command.now.captures.items ≤ 4 }
     requires as_many { length command.now.captures.items ≡ length found.now.source.func.handlers }
     requires course { IsCourse (view.run command.now) (function_of found.now.source.func) course.now }
-    requires found { HasFound (view.run command.now) before
+    requires found { HasFound (view.run command.now).function before
         (seen (F.told files.old) (F.counted files.old)) found.now }
     ensures runs { RunsTo (Rose (L.refused gate.old) (L.refused gate.new)) (view.run command.now)
         before (seen (F.told files.new) (F.counted files.new)) result }
 {
     let func = &found.source.func;
-    let numbers = Numbers {
+    let ports = func.handlers.len();
+    let layout = Layout {
         first: found.file,
-        ports: func.handlers.len(),
+        captures: ports,
+        ports,
+        behind: Behind::Created,
     };
     let job = Job {
         command,
         func,
         course,
-        numbers,
+        layout,
     };
     run_job(rt, alloc, files, &job, turns, gate)
 }
@@ -332,7 +277,7 @@ fn run_found<R: Threads + Wait + Sync, F: Files, G: Turns + Sync, L: Gate + Drop
     ghost before: { Outside }
     requires some { 1 ≤ length command.now.captures.items }
     requires few { length command.now.captures.items ≤ 4 }
-    requires found { HasFound (view.run command.now) before
+    requires found { HasFound (view.run command.now).function before
         (seen (F.told files.old) (F.counted files.old)) found.now }
     ensures runs { RunsTo (Rose (L.refused gate.old) (L.refused gate.new)) (view.run command.now)
         before (seen (F.told files.new) (F.counted files.new)) result }
@@ -344,16 +289,6 @@ fn run_found<R: Threads + Wait + Sync, F: Files, G: Turns + Sync, L: Gate + Drop
     match course_of(alloc, command, func) {
         Ok(course) => run_served(rt, alloc, files, command, found, &course, turns, gate),
         Err(halt) => Err(halt),
-    }
-}
-
-// Why there is no function under a name, for a run.
-fn unfound(none: NoFunction) -> Halt
-    ensures { result ≡ unfound none }
-{
-    match none {
-        NoFunction::Text(fault) => Halt::Refusal(Refusal::Text(fault)),
-        NoFunction::Stop(stop) => Halt::Stop(stop),
     }
 }
 
@@ -375,6 +310,6 @@ pub fn run<R: Threads + Wait + Sync, F: Files, G: Turns + Sync, L: Gate + Drop +
 {
     match read_function(alloc, files, &command.function) {
         Ok(found) => run_found(rt, alloc, files, command, &found, turns, gate),
-        Err(none) => Err(unfound(none)),
+        Err(none) => Err(none.halt()),
     }
 }

@@ -7,3 +7,4 @@ pub mod Choices
 pub mod Cards
 pub mod Unique
 pub mod Answered
+pub mod Placed

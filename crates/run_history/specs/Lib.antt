@@ -4,3 +4,4 @@ pub mod Lines
 pub mod Reading
 pub mod Laws
 pub mod StateText
+pub mod Room

@@ -5,6 +5,7 @@ pub mod header;
 pub mod laws;
 pub mod line;
 pub mod reader;
+mod room;
 pub mod state_text;
 mod text;
 pub mod version;

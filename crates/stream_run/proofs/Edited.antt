@@ -1,7 +1,8 @@
 -- A record whose frame is edited where it is gathered.
-use Rattle.std.proofs.Common.{◌≡◌, ℕ, ◌-◌, ◌/◌, ◌%◌, Bool, true, false, refl, List, ◌++◌, length, take, drop, ap, sym, subst, ◌∙◌, append_assoc, append-nil, length-append, arith}
+use Rattle.std.proofs.Common.{◌≡◌, ℕ, ◌+◌, ◌≤◌, ◌-◌, ◌/◌, ◌%◌, Bool, true, false, refl, List, ◌++◌, length, take, drop, ap, sym, subst, ◌∙◌, append_assoc, append-nil, length-append, arith}
 use Rattle.std.specs.Prelude.{if◌then◌else◌}
-use Rattle.std.proofs.lemmas.List.{take_at, drop_at, take_rest, drop_all, length-drop}
+use Rattle.std.proofs.lemmas.List.{take_at, drop_at, take_rest, drop_all, length-drop, take-take, length-take-le}
+use Rattle.std.proofs.lemmas.Slice.{between_is, take-put_mid}
 use borrow.Rule.Slice.PartMut.{mid_of, put_mid}
 use Rattle.nf_base.specs.declared.done.Edits.{Edits}
 use Rattle.frame_ip.specs.Frame.{is_handled}
@@ -50,3 +51,21 @@ either_same false x y e = refl
 pub unedited : (e : Edits) (f : List ℕ) → AreBytes f → IsUnedited e → with_edits e f ≡ f
 unfolding with_edits
 unedited e f bytes none = either_same (is_handled f) (edited e f) f (edited_none e f bytes none)
+
+-- A record whose frame is edited where it was put.
+pub edited_put : (e : Edits) (front frame room ys : List ℕ) (time original start end : ℕ) → take end room ≡ front ++ written_bytes (record_at time original frame) → start + length frame ≡ end → end ≤ length room
+    → ys ≡ with_edits e (mid_of start (end - start) room) → length (with_edits e (mid_of start (end - start) room)) ≡ length (mid_of start (end - start) room)
+    → take end (put_mid start (end - start) room ys) ≡ front ++ written_bytes (record_at time original (with_edits e frame))
+edited_put e front frame room ys time original start end put ends within is long =
+    let sixteen = numbers time original (length frame) in
+    let head = front ++ sixteen in
+    let parts : take end room ≡ head ++ frame = put ∙ sym (append_assoc front sixteen frame) in
+    let all : length (take end room) ≡ end = length-take-le end room within in
+    let count : length head ≡ start = omega (arith, all, ap length parts, length-append head frame, ends) in
+    let mid : mid_of start (end - start) room ≡ frame = between_is room start end ∙ ap (drop start) parts ∙ drop_at head frame start count in
+    let before : take start room ≡ head = sym (take-take start end room (omega arith)) ∙ ap (take start) parts ∙ take_at head frame start count in
+    let same : length (with_edits e frame) ≡ length frame = subst (λ (xs : List ℕ). length (with_edits e xs) ≡ length xs) mid long in
+    let now : ys ≡ with_edits e frame = is ∙ ap (with_edits e) mid in
+    take-put_mid start (end - start) room ys end (omega (arith, ap length now, same, ends)) (omega (arith, within, ends))
+    ∙ ap (λ (xs : List ℕ). xs ++ ys) before ∙ ap (λ (xs : List ℕ). head ++ xs) now ∙ append_assoc front sixteen (with_edits e frame)
+    ∙ ap (λ (n : ℕ). front ++ (numbers time original n ++ with_edits e frame)) (sym same)

@@ -5,3 +5,4 @@ pub mod Held
 pub mod Reached
 pub mod Complete
 pub mod Journals
+pub mod Grown

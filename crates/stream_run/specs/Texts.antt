@@ -46,6 +46,13 @@ line_of h = packet_line h.arrival.packet.id h.worker h.done.action h.done.picks
 abbrev pub piece : ℕ → ℕ → Handled → List ℕ
 piece ports file h = if nat_lt file ports then sent_bytes file h else line_of h
 
+-- what a packet leaves in an output, and in the journal, by the number of the file
+abbrev pub sent_in : ℕ → Handled → ℕ → List ℕ
+sent_in ports h file = if nat_lt file ports then sent_bytes file h else []
+
+abbrev pub told_in : ℕ → Handled → ℕ → List ℕ
+told_in ports h file = if nat_lt file ports then [] else line_of h
+
 -- what a file begins with
 abbrev pub head : Mode → ℕ → Card → ℕ → ℕ → List ℕ
 head mode workers card ports file = if nat_lt file ports then header_bytes else header_line mode workers card

@@ -76,6 +76,17 @@ StopsAmong files others (Err (File file)) = IsOneOf files file ⊎ IsOneOf other
 abbrev pub files_of : List Holding → List ℕ
 files_of sinks = map (λ s. s.file) sinks
 
+-- more is held for a file than before, behind what was held
+pub record IsGrown (more : List ℕ) (old : List Holding) (k : ℕ) (now : Holding) : Type 0 where
+  pub before : Holding
+  pub at : slice_get old k ≡ Some before
+  pub file_same : now.file ≡ before.file
+  pub held_more : now.held ≡ before.held ++ more
+
+-- so it is for each file
+abbrev pub AreGrown : (ℕ → List ℕ) → List Holding → List Holding → Type 0
+AreGrown more old new = (k : ℕ) (s : Holding) → slice_get new k ≡ Some s → IsGrown (more k) old k s
+
 -- Of each file what packets leave there was given, but for what is held.
 abbrev pub AreHeld : Mode → ℕ → Card → ℕ → List Handled → Told → List Holding → Type 0
 AreHeld mode workers card ports hs told sinks =

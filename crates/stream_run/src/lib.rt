@@ -1,12 +1,14 @@
 //! A run as a stream: packets are handled as they come, and what they leave is written as the run goes.
 #![tactic(auto)]
 
+mod buffer;
 mod ending;
 mod handled;
 mod heads;
 pub mod laws;
 mod piece;
 mod ran;
+mod room;
 mod running;
 mod sink;
 mod sinks;
@@ -14,12 +16,12 @@ mod stop;
 mod streaming;
 
 pub use ending::Ending;
-pub use handled::HandledPacket;
+pub use handled::{HandledPacket, HandledParts};
 pub use heads::begin_sinks;
 pub use piece::push_sent;
 pub use ran::Ran;
 pub use running::{handle_all, stop_in};
 pub use sink::Sink;
-pub use sinks::{flush_all, put_all};
+pub use sinks::{flush_all, flush_full, hold_all, put_all};
 pub use stop::Stop;
 pub use streaming::run;

@@ -1,15 +1,16 @@
 //! What one packet leaves in a file.
-ghost use Rattle.std.specs.Prelude.{◌≡◌, ◌≤◌, ◌++◌, true, length, take, drop, OnOk};
+ghost use Rattle.std.specs.Prelude.{◌≡◌, ◌≤◌, ◌+◌, ◌++◌, true, length, take, drop, OnOk};
 ghost use Rattle.frame_ip.specs.Edit.{IsUnedited};
 ghost use Rattle.pcap_file.specs.Record.{greatest_time, record_at};
 ghost use Rattle.pcap_file.specs.Spelled.{written_bytes};
-ghost use Rattle.stream_run.specs.Texts.{sends, with_edits, sent_bytes, piece};
+ghost use Rattle.run_history.specs.Room.{Puts};
+ghost use Rattle.stream_run.specs.Texts.{sends, with_edits, is_sent, record_of, sent_bytes, line_of};
 
-use crate::handled::HandledPacket;
+use crate::handled::{HandledPacket, HandledParts};
 use frame_ip::{edit, view};
 use nf_base::done::{Action, Edits};
-use pcap_file::push_record;
-use run_history::line::push_packet;
+use pcap_file::{push_record, put_record};
+use run_history::line::put_packet;
 use std::alloc::AllocError;
 
 // Whether an action sends a packet that came in at a port out at another.
@@ -89,43 +90,131 @@ fn push_edited(
     Ok(())
 }
 
-/// Appends what a packet leaves in the output of a port: a record where it is sent out there.
-pub fn push_sent(buffer: &mut Vec<u8>, port: u32, handled: &HandledPacket) -> Result<(), AllocError>
-    ensures { OnOk result (buffer.new.items ≡ buffer.old.items ++ sent_bytes port handled.now) }
+/// Appends the record of a packet that is sent out.
+pub(crate) fn push_sent_record(
+    buffer: &mut Vec<u8>,
+    handled: &HandledParts,
+) -> Result<(), AllocError>
+    ensures { OnOk result (buffer.new.items ≡ buffer.old.items ++ written_bytes (record_of handled.now)) }
 {
-    let HandledPacket {
+    let HandledParts {
         worker: _,
         packet,
         original,
         frame,
-        done,
+        action: _,
+        edits,
+        picks: _,
     } = handled;
-    if sends(done.action, packet.id.port, port) {
-        push_edited(buffer, packet.time, *original, frame, &done.edits)
+    push_edited(buffer, packet.time, *original, frame, edits)
+}
+
+// Puts the record of a packet into some room, from a place on: where it ends. Its frame is edited where
+// it was put.
+#[inline(always)]
+fn put_edited(
+    room: &mut [u8],
+    at: usize,
+    time: u64,
+    original: u32,
+    frame: &[u8],
+    edits: &Edits,
+) -> usize
+    requires time { time ≤ greatest_time }
+    requires captured { length frame.now ≤ 262144 }
+    requires room { at + 16 + length frame.now ≤ length room.old }
+    ensures end { result ≡ at + 16 + length frame.now }
+    ensures put { take result room.new ≡ take at room.old
+        ++ written_bytes (record_at time original (with_edits edits.now frame.now)) }
+{
+    let end = put_record(room, at, time, original, frame);
+    let start = end - frame.len();
+    edit_handled(&mut room[start..end], edits);
+    end
+}
+
+/// Puts the record of a packet that is sent out into some room, from a place on: where it ends.
+#[inline(always)]
+pub(crate) fn put_sent(room: &mut [u8], at: usize, handled: &HandledParts) -> usize
+    requires { at + 16 + length handled.now.arrival.frame ≤ length room.old }
+    ensures end { result ≡ at + 16 + length handled.now.arrival.frame }
+    ensures put { take result room.new ≡ take at room.old ++ written_bytes (record_of handled.now) }
+{
+    let HandledParts {
+        worker: _,
+        packet,
+        original,
+        frame,
+        action: _,
+        edits,
+        picks: _,
+    } = handled;
+    put_edited(room, at, packet.time, *original, frame, edits)
+}
+
+/// Puts a packet's line in the journal into some room, from a place on: where it ends.
+#[inline(always)]
+pub(crate) fn put_handled_line(room: &mut [u8], at: usize, handled: &HandledParts) -> usize
+    requires { at + 256 ≤ length room.old }
+    ensures put { Puts (line_of handled.now) room.old at room.new result }
+    ensures within { result ≤ at + 256 }
+{
+    let HandledParts {
+        worker,
+        packet,
+        original: _,
+        frame: _,
+        action,
+        edits: _,
+        picks,
+    } = handled;
+    put_packet(room, at, packet.id, *worker, *action, picks)
+}
+
+/// How many bytes the frame of a packet has.
+pub(crate) fn frame_length(handled: &HandledParts) -> usize
+    ensures value { result ≡ length handled.now.arrival.frame }
+    ensures within { result ≤ 262144 }
+{
+    handled.frame.len()
+}
+
+/// Whether a packet is sent out at a port.
+pub(crate) fn is_sent(port: u32, handled: &HandledParts) -> bool
+    ensures { result ≡ is_sent port handled.now }
+{
+    let HandledParts {
+        worker: _,
+        packet,
+        original: _,
+        frame: _,
+        action,
+        edits: _,
+        picks: _,
+    } = handled;
+    sends(*action, packet.id.port, port)
+}
+
+/// Where a packet goes.
+pub(crate) fn action_of(handled: &HandledParts) -> Action
+    ensures { result ≡ handled.now.done.action }
+{
+    handled.action
+}
+
+fn push_parts(buffer: &mut Vec<u8>, port: u32, handled: &HandledParts) -> Result<(), AllocError>
+    ensures { OnOk result (buffer.new.items ≡ buffer.old.items ++ sent_bytes port handled.now) }
+{
+    if is_sent(port, handled) {
+        push_sent_record(buffer, handled)
     } else {
         Ok(())
     }
 }
 
-/// Appends what a packet leaves in a file: a record in the output of a port where it is sent out
-/// there, and a line in the journal, which comes behind the outputs.
-pub(crate) fn push_piece(
-    buffer: &mut Vec<u8>,
-    ports: u32,
-    file: u32,
-    handled: &HandledPacket,
-) -> Result<(), AllocError>
-    ensures { OnOk result (buffer.new.items ≡ buffer.old.items ++ piece ports file handled.now) }
+/// Appends what a packet leaves in the output of a port: a record where it is sent out there.
+pub fn push_sent(buffer: &mut Vec<u8>, port: u32, handled: &HandledPacket) -> Result<(), AllocError>
+    ensures { OnOk result (buffer.new.items ≡ buffer.old.items ++ sent_bytes port handled.now) }
 {
-    if file >= ports {
-        let HandledPacket {
-            worker,
-            packet,
-            original: _,
-            frame: _,
-            done,
-        } = handled;
-        return push_packet(buffer, packet.id, *worker, done.action, &done.picks);
-    }
-    push_sent(buffer, file, handled)
+    push_parts(buffer, port, &handled.parts())
 }

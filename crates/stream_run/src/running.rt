@@ -4,6 +4,7 @@ ghost use Rattle.nf_base.specs.declared.card.Card.{Card};
 ghost use Rattle.nf_base.specs.Doors.{six_ports, IsServed};
 ghost use Rattle.nf_base.specs.Functions.{function_of};
 ghost use Rattle.nf_base.specs.Step.{step, opening};
+ghost use Rattle.nf_engine.specs.Handlings.{done_of};
 ghost use Rattle.nf_engine.specs.View.{fixed_of};
 ghost use Rattle.pcap_file.specs.Record.{greatest_time};
 ghost use Rattle.packet_feed.specs.Faults.{IsReadFault, IsOneOf};
@@ -14,41 +15,47 @@ ghost use Rattle.stream_run.specs.Writing.{files_of, AreHeld, KeepsAllBut, Keeps
 ghost use Rattle.stream_run.specs.Streaming.{HandlesOne, Comes, stop_in};
 
 use crate::ending::Ending;
-use crate::handled::HandledPacket;
+use crate::handled::HandledParts;
 use crate::sink::Sink;
-use crate::sinks::put_all;
+use crate::sinks::put_parts;
 use crate::stop::Stop;
-use nf_base::done::Done;
-use nf_base::func::Func;
+use nf_base::done::Action;
 use nf_base::packet::Packet;
 use nf_base::seq::Seq;
-use nf_engine::{Handled, handle};
+use nf_code::ready::Ready;
+use nf_engine::{Context, PacketFields, handle_whole_ready};
 use nf_files::Files;
 use packet_feed::{Fed, Feed, FeedFault};
 use vig_tables::Tables;
 
-// Handles a packet in tables with the whole share, which is never full: a handler goes on in its
-// `full` block there.
-fn handle_whole(tables: &mut Tables, func: &Func, packet: &Packet) -> Done
+// Handles a packet in a context that is kept from packet to packet.
+fn handle_kept(tables: &mut Tables, func: &Ready, packet: &Packet, context: &mut Context) -> Action
     requires of_func { tables.old.decls ≡ func.now.chains }
     requires whole { tables.old.share.of ≡ 1 }
     requires port { packet.now.id.port < length func.now.handlers }
     requires served { IsServed (function_of func.now) packet.now }
-    ensures steps { step (function_of func.now) tables.old.state packet.now result.picks
-        ≡ Some (record { state = tables.new.state; done = result }) }
+    ensures steps { step (function_of func.now) tables.old.state packet.now context.new.picks
+        ≡ Some (record { state = tables.new.state; done = done_of result context.new }) }
     ensures same { fixed_of tables.new ≡ fixed_of tables.old }
 {
-    match handle(tables, func, packet) {
-        Handled::Done(done) => done,
-        Handled::ShareFull(_) => unreachable!(),
-    }
+    let Some(fields) = &packet.fields else {
+        *context = Context::new();
+        return Action::Skip;
+    };
+    let seen = PacketFields {
+        id: packet.id,
+        time: packet.time,
+        fields,
+    };
+    handle_whole_ready(tables, func, &seen, context)
 }
 
 // Handles a packet, and puts what it leaves into all files.
 fn handle_one<F: Files>(
     files: &mut F,
-    func: &Func,
+    func: &Ready,
     tables: &mut Tables,
+    context: &mut Context,
     sinks: &mut Seq<Sink>,
     packet: &Packet,
     original: u32,
@@ -74,15 +81,17 @@ fn handle_one<F: Files>(
     ensures reads { (g : ℕ) → F.is_read files.old g → F.is_read files.new g }
     ensures writes { (g : ℕ) → F.is_written files.old g → F.is_written files.new g }
 {
-    let done = handle_whole(tables, func, packet);
-    let handled = HandledPacket {
+    let action = handle_kept(tables, func, packet, context);
+    let handled = HandledParts {
         worker: 0,
         packet,
         original,
         frame,
-        done: &done,
+        action,
+        edits: context.edits(),
+        picks: context.picks(),
     };
-    put_all(sinks, files, func.handlers.len(), &handled)
+    put_parts(sinks, files, func.func().handlers.len(), &handled)
 }
 
 /// What a fault of the captures in these files is for a run whose headers were read: it is of one of
@@ -110,7 +119,7 @@ pub fn stop_in(captures: &[u32], fault: FeedFault) -> Stop
 /// file begins with. What is held at the end is still to be given to the files.
 pub fn handle_all<F: Files>(
     files: &mut F,
-    func: &Func,
+    func: &Ready,
     tables: &mut Tables,
     feed: &mut Feed,
     captures: &[u32],
@@ -141,6 +150,7 @@ pub fn handle_all<F: Files>(
     ensures reads { (g : ℕ) → F.is_read files.old g → F.is_read files.new g }
     ensures writes { (g : ℕ) → F.is_written files.old g → F.is_written files.new g }
 {
+    let mut context = Context::new();
     'packets: loop {
         match feed.next(files) {
             Ok(Fed::End) => return Ok(Ending::All),
@@ -149,7 +159,16 @@ pub fn handle_all<F: Files>(
             Ok(Fed::Packet(packet)) => {
                 let original = feed.original();
                 let frame = feed.frame();
-                match handle_one(files, func, tables, sinks, &packet, original, frame) {
+                match handle_one(
+                    files,
+                    func,
+                    tables,
+                    &mut context,
+                    sinks,
+                    &packet,
+                    original,
+                    frame,
+                ) {
                     Ok(()) => {}
                     Err(stop) => return Err(stop),
                 }

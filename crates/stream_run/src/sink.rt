@@ -1,12 +1,15 @@
 //! A file that is written in large pieces.
 ghost use Rattle.std.specs.Prelude.{◌≡◌, ◌<◌, ◌++◌, ◌⊎◌, ℕ, List, length, OnOk, vec_len};
-ghost use Rattle.stream_run.specs.Texts.{piece};
+ghost use Rattle.pcap_file.specs.Spelled.{written_bytes};
+ghost use Rattle.stream_run.specs.Texts.{record_of, sent_bytes, line_of};
 ghost use Rattle.stream_run.specs.Writing.{Holds, GoesOn, IsLittle, KeepsOther, IsStopCause, StopsAt};
 
-use crate::handled::HandledPacket;
-use crate::piece::push_piece;
+use crate::buffer::Buffer;
+use crate::handled::HandledParts;
+use crate::piece::is_sent;
 use crate::stop::Stop;
 use nf_files::{Files, write_whole};
+use std::alloc::AllocError;
 use std::marker::Model;
 
 /// From how many bytes on they are given to their file.
@@ -16,7 +19,7 @@ const PIECE: usize = 65_536;
 #[derive(Drop)]
 pub struct Sink {
     file: u32,
-    buffer: Vec<u8>,
+    held: Buffer,
 }
 
 impl Model for Sink {
@@ -24,7 +27,7 @@ impl Model for Sink {
 
     ghost Value = { Holding };
 
-    ghost view = { λ s. record { file = s.file; held = s.buffer.items } };
+    ghost view = { λ s. record { file = s.file; held = s.held } };
 }
 
 impl Sink {
@@ -32,10 +35,14 @@ impl Sink {
     pub fn new(file: u32, buffer: Vec<u8>) -> Sink
         ensures { result ≡ record { file = file; held = buffer.items } }
     {
-        Sink { file, buffer }
+        Sink {
+            file,
+            held: Buffer::from_vec(buffer),
+        }
     }
 
     /// Gives all bytes to the file.
+    #[inline(never)]
     pub fn flush<F: Files>(&mut self, files: &mut F) -> Result<(), Stop>
         requires created { F.is_written files.old self.old.file }
         ensures goes_on { (bytes : List ℕ) →
@@ -49,28 +56,22 @@ impl Sink {
         ensures reads { (g : ℕ) → F.is_read files.old g → F.is_read files.new g }
         ensures writes { (g : ℕ) → F.is_written files.old g → F.is_written files.new g }
     {
-        match write_whole(files, self.file, self.buffer.as_slice()) {
+        match write_whole(files, self.file, self.held.as_slice()) {
             Ok(()) => {
-                self.buffer.clear();
+                self.held.clear();
                 Ok(())
             }
             Err(fault) => Err(Stop::of(self.file, fault)),
         }
     }
 
-    /// Puts what a packet leaves in a file behind what is held, and gives it to the file where it is
-    /// much.
-    pub(crate) fn put<F: Files>(
-        &mut self,
-        files: &mut F,
-        ports: u32,
-        number: u32,
-        handled: &HandledPacket,
-    ) -> Result<(), Stop>
+    /// Gives what is held to the file where it is much.
+    #[inline(always)]
+    pub(crate) fn flush_full<F: Files>(&mut self, files: &mut F) -> Result<(), Stop>
         requires created { F.is_written files.old self.old.file }
-        ensures goes_on { let more = piece ports number handled.now in
-            (bytes : List ℕ) → Holds bytes ((F.told files.old).given self.old.file) self.old.held →
-            GoesOn (bytes ++ more) ((F.told files.new).given self.old.file) self.new.held result }
+        ensures goes_on { (bytes : List ℕ) →
+            Holds bytes ((F.told files.old).given self.old.file) self.old.held →
+            GoesOn bytes ((F.told files.new).given self.old.file) self.new.held result }
         // The memory of a run doesn't grow with what it writes.
         ensures little { OnOk result (IsLittle self.new) }
         ensures same_file { self.new.file ≡ self.old.file }
@@ -80,15 +81,41 @@ impl Sink {
         ensures reads { (g : ℕ) → F.is_read files.old g → F.is_read files.new g }
         ensures writes { (g : ℕ) → F.is_written files.old g → F.is_written files.new g }
     {
-        match push_piece(&mut self.buffer, ports, number, handled) {
-            Err(_) => Err(Stop::Memory),
-            Ok(()) => {
-                if self.buffer.len() < PIECE {
-                    Ok(())
-                } else {
-                    self.flush(files)
-                }
-            }
+        if self.held.len() < PIECE {
+            Ok(())
+        } else {
+            self.flush(files)
         }
+    }
+
+    /// Puts a packet's record behind what is held.
+    #[inline(always)]
+    pub(crate) fn hold_record(&mut self, handled: &HandledParts) -> Result<(), AllocError>
+        ensures held { OnOk result
+            (self.new.held ≡ self.old.held ++ written_bytes (record_of handled.now)) }
+        ensures same_file { self.new.file ≡ self.old.file }
+    {
+        self.held.hold_record(handled)
+    }
+
+    /// The same where the packet is sent out at a port.
+    pub(crate) fn hold_sent(&mut self, port: u32, handled: &HandledParts) -> Result<(), AllocError>
+        ensures held { OnOk result (self.new.held ≡ self.old.held ++ sent_bytes port handled.now) }
+        ensures same_file { self.new.file ≡ self.old.file }
+    {
+        if is_sent(port, handled) {
+            self.hold_record(handled)
+        } else {
+            Ok(())
+        }
+    }
+
+    /// Puts a packet's line behind what is held.
+    #[inline(always)]
+    pub(crate) fn hold_line(&mut self, handled: &HandledParts) -> Result<(), AllocError>
+        ensures held { OnOk result (self.new.held ≡ self.old.held ++ line_of handled.now) }
+        ensures same_file { self.new.file ≡ self.old.file }
+    {
+        self.held.hold_line(handled)
     }
 }

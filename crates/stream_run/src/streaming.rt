@@ -22,6 +22,7 @@ use nf_base::func::Func;
 use nf_base::seq::Seq;
 use nf_base::share::Share;
 use nf_base::workers::Workers;
+use nf_code::ready::Ready;
 use nf_files::Files;
 use packet_feed::Feed;
 use run_history::line::Mode;
@@ -31,7 +32,7 @@ use vig_tables::Tables;
 // Handles all packets, and gives to the files what is held for them.
 fn flow<F: Files>(
     files: &mut F,
-    func: &Func,
+    func: &Ready,
     tables: &mut Tables,
     feed: &mut Feed,
     captures: &[u32],
@@ -96,7 +97,11 @@ fn stream<F: Files>(
         Ok(tables) => tables,
         Err(_) => return Err(Stop::Memory),
     };
-    let ending = match flow(files, func, &mut tables, feed, captures, sinks) {
+    let ready = match Ready::of(alloc, func) {
+        Ok(ready) => ready,
+        Err(_) => return Err(Stop::Memory),
+    };
+    let ending = match flow(files, &ready, &mut tables, feed, captures, sinks) {
         Ok(ending) => ending,
         Err(stop) => return Err(stop),
     };

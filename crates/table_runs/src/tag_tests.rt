@@ -48,3 +48,18 @@ fn a_tag_is_that_of_each_word_of_a_key(rt: HostRuntime) -> Result<(), Fail> {
     assert!(rt; tag_of(&[1, 2 | 1 << 127]) != tag);
     Ok(())
 }
+
+/// The high word that makes a factor of the hash 0.
+const ZEROING: u128 = 0x9e37_79b9_7f4a_7c15 << 64;
+
+#[test]
+fn a_low_word_counts_beside_the_high_word_that_makes_a_factor_zero(
+    rt: HostRuntime,
+) -> Result<(), Fail> {
+    assert_eq!(rt; tag_of(&[]), 0xe355_2208);
+    assert_eq!(rt; tag_of(&[1, 2]), 0xec39_14ca);
+    assert_eq!(rt; tag_of(&[5 | ZEROING]), 0x761c_f911);
+    assert_eq!(rt; tag_of(&[6 | ZEROING]), 0x478f_c40c);
+    assert!(rt; tag_of(&[1, ZEROING]) != tag_of(&[2, ZEROING]));
+    Ok(())
+}

@@ -1,6 +1,6 @@
-pub mod CellLemmas
 pub mod RingLemmas
 pub mod Relinking
 pub mod Slots
 pub mod Keeping
-pub mod Opening
+pub mod Starting
+pub mod HeadLemmas

@@ -88,7 +88,7 @@ put_last_in size i ring rings ring_of ring_of' k w cells off below above ring_wi
     }
 
 -- numbers all below a bound stay so where one below it is written
-written :
+pub written :
     (xs : List ℕ) (a v n j : ℕ) → v < n → ((k : ℕ) → k < n → slice_index xs k < n) → j < n
     → slice_index (slice_set xs a v) j < n
 written xs a v n j small all lt = elim (cases_eq j a) [

@@ -1,3 +1,4 @@
 pub mod Stamps
 pub mod Rings
 pub mod Sound
+pub mod Heads

@@ -2,17 +2,12 @@
 -- `size` is where the ring of the entries begins and ends, `size + 1` where that of the available
 -- indices does.
 use Rattle.std.specs.Prelude.{◌≡◌, ℕ, ◌+◌, ◌<◌, ◌≤◌, Bool, nat_lt, if◌then◌else◌, List, Option, Some, None, slice_index, slice_set}
-use Rattle.std.specs.List.{range_with_len}
 use Rattle.vig_chain.specs.Stamps.{stamp_of}
 
 -- by cell the next one and the one before
 pub record Rings : Type 0 where
   pub next : List ℕ
   pub prev : List ℕ
-
--- every cell a ring of its own
-abbrev pub lone_cells : ℕ → Rings
-lone_cells count = record { next = range_with_len 0 count; prev = range_with_len 0 count }
 
 -- a cell taken out: the one before it and the next are linked
 abbrev pub unlinked : ℕ → Rings → Rings

@@ -1,11 +1,10 @@
 //! The chain.
-ghost use Rattle.std.specs.Prelude.{◌≡◌, ℕ, ◌<◌, ◌≤◌, length, IsTrue, IsSome, IfSome, IfNone, IfOk, MatchBool, MatchOption, ◌↔◌, ◌⊎◌, ◌+◌, None, Some, replicate};
+ghost use Rattle.std.specs.Prelude.{◌≡◌, ℕ, ◌<◌, ◌≤◌, length, IsTrue, IsSome, IfSome, IfNone, IfOk, MatchBool, MatchOption, ◌↔◌, ◌⊎◌, Some};
 ghost use Rattle.std.specs.Bool.{OnTrue, OnFalse};
-ghost use Rattle.vig_chain.specs.Rings.{lone_cells, AreLinked};
 ghost use Rattle.nf_base.specs.Shares.{owns};
-ghost use Rattle.vig_chain.specs.Stamps.{opened, stamp_of, is_vacant_at, is_available, is_past, is_due_at, SomeIndexHas, NoIndexHas, IsOldest, NoneAbove, raised, stamped, freed};
+ghost use Rattle.vig_chain.specs.Stamps.{opened, stamp_of, is_available, is_past, is_due_at, SomeIndexHas, NoIndexHas, IsOldest, NoneAbove, raised, stamped, freed};
 
-use crate::links::Links;
+use crate::heads::Heads;
 use nf_base::share::Share;
 use nf_base::size::Size;
 use std::alloc::{AllocError, Global};
@@ -19,13 +18,8 @@ use std::marker::Model;
 /// the chain's size.
 #[derive(Drop)]
 pub struct Chain {
-    /// By index the stamp of its entry.
-    stamps: Vec<Option<u64>>,
-    /// A cell for each index, then the one where the ring of the entries begins, in the order of
-    /// their stamps, and then the one where the ring of the available indices does.
-    links: Links,
-    /// How many indices there are.
-    size: u32,
+    /// The stamps of the entries, and the rings of these and of the available indices.
+    heads: Heads,
     greatest: u64,
     share: Share,
 }
@@ -36,10 +30,10 @@ impl Model for Chain {
 
     ghost Value = { Stamps };
 
-    ghost view = { λ a. stamps_of a.stamps.items a.greatest a.share };
+    ghost view = { λ a. stamps_of a.heads.stamps a.greatest a.share };
 
     ghost invariant = { λ a.
-        IsSoundChain a.size (stamps_of a.stamps.items a.greatest a.share) a.links };
+        IsSoundChain a.heads.size (stamps_of a.heads.stamps a.greatest a.share) a.heads.rings };
 }
 
 impl Chain {
@@ -47,14 +41,8 @@ impl Chain {
     pub fn new(alloc: Global, size: Size, share: Share) -> Result<Chain, AllocError>
         ensures { IfOk result (λ chain. chain ≡ opened size share) }
     {
-        let count = size.get();
-        let stamps = no_stamps(alloc, count)?;
-        let mut links = Links::new(alloc, count + 2)?;
-        link_free(&mut links, count, share);
         Ok(Chain {
-            stamps,
-            links,
-            size: count,
+            heads: Heads::new(alloc, size, share)?,
             greatest: 0,
             share,
         })
@@ -65,9 +53,7 @@ impl Chain {
         requires { length self.old.slots ≡ length other.now.slots }
         ensures { self.new ≡ other.now }
     {
-        self.stamps.copy_from_slice(other.stamps.as_slice());
-        self.links.copy_from(&other.links);
-        self.size = other.size;
+        self.heads.copy_from(&other.heads);
         self.greatest = other.greatest;
         self.share = other.share;
     }
@@ -85,7 +71,7 @@ impl Chain {
         ensures own { IsSome result → IsTrue (owns self.now.share index) }
         ensures under { IfSome result (λ stamp. stamp ≤ self.now.greatest) }
     {
-        *self.stamps.get(index as usize)?
+        self.heads.stamp(index)
     }
 
     /// The greatest stamp given so far, 0 before the first.
@@ -108,8 +94,8 @@ impl Chain {
         ensures { let available = is_available self.now in
             MatchBool result (NoIndexHas available) (SomeIndexHas available) }
     {
-        let ring = self.size + 1;
-        self.links.next(ring) == ring
+        let ring = self.heads.size() + 1;
+        self.heads.next(ring) == ring
     }
 
     /// The entry with the least stamp, as its index and that stamp: none where there are no
@@ -119,7 +105,7 @@ impl Chain {
         ensures oldest { IfSome result (λ entry. IsOldest self.now entry.0) }
         ensures none { IfNone result ((i s : ℕ) → stamp_of self.now.slots i ≡ Some s → ⊥) }
     {
-        let first = self.links.next(self.size);
+        let first = self.heads.next(self.heads.size());
         match self.stamp(first) {
             Some(stamp) => Some((first, stamp)),
             None => None,
@@ -130,17 +116,7 @@ impl Chain {
     fn is_available(&self, index: u32) -> bool
         ensures { result ≡ is_available self.now index }
     {
-        self.share.owns(index) && self.is_vacant_at(index)
-    }
-
-    /// Whether an index is vacant: past the end none is.
-    fn is_vacant_at(&self, index: u32) -> bool
-        ensures { result ≡ is_vacant_at self.now.slots index }
-    {
-        match self.stamps.get(index as usize) {
-            Some(stamp) => stamp.is_none(),
-            None => false,
-        }
+        self.share.owns(index) && self.heads.is_vacant_at(index)
     }
 
     /// Puts an entry at an available index, or gives the one there the next stamp.
@@ -149,9 +125,8 @@ impl Chain {
         ensures { self.new ≡ stamped time index self.old }
     {
         let stamp = time.max(self.greatest);
-        self.links.unlink(index);
-        self.links.append(index, self.size);
-        self.stamps[index as usize] = Some(stamp);
+        self.heads.unlink(index);
+        self.heads.append(index, self.heads.size(), Some(stamp));
         self.greatest = stamp;
     }
 
@@ -160,9 +135,8 @@ impl Chain {
         requires { IsSome (stamp_of self.old.slots index) }
         ensures { self.new ≡ freed index self.old }
     {
-        self.links.unlink(index);
-        self.links.append(index, self.size + 1);
-        self.stamps[index as usize] = None;
+        self.heads.unlink(index);
+        self.heads.append(index, self.heads.size() + 1, None);
     }
 
     /// Makes an entry at an own vacant index: none where no own index is vacant.
@@ -174,8 +148,8 @@ impl Chain {
         ensures stamped { IfSome result (λ i. self.new ≡ stamped time i self.old) }
         ensures unchanged { IfNone result (self.new ≡ self.old) }
     {
-        let ring = self.size + 1;
-        let index = self.links.next(ring);
+        let ring = self.heads.size() + 1;
+        let index = self.heads.next(ring);
         if index == ring {
             return None;
         }
@@ -253,30 +227,4 @@ pub fn is_past(stamp: u64, time: u64, lifetime: u64) -> bool
     ensures { result ≡ is_past time lifetime stamp }
 {
     stamp < time && lifetime < time - stamp
-}
-
-/// So many indices without an entry.
-fn no_stamps(alloc: Global, count: u32) -> Result<Vec<Option<u64>>, AllocError>
-    ensures { IfOk result (λ stamps. stamps.items ≡ replicate count None) }
-{
-    let mut stamps = Vec::with_capacity(alloc, count as usize)?;
-    for _index in 0..count {
-        stamps.push(None)?;
-    }
-    Ok(stamps)
-}
-
-/// Puts a share's indices, of so many, in the ring of the available ones.
-fn link_free(links: &mut Links, size: u32, share: Share)
-    requires some { 1 ≤ size }
-    requires most { size ≤ 65536 }
-    requires alone { links.old ≡ lone_cells (size + 2) }
-    ensures linked { AreLinked size (owns share) (replicate size None) links.new }
-    ensures cells { length links.new.next ≡ size + 2 }
-{
-    for index in 0..size {
-        if share.owns(index) {
-            links.append(index, size + 1);
-        }
-    }
 }

@@ -3,6 +3,6 @@
 #![tactic(auto)]
 
 mod chain;
-mod links;
+mod heads;
 
 pub use chain::{Chain, is_past};

@@ -1,9 +1,11 @@
 -- Rows, by the cells in which they stand.
 use Rattle.std.proofs.Common.{◌≡◌, ◌∙◌, ap, sym, refl, arith, ℕ, zero, suc, ◌+◌, ◌*◌, ◌-◌, ◌<◌, ◌≤◌, List, [], ◌∷◌, ◌++◌, length, take, drop, get_or, replicate}
 use Rattle.std.specs.Prelude.{slice_set}
-use Rattle.std.proofs.lemmas.List.{length-append, length-drop, length-take-le, drop-drop, drop-take, drop-append-le, take_at, drop_at, take-append-le, take-take, take-set-le, drop-set-lt, drop-set-add, take-replicate, drop-replicate, set-get_or, set_past}
+use Rattle.std.proofs.lemmas.List.{length-append, length-drop, length-take-le, drop-drop, drop-take, drop-append-le, take_at, drop_at, take-append-le, take-take, take-set-le, drop-set-lt, drop-set-add, take-replicate, drop-replicate, set-get_or, set_past, append_assoc, replicate-append-replicate}
+use Rattle.std.proofs.Math.ListN.{length-set, length-replicate}
+use Rattle.std.proofs.Math.Seq.{drop-append-add}
 use Rattle.std.proofs.lemmas.Nat.{mul-le}
-use Rattle.vig_tables.specs.Grid.{rows_of}
+use Rattle.vig_tables.specs.Grid.{rows_of, filled}
 
 -- the end of a row is within the cells of all
 pub row_end : (count width i : ℕ) → i < count → i * width + width ≤ count * width
@@ -114,3 +116,95 @@ pub length_written :
     → length (take at cells ++ (row ++ drop width (drop at cells))) ≡ length cells
 length_written width at cells row within wide =
     omega (arith, length-append (take at cells) (row ++ drop width (drop at cells)), length-append row (drop width (drop at cells)), length-take-le at cells (omega arith), length-drop width (drop at cells), length-drop at cells)
+
+-- cells with zeros behind them
+pub length-filled : (n : ℕ) (cells : List ℕ) → length cells ≤ n → length (filled n cells) ≡ n
+length-filled n cells le = omega (arith, length-append cells (replicate (n - length cells) 0), length-replicate {A = ℕ} (n - length cells) 0, le)
+
+-- of zeros as many as there are
+pub filled_more :
+    (n k : ℕ) (cells : List ℕ) → length cells + k ≤ n
+    → filled n (cells ++ replicate k 0) ≡ filled n cells
+filled_more n k cells le =
+    append_assoc cells (replicate k 0) (replicate (n - length (cells ++ replicate k 0)) 0)
+    ∙ ap (λ (zs : List ℕ). cells ++ zs) (replicate-append-replicate k (n - length (cells ++ replicate k 0)) 0 ∙ ap (λ (m : ℕ). replicate m 0) all)
+  where
+    all : k + (n - length (cells ++ replicate k 0)) ≡ n - length cells
+    all = omega (arith, le, length-append cells (replicate k 0), length-replicate {A = ℕ} k 0)
+
+-- a row among the cells, and one behind them
+pub filled_row :
+    (n at width : ℕ) (cells : List ℕ) → at + width ≤ length cells
+    → take width (drop at (filled n cells)) ≡ take width (drop at cells)
+filled_row n at width cells le =
+    ap (take width) (drop-append-le at cells (replicate (n - length cells) 0) (omega (arith, le)))
+    ∙ take-append-le width (drop at cells) (replicate (n - length cells) 0) (omega (arith, le, length-drop at cells))
+
+pub filled_none :
+    (n at width : ℕ) (cells : List ℕ) → length cells ≤ at → at + width ≤ n
+    → take width (drop at (filled n cells)) ≡ replicate width 0
+filled_none n at width cells past within =
+    ap (λ (m : ℕ). take width (drop m (filled n cells))) is
+    ∙ ap (take width) (drop-append-add cells (replicate (n - length cells) 0) (at - length cells) ∙ drop-replicate (at - length cells) (n - length cells) 0)
+    ∙ take-replicate width (n - length cells - (at - length cells)) 0 (omega (arith, past, within))
+  where
+    is : at ≡ length cells + (at - length cells)
+    is = omega (arith, past)
+
+-- a row written among the cells
+pub filled_written :
+    (n at width : ℕ) (cells row : List ℕ) → at + width ≤ length cells → length row ≡ width
+    → filled n (take at cells ++ (row ++ drop width (drop at cells))) ≡ take at (filled n cells) ++ (row ++ drop width (drop at (filled n cells)))
+filled_written n at width cells row within wide = sym (
+    ap (λ (xs : List ℕ). xs ++ (row ++ drop width (drop at (cells ++ zs)))) (take-append-le at cells zs le)
+    ∙ ap (λ (xs : List ℕ). take at cells ++ (row ++ drop width xs)) (drop-append-le at cells zs le)
+    ∙ ap (λ (xs : List ℕ). take at cells ++ (row ++ xs)) (drop-append-le width (drop at cells) zs (omega (arith, within, length-drop at cells)))
+    ∙ ap (λ (xs : List ℕ). take at cells ++ xs) (sym (append_assoc row (drop width (drop at cells)) zs))
+    ∙ sym (append_assoc (take at cells) (row ++ drop width (drop at cells)) zs)
+    ∙ ap (λ (m : ℕ). (take at cells ++ (row ++ drop width (drop at cells))) ++ replicate (n - m) 0) (sym (length_written width at cells row within wide)))
+  where
+    zs : List ℕ
+    zs = replicate (n - length cells) 0
+
+    le : at ≤ length cells
+    le = omega (arith, within)
+
+set-append :
+    (at v : ℕ) (xs ys : List ℕ) → at < length xs
+    → slice_set (xs ++ ys) at v ≡ slice_set xs at v ++ ys
+set-append at v [] ys lt = absurd (omega arith)
+set-append zero v (x ∷ xs) ys lt = refl
+set-append (suc at) v (x ∷ xs) ys lt =
+    ap (λ (zs : List ℕ). x ∷ zs) (set-append at v xs ys (omega (arith, lt)))
+
+pub filled_set :
+    (n at v : ℕ) (cells : List ℕ) → at < length cells
+    → filled n (slice_set cells at v) ≡ slice_set (filled n cells) at v
+filled_set n at v cells lt =
+    ap (λ (m : ℕ). slice_set cells at v ++ replicate (n - m) 0) (length-set cells at v)
+    ∙ sym (set-append at v cells (replicate (n - length cells) 0) lt)
+
+-- cells that only zeros were added to
+pub reached :
+    (n k : ℕ) (old cells : List ℕ) → cells ≡ old ++ replicate k 0 → length cells ≤ n
+    → filled n cells ≡ filled n old
+reached n k old cells e le =
+    ap (filled n) e
+    ∙ filled_more n k old (omega (arith, le, ap length e, length-append old (replicate k 0), length-replicate {A = ℕ} k 0))
+
+-- a row, or one number of it, written among the cells
+pub row_put :
+    (count width i : ℕ) (cells row : List ℕ) → i < count → i * width + width ≤ length cells
+    → length cells ≤ count * width → length row ≡ width
+    → rows_of count width (filled (count * width) (take (i * width) cells ++ (row ++ drop width (drop (i * width) cells)))) ≡ slice_set (rows_of count width (filled (count * width) cells)) i row
+row_put count width i cells row lt within le wide =
+    ap (rows_of count width) (filled_written (count * width) (i * width) width cells row within wide)
+    ∙ row_written count width i (i * width) (filled (count * width) cells) row lt (length-filled (count * width) cells le) wide refl
+
+pub cell_put :
+    (count width i c v : ℕ) (cells : List ℕ) → i < count → c < width
+    → i * width + c < length cells → length cells ≤ count * width
+    → rows_of count width (filled (count * width) (slice_set cells (i * width + c) v)) ≡ slice_set (rows_of count width (filled (count * width) cells)) i (slice_set (get_or (rows_of count width (filled (count * width) cells)) i []) c v)
+cell_put count width i c v cells lt narrow within le =
+    ap (rows_of count width) (filled_set (count * width) (i * width + c) v cells within)
+    ∙ cell_written count width i c (i * width + c) v (filled (count * width) cells) lt narrow (length-filled (count * width) cells le) refl

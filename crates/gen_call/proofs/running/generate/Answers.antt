@@ -1,7 +1,10 @@
+use Rattle.std.proofs.Common.{subst}
 use Rattle.command_words.specs.View as view
-use Rattle.call_base.specs.Outside.{seen}
+use Rattle.call_base.specs.Outside.{Outside, seen}
+use Rattle.call_base.specs.Reading.{HasFound}
+use Rattle.call_base.proofs.Reading.{has_found}
 use Rattle.lock_mode.specs.Gates.{Rose}
-use Rattle.gen_call.proofs.Beginning.{found_since, none_since}
+use Rattle.gen_call.proofs.Beginning.{none_since}
 use Rattle.gen_call.proofs.running.generate.Goals as goal
 
 pub run_found-requires : goal.run_found-requires
@@ -24,8 +27,10 @@ run_found-requires g c κs within =
                   c.requires.1.1.1.1.1.1.0,
                   (
                     requires.1,
-                    found_since (view.gen c.args.command.now) (seen (told c.args.files.now) (counted c.args.files.now)) g.before (seen (told c.read_function.new.files) (counted c.read_function.new.files)) c.in-Ok.found requires.0
-                        c.in-Ok.ensures.finds c.in-Ok.ensures.next c.read_function.ensures.untouched c.in-Ok.ensures.cause,
+                    (let name = (view.gen c.args.command.now).function in
+                        let a = seen (told c.args.files.now) (counted c.args.files.now) in
+                        let now = seen (told c.read_function.new.files) (counted c.read_function.new.files) in
+                        subst (λ (o : Outside). HasFound name o now c.in-Ok.found) requires.0 (has_found name a now c.in-Ok.found c.in-Ok.ensures.finds c.in-Ok.ensures.next c.read_function.ensures.untouched c.in-Ok.ensures.cause)),
                   ),
                 ),
               ),
@@ -41,6 +46,6 @@ returns-in-Err g c =
     let counted = g.F.Files.counted in
     let count = g.G.Gate.refused c.args.gate.now in
     record {
-      gens = none_since (view.gen c.args.command.now) (Rose count count) (seen (told c.args.files.now) (counted c.args.files.now)) g.before (seen (told c.read_function.new.files) (counted c.read_function.new.files)) c.in-Err.none c.unfound.result c.requires.1.1.1.1.1.1.1.0 c.unfound.ensures
+      gens = none_since (view.gen c.args.command.now) (Rose count count) (seen (told c.args.files.now) (counted c.args.files.now)) g.before (seen (told c.read_function.new.files) (counted c.read_function.new.files)) c.in-Err.none c.halt.result c.requires.1.1.1.1.1.1.1.0 c.halt.ensures
           c.read_function.ensures.untouched c.in-Err.ensures.finds c.in-Err.ensures.cause;
     }

@@ -1,16 +1,15 @@
 use Rattle.std.proofs.Common.{refl}
-use Rattle.nf_base.specs.Functions.{function_of}
 use Rattle.call_base.specs.Outside.{seen}
-use Rattle.traffic_run.proofs.Sending.{function_by}
-use Rattle.gen_call.specs.Progress.{Since, HasRefused, asked}
-use Rattle.gen_call.proofs.Finishing.{halted}
-use Rattle.gen_call.proofs.Starting.{first_is, last_is, done, keys_of, cut, finished, unfinished}
+use Rattle.call_base.proofs.Ending.{last_is}
+use Rattle.gen_call.specs.Progress.{Since}
+use Rattle.gen_call.proofs.Finishing.{halted, finished, unfinished}
+use Rattle.gen_call.proofs.Workers.{first_is, done, share_full, cut}
 use Rattle.gen_call.proofs.running.run_created.Goals as goal
 
-pub finish-requires-clause-last : goal.finish-requires-clause-last
-finish-requires-clause-last g c =
+pub leave_run-requires-clause-last : goal.leave_run-requires-clause-last
+leave_run-requires-clause-last g c =
     let requires = c.requires.1.1.1.1.1.1.1 in
-    last_is g.before (seen (g.F.Files.told c.args.files.now) (g.F.Files.counted c.args.files.now)) (g.F.Files.told c.run.new.files) c.args.job.now c.args.targets.now requires.1.1.1.1.1 c.in-Ok-Whole.ensures.kept
+    last_is c.args.job.now.layout.ports requires.1.1.1.1.1 c.in-Ok-Whole.ensures.kept.next_same refl
 
 pub returns-in-Ok : goal.returns-in-Ok
 returns-in-Ok g c =
@@ -21,7 +20,7 @@ returns-in-Ok g c =
     let since : Since = record { before = g.before; was = g.G.Gate.refused c.args.gate.now; is = g.G.Gate.refused c.run.new.gate } in
     let a = seen (told c.args.files.now) (counted c.args.files.now) in
     let b = seen (told c.run.new.files) (counted c.run.new.files) in
-    let now = seen (told c.finish.new.files) (counted c.finish.new.files) in
+    let now = seen (told c.leave_run.new.files) (counted c.leave_run.new.files) in
     let whole = c.in-Ok-Whole in
     let came = rw whole.field-0-is at whole.ensures.runs in
     let behind = done since a b job c.args.targets.now c.args.who.now _ _ whole.mode whole.state whole.sent requires.0 requires.1.1.1.1.1 requires.1.1.0 refl (first_is g.before a job c.args.targets.now requires.1.1.1.1.1) came whole.ensures.kept whole.ensures.cause in
@@ -36,12 +35,12 @@ returns-in-Ok-Whole g c =
     let since : Since = record { before = g.before; was = g.G.Gate.refused c.args.gate.now; is = g.G.Gate.refused c.run.new.gate } in
     let a = seen (told c.args.files.now) (counted c.args.files.now) in
     let b = seen (told c.run.new.files) (counted c.run.new.files) in
-    let now = seen (told c.finish.new.files) (counted c.finish.new.files) in
+    let now = seen (told c.leave_run.new.files) (counted c.leave_run.new.files) in
     let whole = c.in-Ok-Whole in
     let came = rw whole.field-0-is at whole.ensures.runs in
     let behind = done since a b job c.args.targets.now c.args.who.now _ _ whole.mode whole.state whole.sent requires.0 requires.1.1.1.1.1 requires.1.1.0 refl (first_is g.before a job c.args.targets.now requires.1.1.1.1.1) came whole.ensures.kept whole.ensures.cause in
-    let left = unfinished since b now job whole.mode whole.state whole.sent c.in-Err-finish.stop requires.0 behind c.in-Err-finish.ensures in
-    record { gens = halted since now job left.run c.in-Err-finish.stop c.halt.result requires.0 left.of_function c.halt.ensures left.stopped }
+    let stopped = unfinished since b now job whole.mode whole.state whole.sent c.in-Err-leave_run.stop requires.0 behind c.in-Err-leave_run.ensures in
+    record { gens = halted since now job c.in-Err-leave_run.stop c.halt.result requires.0 c.halt.ensures stopped }
 
 pub returns-in-Ok-Full : goal.returns-in-Ok-Full
 returns-in-Ok-Full g c =
@@ -53,7 +52,7 @@ returns-in-Ok-Full g c =
     let a = seen (told c.args.files.now) (counted c.args.files.now) in
     let b = seen (told c.run.new.files) (counted c.run.new.files) in
     let came = rw c.in-Ok-Full.field-0-is at c.in-Ok-Full.ensures.runs in
-    record { gens = keys_of since a b job c.args.targets.now c.args.who.now _ c.in-Ok-Full.full c.full_share.result c.full_share.ensures requires.0 requires.1.1.1.1.1 requires.1.1.0 refl came c.in-Ok-Full.ensures.kept c.in-Ok-Full.ensures.cause }
+    record { gens = share_full since a b job c.args.targets.now c.args.who.now _ c.in-Ok-Full.full c.full_share.result c.full_share.ensures requires.0 requires.1.1.1.1.1 requires.1.1.0 refl came c.in-Ok-Full.ensures.kept c.in-Ok-Full.ensures.cause }
 
 pub returns : goal.returns
 returns g c =
@@ -66,5 +65,4 @@ returns g c =
     let b = seen (told c.run.new.files) (counted c.run.new.files) in
     let came = c.in-Err.ensures.runs in
     let stopped = cut since a b job c.args.targets.now c.args.who.now _ c.in-Err.stop requires.0 requires.1.1.1.1.1 requires.1.1.0 refl came c.in-Err.ensures.kept c.in-Err.ensures.cause c.in-Err.ensures.among in
-    let f = function_by c.args.who.now (asked job).card (HasRefused since) (function_of job.func.now) came.given came.run came.is_run in
-    record { gens = halted since b job came.run c.in-Err.stop c.halt-in-Err.result requires.0 f c.halt-in-Err.ensures stopped }
+    record { gens = halted since b job c.in-Err.stop c.halt-in-Err.result requires.0 c.halt-in-Err.ensures stopped }

@@ -1,4 +1,4 @@
-use Rattle.std.proofs.Common.{sym, arith}
+use Rattle.std.proofs.Common.{refl, sym, arith}
 use Rattle.std.proofs.lemmas.List.{length-map}
 use Rattle.nf_base.specs.Functions.{function_of}
 use Rattle.nf_base.specs.Handlers.{blocks_of}
@@ -41,6 +41,8 @@ run_served-requires g c κs within =
                       is_function = found.is_function;
                       handlers = sym c.len.ensures.value;
                       first = found.number;
+                      captures = refl;
+                      behind = refl;
                       from_two = found.from_two;
                       some = omega (arith, c.len.ensures.value, ports.some, handlers);
                       few = omega (arith, c.len.ensures.value, ports.few, handlers);

@@ -4,7 +4,7 @@ use Rattle.call_base.specs.Opened.{AreAllCreated}
 use Rattle.call_base.specs.Outside.{seen}
 use Rattle.gen_call.specs.Progress.{Since, asked}
 use Rattle.gen_call.proofs.Finishing.{halted}
-use Rattle.gen_call.proofs.Starting.{uncreated}
+use Rattle.gen_call.proofs.Workers.{uncreated}
 use Rattle.gen_call.proofs.running.run_served.Goals as goal
 
 pub returns-in-Err : goal.returns-in-Err
@@ -16,8 +16,8 @@ returns-in-Err g c =
     let since : Since = record { before = g.before; was = g.G.Gate.refused c.args.gate.now; is = g.G.Gate.refused c.args.gate.now } in
     let a = seen (told c.args.files.now) (counted c.args.files.now) in
     let b = seen (told c.create_targets.new.files) (counted c.create_targets.new.files) in
-    let none = uncreated since a b job c.args.who.now c.in-Err.stop requires.0 requires.1.1.1.1.0 requires.1.1.1.1.1 requires.1.1.0 requires.1.1.1.0 c.in-Err.ensures.some c.in-Err.ensures.cause in
-    record { gens = halted since b job none.0 c.in-Err.stop c.halt.result requires.0 none.1 c.halt.ensures none.2 }
+    let stopped = uncreated since a b job c.args.who.now c.in-Err.stop requires.0 requires.1.1.1.1.0 requires.1.1.1.1.1 requires.1.1.0 requires.1.1.1.0 c.in-Err.ensures.some c.in-Err.ensures.cause in
+    record { gens = halted since b job c.in-Err.stop c.halt.result requires.0 c.halt.ensures stopped }
 
 pub run_created-requires : goal.run_created-requires
 run_created-requires g c κs within =
@@ -27,7 +27,7 @@ run_created-requires g c κs within =
     let job = c.args.job.now in
     let a = seen (told c.args.files.now) (counted c.args.files.now) in
     let b = seen (told c.create_targets.new.files) (counted c.create_targets.new.files) in
-    let ports = job.naming.ports in (
+    let ports = job.layout.ports in (
       within.0,
       (
         within.1.0,

@@ -10,9 +10,9 @@ use Rattle.nf_engine.specs.Course.{news, lookups, BlockFits}
 use Rattle.nf_engine.proofs.block.+exec.Given as goal
 
 abbrev pub invariant-loop-rest : goal.invariant-loop-rest
-invariant-loop-rest l = record {
+invariant-loop-rest g l = record {
   smaller : size-Block l.rest ≤ size-Block l.block;
-  fits : BlockFits l.p.decls.now (block_of l.rest);
+  fits : BlockFits l.p.decls (block_of l.rest);
   vars : length l.context.vars + lookups (block_of l.rest) ≤ length l.fn.context.vars + lookups (block_of l.block);
   picks : length l.context.picks + news (block_of l.rest) ≤ length l.fn.context.picks + news (block_of l.block);
   stays : fixed_of l.tables ≡ fixed_of l.fn.tables;

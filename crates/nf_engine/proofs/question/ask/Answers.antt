@@ -8,7 +8,7 @@ use Rattle.nf_engine.proofs.Answering.{answers_as}
 use Rattle.nf_engine.proofs.question.ask.Goals as goal
 
 pub returns-in-Get-clause-answers : goal.returns-in-Get-clause-answers
-returns-in-Get-clause-answers c =
+returns-in-Get-clause-answers g c =
     let p = input_of c.args.p.now in
     let t = c.args.tables.now in
     let d = c.args.context.now in
@@ -19,7 +19,7 @@ returns-in-Get-clause-answers c =
     (c.bind_found.ensures.bound t)
 
 pub returns-in-Find-clause-answers : goal.returns-in-Find-clause-answers
-returns-in-Find-clause-answers c =
+returns-in-Find-clause-answers g c =
     let p = input_of c.args.p.now in
     let t = c.args.tables.now in
     let d = c.args.context.now in

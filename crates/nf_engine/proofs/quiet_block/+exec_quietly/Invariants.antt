@@ -12,9 +12,9 @@ use Rattle.nf_engine.specs.Course.{lookups, BlockFits}
 use Rattle.nf_engine.proofs.quiet_block.+exec_quietly.Given as goal
 
 abbrev pub invariant-loop-rest : goal.invariant-loop-rest
-invariant-loop-rest l = record {
+invariant-loop-rest g l = record {
   smaller : size-Block l.rest ≤ size-Block l.block;
-  fits : BlockFits l.p.decls.now (block_of l.rest);
+  fits : BlockFits l.p.decls (block_of l.rest);
   vars : length l.context.vars + lookups (block_of l.rest) ≤ length l.fn.context.vars + lookups (block_of l.block);
   goes : (left : List ℕ) → exec never (input_of l.p) (block_of l.block) (context_of l.tables left l.fn.context) ≡ exec never (input_of l.p) (block_of l.rest) (context_of l.tables left l.context);
   told : (left : List ℕ) (k : context.Context → List Event) → is_quiet (events never (input_of l.p) (block_of l.block) (context_of l.tables left l.fn.context) k) ≡ is_quiet (events never (input_of l.p) (block_of l.rest) (context_of l.tables left l.context) k);

@@ -6,7 +6,7 @@ use Rattle.nf_engine.proofs.Refusing.{refused_taken, refused_full, told_refused,
 use Rattle.nf_engine.proofs.quiet_block.make_quietly.Goals as goal
 
 pub returns-then-is_taken-clause-told : goal.returns-then-is_taken-clause-told
-returns-then-is_taken-clause-told c =
+returns-then-is_taken-clause-told g c =
     let p = c.args.p.now in
     let t = c.args.tables.now in
     let d = c.args.context.now in
@@ -15,7 +15,7 @@ returns-then-is_taken-clause-told c =
     told_refused Taken p n t d (refused_taken p n t d c.as_slice-2.result.now c.requires.over labels (sym c.is_taken.ensures ∙ c.if-is_taken.true))
 
 pub returns-then-is_full-clause-result : goal.returns-then-is_full-clause-result
-returns-then-is_full-clause-result c =
+returns-then-is_full-clause-result g c =
     let p = c.args.p.now in
     let t = c.args.tables.now in
     let d = c.args.context.now in
@@ -30,7 +30,7 @@ returns-then-is_full-clause-result c =
     })
 
 pub returns-then-is_full-clause-told : goal.returns-then-is_full-clause-told
-returns-then-is_full-clause-told c =
+returns-then-is_full-clause-told g c =
     let p = c.args.p.now in
     let t = c.args.tables.now in
     let d = c.args.context.now in
@@ -45,7 +45,7 @@ returns-then-is_full-clause-told c =
     }))
 
 pub returns-else-is_full-clause-makes : goal.returns-else-is_full-clause-makes
-returns-else-is_full-clause-makes c =
+returns-else-is_full-clause-makes g c =
     let p = c.args.p.now in
     let t = c.args.tables.now in
     let d = c.args.context.now in

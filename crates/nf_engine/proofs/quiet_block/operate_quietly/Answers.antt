@@ -11,16 +11,16 @@ use Rattle.nf_engine.proofs.QuietOperations.{on_true, on_false, touch_decided, w
 use Rattle.nf_engine.proofs.quiet_block.operate_quietly.Goals as goal
 
 pub returns-in-Touch-clause-done : goal.returns-in-Touch-clause-done
-returns-in-Touch-clause-done c =
+returns-in-Touch-clause-done g c =
     let p = c.args.p.now in
     let t = c.args.tables.now in
     let d = c.args.context.now in
     let o = c.in-Touch in
-    let is = ap (λ (v : Var). restamps_at p.time t.state.chains v) (sym c.at-at.ensures) ∙ sym c.restamps.ensures in
+    let is = ap (λ (v : Var). restamps_at p.time t.state.chains v) (sym c.at-at.ensures) ∙ sym (rw c.time.ensures at c.restamps.ensures) in
     rw o.is (on_true c.restamps.result p (Touch o.var) t d (touch_decided c.restamps.result p o.var t d is))
 
 pub returns-in-Write-clause-done : goal.returns-in-Write-clause-done
-returns-in-Write-clause-done c =
+returns-in-Write-clause-done g c =
     let p = c.args.p.now in
     let t = c.args.tables.now in
     let d = c.args.context.now in
@@ -30,7 +30,7 @@ returns-in-Write-clause-done c =
     rw o.is (on_true c.rewrites.result p (Write o.var o.column (given_of o.g)) t d (write_decided c.rewrites.result p o.var o.column v.result (given_of o.g) t d v.ensures is))
 
 pub returns-in-Store-clause-done : goal.returns-in-Store-clause-done
-returns-in-Store-clause-done c =
+returns-in-Store-clause-done g c =
     let p = c.args.p.now in
     let t = c.args.tables.now in
     let d = c.args.context.now in
@@ -41,7 +41,7 @@ returns-in-Store-clause-done c =
     rw o.is (on_true c.differs.result p (Store o.place o.array (expression_of o.at) (given_of o.g)) t d (store_decided c.differs.result p o.place o.array c.narrowed-i.result v.result (expression_of o.at) (given_of o.g) t d index v.ensures is))
 
 pub returns-in-Store-clause-writes : goal.returns-in-Store-clause-writes
-returns-in-Store-clause-writes c =
+returns-in-Store-clause-writes g c =
     let p = c.args.p.now in
     let t = c.args.tables.now in
     let d = c.args.context.now in

@@ -5,4 +5,4 @@ use Rattle.nf_engine.specs.View.{all_given}
 use Rattle.nf_engine.proofs.values.labels_of.Given as goal
 
 abbrev pub invariant-loop-g : goal.invariant-loop-g
-invariant-loop-g l = l.labels ≡ all_given l.p l.tables l.context (map given_of (take l.g-index l.gs))
+invariant-loop-g g l = l.labels ≡ all_given l.p l.tables l.context (map given_of (take l.g-index l.gs))

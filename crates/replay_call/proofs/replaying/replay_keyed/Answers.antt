@@ -1,5 +1,3 @@
-use Rattle.std.proofs.Common.{◌∙◌, string_bytes, sym}
-use Rattle.std.proofs.lemmas.List.{length-map}
 use Rattle.call_base.specs.Outside.{seen}
 use Rattle.replay_run.specs.Queues.{lent}
 use Rattle.replay_call.proofs.Beginning.{halted}
@@ -12,7 +10,7 @@ returns-in-Ok g c =
     let b = seen (g.F.Files.told c.replay.new.files) (g.F.Files.counted c.replay.new.files) in
     record {
       replays = λ before is begun keys. c.told.ensures.replays before is
-          (has_come before a b c.args.job.now (lent c.args.keys) c.args.captures.now c.args.feed.now c.args.begun c.args.outputs.now c.in-Ok.came is c.requires.sized begun keys c.requires.captures c.requires.six c.requires.all c.requires.as_many c.in-Ok.ensures.comes c.replay.ensures.kept c.in-Ok.ensures.cause);
+          (has_come before a b c.args.job.now (lent c.args.keys) c.args.captures.now c.args.feed.now c.args.begun c.args.outputs.now c.in-Ok.came is c.requires.sized begun keys c.requires.as_many c.in-Ok.ensures.comes c.replay.ensures.kept c.in-Ok.ensures.cause);
     }
 
 pub returns-in-Err : goal.returns-in-Err
@@ -20,8 +18,7 @@ returns-in-Err g c =
     let a = seen (g.F.Files.told c.args.files.now) (g.F.Files.counted c.args.files.now) in
     let b = seen (g.F.Files.told c.replay.new.files) (g.F.Files.counted c.replay.new.files) in
     let job = c.args.job.now in
-    let all = c.requires.all ∙ sym (length-map job.command.now.captures.items string_bytes ∙ c.requires.sized.captures) in
     record {
       replays = λ before is begun keys. halted before b job c.in-Err.stop c.halt.result is c.requires.sized c.halt.ensures
-          (is_unended before a b job c.args.captures.now c.args.feed.now c.args.begun c.args.outputs.now c.in-Err.stop is begun c.requires.captures all c.replay.ensures.kept c.in-Err.ensures.among c.in-Err.ensures.cause);
+          (is_unended before a b job c.args.captures.now c.args.feed.now c.args.begun c.args.outputs.now c.in-Err.stop is c.requires.sized begun c.replay.ensures.kept c.in-Err.ensures.among c.in-Err.ensures.cause);
     }

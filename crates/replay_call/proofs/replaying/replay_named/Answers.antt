@@ -8,6 +8,7 @@ use Rattle.packet_feed.specs.Feeding.{Feeding}
 use Rattle.call_base.specs.Names.{reading}
 use Rattle.call_base.specs.Opened.{AreOpened, AsksSome, StopsFrom}
 use Rattle.call_base.specs.Outside.{Outside, seen}
+use Rattle.call_base.proofs.Reading.{fed_next}
 use Rattle.replay_call.specs.declared.job.Job.{Job}
 use Rattle.replay_call.specs.Progress.{IsSized, HasFed, asked, ports_of}
 use Rattle.replay_call.proofs.Beginning.{halted, are_unopened}
@@ -15,18 +16,18 @@ use Rattle.replay_call.proofs.Judging.{has_ready}
 use Rattle.replay_call.proofs.replaying.replay_named.Goals as goal
 
 -- the places of files that were opened one behind another tell their numbers
-placed : (k : ℕ) (xs ys : List ℕ) (from : ℕ) → ((i f : ℕ) → slice_get xs i ≡ Some f → f + k ≡ from + i) → ((i f : ℕ) → slice_get ys i ≡ Some f → f + k ≡ from + length xs + i) → (i f : ℕ) → slice_get (xs ++ ys) i ≡ Some f → f + k ≡ from + i
-placed k [] ys from hx hy i f e = omega (arith, hy i f e)
-placed k (x ∷ xs) ys from hx hy zero f e = hx zero f e
-placed k (x ∷ xs) ys from hx hy (suc i) f e =
-    let r = placed k xs ys (suc from) (λ j g q. omega (arith, hx (suc j) g q)) (λ j g q. omega (arith, hy j g q)) i f e in omega (arith, r)
+placed : (xs ys : List ℕ) (from : ℕ) → ((i f : ℕ) → slice_get xs i ≡ Some f → f ≡ from + i) → ((i f : ℕ) → slice_get ys i ≡ Some f → f ≡ from + length xs + i) → (i f : ℕ) → slice_get (xs ++ ys) i ≡ Some f → f ≡ from + i
+placed [] ys from hx hy i f e = omega (arith, hy i f e)
+placed (x ∷ xs) ys from hx hy zero f e = hx zero f e
+placed (x ∷ xs) ys from hx hy (suc i) f e =
+    let r = placed xs ys (suc from) (λ j g q. omega (arith, hx (suc j) g q)) (λ j g q. omega (arith, hy j g q)) i f e in omega (arith, r)
 
-ports_are : (job : Job) → IsSized job → job.numbers.ports ≡ ports_of job
+ports_are : (job : Job) → IsSized job → job.layout.ports ≡ ports_of job
 ports_are job sized = sym (length-map job.command.now.captures.items string_bytes ∙ sized.captures)
 
 from_behind : (before a : Outside) (job : Job) (captures : List ℕ) (v : Feeding) (last count : ℕ) (stop : NumberStop) → HasFed before a job captures v → a.told.next ≡ last + 1 → count ≡ ports_of job + 1 → StopsFrom (last + 1) count stop → StopsFrom (before.told.next + 1 + ports_of job) (ports_of job + 1) stop
 from_behind before a job captures v last count numbered.Memory h next long from = tt
-from_behind before a job captures v last count (numbered.File file) h next long from = (omega (arith, from.0, next, h.next, h.all), omega (arith, from.1, next, h.next, h.all, long))
+from_behind before a job captures v last count (numbered.File file) h next long from = (omega (arith, from.0, next, fed_next h, h.opened.all), omega (arith, from.1, next, fed_next h, h.opened.all, long))
 
 pub replay_ready-requires-clause-opened : goal.replay_ready-requires-clause-opened
 replay_ready-requires-clause-opened g c =
@@ -45,7 +46,7 @@ replay_ready-requires-clause-apart g c =
     let others = c.in-Some.journal.now ∷ c.in-Some.outputs.now in
     let next = (g.F.Files.told c.args.files.now).next in
     let there = λ (k f : ℕ) (q : slice_get others k ≡ Some f). c.in-Ok.ensures.opened.numbers k f (ap (λ (xs : List ℕ). slice_get xs k) same ∙ q) in
-    let at = placed (length captures) captures others next c.requires.latest (λ k f q. omega (arith, there k f q)) in
+    let at = placed captures others (c.args.job.now.layout.first + 1) (λ k f q. (c.requires.from k f q).0) (λ k f q. omega (arith, there k f q, c.requires.next, c.requires.all)) in
     λ i j f f' e e' apart is. apart (omega (arith, at i f e, at j f' e', is))
 
 pub returns-in-Some : goal.returns-in-Some
@@ -71,7 +72,7 @@ returns g c =
     let job = c.args.job.now in
     record {
       replays = λ before is fed named. halted before b job c.in-Err.stop c.halt.result is c.requires.sized c.halt.ensures
-          (are_unopened before a b job c.args.captures.now c.args.feed.now c.in-Err.stop is fed c.open_captures.ensures.untouched
+          (are_unopened before a b job c.args.captures.now c.args.feed.now c.in-Err.stop is c.requires.sized fed c.open_captures.ensures.untouched
           (from_behind before a job c.args.captures.now c.args.feed.now c.args.last (length c.args.names.now) c.in-Err.stop fed c.requires.last (omega (arith, c.requires.some, ports_are job c.requires.sized)) c.in-Err.ensures.from)
           (subst (λ (ns : List (List ℕ)). AsksSome (map reading ns) a.counted b.counted c.in-Err.stop) named c.in-Err.ensures.cause));
     }

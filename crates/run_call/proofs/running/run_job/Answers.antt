@@ -1,52 +1,43 @@
-use Rattle.std.proofs.Common.{◌≡◌, ◌+◌, ◌∙◌, ℕ, List, String, Global, map, length, string_bytes, ap, sym, subst, arith, [], ◌∷◌, slice_get}
+use Rattle.std.proofs.Common.{◌∙◌, ◌+◌, List, String, Global, Err, ℕ, length, map, slice_get, string_bytes, ap, sym, subst, arith}
 use Rattle.std.proofs.lemmas.List.{length-map}
-use Rattle.nf_files.specs.Causes.{asking}
-use Rattle.stream_run.specs.declared.stop.Stop.{Stop as NumberStop}
-use Rattle.stream_run.specs.declared.stop.Stop.TheVariants as numbered
+use Rattle.nf_base.specs.Functions.{function_of}
+use Rattle.call_base.specs.Outside.{seen}
+use Rattle.call_base.specs.Reading as ladder
+use Rattle.call_base.specs.Reading.{ReadsTo}
 use Rattle.lock_mode.specs.Gates.{Rose}
-use Rattle.run_call.specs.declared.job.Job.{Job}
-use Rattle.call_base.specs.Names.{reading}
-use Rattle.call_base.specs.Opened.{AreOpened, AsksSome, StopsFrom}
-use Rattle.call_base.specs.Outside.{Outside, IsUntouched, HasOnlyAsked, seen}
-use Rattle.run_call.specs.Progress.{IsJob, HasOpened, asked, ports_of}
-use Rattle.run_call.proofs.Beginning.{has_opened, is_unopened}
-use Rattle.run_call.proofs.Finishing.{halted}
+use Rattle.run_call.specs.Progress.{HasFed, asked}
+use Rattle.run_call.proofs.Beginning.{unfed}
 use Rattle.run_call.proofs.running.run_job.Goals as goal
 
--- the numbers of the captures, by those of the job
-from_first : (before : Outside) (job : Job) (names : List (String Global)) (stop : NumberStop) → IsJob before.told job → names ≡ job.command.now.captures.items → StopsFrom (job.numbers.first + 1) (length names) stop → StopsFrom (before.told.next + 1) (ports_of job) stop
-from_first before job names numbered.Memory is same from = tt
-from_first before job names (numbered.File file) is same from =
-    let long : length names ≡ ports_of job = ap (λ (xs : List (String Global)). length xs) same ∙ sym (length-map job.command.now.captures.items string_bytes) in
-    (omega (arith, from.0, is.first), omega (arith, from.1, is.first, long))
+pub open_inputs-requires-clause-last : goal.open_inputs-requires-clause-last
+open_inputs-requires-clause-last g c =
+    let requires = c.requires.1.1.1.1.1.1.1 in omega (arith, requires.1.0, requires.0.first)
 
--- all captures were opened, whose names are those of the command
-opened_by : (before a b : Outside) (job : Job) (names : List (String Global)) (captures slice : List ℕ) → IsJob before.told job → a.told.next ≡ before.told.next + 1 → HasOnlyAsked (reading (asked job).function ∷ []) before a → names ≡ job.command.now.captures.items → slice ≡ captures
-    → AreOpened a.told b.told (map string_bytes names) captures → length captures ≡ length names → IsUntouched a.told b.told → b.counted ≡ asking (map reading (map string_bytes names)) a.counted → HasOpened before b job slice
-opened_by before a b job names captures slice is next only same read opened all untouched counted =
-    let long : length captures ≡ ports_of job = all ∙ ap (λ (xs : List (String Global)). length xs) same ∙ sym (length-map job.command.now.captures.items string_bytes) in
-    subst (λ (s : List ℕ). HasOpened before b job s) (sym read)
-    (has_opened before a b job captures is next only (subst (λ (xs : List (String Global)). AreOpened a.told b.told (map string_bytes xs) captures) same opened) long untouched
-    (subst (λ (xs : List (String Global)). b.counted ≡ asking (map reading (map string_bytes xs)) a.counted) same counted))
+pub open_inputs-requires-clause-all : goal.open_inputs-requires-clause-all
+open_inputs-requires-clause-all g c =
+    let job = c.args.job.now in
+    let is = c.requires.1.1.1.1.1.1.1.0 in
+    ap (λ (xs : List (String Global)). length xs) c.as_slice-names.ensures.value ∙ sym (length-map job.command.now.captures.items string_bytes) ∙ sym (is.captures ∙ is.ports)
 
 pub returns-in-Err : goal.returns-in-Err
 returns-in-Err g c =
-    let told = g.F.Files.told in
-    let counted = g.F.Files.counted in
+    let requires = c.requires.1.1.1.1.1.1.1 in
     let job = c.args.job.now in
-    let a = seen (told c.args.files.now) (counted c.args.files.now) in
-    let b = seen (told c.open_captures.new.files) (counted c.open_captures.new.files) in
+    let f = function_of job.func.now in
+    let count = g.L.Gate.refused c.args.gate.now in
+    let b = seen (g.F.Files.told c.open_inputs.new.files) (g.F.Files.counted c.open_inputs.new.files) in
     record {
-      runs = halted g.before b job c.in-Err.stop c.halt.result c.requires.1.1.1.1.1.1.1.0 c.halt.ensures
-          (is_unopened (Rose (g.L.Gate.refused c.args.gate.now) (g.L.Gate.refused c.args.gate.now)) g.before a b job c.in-Err.stop c.requires.1.1.1.1.1.1.1.0 c.requires.1.1.1.1.1.1.1.1.1 c.open_captures.ensures.untouched
-          (from_first g.before job c.as_slice.result.now c.in-Err.stop c.requires.1.1.1.1.1.1.1.0 c.as_slice.ensures.value c.in-Err.ensures.from)
-          c.in-Err.ensures.here
-          (subst (λ (xs : List (String Global)). AsksSome (map reading (map string_bytes xs)) a.counted b.counted c.in-Err.stop) c.as_slice.ensures.value c.in-Err.ensures.cause));
+      runs = unfed (Rose count count) g.before b job c.in-Err.halt requires.0
+          (subst (λ (ns : List (String Global)). ReadsTo (record { text = (asked job).function; captures = map string_bytes ns; most = (asked job).most }) f g.before b (Err c.in-Err.halt)) c.as_slice-names.ensures.value
+          (c.in-Err.ensures.reads (asked job).function g.before (sym requires.0.first) requires.1.1));
     }
 
-pub run_opened-requires : goal.run_opened-requires
-run_opened-requires g c κs within =
-    let requires = c.requires.1.1.1.1.1.1.1 in (
+pub run_fed-requires : goal.run_fed-requires
+run_fed-requires g c κs within =
+    let requires = c.requires.1.1.1.1.1.1.1 in
+    let job = c.args.job.now in
+    let f = function_of job.func.now in
+    let b = seen (g.F.Files.told c.open_inputs.new.files) (g.F.Files.counted c.open_inputs.new.files) in (
       within.0,
       (
         within.1.0,
@@ -63,9 +54,10 @@ run_opened-requires g c κs within =
                   (
                     requires.0,
                     (
-                      λ p f e. c.in-Ok.ensures.readable p f (ap (λ (fs : List ℕ). slice_get fs p) (sym c.as_slice-in-Ok.ensures.value) ∙ e),
-                      opened_by g.before (seen (g.F.Files.told c.args.files.now) (g.F.Files.counted c.args.files.now)) (seen (g.F.Files.told c.open_captures.new.files) (g.F.Files.counted c.open_captures.new.files)) c.args.job.now c.as_slice.result.now c.in-Ok.captures.items c.as_slice-in-Ok.result.now requires.0 requires.1.0 requires.1.1 c.as_slice.ensures.value c.as_slice-in-Ok.ensures.value
-                          c.in-Ok.ensures.opened c.in-Ok.ensures.all c.open_captures.ensures.untouched c.in-Ok.ensures.cause,
+                      λ p f e. c.in-Ok.ensures.readable p f (ap (λ (fs : List ℕ). slice_get fs p) (sym c.as_slice-captures.ensures.value) ∙ e),
+                      subst (λ (fs : List ℕ). HasFed g.before b job fs c.in-Ok.field-0.feed) (sym c.as_slice-captures.ensures.value)
+                          (subst (λ (ns : List (String Global)). ladder.HasFed (record { text = (asked job).function; captures = map string_bytes ns; most = (asked job).most }) f g.before b c.in-Ok.field-0.captures.items c.in-Ok.field-0.feed) c.as_slice-names.ensures.value
+                          (c.in-Ok.ensures.reads (asked job).function g.before (sym requires.0.first) requires.1.1)),
                     ),
                   ),
                 ),

@@ -1,4 +1,4 @@
-use Rattle.std.proofs.Common.{◌∙◌, string_bytes, sym, arith}
+use Rattle.std.proofs.Common.{◌∙◌, string_bytes, refl, sym, arith}
 use Rattle.std.proofs.lemmas.List.{length-map}
 use Rattle.nf_base.specs.Functions.{function_of}
 use Rattle.nf_base.specs.Handlers.{blocks_of}
@@ -34,12 +34,14 @@ run_job-requires g c κs within =
                         keyed = λ needs. keyed_by asked (function_of c.args.found.now.source.func) c.args.course.now requires.1.1.1.0 needs;
                       };
                       course = requires.1.1.1.0;
-                      handlers = sym c.len.ensures.value;
+                      handlers = sym c.len-ports.ensures.value;
+                      captures = refl;
+                      behind = refl;
                       first = found.number;
                       from_two = found.from_two;
-                      ports = c.len.ensures.value ∙ sym as_many;
-                      some = omega (arith, c.len.ensures.value, requires.0, requires.1.1.0);
-                      few = omega (arith, c.len.ensures.value, requires.1.0, requires.1.1.0);
+                      ports = c.len-ports.ensures.value ∙ sym as_many;
+                      some = omega (arith, c.len-ports.ensures.value, requires.0, requires.1.1.0);
+                      few = omega (arith, c.len-ports.ensures.value, requires.1.0, requires.1.1.0);
                     },
                     (found.next, found.only),
                   ),

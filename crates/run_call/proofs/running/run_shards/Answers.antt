@@ -3,9 +3,9 @@ use Rattle.std.proofs.lemmas.Option.{slice_get_within}
 use Rattle.nf_files.specs.Told.{IsEmptyIfTold}
 use Rattle.call_base.specs.Outside.{seen}
 use Rattle.run_call.specs.Progress.{HasRun, asked, ports_of, end_of}
-use Rattle.run_call.proofs.Finishing.{halted}
-use Rattle.run_call.proofs.Starting.{behind_last, ready_next}
-use Rattle.run_call.proofs.Sharding.{shards_finished, shards_full, shards_halted}
+use Rattle.call_base.proofs.Ending.{last_is, targets_empty}
+use Rattle.run_call.proofs.Beginning.{halted}
+use Rattle.run_call.proofs.Workers.{shards_finished, shards_full, shards_halted}
 use Rattle.run_call.proofs.running.run_shards.Goals as goal
 use Rattle.lock_mode.specs.Gates.{Rose}
 use Rattle.run_history.specs.declared.line.Mode.TheVariants.{Shard}
@@ -13,8 +13,7 @@ use Rattle.run_history.specs.declared.line.Mode.TheVariants.{Shard}
 pub leave_ran-requires : goal.leave_ran-requires
 leave_ran-requires g c κs within =
     let ready = c.requires.1.1.1.1.1.1.1.1.1 in
-    let last = behind_last c.args.targets.now (g.F.Files.told c.args.files.now).next (g.F.Files.told c.run.new.files).next ready.old.told.next (ports_of c.args.job.now) c.args.job.now.numbers.ports c.run.ensures.kept.next_same ready.created.created.next ready.created.all ready.created.numbers c.requires.1.1.1.1.1.0.ports in
-    (within, (c.requires.1.1.1.1.1.0, (last, ready_next g.before _ c.args.job.now c.args.captures.now c.args.targets.now c.args.feed.now ready c.run.ensures.kept.next_same)))
+    (within, (c.requires.1.1.1.1.1.0, last_is c.args.job.now.layout.ports ready.created c.run.ensures.kept.next_same c.requires.1.1.1.1.1.0.ports))
 
 pub returns-in-Ok-Ran : goal.returns-in-Ok-Ran
 returns-in-Ok-Ran g c =
@@ -26,7 +25,7 @@ returns-in-Ok-Ran g c =
     let came = rw c.in-Ok-Ran.field-0-is at c.in-Ok-Ran.ensures.runs in
     record {
       runs = λ old new. c.leave_ran.ensures.runs old new
-          (subst (λ (t : Option (ℕ × ℕ)). HasRun (Rose old new) g.before b job Shard ran.packets ran.state (end_of (asked job).most ran.ending t) (ports_of job + 1) (ports_of job + 1)) (sym c.torn.ensures)
+          (subst (λ (t : Option (ℕ × ℕ)). HasRun (Rose old new) g.before b job Shard ran.packets ran.state (end_of (asked job).most ran.ending t)) (sym c.torn.ensures)
           (shards_finished _ g.before (seen (told c.args.files.now) (counted c.args.files.now)) b job c.args.captures.now c.args.targets.now c.args.feed.now c.run.new.feed c.args.keys.now ran c.requires.1.1.1.1.1.0 c.requires.1.1.1.1.1.1.0 c.requires.1.1.1.1.1.1.1.1.1 came c.run.ensures.kept c.in-Ok-Ran.ensures.cause));
     }
 
@@ -38,10 +37,8 @@ returns-in-Ok-Full g c =
     let b = seen (told c.run.new.files) (counted c.run.new.files) in
     let came = rw c.in-Ok-Full.field-0-is at c.in-Ok-Full.ensures.runs in
     record {
-      runs = λ old new. c.print_ran.ensures.runs old new (record {
-        state = came.stops.state;
-        ran = shards_full _ g.before (seen (told c.args.files.now) (counted c.args.files.now)) b job c.args.captures.now c.args.targets.now c.args.feed.now c.args.keys.now c.in-Ok-Full.full c.full_share.result c.full_share.ensures c.requires.1.1.1.1.1.0 c.requires.1.1.1.1.1.1.0 c.requires.1.1.1.1.1.1.1.1.1 came c.run.ensures.kept c.in-Ok-Full.ensures.cause;
-      });
+      runs = λ old new. c.print_ran.ensures.runs old new came.stops.state
+          (shards_full _ g.before (seen (told c.args.files.now) (counted c.args.files.now)) b job c.args.captures.now c.args.targets.now c.args.feed.now c.args.keys.now c.in-Ok-Full.full c.full_share.result c.full_share.ensures c.requires.1.1.1.1.1.0 c.requires.1.1.1.1.1.1.0 c.requires.1.1.1.1.1.1.1.1.1 came c.run.ensures.kept c.in-Ok-Full.ensures.cause);
     }
 
 pub returns-in-Err : goal.returns-in-Err
@@ -57,5 +54,4 @@ returns-in-Err g c =
 
 pub run-requires-clause-empty : goal.run-requires-clause-empty
 run-requires-clause-empty g c κs lives k file e =
-    let ready = c.requires.1.1.1.1.1.1.1.1.1 in
-    subst (λ (n : ℕ). IsEmptyIfTold ((g.F.Files.told c.args.files.now).given n)) (sym (ready.created.numbers k file e)) (ready.created.created.empties k (omega (arith, slice_get_within c.args.targets.now k file e, ready.created.all)))
+    targets_empty c.requires.1.1.1.1.1.1.1.1.1.created k file e

@@ -4,17 +4,16 @@ use Rattle.nf_files.specs.Told.{IsEmptyIfTold}
 use Rattle.lock_mode.specs.Gates.{Rose}
 use Rattle.call_base.specs.Outside.{seen}
 use Rattle.run_call.specs.Progress.{HasRun, asked, ports_of, end_of}
-use Rattle.run_call.proofs.Finishing.{halted}
-use Rattle.run_call.proofs.Starting.{behind_last, ready_next}
-use Rattle.run_call.proofs.Sharing.{tables_finished, tables_halted}
+use Rattle.call_base.proofs.Ending.{last_is, targets_empty}
+use Rattle.run_call.proofs.Beginning.{halted}
+use Rattle.run_call.proofs.Workers.{tables_finished, tables_halted}
 use Rattle.run_call.proofs.running.run_tables.Goals as goal
 
 pub leave_ran-requires : goal.leave_ran-requires
 leave_ran-requires g c κs within =
     let requires = c.requires.1.1.1.1.1.1.1 in
     let ready = requires.1.1.1.1 in
-    let last = behind_last c.args.targets.now (g.F.Files.told c.args.files.now).next (g.F.Files.told c.run.new.files).next ready.old.told.next (ports_of c.args.job.now) c.args.job.now.numbers.ports c.run.ensures.kept.next_same ready.created.created.next ready.created.all ready.created.numbers requires.0.ports in
-    (within, (requires.0, (last, ready_next g.before _ c.args.job.now c.args.captures.now c.args.targets.now c.args.feed.now ready c.run.ensures.kept.next_same)))
+    (within, (requires.0, last_is c.args.job.now.layout.ports ready.created c.run.ensures.kept.next_same requires.0.ports))
 
 pub returns-in-Ok : goal.returns-in-Ok
 returns-in-Ok g c =
@@ -28,7 +27,7 @@ returns-in-Ok g c =
     let New = g.L.Gate.refused c.run.new.gate in
     record {
       runs = c.leave_ran.ensures.runs Old New
-          (subst (λ (t : Option (ℕ × ℕ)). HasRun (Rose Old New) g.before b job came.mode came.ran.packets came.ran.state (end_of (asked job).most came.ran.ending t) (ports_of job + 1) (ports_of job + 1)) (sym c.torn.ensures)
+          (subst (λ (t : Option (ℕ × ℕ)). HasRun (Rose Old New) g.before b job came.mode came.ran.packets came.ran.state (end_of (asked job).most came.ran.ending t)) (sym c.torn.ensures)
           (tables_finished (Rose Old New) g.before (seen (told c.args.files.now) (counted c.args.files.now)) b job c.args.captures.now c.args.targets.now c.args.feed.now c.run.new.feed came requires.0 requires.1.0 requires.1.1.1.1 c.in-Ok.ensures.runs c.run.ensures.kept c.in-Ok.ensures.cause));
     }
 
@@ -46,5 +45,4 @@ returns-in-Err g c =
 
 pub run-requires-clause-empty : goal.run-requires-clause-empty
 run-requires-clause-empty g c κs lives k file e =
-    let ready = c.requires.1.1.1.1.1.1.1.1.1.1.1 in
-    subst (λ (n : ℕ). IsEmptyIfTold ((g.F.Files.told c.args.files.now).given n)) (sym (ready.created.numbers k file e)) (ready.created.created.empties k (omega (arith, slice_get_within c.args.targets.now k file e, ready.created.all)))
+    targets_empty c.requires.1.1.1.1.1.1.1.1.1.1.1.created k file e

@@ -9,7 +9,7 @@ returns-in-Err-clause-goes_on g c = λ bytes h.
     let new = g.F.Files.told c.write_whole.new.files in
     let w = c.in-Err.ensures.wrote in
     let held : Holds bytes (old.given c.self.inside.file) c.as_slice.result.now =
-    subst (λ (xs : List ℕ). Holds bytes (old.given c.self.inside.file) xs) (sym c.as_slice.ensures.value)
+    subst (λ (xs : List ℕ). Holds bytes (old.given c.self.inside.file) xs) (sym c.as_slice.ensures)
     (subst (λ (s : Holding). Holds bytes (old.given s.file) s.held) (sym c.self.view_is) h) in
     subst (λ (s : Holding). IsFrontIfTold bytes (new.given s.file)) c.self.view_is
     (flushed_front bytes c.as_slice.result.now w.count (old.given c.self.inside.file) (new.given c.self.inside.file) held w.wrote.gained)

@@ -1,9 +1,11 @@
-use Rattle.std.proofs.Common.{◌∙◌, ap, refl, ℕ, ◌*◌, List}
-use Rattle.vig_tables.specs.Grid.{Grid, grid_of}
+use Rattle.std.proofs.Common.{◌∙◌, ap, arith, ℕ, ◌*◌, ◌-◌, List}
+use Rattle.vig_tables.specs.Grid.{Grid, grid_of, filled}
 use Rattle.vig_tables.proofs.RowLemmas.{rows_of_zeros}
 use Rattle.vig_tables.proofs.rows.Rows.new.Goals as goal
 
 pub returns : goal.returns
 returns c =
-    ap (grid_of c.args.count c.args.width) c.in_ok-cells.ensures
-    ∙ ap (λ (rows : List (List ℕ)). let grid : Grid = record { width = c.args.width; rows = rows } in grid) (rows_of_zeros c.args.count c.args.width (c.args.count * c.args.width) refl)
+    let count = c.args.count in
+    let width = c.args.width in
+    ap (λ (xs : List ℕ). grid_of count width (filled (count * width) xs)) c.in_ok-cells.ensures.items
+    ∙ ap (λ (rows : List (List ℕ)). let grid : Grid = record { width = width; rows = rows } in grid) (rows_of_zeros count width (count * width - 0) (omega arith))

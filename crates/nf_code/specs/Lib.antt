@@ -1,0 +1,4 @@
+pub mod Code
+pub mod Followed
+pub mod Alike
+pub mod Ready

@@ -1,8 +1,0 @@
--- the values of what was gone through
-use Rattle.std.proofs.Common.{◌≡◌, take, map}
-use Rattle.nf_base.specs.View.{given_of}
-use Rattle.nf_engine.specs.View.{all_given}
-use Rattle.nf_engine.proofs.values.key_of.Given as goal
-
-abbrev pub invariant-loop-g : goal.invariant-loop-g
-invariant-loop-g l = l.key ≡ all_given l.p l.tables l.context (map given_of (take l.g-index l.gs))

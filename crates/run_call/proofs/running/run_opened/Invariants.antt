@@ -1,4 +1,0 @@
-use Rattle.run_call.proofs.running.run_opened.Given as goal
-
-abbrev pub ghost-run_fed : goal.ghost-run_fed
-ghost-run_fed g a = g.before

@@ -1,0 +1,103 @@
+use Rattle.std.proofs.Common.{◌<◌, ◌∙◌, ℕ, List, length, sym, ap, refl, subst, arith}
+use Rattle.std.specs.List.{slice_get}
+use Rattle.std.proofs.lemmas.Option.{slice_get_read, slice_get_within}
+use Rattle.packet_feed.specs.Told.{IsApart}
+use Rattle.packet_feed.proofs.Gathering.{map_kept}
+use Rattle.stream_run.specs.Texts.{bytes_of}
+use Rattle.stream_run.specs.Writing.{Holding, files_of}
+use Rattle.stream_run.proofs.Held.{file_at, same_length, partly_more, partly_fronts, all_partly, same_bytes, kept_more, stops_here, little_more}
+use Rattle.stream_run.proofs.sinks.flush_full.Goals as goal
+
+pub flush_full-requires : goal.flush_full-requires
+flush_full-requires g c =
+    let told = g.F.Files.told in
+    let now = c.loop-k.sinks in
+    let k = c.loop-k.k in
+    let s = c.item_mut-sink.result.now in
+    let inv = c.loop-k.invariant in
+    let lt : k < length now = omega (arith, c.len-k-end.ensures, c.loop-k-test.true, same_length now c.args.sinks.now inv.same_files) in
+    let at = slice_get_read now (length now) k s refl lt c.item_mut-sink.ensures.value in
+    let file = sym (ap (λ (fs : List ℕ). slice_get fs k) inv.same_files) ∙ file_at now k s at in
+    let apart = subst (λ (fs : List ℕ). IsApart fs) (sym inv.same_files) c.requires.apart in
+    record { created = inv.writes s.file (c.requires.created k s.file file) }
+
+pub returns-in-Err-clause-goes_on : goal.returns-in-Err-clause-goes_on
+returns-in-Err-clause-goes_on g c = λ mode workers card ports hs held j f q.
+    let told = g.F.Files.told in
+    let now = c.loop-k.sinks in
+    let k = c.loop-k.k in
+    let s = c.item_mut-sink.result.now in
+    let inv = c.loop-k.invariant in
+    let lt : k < length now = omega (arith, c.len-k-end.ensures, c.loop-k-test.true, same_length now c.args.sinks.now inv.same_files) in
+    let at = slice_get_read now (length now) k s refl lt c.item_mut-sink.ensures.value in
+    let file = sym (ap (λ (fs : List ℕ). slice_get fs k) inv.same_files) ∙ file_at now k s at in
+    let apart = subst (λ (fs : List ℕ). IsApart fs) (sym inv.same_files) c.requires.apart in
+    let same = map_kept (λ (x : Holding). x.file) now k s c.flush_full.new.self at c.flush_full.ensures.same_file in
+    partly_fronts (λ j. bytes_of mode workers card ports j hs) (λ j. bytes_of mode workers card ports j hs) now k s (told c.loop-k.files) (told c.flush_full.new.files) apart at c.flush_full.ensures.kept (λ j. same_bytes (bytes_of mode workers card ports j hs)) (λ x. c.in-Err.ensures.goes_on (bytes_of mode workers card ports k hs) x) (inv.partly mode workers card ports hs held) j f (ap (λ (fs : List ℕ). slice_get fs j) (sym same) ∙ q)
+
+pub returns-in-Err-clause-same_files : goal.returns-in-Err-clause-same_files
+returns-in-Err-clause-same_files g c =
+    let told = g.F.Files.told in
+    let now = c.loop-k.sinks in
+    let k = c.loop-k.k in
+    let s = c.item_mut-sink.result.now in
+    let inv = c.loop-k.invariant in
+    let lt : k < length now = omega (arith, c.len-k-end.ensures, c.loop-k-test.true, same_length now c.args.sinks.now inv.same_files) in
+    let at = slice_get_read now (length now) k s refl lt c.item_mut-sink.ensures.value in
+    let file = sym (ap (λ (fs : List ℕ). slice_get fs k) inv.same_files) ∙ file_at now k s at in
+    let apart = subst (λ (fs : List ℕ). IsApart fs) (sym inv.same_files) c.requires.apart in
+    map_kept (λ (x : Holding). x.file) now k s c.flush_full.new.self at c.flush_full.ensures.same_file ∙ inv.same_files
+
+pub returns-in-Err-clause-kept : goal.returns-in-Err-clause-kept
+returns-in-Err-clause-kept g c =
+    let told = g.F.Files.told in
+    let now = c.loop-k.sinks in
+    let k = c.loop-k.k in
+    let s = c.item_mut-sink.result.now in
+    let inv = c.loop-k.invariant in
+    let lt : k < length now = omega (arith, c.len-k-end.ensures, c.loop-k-test.true, same_length now c.args.sinks.now inv.same_files) in
+    let at = slice_get_read now (length now) k s refl lt c.item_mut-sink.ensures.value in
+    let file = sym (ap (λ (fs : List ℕ). slice_get fs k) inv.same_files) ∙ file_at now k s at in
+    let apart = subst (λ (fs : List ℕ). IsApart fs) (sym inv.same_files) c.requires.apart in
+    kept_more (files_of c.args.sinks.now) k s.file (told c.args.files.now) (told c.loop-k.files) (told c.flush_full.new.files) file inv.kept c.flush_full.ensures.kept
+
+pub loop-k-preserved : goal.loop-k-preserved
+loop-k-preserved g c =
+    let told = g.F.Files.told in
+    let now = c.loop-k.sinks in
+    let k = c.loop-k.k in
+    let s = c.item_mut-sink.result.now in
+    let inv = c.loop-k.invariant in
+    let lt : k < length now = omega (arith, c.len-k-end.ensures, c.loop-k-test.true, same_length now c.args.sinks.now inv.same_files) in
+    let at = slice_get_read now (length now) k s refl lt c.item_mut-sink.ensures.value in
+    let file = sym (ap (λ (fs : List ℕ). slice_get fs k) inv.same_files) ∙ file_at now k s at in
+    let apart = subst (λ (fs : List ℕ). IsApart fs) (sym inv.same_files) c.requires.apart in
+    record {
+      partly = λ mode workers card ports hs held. partly_more (λ j. bytes_of mode workers card ports j hs) (λ j. bytes_of mode workers card ports j hs) now k s c.flush_full.new.self (told c.loop-k.files) (told c.flush_full.new.files) apart at c.flush_full.ensures.same_file c.flush_full.ensures.kept (λ x. c.in-Ok.ensures.goes_on (bytes_of mode workers card ports k hs) x) (inv.partly mode workers card ports hs held);
+      little = little_more now k c.flush_full.new.self c.in-Ok.ensures.little inv.little;
+      same_files = map_kept (λ (x : Holding). x.file) now k s c.flush_full.new.self at c.flush_full.ensures.same_file ∙ inv.same_files;
+      kept = kept_more (files_of c.args.sinks.now) k s.file (told c.args.files.now) (told c.loop-k.files) (told c.flush_full.new.files) file inv.kept c.flush_full.ensures.kept;
+      reads = λ n r. c.flush_full.ensures.reads n (inv.reads n r);
+      writes = λ n r. c.flush_full.ensures.writes n (inv.writes n r);
+      count = c.in-Ok.ensures.cause ∙ inv.count;
+    }
+
+pub returns-clause-goes_on : goal.returns-clause-goes_on
+returns-clause-goes_on g c = λ mode workers card ports hs held.
+    all_partly (λ j. bytes_of mode workers card ports j hs) (λ j. bytes_of mode workers card ports j hs) c.loop-k.sinks c.loop-k.k (g.F.Files.told c.loop-k.files) (omega (arith, c.len-k-end.ensures, c.loop-k-test.false, same_length c.loop-k.sinks c.args.sinks.now c.loop-k.invariant.same_files)) (c.loop-k.invariant.partly mode workers card ports hs held)
+
+pub returns-clause-little : goal.returns-clause-little
+returns-clause-little g c = λ k s e.
+    let inside : k < length c.loop-k.sinks = slice_get_within c.loop-k.sinks k s e in
+    c.loop-k.invariant.little k s (omega (arith, c.len-k-end.ensures, c.loop-k-test.false, same_length c.loop-k.sinks c.args.sinks.now c.loop-k.invariant.same_files)) e
+
+pub returns-in-Err-clause-among : goal.returns-in-Err-clause-among
+returns-in-Err-clause-among g c =
+    let now = c.loop-k.sinks in
+    let k = c.loop-k.k in
+    let s = c.item_mut-sink.result.now in
+    let inv = c.loop-k.invariant in
+    let lt : k < length now = omega (arith, c.len-k-end.ensures, c.loop-k-test.true, same_length now c.args.sinks.now inv.same_files) in
+    let at = slice_get_read now (length now) k s refl lt c.item_mut-sink.ensures.value in
+    let file = sym (ap (λ (fs : List ℕ). slice_get fs k) inv.same_files) ∙ file_at now k s at in
+    stops_here (Unit {0}) (Unit {0}) (files_of c.args.sinks.now) k s.file c.in-Err.stop file c.in-Err.ensures.at

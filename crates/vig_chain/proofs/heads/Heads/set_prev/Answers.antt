@@ -1,0 +1,13 @@
+use Rattle.std.proofs.Common.{arith}
+use Rattle.vig_chain.proofs.HeadLemmas.{set_within, set_prev_seen, next_cells, next_read}
+use Rattle.vig_chain.proofs.heads.Heads.set_prev.Goals as goal
+
+pub invariant_of-self : goal.invariant_of-self
+invariant_of-self c =
+    let cells = next_cells _ _ c.self.invariant in
+    let within = rw (← c.self.view_is) at c.requires.within in
+    let to = rw (← c.self.view_is) at c.requires.to_within in
+    set_within _ _ c.args.cell _ c.self.invariant (omega (arith, cells, next_read _ _ c.args.cell c.index-head.result.now c.self.invariant within c.index-head.ensures)) (omega (arith, to, cells))
+
+pub returns : goal.returns
+returns c = rw (← c.self.view_is) (set_prev_seen _ _ c.args.cell c.args.prev c.index-head.result.now c.index-head.ensures)
