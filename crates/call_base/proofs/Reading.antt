@@ -6,7 +6,8 @@ use Rattle.nf_base.specs.Doors.{six_at, six_ports}
 use Rattle.nf_base.specs.Text.{Function}
 use Rattle.nf_files.specs.Told.{Told}
 use Rattle.nf_files.specs.Causes.{Counted, Faulted, FaultedAsking, Asked, asking, losing}
-use Rattle.pcap_file.specs.Capture.{Capture as PcapCapture, capture_of}
+use Rattle.pcapng_file.specs.Heard.{Stream as Contents}
+use Rattle.packet_feed.specs.Contents.{contents_of}
 use Rattle.packet_feed.specs.Arrivals.{Arrival}
 use Rattle.packet_feed.specs.Told.{both, gathered, packets_in, packets_of, IsTear, IsCapture, IsNoCapture, KeepsOthers}
 use Rattle.packet_feed.specs.Faults.{FaultedAt}
@@ -61,7 +62,7 @@ below_names P c before a captures below opened h = λ p n lt at.
     let f = got_at captures p (omega (arith, slice_get_within c.captures p n at, opened.all)) in
     subst P (opened.rests p f.0 n f.1 at) (h p f.0 lt f.1)
 
-some_torn : (o : Option PcapCapture) (torn : Option ℕ) → option_map (λ (c : PcapCapture). c.torn) o ≡ Some torn → (c : PcapCapture) × (o ≡ Some c)
+some_torn : (o : Option Contents) (torn : Option ℕ) → option_map (λ (c : Contents). c.torn) o ≡ Some torn → (c : Contents) × (o ≡ Some c)
 some_torn None torn e = absurd (cc e)
 some_torn (Some c) torn e = (c, refl)
 
@@ -69,7 +70,7 @@ some_torn (Some c) torn e = (c, refl)
 tear_capture : (bytes : Option (List ℕ)) (torn : Option (Option ℕ)) → IsTear bytes torn → IsCapture bytes
 tear_capture None torn h = tt
 tear_capture (Some bytes) None h = absurd h
-tear_capture (Some bytes) (Some torn) h = some_torn (capture_of bytes) torn h
+tear_capture (Some bytes) (Some torn) h = some_torn (contents_of bytes) torn h
 
 -- the stream of a capture's file
 pub stream_at : (sources : List Stream) (p f : ℕ) → slice_get (files_in sources) p ≡ Some f → (s : Stream) × (slice_get sources p ≡ Some s) × (s.reading.file ≡ f)

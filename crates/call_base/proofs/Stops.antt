@@ -1,6 +1,7 @@
 -- Why a call was stopped, and what it had asked for then.
 use Rattle.std.proofs.Common.{◌≡◌, inl, inr, ℕ, ◌+◌, ◌≤◌, List, [], ◌∷◌, ◌++◌, length, map, Err, refl, ap, sym, subst, ◌∙◌, append_assoc, arith}
 use Rattle.std.proofs.lemmas.List.{length-append}
+use Rattle.capture_format.specs.declared.format.CaptureFormat.{CaptureFormat}
 use Rattle.nf_files.specs.Causes.{Counted, Asked, HasCause, asking}
 use Rattle.nf_files.specs.declared.fault.FilesFault.{FilesFault}
 use Rattle.nf_files.specs.declared.fault.FilesFault.TheVariants as outside
@@ -67,6 +68,6 @@ pub front_length : (all front : List Asked) → IsFrontOf all front → length f
 front_length all front f = omega (arith, length-append front f.later, ap (λ (t : List Asked). length t) f.whole)
 
 -- the first so many names that are created, behind others
-pub created_front : (inputs : List Asked) (out : List ℕ) (ports made all : ℕ) → made ≤ all → IsFrontOf (inputs ++ created_by out ports all) (inputs ++ created_by out ports made)
-created_front inputs out ports made all within =
-    front_behind inputs (created_by out ports all) (created_by out ports made) (front_range (λ k. writing (name_at out ports k)) 0 made all within)
+pub created_front : (inputs : List Asked) (format : CaptureFormat) (out : List ℕ) (ports made all : ℕ) → made ≤ all → IsFrontOf (inputs ++ created_by format out ports all) (inputs ++ created_by format out ports made)
+created_front inputs format out ports made all within =
+    front_behind inputs (created_by format out ports all) (created_by format out ports made) (front_range (λ k. writing (name_at format out ports k)) 0 made all within)

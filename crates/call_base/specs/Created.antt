@@ -1,5 +1,6 @@
 -- What the files hold that a run leaves, and how far they came.
 use Rattle.std.specs.Prelude.{◌≡◌, ◌≢◌, ℕ, ◌+◌, ◌<◌, ◌≤◌, List, [], length, Option, Some, None, nat_le, if◌then◌else◌}
+use Rattle.capture_format.specs.declared.format.CaptureFormat.{CaptureFormat}
 use Rattle.nf_base.specs.Text.{Function}
 use Rattle.nf_base.specs.Runs.{RunResult}
 use Rattle.nf_files.specs.Told.{Told, IsToldAs}
@@ -17,9 +18,9 @@ text_of f (Some result) = state_text f result.state
 abbrev pub state_bytes : Run → List ℕ
 state_bytes r = text_of r.function (course_of r)
 
--- What a run leaves in the files that it creates, from 0: the outputs, the journal, the state.
-abbrev pub bytes_at : Run → ℕ → List ℕ
-bytes_at r k = if nat_le k (length r.function.handlers) then file_bytes r k else state_bytes r
+-- What a run leaves in the files that it creates, from 0: the outputs, of this format, the journal, the state.
+abbrev pub bytes_at : CaptureFormat → Run → ℕ → List ℕ
+bytes_at format r k = if nat_le k (length r.function.handlers) then file_bytes format r k else state_bytes r
 
 -- Where it is told under which number a name was created last, it is this number, and what stands
 -- under the name is what was given to it.

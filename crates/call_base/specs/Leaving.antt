@@ -1,5 +1,6 @@
 -- What a run leaves: its files, and the lines on it.
 use Rattle.std.specs.Prelude.{◌≡◌, ◌⊎◌, ℕ, ◌+◌, ◌<◌, ◌≤◌, List, [], ◌∷◌, ◌++◌, length, None, Result, Ok, Err}
+use Rattle.capture_format.specs.declared.format.CaptureFormat.{CaptureFormat}
 use Rattle.nf_files.specs.Told.{Same}
 use Rattle.nf_files.specs.Causes.{Asked, asking}
 use Rattle.nf_files.specs.Openings.{Creates}
@@ -85,11 +86,12 @@ FinishesTo {T = T} name text lines old new (Err stop) =
 -- ---- the files of a run
 
 -- Behind names that it asked for, of which so many are of captures, a run of so many ports creates its
--- files, whose numbers begin at one.
+-- files, outputs of this format among them, whose numbers begin at one.
 pub record Leaves : Type 0 where
   pub inputs : List Asked
   pub captures : ℕ
   pub ports : ℕ
+  pub format : CaptureFormat
   pub out : List ℕ
   pub base : ℕ
 
@@ -105,22 +107,22 @@ pub record HasCreated (l : Leaves) (before now : Outside) (targets : List ℕ) :
   pub old : Outside
   pub next : old.told.next ≡ l.base
   pub only : HasOnlyAsked l.inputs before old
-  pub created : AreAllCreated old.told now.told (name_at l.out l.ports) targets (l.ports + 1)
-  pub asked_for : now.counted ≡ asking (created_by l.out l.ports (l.ports + 1)) old.counted
+  pub created : AreAllCreated old.told now.told (name_at l.format l.out l.ports) targets (l.ports + 1)
+  pub asked_for : now.counted ≡ asking (created_by l.format l.out l.ports (l.ports + 1)) old.counted
 
 -- So many files of a run were created, and so many of these are whole. Nothing was printed.
 pub record HasMade (l : Leaves) (before now : Outside) (run : Run) (made full : ℕ) : Type 0 where
-  pub files : Left before.told now.told l.base (name_at l.out l.ports) (bytes_at run) made full
+  pub files : Left before.told now.told l.base (name_at l.format l.out l.ports) (bytes_at l.format run) made full
   pub stdout : now.told.given 0 ≡ before.told.given 0
   pub stderr : now.told.given 1 ≡ before.told.given 1
-  pub asked_for : now.counted ≡ asking (l.inputs ++ created_by l.out l.ports made) before.counted
+  pub asked_for : now.counted ≡ asking (l.inputs ++ created_by l.format l.out l.ports made) before.counted
 
 -- So many are whole, and lines were printed.
 pub record HasPrinted (l : Leaves) (before now : Outside) (run : Run) (count : ℕ) (lines : List ℕ) : Type 0 where
-  pub files : Left before.told now.told l.base (name_at l.out l.ports) (bytes_at run) count count
+  pub files : Left before.told now.told l.base (name_at l.format l.out l.ports) (bytes_at l.format run) count count
   pub stdout : Printed before.told now.told 0 lines
   pub stderr : now.told.given 1 ≡ before.told.given 1
-  pub asked_for : now.counted ≡ asking (l.inputs ++ created_by l.out l.ports count) before.counted
+  pub asked_for : now.counted ≡ asking (l.inputs ++ created_by l.format l.out l.ports count) before.counted
 
 -- A run was stopped once it had begun to create files. The state is created behind whole others, by a run
 -- that leaves one, and lines are printed once it has ended.
@@ -128,9 +130,9 @@ pub record IsBroken (l : Leaves) (ended : ℕ → ℕ → Type 0) (stated printe
   pub made : ℕ
   pub full : ℕ
   pub within : made ≤ l.ports + 2
-  pub files : Left before.told now.told l.base (name_at l.out l.ports) (bytes_at run) made full
+  pub files : Left before.told now.told l.base (name_at l.format l.out l.ports) (bytes_at l.format run) made full
   pub far : IsFar (ended made full) stated l.ports stop made full
   pub last : l.ports + 1 < made → (l.ports + 1 ≤ full) × stated
   pub stdout : (now.told.given 0 ≡ before.told.given 0) ⊎ (ended made full × printed)
   pub stderr : now.told.given 1 ≡ before.told.given 1
-  pub stops : StopsBy (numbering Created before.told.next l.captures l.ports) (l.inputs ++ created_by l.out l.ports (l.ports + 2)) before.counted now.counted stop
+  pub stops : StopsBy (numbering Created before.told.next l.captures l.ports) (l.inputs ++ created_by l.format l.out l.ports (l.ports + 2)) before.counted now.counted stop

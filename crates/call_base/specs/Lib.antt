@@ -17,3 +17,4 @@ pub mod PrintedOut
 pub mod Layout
 pub mod Reading
 pub mod Leaving
+pub mod Rules

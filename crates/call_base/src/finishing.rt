@@ -9,6 +9,7 @@ ghost use Rattle.call_base.specs.Leaving.{PutsTo, OutTo, FinishesTo};
 use crate::names::name_at;
 use crate::opening::create_next;
 use crate::say::say;
+use capture_format::CaptureFormat;
 use nf_base::func::Func;
 use nf_base::state::State;
 use nf_files::{Files, write_whole};
@@ -36,19 +37,20 @@ fn leave_state<F: Files>(
     alloc: Global,
     files: &mut F,
     func: &Func,
+    format: CaptureFormat,
     out: &String,
     state: &State,
     last: u32,
 ) -> Result<(), Stop>
     requires last { (F.told files.old).next ≡ last + 1 }
     ensures { let ports = length func.now.handlers in
-        let name = names.name_at (string_bytes out.now) ports (ports + 1) in
+        let name = names.name_at format (string_bytes out.now) ports (ports + 1) in
         let bytes = states.state_text (function_of func.now) state.now in
         PutsTo name bytes (seen (F.told files.old) (F.counted files.old))
         (seen (F.told files.new) (F.counted files.new)) result }
 {
     let ports = func.handlers.len();
-    let name = match name_at(alloc, out, ports, ports + 1) {
+    let name = match name_at(alloc, format, out, ports, ports + 1) {
         Ok(name) => name,
         Err(_) => return Err(Stop::Memory),
     };
@@ -66,11 +68,13 @@ pub fn print_lines<F: Files>(files: &mut F, lines: &[u8]) -> Result<(), Stop>
     say(files, 0, lines)
 }
 
-/// Leaves the last state of a run, behind a number that was given last, and prints the lines on it.
+/// Leaves the last state of a run whose outputs are of this format, behind a number that was given last,
+/// and prints the lines on it.
 pub fn finish<F: Files>(
     alloc: Global,
     files: &mut F,
     func: &Func,
+    format: CaptureFormat,
     out: &String,
     state: &State,
     lines: &[u8],
@@ -78,12 +82,12 @@ pub fn finish<F: Files>(
 ) -> Result<(), Stop>
     requires last { (F.told files.old).next ≡ last + 1 }
     ensures { let ports = length func.now.handlers in
-        let name = names.name_at (string_bytes out.now) ports (ports + 1) in
+        let name = names.name_at format (string_bytes out.now) ports (ports + 1) in
         let bytes = states.state_text (function_of func.now) state.now in
         FinishesTo name bytes lines.now (seen (F.told files.old) (F.counted files.old))
         (seen (F.told files.new) (F.counted files.new)) result }
 {
-    match leave_state(alloc, files, func, out, state, last) {
+    match leave_state(alloc, files, func, format, out, state, last) {
         Ok(()) => print_lines(files, lines),
         Err(stop) => Err(stop),
     }

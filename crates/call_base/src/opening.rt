@@ -8,6 +8,7 @@ ghost use Rattle.call_base.specs.Names.{reading, writing, name_at, created_by};
 ghost use Rattle.call_base.specs.Opened.{AsksNext, AsksAll, StopsFrom, StopsNext, AreOpened, AreAllCreated, AreSomeCreated};
 
 use crate::names::name_at;
+use capture_format::CaptureFormat;
 use nf_files::{Files, FilesFault};
 use std::alloc::Global;
 use stream_run::Stop;
@@ -96,52 +97,54 @@ pub fn open_captures<F: Files>(
 fn create_at<F: Files>(
     alloc: Global,
     files: &mut F,
+    format: CaptureFormat,
     out: &String,
     ports: u32,
     place: u32,
     last: u32,
 ) -> Result<u32, Stop>
     requires last { (F.told files.old).next ≡ last + 1 }
-    ensures ok { let name = name_at (string_bytes out.now) ports place in
+    ensures ok { let name = name_at format (string_bytes out.now) ports place in
         IfOk result (λ file. Creates (F.told files.old) (F.told files.new) name file) }
     ensures writable { IfOk result (F.is_written files.new) }
     ensures err { OnErr result (Same (F.told files.old) (F.told files.new)) }
-    ensures cause { let name = writing (name_at (string_bytes out.now) ports place) in
+    ensures cause { let name = writing (name_at format (string_bytes out.now) ports place) in
         AsksNext name (last + 1) (F.counted files.old) (F.counted files.new) result }
     ensures reads { (g : ℕ) → F.is_read files.old g → F.is_read files.new g }
     ensures writes { (g : ℕ) → F.is_written files.old g → F.is_written files.new g }
 {
-    match name_at(alloc, out, ports, place) {
+    match name_at(alloc, format, out, ports, place) {
         Ok(name) => create_next(files, &name, last),
         Err(_) => Err(Stop::Memory),
     }
 }
 
-/// Creates the outputs of so many ports, in port order, and the journal, behind a number that was
-/// given last.
+/// Creates the outputs of so many ports, of this format and in port order, and the journal, behind a
+/// number that was given last.
 pub fn create_targets<F: Files>(
     alloc: Global,
     files: &mut F,
+    format: CaptureFormat,
     out: &String,
     ports: u32,
     last: u32,
 ) -> Result<Vec<u32>, Stop>
     requires last { (F.told files.old).next ≡ last + 1 }
     requires few { ports ≤ 4 }
-    ensures created { let name = name_at (string_bytes out.now) ports in IfOk result (λ targets.
+    ensures created { let name = name_at format (string_bytes out.now) ports in IfOk result (λ targets.
         AreAllCreated (F.told files.old) (F.told files.new) name targets.items (ports + 1)) }
-    ensures some { let name = name_at (string_bytes out.now) ports in
+    ensures some { let name = name_at format (string_bytes out.now) ports in
         IfErr result (AreSomeCreated (F.told files.old) (F.told files.new) name (ports + 1)) }
     ensures writable { IfOk result (λ targets. (i : ℕ) → (f : ℕ) →
         slice_get targets.items i ≡ Some f → F.is_written files.new f) }
-    ensures cause { let names = created_by (string_bytes out.now) ports (ports + 1) in
+    ensures cause { let names = created_by format (string_bytes out.now) ports (ports + 1) in
         AsksAll names (F.counted files.old) (F.counted files.new) result }
     ensures reads { (g : ℕ) → F.is_read files.old g → F.is_read files.new g }
 {
     let mut targets = Vec::new(alloc);
     let mut last = last;
     'places: for place in 0..ports + 1 {
-        match create_at(alloc, files, out, ports, place, last) {
+        match create_at(alloc, files, format, out, ports, place, last) {
             Ok(file) => match targets.push(file) {
                 Ok(()) => last = file,
                 Err(_) => return Err(Stop::Memory),

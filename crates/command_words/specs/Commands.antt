@@ -3,6 +3,8 @@ use Rattle.std.specs.Prelude.{ℕ, nat_le, ◌&&◌, Option, Some, None, List, [
 use Rattle.std.specs.Option.{option_map}
 use Rattle.std.specs.Str.{bytes_eq}
 use Rattle.clap.specs.Words.{Kinds, Row, Text, all_of, fault_of, first_of, subcommand_of}
+use Rattle.capture_format.specs.declared.format.CaptureFormat.{CaptureFormat}
+use Rattle.capture_format.specs.declared.format.CaptureFormat.TheVariants.{Pcap, Pcapng}
 use Rattle.command_words.specs.declared.command.Description.{Description}
 use Rattle.command_words.specs.declared.command.Description.TheVariants.{Check, Explain, Keys}
 use Rattle.command_words.specs.declared.command.ModeChoice.{ModeChoice}
@@ -15,7 +17,7 @@ use Rattle.nf_base.specs.declared.card.Card.{Card}
 
 -- a run: the names of the function's file and of each port's capture, the front of the names of what
 -- it leaves, how many workers handle the packets, in which mode, the sizes of the network card that
--- spreads them, and the most packets that are handled
+-- spreads them, the most packets that are handled, and the format of the outputs
 pub record Run : Type 0 where
   pub function : Text
   pub out : Text
@@ -24,19 +26,22 @@ pub record Run : Type 0 where
   pub mode : ModeChoice
   pub card : Card
   pub most : ℕ
+  pub format : CaptureFormat
 
 -- a replay: the names of the function's file, of the journal and of each port's capture, the front of the
--- names of the outputs, and the most packets that are gone through
+-- names of the outputs, the most packets that are gone through, and the format of the outputs
 pub record Replay : Type 0 where
   pub function : Text
   pub journal : Text
   pub out : Text
   pub captures : List Text
   pub most : ℕ
+  pub format : CaptureFormat
 
 -- a run over made-up traffic: the name of the function's file, the front of the names of what the run
 -- leaves, what the traffic is drawn by, how many packets there are and of how many flows, how many
--- workers handle them in which mode, and the sizes of the network card that spreads them
+-- workers handle them in which mode, the sizes of the network card that spreads them, and the format of
+-- the outputs
 pub record Gen : Type 0 where
   pub function : Text
   pub out : Text
@@ -46,6 +51,7 @@ pub record Gen : Type 0 where
   pub workers : ℕ
   pub mode : ModeChoice
   pub card : Card
+  pub format : CaptureFormat
 
 -- a hash: the packet's two ends, the key where one is given, the number of workers, and the sizes of
 -- the table and of the default key
@@ -104,6 +110,15 @@ card_in table key =
 abbrev pub card_asked : List Row → Option Card
 card_asked rows = card_in (first_of (codes "table") rows) (first_of (codes "key-bytes") rows)
 
+-- what clap gives for an option without a value: `true` where it stands among the words
+abbrev pub format_in : Option Text → CaptureFormat
+format_in None = Pcap
+format_in (Some text) = if bytes_eq text (codes "true") then Pcapng else Pcap
+
+-- pcapng where that is asked for, and else pcap
+abbrev pub format_asked : List Row → CaptureFormat
+format_asked rows = format_in (first_of (codes "pcapng") rows)
+
 abbrev pub run_in : List Row → Option Run
 run_in rows =
     and_then (first_of (codes "function") rows) (λ f.
@@ -112,7 +127,7 @@ run_in rows =
     and_then (or_default 1 workers_in (first_of (codes "workers") rows)) (λ w.
     and_then (mode_in (first_of (codes "mode") rows)) (λ m.
     and_then (card_asked rows) (λ card.
-    option_map (λ n. record { function = f; out = o; captures = cs; workers = w; mode = m; card = card; most = n })
+    option_map (λ n. record { function = f; out = o; captures = cs; workers = w; mode = m; card = card; most = n; format = format_asked rows })
     (most_in (first_of (codes "max-packets") rows))))))))
 
 abbrev pub replay_in : List Row → Option Replay
@@ -121,7 +136,7 @@ replay_in rows =
     and_then (first_of (codes "journal") rows) (λ j.
     and_then (first_of (codes "out") rows) (λ o.
     and_then (captures_in (all_of (codes "capture") rows)) (λ cs.
-    option_map (λ n. record { function = f; journal = j; out = o; captures = cs; most = n })
+    option_map (λ n. record { function = f; journal = j; out = o; captures = cs; most = n; format = format_asked rows })
     (most_in (first_of (codes "max-packets") rows))))))
 
 -- a number of 32 bits
@@ -141,7 +156,7 @@ gen_in rows =
     and_then (and_then (first_of (codes "flows") rows) flows_in) (λ k.
     and_then (or_default 1 workers_in (first_of (codes "workers") rows)) (λ w.
     and_then (mode_in (first_of (codes "mode") rows)) (λ m.
-    option_map (λ card. record { function = f; out = o; seed = s; count = n; flows = k; workers = w; mode = m; card = card })
+    option_map (λ card. record { function = f; out = o; seed = s; count = n; flows = k; workers = w; mode = m; card = card; format = format_asked rows })
     (card_asked rows))))))))
 
 -- a key where one is given

@@ -1,7 +1,7 @@
 -- The words that a command line may have, as clap reads them.
 use Rattle.std.specs.Prelude.{true, Some, codes}
 use Rattle.clap.specs.Words.{App, Rule, Text, new_app, new_rule, with_rule, with_subcommand}
-use Rattle.clap.specs.declared.builder.ArgAction.TheVariants.{Set, Append}
+use Rattle.clap.specs.declared.builder.ArgAction.TheVariants.{Set, Append, SetTrue}
 
 -- one word that has to be there
 abbrev pub word : Text → Rule
@@ -14,6 +14,10 @@ words id = record (new_rule id) { required = true; action = Some Append }
 -- an option with a value, which may be left out
 abbrev pub option : Text → Rule
 option id = record (new_rule id) { long = Some id; action = Some Set }
+
+-- an option without a value, which may be left out
+abbrev pub flag : Text → Rule
+flag id = record (new_rule id) { long = Some id; action = Some SetTrue }
 
 -- run NF OUT CAPTURE..
 abbrev pub run_names : App
@@ -30,8 +34,9 @@ run_amounts =
     (option (codes "workers"))) (option (codes "mode"))) (option (codes "max-packets"))
 
 -- run NF OUT CAPTURE.. [--workers W] [--mode M] [--max-packets N] [--table 128|512] [--key-bytes 40|52]
+-- [--pcapng]
 abbrev pub run_app : App
-run_app = with_card run_amounts
+run_app = with_rule (with_card run_amounts) (flag (codes "pcapng"))
 
 -- replay NF JOURNAL OUT
 abbrev pub replay_names : App
@@ -39,9 +44,11 @@ replay_names =
     with_rule (with_rule (with_rule (new_app (codes "replay"))
     (word (codes "function"))) (word (codes "journal"))) (word (codes "out"))
 
--- replay NF JOURNAL OUT CAPTURE.. [--max-packets N]
+-- replay NF JOURNAL OUT CAPTURE.. [--max-packets N] [--pcapng]
 abbrev pub replay_app : App
-replay_app = with_rule (with_rule replay_names (words (codes "capture"))) (option (codes "max-packets"))
+replay_app =
+    with_rule (with_rule (with_rule replay_names
+    (words (codes "capture"))) (option (codes "max-packets"))) (flag (codes "pcapng"))
 
 -- gen NF OUT SEED
 abbrev pub gen_names : App
@@ -53,9 +60,11 @@ gen_names =
 abbrev pub gen_amounts : App
 gen_amounts = with_rule (with_rule gen_names (word (codes "count"))) (word (codes "flows"))
 
--- gen NF OUT SEED COUNT FLOWS [--workers W] [--mode M] [--table 128|512] [--key-bytes 40|52]
+-- gen NF OUT SEED COUNT FLOWS [--workers W] [--mode M] [--table 128|512] [--key-bytes 40|52] [--pcapng]
 abbrev pub gen_app : App
-gen_app = with_card (with_rule (with_rule gen_amounts (option (codes "workers"))) (option (codes "mode")))
+gen_app =
+    with_rule (with_card (with_rule (with_rule gen_amounts (option (codes "workers"))) (option (codes "mode"))))
+    (flag (codes "pcapng"))
 
 -- hash SRC:PORT DST:PORT [--key HEX] [--workers W] [--table 128|512] [--key-bytes 40|52]
 abbrev pub hash_app : App

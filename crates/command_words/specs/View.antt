@@ -18,6 +18,7 @@ run c = record {
   mode = c.mode;
   card = c.card;
   most = c.most;
+  format = c.format;
 }
 
 abbrev pub replay : declared_replay.ReplayCommand → Replay
@@ -27,6 +28,7 @@ replay c = record {
   out = string_bytes c.out;
   captures = map string_bytes c.captures.items;
   most = c.most;
+  format = c.format;
 }
 
 abbrev pub gen : declared_gen.GenCommand → Gen
@@ -39,6 +41,7 @@ gen c = record {
   workers = c.workers;
   mode = c.mode;
   card = c.card;
+  format = c.format;
 }
 
 abbrev pub hash : declared_hash.HashCommand → Hash

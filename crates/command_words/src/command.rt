@@ -1,6 +1,7 @@
 //! What a command line asks for.
 
 use crate::endpoint::Ends;
+use capture_format::CaptureFormat;
 use nf_base::card::Card;
 use nf_base::hash_key::HashKey;
 use nf_base::workers::Workers;
@@ -32,6 +33,8 @@ pub struct RunCommand {
     pub card: Card,
     /// The most packets that are handled.
     pub most: u32,
+    /// In what format the outputs are to be.
+    pub format: CaptureFormat,
 }
 
 /// The check of a run's journal and outputs.
@@ -47,6 +50,8 @@ pub struct ReplayCommand {
     pub captures: Vec<String>,
     /// The most packets of the journal that are gone through.
     pub most: u32,
+    /// In what format the outputs are.
+    pub format: CaptureFormat,
 }
 
 /// A run of a function over made-up traffic.
@@ -67,6 +72,8 @@ pub struct GenCommand {
     pub mode: ModeChoice,
     /// The sizes of the network card that spreads them.
     pub card: Card,
+    /// In what format the outputs are to be.
+    pub format: CaptureFormat,
 }
 
 /// The hash of a packet between two ends.

@@ -32,6 +32,14 @@ fn option<'a>(alloc: Global, id: &'a str) -> Arg<'a>
     Arg::new(alloc, id).long(id).action(ArgAction::Set)
 }
 
+/// An option without a value, `--id`, which may be left out.
+fn flag<'a>(alloc: Global, id: &'a str) -> Arg<'a>
+    ensures rule { rule_of result ≡ grammar.flag id.entry.now }
+    ensures local { result.global ≡ false }
+{
+    Arg::new(alloc, id).long(id).action(ArgAction::SetTrue)
+}
+
 /// `run NF OUT CAPTURE..`
 fn run_names<'a>(alloc: Global) -> Result<Command<'a>, AllocError>
     ensures app { IfOk result (λ c. app_of c ≡ grammar.run_names) }
@@ -66,12 +74,13 @@ fn run_amounts<'a>(alloc: Global) -> Result<Command<'a>, AllocError>
         .arg(option(alloc, "max-packets"))
 }
 
-/// `run NF OUT CAPTURE.. [--workers W] [--mode M] [--max-packets N] [--table 128|512] [--key-bytes 40|52]`
+/// `run NF OUT CAPTURE.. [--workers W] [--mode M] [--max-packets N] [--table 128|512] [--key-bytes 40|52]
+/// [--pcapng]`
 fn run_words<'a>(alloc: Global) -> Result<Command<'a>, AllocError>
     ensures app { IfOk result (λ c. app_of c ≡ grammar.run_app) }
     ensures local { IfOk result (λ c. (out-Command c).has_globals ≡ false) }
 {
-    with_card(alloc, run_amounts(alloc)?)
+    with_card(alloc, run_amounts(alloc)?)?.arg(flag(alloc, "pcapng"))
 }
 
 /// `replay NF JOURNAL OUT`
@@ -85,14 +94,15 @@ fn replay_names<'a>(alloc: Global) -> Result<Command<'a>, AllocError>
         .arg(word(alloc, "out"))
 }
 
-/// `replay NF JOURNAL OUT CAPTURE.. [--max-packets N]`
+/// `replay NF JOURNAL OUT CAPTURE.. [--max-packets N] [--pcapng]`
 fn replay_words<'a>(alloc: Global) -> Result<Command<'a>, AllocError>
     ensures app { IfOk result (λ c. app_of c ≡ grammar.replay_app) }
     ensures local { IfOk result (λ c. (out-Command c).has_globals ≡ false) }
 {
     replay_names(alloc)?
         .arg(words(alloc, "capture"))?
-        .arg(option(alloc, "max-packets"))
+        .arg(option(alloc, "max-packets"))?
+        .arg(flag(alloc, "pcapng"))
 }
 
 /// `gen NF OUT SEED`
@@ -116,7 +126,7 @@ fn gen_amounts<'a>(alloc: Global) -> Result<Command<'a>, AllocError>
         .arg(word(alloc, "flows"))
 }
 
-/// `gen NF OUT SEED COUNT FLOWS [--workers W] [--mode M] [--table 128|512] [--key-bytes 40|52]`
+/// `gen NF OUT SEED COUNT FLOWS [--workers W] [--mode M] [--table 128|512] [--key-bytes 40|52] [--pcapng]`
 fn gen_words<'a>(alloc: Global) -> Result<Command<'a>, AllocError>
     ensures app { IfOk result (λ c. app_of c ≡ grammar.gen_app) }
     ensures local { IfOk result (λ c. (out-Command c).has_globals ≡ false) }
@@ -124,7 +134,7 @@ fn gen_words<'a>(alloc: Global) -> Result<Command<'a>, AllocError>
     let command = gen_amounts(alloc)?
         .arg(option(alloc, "workers"))?
         .arg(option(alloc, "mode"))?;
-    with_card(alloc, command)
+    with_card(alloc, command)?.arg(flag(alloc, "pcapng"))
 }
 
 /// `hash SRC:PORT DST:PORT [--key HEX] [--workers W] [--table 128|512] [--key-bytes 40|52]`

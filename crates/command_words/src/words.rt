@@ -13,6 +13,7 @@ use crate::command::{
 use crate::endpoint::{Endpoint, Ends, endpoint_in, ends_between, number_up_to};
 use crate::grammar::all_words;
 use crate::key::key_in;
+use capture_format::CaptureFormat;
 use clap::ArgMatches;
 use clap::error::ErrorKind;
 use nf_base::card::{Card, KeySize, TableSize};
@@ -130,6 +131,23 @@ fn card_asked(matches: &ArgMatches) -> Option<Card>
     card_in(value(matches, "table"), value(matches, "key-bytes"))
 }
 
+/// Pcapng where the option stands among the words: clap gives the text `true` there.
+fn format_in(text: Option<&str>) -> CaptureFormat
+    ensures { result ≡ meant.format_in (option_map (λ s. s.now) text.entry) }
+{
+    match text {
+        Some("true") => CaptureFormat::Pcapng,
+        _ => CaptureFormat::Pcap,
+    }
+}
+
+/// The format of the outputs that is asked for.
+fn format_asked(matches: &ArgMatches) -> CaptureFormat
+    ensures { result ≡ meant.format_asked (rows_of (found_of matches.now)) }
+{
+    format_in(value(matches, "pcapng"))
+}
+
 fn copied(alloc: Global, names: &[&str]) -> Result<Vec<String>, AllocError>
     ensures { IfOk result (λ copies. map string_bytes copies.items ≡ map (λ s. s.now) names.now) }
 {
@@ -168,6 +186,7 @@ fn run_command(alloc: Global, matches: &ArgMatches) -> Result<Option<RunCommand>
     let mode = mode_in(value(matches, "mode"));
     let card = card_asked(matches);
     let most = most_in(value(matches, "max-packets"));
+    let format = format_asked(matches);
     match (workers, mode, card, most) {
         (Some(workers), Some(mode), Some(card), Some(most)) => Ok(Some(RunCommand {
             function: String::from_str(alloc, function)?,
@@ -177,6 +196,7 @@ fn run_command(alloc: Global, matches: &ArgMatches) -> Result<Option<RunCommand>
             mode,
             card,
             most,
+            format,
         })),
         _ => Ok(None),
     }
@@ -198,6 +218,7 @@ fn replay_command(alloc: Global, matches: &ArgMatches) -> Result<Option<ReplayCo
     let Some(captures) = captures_in(alloc, values(matches, "capture"))? else {
         return Ok(None);
     };
+    let format = format_asked(matches);
     match most_in(value(matches, "max-packets")) {
         Some(most) => Ok(Some(ReplayCommand {
             function: String::from_str(alloc, function)?,
@@ -205,6 +226,7 @@ fn replay_command(alloc: Global, matches: &ArgMatches) -> Result<Option<ReplayCo
             out: String::from_str(alloc, out)?,
             captures,
             most,
+            format,
         })),
         None => Ok(None),
     }
@@ -251,6 +273,7 @@ fn gen_command(alloc: Global, matches: &ArgMatches) -> Result<Option<GenCommand>
     let workers = workers_or_one(value(matches, "workers"));
     let mode = mode_in(value(matches, "mode"));
     let card = card_asked(matches);
+    let format = format_asked(matches);
     match (seed, count, flows, workers, mode, card) {
         (Some(seed), Some(count), Some(flows), Some(workers), Some(mode), Some(card)) => {
             Ok(Some(GenCommand {
@@ -262,6 +285,7 @@ fn gen_command(alloc: Global, matches: &ArgMatches) -> Result<Option<GenCommand>
                 workers,
                 mode,
                 card,
+                format,
             }))
         }
         _ => Ok(None),

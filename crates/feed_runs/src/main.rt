@@ -3,6 +3,8 @@
 #![tactic(auto)]
 
 mod calls;
+#[cfg(test)]
+mod pcapng_tests;
 mod story;
 #[cfg(test)]
 mod tests;

@@ -93,12 +93,12 @@ cut_short since b job given run stop is f is_run first broken =
 -- ---- a run whose packets were all handled
 
 -- the name and the text of its last file, as the code has them
-name_is : (before : Outside) (job : Job) → IsJob before job → state_name job ≡ name_at (asked job).out job.layout.ports (job.layout.ports + 1)
-name_is before job is = ap (λ (n : ℕ). name_at (asked job).out n (n + 1)) is.handlers
+name_is : (before : Outside) (job : Job) → IsJob before job → state_name job ≡ name_at (asked job).format (asked job).out job.layout.ports (job.layout.ports + 1)
+name_is before job is = ap (λ (n : ℕ). name_at (asked job).format (asked job).out n (n + 1)) is.handlers
 
-text_is : {since : Since} {a : Outside} {job : Job} {mode : Mode} {state : State} {sent : ℕ} → IsJob since.before job → (h : HasDone since a job mode state sent) → state_text job state ≡ bytes_at h.run (job.layout.ports + 1)
+text_is : {since : Since} {a : Outside} {job : Job} {mode : Mode} {state : State} {sent : ℕ} → IsJob since.before job → (h : HasDone since a job mode state sent) → state_text job state ≡ bytes_at (asked job).format h.run (job.layout.ports + 1)
 text_is {since = since} {job = job} {state = state} is h =
-    ap (λ (f : Function). states.state_text f state) (sym h.of_function) ∙ sym (last_bytes h.run job.layout.ports state h.left.0 (ports_are since.before job h.run is h.of_function) h.left.1)
+    ap (λ (f : Function). states.state_text f state) (sym h.of_function) ∙ sym (last_bytes (asked job).format h.run job.layout.ports state h.left.0 (ports_are since.before job h.run is h.of_function) h.left.1)
 
 -- what was sent stays what it was, where what the outputs were given does
 sent_on : (told now : Told) (first : ℕ) (run : Run) (sent : ℕ) → ((k : ℕ) → k < ports_of run → now.given (first + k) ≡ told.given (first + k)) → IsSent told first run sent → IsSent now first run sent

@@ -1,5 +1,4 @@
 mod Ports
 mod Finishing
-mod Nothing
 mod Workers
 mod Beginning

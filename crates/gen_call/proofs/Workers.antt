@@ -1,5 +1,5 @@
 -- A run over made-up traffic, by the workers that a command asks for.
-use Rattle.std.proofs.Common.{◌≡◌, inl, inr, ℕ, ◌+◌, ◌<◌, List, [], ◌∷◌, ◌++◌, length, map, Some, slice_get, get_or, Err, refl, ap, sym, subst, ◌∙◌, arith}
+use Rattle.std.proofs.Common.{◌≡◌, inl, inr, ℕ, ◌+◌, List, [], ◌∷◌, length, map, get_or, Err, refl, ap, sym, subst, ◌∙◌, arith}
 use Rattle.std.proofs.lemmas.Option.{slice_get-get_or}
 use Rattle.nf_base.specs.Functions.{function_of}
 use Rattle.nf_base.specs.Text.{Function}
@@ -7,6 +7,7 @@ use Rattle.nf_base.specs.declared.state.State.{State}
 use Rattle.packet_feed.specs.Arrivals.{Arrival}
 use Rattle.run_history.specs.declared.line.Mode.{Mode}
 use Rattle.stream_run.specs.Runs.{Run, arrival_in}
+use Rattle.stream_run.specs.Rules.{Rule, lone_rule, shard_rule, lock_rule, IsRunBy}
 use Rattle.stream_run.specs.Writing.{IsStopCause, StopsAmong, KeepsBut}
 use Rattle.stream_run.specs.declared.stop.Stop.{Stop as NumberStop}
 use Rattle.key_synth.specs.Keys.{AreGiven}
@@ -16,8 +17,11 @@ use Rattle.traffic_run.specs.declared.who.Who.{Who}
 use Rattle.traffic_run.specs.declared.who.Who.TheVariants as whos
 use Rattle.traffic_run.specs.Asked.{asked_for}
 use Rattle.traffic_run.specs.Runs as traffic
-use Rattle.traffic_run.specs.Runs.{IsRunBy, Serves}
+use Rattle.traffic_run.specs.Runs.{IsDue}
 use Rattle.traffic_run.proofs.Sending.{function_by}
+use Rattle.command_words.specs.Commands.{Gen}
+use Rattle.command_words.specs.declared.command.ModeChoice.{ModeChoice}
+use Rattle.command_words.specs.declared.command.ModeChoice.TheVariants as choice
 use Rattle.call_base.specs.declared.status.End.TheVariants.{ShareFull}
 use Rattle.call_base.specs.declared.status.FullShare.{FullShare}
 use Rattle.call_base.specs.Layout.{stop_named}
@@ -26,6 +30,7 @@ use Rattle.call_base.specs.Named.{IsToldStop}
 use Rattle.call_base.specs.Names.{name_at, reading, created_by}
 use Rattle.call_base.specs.Opened.{AreSomeCreated, AsksSome}
 use Rattle.call_base.specs.Outside.{Outside, HasOnlyAsked}
+use Rattle.call_base.specs.Rules.{HasKeys, ShareTables, IsRuleOf, by_one, by_shards, by_tables, by_none}
 use Rattle.call_base.specs.Source.{IsFunctionUnder}
 use Rattle.call_base.proofs.Ending.{targets_from, has_made, broken_running, broken_creating}
 use Rattle.gen_call.specs.declared.job.Job.{Job}
@@ -34,7 +39,7 @@ use Rattle.gen_call.specs.Runs.{traffic_of, packets_for, IsWho, IsRunOf}
 use Rattle.gen_call.specs.Ending.{IsFinished, IsStopped}
 use Rattle.gen_call.specs.Progress.{Since, HasRefused, IsJob, HasDone, asked, leaves_of}
 use Rattle.gen_call.proofs.Finishing.{handlers_of, ports_are, are_of, cut_short}
-use Rattle.gen_call.proofs.Nothing.{none_by}
+use Rattle.traffic_run.proofs.Over.{none_by}
 
 -- the packets that are asked for, at the ports of the function that the code holds
 abbrev pub all_of : Job → List Arrival
@@ -43,14 +48,30 @@ all_of job = asked_for (traffic_of (asked job)) (length job.func.now.handlers)
 packets_as : (job : Job) (f : Function) → f ≡ function_of job.func.now → all_of job ≡ packets_for (asked job) f
 packets_as job f e = ap (asked_for (traffic_of (asked job))) (sym (ap (λ (g : Function). length g.handlers) e ∙ handlers_of job))
 
-run_is : (before : Outside) (job : Job) (who : Who) (Refused : Type 0) (given : List Arrival) (r : Run) → IsJob before job → IsWho (asked job) (function_of job.func.now) who → IsRunBy who (asked job).card Refused (function_of job.func.now) given r → IsRunOf (asked job) Refused before.told given r
+-- the rule that is due of who handles the packets
+rule_by : (c : Gen) (f : Function) (Refused : Type 0) (who : Who) (rule : Rule) → IsWho c f who → IsDue who Refused rule → IsRuleOf Refused c.mode c.workers c.card f rule
+rule_by c f Refused whos.One rule by e = by_one by.0 e
+rule_by c f Refused (whos.Shards keys workers) rule by e = by_shards keys (omega (arith, by.0, by.1)) by.2 by.3 (e ∙ ap (shard_rule keys) by.0)
+rule_by c f Refused (whos.Sharing workers) rule by (inl e) = by_tables (omega (arith, by.0, by.1)) by.2 (e ∙ ap lock_rule by.0)
+rule_by c f Refused (whos.Sharing workers) rule by (inr e) = by_none (omega (arith, by.0, by.1)) by.2 e.0 (e.1 ∙ ap lone_rule by.0)
+
+-- a function has keys where mode `shard` is asked for
+keyed_by : (c : Gen) (f : Function) (who : Who) → IsWho c f who → c.mode ≡ choice.Shard → HasKeys f c.card
+keyed_by c f whos.One by e = by.1 e
+keyed_by c f (whos.Shards keys workers) by e = record { keys = keys; given = by.3 }
+keyed_by c f (whos.Sharing workers) by e = absurd (subst (λ (m : ModeChoice). ShareTables m c.card f) e by.2)
+
+run_is : (before : Outside) (job : Job) (who : Who) (Refused : Type 0) (given : List Arrival) (r : Run) → IsJob before job → IsWho (asked job) (function_of job.func.now) who → traffic.IsRunOf who (asked job).card Refused (function_of job.func.now) given r → IsRunOf (asked job) Refused before.told given r
 run_is before job who Refused given r is by h =
-    let e = sym (function_by who (asked job).card Refused (function_of job.func.now) given r h) in
+    let c = asked job in
+    let f = function_of job.func.now in
+    let e = sym h.is_run.function in
     record {
-      is_function = subst (IsFunctionUnder before.told (asked job).function) e is.is_function;
-      who = who;
-      is_who = subst (λ (f : Function). IsWho (asked job) f who) e by;
-      is_run = subst (λ (f : Function). IsRunBy who (asked job).card Refused f given r) e h;
+      is_function = subst (IsFunctionUnder before.told c.function) e is.is_function;
+      keyed = subst (λ (g : Function). c.mode ≡ choice.Shard → HasKeys g c.card) e (keyed_by c f who by);
+      rule = h.rule;
+      due = subst (λ (g : Function). IsRuleOf Refused c.mode c.workers c.card g h.rule) e (rule_by c f Refused who h.rule by h.due);
+      is_run = subst (λ (g : Function). IsRunBy h.rule g c.card given r) e h.is_run;
     }
 
 -- the first target has the number behind the text's
@@ -61,7 +82,7 @@ first_is before a job targets h =
 
 -- all packets were handled
 pub done : (since : Since) (a b : Outside) (job : Job) (targets : List ℕ) (who : Who) (all : List Arrival) (first : ℕ) (m : Mode) (state : State) (sent : ℕ) → IsJob since.before job → HasCreated (leaves_of (asked job) since.before job.layout.ports) since.before a targets → IsWho (asked job) (function_of job.func.now) who
-    → all ≡ all_of job → first ≡ since.before.told.next + 1 → traffic.IsFinished who (asked job).card (HasRefused since) (function_of job.func.now) all b.told targets first m state sent → KeepsBut targets a.told b.told → b.counted ≡ a.counted → HasDone since b job m state sent
+    → all ≡ all_of job → first ≡ since.before.told.next + 1 → traffic.IsFinished who (asked job).card (asked job).format (HasRefused since) (function_of job.func.now) all b.told targets first m state sent → KeepsBut targets a.told b.told → b.counted ≡ a.counted → HasDone since b job m state sent
 done since a b job targets who all first m state sent is h by all_is first_at k kept counted =
     let c = asked job in
     let w = k.whole in
@@ -78,7 +99,7 @@ done since a b job targets who all first m state sent is h by all_is first_at k 
 
 -- the share stop was met
 pub share_full : (since : Since) (a b : Outside) (job : Job) (targets : List ℕ) (who : Who) (all : List Arrival) (full : Full) (said : FullShare) → IsToldStop (function_of job.func.now) full.stop said → IsJob since.before job → HasCreated (leaves_of (asked job) since.before job.layout.ports) since.before a targets → IsWho (asked job) (function_of job.func.now) who
-    → all ≡ all_of job → traffic.IsFull who (asked job).card (function_of job.func.now) all b.told targets full → KeepsBut targets a.told b.told → b.counted ≡ a.counted → IsFinished (asked job) (HasRefused since) since.before b (ShareFull said)
+    → all ≡ all_of job → traffic.IsFull who (asked job).card (asked job).format (function_of job.func.now) all b.told targets full → KeepsBut targets a.told b.told → b.counted ≡ a.counted → IsFinished (asked job) (HasRefused since) since.before b (ShareFull said)
 share_full since a b job targets whos.One all full said told is h by all_is k kept counted = absurd k
 share_full since a b job targets (whos.Sharing workers) all full said told is h by all_is k kept counted = absurd k
 share_full since a b job targets (whos.Shards keys workers) all full said told is h by all_is k kept counted =
@@ -92,7 +113,7 @@ share_full since a b job targets (whos.Shards keys workers) all full said told i
     record {
       run = k.run;
       given = given;
-      is_run = run_is since.before job who (HasRefused since) given k.run is by (record { is_run = k.is_run; packets = refl });
+      is_run = run_is since.before job who (HasRefused since) given k.run is by (record { rule = shard_rule keys workers; due = refl; is_run = k.is_run });
       ending = (
         k.is_run.mode,
         record {
@@ -113,7 +134,7 @@ share_full since a b job targets (whos.Shards keys workers) all full said told i
 
 -- the run was stopped
 pub cut : (since : Since) (a b : Outside) (job : Job) (targets : List ℕ) (who : Who) (all : List Arrival) (stop : NumberStop) → IsJob since.before job → HasCreated (leaves_of (asked job) since.before job.layout.ports) since.before a targets → IsWho (asked job) (function_of job.func.now) who → all ≡ all_of job
-    → (k : traffic.IsCutShort who (asked job).card (HasRefused since) (function_of job.func.now) all b.told targets) → KeepsBut targets a.told b.told → IsStopCause {T = Unit {0}} a.counted b.counted (Err stop) → StopsAmong {T = Unit {0}} [] targets (Err stop)
+    → (k : traffic.IsCutShort who (asked job).card (asked job).format (HasRefused since) (function_of job.func.now) all b.told targets) → KeepsBut targets a.told b.told → IsStopCause {T = Unit {0}} a.counted b.counted (Err stop) → StopsAmong {T = Unit {0}} [] targets (Err stop)
     → IsStopped (asked job) (HasRefused since) since.before b (stop_named (made_numbering since.before.told.next job.layout.ports) stop)
 cut since a b job targets who all stop is h by all_is k kept cause among =
     let c = asked job in
@@ -122,12 +143,12 @@ cut since a b job targets who all stop is h by all_is k kept cause among =
     (broken_running (leaves_of c since.before job.layout.ports) _ _ _ since.before a b [] targets k.run stop (are_of since.before job k.run is f) h (λ i n e. absurd (cc e)) kept k.fronts cause among)
 
 -- not all files could be created
-pub uncreated : (since : Since) (a b : Outside) (job : Job) (who : Who) (stop : NumberStop) → IsJob since.before job → a.told.next ≡ since.before.told.next + 1 → HasOnlyAsked (reading (asked job).function ∷ []) since.before a → IsWho (asked job) (function_of job.func.now) who → Serves (function_of job.func.now) who
-    → AreSomeCreated a.told b.told (name_at (asked job).out job.layout.ports) (job.layout.ports + 1) stop → AsksSome (created_by (asked job).out job.layout.ports (job.layout.ports + 1)) a.counted b.counted stop
+pub uncreated : (since : Since) (a b : Outside) (job : Job) (who : Who) (stop : NumberStop) → IsJob since.before job → a.told.next ≡ since.before.told.next + 1 → HasOnlyAsked (reading (asked job).function ∷ []) since.before a → IsWho (asked job) (function_of job.func.now) who
+    → AreSomeCreated a.told b.told (name_at (asked job).format (asked job).out job.layout.ports) (job.layout.ports + 1) stop → AsksSome (created_by (asked job).format (asked job).out job.layout.ports (job.layout.ports + 1)) a.counted b.counted stop
     → IsStopped (asked job) (HasRefused since) since.before b (stop_named (made_numbering since.before.told.next job.layout.ports) stop)
-uncreated since a b job who stop is at only by serves some asks =
+uncreated since a b job who stop is at only by some asks =
     let c = asked job in
-    let none = none_by who c.card (HasRefused since) (function_of job.func.now) (all_of job) b.told [] serves (λ k file e. absurd (cc e)) in
+    let none = none_by who c.card c.format (HasRefused since) (function_of job.func.now) (all_of job) b.told [] (λ k file e. absurd (cc e)) in
     let f = function_by who c.card (HasRefused since) (function_of job.func.now) none.given none.run none.is_run in
     cut_short since b job none.given none.run _ is f (run_is since.before job who (HasRefused since) none.given none.run is by none.is_run) (none.first.0, sym (packets_as job none.run.function f) ∙ none.first.1)
     (broken_creating (leaves_of c since.before job.layout.ports) _ _ _ since.before a b none.run stop (are_of since.before job none.run is f) at only some asks)

@@ -29,7 +29,7 @@ ports_of run = length run.function.handlers
 -- Behind the text so many files of a run were created, and so many of these are whole.
 abbrev pub HasLeft : Gen → Outside → Outside → Run → (made full : ℕ) → Type 0
 HasLeft c before now run made full =
-    Left before.told now.told (before.told.next + 1) (name_at c.out (ports_of run)) (bytes_at run) made full
+    Left before.told now.told (before.told.next + 1) (name_at c.format c.out (ports_of run)) (bytes_at c.format run) made full
 
 -- The lines on a run were printed, and so they are only once it has handled all packets.
 pub record IsTold (c : Gen) (before now : Outside) (run : Run) : Type 0 where

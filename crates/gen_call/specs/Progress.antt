@@ -49,7 +49,7 @@ asked job = view.gen job.command.now
 abbrev pub state_name : Job → List ℕ
 state_name job =
     let ports = length job.func.now.handlers in
-    name_at (asked job).out ports (ports + 1)
+    name_at (asked job).format (asked job).out ports (ports + 1)
 
 abbrev pub state_text : Job → State → List ℕ
 state_text job state = text_of (function_of job.func.now) state
@@ -61,7 +61,7 @@ lines_of job mode state sent =
 
 -- what a run of so many ports leaves
 abbrev pub leaves_of : Gen → Outside → ℕ → Leaves
-leaves_of c before ports = record { inputs = reading c.function ∷ []; captures = 0; ports = ports; out = c.out; base = before.told.next + 1 }
+leaves_of c before ports = record { inputs = reading c.function ∷ []; captures = 0; ports = ports; format = c.format; out = c.out; base = before.told.next + 1 }
 
 -- All packets were handled, and the outputs and the journal are whole. This state is left, and so many
 -- records in all outputs.

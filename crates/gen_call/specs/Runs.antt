@@ -1,9 +1,8 @@
 -- The run over made-up traffic that a command asks for, and how it ends.
-use Rattle.std.specs.Prelude.{◌≡◌, ◌≢◌, ℕ, ◌+◌, ◌<◌, List, [], ◌∷◌, ◌++◌, length, Some}
+use Rattle.std.specs.Prelude.{◌≡◌, ℕ, ◌+◌, ◌<◌, List, [], ◌∷◌, ◌++◌, length, Some}
 use Rattle.nf_base.specs.Text.{Function}
 use Rattle.nf_base.specs.declared.done.Done.{Done}
 use Rattle.nf_base.specs.declared.keys.Keys.{Keys}
-use Rattle.nf_base.specs.declared.card.Card.{Card}
 use Rattle.nf_base.specs.declared.state.State.{State}
 use Rattle.nf_files.specs.Told.{Told}
 use Rattle.nf_files.specs.Causes.{Asked}
@@ -17,14 +16,14 @@ use Rattle.key_synth.specs.Keys.{AreGiven}
 use Rattle.shard_core.specs.declared.collected.Stop.{Stop as ShareStop}
 use Rattle.sharded_run.specs.Sharded.{IsStopBehind}
 use Rattle.stream_run.specs.Runs.{Run, course_of}
+use Rattle.stream_run.specs.Rules.{Rule, IsRunBy}
 use Rattle.traffic_run.specs.declared.asked.Asked.{Asked as Traffic}
 use Rattle.traffic_run.specs.declared.who.Who.{Who}
 use Rattle.traffic_run.specs.declared.who.Who.TheVariants.{One, Shards, Sharing}
 use Rattle.traffic_run.specs.Asked.{asked_for}
-use Rattle.traffic_run.specs.Runs.{IsRunBy, AreBefore, IsSent}
+use Rattle.traffic_run.specs.Runs.{AreBefore, IsSent}
 use Rattle.traffic_summary.specs.Summary.{numbers_text, left_text}
 use Rattle.command_words.specs.Commands.{Gen}
-use Rattle.command_words.specs.declared.command.ModeChoice.{ModeChoice}
 use Rattle.command_words.specs.declared.command.ModeChoice.TheVariants as choice
 use Rattle.call_base.specs.declared.status.End.{End}
 use Rattle.call_base.specs.declared.status.End.TheVariants.{Whole, Torn, TooMany, ShareFull}
@@ -33,12 +32,13 @@ use Rattle.call_base.specs.declared.status.NoKeys.{NoKeys}
 use Rattle.call_base.specs.Source.{IsFunctionUnder}
 use Rattle.call_base.specs.Named.{IsToldStop, SaysCause}
 use Rattle.call_base.specs.Names.{reading, created_by}
+use Rattle.call_base.specs.Rules.{HasKeys, MayShard, ShareTables, IsRuleOf}
 
 -- ---- the packets
 
 -- the traffic that a command asks for
 abbrev pub traffic_of : Gen → Traffic
-traffic_of c = record { seed = c.seed; count = c.count; flows = c.flows; card = c.card }
+traffic_of c = record { seed = c.seed; count = c.count; flows = c.flows; card = c.card; format = c.format }
 
 -- its packets, at a function's ports
 abbrev pub packets_for : Gen → Function → List Arrival
@@ -46,30 +46,22 @@ packets_for c f = asked_for (traffic_of c) (length f.handlers)
 
 -- ---- who handles them
 
--- a function has keys for a network card
-pub record HasKeys (f : Function) (card : Card) : Type 0 where
-  pub keys : Keys
-  pub given : AreGiven f card keys
-
--- Several may share all tables where that is asked for, or where no keys serve the function.
-abbrev pub MayShare : ModeChoice → Card → Function → Type 0
-MayShare choice.Lock card f = Unit {0}
-MayShare choice.Auto card f = (cause : Cause) × IsVerdict f card (Locked cause)
-MayShare choice.Shard card f = ⊥
-
 -- Who handles the packets: one worker, or as many as are asked for, which share nothing under the
 -- function's keys for the network card that is asked for, or share all tables.
 abbrev pub IsWho : Gen → Function → Who → Type 0
 IsWho c f One = (c.workers ≡ 1) × (c.mode ≡ choice.Shard → HasKeys f c.card)
-IsWho c f (Shards keys workers) = (workers ≡ c.workers) × (1 < workers) × (c.mode ≢ choice.Lock) × AreGiven f c.card keys
-IsWho c f (Sharing workers) = (workers ≡ c.workers) × (1 < workers) × MayShare c.mode c.card f
+IsWho c f (Shards keys workers) = (workers ≡ c.workers) × (1 < workers) × MayShard c.mode × AreGiven f c.card keys
+IsWho c f (Sharing workers) = (workers ≡ c.workers) × (1 < workers) × ShareTables c.mode c.card f
 
--- A run of some packets that a command asks for: its text is what stood under its name.
+-- A run of some packets that a command asks for: its text is what stood under its name, of a function with
+-- keys for the network card that is asked for, where mode `shard` is. The packets are handled by the rule
+-- that is due.
 pub record IsRunOf (c : Gen) (Refused : Type 0) (told : Told) (given : List Arrival) (run : Run) : Type 0 where
   pub is_function : IsFunctionUnder told c.function run.function
-  pub who : Who
-  pub is_who : IsWho c run.function who
-  pub is_run : IsRunBy who c.card Refused run.function given run
+  pub keyed : c.mode ≡ choice.Shard → HasKeys run.function c.card
+  pub rule : Rule
+  pub due : IsRuleOf Refused c.mode c.workers c.card run.function rule
+  pub is_run : IsRunBy rule run.function c.card given run
 
 -- ---- how it ends
 
@@ -131,4 +123,4 @@ pub record IsSummary (c : Gen) (now : Told) (first : ℕ) (run : Run) (text : Li
 
 -- the names that it asks for which creates so many files
 abbrev pub asked_until : Gen → ℕ → ℕ → List Asked
-asked_until c ports count = reading c.function ∷ created_by c.out ports count
+asked_until c ports count = reading c.function ∷ created_by c.format c.out ports count

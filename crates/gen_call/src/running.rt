@@ -52,7 +52,16 @@ fn leave_run<F: Files>(
 {
     let out = &job.command.out;
     match lines_on(alloc, job.command, job.func, mode, state, sent) {
-        Ok(lines) => finish(alloc, files, job.func, out, state, lines.as_slice(), last),
+        Ok(lines) => finish(
+            alloc,
+            files,
+            job.func,
+            job.command.format,
+            out,
+            state,
+            lines.as_slice(),
+            last,
+        ),
         Err(_) => Err(NumberStop::Memory),
     }
 }
@@ -84,6 +93,7 @@ fn run_created<R: Threads + Wait + Sync, F: Files, T: Turns + Sync, G: Gate + Dr
         count: job.command.count,
         flows: job.command.flows,
         card: job.command.card,
+        format: job.command.format,
     };
     let first = targets[0];
     match run(
@@ -123,7 +133,8 @@ fn run_served<R: Threads + Wait + Sync, F: Files, T: Turns + Sync, G: Gate + Dro
         GensTo (asked job.now) Refused before (seen (F.told files.new) (F.counted files.new)) result }
 {
     let Layout { first, ports, .. } = job.layout;
-    match create_targets(alloc, files, &job.command.out, ports, first) {
+    let out = &job.command.out;
+    match create_targets(alloc, files, job.command.format, out, ports, first) {
         Ok(targets) => run_created(rt, alloc, files, job, who, targets.as_slice(), turns, gate),
         Err(stop) => Err(job.layout.halt(stop)),
     }

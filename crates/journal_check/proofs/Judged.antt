@@ -12,12 +12,13 @@ use Rattle.nf_base.specs.Runs.{Handling}
 use Rattle.nf_base.specs.Step.{StepResult, step, step_by}
 use Rattle.nf_laws.proofs.Picked.{steps_pick}
 use Rattle.nf_engine.specs.Stops.{full_stops}
+use Rattle.shard_laws.specs.Rule.{AreOfQueue, KeepsToQueue}
 use Rattle.run_history.specs.declared.line.Mode.{Mode}
 use Rattle.run_history.specs.declared.line.Mode.TheVariants.{One, Shard, Lock}
 use Rattle.run_history.specs.declared.line.JournalLine.{JournalLine}
 use Rattle.run_history.specs.declared.line.JournalLine.TheVariants as line
 use Rattle.run_history.specs.Headings.{Heading}
-use Rattle.journal_check.specs.Judging.{AreOfQueue, KeepsToQueue, IsRuled, Steps, line_of, worker_of}
+use Rattle.journal_check.specs.Judging.{IsRuled, Steps, line_of, worker_of}
 use Rattle.journal_check.specs.Telling.{StepsWith, Replays, Goes, StepsSo, ComesTo}
 use Rattle.journal_check.specs.Laws.{LinesTellSteps, QueuesAreShares}
 use Rattle.journal_check.proofs.Granted.{granted_step, meets_none}

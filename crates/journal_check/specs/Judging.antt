@@ -1,5 +1,5 @@
 -- Which lines of a journal are right: each tells a packet's step.
-use Rattle.std.specs.Prelude.{◌≡◌, ℕ, ◌%◌, ◌==◌, IsTrue, List, All, Option, Some, None}
+use Rattle.std.specs.Prelude.{◌≡◌, ℕ, ◌%◌, Option, Some, None}
 use Rattle.nf_base.specs.declared.packet.Packet.{Packet}
 use Rattle.nf_base.specs.declared.state.State.{State}
 use Rattle.nf_base.specs.declared.done.Done.{Done}
@@ -11,7 +11,7 @@ use Rattle.run_history.specs.declared.line.Mode.TheVariants.{One, Shard, Lock}
 use Rattle.run_history.specs.declared.line.JournalLine.{JournalLine}
 use Rattle.run_history.specs.declared.line.JournalLine.TheVariants as line
 use Rattle.run_history.specs.Headings.{Heading}
-use Rattle.shard_laws.specs.Queues.{MeetsNoFull}
+use Rattle.shard_laws.specs.Rule.{KeepsToQueue}
 use Rattle.vig_tables.specs.TablesState.{TablesState}
 
 -- who handles a packet: in mode `shard` the worker of its queue, in mode `lock` that of its port
@@ -37,16 +37,6 @@ pub record Answered : Type 0 where
 abbrev pub line_of : Heading → ℕ → Answered → JournalLine
 line_of heading queue a =
     line.Packet a.packet.id (worker_of heading queue a.packet.id.port) a.done.action a.done.picks
-
--- indices that this queue owns, of so many
-abbrev pub AreOfQueue : ℕ → ℕ → List ℕ → Type 0
-AreOfQueue count queue choices = All (λ i. IsTrue (i % count == queue)) choices
-
--- The rule of shares, of a packet of a queue with its choices at a state: the choices are the queue's
--- own, and no `new` answers that its chain is full.
-pub record KeepsToQueue (count queue : ℕ) (f : Function) (s : State) (h : Handling) : Type 0 where
-  pub own : AreOfQueue count queue h.choices
-  pub granted : MeetsNoFull f s h
 
 -- what is asked beside that the choices are legal: in mode `shard` the rule of shares
 abbrev pub IsRuled : Mode → ℕ → ℕ → Function → State → Handling → Type 0

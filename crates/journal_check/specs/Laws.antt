@@ -15,8 +15,8 @@ use Rattle.nf_laws.specs.Firewall.{firewall, with_flow}
 use Rattle.run_history.specs.declared.line.Mode.TheVariants.{One}
 use Rattle.nf_base.specs.Cards.{usual_card}
 use Rattle.run_history.specs.Headings.{Heading}
-use Rattle.shard_laws.specs.Rule.{KeepsRule}
-use Rattle.journal_check.specs.Judging.{KeepsToQueue, Steps, line_of}
+use Rattle.shard_laws.specs.Rule.{KeepsRule, KeepsToQueue}
+use Rattle.journal_check.specs.Judging.{Steps, line_of}
 
 -- A line and its packet determine the step: the state that is left, and the answer.
 abbrev pub LinesTellSteps : Type 0

@@ -6,7 +6,8 @@ ghost use Rattle.nf_base.specs.Step.{StepResult};
 ghost use Rattle.vig_tables.specs.TablesState.{opened_tables};
 ghost use Rattle.run_history.specs.declared.line.Mode.TheVariants.{Shard};
 ghost use Rattle.nf_engine.specs.View.{fixed_of};
-ghost use Rattle.journal_check.specs.Judging.{AreOfQueue, Steps, line_of};
+ghost use Rattle.shard_laws.specs.Rule.{AreOfQueue};
+ghost use Rattle.journal_check.specs.Judging.{Steps, line_of};
 ghost use Rattle.journal_check.specs.Telling.{Replays, Goes};
 
 use crate::told::{is_same, told, worker_by};

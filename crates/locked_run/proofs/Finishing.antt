@@ -1,10 +1,11 @@
 -- Whole runs: what was handled is one run in mode `lock`, or in mode `one` where the gate refused, or the
 -- front of one.
-use Rattle.std.proofs.Common.{◌≡◌, ◌≢◌, ◌⊎◌, ⊎_elim, inl, inr, ℕ, ◌<◌, ◌≤◌, ◌%◌, ◌==◌, Bool, true, false, List, [], ◌∷◌, length, map, filter, Some, Result, Ok, Err, refl, ap, sym, ◌∙◌, subst, arith, eq-eqb, ne_eqb, if◌then◌else◌}
-use Rattle.std.specs.List.{AllByRecursion, slice_get}
+use Rattle.std.proofs.Common.{◌≡◌, ◌≢◌, ◌⊎◌, ⊎_elim, inl, inr, ℕ, ◌<◌, ◌≤◌, ◌==◌, Bool, true, false, List, [], ◌∷◌, length, map, filter, Some, Result, Ok, Err, refl, ap, sym, ◌∙◌, subst, arith, eq-eqb, ne_eqb, if◌then◌else◌}
+use Rattle.std.specs.List.{slice_get}
 use Rattle.std.specs.Prelude.{OnOk}
 use Rattle.std.proofs.lemmas.List.{length-map}
 use Rattle.nf_base.specs.declared.card.Card.{Card}
+use Rattle.capture_format.specs.declared.format.CaptureFormat.{CaptureFormat}
 use Rattle.nf_base.specs.declared.state.State.{State}
 use Rattle.nf_base.specs.Text.{Function}
 use Rattle.nf_base.specs.Step.{opening}
@@ -14,7 +15,7 @@ use Rattle.packet_feed.specs.Told.{packets_of}
 use Rattle.packet_feed.specs.Sources.{files_in, sixes_in}
 use Rattle.packet_feed.specs.Feeding.{Feeding, StandsFor, AreAll}
 use Rattle.run_history.specs.declared.line.Mode.{Mode}
-use Rattle.run_history.specs.declared.line.Mode.TheVariants.{One, Shard, Lock}
+use Rattle.run_history.specs.declared.line.Mode.TheVariants.{One, Lock}
 use Rattle.run_history.specs.Headings.{IsHeading}
 use Rattle.lock_core.specs.declared.call.Ordered.{Ordered}
 use Rattle.lock_workers.specs.Worked.{AreHandled}
@@ -22,21 +23,23 @@ use Rattle.stream_run.specs.declared.ending.Ending.{Ending}
 use Rattle.stream_run.specs.declared.ending.Ending.TheVariants as ending
 use Rattle.stream_run.specs.declared.stop.Stop.{Stop}
 use Rattle.stream_run.specs.declared.stop.Stop.TheVariants.{File, Memory}
-use Rattle.stream_run.specs.Runs.{Turn, Handled, turn_of, run_of}
+use Rattle.stream_run.specs.Runs.{Handled, turn_of, run_of}
+use Rattle.stream_run.specs.Orders.{Order, Keeps}
+use Rattle.stream_run.specs.Rules.{Rule, KeepsBy, lone_rule, lock_rule, IsRunBy}
 use Rattle.stream_run.specs.Texts.{bytes_of}
 use Rattle.stream_run.specs.Writing.{Holding, IsFrontIfTold, files_of, AreFronts, AreEmpty, AllGoOn, KeepsBut, StopsAmong}
-use Rattle.stream_run.specs.Streaming.{result_in, arrival_of, AreFirst}
+use Rattle.stream_run.specs.Streaming.{handling_in, arrival_of, AreFirst}
 use Rattle.stream_run.specs.Lawful.{AreTheFirst, EndsSo}
-use Rattle.stream_run.proofs.Complete.{ran_of, bytes_are, same_arrivals, first_most, first_none, empty_front, empty_told}
+use Rattle.stream_run.proofs.Stepping.{always}
+use Rattle.stream_run.proofs.Complete.{ran_of, run_by, bytes_are, first_most, first_none, empty_front, empty_told}
 use Rattle.stream_run.proofs.Reached.{first_given}
 use Rattle.sharded_run.specs.Reading.{Gathers, IsOver}
 use Rattle.locked_run.specs.declared.came.Settled.{Settled}
-use Rattle.nf_base.specs.Orders.{KeepsPortOrder}
-use Rattle.locked_run.specs.Locked.{IsRunIn, port_of}
+use Rattle.locked_run.specs.Locked.{IsDue}
 use Rattle.locked_run.specs.Handled.{joined}
-use Rattle.locked_run.specs.Going.{mode_of, AreInMode, AreSettled, AreWhole, Writes, IsWritten, IsHalted}
+use Rattle.locked_run.specs.Going.{mode_of, AreSettled, AreWhole, Writes, IsWritten, IsHalted}
 use Rattle.locked_run.specs.Lawful.{IsFinished, IsCutShort}
-use Rattle.locked_run.proofs.Joining.{undivided_of, workers_are, ports_kept, all_zero, in_capture_order}
+use Rattle.locked_run.proofs.Joining.{undivided_of, workers_are, ports_kept as each_port, all_zero, in_capture_order}
 use Rattle.locked_run.proofs.Once.{stands_once}
 
 -- ---- who handled packets
@@ -58,78 +61,78 @@ pub settled_of : (f : Function) (workers : ℕ) (Refused : Type 0) (batch : List
     → AreSettled f (mode_of w workers) workers Refused batch (joined batch xs places) state
 settled_of f workers Refused batch xs places state w several h (inl e) =
     let g : AreHandled f workers (map packet_of batch) xs places state = subst (λ (n : ℕ). AreHandled f n (map packet_of batch) xs places state) e h in
-    subst (λ (m : Mode). AreSettled f m workers Refused batch (joined batch xs places) state) (sym (lock_mode w workers e))
-    (record { undivided = undivided_of f batch xs places state g.at g.runs; in_mode = (workers_are f workers batch xs places state g, ports_kept f workers batch xs places state g) })
+    let hs = joined batch xs places in
+    record {
+      rule = lock_rule workers;
+      due = inl refl;
+      mode_is = lock_mode w workers e;
+      are = record {
+        undivided = undivided_of f batch xs places state g.at g.runs;
+        own = workers_are f workers batch xs places state g;
+        kept = always (KeepsBy (lock_rule workers) f) f (λ t x. tt) (opening f) (map handling_in hs);
+      };
+      order = each_port f workers batch xs places state g;
+    }
 settled_of f workers Refused batch xs places state w several h (inr r) =
     let g : AreHandled f 1 (map packet_of batch) xs places state = subst (λ (n : ℕ). AreHandled f n (map packet_of batch) xs places state) r.0 h in
     let one = r.0 in
-    subst (λ (m : Mode). AreSettled f m workers Refused batch (joined batch xs places) state) (sym (one_mode w workers (λ e. absurd (omega (arith, e, one, several)))))
-    (record { undivided = undivided_of f batch xs places state g.at g.runs; in_mode = (r.1, all_zero (joined batch xs places) (workers_are f 1 batch xs places state g), in_capture_order f batch xs places state g) })
+    let hs = joined batch xs places in
+    record {
+      rule = lone_rule workers;
+      due = inr (r.1, refl);
+      mode_is = one_mode w workers (λ e. absurd (omega (arith, e, one, several)));
+      are = record {
+        undivided = undivided_of f batch xs places state g.at g.runs;
+        own = all_zero hs (workers_are f 1 batch xs places state g);
+        kept = always (KeepsBy (lone_rule workers) f) f (λ t x. tt) (opening f) (map handling_in hs);
+      };
+      order = in_capture_order f batch xs places state g;
+    }
 
 -- nothing was handled
-pub halted_none : (f : Function) (workers : ℕ) (card : Card) (Refused : Type 0) (ports : ℕ) (batch : List Arrival) (now : Told) (files : List ℕ) → ((k file : ℕ) → slice_get files k ≡ Some file → IsEmptyIfTold (now.given file)) → IsHalted f workers card Refused ports batch now files
-halted_none f workers card Refused ports batch now files empty = record {
+pub halted_none : (f : Function) (workers : ℕ) (card : Card) (format : CaptureFormat) (Refused : Type 0) (ports : ℕ) (batch : List Arrival) (now : Told) (files : List ℕ) → ((k file : ℕ) → slice_get files k ≡ Some file → IsEmptyIfTold (now.given file)) → IsHalted f workers card format Refused ports batch now files
+halted_none f workers card format Refused ports batch now files empty = record {
   mode = Lock;
   given = [];
   hs = [];
   state = opening f;
   some = inl refl;
-  are = record { undivided = refl; in_mode = (tt, λ port. refl) };
-  fronts = λ k file e. empty_front (bytes_of Lock workers card ports k []) (now.given file) (empty k file e);
+  are = record {
+    rule = lock_rule workers;
+    due = inl refl;
+    mode_is = refl;
+    are = record { undivided = refl; own = tt; kept = tt };
+    order = λ port. refl;
+  };
+  fronts = λ k file e. empty_front (bytes_of Lock workers card format ports k []) (now.given file) (empty k file e);
 }
 
 -- what was held is written
-pub written_by : (T E : Type 0) (mode : Mode) (workers : ℕ) (card : Card) (ports : ℕ) (hs : List Handled) (now : Told) (sinks : List Holding) (files : List ℕ) (result : Result T E) → files_of sinks ≡ files → AllGoOn mode workers card ports hs now sinks result → OnOk result (AreEmpty sinks) → Writes mode workers card ports hs now files result
-written_by T E mode workers card ports hs now sinks files (Ok x) same held empty = λ k file e. empty_told mode workers card ports now sinks hs held empty k file (ap (λ (fs : List ℕ). slice_get fs k) same ∙ e)
-written_by T E mode workers card ports hs now sinks files (Err x) same fronts empty = subst (λ (fs : List ℕ). AreFronts mode workers card ports hs now fs) same fronts
+pub written_by : (T E : Type 0) (mode : Mode) (workers : ℕ) (card : Card) (format : CaptureFormat) (ports : ℕ) (hs : List Handled) (now : Told) (sinks : List Holding) (files : List ℕ) (result : Result T E) → files_of sinks ≡ files → AllGoOn mode workers card format ports hs now sinks result → OnOk result (AreEmpty sinks) → Writes mode workers card format ports hs now files result
+written_by T E mode workers card format ports hs now sinks files (Ok x) same held empty = λ k file e. empty_told mode workers card format ports now sinks hs held empty k file (ap (λ (fs : List ℕ). slice_get fs k) same ∙ e)
+written_by T E mode workers card format ports hs now sinks files (Err x) same fronts empty = subst (λ (fs : List ℕ). AreFronts mode workers card format ports hs now fs) same fronts
 
 -- ---- the run of packets that were handled
 
-all_turns : (workers : ℕ) (hs : List Handled) → AllByRecursion (λ (h : Handled). h.worker ≡ h.arrival.packet.id.port % workers) hs → AllByRecursion (λ (t : Turn). t.worker ≡ t.arrival.packet.id.port % workers) (map turn_of hs)
-all_turns workers [] h = tt
-all_turns workers (x ∷ hs) h = (h.0, all_turns workers hs h.1)
+-- how many workers the rule that is due tells
+counted_by : (workers : ℕ) (Refused : Type 0) (rule : Rule) → IsDue workers Refused rule → workers ≡ rule.workers
+counted_by workers Refused rule (inl e) = ap (λ (r : Rule). r.workers) (sym e)
+counted_by workers Refused rule (inr e) = ap (λ (r : Rule). r.workers) (sym e.1)
 
-zero_turns : (hs : List Handled) → AllByRecursion (λ (h : Handled). h.worker ≡ 0) hs → AllByRecursion (λ (t : Turn). t.worker ≡ 0) (map turn_of hs)
-zero_turns [] h = tt
-zero_turns (x ∷ hs) h = (h.0, zero_turns hs h.1)
-
-run_in : (mode : Mode) (f : Function) (workers : ℕ) (card : Card) (Refused : Type 0) (given : List Arrival) (hs : List Handled) (state : State) → AreSettled f mode workers Refused given hs state → IsRunIn mode f workers card Refused given (run_of f mode workers card hs)
-run_in Lock f workers card Refused given hs state s = record {
-  function = refl;
-  mode = refl;
-  workers_are = refl;
-  card_is = refl;
-  own = all_turns workers hs s.in_mode.0;
-  order = subst (KeepsPortOrder port_of given) (sym (same_arrivals hs)) s.in_mode.1;
-  legal = record { result = result_in hs state; ran = ran_of f Lock workers card hs state s.undivided };
-}
-run_in One f workers card Refused given hs state s = (
-  s.in_mode.0,
-  record {
-    function = refl;
-    mode = refl;
-    workers_are = refl;
-    card_is = refl;
-    alone = zero_turns hs s.in_mode.1;
-    order = same_arrivals hs ∙ s.in_mode.2;
-    legal = record { result = result_in hs state; ran = ran_of f One workers card hs state s.undivided };
-  },
-)
-run_in Shard f workers card Refused given hs state s = absurd s.in_mode
+run_in : (mode : Mode) (f : Function) (workers : ℕ) (card : Card) (Refused : Type 0) (given : List Arrival) (hs : List Handled) (state : State) → (s : AreSettled f mode workers Refused given hs state) → IsRunBy s.rule f card given (run_of f mode workers card hs)
+run_in mode f workers card Refused given hs state s = run_by s.rule f mode workers card given hs state s.mode_is (counted_by workers Refused s.rule s.due) s.are s.order
 
 all_pass : (as_list : List Arrival) → filter (λ (a : Arrival). true) as_list ≡ as_list
 all_pass [] = refl
 all_pass (a ∷ as_list) = ap (λ (xs : List Arrival). a ∷ xs) (all_pass as_list)
 
 -- as many packets were handled as were given
-same_count : (mode : Mode) (workers : ℕ) (Refused : Type 0) (given : List Arrival) (hs : List Handled) → AreInMode mode workers Refused given hs → length hs ≡ length given
-same_count Lock workers Refused given hs h =
+same_count : (order : Order) (given : List Arrival) (hs : List Handled) → Keeps order given (map arrival_of hs) → length hs ≡ length given
+same_count order given hs keeps =
     sym (length-map hs arrival_of)
     ∙ ap (λ (xs : List Arrival). length xs) (sym (all_pass (map arrival_of hs)))
-    ∙ stands_once given (map arrival_of hs) (λ a. true) h.1
+    ∙ stands_once order given (map arrival_of hs) (λ a. true) keeps
     ∙ ap (λ (xs : List Arrival). length xs) (all_pass given)
-same_count One workers Refused given hs h = sym (length-map hs arrival_of) ∙ ap (λ (xs : List Arrival). length xs) h.2
-same_count Shard workers Refused given hs h = absurd h
 
 -- ---- what was read
 
@@ -163,52 +166,56 @@ ends_so ending.TooMany ports begun feed start now before batch none g over b = (
 
 -- ---- how a run ends
 
-pub finished_of : (f : Function) (workers : ℕ) (card : Card) (Refused : Type 0) (n ports : ℕ) (begun feed : Feeding) (start read now : Told) (files : List ℕ) (batch : List Arrival) (e : Ending) (settled : Settled) (packets : ℕ) → n ≡ length f.handlers → begun.given ≡ 0 → Gathers ports begun feed start read batch → IsOver e begun start feed batch
-    → IsWritten f workers card Refused n batch now files settled → packets ≡ feed.given → IsFinished f workers card Refused begun start feed now files (record { mode = settled.mode; ran = record { ending = e; packets = packets; state = settled.state } })
-finished_of f workers card Refused n ports begun feed start read now files batch e settled packets same none g over w count =
+pub finished_of : (f : Function) (workers : ℕ) (card : Card) (format : CaptureFormat) (Refused : Type 0) (n ports : ℕ) (begun feed : Feeding) (start read now : Told) (files : List ℕ) (batch : List Arrival) (e : Ending) (settled : Settled) (packets : ℕ) → n ≡ length f.handlers → begun.given ≡ 0 → Gathers ports begun feed start read batch → IsOver e begun start feed batch
+    → IsWritten f workers card format Refused n batch now files settled → packets ≡ feed.given → IsFinished f workers card format Refused begun start feed now files (record { mode = settled.mode; ran = record { ending = e; packets = packets; state = settled.state } })
+finished_of f workers card format Refused n ports begun feed start read now files batch e settled packets same none g over w count =
     let mode = settled.mode in
-    let u = w.are.undivided in
+    let u = w.are.are.undivided in
     record {
       run = run_of f mode workers card w.hs;
       given = batch;
+      rule = w.are.rule;
+      due = w.are.due;
       is_run = run_in mode f workers card Refused batch w.hs settled.state w.are;
+      mode_is = w.are.mode_is;
       within = given_within ports begun feed start read batch none g;
       packets = λ before b. the_first e ports begun feed start read before batch none g over b;
       ending = λ before b. ends_so e ports begun feed start read before batch none g over b;
       same_files = g.same_files;
       same_six = g.same_six;
       same_most = g.same_most;
-      count = length-map w.hs turn_of ∙ same_count mode workers Refused batch w.hs w.are.in_mode ∙ sym (count_of ports begun feed start read batch none g) ∙ sym count;
+      count = length-map w.hs turn_of ∙ same_count w.are.rule.order batch w.hs w.are.order ∙ sym (count_of ports begun feed start read batch none g) ∙ sym count;
       left = (map (λ (x : Handled). x.done) w.hs, ran_of f mode workers card w.hs settled.state u);
-      wholes = λ k file at. subst (λ (t : List ℕ). IsToldAs t (now.given file)) (sym (bytes_are f mode workers card w.hs settled.state k u)) (subst (λ (m : ℕ). AreWhole mode workers card m w.hs now files) same w.wholes k file at);
+      wholes = λ k file at. subst (λ (t : List ℕ). IsToldAs t (now.given file)) (sym (bytes_are f mode workers card format w.hs settled.state k u)) (subst (λ (m : ℕ). AreWhole mode workers card format m w.hs now files) same w.wholes k file at);
     }
 
-cut_at : (f : Function) (workers : ℕ) (card : Card) (Refused : Type 0) (n : ℕ) (begun : Feeding) (start now : Told) (files : List ℕ) (batch : List Arrival) → n ≡ length f.handlers → (h : IsHalted f workers card Refused n batch now files) → length h.given ≤ begun.most
-    → ((before : Told) → StandsFor before [] begun start → AreFirst (packets_of (sixes_in begun.sources) (files_in begun.sources) before) h.given) → IsCutShort f workers card Refused begun start now files
-cut_at f workers card Refused n begun start now files batch same h within first =
-    let u = h.are.undivided in
+cut_at : (f : Function) (workers : ℕ) (card : Card) (format : CaptureFormat) (Refused : Type 0) (n : ℕ) (begun : Feeding) (start now : Told) (files : List ℕ) (batch : List Arrival) → n ≡ length f.handlers → (h : IsHalted f workers card format Refused n batch now files) → length h.given ≤ begun.most
+    → ((before : Told) → StandsFor before [] begun start → AreFirst (packets_of (sixes_in begun.sources) (files_in begun.sources) before) h.given) → IsCutShort f workers card format Refused begun start now files
+cut_at f workers card format Refused n begun start now files batch same h within first =
+    let u = h.are.are.undivided in
     record {
       run = run_of f h.mode workers card h.hs;
       given = h.given;
-      mode = h.mode;
+      rule = h.are.rule;
+      due = h.are.due;
       is_run = run_in h.mode f workers card Refused h.given h.hs h.state h.are;
       within = within;
       packets = first;
-      fronts = λ k file at. subst (λ (t : List ℕ). IsFrontIfTold t (now.given file)) (sym (bytes_are f h.mode workers card h.hs h.state k u)) (subst (λ (m : ℕ). AreFronts h.mode workers card m h.hs now files) same h.fronts k file at);
+      fronts = λ k file at. subst (λ (t : List ℕ). IsFrontIfTold t (now.given file)) (sym (bytes_are f h.mode workers card format h.hs h.state k u)) (subst (λ (m : ℕ). AreFronts h.mode workers card format m h.hs now files) same h.fronts k file at);
     }
 
 -- it was stopped before all packets were read
-pub cut_none : (f : Function) (workers : ℕ) (card : Card) (Refused : Type 0) (n : ℕ) (begun : Feeding) (start now : Told) (files : List ℕ) → n ≡ length f.handlers → ((k file : ℕ) → slice_get files k ≡ Some file → IsEmptyIfTold (now.given file)) → IsCutShort f workers card Refused begun start now files
+pub cut_none : (f : Function) (workers : ℕ) (card : Card) (format : CaptureFormat) (Refused : Type 0) (n : ℕ) (begun : Feeding) (start now : Told) (files : List ℕ) → n ≡ length f.handlers → ((k file : ℕ) → slice_get files k ≡ Some file → IsEmptyIfTold (now.given file)) → IsCutShort f workers card format Refused begun start now files
 unfolding halted_none
-cut_none f workers card Refused n begun start now files same empty =
-    let h = halted_none f workers card Refused n [] now files empty in
+cut_none f workers card format Refused n begun start now files same empty =
+    let h = halted_none f workers card format Refused n [] now files empty in
     let none : length h.given ≡ 0 = refl in
-    cut_at f workers card Refused n begun start now files [] same h (omega (arith, none)) (λ before b. first_none (packets_of (sixes_in begun.sources) (files_in begun.sources) before))
+    cut_at f workers card format Refused n begun start now files [] same h (omega (arith, none)) (λ before b. first_none (packets_of (sixes_in begun.sources) (files_in begun.sources) before))
 
 -- it was stopped behind that
-pub cut_short_of : (f : Function) (workers : ℕ) (card : Card) (Refused : Type 0) (n ports : ℕ) (begun feed : Feeding) (start read now : Told) (files : List ℕ) (batch : List Arrival) → n ≡ length f.handlers → begun.given ≡ 0 → Gathers ports begun feed start read batch → IsHalted f workers card Refused n batch now files → IsCutShort f workers card Refused begun start now files
-cut_short_of f workers card Refused n ports begun feed start read now files batch same none g h =
-    cut_at f workers card Refused n begun start now files batch same h
+pub cut_short_of : (f : Function) (workers : ℕ) (card : Card) (format : CaptureFormat) (Refused : Type 0) (n ports : ℕ) (begun feed : Feeding) (start read now : Told) (files : List ℕ) (batch : List Arrival) → n ≡ length f.handlers → begun.given ≡ 0 → Gathers ports begun feed start read batch → IsHalted f workers card format Refused n batch now files → IsCutShort f workers card format Refused begun start now files
+cut_short_of f workers card format Refused n ports begun feed start read now files batch same none g h =
+    cut_at f workers card format Refused n begun start now files batch same h
     (⊎_elim (λ (e : h.given ≡ []). let l = ap (λ (xs : List Arrival). length xs) e in omega (arith, l)) (λ (e : h.given ≡ batch). let l = ap (λ (xs : List Arrival). length xs) e in let w = given_within ports begun feed start read batch none g in omega (arith, l, w)) h.some)
     (λ before b. ⊎_elim (λ (e : h.given ≡ []). subst (AreFirst (packets_of (sixes_in begun.sources) (files_in begun.sources) before)) (sym e) (first_none (packets_of (sixes_in begun.sources) (files_in begun.sources) before)))
     (λ (e : h.given ≡ batch). subst (AreFirst (packets_of (sixes_in begun.sources) (files_in begun.sources) before)) (sym e) (first_of ports begun feed start read before batch g b)) h.some)

@@ -19,7 +19,8 @@ use Rattle.stream_run.specs.Runs.{Handled}
 use Rattle.stream_run.specs.Streaming.{IsUndivided, arrival_of, handling_in}
 use Rattle.locked_run.specs.Handled.{in_front, joined}
 use Rattle.nf_base.specs.Orders.{KeepsPortOrder}
-use Rattle.locked_run.specs.Locked.{is_of, port_of}
+use Rattle.packet_feed.specs.Ports.{is_of}
+use Rattle.stream_run.specs.Orders.{port_of}
 
 -- the packet that stands at a place
 pub record Stands (batch : List Arrival) (place : ℕ) (x : Ordered) : Type 0 where

@@ -4,7 +4,9 @@ use Rattle.std.proofs.lemmas.Bool.{cases_eq}
 use Rattle.std.proofs.lemmas.List.Elements.{filter-append}
 use Rattle.packet_feed.specs.Arrivals.{Arrival}
 use Rattle.nf_base.specs.Orders.{KeepsPortOrder}
-use Rattle.locked_run.specs.Locked.{is_of, port_of}
+use Rattle.packet_feed.specs.Ports.{is_of}
+use Rattle.stream_run.specs.Orders.{port_of}
+use Rattle.stream_run.proofs.Ordered.{ports_kept}
 use Rattle.locked_run.specs.Laws.{EachStandsOnce, OthersGoBetween, NoneGoesBefore}
 
 -- where the first packet of a port stands
@@ -68,15 +70,18 @@ nothing_left (h ∷ hs) keeps =
     let e : h ∷ filter (is_of h.packet.id.port) hs ≡ [] = ap (λ (b : Bool). cond b (h ∷ filter (is_of h.packet.id.port) hs) (filter (is_of h.packet.id.port) hs)) (sym (eq-eqb h.packet.id.port h.packet.id.port refl)) ∙ keeps h.packet.id.port in
     absurd (cc e)
 
-pub stands_once : EachStandsOnce
-stands_once [] handled test keeps = ap (λ (xs : List Arrival). length (filter test xs)) (nothing_left handled keeps)
-stands_once (a ∷ rest) handled test keeps =
+stands_by_port : (given handled : List Arrival) (test : Arrival → Bool) → KeepsPortOrder port_of given handled → length (filter test handled) ≡ length (filter test given)
+stands_by_port [] handled test keeps = ap (λ (xs : List Arrival). length (filter test xs)) (nothing_left handled keeps)
+stands_by_port (a ∷ rest) handled test keeps =
     let port = a.packet.id.port in
     let p = parted port handled a (filter (is_of port) rest) (keeps port ∙ ap (λ (b : Bool). cond b (a ∷ filter (is_of port) rest) (filter (is_of port) rest)) (eq-eqb port port refl)) in
     let less = keeps_rest a rest p.before p.after (subst (KeepsPortOrder port_of (a ∷ rest)) p.is keeps) p.none p.later in
     ap (λ (xs : List Arrival). length (filter test xs)) p.is
     ∙ count_front test a p.before p.after
-    ∙ cond_length (test a) a (filter test (p.before ++ p.after)) (filter test rest) (stands_once rest (p.before ++ p.after) test less)
+    ∙ cond_length (test a) a (filter test (p.before ++ p.after)) (filter test rest) (stands_by_port rest (p.before ++ p.after) test less)
+
+pub stands_once : EachStandsOnce
+stands_once order given handled test keeps = stands_by_port given handled test (ports_kept order given handled keeps)
 
 -- ---- two packets
 

@@ -1,7 +1,7 @@
 //! Laws of the orders of packets. Each function's contract is a law; its body does nothing.
 ghost use Rattle.locked_run.specs.Laws.{EachStandsOnce, OthersGoBetween, NoneGoesBefore};
 
-/// Where the order of each port is kept the packets are the same, each once.
+/// Whichever order is kept, the packets are the same, each once.
 pub fn each_stands_once()
     ensures { EachStandsOnce }
 {}

@@ -18,6 +18,7 @@ use crate::came::{Came, Settled};
 use crate::kept::{Kept, packets_in};
 use crate::reading::read_all;
 use crate::writing::write_all;
+use capture_format::CaptureFormat;
 use lock_mode::Gate;
 use lock_workers::{Turns, Worked};
 use nf_base::card::Card;
@@ -82,6 +83,7 @@ fn write<F: Files>(
     mode: Mode,
     workers: Workers,
     card: Card,
+    format: CaptureFormat,
     ports: u32,
     batch: &Seq<Kept>,
     worked: &Worked,
@@ -95,12 +97,12 @@ fn write<F: Files>(
     requires empty { (k : ℕ) → (file : ℕ) → slice_get targets.now k ≡ Some file →
         IsEmptyIfTold ((F.told files.old).given file) }
     ensures written { let hs = joined batch.now worked.now.order.items worked.now.places.items in
-        Writes mode workers card ports hs (F.told files.new) targets.now result }
+        Writes mode workers card format ports hs (F.told files.new) targets.now result }
     ensures kept { KeepsBut targets.now (F.told files.old) (F.told files.new) }
     ensures cause { IsStopCause (F.counted files.old) (F.counted files.new) result }
     ensures among { StopsAmong [] targets.now result }
 {
-    let mut sinks = match begin_sinks(alloc, mode, workers, card, ports, targets) {
+    let mut sinks = match begin_sinks(alloc, mode, workers, card, format, ports, targets) {
         Ok(sinks) => sinks,
         Err(_) => return Err(Stop::Memory),
     };
@@ -119,6 +121,7 @@ fn settle<R: Threads + Wait + Sync, F: Files, T: Turns + Sync, G: Gate + Drop + 
     func: &Func,
     workers: Workers,
     card: Card,
+    format: CaptureFormat,
     batch: &Seq<Kept>,
     targets: &[u32],
     turns: &T,
@@ -135,7 +138,7 @@ fn settle<R: Threads + Wait + Sync, F: Files, T: Turns + Sync, G: Gate + Drop + 
     requires empty { (k : ℕ) → (file : ℕ) → slice_get targets.now k ≡ Some file →
         IsEmptyIfTold ((F.told files.old).given file) }
     ensures settles { let Refused = Rose (G.refused gate.old) (G.refused gate.new) in
-        Settles (function_of func.now) workers card Refused (length func.now.handlers)
+        Settles (function_of func.now) workers card format Refused (length func.now.handlers)
         batch.now (F.told files.new) targets.now result }
     ensures rises { G.refused gate.old ≤ G.refused gate.new }
     ensures kept { KeepsBut targets.now (F.told files.old) (F.told files.new) }
@@ -149,7 +152,7 @@ fn settle<R: Threads + Wait + Sync, F: Files, T: Turns + Sync, G: Gate + Drop + 
     let mode = mode_of(worked.workers, workers.get());
     let ports = func.handlers.len();
     match write(
-        alloc, files, mode, workers, card, ports, batch, &worked, targets,
+        alloc, files, mode, workers, card, format, ports, batch, &worked, targets,
     ) {
         Ok(()) => Ok(Settled {
             mode,
@@ -179,6 +182,7 @@ pub fn run<R: Threads + Wait + Sync, F: Files, T: Turns + Sync, G: Gate + Drop +
     func: &Func,
     workers: Workers,
     card: Card,
+    format: CaptureFormat,
     feed: &mut Feed,
     captures: &[u32],
     targets: &[u32],
@@ -201,7 +205,7 @@ pub fn run<R: Threads + Wait + Sync, F: Files, T: Turns + Sync, G: Gate + Drop +
     // order; or each file holds a front of what such a run leaves there. It is in mode `one`, and in
     // capture order, only where the gate's count rose.
     ensures runs { let Refused = Rose (G.refused gate.old) (G.refused gate.new) in
-        Runs (function_of func.now) workers card Refused feed.old (F.told files.old)
+        Runs (function_of func.now) workers card format Refused feed.old (F.told files.old)
         feed.new (F.told files.new) targets.now result }
     ensures rises { G.refused gate.old ≤ G.refused gate.new }
     ensures kept { KeepsBut targets.now (F.told files.old) (F.told files.new) }
@@ -216,7 +220,7 @@ pub fn run<R: Threads + Wait + Sync, F: Files, T: Turns + Sync, G: Gate + Drop +
     };
     let packets = feed.given();
     match settle(
-        rt, alloc, files, func, workers, card, &batch, targets, turns, gate,
+        rt, alloc, files, func, workers, card, format, &batch, targets, turns, gate,
     ) {
         Ok(settled) => Ok(Came {
             mode: settled.mode,

@@ -1,6 +1,7 @@
 //! What packets leave is written, in the order in which they were handled.
 ghost use Rattle.std.specs.Prelude.{◌≡◌, ◌^◌, ◌≤◌, ◌∷◌, ◌++◌, [], ℕ, List, length, map};
 ghost use Rattle.nf_base.specs.declared.card.Card.{Card};
+ghost use Rattle.capture_format.specs.declared.format.CaptureFormat.{CaptureFormat};
 ghost use Rattle.packet_feed.specs.Arrivals.{packet_of};
 ghost use Rattle.packet_feed.specs.Told.{EachFile, IsApart};
 ghost use Rattle.run_history.specs.declared.line.Mode.{Mode};
@@ -28,9 +29,10 @@ fn write_one<F: Files>(
     requires few { length sinks.old ≤ 2 ^ 32 }
     ensures goes_on { let x = ordered.now in
         let h : Handled = record { arrival = kept.now; worker = x.seat; done = x.done } in
-        (mode : Mode) → (workers : ℕ) → (card : Card) → (hs : List Handled) →
-        AreHeld mode workers card ports hs (F.told files.old) sinks.old →
-        AllGoOn mode workers card ports (hs ++ h ∷ []) (F.told files.new) sinks.new result }
+        (mode : Mode) → (workers : ℕ) → (card : Card) → (format : CaptureFormat) →
+        (hs : List Handled) →
+        AreHeld mode workers card format ports hs (F.told files.old) sinks.old →
+        AllGoOn mode workers card format ports (hs ++ h ∷ []) (F.told files.new) sinks.new result }
     ensures same_files { files_of sinks.new ≡ files_of sinks.old }
     ensures kept { KeepsAllBut (files_of sinks.old) (F.told files.old) (F.told files.new) }
     ensures cause { IsStopCause (F.counted files.old) (F.counted files.new) result }
@@ -62,9 +64,10 @@ pub(crate) fn write_all<F: Files>(
     requires apart { IsApart (files_of sinks.old) }
     requires few { length sinks.old ≤ 2 ^ 32 }
     ensures goes_on { let more = joined batch.now order.now places.now in
-        (mode : Mode) → (workers : ℕ) → (card : Card) → (hs : List Handled) →
-        AreHeld mode workers card ports hs (F.told files.old) sinks.old →
-        AllGoOn mode workers card ports (hs ++ more) (F.told files.new) sinks.new result }
+        (mode : Mode) → (workers : ℕ) → (card : Card) → (format : CaptureFormat) →
+        (hs : List Handled) →
+        AreHeld mode workers card format ports hs (F.told files.old) sinks.old →
+        AllGoOn mode workers card format ports (hs ++ more) (F.told files.new) sinks.new result }
     ensures same_files { files_of sinks.new ≡ files_of sinks.old }
     ensures kept { KeepsBut (files_of sinks.old) (F.told files.old) (F.told files.new) }
     ensures cause { IsStopCause (F.counted files.old) (F.counted files.new) result }

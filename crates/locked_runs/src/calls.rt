@@ -7,6 +7,7 @@ ghost use Rattle.nf_files.specs.Told.{IsEmptyIfTold};
 ghost use Rattle.packet_feed.specs.Told.{EachFile, IsApart};
 ghost use Rattle.packet_feed.specs.Sources.{files_in, sixes_in};
 
+use capture_format::CaptureFormat;
 use lock_mode::Gate;
 use locked_run::{Came, run};
 use nf_base::card::Card;
@@ -110,6 +111,7 @@ pub fn run_all<R: Threads + Wait + Sync, F: Files, T: Turns + Sync, G: Gate + Dr
         func,
         Workers::new(2),
         card,
+        CaptureFormat::Pcap,
         feed,
         opened,
         made,

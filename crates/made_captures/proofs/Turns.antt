@@ -9,6 +9,7 @@ use Rattle.nf_base.specs.Doors.{served_fields}
 use Rattle.frame_ip.specs.Frame.{fields_in}
 use Rattle.pcap_file.specs.declared.form.TimeUnit.TheVariants.{Nanoseconds}
 use Rattle.pcap_file.specs.Record.{record_at, time_of}
+use Rattle.pcapng_file.specs.Heard.{heard_in}
 use Rattle.packet_feed.specs.Arrivals.{Arrival, arrivals_from}
 use Rattle.packet_feed.specs.Arrivals as arrivals
 use Rattle.gen_traffic.specs.Traffic.{Recipe, id_at, packet_at, frame_at, sent_at, sent_from}
@@ -92,7 +93,7 @@ with_parts : (port port' seq seq' time time' : ℕ) (fields fields' : Option Fie
 with_parts port port' seq seq' time time' fields fields' original frame p q t f = rw (p, q, t, f) refl
 
 arrival_is : (r : Recipe) (six : Bool) (port seq time k : ℕ) → EachIsHandled → k % r.ports ≡ port → k / r.ports ≡ seq → time ≡ 1000 * k
-    → arrivals.arrival_of six port seq time (length (frame_at r k)) (frame_at r k) ≡ arrival_of (sent_at r k)
+    → arrivals.arrival_of six port seq time true (length (frame_at r k)) (frame_at r k) ≡ arrival_of (sent_at r k)
 unfolding arrivals.arrival_of
 arrival_is r six port seq time k handled p q t =
     let frame : List ℕ = frame_at r k in
@@ -102,7 +103,7 @@ arrival_is r six port seq time k handled p q t =
 
 -- the packets of records that are read one after another, and those that they were made of
 abbrev ReadAgain : Recipe → Bool → ℕ → ℕ → ℕ → ℕ → List (Packet × List ℕ) → Type 0
-ReadAgain r six port seq latest k sents = arrivals_from six port Nanoseconds seq latest (map record_of sents) ≡ map arrival_of sents
+ReadAgain r six port seq latest k sents = arrivals_from six port seq latest (map (heard_in Nanoseconds) (map record_of sents)) ≡ map arrival_of sents
 
 one_more : (r : Recipe) (six : Bool) (port k n seq latest : ℕ) → EachIsHandled → 1 ≤ r.ports → port < r.ports → k < 2 ^ 32 → Came r.ports port k seq → latest ≤ 1000 * k → (b : Bool) → ((id_at r k).port == port) ≡ b
     → ((seq' latest' : ℕ) → Came r.ports port (suc k) seq' → latest' ≤ 1000 * suc k → ReadAgain r six port seq' latest' (suc k) (at_port port (sent_from r (suc k) n)))
@@ -114,14 +115,14 @@ one_more r six port k n seq latest handled some lt few came le true e go =
     let now : max latest (time_of Nanoseconds (record_of s)) ≡ 1000 * k = omega (arith, timed (1000 * k) (frame_at r k) (omega arith), le) in
     let after = came_here r.ports port k seq some lt came is (cases_lt (k % r.ports + 1) r.ports) in
     let t : ℕ = max latest (time_of Nanoseconds (record_of s)) in
-    ap (λ (sents : List (Packet × List ℕ)). arrivals_from six port Nanoseconds seq latest (map record_of sents)) (here port s (sent_from r (suc k) n) e)
-    ∙ ap (λ (a : Arrival). a ∷ arrivals_from six port Nanoseconds (seq + 1) t (map record_of later)) (arrival_is r six port seq t k handled is (sym (came.not_yet (omega (arith, is)))) now)
+    ap (λ (sents : List (Packet × List ℕ)). arrivals_from six port seq latest (map (heard_in Nanoseconds) (map record_of sents))) (here port s (sent_from r (suc k) n) e)
+    ∙ ap (λ (a : Arrival). a ∷ arrivals_from six port (seq + 1) t (map (heard_in Nanoseconds) (map record_of later))) (arrival_is r six port seq t k handled is (sym (came.not_yet (omega (arith, is)))) now)
     ∙ ap (λ (xs : List Arrival). arrival_of s ∷ xs) (go (seq + 1) t after (omega (arith, now)))
     ∙ sym (ap (λ (sents : List (Packet × List ℕ)). map arrival_of sents) (here port s (sent_from r (suc k) n) e))
 one_more r six port k n seq latest handled some lt few came le false e go =
     let s = sent_at r k in
     let after = came_elsewhere r.ports port k seq some lt came (eqb-false (k % r.ports) port e) (cases_lt (k % r.ports + 1) r.ports) in
-    ap (λ (sents : List (Packet × List ℕ)). arrivals_from six port Nanoseconds seq latest (map record_of sents)) (elsewhere port s (sent_from r (suc k) n) e)
+    ap (λ (sents : List (Packet × List ℕ)). arrivals_from six port seq latest (map (heard_in Nanoseconds) (map record_of sents))) (elsewhere port s (sent_from r (suc k) n) e)
     ∙ go seq latest after (omega (arith, le))
     ∙ sym (ap (λ (sents : List (Packet × List ℕ)). map arrival_of sents) (elsewhere port s (sent_from r (suc k) n) e))
 

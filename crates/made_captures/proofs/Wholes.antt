@@ -11,8 +11,9 @@ use Rattle.pcap_file.specs.Record.{Record, Fits, record_at}
 use Rattle.pcap_file.specs.Capture.{Capture, capture_from, capture_within, capture_of, behind}
 use Rattle.pcap_file.specs.Spelled.{written_form, written_bytes, header_bytes, capture_bytes}
 use Rattle.pcap_file.proofs.Spelling.{is_written}
-use Rattle.packet_feed.specs.Arrivals.{Arrival, arrivals_from}
+use Rattle.packet_feed.specs.Arrivals.{Arrival, arrivals_in}
 use Rattle.packet_feed.specs.Told.{both, gathered, packets_in}
+use Rattle.packet_feed.proofs.Holding.{holds_pcap}
 use Rattle.gen_traffic.specs.Traffic.{Recipe, sent_at, sent_from, traffic, frame_at}
 use Rattle.gen_traffic.specs.Laws.{EachIsHandled}
 use Rattle.made_captures.specs.Records.{record_of, at_port, made_bytes}
@@ -99,7 +100,7 @@ numbers_more number n = let one : n + 1 ≡ suc n = omega arith in ap (numbers_f
 
 packets_are : (r : Recipe) (six : Bool) (port : ℕ) → EachIsHandled → IsRecipe r → port < r.ports → packets_in six port (Some (made_bytes r port)) ≡ Some (of_port r port 0 r.count)
 packets_are r six port handled is lt =
-    ap (option_map (λ (c : Capture). arrivals_from six port c.form.unit 0 0 c.records)) (are_whole r port is)
+    ap (option_map (arrivals_in six port)) (holds_pcap (made_bytes r port) _ refl (are_whole r port is))
     ∙ ap (λ (xs : List Arrival). Some xs) (read_again r six port 0 r.count 0 0 handled is.some_port lt (omega (arith, is.few)) (none_came r.ports port is.some_port) (omega arith))
 
 pub captures_long : (r : Recipe) (port n : ℕ) → length (captures_from r port n) ≡ n

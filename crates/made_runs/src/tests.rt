@@ -1,6 +1,7 @@
 //! A firewall under made-up traffic.
 use crate::functions::{FIREWALL, WIDE};
 use crate::outcome::{By, End, Outcome, outcome_of};
+use capture_format::CaptureFormat;
 use nf_base::card::{Card, KeySize, TableSize};
 use std::test::Fail;
 use stream_run::Stop;
@@ -46,6 +47,7 @@ fn four_of(flows: u32) -> Asked {
         count: 4,
         flows,
         card: Card::usual(),
+        format: CaptureFormat::Pcap,
     }
 }
 
@@ -103,6 +105,7 @@ fn two_workers_leave_the_same_outputs(rt: HostRuntime) -> Result<(), Fail> {
         count: 300,
         flows: 9,
         card: Card::usual(),
+        format: CaptureFormat::Pcap,
     };
     let one = outcome_of(&rt, rt.alloc(), WIDE, asked, By::One, &[])?;
     let two = outcome_of(&rt, rt.alloc(), WIDE, asked, By::TwoApart, &[])?;
@@ -150,6 +153,7 @@ fn two_workers_share_all_tables(rt: HostRuntime) -> Result<(), Fail> {
         count: 40,
         flows: 3,
         card: Card::usual(),
+        format: CaptureFormat::Pcap,
     };
     let got = outcome_of(&rt, rt.alloc(), WIDE, asked, By::TwoTogether, &[])?;
     assert_eq!(rt; got.end, End::Whole);

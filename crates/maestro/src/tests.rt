@@ -15,6 +15,7 @@ mod language;
 mod large;
 mod long;
 mod made;
+mod pcapng;
 mod replays;
 mod runs;
 mod shards;

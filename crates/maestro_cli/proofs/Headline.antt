@@ -1,30 +1,20 @@
 -- The headline follows from what the program answers.
-use Rattle.std.proofs.Common.{◌≡◌, ◌≢◌, ◌⊎◌, inl, inr, ℕ, ◌+◌, ◌<◌, ◌≤◌, Bool, List, ◌++◌, length, drop, Option, Some, None, nat_eq, if◌then◌else◌, refl, ap, sym, subst, ◌∙◌, arith}
+use Rattle.std.proofs.Common.{◌≡◌, ◌≢◌, inl, inr, ℕ, ◌+◌, ◌<◌, ◌≤◌, Bool, List, length, Some, nat_eq, if◌then◌else◌, refl, ap, sym, subst, ◌∙◌, arith}
 use Rattle.std.proofs.lemmas.Bool.{lt-ltb, le-ltb, le-leb, lt-leb, eq-eqb, ne_eqb}
-use Rattle.std.proofs.lemmas.List.{take-append-drop}
-use Rattle.std.specs.List.{AllByRecursion}
+use Rattle.capture_format.specs.declared.format.CaptureFormat.{CaptureFormat}
 use Rattle.nf_base.specs.Text.{Function}
 use Rattle.nf_base.specs.declared.card.Card.{Card}
 use Rattle.nf_files.specs.Told.{Told}
 use Rattle.packet_feed.specs.Arrivals.{Arrival}
-use Rattle.packet_feed.specs.Order.{in_order}
 use Rattle.packet_feed.specs.Feeding.{HasMore}
-use Rattle.run_history.specs.declared.line.Mode.{Mode}
-use Rattle.run_history.specs.declared.line.Mode.TheVariants as mode
 use Rattle.key_synth.specs.Keys.{NoneMayBeGiven}
 use Rattle.key_synth.specs.Laws.{MeetingPacketsHashAlike}
 use Rattle.lock_mode.specs.Gates.{Rose}
 use Rattle.stream_run.specs.declared.stop.Stop.{Stop as NumberStop}
 use Rattle.stream_run.specs.declared.stop.Stop.TheVariants as numbered
-use Rattle.stream_run.specs.Lawful.{AreTheFirst}
-use Rattle.stream_run.specs.Runs.{Run, Turn, IsLegal}
-use Rattle.stream_run.specs.Streaming.{AreFirst}
+use Rattle.stream_run.specs.Runs.{Run, IsLegal}
 use Rattle.stream_run.specs.Texts.{file_bytes}
-use Rattle.sharded_run.specs.Setups.{queue_by}
-use Rattle.locked_run.specs.Locked.{IsLockRun, IsLoneRun, IsRunIn}
-use Rattle.traffic_run.specs.declared.who.Who.{Who}
-use Rattle.traffic_run.specs.declared.who.Who.TheVariants.{One, Shards, Sharing}
-use Rattle.traffic_run.specs.Runs.{IsRunBy}
+use Rattle.stream_run.specs.Rules.{Rule, IsRunBy}
 use Rattle.command_words.specs.Commands.{Run as RunAsked, Gen, RunCommand, GenCommand}
 use Rattle.command_words.specs.declared.command.ModeChoice.{ModeChoice}
 use Rattle.command_words.specs.declared.command.ModeChoice.TheVariants as choice
@@ -43,13 +33,13 @@ use Rattle.call_base.specs.Outside.{Outside}
 use Rattle.call_base.specs.Printed.{Tells, IsSaid, after_stop, stopped_at}
 use Rattle.call_base.specs.Source.{IsFunctionUnder}
 use Rattle.call_base.specs.Statuses.{end_status, refusal_status, stop_status}
-use Rattle.run_call.specs.Modes.{MayShard, ShareTables}
-use Rattle.run_call.specs.Runs.{IsByOne, IsByShards, IsByTables, IsRunOf}
+use Rattle.call_base.specs.Rules.{MayShard, ShareTables, IsRuleOf, by_one, by_shards, by_tables, by_none}
+use Rattle.run_call.specs.Runs.{IsRunOf}
 use Rattle.run_call.specs.Ending.{IsFinished, IsRefused}
-use Rattle.gen_call.specs.Runs.{packets_for, MayShare, IsWho}
+use Rattle.gen_call.specs.Runs.{packets_for}
 use Rattle.gen_call.specs.Ending.{IsFinished as IsMade, IsRefused as IsUnmade}
 use Rattle.maestro_cli.specs.Answer.{Runs, Gens, ComesTo}
-use Rattle.maestro_cli.specs.Headline.{IsDone, ArePackets, InPortOrder, WhereRefused, AreHandled, StandsUnder, Headline, HeadlineOfRun, HeadlineOfGen, HasNoneToGive, OnlyWhereNoneSpread}
+use Rattle.maestro_cli.specs.Headline.{IsDone, ArePackets, AreHandled, StandsUnder, Headline, HeadlineOfRun, HeadlineOfGen, HasNoneToGive, OnlyWhereNoneSpread}
 
 -- ---- how the call ended, by its status
 
@@ -88,27 +78,27 @@ not_stopped_so stops.Memory h = absurd h
 
 -- ---- the files
 
-name_output : (out : List ℕ) (ports k : ℕ) → k < ports → name_at out ports k ≡ output_name out k
+name_output : (format : CaptureFormat) (out : List ℕ) (ports k : ℕ) → k < ports → name_at format out ports k ≡ output_name format out k
 unfolding name_at
-name_output out ports k lt = ap (λ (b : Bool). if b then output_name out k else if nat_eq k ports then journal_name out else state_name out) (lt-ltb k ports lt)
+name_output format out ports k lt = ap (λ (b : Bool). if b then output_name format out k else if nat_eq k ports then journal_name out else state_name out) (lt-ltb k ports lt)
 
-name_journal : (out : List ℕ) (ports : ℕ) → name_at out ports ports ≡ journal_name out
+name_journal : (format : CaptureFormat) (out : List ℕ) (ports : ℕ) → name_at format out ports ports ≡ journal_name out
 unfolding name_at
-name_journal out ports =
-    ap (λ (b : Bool). if b then output_name out ports else if nat_eq ports ports then journal_name out else state_name out) (le-ltb ports ports (omega arith))
+name_journal format out ports =
+    ap (λ (b : Bool). if b then output_name format out ports else if nat_eq ports ports then journal_name out else state_name out) (le-ltb ports ports (omega arith))
     ∙ ap (λ (b : Bool). if b then journal_name out else state_name out) (eq-eqb ports ports refl)
 
-name_state : (out : List ℕ) (ports : ℕ) → name_at out ports (ports + 1) ≡ state_name out
+name_state : (format : CaptureFormat) (out : List ℕ) (ports : ℕ) → name_at format out ports (ports + 1) ≡ state_name out
 unfolding name_at
-name_state out ports =
-    ap (λ (b : Bool). if b then output_name out (ports + 1) else if nat_eq (ports + 1) ports then journal_name out else state_name out) (le-ltb (ports + 1) ports (omega arith))
+name_state format out ports =
+    ap (λ (b : Bool). if b then output_name format out (ports + 1) else if nat_eq (ports + 1) ports then journal_name out else state_name out) (le-ltb (ports + 1) ports (omega arith))
     ∙ ap (λ (b : Bool). if b then journal_name out else state_name out) (ne_eqb (ports + 1) ports (λ e. omega (arith, e)))
 
-leaves : (r : Run) (k : ℕ) → k ≤ length r.function.handlers → bytes_at r k ≡ file_bytes r k
-leaves r k le = ap (λ (b : Bool). if b then file_bytes r k else state_bytes r) (le-leb k (length r.function.handlers) le)
+leaves : (format : CaptureFormat) (r : Run) (k : ℕ) → k ≤ length r.function.handlers → bytes_at format r k ≡ file_bytes format r k
+leaves format r k le = ap (λ (b : Bool). if b then file_bytes format r k else state_bytes r) (le-leb k (length r.function.handlers) le)
 
-leaves_state : (r : Run) → bytes_at r (length r.function.handlers + 1) ≡ state_bytes r
-leaves_state r = ap (λ (b : Bool). if b then file_bytes r (length r.function.handlers + 1) else state_bytes r) (lt-leb (length r.function.handlers + 1) (length r.function.handlers) (omega arith))
+leaves_state : (format : CaptureFormat) (r : Run) → bytes_at format r (length r.function.handlers + 1) ≡ state_bytes r
+leaves_state format r = ap (λ (b : Bool). if b then file_bytes format r (length r.function.handlers + 1) else state_bytes r) (lt-leb (length r.function.handlers + 1) (length r.function.handlers) (omega arith))
 
 -- what a run left stands under its names
 stands_at : (before now : Told) (first made k : ℕ) (name bytes : ℕ → List ℕ) (named given : List ℕ) → Left before now first name bytes made made → k < made → name k ≡ named → bytes k ≡ given → StandsUnder now named (first + k) given
@@ -116,11 +106,11 @@ stands_at before now first made k name bytes named given left lt is same =
     subst (λ (n : List ℕ). StandsUnder now n (first + k) given) is
     (subst (λ (t : List ℕ). StandsUnder now (name k) (first + k) t) same (record { created = left.names k lt; standing = left.standing k lt; whole = left.wholes k lt }))
 
-headline_of : (Gave : Function → List Arrival → Type 0) (Refused : Type 0) (m : ModeChoice) (workers : ℕ) (card : Card) (name out : List ℕ) (first : ℕ) (before now : Told) (r : Run) (packets : List Arrival) → IsFunctionUnder before name r.function → Gave r.function packets → AreHandled Refused m workers card packets r → IsLegal r → r.card ≡ card
-    → (n : ℕ) → n ≡ length r.function.handlers → Left before now first (name_at out n) (bytes_at r) (n + 2) (n + 2) → Headline Gave Refused m workers card name out first before now
-headline_of Gave Refused m workers card name out first before now r packets is gave handled legal card_is n as_many some =
+headline_of : (Gave : Function → List Arrival → Type 0) (Refused : Type 0) (m : ModeChoice) (workers : ℕ) (card : Card) (format : CaptureFormat) (name out : List ℕ) (first : ℕ) (before now : Told) (r : Run) (packets : List Arrival) → IsFunctionUnder before name r.function → Gave r.function packets → AreHandled Refused m workers card packets r → IsLegal r → r.card ≡ card
+    → (n : ℕ) → n ≡ length r.function.handlers → Left before now first (name_at format out n) (bytes_at format r) (n + 2) (n + 2) → Headline Gave Refused m workers card format name out first before now
+headline_of Gave Refused m workers card format name out first before now r packets is gave handled legal card_is n as_many some =
     let p = length r.function.handlers in
-    let left = subst (λ (k : ℕ). Left before now first (name_at out k) (bytes_at r) (k + 2) (k + 2)) as_many some in
+    let left = subst (λ (k : ℕ). Left before now first (name_at format out k) (bytes_at format r) (k + 2) (k + 2)) as_many some in
     record {
       run = r;
       function_is = is;
@@ -130,18 +120,12 @@ headline_of Gave Refused m workers card name out first before now r packets is g
       result = legal.result;
       one_undivided_run = legal.ran;
       card_is_told = card_is;
-      sent = λ port lt. stands_at before now first (p + 2) port (name_at out p) (bytes_at r) (output_name out port) (file_bytes r port) left (omega (arith, lt)) (name_output out p port lt) (leaves r port (omega (arith, lt)));
-      journal = stands_at before now first (p + 2) p (name_at out p) (bytes_at r) (journal_name out) (file_bytes r p) left (omega arith) (name_journal out p) (leaves r p (omega arith));
-      tables = stands_at before now first (p + 2) (p + 1) (name_at out p) (bytes_at r) (state_name out) _ left (omega arith) (name_state out p) (leaves_state r ∙ ap (text_of r.function) legal.ran);
+      sent = λ port lt. stands_at before now first (p + 2) port (name_at format out p) (bytes_at format r) (output_name format out port) (file_bytes format r port) left (omega (arith, lt)) (name_output format out p port lt) (leaves format r port (omega (arith, lt)));
+      journal = stands_at before now first (p + 2) p (name_at format out p) (bytes_at format r) (journal_name out) (file_bytes format r p) left (omega arith) (name_journal format out p) (leaves format r p (omega arith));
+      tables = stands_at before now first (p + 2) (p + 1) (name_at format out p) (bytes_at format r) (state_name out) _ left (omega arith) (name_state format out p) (leaves_state format r ∙ ap (text_of r.function) legal.ran);
     }
 
 -- ---- a run over captures
-
--- the first packets, at most so many, are the first
-are_first : (most : ℕ) (all : Option (List Arrival)) (packets : List Arrival) → AreTheFirst most all packets → AreFirst all packets
-are_first most None packets h = tt
-are_first most (Some all) packets h =
-    (drop most (in_order all), sym (ap (λ (t : List Arrival). t ++ drop most (in_order all)) h ∙ take-append-drop most (in_order all)))
 
 none_shared : (m : ModeChoice) (card : Card) (f : Function) → ShareTables m card f → m ≢ choice.Lock → NoneMayBeGiven f card
 none_shared choice.Auto card f share ne = share.locked.0
@@ -153,82 +137,65 @@ may_not_lock choice.Auto may = λ e. absurd (cc e)
 may_not_lock choice.Shard may = λ e. absurd (cc e)
 may_not_lock choice.Lock may = absurd may
 
--- a run's packets, by whom they were handled, and that this is legal
-record IsHandled (Refused : Type 0) (c : RunAsked) (told : Told) (packets : List Arrival) (r : Run) : Type 0 where
-  handled : AreHandled Refused c.mode c.workers c.card packets r
-  legal : IsLegal r
-  card_is : r.card ≡ c.card
-  first : AreFirst (packets_under r.function c.captures told) packets
-
-ported : (Refused : Type 0) (f : Function) (workers : ℕ) (card : Card) (packets : List Arrival) (r : Run) → IsLockRun f workers card packets r ⊎ (Refused × IsLoneRun f workers card packets r) → InPortOrder workers packets r ⊎ WhereRefused Refused packets r
-ported Refused f workers card packets r (inl k) = inl (record { each_once_in_port_order = k.order; by_their_ports = k.own })
-ported Refused f workers card packets r (inr k) = inr (record { refused = k.0; each_once_in_capture_order = k.1.order; by_worker_0 = k.1.alone })
-
-ported_legal : (Refused : Type 0) (f : Function) (workers : ℕ) (card : Card) (packets : List Arrival) (r : Run) → IsLockRun f workers card packets r ⊎ (Refused × IsLoneRun f workers card packets r) → IsLegal r × (r.card ≡ card)
-ported_legal Refused f workers card packets r (inl k) = (k.legal, k.card_is)
-ported_legal Refused f workers card packets r (inr k) = (k.1.legal, k.1.card_is)
-
-handled_so : (alike : MeetingPacketsHashAlike) (Refused : Type 0) (c : RunAsked) (told : Told) (packets : List Arrival) (r : Run) → IsByOne c told packets r ⊎ (IsByShards c told packets r ⊎ IsByTables Refused c told packets r) → IsHandled Refused c told packets r
-handled_so alike Refused c told packets r (inl k) = record {
-  handled = inl (record { one = k.alone; each_once_in_capture_order = k.order; by_worker_0 = k.is_run.alone });
-  legal = k.is_run.legal;
-  card_is = k.is_run.card_is;
-  first = are_first c.most (packets_under r.function c.captures told) packets (subst (AreTheFirst c.most (packets_under r.function c.captures told)) k.order k.is_run.packets);
-}
-handled_so alike Refused c told packets r (inr (inl k)) = record {
-  handled = inr (inl (record {
-    several = k.several;
-    allowed = may_not_lock c.mode k.may;
-    each_once_in_capture_order = k.order;
-    keys = k.keys;
-    keys_are_given = k.given;
-    keys_hash_alike_packets_that_meet = alike r.function k.keys k.given.may.admissible;
-    by_their_queues = k.is_run.queues;
-  }));
-  legal = k.is_run.legal;
-  card_is = k.is_run.card_is;
-  first = subst (AreFirst (packets_under r.function c.captures told)) k.order k.first;
-}
-handled_so alike Refused c told packets r (inr (inr k)) = record {
-  handled = inr (inr (record {
-    several = k.several;
-    only_where_no_keys_spread = none_shared c.mode c.card r.function k.share;
-    handled = ported Refused r.function c.workers c.card packets r k.is_run;
-  }));
-  legal = (ported_legal Refused r.function c.workers c.card packets r k.is_run).0;
-  card_is = (ported_legal Refused r.function c.workers c.card packets r k.is_run).1;
-  first = k.first;
-}
+-- a run's packets, by whom they were handled
+handled_by : (alike : MeetingPacketsHashAlike) (Refused : Type 0) (m : ModeChoice) (workers : ℕ) (card : Card) (packets : List Arrival) (r : Run) (rule : Rule) → IsRuleOf Refused m workers card r.function rule → IsRunBy rule r.function card packets r → AreHandled Refused m workers card packets r
+handled_by alike Refused m workers card packets r rule (by_one alone e) is =
+    let k = subst (λ (x : Rule). IsRunBy x r.function card packets r) e is in
+    inl (record { one = alone; each_once_in_capture_order = k.order; by_worker_0 = k.own })
+handled_by alike Refused m workers card packets r rule (by_shards keys several may given e) is =
+    let k = subst (λ (x : Rule). IsRunBy x r.function card packets r) e is in
+    inr (inl (record {
+      several = several;
+      allowed = may_not_lock m may;
+      each_once_in_capture_order = k.order;
+      keys = keys;
+      keys_are_given = given;
+      keys_hash_alike_packets_that_meet = alike r.function keys given.may.admissible;
+      by_their_queues = k.own;
+    }))
+handled_by alike Refused m workers card packets r rule (by_tables several share e) is =
+    let k = subst (λ (x : Rule). IsRunBy x r.function card packets r) e is in
+    inr (inr (record {
+      several = several;
+      only_where_no_keys_spread = none_shared m card r.function share;
+      handled = inl (record { each_once_in_port_order = k.order; by_their_ports = k.own });
+    }))
+handled_by alike Refused m workers card packets r rule (by_none several share refused e) is =
+    let k = subst (λ (x : Rule). IsRunBy x r.function card packets r) e is in
+    inr (inr (record {
+      several = several;
+      only_where_no_keys_spread = none_shared m card r.function share;
+      handled = inr (record { refused = refused; each_once_in_capture_order = k.order; by_worker_0 = k.own });
+    }))
 
 abbrev packets_at : Status → RunAsked → Told → Function → List Arrival → Type 0
 packets_at status c told f packets = ArePackets status c.most (packets_under f c.captures told) packets
 
 of_files : (alike : MeetingPacketsHashAlike) (Refused : Type 0) (c : RunAsked) (before now : Told) (status : Status) (packets : List Arrival) (r : Run) → IsRunOf Refused c before packets r → ArePackets status c.most (packets_under r.function c.captures before) packets
-    → Left before now (before.next + 1 + length c.captures) (name_at c.out (length c.captures)) (bytes_at r) (length c.captures + 2) (length c.captures + 2)
-    → Headline (packets_at status c before) Refused c.mode c.workers c.card c.function c.out (before.next + 1 + length c.captures) before now
+    → Left before now (before.next + 1 + length c.captures) (name_at c.format c.out (length c.captures)) (bytes_at c.format r) (length c.captures + 2) (length c.captures + 2)
+    → Headline (packets_at status c before) Refused c.mode c.workers c.card c.format c.function c.out (before.next + 1 + length c.captures) before now
 of_files alike Refused c before now status packets r is gave left =
-    let h = handled_so alike Refused c before packets r is.handled in
-    headline_of (packets_at status c before) Refused c.mode c.workers c.card c.function c.out (before.next + 1 + length c.captures) before now r packets is.has_ports.is_function gave h.handled h.legal h.card_is (length c.captures) is.has_ports.as_many left
+    let handled = handled_by alike Refused c.mode c.workers c.card packets r is.rule is.due is.is_run in
+    headline_of (packets_at status c before) Refused c.mode c.workers c.card c.format c.function c.out (before.next + 1 + length c.captures) before now r packets is.has_ports.is_function gave handled is.is_run.legal is.is_run.card_is (length c.captures) is.has_ports.as_many left
 
-of_end : (alike : MeetingPacketsHashAlike) (Refused : Type 0) (c : RunAsked) (before now : Outside) (end : End) → IsFinished Refused c before now end → IsDone (end_status end) → Headline (packets_at (end_status end) c before.told) Refused c.mode c.workers c.card c.function c.out (before.told.next + 1 + length c.captures) before.told now.told
+of_end : (alike : MeetingPacketsHashAlike) (Refused : Type 0) (c : RunAsked) (before now : Outside) (end : End) → IsFinished Refused c before now end → IsDone (end_status end) → Headline (packets_at (end_status end) c before.told) Refused c.mode c.workers c.card c.format c.function c.out (before.told.next + 1 + length c.captures) before.told now.told
 of_end alike Refused c before now ends.Whole k done = of_files alike Refused c before.told now.told Done k.arrivals k.run k.is_run k.ending.0 k.files
 of_end alike Refused c before now (ends.Torn port offset) k done = of_files alike Refused c before.told now.told (Torn port offset) k.arrivals k.run k.is_run k.ending.0 k.files
 of_end alike Refused c before now (ends.TooMany most) k done =
-    let first = (handled_so alike Refused c before.told k.arrivals k.run k.is_run.handled).first in
     of_files alike Refused c before.told now.told (TooMany most) k.arrivals k.run k.is_run
-    (k.ending.0, k.ending.1 ∙ k.ending.0, first, subst (HasMore (packets_under k.run.function c.captures before.told)) k.ending.0 k.ending.2)
+    (k.ending.0, k.ending.1 ∙ k.ending.0, k.is_run.first, subst (HasMore (packets_under k.run.function c.captures before.told)) k.ending.0 k.ending.2)
     k.files
 of_end alike Refused c before now (ends.ShareFull full) k done = absurd done
 
 -- what a run comes to, at such a status
-of_run : (alike : MeetingPacketsHashAlike) (Refused : Type 0) (c : RunAsked) (before now : Outside) (status : Status) → Runs Refused c before now status → IsDone status → Headline (packets_at status c before.told) Refused c.mode c.workers c.card c.function c.out (before.told.next + 1 + length c.captures) before.told now.told
+of_run : (alike : MeetingPacketsHashAlike) (Refused : Type 0) (c : RunAsked) (before now : Outside) (status : Status) → Runs Refused c before now status → IsDone status → Headline (packets_at status c before.told) Refused c.mode c.workers c.card c.format c.function c.out (before.told.next + 1 + length c.captures) before.told now.told
 of_run alike Refused c before now status (inl k) done =
-    subst (λ (s : Status). Headline (packets_at s c before.told) Refused c.mode c.workers c.card c.function c.out (before.told.next + 1 + length c.captures) before.told now.told) (sym k.status_is)
+    subst (λ (s : Status). Headline (packets_at s c before.told) Refused c.mode c.workers c.card c.format c.function c.out (before.told.next + 1 + length c.captures) before.told now.told) (sym k.status_is)
     (of_end alike Refused c before now k.how k.ends (subst IsDone k.status_is done))
 of_run alike Refused c before now status (inr (inl k)) done = absurd (not_refused k.how (subst IsDone k.status_is done))
 of_run alike Refused c before now status (inr (inr k)) done = absurd (not_stopped_so k.how (subst IsDone k.status_is done))
 
-of_answer : (alike : MeetingPacketsHashAlike) (Refused : Type 0) (c : RunAsked) (before ended : Outside) (due status : Status) → ComesTo Refused (Some (RunCommand c)) before ended due → due ≡ status → IsDone status → Headline (packets_at status c before.told) Refused c.mode c.workers c.card c.function c.out (before.told.next + 1 + length c.captures) before.told ended.told
+of_answer : (alike : MeetingPacketsHashAlike) (Refused : Type 0) (c : RunAsked) (before ended : Outside) (due status : Status) → ComesTo Refused (Some (RunCommand c)) before ended due → due ≡ status → IsDone status → Headline (packets_at status c before.told) Refused c.mode c.workers c.card c.format c.function c.out (before.told.next + 1 + length c.captures) before.told ended.told
 of_answer alike Refused c before ended due status (inl k) same done = of_run alike Refused c before ended status (subst (Runs Refused c before ended) same k) done
 of_answer alike Refused c before ended due status (inr k) same done = absurd (subst IsDone (sym same ∙ k.0) done)
 
@@ -239,71 +206,24 @@ headline_of_run alike = λ was is c before after status a done.
 
 -- ---- a run over made-up traffic
 
-none_may_share : (m : ModeChoice) (card : Card) (f : Function) → MayShare m card f → m ≢ choice.Lock → NoneMayBeGiven f card
-none_may_share choice.Auto card f share ne = share.1.0
-none_may_share choice.Shard card f share ne = absurd share
-none_may_share choice.Lock card f share ne = absurd (ne refl)
-
-in_mode : (m : Mode) (Refused : Type 0) (f : Function) (workers : ℕ) (card : Card) (packets : List Arrival) (r : Run) → IsRunIn m f workers card Refused packets r → IsLockRun f workers card packets r ⊎ (Refused × IsLoneRun f workers card packets r)
-in_mode mode.Lock Refused f workers card packets r k = inl k
-in_mode mode.One Refused f workers card packets r k = inr k
-in_mode mode.Shard Refused f workers card packets r k = absurd k
-
--- packets of a run over made-up traffic, by whom they were handled, and that this is legal
-record AreMade (Refused : Type 0) (c : Gen) (packets : List Arrival) (r : Run) : Type 0 where
-  handled : AreHandled Refused c.mode c.workers c.card packets r
-  legal : IsLegal r
-  card_is : r.card ≡ c.card
-
-made_so : (alike : MeetingPacketsHashAlike) (Refused : Type 0) (c : Gen) (packets : List Arrival) (r : Run) (who : Who) → IsWho c r.function who → IsRunBy who c.card Refused r.function packets r → AreMade Refused c packets r
-made_so alike Refused c packets r One by k = record {
-  handled = inl (record { one = by.0; each_once_in_capture_order = k.packets; by_worker_0 = k.alone });
-  legal = k.legal;
-  card_is = k.card_is;
-}
-made_so alike Refused c packets r (Shards keys workers) by k = record {
-  handled = inr (inl (record {
-    several = omega (arith, by.0, by.1);
-    allowed = by.2;
-    each_once_in_capture_order = k.packets;
-    keys = keys;
-    keys_are_given = by.3;
-    keys_hash_alike_packets_that_meet = alike r.function keys by.3.may.admissible;
-    by_their_queues = subst (λ (w : ℕ). AllByRecursion (λ (t : Turn). t.worker ≡ queue_by keys w t.arrival.packet) r.turns) by.0 k.is_run.queues;
-  }));
-  legal = k.is_run.legal;
-  card_is = k.is_run.card_is;
-}
-made_so alike Refused c packets r (Sharing workers) by k =
-    let one = in_mode r.mode Refused r.function workers c.card packets r k in
-    let legal = ported_legal Refused r.function workers c.card packets r one in
-    record {
-      handled = inr (inr (record {
-        several = omega (arith, by.0, by.1);
-        only_where_no_keys_spread = none_may_share c.mode c.card r.function by.2;
-        handled = subst (λ (w : ℕ). InPortOrder w packets r ⊎ WhereRefused Refused packets r) by.0 (ported Refused r.function workers c.card packets r one);
-      }));
-      legal = legal.0;
-      card_is = legal.1;
-    }
-
 abbrev made_for : Gen → Function → List Arrival → Type 0
 made_for c f packets = packets ≡ packets_for c f
 
-of_made : (alike : MeetingPacketsHashAlike) (Refused : Type 0) (c : Gen) (before now : Outside) (end : End) → IsMade c Refused before now end → IsDone (end_status end) → Headline (made_for c) Refused c.mode c.workers c.card c.function c.out (before.told.next + 1) before.told now.told
+of_made : (alike : MeetingPacketsHashAlike) (Refused : Type 0) (c : Gen) (before now : Outside) (end : End) → IsMade c Refused before now end → IsDone (end_status end) → Headline (made_for c) Refused c.mode c.workers c.card c.format c.function c.out (before.told.next + 1) before.told now.told
 of_made alike Refused c before now ends.Whole k done =
-    let h = made_so alike Refused c k.given k.run k.is_run.who k.is_run.is_who k.is_run.is_run in
-    headline_of (made_for c) Refused c.mode c.workers c.card c.function c.out (before.told.next + 1) before.told now.told k.run k.given k.is_run.is_function k.ending h.handled h.legal h.card_is (length k.run.function.handlers) refl k.files
+    let is = k.is_run in
+    let handled = handled_by alike Refused c.mode c.workers c.card k.given k.run is.rule is.due is.is_run in
+    headline_of (made_for c) Refused c.mode c.workers c.card c.format c.function c.out (before.told.next + 1) before.told now.told k.run k.given is.is_function k.ending handled is.is_run.legal is.is_run.card_is (length k.run.function.handlers) refl k.files
 of_made alike Refused c before now (ends.Torn port offset) k done = absurd k.ending
 of_made alike Refused c before now (ends.TooMany most) k done = absurd k.ending
 of_made alike Refused c before now (ends.ShareFull full) k done = absurd done
 
-of_gen : (alike : MeetingPacketsHashAlike) (Refused : Type 0) (c : Gen) (before now : Outside) (status : Status) → Gens Refused c before now status → IsDone status → Headline (made_for c) Refused c.mode c.workers c.card c.function c.out (before.told.next + 1) before.told now.told
+of_gen : (alike : MeetingPacketsHashAlike) (Refused : Type 0) (c : Gen) (before now : Outside) (status : Status) → Gens Refused c before now status → IsDone status → Headline (made_for c) Refused c.mode c.workers c.card c.format c.function c.out (before.told.next + 1) before.told now.told
 of_gen alike Refused c before now status (inl k) done = of_made alike Refused c before now k.how k.ends (subst IsDone k.status_is done)
 of_gen alike Refused c before now status (inr (inl k)) done = absurd (not_refused k.how (subst IsDone k.status_is done))
 of_gen alike Refused c before now status (inr (inr k)) done = absurd (not_stopped_so k.how (subst IsDone k.status_is done))
 
-of_made_answer : (alike : MeetingPacketsHashAlike) (Refused : Type 0) (c : Gen) (before ended : Outside) (due status : Status) → ComesTo Refused (Some (GenCommand c)) before ended due → due ≡ status → IsDone status → Headline (made_for c) Refused c.mode c.workers c.card c.function c.out (before.told.next + 1) before.told ended.told
+of_made_answer : (alike : MeetingPacketsHashAlike) (Refused : Type 0) (c : Gen) (before ended : Outside) (due status : Status) → ComesTo Refused (Some (GenCommand c)) before ended due → due ≡ status → IsDone status → Headline (made_for c) Refused c.mode c.workers c.card c.format c.function c.out (before.told.next + 1) before.told ended.told
 of_made_answer alike Refused c before ended due status (inl k) same done = of_gen alike Refused c before ended status (subst (Gens Refused c before ended) same k) done
 of_made_answer alike Refused c before ended due status (inr k) same done = absurd (subst IsDone (sym same ∙ k.0) done)
 

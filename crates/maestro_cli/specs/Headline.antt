@@ -2,6 +2,7 @@
 -- no keys were given.
 use Rattle.std.specs.Prelude.{◌≡◌, ◌≢◌, ◌⊎◌, ◌%◌, ◌<◌, ℕ, ◌+◌, List, length, map, Option, Some}
 use Rattle.std.specs.List.{AllByRecursion}
+use Rattle.capture_format.specs.declared.format.CaptureFormat.{CaptureFormat}
 use Rattle.nf_base.specs.Orders.{KeepsPortOrder}
 use Rattle.nf_base.specs.Text.{Function}
 use Rattle.nf_base.specs.Runs.{RunResult}
@@ -15,10 +16,10 @@ use Rattle.toeplitz_hash.specs.Meeting.{HashAlikeWhereTheyMeet}
 use Rattle.key_synth.specs.Keys.{AreGiven, NoneMayBeGiven}
 use Rattle.lock_mode.specs.Gates.{Rose}
 use Rattle.stream_run.specs.Runs.{Run, Turn, course_of, arrival_in}
+use Rattle.stream_run.specs.Orders.{port_of}
 use Rattle.stream_run.specs.Streaming.{AreFirst}
 use Rattle.stream_run.specs.Texts.{file_bytes}
-use Rattle.sharded_run.specs.Setups.{queue_by}
-use Rattle.locked_run.specs.Locked.{port_of}
+use Rattle.stream_run.specs.Rules.{queue_by}
 use Rattle.command_words.specs.Commands.{Run as RunAsked, Gen, RunCommand, GenCommand}
 use Rattle.command_words.specs.declared.command.ModeChoice.{ModeChoice}
 use Rattle.command_words.specs.declared.command.ModeChoice.TheVariants.{Lock}
@@ -119,7 +120,7 @@ pub record StandsUnder (now : Told) (name : List ℕ) (file : ℕ) (bytes : List
 -- of one undivided run from empty tables, which every choice in the journal allows; the packets sent out at
 -- each port and the final tables are those of this one run, and the journal's first line tells the network
 -- card that is asked for. Files are numbered from one on.
-pub record Headline (Gave : Function → List Arrival → Type 0) (Refused : Type 0) (mode : ModeChoice) (workers : ℕ) (card : Card) (name out : List ℕ) (first : ℕ) (before now : Told) : Type 0 where
+pub record Headline (Gave : Function → List Arrival → Type 0) (Refused : Type 0) (mode : ModeChoice) (workers : ℕ) (card : Card) (format : CaptureFormat) (name out : List ℕ) (first : ℕ) (before now : Told) : Type 0 where
   pub run : Run
   pub function_is : IsFunctionUnder before name run.function
   pub packets : List Arrival
@@ -128,14 +129,14 @@ pub record Headline (Gave : Function → List Arrival → Type 0) (Refused : Typ
   pub result : RunResult
   pub one_undivided_run : course_of run ≡ Some result
   pub card_is_told : run.card ≡ card
-  pub sent : (port : ℕ) → port < length run.function.handlers → StandsUnder now (output_name out port) (first + port) (file_bytes run port)
-  pub journal : let ports = length run.function.handlers in StandsUnder now (journal_name out) (first + ports) (file_bytes run ports)
+  pub sent : (port : ℕ) → port < length run.function.handlers → StandsUnder now (output_name format out port) (first + port) (file_bytes format run port)
+  pub journal : let ports = length run.function.handlers in StandsUnder now (journal_name out) (first + ports) (file_bytes format run ports)
   pub tables : let ports = length run.function.handlers in StandsUnder now (state_name out) (first + (ports + 1)) (state_text run.function result.state)
 
 -- So it was, and then the status was told on standard error, and nothing else was done.
-pub record Holds (Gave : Function → List Arrival → Type 0) (Refused : Type 0) (mode : ModeChoice) (workers : ℕ) (card : Card) (name out : List ℕ) (first : ℕ) (before after : Outside) (status : Status) : Type 0 where
+pub record Holds (Gave : Function → List Arrival → Type 0) (Refused : Type 0) (mode : ModeChoice) (workers : ℕ) (card : Card) (format : CaptureFormat) (name out : List ℕ) (first : ℕ) (before after : Outside) (status : Status) : Type 0 where
   pub ended : Outside
-  pub headline : Headline Gave Refused mode workers card name out first before.told ended.told
+  pub headline : Headline Gave Refused mode workers card format name out first before.told ended.told
   pub said : IsSaid ended after status status
 
 -- ---- the statements
@@ -145,12 +146,12 @@ pub record Holds (Gave : Function → List Arrival → Type 0) (Refused : Type 0
 -- the captures.
 abbrev pub HeadlineOfRun : Type 0
 HeadlineOfRun = (was is : ℕ) (c : RunAsked) (before after : Outside) (status : Status) → Answers (Rose was is) (Some (RunCommand c)) before after status → IsDone status →
-    Holds (λ f packets. ArePackets status c.most (packets_under f c.captures before.told) packets) (Rose was is) c.mode c.workers c.card c.function c.out (before.told.next + 1 + length c.captures) before after status
+    Holds (λ f packets. ArePackets status c.most (packets_under f c.captures before.told) packets) (Rose was is) c.mode c.workers c.card c.format c.function c.out (before.told.next + 1 + length c.captures) before after status
 
 -- Of `gen`: the packets are those of the traffic that is asked for.
 abbrev pub HeadlineOfGen : Type 0
 HeadlineOfGen = (was is : ℕ) (c : Gen) (before after : Outside) (status : Status) → Answers (Rose was is) (Some (GenCommand c)) before after status → IsDone status →
-    Holds (λ f packets. packets ≡ packets_for c f) (Rose was is) c.mode c.workers c.card c.function c.out (before.told.next + 1) before after status
+    Holds (λ f packets. packets ≡ packets_for c f) (Rose was is) c.mode c.workers c.card c.format c.function c.out (before.told.next + 1) before after status
 
 -- no admissible keys of the function under a name spread on a network card
 pub record HasNoneToGive (told : Told) (card : Card) (name : List ℕ) : Type 0 where

@@ -165,12 +165,12 @@ fn carry_out<R: Threads + Wait + Sync, F: Files, G: Turns + Sync, L: Gate + Drop
 /// The words begin with the program's name. Then stand
 /// - `run`, a network function's file, the front of the outputs' names, and one to four captures; with the
 ///   options `--workers`, 1 to 16, `--mode`, `auto`, `shard` or `lock`, `--max-packets N`, 10,000,000 where it is left
-///   out, and those of a network card: `--table`, 128 or 512, and `--key-bytes`, 40 or 52, 128 and 40 where they are
-///   left out;
+///   out, those of a network card: `--table`, 128 or 512, and `--key-bytes`, 40 or 52, 128 and 40 where they are
+///   left out, and `--pcapng`, by which outputs are pcapng captures and not pcap ones;
 /// - `replay`, a network function's file, a journal, the front of the outputs' names, and one to four captures;
-///   with the option `--max-packets`;
+///   with the options `--max-packets` and `--pcapng`, by which outputs are such;
 /// - `gen`, a network function's file, the front of the outputs' names, a seed, how many packets are made, and of
-///   how many flows, 1 to 65,536; with the options `--workers`, `--mode` and those of a network card;
+///   how many flows, 1 to 65,536; with the options `--workers`, `--mode`, those of a network card, and `--pcapng`;
 /// - `hash`, a source and a destination as `ADDRESS:PORT`; with the options `--key`, 80 or 104 hexadecimal digits,
 ///   `--workers`, 1 to 16, and those of a network card;
 /// - `check`, `explain` or `keys`, a network function's file; the last two with the options of a network card.

@@ -11,12 +11,11 @@ use Rattle.nf_base.specs.Doors.{six_at}
 use Rattle.nf_base.proofs.Mixes.{got_set}
 use Rattle.nf_files.specs.Told.{Told}
 use Rattle.nf_files.specs.Reads.{Keeps}
-use Rattle.pcap_file.specs.declared.form.TimeUnit.{TimeUnit}
-use Rattle.pcap_file.specs.Record.{Record, time_of}
-use Rattle.pcap_file.specs.Capture.{Capture, capture_of}
+use Rattle.pcapng_file.specs.Heard.{Heard, Stream as Contents}
+use Rattle.packet_feed.specs.Contents.{contents_of}
 use Rattle.packet_feed.specs.declared.ahead.Ahead.{Ahead}
 use Rattle.packet_feed.specs.declared.ahead.Ahead.TheVariants.{Unread, Held, Ended, Torn}
-use Rattle.packet_feed.specs.Arrivals.{Arrival, arrivals_from}
+use Rattle.packet_feed.specs.Arrivals.{Arrival, arrivals_from, arrivals_in}
 use Rattle.packet_feed.specs.Told.{Carries, both, gathered, packets_in, packets_of, IsTear, IsApart}
 use Rattle.packet_feed.specs.Streams.{Stream, last_read, packets_left, tear_left, time_in, is_held, IsSettled}
 use Rattle.packet_feed.specs.Sources.{files_in, sixes_in, SourceStands, IsFilled, IsGiven, given_away}
@@ -25,7 +24,7 @@ use Rattle.packet_feed.specs.Ports.{is_of, AreFirstOfPorts, AreAllOf, FollowsAt,
 use Rattle.packet_feed.proofs.Gathering.{AllIn, IsHeadOf}
 use Rattle.packet_feed.proofs.Taking.{taken_more, taken_given, taken_other}
 use Rattle.packet_feed.proofs.Streaming.{head_given, tear_given, none_given, came_in, came_with}
-use Rattle.packet_feed.proofs.Standing.{file_at, six_is, tear_on, rest_other, source_stands, source_stays}
+use Rattle.packet_feed.proofs.Standing.{file_at, six_is, tear_on, rest_other, kind_on, source_stands, source_stays}
 use Rattle.packet_feed.proofs.Starting.{AreOpenedSoFar, opened_all}
 use Rattle.packet_feed.proofs.Nexts.{shown_is}
 
@@ -124,8 +123,11 @@ filled_by_port start given sources k s new_s old new apart e same same_six fille
     | inl here ↦
         let before = h.each k s e in
         let now : SourceStands start given new k new_s = source_stands start given new k new_s s.reading.file same
+        (kind_on (start.rest s.reading.file) s.reading.captured new_s.reading.captured filled.same_kind before.kind)
         (tear_on (start.rest s.reading.file) (tear_left s (old.rest s.reading.file)) (tear_left new_s (new.rest s.reading.file)) before.torn filled.torn)
-        (taken_more k given s new_s (start.rest s.reading.file) (old.rest s.reading.file) (new.rest s.reading.file) before.taken filled.taken) in
+        (λ pcap.
+        let was = sym filled.same_kind ∙ pcap in
+        taken_more k given s new_s (start.rest s.reading.file) (old.rest s.reading.file) (new.rest s.reading.file) (before.taken was) (filled.taken was)) in
         subst (λ (n : ℕ). SourceStands start given new n y) (sym here.0) (subst (SourceStands start given new k) here.1 now)
     | inr there ↦ source_stays start given old new j y (rest_other sources k j s y old new apart e there.1 there.0 kept) (h.each j y there.1)
   ];
@@ -157,7 +159,7 @@ none_held (Torn offset) latest e = refl
 pub given_by_port : (start : Told) (given : List Arrival) (now : Told) (sources : List Stream) (k : ℕ) (s : Stream) → slice_get sources k ≡ Some s → s.ahead ≡ Held → SourcesStandByPort start given sources now → SourcesStandByPort start (given ++ last_read k s ∷ []) (set sources k (given_away s)) now
 given_by_port start given now sources k s e held h =
     let a = last_read k s in
-    let in_port = came_in s.six k s.seq s.latest s.original s.frame in
+    let in_port = came_in s.six k s.seq s.latest s.is_ethernet s.original s.frame in
     let inside : k < length sources = slice_get_within sources k s e in
     record {
       among = subst (λ (n : ℕ). AllByRecursion (λ (x : Arrival). x.packet.id.port < n) (given ++ a ∷ [])) (sym (length-set sources k (given_away s)))
@@ -177,15 +179,17 @@ given_by_port start given now sources k s e held h =
             let before = h.each k s e in
             let f = s.reading.file in
             let now_stands : SourceStands start (given ++ a ∷ []) now k (given_away s) = record {
+              kind = before.kind;
               torn = subst (IsTear (start.rest f)) (tear_given s (now.rest f) held) before.torn;
-              taken = taken_given k given a s (given_away s) (start.rest f) (now.rest f) held refl in_port (came_with s.six k s.seq s.latest s.original s.frame) before.taken;
+              taken = λ pcap. taken_given k given a s (given_away s) (start.rest f) (now.rest f) held refl in_port (came_with s.six k s.seq s.latest s.is_ethernet s.original s.frame) (before.taken pcap);
             } in
             subst (λ (n : ℕ). SourceStands start (given ++ a ∷ []) now n y) (sym here.0) (subst (SourceStands start (given ++ a ∷ []) now k) here.1 now_stands)
         | inr there ↦
             let before = h.each j y there.1 in
             record {
+              kind = before.kind;
               torn = before.torn;
-              taken = taken_other j given a y (start.rest y.reading.file) (now.rest y.reading.file) (λ same. there.0 (sym same ∙ in_port)) before.taken;
+              taken = λ pcap. taken_other j given a y (start.rest y.reading.file) (now.rest y.reading.file) (λ same. there.0 (sym same ∙ in_port)) (before.taken pcap);
             }
       ];
     }
@@ -206,7 +210,7 @@ next_by_port start given now k count most packet sources new h held long stands 
 pub same_port : (k : ℕ) (packet : Packet) (sources new : List Stream) → IsGiven k packet sources new → packet.id.port ≡ k
 same_port k packet sources new h =
     let s = h.source in
-    ap (λ (p : Packet). p.id.port) h.packet_is ∙ came_in s.six k s.seq s.latest s.original s.frame
+    ap (λ (p : Packet). p.id.port) h.packet_is ∙ came_in s.six k s.seq s.latest s.is_ethernet s.original s.frame
 
 -- ---- among the packets of all captures
 
@@ -273,19 +277,19 @@ gathered_at give place (x ∷ xs) all own e port (suc j) y is q =
           ∙ later.filtered;
     }
 
-own_from : (six : Bool) (port : ℕ) (unit : TimeUnit) (seq latest : ℕ) (rs : List Record) → AllByRecursion (λ (a : Arrival). a.packet.id.port ≡ port) (arrivals_from six port unit seq latest rs)
-own_from six port unit seq latest [] = tt
-own_from six port unit seq latest (r ∷ rs) =
-    let time = max latest (time_of unit r) in
-    (came_in six port seq time r.original r.frame, own_from six port unit (seq + 1) time rs)
+own_from : (six : Bool) (port seq latest : ℕ) (ps : List Heard) → AllByRecursion (λ (a : Arrival). a.packet.id.port ≡ port) (arrivals_from six port seq latest ps)
+own_from six port seq latest [] = tt
+own_from six port seq latest (p ∷ ps) =
+    let time = max latest p.time in
+    (came_in six port seq time p.is_ethernet p.original p.frame, own_from six port (seq + 1) time ps)
 
-own_of : (six : Bool) (port : ℕ) (c : Option Capture) → AllIn (λ (a : Arrival). a.packet.id.port ≡ port) (option_map (λ (c : Capture). arrivals_from six port c.form.unit 0 0 c.records) c)
+own_of : (six : Bool) (port : ℕ) (c : Option Contents) → AllIn (λ (a : Arrival). a.packet.id.port ≡ port) (option_map (arrivals_in six port) c)
 own_of six port None = tt
-own_of six port (Some c) = own_from six port c.form.unit 0 0 c.records
+own_of six port (Some c) = own_from six port 0 0 c.heard
 
 own_in : (six : Bool) (port : ℕ) (bytes : Option (List ℕ)) → AllIn (λ (a : Arrival). a.packet.id.port ≡ port) (packets_in six port bytes)
 own_in six port None = tt
-own_in six port (Some bytes) = own_of six port (capture_of bytes)
+own_in six port (Some bytes) = own_of six port (contents_of bytes)
 
 has_port : (start : Told) (sources : List Stream) (all : List Arrival) → packets_of (sixes_in sources) (files_in sources) start ≡ Some all → (k : ℕ) (s : Stream) → slice_get sources k ≡ Some s → Has k (packets_in s.six k (start.rest s.reading.file)) all
 has_port start sources all e k s at =

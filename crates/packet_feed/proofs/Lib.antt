@@ -1,5 +1,8 @@
+pub mod Holding
+pub mod FirstBytes
 pub mod Ordering
 pub mod Gathering
+pub mod Reading
 pub mod Taking
 pub mod Streaming
 pub mod Standing

@@ -9,17 +9,16 @@ use Rattle.std.proofs.lemmas.Option.{slice_get-get_or, slice_get-map, slice_get_
 use Rattle.nf_base.specs.declared.packet.Packet.{Packet}
 use Rattle.nf_base.specs.Doors.{served_fields}
 use Rattle.nf_files.specs.Told.{Told}
-use Rattle.pcap_file.specs.Capture.{Capture}
-use Rattle.frame_ip.specs.Frame.{fields_in}
+use Rattle.pcapng_file.specs.Heard.{Stream as Contents}
 use Rattle.packet_feed.specs.declared.ahead.Ahead.{Ahead}
 use Rattle.packet_feed.specs.declared.ahead.Ahead.TheVariants.{Unread, Held, Ended, Torn}
 use Rattle.packet_feed.specs.declared.first.First.{First}
-use Rattle.packet_feed.specs.Arrivals.{Arrival, arrival_of}
+use Rattle.packet_feed.specs.Arrivals.{Arrival, arrival_of, fields_captured}
 use Rattle.packet_feed.specs.Order.{in_order}
 use Rattle.packet_feed.specs.Told.{packets_of, IsTear, IsApart}
 use Rattle.packet_feed.specs.Streams.{Stream, last_read, tear_in, time_in, IsSettled, unread}
 use Rattle.packet_feed.specs.Sources.{files_in, sixes_in, counts_in, all_left, Follows, SourcesStand, AreSettled, IsFirst, IsGiven, given_away}
-use Rattle.packet_feed.specs.Feeding.{IsFeeding, StandsFor, HasMore, AreAll, AreTorn, IsShown, shown, frame_in, original_in}
+use Rattle.packet_feed.specs.Feeding.{IsFeeding, StandsFor, HasMore, AreAll, AreTorn, IsShown, shown, frame_in, original_in, is_ethernet_in}
 use Rattle.packet_feed.proofs.Ordering.{IsBehind, is_ordered}
 use Rattle.packet_feed.proofs.Gathering.{Picks, map_kept}
 use Rattle.packet_feed.proofs.Streaming.{came_in}
@@ -27,13 +26,13 @@ use Rattle.packet_feed.proofs.Standing.{given_stands, first_picked, all_given, a
 
 -- ---- a packet
 
-came_from : (six : Bool) (port seq time original : ℕ) (frame : List ℕ) → (arrival_of six port seq time original frame).packet.fields ≡ served_fields six (fields_in frame original)
+came_from : (six : Bool) (port seq time : ℕ) (is_ethernet : Bool) (original : ℕ) (frame : List ℕ) → (arrival_of six port seq time is_ethernet original frame).packet.fields ≡ served_fields six (fields_captured is_ethernet frame original)
 unfolding arrival_of
-came_from six port seq time original frame = refl
+came_from six port seq time is_ethernet original frame = refl
 
-arrival_is : (packet : Packet) (six : Bool) (port seq time original : ℕ) (frame : List ℕ) → packet ≡ (arrival_of six port seq time original frame).packet → record { packet = packet; original = original; frame = frame } ≡ arrival_of six port seq time original frame
+arrival_is : (packet : Packet) (six : Bool) (port seq time : ℕ) (is_ethernet : Bool) (original : ℕ) (frame : List ℕ) → packet ≡ (arrival_of six port seq time is_ethernet original frame).packet → record { packet = packet; original = original; frame = frame } ≡ arrival_of six port seq time is_ethernet original frame
 unfolding arrival_of
-arrival_is packet six port seq time original frame e = ap (λ (p : Packet). let a : Arrival = record { packet = p; original = original; frame = frame } in a) e
+arrival_is packet six port seq time is_ethernet original frame e = ap (λ (p : Packet). let a : Arrival = record { packet = p; original = original; frame = frame } in a) e
 
 got_same : (sources : List Stream) (k : ℕ) (s : Stream) → k < length sources → slice_get (set sources k s) k ≡ Some s
 got_same sources k s lt = slice_get-get_or (set sources k s) k s (omega (arith, length-set sources k s)) ∙ ap (λ (x : Stream). Some x) (get_or-set_same sources k s s lt)
@@ -43,18 +42,19 @@ record IsSeen (k : ℕ) (packet : Packet) (s : Stream) (new : List Stream) : Typ
   pub at : slice_get new k ≡ Some (given_away s)
   pub frame : frame_in (slice_get new k) ≡ s.frame
   pub original : original_in (slice_get new k) ≡ s.original
+  pub is_ethernet : is_ethernet_in (slice_get new k) ≡ s.is_ethernet
 
 seen : (k : ℕ) (packet : Packet) (sources new : List Stream) (h : IsGiven k packet sources new) → IsSeen k packet h.source new
 seen k packet sources new h =
     let at : slice_get new k ≡ Some (given_away h.source) = ap (λ (xs : List Stream). slice_get xs k) h.new_is ∙ got_same sources k (given_away h.source) (slice_get_within sources k h.source h.at) in
-    record { at = at; frame = ap frame_in at; original = ap original_in at }
+    record { at = at; frame = ap frame_in at; original = ap original_in at; is_ethernet = ap is_ethernet_in at }
 
 pub shown_is : (k count most : ℕ) (packet : Packet) (sources new : List Stream) (h : IsGiven k packet sources new) → shown packet (record { sources = new; shown = k; given = count; most = most }) ≡ last_read k h.source
 shown_is k count most packet sources new h =
     let s = h.source in
     let see = seen k packet sources new h in
     let here : (original : ℕ) (frame : List ℕ) → original ≡ s.original → frame ≡ s.frame → record { packet = packet; original = original; frame = frame } ≡ last_read k s =
-    λ original frame e f. rw (e, f) (arrival_is packet s.six k s.seq s.latest s.original s.frame h.packet_is) in
+    λ original frame e f. rw (e, f) (arrival_is packet s.six k s.seq s.latest s.is_ethernet s.original s.frame h.packet_is) in
     here (original_in (slice_get new k)) (frame_in (slice_get new k)) see.original see.frame
 
 pub next_stands : (start : Told) (given : List Arrival) (now : Told) (k time count most : ℕ) (packet : Packet) (sources new : List Stream) → IsGiven k packet sources new → AreSettled sources
@@ -75,9 +75,9 @@ next_shown k count most packet sources new h =
     let s = h.source in
     let see = seen k packet sources new h in
     record {
-      port = ap (λ (p : Packet). p.id.port) h.packet_is ∙ came_in s.six k s.seq s.latest s.original s.frame;
+      port = ap (λ (p : Packet). p.id.port) h.packet_is ∙ came_in s.six k s.seq s.latest s.is_ethernet s.original s.frame;
       inside = slice_get_within new k (given_away s) see.at;
-      fields = ap (λ (p : Packet). p.fields) h.packet_is ∙ came_from s.six k s.seq s.latest s.original s.frame ∙ rw (see.frame, see.original, six_is new k (given_away s) see.at) refl;
+      fields = ap (λ (p : Packet). p.fields) h.packet_is ∙ came_from s.six k s.seq s.latest s.is_ethernet s.original s.frame ∙ rw (see.frame, see.original, see.is_ethernet, six_is new k (given_away s) see.at) refl;
       time = h.time;
       captured = omega (arith, ap (λ (xs : List ℕ). length xs) see.frame, h.captured);
     }
@@ -137,7 +137,7 @@ all_are (Some all) given (Some x) e h =
 pub are_all : (start : Told) (given : List Arrival) (now : Told) (sources : List Stream) → AreSettled sources → IsFirst sources (length sources) None → SourcesStand start given sources now → AreAll (packets_of (sixes_in sources) (files_in sources) start) given
 are_all start given now sources settled none h = all_are (packets_of (sixes_in sources) (files_in sources) start) given (all_left sources now) (all_given sources now settled none) h.order
 
-torn_ahead : (ahead : Ahead) (s : Stream) (rest : Option (List ℕ)) → IsSettled ahead → time_in ahead s.latest ≡ None → option_map (λ (c : Capture). c.torn) (unread ahead s.reading rest) ≡ Some (tear_in ahead)
+torn_ahead : (ahead : Ahead) (s : Stream) (rest : Option (List ℕ)) → IsSettled ahead → time_in ahead s.latest ≡ None → option_map (λ (c : Contents). c.torn) (unread ahead s.reading rest) ≡ Some (tear_in ahead)
 torn_ahead Unread s rest settled e = absurd settled
 torn_ahead Held s rest settled e = absurd cc
 torn_ahead Ended s rest settled e = refl

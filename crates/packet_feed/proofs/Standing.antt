@@ -1,5 +1,5 @@
 -- What stands of captures that are read side by side, through each step.
-use Rattle.std.proofs.Common.{◌≡◌, ◌≢◌, ℕ, ◌+◌, ◌≤◌, ◌<◌, Bool, false, List, [], ◌∷◌, ◌++◌, length, set, Option, Some, None, Err, inl, inr, refl, sym, ap, ◌∙◌, subst, append_assoc, arith, max}
+use Rattle.std.proofs.Common.{◌≡◌, ◌≢◌, ℕ, ◌+◌, ◌≤◌, ◌<◌, Bool, true, false, List, [], ◌∷◌, ◌++◌, length, set, Option, Some, None, Err, inl, inr, refl, sym, ap, ◌∙◌, subst, append_assoc, arith, max}
 use Rattle.std.specs.List.{All, AllByRecursion, slice_get}
 use Rattle.std.specs.Option.{option_map, option_and_then}
 use Rattle.std.proofs.lemmas.List.{length-set, length-map}
@@ -16,10 +16,11 @@ use Rattle.packet_feed.specs.Faults.{fault_at, FaultedAt, IsCause}
 use Rattle.nf_base.specs.Doors.{six_at}
 use Rattle.nf_base.proofs.Mixes.{got_set}
 use Rattle.packet_feed.specs.declared.ahead.Ahead.TheVariants.{Held}
-use Rattle.pcap_file.specs.declared.form.TimeUnit.{TimeUnit}
-use Rattle.pcap_file.specs.Record.{Record, time_of}
-use Rattle.pcap_file.specs.Capture.{Capture, capture_of}
-use Rattle.packet_feed.specs.Arrivals.{Arrival, arrivals_from}
+use Rattle.pcapng_file.specs.Heard.{Heard, Stream as Contents}
+use Rattle.packet_feed.specs.Contents.{contents_of}
+use Rattle.packet_feed.specs.Captures.{is_pcap, IsKind}
+use Rattle.packet_feed.specs.declared.captured.Captured.{Captured}
+use Rattle.packet_feed.specs.Arrivals.{Arrival, arrivals_from, arrivals_in}
 use Rattle.packet_feed.specs.Order.{in_order}
 use Rattle.packet_feed.specs.Told.{Carries, packets_of, IsTear, IsApart, KeepsOthers, packets_in}
 use Rattle.packet_feed.specs.Streams.{Stream, last_read, packets_left, tear_left, time_in, IsSettled}
@@ -77,18 +78,25 @@ filled_left sources k s new_s old new apart e same filled kept =
           (carries_is (packets_left j x (old.rest x.reading.file)) (packets_left j x (new.rest x.reading.file)) (ap (packets_left j x) (rest_other sources k j s x old new apart e p there.0 kept)))
     ])
 
+-- the format of a capture that is read on stays
+pub kind_on : (bytes : Option (List ℕ)) (old new : Captured) → is_pcap new ≡ is_pcap old → IsKind bytes old → IsKind bytes new
+kind_on None old new same h = tt
+kind_on (Some bytes) old new same h = same ∙ h
+
 -- what stands of a capture, by the number of its file
-pub source_stands : (start : Told) (given : List Arrival) (now : Told) (port : ℕ) (s : Stream) (f : ℕ) → s.reading.file ≡ f → IsTear (start.rest f) (tear_left s (now.rest f)) → IsTaken port given s (start.rest f) (now.rest f) → SourceStands start given now port s
-source_stands start given now port s f same torn taken = record {
+pub source_stands : (start : Told) (given : List Arrival) (now : Told) (port : ℕ) (s : Stream) (f : ℕ) → s.reading.file ≡ f → IsKind (start.rest f) s.reading.captured → IsTear (start.rest f) (tear_left s (now.rest f)) → (is_pcap s.reading.captured ≡ true → IsTaken port given s (start.rest f) (now.rest f)) → SourceStands start given now port s
+source_stands start given now port s f same kind torn taken = record {
+  kind = subst (λ (n : ℕ). IsKind (start.rest n) s.reading.captured) (sym same) kind;
   torn = subst (λ (n : ℕ). IsTear (start.rest n) (tear_left s (now.rest n))) (sym same) torn;
-  taken = subst (λ (n : ℕ). IsTaken port given s (start.rest n) (now.rest n)) (sym same) taken;
+  taken = λ pcap. subst (λ (n : ℕ). IsTaken port given s (start.rest n) (now.rest n)) (sym same) (taken pcap);
 }
 
 -- a capture of which nothing was read
 pub source_stays : (start : Told) (given : List Arrival) (old new : Told) (port : ℕ) (s : Stream) → new.rest s.reading.file ≡ old.rest s.reading.file → SourceStands start given old port s → SourceStands start given new port s
 source_stays start given old new port s same h = record {
+  kind = h.kind;
   torn = subst (λ (r : Option (List ℕ)). IsTear (start.rest s.reading.file) (tear_left s r)) (sym same) h.torn;
-  taken = subst (λ (r : Option (List ℕ)). IsTaken port given s (start.rest s.reading.file) r) (sym same) h.taken;
+  taken = λ pcap. subst (λ (r : Option (List ℕ)). IsTaken port given s (start.rest s.reading.file) r) (sym same) (h.taken pcap);
 }
 
 pub filled_stands : (start : Told) (given : List Arrival) (sources : List Stream) (k : ℕ) (s new_s : Stream) (old new : Told) → IsApart (files_in sources) → slice_get sources k ≡ Some s → new_s.reading.file ≡ s.reading.file → new_s.six ≡ s.six
@@ -104,8 +112,11 @@ filled_stands start given sources k s new_s old new apart e same same_six filled
     | inl here ↦
         let before = h.each k s e in
         let now : SourceStands start given new k new_s = source_stands start given new k new_s s.reading.file same
+        (kind_on (start.rest s.reading.file) s.reading.captured new_s.reading.captured filled.same_kind before.kind)
         (tear_on (start.rest s.reading.file) (tear_left s (old.rest s.reading.file)) (tear_left new_s (new.rest s.reading.file)) before.torn filled.torn)
-        (taken_more k given s new_s (start.rest s.reading.file) (old.rest s.reading.file) (new.rest s.reading.file) before.taken filled.taken) in
+        (λ pcap.
+        let was = sym filled.same_kind ∙ pcap in
+        taken_more k given s new_s (start.rest s.reading.file) (old.rest s.reading.file) (new.rest s.reading.file) (before.taken was) (filled.taken was)) in
         subst (λ (n : ℕ). SourceStands start given new n y) (sym here.0) (subst (SourceStands start given new k) here.1 now)
     | inr there ↦ source_stays start given old new j y (rest_other sources k j s y old new apart e there.1 there.0 kept) (h.each j y there.1)
   ];
@@ -118,8 +129,8 @@ others_behind : (sources : List Stream) (k time : ℕ) (s : Stream) (told : Told
     → (j : ℕ) (x : Stream) → slice_get sources j ≡ Some x → j ≢ k → AllIn (IsBehind (last_read k s)) (packets_left j x (told.rest x.reading.file))
 others_behind sources k time s told e same settled first j x p ne =
     let inside : j < length sources = slice_get_within sources j x p in
-    let t = came_at s.six k s.seq s.latest s.original s.frame in
-    let q = came_in s.six k s.seq s.latest s.original s.frame in
+    let t = came_at s.six k s.seq s.latest s.is_ethernet s.original s.frame in
+    let q = came_in s.six k s.seq s.latest s.is_ethernet s.original s.frame in
     other_behind (last_read k s) j x (told.rest x.reading.file) (settled j x p) (λ held.
     let here : time_at sources j ≡ Some x.latest = ap (λ (o : Option Stream). option_and_then (λ (y : Stream). time_in y.ahead y.latest) o) p ∙ held in
     let least = first.2 j x.latest inside here in
@@ -154,7 +165,7 @@ pub given_stands : (start : Told) (given : List Arrival) (now : Told) (sources :
 given_stands start given now sources k time s e settled first h =
     let a = last_read k s in
     let held = held_first sources k time s e first in
-    let in_port = came_in s.six k s.seq s.latest s.original s.frame in
+    let in_port = came_in s.six k s.seq s.latest s.is_ethernet s.original s.frame in
     record {
       order =
           let files : files_in (set sources k (given_away s)) ≡ files_in sources = map_kept (λ (x : Stream). x.reading.file) sources k s (given_away s) e refl in
@@ -167,15 +178,17 @@ given_stands start given now sources k time s e settled first h =
             let before = h.each k s e in
             let f = s.reading.file in
             let now_stands : SourceStands start (given ++ a ∷ []) now k (given_away s) = record {
+              kind = before.kind;
               torn = subst (IsTear (start.rest f)) (tear_given s (now.rest f) held.0) before.torn;
-              taken = taken_given k given a s (given_away s) (start.rest f) (now.rest f) held.0 refl in_port (came_with s.six k s.seq s.latest s.original s.frame) before.taken;
+              taken = λ pcap. taken_given k given a s (given_away s) (start.rest f) (now.rest f) held.0 refl in_port (came_with s.six k s.seq s.latest s.is_ethernet s.original s.frame) (before.taken pcap);
             } in
             subst (λ (n : ℕ). SourceStands start (given ++ a ∷ []) now n y) (sym here.0) (subst (SourceStands start (given ++ a ∷ []) now k) here.1 now_stands)
         | inr there ↦
             let before = h.each j y there.1 in
             record {
+              kind = before.kind;
               torn = before.torn;
-              taken = taken_other j given a y (start.rest y.reading.file) (now.rest y.reading.file) (λ same. there.0 (sym same ∙ in_port)) before.taken;
+              taken = λ pcap. taken_other j given a y (start.rest y.reading.file) (now.rest y.reading.file) (λ same. there.0 (sym same ∙ in_port)) (before.taken pcap);
             }
       ];
     }
@@ -243,19 +256,19 @@ stands_kept start given sources old new same h = stands_among start given source
 
 -- ---- each packet came in at the port of its capture
 
-at_port : (six : Bool) (port n : ℕ) (unit : TimeUnit) (seq latest : ℕ) (rs : List Record) → port < n → AllByRecursion (λ (a : Arrival). a.packet.id.port < n) (arrivals_from six port unit seq latest rs)
-at_port six port n unit seq latest [] lt = tt
-at_port six port n unit seq latest (r ∷ rs) lt =
-    let time = max latest (time_of unit r) in
-    (omega (arith, came_in six port seq time r.original r.frame), at_port six port n unit (seq + 1) time rs lt)
+at_port : (six : Bool) (port n seq latest : ℕ) (ps : List Heard) → port < n → AllByRecursion (λ (a : Arrival). a.packet.id.port < n) (arrivals_from six port seq latest ps)
+at_port six port n seq latest [] lt = tt
+at_port six port n seq latest (p ∷ ps) lt =
+    let time = max latest p.time in
+    (omega (arith, came_in six port seq time p.is_ethernet p.original p.frame), at_port six port n (seq + 1) time ps lt)
 
-at_ports : (six : Bool) (port n : ℕ) (c : Option Capture) → port < n → AllIn (λ (a : Arrival). a.packet.id.port < n) (option_map (λ (c : Capture). arrivals_from six port c.form.unit 0 0 c.records) c)
+at_ports : (six : Bool) (port n : ℕ) (c : Option Contents) → port < n → AllIn (λ (a : Arrival). a.packet.id.port < n) (option_map (arrivals_in six port) c)
 at_ports six port n None lt = tt
-at_ports six port n (Some c) lt = at_port six port n c.form.unit 0 0 c.records lt
+at_ports six port n (Some c) lt = at_port six port n 0 0 c.heard lt
 
 in_port : (six : Bool) (port n : ℕ) (bytes : Option (List ℕ)) → port < n → AllIn (λ (a : Arrival). a.packet.id.port < n) (packets_in six port bytes)
 in_port six port n None lt = tt
-in_port six port n (Some bytes) lt = at_ports six port n (capture_of bytes) lt
+in_port six port n (Some bytes) lt = at_ports six port n (contents_of bytes) lt
 
 pub all_ports : (six : List Bool) (files : List ℕ) (told : Told) → AllIn (λ (a : Arrival). a.packet.id.port < length files) (packets_of six files told)
 all_ports six files told =

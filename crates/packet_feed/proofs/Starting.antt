@@ -11,7 +11,8 @@ use Rattle.nf_base.specs.Functions.{function_of}
 use Rattle.nf_base.specs.Doors.{has_six, six_ports, six_at}
 use Rattle.nf_files.specs.Told.{Told}
 use Rattle.nf_files.specs.Reads.{Keeps}
-use Rattle.pcap_file.specs.Capture.{Capture, capture_of}
+use Rattle.pcapng_file.specs.Heard.{Stream as Contents}
+use Rattle.packet_feed.specs.Contents.{contents_of}
 use Rattle.pcap_file.specs.declared.fault.CapFault.{CapFault}
 use Rattle.pcap_file.specs.declared.fault.CapFault.TheVariants.{NotCapture, File, Memory}
 use Rattle.packet_feed.specs.declared.fault.FeedFault.{FeedFault}
@@ -119,21 +120,22 @@ opened_all captures six port start sources now past h =
       each = λ p s e.
           let one = h.each p s e in
           record {
+            kind = one.kind;
             torn = one.torn;
-            taken = record { more = 0; ahead = subst (λ t. IsAhead t s.frame 0) (sym one.unread) refl; taken = one.taken };
+            taken = λ pcap. record { more = 0; ahead = subst (λ t. IsAhead t s.frame 0) (sym one.unread) refl; taken = one.taken pcap };
           };
     }
 
 -- ---- a header that is wrong
 
-some_capture : (o : Option Capture) (t : Option ℕ) → option_map (λ (c : Capture). c.torn) o ≡ Some t → (c : Capture) × (o ≡ Some c)
+some_capture : (o : Option Contents) (t : Option ℕ) → option_map (λ (c : Contents). c.torn) o ≡ Some t → (c : Contents) × (o ≡ Some c)
 some_capture None t e = absurd cc
 some_capture (Some c) t e = (c, refl)
 
 is_capture : (start : Option (List ℕ)) (t : Option (Option ℕ)) → IsTear start t → IsCapture start
 is_capture None t h = tt
 is_capture (Some bytes) None h = absurd h
-is_capture (Some bytes) (Some t) h = some_capture (capture_of bytes) t h
+is_capture (Some bytes) (Some t) h = some_capture (contents_of bytes) t h
 
 get_inside : {A : Type 0} (xs : List A) (p : ℕ) → p < length xs → (x : A) × (slice_get xs p ≡ Some x)
 get_inside [] p lt = absurd (omega arith)

@@ -48,7 +48,7 @@ pub gives_from : (time : ℕ) (k at : ℕ) (packet : Packet) (sources new : List
 gives_from time k at packet sources new g settled first h =
     let s = g.source in
     let held = held_first sources k at s g.at first in
-    let here : packet.time ≡ s.latest = ap (λ (p : Packet). p.time) g.packet_is ∙ came_at s.six k s.seq s.latest s.original s.frame in
+    let here : packet.time ≡ s.latest = ap (λ (p : Packet). p.time) g.packet_is ∙ came_at s.six k s.seq s.latest s.is_ethernet s.original s.frame in
     let low : time ≤ s.latest = held_from time s.ahead s.latest held.0 (h k s g.at) in (
       omega arith,
       subst (λ (xs : List Stream). AreFrom packet.time xs) (sym g.new_is) (λ port x e. elim (got_set sources k port (given_away s) x e) [

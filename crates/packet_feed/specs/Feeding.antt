@@ -1,16 +1,15 @@
 -- Captures that are read side by side and given in capture order, up to a number of packets.
-use Rattle.std.specs.Prelude.{◌≡◌, ℕ, ◌+◌, ◌^◌, ◌≤◌, ◌<◌, Bool, List, [], ◌∷◌, ◌++◌, length, map, slice_get, Option, Some, None, Result, Ok, Err}
+use Rattle.std.specs.Prelude.{◌≡◌, ℕ, ◌+◌, ◌^◌, ◌≤◌, ◌<◌, Bool, false, List, [], ◌∷◌, ◌++◌, length, map, slice_get, Option, Some, None, Result, Ok, Err}
 use Rattle.std.specs.List.{All}
 use Rattle.nf_base.specs.declared.packet.Packet.{Packet}
 use Rattle.nf_base.specs.Doors.{six_at, served_fields}
 use Rattle.nf_files.specs.Told.{Told}
 use Rattle.pcap_file.specs.Record.{greatest_time}
-use Rattle.frame_ip.specs.Frame.{fields_in}
 use Rattle.packet_feed.specs.declared.fed.Fed.{Fed}
 use Rattle.packet_feed.specs.declared.fed.Fed.TheVariants as next
 use Rattle.packet_feed.specs.declared.fault.FeedFault.{FeedFault}
 use Rattle.packet_feed.specs.declared.fault.FeedFault.TheVariants.{NotCapture, File, Memory}
-use Rattle.packet_feed.specs.Arrivals.{Arrival}
+use Rattle.packet_feed.specs.Arrivals.{Arrival, fields_captured}
 use Rattle.packet_feed.specs.Order.{in_order}
 use Rattle.packet_feed.specs.Told.{IsTear, IsApart, packets_of}
 use Rattle.packet_feed.specs.Streams.{Stream, tear_in}
@@ -49,6 +48,15 @@ frame_of v = frame_in (slice_get v.sources v.shown)
 abbrev pub original_of : Feeding → ℕ
 original_of v = original_in (slice_get v.sources v.shown)
 
+-- whether the packet that was read last from a capture is an Ethernet frame
+abbrev pub is_ethernet_in : Option Stream → Bool
+is_ethernet_in None = false
+is_ethernet_in (Some s) = s.is_ethernet
+
+-- whether the packet that was given last is one
+abbrev pub is_ethernet_of : Feeding → Bool
+is_ethernet_of v = is_ethernet_in (slice_get v.sources v.shown)
+
 -- a packet with what is shown beside it
 abbrev pub shown : Packet → Feeding → Arrival
 shown packet v = record { packet = packet; original = original_of v; frame = frame_of v }
@@ -83,11 +91,11 @@ Feeds start given v now (Ok next.TooMany) =
 Feeds start given v now (Err fault) = Unit {0}
 
 -- A packet came in at a port, its fields are those of its frame as the port's handlers see them, and
--- neither its time nor its frame is more than a record can hold.
+-- none where that is no Ethernet frame, and neither its time nor its frame is more than a record can hold.
 pub record IsShown (packet : Packet) (v : Feeding) : Type 0 where
   pub port : packet.id.port ≡ v.shown
   pub inside : v.shown < length v.sources
-  pub fields : packet.fields ≡ served_fields (six_at (sixes_in v.sources) v.shown) (fields_in (frame_of v) (original_of v))
+  pub fields : packet.fields ≡ served_fields (six_at (sixes_in v.sources) v.shown) (fields_captured (is_ethernet_of v) (frame_of v) (original_of v))
   pub time : packet.time ≤ greatest_time
   pub captured : length (frame_of v) ≤ 262144
 

@@ -1,3 +1,5 @@
+pub mod Contents
+pub mod Captures
 pub mod Arrivals
 pub mod Order
 pub mod Faults
@@ -7,3 +9,4 @@ pub mod Taken
 pub mod Sources
 pub mod Feeding
 pub mod Ports
+pub mod Laws

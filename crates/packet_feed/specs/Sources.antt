@@ -1,5 +1,5 @@
 -- Captures that are read side by side, of which the i-th is that of port i.
-use Rattle.std.specs.Prelude.{◌≡◌, ℕ, ◌+◌, ◌≤◌, ◌<◌, Bool, List, [], ◌++◌, length, map, slice_get, slice_set, Option, Some, None, option_and_then, nat_le, if◌then◌else◌, Result, Ok, Err}
+use Rattle.std.specs.Prelude.{◌≡◌, ℕ, ◌+◌, ◌≤◌, ◌<◌, Bool, true, List, [], ◌++◌, length, map, slice_get, slice_set, Option, Some, None, option_and_then, nat_le, if◌then◌else◌, Result, Ok, Err}
 use Rattle.nf_base.specs.declared.packet.Packet.{Packet}
 use Rattle.nf_files.specs.Told.{Told}
 use Rattle.pcap_file.specs.Record.{greatest_time}
@@ -8,6 +8,7 @@ use Rattle.pcap_file.specs.declared.fault.CapFault.TheVariants.{NotCapture, File
 use Rattle.packet_feed.specs.declared.ahead.Ahead.TheVariants.{Unread}
 use Rattle.packet_feed.specs.declared.first.First.{First}
 use Rattle.pcap_file.specs.Taken.{AreTaken}
+use Rattle.packet_feed.specs.Captures.{is_pcap, IsKind}
 use Rattle.packet_feed.specs.Arrivals.{Arrival}
 use Rattle.packet_feed.specs.Order.{in_order}
 use Rattle.packet_feed.specs.declared.fault.FeedFault.{FeedFault}
@@ -38,10 +39,12 @@ Follows (Some all) given (Some left) = in_order all ≡ given ++ in_order left
 Follows (Some all) given None = ⊥
 Follows None given left = Unit {0}
 
--- what stands of one capture since its bytes were told at the start
+-- What stands of one capture since its bytes were told at the start: its format, where it is torn, and of
+-- a libpcap capture how much of it was taken.
 pub record SourceStands (start : Told) (given : List Arrival) (now : Told) (port : ℕ) (s : Stream) : Type 0 where
+  pub kind : IsKind (start.rest s.reading.file) s.reading.captured
   pub torn : IsTear (start.rest s.reading.file) (tear_left s (now.rest s.reading.file))
-  pub taken : IsTaken port given s (start.rest s.reading.file) (now.rest s.reading.file)
+  pub taken : is_pcap s.reading.captured ≡ true → IsTaken port given s (start.rest s.reading.file) (now.rest s.reading.file)
 
 -- Since the start these packets were given: the first ones in capture order of all captures, where
 -- their bytes were told.
@@ -56,8 +59,9 @@ pub record IsOpened (file : ℕ) (six : Bool) (start : Option (List ℕ)) (s : S
   pub unread : s.ahead ≡ Unread
   pub none_given : s.seq ≡ 0
   pub packets : (port : ℕ) → Carries (packets_in s.six port start) (packets_left port s now)
+  pub kind : IsKind start s.reading.captured
   pub torn : IsTear start (tear_left s now)
-  pub taken : AreTaken 24 start now
+  pub taken : is_pcap s.reading.captured ≡ true → AreTaken 24 start now
 
 -- reading a header, and why there is none
 abbrev pub Opens : ℕ → Bool → Option (List ℕ) → Option (List ℕ) → Result Stream CapFault → Type 0
@@ -70,7 +74,8 @@ Opens file six start now (Err Memory) = Unit {0}
 pub record IsFilled (old new : Stream) (before now : Option (List ℕ)) : Type 0 where
   pub packets : (port : ℕ) → Carries (packets_left port old before) (packets_left port new now)
   pub torn : Carries (tear_left old before) (tear_left new now)
-  pub taken : TakesAhead old new before now
+  pub same_kind : is_pcap new.reading.captured ≡ is_pcap old.reading.captured
+  pub taken : is_pcap old.reading.captured ≡ true → TakesAhead old new before now
   pub settled : IsSettled new.ahead
 
 -- of each capture it is known what comes next

@@ -1,45 +1,57 @@
 -- A capture that is read as a stream: what was given of it, what was read ahead, and what is left.
-use Rattle.std.specs.Prelude.{ℕ, ◌+◌, ◌≤◌, Bool, true, false, List, [], ◌∷◌, Option, Some, None, option_map}
-use Rattle.pcap_file.specs.declared.form.Form.{Form}
-use Rattle.pcap_file.specs.Capture.{Capture}
-use Rattle.pcap_file.specs.Reading.{Reading, left_in}
+use Rattle.std.specs.Prelude.{ℕ, ◌+◌, ◌≤◌, max, Bool, true, false, List, [], ◌∷◌, Option, Some, None, option_map}
+use Rattle.pcap_file.specs.declared.head.Head.{Head}
 use Rattle.packet_feed.specs.declared.ahead.Ahead.{Ahead}
 use Rattle.packet_feed.specs.declared.ahead.Ahead.TheVariants.{Unread, Held, Ended, Torn}
+use Rattle.packet_feed.specs.declared.captured.Captured.{Captured}
+use Rattle.pcapng_file.specs.Heard.{Stream as Contents}
+use Rattle.packet_feed.specs.Captures.{left_of}
 use Rattle.packet_feed.specs.Arrivals.{Arrival, arrival_of, arrivals_from}
 
--- a reader, whether the port of its capture has a handler for IPv6, what was read ahead, how many
--- records were given, the latest time of the records that were read, and of the last one the original
--- length and the captured bytes
+-- a capture that is read, and its file
+pub record Reading : Type 0 where
+  pub file : ℕ
+  pub captured : Captured
+
+-- a capture that is read, whether its port has a handler for IPv6, what was read ahead, how many packets
+-- were given, the latest time of the packets that were read, and of the last one whether it is an
+-- Ethernet frame, its original length and its captured bytes
 pub record Stream : Type 0 where
   pub reading : Reading
   pub six : Bool
   pub ahead : Ahead
   pub seq : ℕ
   pub latest : ℕ
+  pub is_ethernet : Bool
   pub original : ℕ
   pub frame : List ℕ
 
--- a capture without records that is torn so
-abbrev pub none_left : Form → Option ℕ → Capture
-none_left form torn = record { form = form; records = []; torn = torn }
+-- what a capture holds behind its last packet, where it is torn so
+abbrev pub none_left : Option ℕ → Contents
+none_left torn = record { heard = []; torn = torn }
 
--- what a capture comes to behind what was read of it, where the rest of its file is told
-abbrev pub unread : Ahead → Reading → Option (List ℕ) → Option Capture
-unread Unread r rest = left_in r.state r.form r.offset rest
-unread Held r rest = left_in r.state r.form r.offset rest
-unread Ended r rest = Some (none_left r.form None)
-unread (Torn offset) r rest = Some (none_left r.form (Some offset))
+-- what a capture holds behind what was read of it, where the rest of its file is told
+abbrev pub unread : Ahead → Reading → Option (List ℕ) → Option Contents
+unread Unread r rest = left_of r.captured rest
+unread Held r rest = left_of r.captured rest
+unread Ended r rest = Some (none_left None)
+unread (Torn offset) r rest = Some (none_left (Some offset))
 
--- the packet of the record that was read last, had it come in at a port
+-- the packet that was read last, had it come in at a port
 abbrev pub last_read : ℕ → Stream → Arrival
-last_read port s = arrival_of s.six port s.seq s.latest s.original s.frame
+last_read port s = arrival_of s.six port s.seq s.latest s.is_ethernet s.original s.frame
+
+-- a stream of which one more packet was read, whose captured bytes it holds
+abbrev pub held : Bool → Head → Stream → Stream
+held is_ethernet head s =
+    record s { ahead = Held; latest = max s.latest head.time; is_ethernet = is_ethernet; original = head.original }
 
 -- the packets that are still to be given, where a capture is still to be read
-abbrev pub to_give : Ahead → ℕ → Stream → Capture → List Arrival
-to_give Held port s c = last_read port s ∷ arrivals_from s.six port c.form.unit (s.seq + 1) s.latest c.records
-to_give Unread port s c = arrivals_from s.six port c.form.unit s.seq s.latest c.records
-to_give Ended port s c = arrivals_from s.six port c.form.unit s.seq s.latest c.records
-to_give (Torn offset) port s c = arrivals_from s.six port c.form.unit s.seq s.latest c.records
+abbrev pub to_give : Ahead → ℕ → Stream → Contents → List Arrival
+to_give Held port s c = last_read port s ∷ arrivals_from s.six port (s.seq + 1) s.latest c.heard
+to_give Unread port s c = arrivals_from s.six port s.seq s.latest c.heard
+to_give Ended port s c = arrivals_from s.six port s.seq s.latest c.heard
+to_give (Torn offset) port s c = arrivals_from s.six port s.seq s.latest c.heard
 
 -- the same, where the rest of the file is told
 abbrev pub packets_left : ℕ → Stream → Option (List ℕ) → Option (List Arrival)

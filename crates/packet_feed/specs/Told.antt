@@ -3,8 +3,9 @@ use Rattle.std.specs.Prelude.{◌≡◌, ◌≢◌, ℕ, ◌+◌, Bool, List, []
 use Rattle.std.specs.List.{All}
 use Rattle.nf_base.specs.Doors.{six_at}
 use Rattle.nf_files.specs.Told.{Told}
-use Rattle.pcap_file.specs.Capture.{Capture, capture_of}
-use Rattle.packet_feed.specs.Arrivals.{Arrival, arrivals_from}
+use Rattle.pcapng_file.specs.Heard.{Stream as Contents}
+use Rattle.packet_feed.specs.Contents.{contents_of}
+use Rattle.packet_feed.specs.Arrivals.{Arrival, arrivals_in}
 
 -- it is this, where it was told before
 abbrev pub Carries : {A : Type 0} → Option A → Option A → Type 0
@@ -44,8 +45,7 @@ gathered give place (x ∷ xs) = both (give place x) (gathered give (place + 1) 
 -- whether it has a handler for IPv6
 abbrev pub packets_in : Bool → ℕ → Option (List ℕ) → Option (List Arrival)
 packets_in six port None = None
-packets_in six port (Some bytes) =
-    option_map (λ c. arrivals_from six port c.form.unit 0 0 c.records) (capture_of bytes)
+packets_in six port (Some bytes) = option_map (arrivals_in six port) (contents_of bytes)
 
 -- The packets of the captures in files, of which the i-th is that of port i; of each port it is said
 -- whether it has a handler for IPv6.
@@ -55,16 +55,16 @@ packets_of six files told =
 
 -- bytes, where they are told, are a capture that is torn so
 abbrev pub IsTear : Option (List ℕ) → Option (Option ℕ) → Type 0
-IsTear (Some bytes) (Some torn) = option_map (λ c. c.torn) (capture_of bytes) ≡ Some torn
+IsTear (Some bytes) (Some torn) = option_map (λ c. c.torn) (contents_of bytes) ≡ Some torn
 IsTear (Some bytes) None = ⊥
 IsTear None torn = Unit {0}
 
 -- bytes, where they are told, are no capture
 abbrev pub IsNoCapture : Option (List ℕ) → Type 0
-IsNoCapture (Some bytes) = capture_of bytes ≡ None
+IsNoCapture (Some bytes) = contents_of bytes ≡ None
 IsNoCapture None = Unit {0}
 
 -- bytes, where they are told, are a capture
 abbrev pub IsCapture : Option (List ℕ) → Type 0
-IsCapture (Some bytes) = (c : Capture) × (capture_of bytes ≡ Some c)
+IsCapture (Some bytes) = (c : Contents) × (contents_of bytes ≡ Some c)
 IsCapture None = Unit {0}

@@ -8,7 +8,8 @@ use thiserror::Error;
 /// Why captures can't be read.
 #[derive(Clone, Copy, Debug, PartialEq, Eq, Error)]
 pub enum FeedFault {
-    /// The capture of this port has a short or wrong header, and that of no lesser port has.
+    /// The capture of this port has a short or wrong header of its format, and that of no lesser port
+    /// has.
     #[error("not a capture at port {port}")]
     NotCapture { port: u32 },
     /// A call on the file of this port's capture failed, and the count of faults rose.

@@ -28,9 +28,10 @@ use std::marker::Model;
 /// Captures, one a port, whose packets are given in capture order: least time first, ties by port,
 /// then in the order of the file.
 ///
-/// A packet's time is the latest of its capture's records up to it, so that the times of a capture
-/// never fall. Of each capture the header, the records that were given and at most one record more
-/// were taken, and the memory of one record is held.
+/// A capture is in the libpcap file format or in pcapng, which its first four bytes tell; both kinds may
+/// stand side by side. A packet's time is the latest of its capture's packets up to it, so that the times
+/// of a capture never fall. One packet of each capture is held. Of a libpcap capture the header, the
+/// records that were given and at most one record more were taken.
 #[derive(Drop)]
 pub struct Feed {
     sources: Seq<Source>,
@@ -59,8 +60,9 @@ impl Feed {
     /// Reads the headers of captures, which were all opened to be read and of which nothing was read
     /// yet; at most so many packets will be given.
     ///
-    /// The capture at index `i` is that of the function's port `i`. Nothing behind the headers is
-    /// taken. An IPv6 frame at a port without a handler for IPv6 is a skipped packet.
+    /// The capture at index `i` is that of the function's port `i`. Nothing behind the first 24 bytes is
+    /// taken, which tell whether a header is right. An IPv6 frame at a port without a handler for IPv6,
+    /// and a packet of another link type than Ethernet, are skipped packets.
     pub fn start<F: Files>(
         alloc: Global,
         files: &mut F,
@@ -212,8 +214,8 @@ impl Feed {
         }
     }
 
-    /// The least port whose capture was found to be torn, and the offset of the torn record there, in
-    /// bytes; after `End` that is each that is.
+    /// The least port whose capture was found to be torn, and the offset of the torn record or block
+    /// there, in bytes; after `End` that is each that is.
     pub fn torn(&self) -> Option<(u32, u64)>
         ensures { result ≡ first_tear 0 (tears_in self.now.sources) }
     {

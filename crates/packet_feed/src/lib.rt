@@ -2,10 +2,12 @@
 #![tactic(auto)]
 
 mod ahead;
+mod captured;
 mod fault;
 mod fed;
 mod feed;
 mod first;
+pub mod laws;
 mod source;
 mod sources;
 

@@ -5,31 +5,35 @@ ghost use Rattle.nf_files.specs.Reads.{Keeps};
 ghost use Rattle.pcap_file.specs.Causes.{IsCause, IsNoHeaderFault};
 ghost use Rattle.pcap_file.specs.Record.{greatest_time};
 ghost use Rattle.packet_feed.specs.declared.ahead.Ahead.TheVariants.{Unread, Held};
-ghost use Rattle.packet_feed.specs.Arrivals.{arrival_of};
-ghost use Rattle.packet_feed.specs.Streams.{tear_in, time_in, is_held, last_read, IsFrom};
+ghost use Rattle.packet_feed.specs.Arrivals.{arrival_of, fields_captured};
+ghost use Rattle.packet_feed.specs.Streams.{tear_in, time_in, is_held, last_read, held, IsFrom};
 ghost use Rattle.packet_feed.specs.Sources.{Opens, IsFilled};
 
 use crate::ahead::Ahead;
+use crate::captured::Captured;
 use frame_ip::fields_of;
 use nf_base::packet::{Family, Fields, Packet, PacketId};
 use nf_base::value::family_of;
 use nf_files::Files;
-use pcap_file::{CapFault, Next, Reader};
+use pcap_file::{CapFault, Head};
+use pcapng_file::Next;
 use std::alloc::Global;
 use std::marker::Model;
 
-/// A capture, and at most one record of it that was read and not yet given.
+/// A capture, and at most one packet of it that was read and not yet given.
 #[derive(Drop)]
 pub(crate) struct Source {
-    reader: Reader,
+    captured: Captured,
     /// Whether the capture's port has a handler for IPv6.
     six: bool,
     ahead: Ahead,
-    /// How many records were given.
+    /// How many packets were given.
     seq: u32,
-    /// The latest time of the records that were read, in nanoseconds.
+    /// The latest time of the packets that were read, in nanoseconds.
     latest: u64,
-    /// Of the record that was read last: the frame's length on the wire, and its captured bytes.
+    /// Of the packet that was read last: whether it is an Ethernet frame, the frame's length on the
+    /// wire, and its captured bytes.
+    is_ethernet: bool,
     original: u32,
     frame: Vec<u8>,
 }
@@ -51,16 +55,18 @@ impl Model for Source {
     ghost use Rattle.std.specs.Prelude.{◌≡◌, ◌≤◌, length};
     ghost use Rattle.pcap_file.specs.Record.{greatest_time};
     ghost use Rattle.packet_feed.specs.declared.ahead.Ahead.TheVariants.{Held};
+    ghost use Rattle.packet_feed.specs.Captures.{file_in};
     ghost use Rattle.packet_feed.specs.Streams.{Stream};
 
     ghost Value = { Stream };
 
     ghost view = { λ s. record {
-      reading = s.reader;
+      reading = record { file = file_in s.captured; captured = s.captured };
       six = s.six;
       ahead = s.ahead;
       seq = s.seq;
       latest = s.latest;
+      is_ethernet = s.is_ethernet;
       original = s.original;
       frame = s.frame.items;
     } };
@@ -85,13 +91,14 @@ impl Source {
         ensures reads { (g : ℕ) → F.is_read files.old g → F.is_read files.new g }
         ensures writes { (g : ℕ) → F.is_written files.old g → F.is_written files.new g }
     {
-        let reader = Reader::header(alloc, files, file)?;
+        let captured = Captured::header(alloc, files, file)?;
         Ok(Source {
-            reader,
+            captured,
             six,
             ahead: Ahead::Unread,
             seq: 0,
             latest: 0,
+            is_ethernet: false,
             original: 0,
             frame: Vec::new(alloc),
         })
@@ -107,7 +114,7 @@ impl Source {
         }
     }
 
-    /// The time of the record that was read ahead, if one was.
+    /// The time of the packet that was read ahead, if one was.
     pub(crate) fn time(&self) -> Option<u64>
         ensures { result ≡ time_in self.now.ahead self.now.latest }
     {
@@ -117,7 +124,7 @@ impl Source {
         }
     }
 
-    /// Whether a record was read ahead.
+    /// Whether a packet was read ahead.
     pub(crate) fn is_held(&self) -> bool
         ensures { result ≡ is_held self.now.ahead }
     {
@@ -141,7 +148,19 @@ impl Source {
         self.original
     }
 
-    // Reads the next record.
+    // A packet was read, whose captured bytes are held.
+    fn hold(&mut self, is_ethernet: bool, head: Head)
+        requires time { head.time ≤ greatest_time }
+        requires captured { length self.old.frame ≤ 262144 }
+        ensures { self.new ≡ held is_ethernet head self.old }
+    {
+        self.latest = self.latest.max(head.time);
+        self.is_ethernet = is_ethernet;
+        self.original = head.original;
+        self.ahead = Ahead::Held;
+    }
+
+    // Reads the next packet.
     fn read<F: Files>(&mut self, files: &mut F) -> Result<(), CapFault>
         requires opened { F.is_read files.old self.old.reading.file }
         requires unread { self.old.ahead ≡ Unread }
@@ -160,19 +179,16 @@ impl Source {
         ensures reads { (g : ℕ) → F.is_read files.old g → F.is_read files.new g }
         ensures writes { (g : ℕ) → F.is_written files.old g → F.is_written files.new g }
     {
-        match self.reader.next(files, &mut self.frame)? {
-            Next::Frame(head) => {
-                self.latest = self.latest.max(head.time);
-                self.original = head.original;
-                self.ahead = Ahead::Held;
-            }
+        match self.captured.next(files, &mut self.frame)? {
+            Next::Frame(head) => self.hold(true, head),
+            Next::Other(head) => self.hold(false, head),
             Next::End => self.ahead = Ahead::Ended,
             Next::Torn(offset) => self.ahead = Ahead::Torn(offset),
         }
         Ok(())
     }
 
-    /// Reads the next record, where it isn't known yet what comes next.
+    /// Reads the next packet, where it isn't known yet what comes next.
     pub(crate) fn fill<F: Files>(&mut self, files: &mut F) -> Result<(), CapFault>
         requires opened { F.is_read files.old self.old.reading.file }
         ensures filled { let file = self.old.reading.file in
@@ -196,7 +212,18 @@ impl Source {
         }
     }
 
-    /// Gives the record that was read ahead, as the packet of a port.
+    // The fields of the frame that was read last; none where it is no Ethernet frame.
+    fn fields(&self) -> Option<Fields>
+        ensures { let s = self.now in result ≡ fields_captured s.is_ethernet s.frame s.original }
+    {
+        if self.is_ethernet {
+            fields_of(self.frame.as_slice(), self.original)
+        } else {
+            None
+        }
+    }
+
+    /// Gives the packet that was read ahead, as one of a port.
     pub(crate) fn give(&mut self, port: u32) -> Packet
         requires held { self.old.ahead ≡ Held }
         requires room { self.old.seq < 2 ^ 32 - 1 }
@@ -211,7 +238,7 @@ impl Source {
                 seq: self.seq,
             },
             time: self.latest,
-            fields: served(self.six, fields_of(self.frame.as_slice(), self.original)),
+            fields: served(self.six, self.fields()),
         };
         self.ahead = Ahead::Unread;
         self.seq += 1;

@@ -1,6 +1,6 @@
 -- Bytes that are taken in several reads.
 use Rattle.std.proofs.Common.{◌≡◌, ℕ, ◌+◌, ◌-◌, ◌≤◌, List, [], ◌++◌, length, take, drop, slice_range, Bool, true, false, Option, Some, None, Result, Ok, Err, refl, sym, ap, subst, ◌∙◌, append-nil, append_assoc, drop_of_length-le, arith}
-use Rattle.std.specs.Result.{IsErr, IsErrAnd}
+use Rattle.std.specs.Result.{IsErr, IsErrAnd, IfErr}
 use Rattle.std.proofs.Math.Seq.{take-add, drop-length}
 use Rattle.std.proofs.lemmas.List.{take-take, drop-append-le}
 use Rattle.nf_files.specs.Pieces.{Takes}
@@ -12,7 +12,8 @@ use Rattle.nf_files.specs.declared.fault.FilesFault.TheVariants as outside
 use Rattle.pcap_file.specs.declared.reader.Next.{Next}
 use Rattle.pcap_file.specs.declared.fault.CapFault.{CapFault}
 use Rattle.pcap_file.specs.declared.fault.CapFault.TheVariants.{NotCapture, File, Memory}
-use Rattle.pcap_file.specs.Causes.{cap_fault}
+use Rattle.nf_files.specs.Causes.{Counted}
+use Rattle.pcap_file.specs.Causes.{cap_fault, IsCause}
 use Rattle.pcap_file.specs.Taken.{AreTaken, AreAtMostTaken, TakesHeader, TakesRecord}
 
 come_more : (held more : List ℕ) (before now : Option (List ℕ)) → Takes more before now → to_come (held ++ more) now ≡ to_come held before
@@ -88,3 +89,17 @@ takes_header before now (Err NotCapture) (outside.Memory e) is taken = absurd (c
 pub takes_record : (before now : Option (List ℕ)) (frame : List ℕ) (r : Result Next CapFault) → IsErr r → AreAtMostTaken 262160 before now → TakesRecord before now frame r
 takes_record before now frame (Ok x) is taken = absurd cc
 takes_record before now frame (Err fault) is taken = taken
+
+-- what follows the header takes no more of the file
+pub takes_same : {U : Type 0} (before now : Option (List ℕ)) (r : Result U CapFault) → AreTaken 24 before now → IfErr r (λ fault. fault ≡ NotCapture) → TakesHeader before now r
+takes_same before now (Ok y) taken is = taken
+takes_same before now (Err NotCapture) taken is = taken
+takes_same before now (Err File) taken is = absurd cc
+takes_same before now (Err Memory) taken is = absurd cc
+
+-- nor does it count a fault
+pub cause_same : {U : Type 0} (old new : Counted) (file : ℕ) (r : Result U CapFault) → new ≡ old → IfErr r (λ fault. fault ≡ NotCapture) → IsCause old new file r
+cause_same old new file (Ok y) same is = same
+cause_same old new file (Err NotCapture) same is = same
+cause_same old new file (Err File) same is = absurd cc
+cause_same old new file (Err Memory) same is = absurd cc

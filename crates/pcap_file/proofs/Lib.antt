@@ -4,5 +4,6 @@ pub mod Numbers
 pub mod Spelling
 pub mod Reaching
 pub mod Growing
+pub mod Skipping
 pub mod Heading
 pub mod Stepping

@@ -13,6 +13,7 @@ mod writing;
 
 pub use fault::CapFault;
 pub use form::{Endian, Form, TimeUnit};
+pub use front::Front;
 pub use head::Head;
 pub use reader::{Next, Reader, State};
 pub use writing::{push_header, push_record, put_record};

@@ -1,10 +1,11 @@
 //! A capture from a file, one record after the other.
-ghost use Rattle.std.specs.Prelude.{◌≡◌, ◌≤◌, ◌+◌, ℕ, List, [], length, drop, Some, Ok, IfOk, OnErr, OnOk};
+ghost use Rattle.std.specs.Prelude.{◌≡◌, ◌≤◌, ◌+◌, ℕ, List, [], length, drop, Some, Ok, IfOk, IfErr, OnErr, OnOk};
 ghost use Rattle.pcap_file.specs.declared.reader.Next.TheVariants.{End, Torn};
 ghost use Rattle.pcap_file.specs.declared.reader.State.TheVariants.{Going, Ended, Cut};
 ghost use Rattle.nf_files.specs.Causes.{HasCause};
 ghost use Rattle.nf_files.specs.Reads.{Keeps};
-ghost use Rattle.pcap_file.specs.Held.{Held, Grows};
+ghost use Rattle.nf_files.specs.Told.{Told};
+ghost use Rattle.pcap_file.specs.Held.{Held, Grows, IsBegun};
 ghost use Rattle.pcap_file.specs.Causes.{IsCause, IsNoHeaderFault};
 ghost use Rattle.pcap_file.specs.Taken.{TakesHeader, TakesRecord};
 ghost use Rattle.pcap_file.specs.Reading.{left, end_of, Steps, Moves, Heads, IsOpened, IsReached, IsOnly};
@@ -109,11 +110,23 @@ impl Reader {
         ensures reads { (g : ℕ) → F.is_read files.old g → F.is_read files.new g }
         ensures writes { (g : ℕ) → F.is_written files.old g → F.is_written files.new g }
     {
-        let mut front = match Front::new(alloc, file) {
-            Ok(front) => front,
-            Err(_) => return Err(CapFault::Memory),
-        };
-        front.fill(files, HEADER)?;
+        match Front::begin(alloc, files, file) {
+            Err(fault) => Err(fault),
+            Ok(front) => Reader::of(front),
+        }
+    }
+
+    /// A capture whose file was begun: its header is what is held of it.
+    ///
+    /// `NotCapture` says that the header is short or wrong.
+    pub fn of(front: Front) -> Result<Reader, CapFault>
+        // What is left is the capture that the bytes of the file are, or their header is short or
+        // wrong.
+        ensures heads { (before now : Told) → IsBegun front.file front before now →
+            Heads (before.rest front.file) now result }
+        ensures ok { IfOk result (IsOpened front.file) }
+        ensures err { IfErr result (λ fault. fault ≡ CapFault.NotCapture) }
+    {
         match form_of(front.as_slice()) {
             None => Err(CapFault::NotCapture),
             Some(form) => Ok(Reader {

@@ -5,6 +5,7 @@ use Rattle.std.specs.Option.{option_map, option_and_then}
 use Rattle.std.proofs.lemmas.List.{length-map}
 use Rattle.std.proofs.lemmas.List.FromFn.{get_or-range_with_len, length-range_with_len}
 use Rattle.std.proofs.lemmas.Option.{slice_get_within, slice_get-map, slice_get-get_or}
+use Rattle.capture_format.specs.declared.format.CaptureFormat.{CaptureFormat}
 use Rattle.nf_base.specs.Functions.{function_of}
 use Rattle.nf_base.specs.declared.keys.Keys.{Keys}
 use Rattle.nf_base.specs.declared.state.State.{State}
@@ -57,13 +58,13 @@ use Rattle.replay_call.proofs.Beginning.{two_of, fed_headers, stopped_untouched,
 
 -- ---- the names
 
-name_there : (out : List ℕ) (n i : ℕ) → i < n → slice_get (map (output_name out) (range_with_len 0 n)) i ≡ Some (output_name out i)
-name_there out n i lt =
+name_there : (format : CaptureFormat) (out : List ℕ) (n i : ℕ) → i < n → slice_get (map (output_name format out) (range_with_len 0 n)) i ≡ Some (output_name format out i)
+name_there format out n i lt =
     let range = range_with_len 0 n in
     let long : i < length range = omega (arith, lt, length-range_with_len 0 n) in
     let zero_more : 0 + i ≡ i = omega arith in
-    slice_get-map (output_name out) range i
-    ∙ ap (option_map (output_name out)) (slice_get-get_or range i 0 long ∙ ap (λ (k : ℕ). Some k) (get_or-range_with_len 0 n i 0 lt ∙ zero_more))
+    slice_get-map (output_name format out) range i
+    ∙ ap (option_map (output_name format out)) (slice_get-get_or range i 0 long ∙ ap (λ (k : ℕ). Some k) (get_or-range_with_len 0 n i 0 lt ∙ zero_more))
 
 -- ---- the journal and the outputs were opened
 
@@ -87,7 +88,7 @@ has_ready before a b job captures v opened journal outputs h opens same all unto
       journal_is = opens.rests 0 journal (asked job).journal here refl ∙ only.untouched.contents (asked job).journal;
       outputs_are = λ i f e.
           let lt : i < ports_of job = omega (arith, slice_get_within outputs i f e, count, all) in
-          opens.rests (suc i) f (output_name (asked job).out i) (there i f e) (name_there (asked job).out (ports_of job) i lt) ∙ only.untouched.contents (output_name (asked job).out i);
+          opens.rests (suc i) f (output_name (asked job).format (asked job).out i) (there i f e) (name_there (asked job).format (asked job).out (ports_of job) i lt) ∙ only.untouched.contents (output_name (asked job).format (asked job).out i);
       only = record {
         untouched = untouched_both before.told a.told b.told only.untouched untouched;
         asked = counted ∙ ap (asking (map reading (names_of (asked job)))) only.asked ∙ asking_both (inputs_of (asked job)) (map reading (names_of (asked job))) before.counted;
@@ -114,7 +115,7 @@ other_output before a job captures v journal outputs h i f e = λ same. omega (a
 
 pub has_come : (before a b : Outside) (job : Job) (keys : Option Keys) (captures : List ℕ) (v : Feeding) (begun : Begun) (outputs : List ℕ) (came : Replayed) → IsJob before job → IsSized job → HasBegun before a job captures v begun outputs → AreKeysOf (function_of job.func.now) begun.header.card keys
     → length outputs ≡ job.layout.ports
-    → ((start : Told) (bytes : Option (List ℕ)) → Begins begun.header v begun.lines start bytes a.told → Comes {E = NumberStop} (function_of job.func.now) keys begun.header (length captures) (beside_of v start bytes outputs a.told job.command.now.most) (Ok came))
+    → ((start : Told) (bytes : Option (List ℕ)) → Begins begun.header v begun.lines start bytes a.told → Comes {E = NumberStop} (function_of job.func.now) keys begun.header (length captures) (beside_of job.command.now.format v start bytes outputs a.told job.command.now.most) (Ok came))
     → KeepsOthers (captures ++ begun.lines.file ∷ outputs) a.told b.told → b.counted ≡ a.counted → HasCome before b job came
 has_come before a b job keys captures v begun outputs came is sized h of_card as_many comes kept counted =
     let c = asked job in
@@ -124,7 +125,7 @@ has_come before a b job keys captures v begun outputs came is sized h of_card as
     let ports : job.layout.ports ≡ length c.captures = sym (length-map job.command.now.captures.items _ ∙ sized.captures) in
     let fed = r.fed in
     let bytes = h.old.told.rest journal in
-    let one = beside_of v fed.old.told bytes outputs a.told job.command.now.most in
+    let one = beside_of job.command.now.format v fed.old.told bytes outputs a.told job.command.now.most in
     let begins : Begins begun.header v begun.lines fed.old.told bytes a.told = record {
       captures = started_while fed.old.told v h.old.told a.told (λ port g e. h.kept.rests g (other_capture before h.old job captures v journal outputs r port g (subst (λ (fs : List ℕ). slice_get fs port ≡ Some g) fed.fresh.files e))) r.started;
       lines = h.lines;
@@ -143,6 +144,7 @@ has_come before a b job keys captures v begun outputs came is sized h of_card as
           verdict = of_card.verdict;
           is_verdict = of_card.is_verdict;
           comes = comes_as f (keys_by of_card.verdict) begun.header (length c.captures) one (beside_under f c before.told) (Ok came)
+              refl
               (sym (packets_fed f v fed refl refl refl))
               (sym r.journal_is)
               refl

@@ -53,7 +53,8 @@ abbrev pub beside_under : Function → Replay → Told → Beside
 beside_under f c told = record {
   packets = packets_under f c.captures told;
   journal = told.content c.journal;
-  outputs = λ port. told.content (output_name c.out port);
+  outputs = λ port. told.content (output_name c.format c.out port);
+  format = c.format;
   most = c.most;
 }
 

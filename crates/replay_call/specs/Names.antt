@@ -12,7 +12,7 @@ inputs_of c = reading c.function ∷ map reading c.captures
 
 -- the names of the journal and of the outputs, in their order
 abbrev pub names_of : Replay → List (List ℕ)
-names_of c = c.journal ∷ map (output_name c.out) (range_with_len 0 (length c.captures))
+names_of c = c.journal ∷ map (output_name c.format c.out) (range_with_len 0 (length c.captures))
 
 -- all names
 abbrev pub asked_by : Replay → List Asked

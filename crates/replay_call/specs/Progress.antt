@@ -71,7 +71,7 @@ pub record HasReady (before now : Outside) (job : Job) (captures : List ℕ) (fe
   pub journal_at : journal ≡ before.told.next + 1 + ports_of job
   pub outputs_at : (i f : ℕ) → slice_get outputs i ≡ Some f → f ≡ before.told.next + 1 + ports_of job + (1 + i)
   pub journal_is : now.told.rest journal ≡ before.told.content (asked job).journal
-  pub outputs_are : (i f : ℕ) → slice_get outputs i ≡ Some f → now.told.rest f ≡ before.told.content (output_name (asked job).out i)
+  pub outputs_are : (i f : ℕ) → slice_get outputs i ≡ Some f → now.told.rest f ≡ before.told.content (output_name (asked job).format (asked job).out i)
   pub only : HasOnlyAsked (asked_by (asked job)) before now
 
 -- The journal's first line was read, and nothing of the outputs yet.

@@ -102,9 +102,9 @@ fn replay_keyed<F: Files>(
         AreKeysOf (function_of job.now.func.now) begun.header.card (lent keys.entry) →
         ReplaysTo (asked job.now) before (seen (F.told files.new) (F.counted files.new)) result }
 {
-    let most = job.command.most;
+    let (most, format) = (job.command.most, job.command.format);
     match replay_run::replay(
-        alloc, files, job.func, keys, feed, most, captures, begun, outputs,
+        alloc, files, job.func, keys, feed, most, captures, begun, format, outputs,
     ) {
         Ok(came) => told(alloc, files, job, came),
         Err(stop) => Err(job.layout.halt(stop)),
@@ -243,7 +243,8 @@ fn replay_fed<F: Files>(
     let ports = job.layout.ports;
     let last = captures[ports as usize - 1];
     let command = job.command;
-    match names_behind(alloc, &command.journal, &command.out, ports) {
+    let ReplayCommand { journal, out, .. } = command;
+    match names_behind(alloc, journal, command.format, out, ports) {
         Ok(names) => replay_named(alloc, files, job, feed, captures, names.as_slice(), last),
         Err(_) => Err(Halt::Stop(Stop::Memory)),
     }

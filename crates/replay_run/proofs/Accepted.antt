@@ -1,39 +1,33 @@
 -- What is right is taken for right, and for nothing else.
-use Rattle.std.proofs.Common.{◌≡◌, ◌≢◌, ℕ, ◌%◌, inl, inr, List, [], ◌∷◌, ◌++◌, length, map, Option, Some, None, Ok, option_and_then, refl, sym, ap, ◌∙◌, subst, append_assoc, append-nil, arith}
+use Rattle.std.proofs.Common.{◌≡◌, ◌≢◌, ℕ, inl, inr, List, [], ◌∷◌, ◌++◌, length, map, Option, Some, Ok, refl, sym, ap, ◌∙◌, subst, append_assoc, append-nil, arith}
 use Rattle.std.specs.List.{AllByRecursion}
-use Rattle.std.proofs.lemmas.List.{map-append, length-map, length-append, append_cancel_left}
+use Rattle.std.proofs.lemmas.List.{map-append, length-append, append_cancel_left}
 use Rattle.std.proofs.lemmas.Option.{same_Some}
 use Rattle.nf_base.specs.declared.keys.Keys.{Keys}
 use Rattle.nf_base.specs.declared.done.Done.{Done}
 use Rattle.nf_base.specs.declared.state.State.{State}
 use Rattle.nf_base.specs.Text.{Function}
-use Rattle.nf_base.specs.Operations.{never}
 use Rattle.nf_base.specs.Step.{opening}
 use Rattle.nf_base.specs.Runs.{Handling, RunResult, run}
-use Rattle.nf_laws.specs.Runs.{with_answers}
-use Rattle.nf_laws.proofs.Parted.{runs_part, answer_each}
 use Rattle.packet_feed.specs.Arrivals.{Arrival}
 use Rattle.run_history.specs.Headings.{Heading, IsHeading}
 use Rattle.run_history.specs.Line.{line_bytes}
 use Rattle.run_history.specs.Lines.{IsLine}
-use Rattle.run_history.specs.declared.line.Mode.{Mode}
-use Rattle.run_history.specs.declared.line.Mode.TheVariants.{One, Shard, Lock}
 use Rattle.run_history.specs.declared.line.JournalLine.{JournalLine}
 use Rattle.run_history.specs.declared.line.JournalLine.TheVariants.{Header}
 use Rattle.run_history.specs.declared.line.JournalLine.TheVariants as line
 use Rattle.file_match.specs.Comparing.{IsOtherIfTold}
 use Rattle.journal_read.specs.Journals.{lines_bytes, Stands, HasNoHeader, AreAllLines, AreMoreLines}
 use Rattle.journal_read.proofs.Firsts.{same_line, line_some}
-use Rattle.shard_laws.specs.Queues.{Throughout}
-use Rattle.shard_laws.specs.Rule.{KeepsRule, KeepShareRule}
-use Rattle.sharded_run.specs.Setups.{queue_by}
+use Rattle.stream_run.specs.Rules.{rule_in}
+use Rattle.stream_run.proofs.Ruled.{handled_fronts}
 use Rattle.stream_run.specs.Runs.{Handled}
 use Rattle.stream_run.specs.Streaming.{arrival_of, handling_in, result_in, IsUndivided}
 use Rattle.stream_run.specs.declared.stop.Stop.{Stop}
-use Rattle.replay_run.specs.Replaying.{RunKind, Beside, line_in, journal_lines, sent, IsRun, IsRunBy, AreFirstIn, NoneGoesOn, BeginsWith, IsWrong, IsRight, IsJournal, Replays}
+use Rattle.replay_run.specs.Replaying.{RunKind, Beside, line_in, journal_lines, sent, IsRun, AreFirstIn, NoneGoesOn, BeginsWith, IsWrong, IsRight, IsJournal, Replays}
 use Rattle.replay_run.specs.Queues.{keys_or_none}
 use Rattle.replay_run.specs.Heads.{Comes}
-use Rattle.replay_run.proofs.Ports.{same_front, first_front, same_packets}
+use Rattle.replay_run.proofs.Ports.{first_front, same_packets}
 use Rattle.replay_run.specs.Laws.{IsThere, RightIsAccepted, IsFirst, FirstIsFound}
 use Rattle.replay_run.specs.declared.replayed.Replayed.{Replayed}
 use Rattle.replay_run.specs.declared.replayed.Replayed.TheVariants.{Same, TooMany, Line, Output}
@@ -135,59 +129,8 @@ same_runs f xs ys s t u v a l =
 
 -- ---- the first packets of a run
 
-all_front : (P : Handled → Type 0) (xs ys : List Handled) → AllByRecursion P (xs ++ ys) → AllByRecursion P xs
-all_front P [] ys h = tt
-all_front P (x ∷ xs) ys h = (h.0, all_front P xs ys h.1)
-
-throughout_front : (P : State → Handling → Type 0) (f : Function) (s : State) (xs ys : List Handling) → Throughout P f s (xs ++ ys) → Throughout P f s xs
-throughout_front P f s [] ys t = tt
-throughout_front P f s (x ∷ xs) ys t = (t.0, λ next q. throughout_front P f next.state xs ys (t.1 next q))
-
-front_of : (f : Function) (xs ys : List Handled) (s : State) (o : Option RunResult) → run f (opening f) (map handling_in xs) ≡ o
-    → option_and_then (λ (a : RunResult). with_answers a.answers (run f a.state (map handling_in ys))) o ≡ Some (record { state = s; answers = map (λ (h : Handled). h.done) xs ++ map (λ (h : Handled). h.done) ys }) → (t : State) × IsUndivided f xs t
-front_of f xs ys s None e q = absurd cc
-front_of f xs ys s (Some a) e q = of_rest (run f a.state (map handling_in ys)) q
-  where
-    of_rest : (o : Option RunResult) → with_answers a.answers o ≡ Some (record { state = s; answers = map (λ (h : Handled). h.done) xs ++ map (λ (h : Handled). h.done) ys }) → (t : State) × IsUndivided f xs t
-    of_rest None p = absurd cc
-    of_rest (Some r) p =
-        let each : length a.answers ≡ length xs = answer_each never f (opening f) (map handling_in xs) a e ∙ length-map xs handling_in in
-        let both : a.answers ++ r.answers ≡ map (λ (h : Handled). h.done) xs ++ map (λ (h : Handled). h.done) ys = ap (λ (x : RunResult). x.answers) (same_Some _ _ p) in
-        let same = same_front a.answers (map (λ (h : Handled). h.done) xs) r.answers (map (λ (h : Handled). h.done) ys) (each ∙ sym (length-map xs (λ (h : Handled). h.done))) both in
-        (a.state, e ∙ ap (λ (ds : List Done). Some (record { state = a.state; answers = ds })) same)
-
-undivided_front : (f : Function) (xs ys : List Handled) (s : State) → IsUndivided f (xs ++ ys) s → (t : State) × IsUndivided f xs t
-undivided_front f xs ys s u =
-    front_of f xs ys s (run f (opening f) (map handling_in xs)) refl
-    (sym (ap (run f (opening f)) (map-append handling_in xs ys) ∙ runs_part never f (opening f) (map handling_in xs) (map handling_in ys)) ∙ u
-    ∙ ap (λ (ds : List Done). Some (record { state = s; answers = ds })) (map-append (λ (h : Handled). h.done) xs ys))
-
 pub run_front : (f : Function) (keys : Keys) (heading : Heading) (xs ys : List Handled) (s : State) → IsRun f keys heading (xs ++ ys) s → (t : State) × IsRun f keys heading xs t
-run_front f keys heading xs ys s r = of_mode heading.mode r
-  where
-    of_mode : (mode : Mode) → IsRunBy mode heading.workers f keys (xs ++ ys) s → (t : State) × IsRunBy mode heading.workers f keys xs t
-    of_mode One r = let u = undivided_front f xs ys s r.undivided in (u.0, record { undivided = u.1; alone = all_front (λ (h : Handled). h.worker ≡ 0) xs ys r.alone })
-    of_mode Shard r =
-        let u = undivided_front f xs ys s r.undivided in (
-          u.0,
-          record {
-            undivided = u.1;
-            queues = all_front (λ (h : Handled). h.worker ≡ queue_by keys heading.workers h.arrival.packet) xs ys r.queues;
-            share = r.share;
-            shares = r.shares;
-            rule = throughout_front (λ t h. KeepsRule (r.share (queue_by keys heading.workers h.packet)) f t h) f (opening f) (map handling_in xs) (map handling_in ys)
-                (subst (KeepShareRule r.share (queue_by keys heading.workers) f (opening f)) (map-append handling_in xs ys) r.rule);
-          },
-        )
-    of_mode Lock r = let u = undivided_front f xs ys s r.undivided in (u.0, record { undivided = u.1; own = all_front (λ (h : Handled). h.worker ≡ h.arrival.packet.id.port % heading.workers) xs ys r.own })
-
-pub run_undivided : (f : Function) (keys : Keys) (heading : Heading) (hs : List Handled) (s : State) → IsRun f keys heading hs s → IsUndivided f hs s
-run_undivided f keys heading hs s r = of_mode heading.mode r
-  where
-    of_mode : (mode : Mode) → IsRunBy mode heading.workers f keys hs s → IsUndivided f hs s
-    of_mode One r = r.undivided
-    of_mode Shard r = r.undivided
-    of_mode Lock r = r.undivided
+run_front f keys heading xs ys s r = handled_fronts (rule_in heading.mode heading.workers keys) f xs ys s r
 
 -- ---- what stands behind right lines
 
@@ -219,7 +162,7 @@ module _ (f : Function) (keys : Option Keys) (heading : Heading) (ports : ℕ) (
       first_front heading.mode there.all (map arrival_of d.front) (map arrival_of d.later)
       (subst (AreFirstIn heading.mode (Some there.all)) (ap (map arrival_of) d.is ∙ map-append arrival_of d.front d.later) there.first) in
       let arrivals = same_packets heading.mode there.all d.front ks d.fronts mine others in
-      let one = same_runs f d.front ks ran.0 t (run_undivided f (keys_or_none keys) heading d.front ran.0 ran.1) (run_undivided f (keys_or_none keys) heading ks t right.run) arrivals d.fronts in
+      let one = same_runs f d.front ks ran.0 t ran.1.undivided right.run.undivided arrivals d.fronts in
       record {
         later = d.later;
         is = d.is ∙ ap (λ (xs : List Handled). xs ++ d.later) one.list;
@@ -255,7 +198,7 @@ module _ (f : Function) (keys : Option Keys) (heading : Heading) (ports : ℕ) (
   pub accepted : (came : Replayed) → Replays {E = Stop} Kind heading ports beside (Ok came) → came ≡ Same state
   accepted (Same s) r =
       let all = all_of r.hs s r.journal_is in
-      let one = same_runs f hs r.hs state s (run_undivided f (keys_or_none keys) heading hs state there.run) (run_undivided f (keys_or_none keys) heading r.hs s r.journal_is.right.run) (ap (map arrival_of) all) (ap (map line_in) all) in
+      let one = same_runs f hs r.hs state s there.run.undivided r.journal_is.right.run.undivided (ap (map arrival_of) all) (ap (map line_in) all) in
       ap Same (sym one.state)
   accepted TooMany r =
       let more = subst (λ (o : Option (List ℕ)). AreMoreLines o (journal_lines heading r.hs)) there.journal_is r.more in
@@ -268,8 +211,8 @@ module _ (f : Function) (keys : Option Keys) (heading : Heading) (ports : ℕ) (
       absurd (goes_on r.hs b.later wrong.rest b.is b.bytes wrong.some b.lines wrong.none)
   accepted (Output port) r =
       let all = all_of r.hs r.state r.journal_is in
-      let other = subst (λ (o : Option (List ℕ)). IsOtherIfTold (sent heading ports r.hs port) o) (there.outputs_are port r.other.inside) r.other.other in
-      absurd (other (ap (λ (xs : List Handled). sent heading ports xs port) all))
+      let other = subst (λ (o : Option (List ℕ)). IsOtherIfTold (sent beside.format heading ports r.hs port) o) (there.outputs_are port r.other.inside) r.other.other in
+      absurd (other (ap (λ (xs : List Handled). sent beside.format heading ports xs port) all))
 
   -- the first line is the one that stands there
   same_first : (other : Heading) (rest : List ℕ) → IsHeading other → whole_bytes hs ≡ line_bytes (Header other) ++ rest → other ≡ heading

@@ -5,6 +5,7 @@ use Rattle.std.specs.Option.{option_map}
 use Rattle.std.proofs.lemmas.List.{length-map}
 use Rattle.std.proofs.lemmas.Bool.{lt-ltb}
 use Rattle.std.proofs.lemmas.Option.{slice_get-map, slice_get_within}
+use Rattle.capture_format.specs.declared.format.CaptureFormat.{CaptureFormat}
 use Rattle.nf_base.specs.declared.card.Card.{Card}
 use Rattle.nf_base.proofs.Mixes.{got_set}
 use Rattle.nf_files.specs.Told.{Told, IsToldAs}
@@ -16,7 +17,7 @@ use Rattle.file_match.specs.Comparing.{Comparing, Found, FoundSo, IsWhole, IsOth
 use Rattle.stream_run.specs.Runs.{Handled}
 use Rattle.stream_run.specs.Texts.{piece, sent_bytes, line_of, bytes_of}
 use Rattle.stream_run.proofs.Bytes.{bytes_more, bytes_none}
-use Rattle.pcap_file.specs.Spelled.{header_bytes}
+use Rattle.capture_format.specs.Written.{head_bytes}
 use Rattle.run_history.specs.Line.{header_line}
 use Rattle.replay_run.specs.Outputs.{files_of, AreFound, AreToldBelow, AreTold}
 
@@ -82,14 +83,14 @@ found_none c told fresh = subst (λ (b : Bool). FoundSo b [] (told.rest c.file) 
     none_taken (Some bytes) = refl
 
 -- what stands in outputs alone
-pub piece_sent : (ports k : ℕ) (h : Handled) → k < ports → piece ports k h ≡ sent_bytes k h
-piece_sent ports k h lt = ap (λ (b : Bool). cond b (sent_bytes k h) (line_of h)) (lt-ltb k ports lt)
+pub piece_sent : (format : CaptureFormat) (ports k : ℕ) (h : Handled) → k < ports → piece format ports k h ≡ sent_bytes format k h
+piece_sent format ports k h lt = ap (λ (b : Bool). cond b (sent_bytes format k h) (line_of h)) (lt-ltb k ports lt)
 
-pub sent_more : (mode : Mode) (workers : ℕ) (card : Card) (ports k : ℕ) (hs : List Handled) (h : Handled) → k < ports → bytes_of mode workers card ports k hs ++ sent_bytes k h ≡ bytes_of mode workers card ports k (hs ++ h ∷ [])
-sent_more mode workers card ports k hs h lt = ap (λ (t : List ℕ). bytes_of mode workers card ports k hs ++ t) (sym (piece_sent ports k h lt)) ∙ sym (bytes_more mode workers card ports k hs h)
+pub sent_more : (mode : Mode) (workers : ℕ) (card : Card) (format : CaptureFormat) (ports k : ℕ) (hs : List Handled) (h : Handled) → k < ports → bytes_of mode workers card format ports k hs ++ sent_bytes format k h ≡ bytes_of mode workers card format ports k (hs ++ h ∷ [])
+sent_more mode workers card format ports k hs h lt = ap (λ (t : List ℕ). bytes_of mode workers card format ports k hs ++ t) (sym (piece_sent format ports k h lt)) ∙ sym (bytes_more mode workers card format ports k hs h)
 
-pub sent_none : (mode : Mode) (workers : ℕ) (card : Card) (ports k : ℕ) → k < ports → header_bytes ≡ bytes_of mode workers card ports k []
-sent_none mode workers card ports k lt = ap (λ (b : Bool). cond b header_bytes (header_line mode workers card)) (sym (lt-ltb k ports lt)) ∙ sym (bytes_none mode workers card ports k)
+pub sent_none : (mode : Mode) (workers : ℕ) (card : Card) (format : CaptureFormat) (ports k : ℕ) → k < ports → head_bytes format ≡ bytes_of mode workers card format ports k []
+sent_none mode workers card format ports k lt = ap (λ (b : Bool). cond b (head_bytes format) (header_line mode workers card)) (sym (lt-ltb k ports lt)) ∙ sym (bytes_none mode workers card format ports k)
 
 -- other outputs stay as they were found
 pub found_still : (bytes : ℕ → List ℕ) (start : ℕ → Option (List ℕ)) (all : List Comparing) (old new : Told) → ((k : ℕ) (c : Comparing) → slice_get all k ≡ Some c → new.rest c.file ≡ old.rest c.file) → AreFound bytes start all old → AreFound bytes start all new

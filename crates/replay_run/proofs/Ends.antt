@@ -3,6 +3,7 @@ use Rattle.std.proofs.Common.{◌≡◌, ℕ, ◌+◌, ◌<◌, ◌≤◌, List,
 use Rattle.std.specs.List.{AllByRecursion, slice_get}
 use Rattle.std.proofs.lemmas.List.{map-append, length-append}
 use Rattle.std.proofs.lemmas.Option.{same_Some}
+use Rattle.capture_format.specs.declared.format.CaptureFormat.{CaptureFormat}
 use Rattle.nf_base.specs.declared.packet.Packet.{Packet}
 use Rattle.nf_base.specs.declared.state.State.{State}
 use Rattle.nf_files.specs.Told.{Told}
@@ -98,8 +99,8 @@ pub shown_is : (packet : Packet) (original : ℕ) (frame : List ℕ) (feed : Fee
 shown_is packet original frame feed o f = rw (o, f) refl
 
 -- the outputs were not read on meanwhile
-pub compares_after : (h : Handled) (held found : List Comparing) (old read now : Told) → ((k : ℕ) (c : Comparing) → slice_get held k ≡ Some c → read.rest c.file ≡ old.rest c.file) → Compares h held found read now → Compares h held found old now
-compares_after h held found old read now same step = λ start mode workers card ports hs few was. step start mode workers card ports hs few (found_still (λ k. bytes_of mode workers card ports k hs) start held old read same was)
+pub compares_after : (format : CaptureFormat) (h : Handled) (held found : List Comparing) (old read now : Told) → ((k : ℕ) (c : Comparing) → slice_get held k ≡ Some c → read.rest c.file ≡ old.rest c.file) → Compares format h held found read now → Compares format h held found old now
+compares_after format h held found old read now same step = λ start mode workers card ports hs few was. step start mode workers card ports hs few (found_still (λ k. bytes_of mode workers card format ports k hs) start held old read same was)
 
 -- ---- captures, while other files are read
 
@@ -124,10 +125,10 @@ first_in Lock start given feed begun now same sixes h = subst (λ (all : Option 
 
 -- ---- what was reached
 
-pub reached_none : (Run : RunKind) (heading : Heading) (ports : ℕ) (start : Told) (bytes : Option (List ℕ)) (begun : Feeding) (opened : Reading) (old now : Told) (found : List Comparing) (state : State) → Run [] state → begun.given ≡ 0
+pub reached_none : (Run : RunKind) (heading : Heading) (format : CaptureFormat) (ports : ℕ) (start : Told) (bytes : Option (List ℕ)) (begun : Feeding) (opened : Reading) (old now : Told) (found : List Comparing) (state : State) → Run [] state → begun.given ≡ 0
     → ((port file : ℕ) → slice_get (files_in begun.sources) port ≡ Some file → now.rest file ≡ old.rest file) → now.rest opened.file ≡ old.rest opened.file
-    → AreFound (sent heading ports []) old.rest found now → Begins heading begun opened start bytes old → Reaches Run heading ports start bytes old.rest begun opened opened.file now found state
-reached_none Run heading ports start bytes begun opened old now found state opens new captures journal compared b = record {
+    → AreFound (sent format heading ports []) old.rest found now → Begins heading begun opened start bytes old → Reaches Run heading format ports start bytes old.rest begun opened opened.file now found state
+reached_none Run heading format ports start bytes begun opened old now found state opens new captures journal compared b = record {
   hs = [];
   run = opens;
   captures = started_in heading.mode start begun now (started_while start begun old now captures b.captures);
@@ -138,15 +139,15 @@ reached_none Run heading ports start bytes begun opened old now found state open
 }
 
 -- what a line that was read stands behind
-pub reached_more : (Run : RunKind) (heading : Heading) (ports : ℕ) (start : Told) (bytes : Option (List ℕ)) (rest : ℕ → Option (List ℕ)) (file : ℕ) (old mid new : Told) (feed next : Feeding) (journal read : Reading) (held found : List Comparing) (state after : State) (line : JournalLine)
-    → Reaches Run heading ports start bytes rest feed journal file old held state
+pub reached_more : (Run : RunKind) (heading : Heading) (format : CaptureFormat) (ports : ℕ) (start : Told) (bytes : Option (List ℕ)) (rest : ℕ → Option (List ℕ)) (file : ℕ) (old mid new : Told) (feed next : Feeding) (journal read : Reading) (held found : List Comparing) (state after : State) (line : JournalLine)
+    → Reaches Run heading format ports start bytes rest feed journal file old held state
     → ((at : Option (List ℕ)) (lines : List JournalLine) → Stands at lines journal (old.rest file) → IsLine line × Stands at (lines ++ line ∷ []) read (mid.rest file))
-    → IsTurn Run heading.mode line state after feed next mid new held found
+    → IsTurn Run heading.mode format line state after feed next mid new held found
     → ((port f : ℕ) → slice_get (files_in feed.sources) port ≡ Some f → mid.rest f ≡ old.rest f)
     → ((k : ℕ) (c : Comparing) → slice_get held k ≡ Some c → mid.rest c.file ≡ old.rest c.file)
     → new.rest file ≡ mid.rest file → length held ≤ ports → next.given ≡ feed.given + 1
-    → Reaches Run heading ports start bytes rest next read file new found after
-reached_more Run heading ports start bytes rest file old mid new feed next journal read held found state after line r gives turn captures outputs same few given =
+    → Reaches Run heading format ports start bytes rest next read file new found after
+reached_more Run heading format ports start bytes rest file old mid new feed next journal read held found state after line r gives turn captures outputs same few given =
     let h = came_to turn.worker turn.packet turn.original turn.frame turn.done in
     let on = gives bytes (journal_lines heading r.hs) r.lines in
     record {
@@ -160,18 +161,18 @@ reached_more Run heading ports start bytes rest file old mid new feed next journ
           subst (λ (o : Option (List ℕ)). Stands bytes (journal_lines heading (r.hs ++ h ∷ [])) read o) (sym same)
           (subst (λ (ls : List JournalLine). Stands bytes ls read (mid.rest file)) is on.1);
       are_lines = lines_all r.hs h r.are_lines (subst IsLine (sym turn.is_line) on.0);
-      compared = turn.compares rest heading.mode heading.workers heading.card ports r.hs few (found_still (sent heading ports r.hs) rest held old mid outputs r.compared);
+      compared = turn.compares rest heading.mode heading.workers heading.card ports r.hs few (found_still (sent format heading ports r.hs) rest held old mid outputs r.compared);
       count = omega (arith, length-append r.hs (h ∷ []), r.count);
     }
 
 -- ---- the end
 
-module _ (Run : RunKind) (heading : Heading) (ports : ℕ) (start : Told) (bytes : Option (List ℕ)) (begun : Feeding) (files : List ℕ) (first : Told) (most : ℕ) where
+module _ (Run : RunKind) (heading : Heading) (format : CaptureFormat) (ports : ℕ) (start : Told) (bytes : Option (List ℕ)) (begun : Feeding) (files : List ℕ) (first : Told) (most : ℕ) where
   abbrev beside : Beside
-  beside = beside_of begun start bytes files first most
+  beside = beside_of format begun start bytes files first most
 
   pub right_of : (now : Told) (feed : Feeding) (journal : Reading) (file : ℕ) (found : List Comparing) (state : State)
-      → (r : Reaches Run heading ports start bytes first.rest feed journal file now found state) → files_in feed.sources ≡ files_in begun.sources → sixes_in feed.sources ≡ sixes_in begun.sources → feed.given ≤ most → IsRight Run heading beside r.hs state
+      → (r : Reaches Run heading format ports start bytes first.rest feed journal file now found state) → files_in feed.sources ≡ files_in begun.sources → sixes_in feed.sources ≡ sixes_in begun.sources → feed.given ≤ most → IsRight Run heading beside r.hs state
   right_of now feed journal file found state r same sixes within = record {
     run = r.run;
     within = omega (arith, r.count, within);
@@ -180,7 +181,7 @@ module _ (Run : RunKind) (heading : Heading) (ports : ℕ) (start : Told) (bytes
   }
 
   pub over_at : (old new : Told) (feed : Feeding) (journal : Reading) (file : ℕ) (held : List Comparing) (state : State)
-      → Reaches Run heading ports start bytes first.rest feed journal file old held state → files_in feed.sources ≡ files_in begun.sources → sixes_in feed.sources ≡ sixes_in begun.sources → feed.given ≤ most
+      → Reaches Run heading format ports start bytes first.rest feed journal file old held state → files_in feed.sources ≡ files_in begun.sources → sixes_in feed.sources ≡ sixes_in begun.sources → feed.given ≤ most
       → ((at : Option (List ℕ)) (lines : List JournalLine) → Stands at lines journal (old.rest file) → AreAllLines at lines)
       → ((k : ℕ) (c : Comparing) → slice_get held k ≡ Some c → new.rest c.file ≡ old.rest c.file)
       → IsOver Run heading ports beside first.rest new held state
@@ -190,11 +191,11 @@ module _ (Run : RunKind) (heading : Heading) (ports : ℕ) (start : Told) (bytes
       right = right_of old feed journal file held state r same sixes within;
       whole = all bytes (journal_lines heading r.hs) r.lines;
     };
-    compared = found_still (sent heading ports r.hs) first.rest held old new outputs r.compared;
+    compared = found_still (sent format heading ports r.hs) first.rest held old new outputs r.compared;
   }
 
   pub too_many_at : (old : Told) (feed : Feeding) (journal : Reading) (file : ℕ) (held : List Comparing) (state : State)
-      → Reaches Run heading ports start bytes first.rest feed journal file old held state → files_in feed.sources ≡ files_in begun.sources → sixes_in feed.sources ≡ sixes_in begun.sources → feed.given ≡ most
+      → Reaches Run heading format ports start bytes first.rest feed journal file old held state → files_in feed.sources ≡ files_in begun.sources → sixes_in feed.sources ≡ sixes_in begun.sources → feed.given ≡ most
       → ((at : Option (List ℕ)) (lines : List JournalLine) → Stands at lines journal (old.rest file) → AreMoreLines at lines)
       → IsTooMany Run heading beside
   too_many_at old feed journal file held state r same sixes as_many more = record {
@@ -236,25 +237,25 @@ line_wrong Run heading o hs (Some all) (Some left) line read is t none =
       none = none_weaker Run heading.mode o hs (λ l. l ≡ line) (BeginsWith rest) (λ l begins. same_line l line begins.1.0 later begins.0 is begins.1.1) none;
     }
 
-module _ (Run : RunKind) (heading : Heading) (ports : ℕ) (start : Told) (bytes : Option (List ℕ)) (begun : Feeding) (files : List ℕ) (first : Told) (most : ℕ) where
+module _ (Run : RunKind) (heading : Heading) (format : CaptureFormat) (ports : ℕ) (start : Told) (bytes : Option (List ℕ)) (begun : Feeding) (files : List ℕ) (first : Told) (most : ℕ) where
   abbrev read_beside : Beside
-  read_beside = beside_of begun start bytes files first most
+  read_beside = beside_of format begun start bytes files first most
 
   pub wrong_at : (old : Told) (feed : Feeding) (journal : Reading) (file : ℕ) (held : List Comparing) (state : State) (number : ℕ)
-      → Reaches Run heading ports start bytes first.rest feed journal file old held state → files_in feed.sources ≡ files_in begun.sources → sixes_in feed.sources ≡ sixes_in begun.sources → feed.given < most → number ≡ feed.given + 2
+      → Reaches Run heading format ports start bytes first.rest feed journal file old held state → files_in feed.sources ≡ files_in begun.sources → sixes_in feed.sources ≡ sixes_in begun.sources → feed.given < most → number ≡ feed.given + 2
       → ((at : Option (List ℕ)) (lines : List JournalLine) → Stands at lines journal (old.rest file) → journals.IsWrong at lines)
       → IsFirstWrong Run heading read_beside number
   wrong_at old feed journal file held state number r same sixes fewer is wrong = record {
     hs = r.hs;
     state = state;
-    right = right_of Run heading ports start bytes begun files first most old feed journal file held state r same sixes (omega (arith, fewer));
+    right = right_of Run heading format ports start bytes begun files first most old feed journal file held state r same sixes (omega (arith, fewer));
     fewer = omega (arith, fewer, r.count);
     number = omega (arith, is, r.count);
     wrong = no_line_wrong Run heading (packets_at begun start) r.hs bytes (wrong bytes (journal_lines heading r.hs) r.lines);
   }
 
   pub wrong_turn : (old mid : Told) (feed : Feeding) (journal read : Reading) (file : ℕ) (held : List Comparing) (state : State) (line : JournalLine) (number : ℕ)
-      → Reaches Run heading ports start bytes first.rest feed journal file old held state → files_in feed.sources ≡ files_in begun.sources → sixes_in feed.sources ≡ sixes_in begun.sources → feed.given < most → number ≡ feed.given + 2
+      → Reaches Run heading format ports start bytes first.rest feed journal file old held state → files_in feed.sources ≡ files_in begun.sources → sixes_in feed.sources ≡ sixes_in begun.sources → feed.given < most → number ≡ feed.given + 2
       → ((at : Option (List ℕ)) (lines : List JournalLine) → Stands at lines journal (old.rest file) → IsLine line × Stands at (lines ++ line ∷ []) read (mid.rest file))
       → ((port f : ℕ) → slice_get (files_in feed.sources) port ≡ Some f → mid.rest f ≡ old.rest f)
       → ((before : Told) (hs : List Handled) → Run hs state → StandsIn heading.mode before (map arrival_of hs) feed mid → NoneGoesOn Run heading.mode (packets_at feed before) hs (λ l. l ≡ line))
@@ -262,7 +263,7 @@ module _ (Run : RunKind) (heading : Heading) (ports : ℕ) (start : Told) (bytes
   wrong_turn old mid feed journal read file held state line number r same sixes fewer is gives captures none = record {
     hs = r.hs;
     state = state;
-    right = right_of Run heading ports start bytes begun files first most old feed journal file held state r same sixes (omega (arith, fewer));
+    right = right_of Run heading format ports start bytes begun files first most old feed journal file held state r same sixes (omega (arith, fewer));
     fewer = omega (arith, fewer, r.count);
     number = omega (arith, is, r.count);
     wrong =
@@ -274,11 +275,11 @@ module _ (Run : RunKind) (heading : Heading) (ports : ℕ) (start : Told) (bytes
 
   -- as many lines as were asked for were read
   pub ends_at : (E : Type 0) (old new : Told) (feed : Feeding) (journal : Reading) (file : ℕ) (held : List Comparing) (state : State) (result : Result End E)
-      → Reaches Run heading ports start bytes first.rest feed journal file old held state → files_in feed.sources ≡ files_in begun.sources → sixes_in feed.sources ≡ sixes_in begun.sources → feed.given ≡ most
+      → Reaches Run heading format ports start bytes first.rest feed journal file old held state → files_in feed.sources ≡ files_in begun.sources → sixes_in feed.sources ≡ sixes_in begun.sources → feed.given ≡ most
       → ((at : Option (List ℕ)) (lines : List JournalLine) → Stands at lines journal (old.rest file) → IsEnd at lines result) → IsNotWrong result
       → ((k : ℕ) (c : Comparing) → slice_get held k ≡ Some c → new.rest c.file ≡ old.rest c.file)
       → Reads Run heading ports read_beside first.rest new held state result
-  ends_at E old new feed journal file held state (Ok end.Over) r same sixes as_many ends right outputs = over_at Run heading ports start bytes begun files first most old new feed journal file held state r same sixes (omega (arith, as_many)) ends outputs
-  ends_at E old new feed journal file held state (Ok end.TooMany) r same sixes as_many ends right outputs = too_many_at Run heading ports start bytes begun files first most old feed journal file held state r same sixes as_many ends
+  ends_at E old new feed journal file held state (Ok end.Over) r same sixes as_many ends right outputs = over_at Run heading format ports start bytes begun files first most old new feed journal file held state r same sixes (omega (arith, as_many)) ends outputs
+  ends_at E old new feed journal file held state (Ok end.TooMany) r same sixes as_many ends right outputs = too_many_at Run heading format ports start bytes begun files first most old feed journal file held state r same sixes as_many ends
   ends_at E old new feed journal file held state (Ok (end.Wrong line)) r same sixes as_many ends right outputs = absurd right
   ends_at E old new feed journal file held state (Err e) r same sixes as_many ends right outputs = tt

@@ -3,6 +3,7 @@ use Rattle.std.proofs.Common.{◌≡◌, ℕ, zero, suc, ◌<◌, ◌≤◌, Lis
 use Rattle.std.specs.List.{slice_get}
 use Rattle.std.specs.Option.{option_and_then}
 use Rattle.std.proofs.lemmas.Option.{slice_get_within}
+use Rattle.capture_format.specs.declared.format.CaptureFormat.{CaptureFormat}
 use Rattle.nf_base.specs.declared.keys.Keys.{Keys}
 use Rattle.nf_base.specs.declared.state.State.{State}
 use Rattle.nf_base.specs.Text.{Function}
@@ -20,12 +21,12 @@ use Rattle.replay_run.specs.declared.replayed.Replayed.{Replayed}
 use Rattle.replay_run.specs.declared.replayed.Replayed.TheVariants.{Same, TooMany, Line, Output}
 
 -- what reading lines comes to, by another name of the first line and of the outputs
-pub read_as : (f : Function) (keys : Keys) (one header : Heading) (ports : ℕ) (feed : Feeding) (journal : Reading) (outs outputs : List ℕ) (old mid : Told) (most : ℕ) (found : List Comparing) (state : State) (r : Result End Stop) → one ≡ header → outs ≡ outputs
-    → ((start : Told) (bytes : Option (List ℕ)) → Begins one feed journal start bytes old → Reads (IsRun f keys one) one ports (beside_of feed start bytes outs old most) old.rest mid found state r)
-    → (start : Told) (bytes : Option (List ℕ)) → Begins header feed journal start bytes old → Reads (IsRun f keys header) header ports (beside_of feed start bytes outputs old most) old.rest mid found state r
-read_as f keys one header ports feed journal outs outputs old mid most found state r heading files h =
-    subst (λ (x : Heading). (start : Told) (bytes : Option (List ℕ)) → Begins x feed journal start bytes old → Reads (IsRun f keys x) x ports (beside_of feed start bytes outputs old most) old.rest mid found state r) heading
-    (subst (λ (fs : List ℕ). (start : Told) (bytes : Option (List ℕ)) → Begins one feed journal start bytes old → Reads (IsRun f keys one) one ports (beside_of feed start bytes fs old most) old.rest mid found state r) files h)
+pub read_as : (format : CaptureFormat) (f : Function) (keys : Keys) (one header : Heading) (ports : ℕ) (feed : Feeding) (journal : Reading) (outs outputs : List ℕ) (old mid : Told) (most : ℕ) (found : List Comparing) (state : State) (r : Result End Stop) → one ≡ header → outs ≡ outputs
+    → ((start : Told) (bytes : Option (List ℕ)) → Begins one feed journal start bytes old → Reads (IsRun f keys one) one ports (beside_of format feed start bytes outs old most) old.rest mid found state r)
+    → (start : Told) (bytes : Option (List ℕ)) → Begins header feed journal start bytes old → Reads (IsRun f keys header) header ports (beside_of format feed start bytes outputs old most) old.rest mid found state r
+read_as format f keys one header ports feed journal outs outputs old mid most found state r heading files h =
+    subst (λ (x : Heading). (start : Told) (bytes : Option (List ℕ)) → Begins x feed journal start bytes old → Reads (IsRun f keys x) x ports (beside_of format feed start bytes outputs old most) old.rest mid found state r) heading
+    (subst (λ (fs : List ℕ). (start : Told) (bytes : Option (List ℕ)) → Begins one feed journal start bytes old → Reads (IsRun f keys one) one ports (beside_of format feed start bytes fs old most) old.rest mid found state r) files h)
 
 file_there : (files : List ℕ) (k : ℕ) → k < length files → (file : ℕ) × (slice_get files k ≡ Some file)
 file_there [] k lt = absurd (omega (arith, lt))
@@ -56,19 +57,19 @@ least_unsent bytes now files ports port same h =
       lesser = are_sent bytes now files port (omega (arith, inside)) h.lesser;
     }
 
-pub finished : (Run : RunKind) (heading : Heading) (ports : ℕ) (feed : Feeding) (start : Told) (bytes : Option (List ℕ)) (files : List ℕ) (old : Told) (most : ℕ) (now : Told) (found : List Comparing) (state : State) (r : Result Replayed Stop) → ports ≡ length files
-    → (o : IsOver Run heading ports (beside_of feed start bytes files old most) old.rest now found state) → Finishes (sent heading ports o.hs) old.rest files state r → Replays Run heading ports (beside_of feed start bytes files old most) r
-finished Run heading ports feed start bytes files old most now found state (Ok (Same left)) same o fin = record {
+pub finished : (Run : RunKind) (heading : Heading) (format : CaptureFormat) (ports : ℕ) (feed : Feeding) (start : Told) (bytes : Option (List ℕ)) (files : List ℕ) (old : Told) (most : ℕ) (now : Told) (found : List Comparing) (state : State) (r : Result Replayed Stop) → ports ≡ length files
+    → (o : IsOver Run heading ports (beside_of format feed start bytes files old most) old.rest now found state) → Finishes (sent format heading ports o.hs) old.rest files state r → Replays Run heading ports (beside_of format feed start bytes files old most) r
+finished Run heading format ports feed start bytes files old most now found state (Ok (Same left)) same o fin = record {
   hs = o.hs;
-  journal_is = subst (IsJournal Run heading (beside_of feed start bytes files old most) o.hs) (sym fin.0) o.journal_is;
-  outputs_are = are_sent (sent heading ports o.hs) old files ports (omega (arith, same)) (λ k file lt at. fin.1 k file at);
+  journal_is = subst (IsJournal Run heading (beside_of format feed start bytes files old most) o.hs) (sym fin.0) o.journal_is;
+  outputs_are = are_sent (sent format heading ports o.hs) old files ports (omega (arith, same)) (λ k file lt at. fin.1 k file at);
 }
-finished Run heading ports feed start bytes files old most now found state (Ok TooMany) same o fin = absurd fin
-finished Run heading ports feed start bytes files old most now found state (Ok (Line line)) same o fin = absurd fin
-finished Run heading ports feed start bytes files old most now found state (Ok (Output port)) same o fin = record {
+finished Run heading format ports feed start bytes files old most now found state (Ok TooMany) same o fin = absurd fin
+finished Run heading format ports feed start bytes files old most now found state (Ok (Line line)) same o fin = absurd fin
+finished Run heading format ports feed start bytes files old most now found state (Ok (Output port)) same o fin = record {
   hs = o.hs;
   state = state;
   journal_is = o.journal_is;
-  other = least_unsent (sent heading ports o.hs) old files ports port same fin;
+  other = least_unsent (sent format heading ports o.hs) old files ports port same fin;
 }
-finished Run heading ports feed start bytes files old most now found state (Err e) same o fin = tt
+finished Run heading format ports feed start bytes files old most now found state (Err e) same o fin = tt

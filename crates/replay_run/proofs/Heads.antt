@@ -1,5 +1,6 @@
 -- The first line of a journal.
 use Rattle.std.proofs.Common.{◌≡◌, ℕ, ◌<◌, List, [], ◌++◌, map, Option, Some, None, Result, Ok, Err, inl, inr, sym, ap, ◌∙◌, subst, arith}
+use Rattle.capture_format.specs.declared.format.CaptureFormat.{CaptureFormat}
 use Rattle.nf_base.specs.declared.keys.Keys.{Keys}
 use Rattle.nf_base.specs.declared.state.State.{State}
 use Rattle.nf_base.specs.Text.{Function}
@@ -50,21 +51,21 @@ journal_as Run heading one other hs state packets journal most j = record {
 sent_as : (bytes : ℕ → List ℕ) (one other : ℕ → Option (List ℕ)) (ports : ℕ) → ((port : ℕ) → port < ports → other port ≡ one port) → AreSent bytes one ports → AreSent bytes other ports
 sent_as bytes one other ports same h port lt = subst (IsToldAs (bytes port)) (sym (same port lt)) (h port lt)
 
-pub replays_as : (Run : RunKind) (heading : Heading) (ports : ℕ) (one other : Beside) (r : Result Replayed Stop) → other.packets ≡ one.packets → other.journal ≡ one.journal → other.most ≡ one.most → ((port : ℕ) → port < ports → other.outputs port ≡ one.outputs port)
+pub replays_as : (Run : RunKind) (heading : Heading) (ports : ℕ) (one other : Beside) (r : Result Replayed Stop) → other.format ≡ one.format → other.packets ≡ one.packets → other.journal ≡ one.journal → other.most ≡ one.most → ((port : ℕ) → port < ports → other.outputs port ≡ one.outputs port)
     → Replays Run heading ports one r → Replays Run heading ports other r
-replays_as Run heading ports one other (Ok (Same state)) packets journal most outputs h = record {
+replays_as Run heading ports one other (Ok (Same state)) kind packets journal most outputs h = record {
   hs = h.hs;
   journal_is = journal_as Run heading one other h.hs state packets journal most h.journal_is;
-  outputs_are = sent_as (sent heading ports h.hs) one.outputs other.outputs ports outputs h.outputs_are;
+  outputs_are = subst (λ (g : CaptureFormat). AreSent (sent g heading ports h.hs) other.outputs ports) (sym kind) (sent_as (sent one.format heading ports h.hs) one.outputs other.outputs ports outputs h.outputs_are);
 }
-replays_as Run heading ports one other (Ok TooMany) packets journal most outputs h = record {
+replays_as Run heading ports one other (Ok TooMany) kind packets journal most outputs h = record {
   hs = h.hs;
   state = h.state;
   right = right_as Run heading one other h.hs h.state packets most h.right;
   count = h.count ∙ sym most;
   more = subst (λ (o : Option (List ℕ)). AreMoreLines o (journal_lines heading h.hs)) (sym journal) h.more;
 }
-replays_as Run heading ports one other (Ok (Line line)) packets journal most outputs h = record {
+replays_as Run heading ports one other (Ok (Line line)) kind packets journal most outputs h = record {
   hs = h.hs;
   state = h.state;
   right = right_as Run heading one other h.hs h.state packets most h.right;
@@ -74,32 +75,36 @@ replays_as Run heading ports one other (Ok (Line line)) packets journal most out
       subst (λ (o : Option (List Arrival)). IsWrong Run heading o h.hs other.journal) (sym packets)
       (subst (λ (o : Option (List ℕ)). IsWrong Run heading one.packets h.hs o) (sym journal) h.wrong);
 }
-replays_as Run heading ports one other (Ok (Output port)) packets journal most outputs h = record {
+replays_as Run heading ports one other (Ok (Output port)) kind packets journal most outputs h = record {
   hs = h.hs;
   state = h.state;
   journal_is = journal_as Run heading one other h.hs h.state packets journal most h.journal_is;
   other = record {
     inside = h.other.inside;
-    other = subst (IsOtherIfTold (sent heading ports h.hs port)) (sym (outputs port h.other.inside)) h.other.other;
-    lesser = sent_as (sent heading ports h.hs) one.outputs other.outputs port (λ k lt. outputs k (omega (arith, lt, h.other.inside))) h.other.lesser;
+    other =
+        subst (λ (g : CaptureFormat). IsOtherIfTold (sent g heading ports h.hs port) (other.outputs port)) (sym kind)
+        (subst (IsOtherIfTold (sent one.format heading ports h.hs port)) (sym (outputs port h.other.inside)) h.other.other);
+    lesser =
+        subst (λ (g : CaptureFormat). AreSent (sent g heading ports h.hs) other.outputs port) (sym kind)
+        (sent_as (sent one.format heading ports h.hs) one.outputs other.outputs port (λ k lt. outputs k (omega (arith, lt, h.other.inside))) h.other.lesser);
   };
 }
-replays_as Run heading ports one other (Err e) packets journal most outputs h = tt
+replays_as Run heading ports one other (Err e) kind packets journal most outputs h = tt
 
-headed_as : (f : Function) (keys : Option Keys) (heading : Heading) (ports : ℕ) (one other : Beside) (came : Replayed) → other.packets ≡ one.packets → other.journal ≡ one.journal → other.most ≡ one.most → ((port : ℕ) → port < ports → other.outputs port ≡ one.outputs port)
+headed_as : (f : Function) (keys : Option Keys) (heading : Heading) (ports : ℕ) (one other : Beside) (came : Replayed) → other.format ≡ one.format → other.packets ≡ one.packets → other.journal ≡ one.journal → other.most ≡ one.most → ((port : ℕ) → port < ports → other.outputs port ≡ one.outputs port)
     → IsHeaded f keys heading ports one came → IsHeaded f keys heading ports other came
-headed_as f keys heading ports one other came packets journal most outputs h = record {
+headed_as f keys heading ports one other came kind packets journal most outputs h = record {
   is_heading = h.is_heading;
   keyed = h.keyed;
-  replays = replays_as (IsRun f (keys_or_none keys) heading) heading ports one other (Ok came) packets journal most outputs h.replays;
+  replays = replays_as (IsRun f (keys_or_none keys) heading) heading ports one other (Ok came) kind packets journal most outputs h.replays;
 }
 
 -- what a replay comes to, of the same that is told
-pub comes_as : (f : Function) (keys : Option Keys) (heading : Heading) (ports : ℕ) (one other : Beside) (r : Result Replayed Stop) → other.packets ≡ one.packets → other.journal ≡ one.journal → other.most ≡ one.most → ((port : ℕ) → port < ports → other.outputs port ≡ one.outputs port)
+pub comes_as : (f : Function) (keys : Option Keys) (heading : Heading) (ports : ℕ) (one other : Beside) (r : Result Replayed Stop) → other.format ≡ one.format → other.packets ≡ one.packets → other.journal ≡ one.journal → other.most ≡ one.most → ((port : ℕ) → port < ports → other.outputs port ≡ one.outputs port)
     → Comes f keys heading ports one r → Comes f keys heading ports other r
-comes_as f keys heading ports one other (Ok (Same state)) packets journal most outputs h = headed_as f keys heading ports one other (Same state) packets journal most outputs h
-comes_as f keys heading ports one other (Ok TooMany) packets journal most outputs h = headed_as f keys heading ports one other TooMany packets journal most outputs h
-comes_as f keys heading ports one other (Ok (Line line)) packets journal most outputs (inl h) = inl h
-comes_as f keys heading ports one other (Ok (Line line)) packets journal most outputs (inr h) = inr (headed_as f keys heading ports one other (Line line) packets journal most outputs h)
-comes_as f keys heading ports one other (Ok (Output port)) packets journal most outputs h = headed_as f keys heading ports one other (Output port) packets journal most outputs h
-comes_as f keys heading ports one other (Err e) packets journal most outputs h = tt
+comes_as f keys heading ports one other (Ok (Same state)) kind packets journal most outputs h = headed_as f keys heading ports one other (Same state) kind packets journal most outputs h
+comes_as f keys heading ports one other (Ok TooMany) kind packets journal most outputs h = headed_as f keys heading ports one other TooMany kind packets journal most outputs h
+comes_as f keys heading ports one other (Ok (Line line)) kind packets journal most outputs (inl h) = inl h
+comes_as f keys heading ports one other (Ok (Line line)) kind packets journal most outputs (inr h) = inr (headed_as f keys heading ports one other (Line line) kind packets journal most outputs h)
+comes_as f keys heading ports one other (Ok (Output port)) kind packets journal most outputs h = headed_as f keys heading ports one other (Output port) kind packets journal most outputs h
+comes_as f keys heading ports one other (Err e) kind packets journal most outputs h = tt

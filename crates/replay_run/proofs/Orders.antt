@@ -7,10 +7,9 @@ use Rattle.std.proofs.lemmas.List.Elements.{filter-append}
 use Rattle.nf_base.specs.Orders.{comes_before}
 use Rattle.nf_base.specs.Doors.{six_at}
 use Rattle.nf_files.specs.Told.{Told}
-use Rattle.pcap_file.specs.declared.form.TimeUnit.{TimeUnit}
-use Rattle.pcap_file.specs.Record.{Record, time_of}
-use Rattle.pcap_file.specs.Capture.{Capture, capture_of}
-use Rattle.packet_feed.specs.Arrivals.{Arrival, arrival_of, arrivals_from}
+use Rattle.pcapng_file.specs.Heard.{Heard, Stream as Contents}
+use Rattle.packet_feed.specs.Contents.{contents_of}
+use Rattle.packet_feed.specs.Arrivals.{Arrival, arrival_of, arrivals_from, arrivals_in}
 use Rattle.packet_feed.specs.Order.{put_in, in_order}
 use Rattle.packet_feed.specs.Told.{both, gathered, packets_in}
 use Rattle.packet_feed.specs.Ports.{is_of}
@@ -92,24 +91,24 @@ own_behind q (x ∷ xs) ys h k mine others = (
   own_behind q xs ys h.1 k mine.1 others,
 )
 
-own_from : (six : Bool) (port : ℕ) (unit : TimeUnit) (seq latest : ℕ) (rs : List Record) → AreOwnOrdered (arrivals_from six port unit seq latest rs)
-own_from six port unit seq latest [] = tt
-own_from six port unit seq latest (r ∷ rs) =
-    let time = max latest (time_of unit r) in
-    let a = arrival_of six port seq time r.original r.frame in
-    let t = came_at six port seq time r.original r.frame in
-    let p = came_in six port seq time r.original r.frame in
-    let n = came_as six port seq time r.original r.frame in
+own_from : (six : Bool) (port seq latest : ℕ) (cs : List Heard) → AreOwnOrdered (arrivals_from six port seq latest cs)
+own_from six port seq latest [] = tt
+own_from six port seq latest (c ∷ cs) =
+    let time = max latest c.time in
+    let a = arrival_of six port seq time c.is_ethernet c.original c.frame in
+    let t = came_at six port seq time c.is_ethernet c.original c.frame in
+    let p = came_in six port seq time c.is_ethernet c.original c.frame in
+    let n = came_as six port seq time c.is_ethernet c.original c.frame in
     let early : IsEarly a.packet time port (seq + 1) = record { time_le = omega (arith, t); port_le = λ le. omega (arith, p); seq_lt = λ le lo. omega (arith, n) } in (
-      weaker (IsBehind a) (IsBeforeOwn a) (arrivals_from six port unit (seq + 1) time rs) (λ x behind same. behind) (all_behind a six port unit (seq + 1) time rs early),
-      own_from six port unit (seq + 1) time rs,
+      weaker (IsBehind a) (IsBeforeOwn a) (arrivals_from six port (seq + 1) time cs) (λ x behind same. behind) (all_behind a six port (seq + 1) time cs early),
+      own_from six port (seq + 1) time cs,
     )
 
-ports_from : (six : Bool) (port : ℕ) (unit : TimeUnit) (seq latest : ℕ) (rs : List Record) → AllByRecursion (λ (a : Arrival). a.packet.id.port ≡ port) (arrivals_from six port unit seq latest rs)
-ports_from six port unit seq latest [] = tt
-ports_from six port unit seq latest (r ∷ rs) =
-    let time = max latest (time_of unit r) in
-    (came_in six port seq time r.original r.frame, ports_from six port unit (seq + 1) time rs)
+ports_from : (six : Bool) (port seq latest : ℕ) (cs : List Heard) → AllByRecursion (λ (a : Arrival). a.packet.id.port ≡ port) (arrivals_from six port seq latest cs)
+ports_from six port seq latest [] = tt
+ports_from six port seq latest (c ∷ cs) =
+    let time = max latest c.time in
+    (came_in six port seq time c.is_ethernet c.original c.frame, ports_from six port (seq + 1) time cs)
 
 -- what one capture gives
 record IsOwn (port : ℕ) (xs : List Arrival) : Type 0 where
@@ -120,13 +119,13 @@ abbrev IsOwnIf : ℕ → Option (List Arrival) → Type 0
 IsOwnIf port None = Unit {0}
 IsOwnIf port (Some xs) = IsOwn port xs
 
-own_of : (six : Bool) (port : ℕ) (c : Option Capture) → IsOwnIf port (option_map (λ (c : Capture). arrivals_from six port c.form.unit 0 0 c.records) c)
+own_of : (six : Bool) (port : ℕ) (c : Option Contents) → IsOwnIf port (option_map (arrivals_in six port) c)
 own_of six port None = tt
-own_of six port (Some c) = record { ordered = own_from six port c.form.unit 0 0 c.records; ports = ports_from six port c.form.unit 0 0 c.records }
+own_of six port (Some c) = record { ordered = own_from six port 0 0 c.heard; ports = ports_from six port 0 0 c.heard }
 
 own_in : (six : Bool) (port : ℕ) (bytes : Option (List ℕ)) → IsOwnIf port (packets_in six port bytes)
 own_in six port None = tt
-own_in six port (Some bytes) = own_of six port (capture_of bytes)
+own_in six port (Some bytes) = own_of six port (contents_of bytes)
 
 -- what captures from a port on give
 record AreFromPort (port : ℕ) (xs : List Arrival) : Type 0 where

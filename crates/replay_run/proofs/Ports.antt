@@ -11,27 +11,15 @@ use Rattle.run_history.specs.declared.line.Mode.TheVariants.{One, Shard, Lock}
 use Rattle.run_history.specs.declared.line.JournalLine.{JournalLine}
 use Rattle.journal_check.specs.Judging.{port_in}
 use Rattle.stream_run.specs.Runs.{Handled}
+use Rattle.stream_run.specs.Rules.{order_in}
 use Rattle.stream_run.specs.Streaming.{arrival_of}
+use Rattle.stream_run.proofs.Stepping.{same_front}
+use Rattle.stream_run.proofs.Ordered.{fewer_by}
 use Rattle.replay_run.specs.Replaying.{line_in, AreFirstIn}
-
-pub same_front : {A : Type 0} (xs ys vs ws : List A) → length xs ≡ length ys → xs ++ vs ≡ ys ++ ws → xs ≡ ys
-same_front [] [] vs ws n e = refl
-same_front [] (y ∷ ys) vs ws n e = absurd (omega (arith, n))
-same_front (x ∷ xs) [] vs ws n e = absurd (omega (arith, n))
-same_front {A = A} (x ∷ xs) (y ∷ ys) vs ws n e =
-    let first : x ≡ y = cc in
-    let rest : xs ++ vs ≡ ys ++ ws = cc in
-    ap (λ (z : A). z ∷ xs) first ∙ ap (λ (t : List A). y ∷ t) (same_front xs ys vs ws (omega (arith, n)) rest)
 
 -- the first of the first packets are so too
 pub first_front : (mode : Mode) (all xs ys : List Arrival) → AreFirstIn mode (Some all) (xs ++ ys) → AreFirstIn mode (Some all) xs
-first_front One all xs ys h = (ys ++ h.0, h.1 ∙ append_assoc xs ys h.0)
-first_front Shard all xs ys h = (ys ++ h.0, h.1 ∙ append_assoc xs ys h.0)
-first_front Lock all xs ys h = λ port.
-    let own = h port in (
-      filter (is_of port) ys ++ own.0,
-      own.1 ∙ ap (λ (t : List Arrival). t ++ own.0) (filter-append (is_of port) xs ys) ∙ append_assoc (filter (is_of port) xs) (filter (is_of port) ys) own.0,
-    )
+first_front mode all xs ys h = fewer_by (order_in mode) (Some all) xs ys h
 
 pub keep_head : (port : ℕ) (a : Arrival) (xs : List Arrival) → a.packet.id.port ≡ port → filter (is_of port) (a ∷ xs) ≡ a ∷ filter (is_of port) xs
 keep_head port a xs same = ap (λ (b : Bool). cond b (a ∷ filter (is_of port) xs) (filter (is_of port) xs)) (eq-eqb a.packet.id.port port same)

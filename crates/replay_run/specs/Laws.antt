@@ -1,6 +1,7 @@
 -- What a run leaves is what a replay takes for right.
-use Rattle.std.specs.Prelude.{◌≡◌, ◌≢◌, ◌%◌, ◌<◌, ◌≤◌, ℕ, Bool, List, [], ◌∷◌, length, map, Option, Some, Ok}
+use Rattle.std.specs.Prelude.{◌≡◌, ◌≢◌, ◌<◌, ◌≤◌, ℕ, Bool, List, [], ◌∷◌, length, map, Option, Some, Ok}
 use Rattle.std.specs.List.{AllByRecursion}
+use Rattle.capture_format.specs.declared.format.CaptureFormat.{CaptureFormat}
 use Rattle.nf_base.specs.declared.card.Card.{Card}
 use Rattle.nf_base.specs.declared.keys.Keys.{Keys}
 use Rattle.nf_base.specs.declared.done.Done.{Done}
@@ -13,16 +14,14 @@ use Rattle.packet_feed.specs.Ports.{AreFirstOfPorts}
 use Rattle.run_history.specs.Headings.{Heading, IsHeading}
 use Rattle.run_history.specs.Lines.{IsLine}
 use Rattle.run_history.specs.declared.line.JournalLine.TheVariants.{Header}
-use Rattle.run_history.specs.declared.line.Mode.TheVariants.{One, Shard, Lock}
 use Rattle.journal_read.specs.Journals.{lines_bytes, Reading, Stands, HasNoHeader}
-use Rattle.sharded_run.specs.Sharded.{IsShardRun}
-use Rattle.sharded_run.specs.Going.{AreSharded}
-use Rattle.stream_run.specs.Runs.{Run, Turn, Handled, course_of, handled_in, run_of}
+use Rattle.stream_run.specs.Orders.{AreFirstBy}
+use Rattle.stream_run.specs.Rules.{Rule, IsRunBy, IsFrontOf, AreBy}
+use Rattle.stream_run.specs.Runs.{Run, Handled, course_of, handled_in, run_of}
 use Rattle.stream_run.specs.Streaming.{arrival_of, AreFirst}
 use Rattle.stream_run.specs.declared.stop.Stop.{Stop}
 use Rattle.stream_run.specs.Texts.{file_bytes}
-use Rattle.stream_run.specs.Lawful as lawful
-use Rattle.replay_run.specs.Replaying.{RunKind, Beside, IsOneRun, AreShared, IsRun, AreFirstIn, line_in, journal_lines, sent}
+use Rattle.replay_run.specs.Replaying.{RunKind, Beside, IsRun, AreFirstIn, line_in, journal_lines, sent}
 use Rattle.replay_run.specs.Queues.{keys_or_none, IsKeyedBy}
 use Rattle.replay_run.specs.Heads.{Comes}
 use Rattle.replay_run.specs.declared.replayed.Replayed.{Replayed}
@@ -36,8 +35,8 @@ heading_of r = record { mode = r.mode; workers = r.workers; card = r.card }
 -- one, and its outputs are what they send.
 pub record IsRightRun (Kind : RunKind) (r : Run) (state : State) : Type 0 where
   pub is_run : Kind (handled_in r) state
-  pub journal : file_bytes r (length r.function.handlers) ≡ lines_bytes (journal_lines (heading_of r) (handled_in r))
-  pub outputs : (port : ℕ) → file_bytes r port ≡ sent (heading_of r) (length r.function.handlers) (handled_in r) port
+  pub journal : (format : CaptureFormat) → file_bytes format r (length r.function.handlers) ≡ lines_bytes (journal_lines (heading_of r) (handled_in r))
+  pub outputs : (format : CaptureFormat) (port : ℕ) → file_bytes format r port ≡ sent format (heading_of r) (length r.function.handlers) (handled_in r) port
 
 -- All is told. These packets are ones that a journal may begin with, and such a run; their lines are the
 -- journal's, and what they send is what the outputs hold.
@@ -51,7 +50,7 @@ pub record IsThere (Kind : RunKind) (keys : Option Keys) (heading : Heading) (po
   pub keyed : IsKeyedBy heading.mode keys
   pub lines : AllByRecursion IsLine (map line_in hs)
   pub journal_is : beside.journal ≡ Some (lines_bytes (journal_lines heading hs))
-  pub outputs_are : (port : ℕ) → port < ports → beside.outputs port ≡ Some (sent heading ports hs port)
+  pub outputs_are : (port : ℕ) → port < ports → beside.outputs port ≡ Some (sent beside.format heading ports hs port)
 
 -- Where a run's journal and outputs are there, they are taken for right, and nothing else is said.
 abbrev pub RightIsAccepted : Type 0
@@ -67,45 +66,26 @@ abbrev pub FirstIsFound : Type 0
 FirstIsFound = (f : Function) (keys : Option Keys) (heading : Heading) (ports : ℕ) (beside : Beside) (hs : List Handled) (state : State) →
     IsThere (IsRun f (keys_or_none keys) heading) keys heading ports beside hs state → IsFirst heading beside.journal
 
--- so it is of each run of one worker
-abbrev pub OneRunsAreRight : Type 0
-OneRunsAreRight = (f : Function) (card : Card) (most : ℕ) (all : Option (List Arrival)) (r : Run) (state : State) (answers : List Done) →
-    lawful.IsOneRun f card most all r → course_of r ≡ Some (record { state = state; answers = answers }) → IsRightRun (IsOneRun f) r state
+-- so it is of each run by a rule
+abbrev pub RunsAreRight : Type 0
+RunsAreRight = (rule : Rule) (f : Function) (card : Card) (given : List Arrival) (r : Run) (state : State) (answers : List Done) →
+    IsRunBy rule f card given r → course_of r ≡ Some (record { state = state; answers = answers }) → IsRightRun (AreBy rule f) r state
 
--- and of each run of workers with shares
-abbrev pub ShardRunsAreRight : Type 0
-ShardRunsAreRight = (f : Function) (keys : Keys) (workers : ℕ) (card : Card) (r : Run) (state : State) (answers : List Done) →
-    IsShardRun f keys workers card r → course_of r ≡ Some (record { state = state; answers = answers }) → IsRightRun (AreSharded f keys workers) r state
+-- and of each that ends early: a journal by its rule may begin with its packets
+abbrev pub FrontsAreRight : Type 0
+FrontsAreRight = (rule : Rule) (f : Function) (card : Card) (all : Option (List Arrival)) (r : Run) (state : State) (answers : List Done) →
+    IsFrontOf rule f card all r → course_of r ≡ Some (record { state = state; answers = answers }) →
+    IsRightRun (AreBy rule f) r state × AreFirstBy rule.order all (map arrival_of (handled_in r))
 
--- In mode `lock` workers that share the tables handle a run's packets, each those of its ports.
-pub record IsByPorts (f : Function) (workers : ℕ) (card : Card) (r : Run) : Type 0 where
-  pub function : r.function ≡ f
-  pub mode : r.mode ≡ Lock
-  pub workers_are : r.workers ≡ workers
-  pub card_is : r.card ≡ card
-  pub own : AllByRecursion (λ (t : Turn). t.worker ≡ t.arrival.packet.id.port % workers) r.turns
+-- The other way: what is taken for a run by a rule is one that ends early.
+abbrev pub TakenAreFronts : Type 0
+TakenAreFronts = (rule : Rule) (f : Function) (card : Card) (all : Option (List Arrival)) (hs : List Handled) (state : State) → AreBy rule f hs state →
+    AreFirstBy rule.order all (map arrival_of hs) → IsFrontOf rule f card all (run_of f rule.mode rule.workers card hs)
 
--- and of each run of such workers
-abbrev pub LockRunsAreRight : Type 0
-LockRunsAreRight = (f : Function) (workers : ℕ) (card : Card) (r : Run) (state : State) (answers : List Done) →
-    IsByPorts f workers card r → course_of r ≡ Some (record { state = state; answers = answers }) → IsRightRun (AreShared f workers) r state
-
--- The other way: what is taken for a run of one worker is one, with these packets ..
-abbrev pub TakenAreOneRuns : Type 0
-TakenAreOneRuns = (f : Function) (card : Card) (most : ℕ) (all : Option (List Arrival)) (hs : List Handled) (state : State) →
-    IsOneRun f hs state → length hs ≤ most → lawful.AreTheFirst most all (map arrival_of hs) →
-    lawful.IsOneRun f card most all (run_of f One 1 card hs) × (handled_in (run_of f One 1 card hs) ≡ hs)
-
--- .. so is what is taken for a run of workers that share the tables ..
-abbrev pub TakenAreLockRuns : Type 0
-TakenAreLockRuns = (f : Function) (workers : ℕ) (card : Card) (hs : List Handled) (state : State) → AreShared f workers hs state →
-    IsByPorts f workers card (run_of f Lock workers card hs) × (handled_in (run_of f Lock workers card hs) ≡ hs)
-
--- .. and what is taken for a run of workers with shares
-abbrev pub TakenAreShardRuns : Type 0
-TakenAreShardRuns = (f : Function) (keys : Keys) (workers : ℕ) (card : Card) (hs : List Handled) (state : State) →
-    AreSharded f keys workers hs state →
-    IsShardRun f keys workers card (run_of f Shard workers card hs) × (handled_in (run_of f Shard workers card hs) ≡ hs)
+-- So is a run of the first packets of captures in capture order, by any rule.
+abbrev pub RunsAreFronts : Type 0
+RunsAreFronts = (rule : Rule) (f : Function) (card : Card) (six : List Bool) (files : List ℕ) (told : Told) (all given : List Arrival) (r : Run) →
+    packets_of six files told ≡ Some all → AreFirst (Some all) given → IsRunBy rule f card given r → IsFrontOf rule f card (Some all) r
 
 -- ---- the packets that a journal may begin with
 

@@ -6,7 +6,7 @@ use Rattle.nf_base.specs.Cards.{usual_card}
 use Rattle.nf_base.specs.declared.packet.Packet.{Packet}
 use Rattle.run_history.specs.declared.line.Mode.{Mode}
 use Rattle.run_history.specs.declared.line.Mode.TheVariants.{One, Shard, Lock}
-use Rattle.sharded_run.specs.Setups.{queue_by}
+use Rattle.stream_run.specs.Rules.{queue_by}
 
 -- keys that are lent
 abbrev pub lent : Option (Bor Keys) → Option Keys

@@ -1,14 +1,13 @@
 -- A journal that is read beside captures and outputs: the packets that its lines are of.
-use Rattle.std.specs.Prelude.{◌≡◌, ◌≢◌, ℕ, ◌+◌, ◌%◌, ◌<◌, ◌≤◌, List, [], ◌∷◌, ◌++◌, length, map, Option, Some, None, Result, Ok, Err}
+use Rattle.std.specs.Prelude.{◌≡◌, ◌≢◌, ℕ, ◌+◌, ◌<◌, ◌≤◌, List, [], ◌∷◌, ◌++◌, length, map, Option, Some, None, Result, Ok, Err}
 use Rattle.std.specs.List.{AllByRecursion}
+use Rattle.capture_format.specs.declared.format.CaptureFormat.{CaptureFormat}
 use Rattle.nf_base.specs.Text.{Function}
 use Rattle.nf_base.specs.declared.state.State.{State}
 use Rattle.nf_files.specs.Told.{IsToldAs}
 use Rattle.packet_feed.specs.Arrivals.{Arrival}
-use Rattle.packet_feed.specs.Ports.{AreFirstOfPorts}
 use Rattle.run_history.specs.Headings.{Heading}
 use Rattle.run_history.specs.declared.line.Mode.{Mode}
-use Rattle.run_history.specs.declared.line.Mode.TheVariants.{One, Shard, Lock}
 use Rattle.run_history.specs.declared.line.JournalLine.{JournalLine}
 use Rattle.run_history.specs.declared.line.JournalLine.TheVariants.{Header, Packet}
 use Rattle.run_history.specs.Line.{line_bytes}
@@ -16,10 +15,11 @@ use Rattle.run_history.specs.Lines.{IsLine}
 use Rattle.file_match.specs.Comparing.{IsOtherIfTold}
 use Rattle.journal_read.specs.Journals.{lines_bytes, AreAllLines, AreMoreLines}
 use Rattle.nf_base.specs.declared.keys.Keys.{Keys}
-use Rattle.sharded_run.specs.Going.{AreSharded}
 use Rattle.stream_run.specs.Runs.{Handled}
+use Rattle.stream_run.specs.Orders.{AreFirstBy}
+use Rattle.stream_run.specs.Rules.{rule_in, order_in, AreBy}
 use Rattle.stream_run.specs.Texts.{bytes_of}
-use Rattle.stream_run.specs.Streaming.{arrival_of, IsUndivided, AreFirst}
+use Rattle.stream_run.specs.Streaming.{arrival_of}
 use Rattle.replay_run.specs.Outputs.{AreTold, IsLeastOther}
 use Rattle.replay_run.specs.declared.replayed.Replayed.{Replayed}
 use Rattle.replay_run.specs.declared.replayed.Replayed.TheVariants.{Same, TooMany, Line, Output}
@@ -36,34 +36,15 @@ journal_lines heading hs = Header heading ∷ map line_in hs
 abbrev pub RunKind : Type 1
 RunKind = List Handled → State → Type 0
 
--- Worker 0 handles these packets, from the function's opening state, and this state is left.
-pub record IsOneRun (f : Function) (hs : List Handled) (state : State) : Type 0 where
-  pub undivided : IsUndivided f hs state
-  pub alone : AllByRecursion (λ (h : Handled). h.worker ≡ 0) hs
-
--- Workers that share the tables handle these packets, each the one of its port.
-pub record AreShared (f : Function) (workers : ℕ) (hs : List Handled) (state : State) : Type 0 where
-  pub undivided : IsUndivided f hs state
-  pub own : AllByRecursion (λ (h : Handled). h.worker ≡ h.arrival.packet.id.port % workers) hs
-
--- The runs that a journal may be of, by what its first line tells: in mode `one` worker 0 handles all
--- packets; in mode `shard` each is handled by the worker of its queue under keys, within that queue's
--- share; in mode `lock` by the worker of its port.
-abbrev pub IsRunBy : Mode → ℕ → Function → Keys → List Handled → State → Type 0
-IsRunBy One workers f keys hs state = IsOneRun f hs state
-IsRunBy Shard workers f keys hs state = AreSharded f keys workers hs state
-IsRunBy Lock workers f keys hs state = AreShared f workers hs state
-
+-- The runs that a journal may be of: those by the rule that its first line tells.
 abbrev pub IsRun : Function → Keys → Heading → List Handled → State → Type 0
-IsRun f keys heading hs state = IsRunBy heading.mode heading.workers f keys hs state
+IsRun f keys heading hs state = AreBy (rule_in heading.mode heading.workers keys) f hs state
 
 -- Which packets a journal may begin with, of all that captures hold: the first ones in capture order; in
 -- mode `lock`, whose journals are in the order in which workers came to their packets, the first ones of
 -- each port.
 abbrev pub AreFirstIn : Mode → Option (List Arrival) → List Arrival → Type 0
-AreFirstIn One all given = AreFirst all given
-AreFirstIn Shard all given = AreFirst all given
-AreFirstIn Lock all given = AreFirstOfPorts all given
+AreFirstIn mode all given = AreFirstBy (order_in mode) all given
 
 -- With one packet more these are not the packets that a run begins with, where all are told: the packet
 -- that would come next has no such line.
@@ -89,11 +70,13 @@ IsWrong Run heading packets hs None = Unit {0}
 IsWrong Run heading packets hs (Some all) = IsWrongBehind Run heading packets hs all
 
 -- What a journal is read beside, where it is told: the packets of the captures, the journal's own bytes,
--- and the bytes of the outputs by port; and how many lines of packets are judged at most.
+-- and the bytes of the outputs by port; the format in which outputs are to be, and how many lines of
+-- packets are judged at most.
 pub record Beside : Type 0 where
   pub packets : Option (List Arrival)
   pub journal : Option (List ℕ)
   pub outputs : ℕ → Option (List ℕ)
+  pub format : CaptureFormat
   pub most : ℕ
 
 -- Lines are right: those of a run of the packets that a journal may begin with, and each is one that a
@@ -104,9 +87,9 @@ pub record IsRight (Run : RunKind) (heading : Heading) (beside : Beside) (hs : L
   pub first : AreFirstIn heading.mode beside.packets (map arrival_of hs)
   pub lines : AllByRecursion IsLine (map line_in hs)
 
--- what outputs hold, by port
-abbrev pub sent : Heading → ℕ → List Handled → ℕ → List ℕ
-sent heading ports hs port = bytes_of heading.mode heading.workers heading.card ports port hs
+-- what outputs of a format hold, by port
+abbrev pub sent : CaptureFormat → Heading → ℕ → List Handled → ℕ → List ℕ
+sent format heading ports hs port = bytes_of heading.mode heading.workers heading.card format ports port hs
 
 -- the outputs of these ports hold these bytes, where they are told
 abbrev pub AreSent : (ℕ → List ℕ) → (ℕ → Option (List ℕ)) → ℕ → Type 0
@@ -127,14 +110,14 @@ pub record IsJournal (Run : RunKind) (heading : Heading) (beside : Beside) (hs :
 pub record IsSame (Run : RunKind) (heading : Heading) (ports : ℕ) (beside : Beside) (state : State) : Type 0 where
   pub hs : List Handled
   pub journal_is : IsJournal Run heading beside hs state
-  pub outputs_are : AreSent (sent heading ports hs) beside.outputs ports
+  pub outputs_are : AreSent (sent beside.format heading ports hs) beside.outputs ports
 
 -- and the output of a port isn't
 pub record IsOther (Run : RunKind) (heading : Heading) (ports : ℕ) (beside : Beside) (port : ℕ) : Type 0 where
   pub hs : List Handled
   pub state : State
   pub journal_is : IsJournal Run heading beside hs state
-  pub other : IsLeastUnsent (sent heading ports hs) beside.outputs ports port
+  pub other : IsLeastUnsent (sent beside.format heading ports hs) beside.outputs ports port
 
 -- As many lines as were asked for are right, and there is more.
 pub record IsTooMany (Run : RunKind) (heading : Heading) (beside : Beside) : Type 0 where

@@ -1,6 +1,7 @@
 -- One line more of a journal, and its packet.
 use Rattle.std.specs.Prelude.{◌≡◌, ◌≢◌, ℕ, ◌+◌, ◌≤◌, Bool, true, false, List, [], ◌∷◌, ◌++◌, length, map, slice_get, option_and_then, Option, Some, None, Result, Ok, Err}
 use Rattle.std.specs.List.{All, AllByRecursion}
+use Rattle.capture_format.specs.declared.format.CaptureFormat.{CaptureFormat}
 use Rattle.nf_base.specs.declared.card.Card.{Card}
 use Rattle.nf_base.specs.declared.packet.Packet.{Packet}
 use Rattle.nf_base.specs.declared.done.Done.{Done}
@@ -77,13 +78,13 @@ CountsOne old new (Ok None) = Unit {0}
 CountsOne old new (Err e) = Unit {0}
 
 -- what a packet left was compared with the outputs
-abbrev pub Compares : Handled → List Comparing → List Comparing → Told → Told → Type 0
-Compares h held found old now =
+abbrev pub Compares : CaptureFormat → Handled → List Comparing → List Comparing → Told → Told → Type 0
+Compares format h held found old now =
     (start : ℕ → Option (List ℕ)) (mode : Mode) (workers : ℕ) (card : Card) (ports : ℕ) (hs : List Handled) → length held ≤ ports →
-    AreFound (λ k. bytes_of mode workers card ports k hs) start held old → AreFound (λ k. bytes_of mode workers card ports k (hs ++ h ∷ [])) start found now
+    AreFound (λ k. bytes_of mode workers card format ports k hs) start held old → AreFound (λ k. bytes_of mode workers card format ports k (hs ++ h ∷ [])) start found now
 
 -- A line's packet was handled: it came next, the run goes on with it, and what it left was compared.
-pub record IsTurn (Run : RunKind) (mode : Mode) (line : JournalLine) (before after : State) (feed next : Feeding) (old now : Told) (held found : List Comparing) : Type 0 where
+pub record IsTurn (Run : RunKind) (mode : Mode) (format : CaptureFormat) (line : JournalLine) (before after : State) (feed next : Feeding) (old now : Told) (held found : List Comparing) : Type 0 where
   pub packet : Packet
   pub original : ℕ
   pub frame : List ℕ
@@ -92,14 +93,14 @@ pub record IsTurn (Run : RunKind) (mode : Mode) (line : JournalLine) (before aft
   pub is_line : line_in (came_to worker packet original frame done) ≡ line
   pub runs : (hs : List Handled) → Run hs before → Run (hs ++ came_to worker packet original frame done ∷ []) after
   pub feeds : (start : Told) (given : List Arrival) → StandsIn mode start given feed old → StandsIn mode start (given ++ arrival_of (came_to worker packet original frame done) ∷ []) next now
-  pub compares : Compares (came_to worker packet original frame done) held found old now
+  pub compares : Compares format (came_to worker packet original frame done) held found old now
 
 -- a line's packet was handled, or the packet that comes next has no such line
-abbrev pub Turns : {E : Type 0} → RunKind → Mode → JournalLine → State → State → Feeding → Feeding → Told → Told → List Comparing → List Comparing → Result Bool E → Type 0
-Turns Run mode line before after feed next old now held found (Ok true) = IsTurn Run mode line before after feed next old now held found
-Turns Run mode line before after feed next old now held found (Ok false) =
+abbrev pub Turns : {E : Type 0} → RunKind → Mode → CaptureFormat → JournalLine → State → State → Feeding → Feeding → Told → Told → List Comparing → List Comparing → Result Bool E → Type 0
+Turns Run mode format line before after feed next old now held found (Ok true) = IsTurn Run mode format line before after feed next old now held found
+Turns Run mode format line before after feed next old now held found (Ok false) =
     (start : Told) (hs : List Handled) → Run hs before → StandsIn mode start (map arrival_of hs) feed old → NoneGoesOn Run mode (packets_at feed start) hs (λ l. l ≡ line)
-Turns Run mode line before after feed next old now held found (Err e) = Unit {0}
+Turns Run mode format line before after feed next old now held found (Err e) = Unit {0}
 
 -- one packet more was given where a line's packet was handled
 abbrev pub Counts : {E : Type 0} → Feeding → Feeding → Result Bool E → Type 0
@@ -117,25 +118,25 @@ abbrev pub rest_at : Told → List ℕ → ℕ → Option (List ℕ)
 rest_at now files k = option_and_then (λ file. now.rest file) (slice_get files k)
 
 -- what a journal is read beside
-abbrev pub beside_of : Feeding → Told → Option (List ℕ) → List ℕ → Told → ℕ → Beside
-beside_of feed start bytes outputs now most = record { packets = packets_at feed start; journal = bytes; outputs = rest_at now outputs; most = most }
+abbrev pub beside_of : CaptureFormat → Feeding → Told → Option (List ℕ) → List ℕ → Told → ℕ → Beside
+beside_of format feed start bytes outputs now most = record { packets = packets_at feed start; journal = bytes; outputs = rest_at now outputs; format = format; most = most }
 
 -- The lines so far are those of these packets, which were compared with the outputs.
-pub record Reaches (Run : RunKind) (heading : Heading) (ports : ℕ) (start : Told) (bytes : Option (List ℕ)) (rest : ℕ → Option (List ℕ))
+pub record Reaches (Run : RunKind) (heading : Heading) (format : CaptureFormat) (ports : ℕ) (start : Told) (bytes : Option (List ℕ)) (rest : ℕ → Option (List ℕ))
     (feed : Feeding) (journal : Reading) (file : ℕ) (now : Told) (found : List Comparing) (state : State) : Type 0 where
   pub hs : List Handled
   pub run : Run hs state
   pub captures : StandsIn heading.mode start (map arrival_of hs) feed now
   pub lines : Stands bytes (journal_lines heading hs) journal (now.rest file)
   pub are_lines : AllByRecursion IsLine (map line_in hs)
-  pub compared : AreFound (sent heading ports hs) rest found now
+  pub compared : AreFound (sent format heading ports hs) rest found now
   pub count : length hs ≡ feed.given
 
 -- How reading all lines ended: with the last one, with too many, or with one that is wrong.
 pub record IsOver (Run : RunKind) (heading : Heading) (ports : ℕ) (beside : Beside) (rest : ℕ → Option (List ℕ)) (now : Told) (found : List Comparing) (state : State) : Type 0 where
   pub hs : List Handled
   pub journal_is : IsJournal Run heading beside hs state
-  pub compared : AreFound (sent heading ports hs) rest found now
+  pub compared : AreFound (sent beside.format heading ports hs) rest found now
 
 abbrev pub Reads : {E : Type 0} → RunKind → Heading → ℕ → Beside → (ℕ → Option (List ℕ)) → Told → List Comparing → State → Result End E → Type 0
 Reads Run heading ports beside rest now found state (Ok end.Over) = IsOver Run heading ports beside rest now found state

@@ -1,21 +1,20 @@
 //! Laws of replays.
 //!
 //! Each function's contract is a law; its body does nothing.
-ghost use Rattle.replay_run.specs.Laws.{OneRunsAreRight, ShardRunsAreRight, LockRunsAreRight, RightIsAccepted, FirstIsFound, TakenAreOneRuns, TakenAreShardRuns, TakenAreLockRuns, FirstAreOfPorts, OthersMayBeFirst, NoneIsPassedOver};
+ghost use Rattle.replay_run.specs.Laws.{RunsAreRight, FrontsAreRight, TakenAreFronts, RunsAreFronts, RightIsAccepted, FirstIsFound, FirstAreOfPorts, OthersMayBeFirst, NoneIsPassedOver};
 
-/// What a run leaves is right: its packets are a run that a replay takes, and its journal and outputs
-/// hold what a replay asks for.
+/// What a run by any rule leaves is right, also where it ends early: its packets are a run that a replay
+/// takes, and its journal and outputs hold what a replay asks for.
 pub fn runs_are_right()
-    ensures one { OneRunsAreRight }
-    ensures shard { ShardRunsAreRight }
-    ensures lock { LockRunsAreRight }
+    ensures runs { RunsAreRight }
+    ensures fronts { FrontsAreRight }
 {}
 
-/// What a replay takes for a run is one, as those that run packets call it.
-pub fn taken_are_runs()
-    ensures one { TakenAreOneRuns }
-    ensures shard { TakenAreShardRuns }
-    ensures lock { TakenAreLockRuns }
+/// What a replay takes for a run by a rule is one that ends early; and each run of the first packets of
+/// captures in capture order is.
+pub fn taken_are_fronts()
+    ensures taken { TakenAreFronts }
+    ensures runs { RunsAreFronts }
 {}
 
 /// Where all files are told, and a run's journal and outputs are there, a replay takes them for right

@@ -19,6 +19,7 @@ ghost use Rattle.replay_run.specs.Turns.{AreClear, Begins, Reads, IsEnd, IsNotWr
 
 use crate::outputs::compare_headers;
 use crate::turn::one_turn;
+use capture_format::CaptureFormat;
 use file_match::Compared;
 use journal_check::Judge;
 use journal_read::{Journal, Next};
@@ -86,7 +87,7 @@ fn end_of<F: Files>(alloc: Global, files: &mut F, journal: &mut Journal) -> Resu
 }
 
 /// Reads the lines behind the first, judges each beside the packet that comes next, and compares what
-/// packets leave with the outputs, of which nothing was read yet.
+/// packets leave with the outputs, of which nothing was read yet and which are to be of this format.
 pub(crate) fn read_lines<F: Files>(
     alloc: Global,
     files: &mut F,
@@ -99,6 +100,7 @@ pub(crate) fn read_lines<F: Files>(
     most: u32,
     captures: &[u32],
     journal: &mut Journal,
+    format: CaptureFormat,
     outputs: &mut Seq<Compared>,
 ) -> Result<End, Stop>
     requires of_func { judge.old.tables.decls ≡ func.now.chains }
@@ -131,7 +133,7 @@ pub(crate) fn read_lines<F: Files>(
         (start : Told) → (bytes : Option (List ℕ)) →
         Begins heading feed.old journal.old start bytes (F.told files.old) →
         Reads (IsRun (function_of func.now) (keys_in keys.entry) heading) heading ports
-        (beside_of feed.old start bytes (files_of outputs.old) (F.told files.old) most)
+        (beside_of format feed.old start bytes (files_of outputs.old) (F.told files.old) most)
         (F.told files.old).rest (F.told files.new) outputs.new judge.new.tables.state result }
     ensures same_outputs { files_of outputs.new ≡ files_of outputs.old }
     ensures kept { let all = captures.now ++ journal.old.file ∷ files_of outputs.old in
@@ -142,7 +144,7 @@ pub(crate) fn read_lines<F: Files>(
     ensures reads { (g : ℕ) → F.is_read files.old g → F.is_read files.new g }
     ensures writes { (g : ℕ) → F.is_written files.old g → F.is_written files.new g }
 {
-    let mut buffer = match compare_headers(alloc, files, outputs) {
+    let mut buffer = match compare_headers(alloc, files, format, outputs) {
         Ok(buffer) => buffer,
         Err(stop) => return Err(stop),
     };
@@ -168,6 +170,7 @@ pub(crate) fn read_lines<F: Files>(
             captures,
             outputs,
             &mut buffer,
+            format,
             &line,
         ) {
             Ok(true) => {}

@@ -11,12 +11,12 @@ ghost use Rattle.stream_run.specs.Texts.{sent_bytes, bytes_of};
 ghost use Rattle.stream_run.specs.Writing.{came_to, IsStopCause, StopsAt, StopsAmong};
 ghost use Rattle.replay_run.specs.Outputs.{files_of, AreFound, IsFirstOther};
 
+use capture_format::{CaptureFormat, push_head};
 use file_match::Compared;
 use nf_base::done::Done;
 use nf_base::packet::Packet;
 use nf_base::seq::Seq;
 use nf_files::Files;
-use pcap_file::push_header;
 use std::alloc::{AllocError, Global};
 use stream_run::{HandledPacket, Stop, push_sent};
 
@@ -59,6 +59,7 @@ fn compare_sent<F: Files>(
     files: &mut F,
     compared: &mut Compared,
     buffer: &mut Vec<u8>,
+    format: CaptureFormat,
     port: u32,
     packet: &Packet,
     original: u32,
@@ -69,7 +70,7 @@ fn compare_sent<F: Files>(
     requires time { packet.now.time ≤ greatest_time }
     requires captured { length frame.now ≤ 262144 }
     ensures compares { let file = compared.old.file in
-        let more = sent_bytes port (came_to 0 packet.now original frame.now done.now) in
+        let more = sent_bytes format port (came_to 0 packet.now original frame.now done.now) in
         (start : Option (List ℕ)) → (before : List ℕ) →
         Found compared.old before start ((F.told files.old).rest file) → OnOk result
         (Found compared.new (before ++ more) start ((F.told files.new).rest file)) }
@@ -88,7 +89,7 @@ fn compare_sent<F: Files>(
         frame,
         done,
     };
-    match push_sent(buffer, port, &handled) {
+    match push_sent(buffer, format, port, &handled) {
         Ok(()) => compare_next(files, compared, buffer.as_slice()),
         Err(_) => Err(Stop::Memory),
     }
@@ -117,17 +118,19 @@ fn compare_heads<F: Files>(files: &mut F, all: &mut Seq<Compared>, head: &[u8]) 
     Ok(())
 }
 
-/// Compares the headers of all outputs, and gives a buffer for what follows them.
+/// Compares the headers of all outputs, which are of this format, and gives a buffer for what follows
+/// them.
 pub(crate) fn compare_headers<F: Files>(
     alloc: Global,
     files: &mut F,
+    format: CaptureFormat,
     all: &mut Seq<Compared>,
 ) -> Result<Vec<u8>, Stop>
     requires opened { EachFile (F.is_read files.old) (files_of all.old) }
     requires apart { IsApart (files_of all.old) }
     requires fresh { (k : ℕ) → (c : Comparing) → slice_get all.old k ≡ Some c → c.same ≡ true }
     ensures compares { (mode : Mode) → (workers : ℕ) → (card : Card) → OnOk result
-        (AreFound (λ k. bytes_of mode workers card (length all.old) k [])
+        (AreFound (λ k. bytes_of mode workers card format (length all.old) k [])
         (F.told files.old).rest all.new (F.told files.new)) }
     ensures same_files { files_of all.new ≡ files_of all.old }
     ensures kept { KeepsOthers (files_of all.old) (F.told files.old) (F.told files.new) }
@@ -137,7 +140,7 @@ pub(crate) fn compare_headers<F: Files>(
     ensures writes { (g : ℕ) → F.is_written files.old g → F.is_written files.new g }
 {
     let mut buffer = Vec::new(alloc);
-    match push_header(&mut buffer) {
+    match push_head(&mut buffer, format) {
         Ok(()) => {}
         Err(_) => return Err(Stop::Memory),
     }
@@ -152,6 +155,7 @@ pub(crate) fn compare_all<F: Files>(
     files: &mut F,
     all: &mut Seq<Compared>,
     buffer: &mut Vec<u8>,
+    format: CaptureFormat,
     packet: &Packet,
     original: u32,
     frame: &[u8],
@@ -166,8 +170,8 @@ pub(crate) fn compare_all<F: Files>(
     ensures compares { (worker : ℕ) → let h = came_to worker packet.now original frame.now done.now in
         (start : ℕ → Option (List ℕ)) → (mode : Mode) → (workers : ℕ) → (card : Card) →
         (ports : ℕ) → (hs : List Handled) → length all.old ≤ ports →
-        AreFound (λ k. bytes_of mode workers card ports k hs) start all.old (F.told files.old) →
-        OnOk result (AreFound (λ k. bytes_of mode workers card ports k (hs ++ h ∷ []))
+        AreFound (λ k. bytes_of mode workers card format ports k hs) start all.old (F.told files.old) →
+        OnOk result (AreFound (λ k. bytes_of mode workers card format ports k (hs ++ h ∷ []))
         start all.new (F.told files.new)) }
     ensures same_files { files_of all.new ≡ files_of all.old }
     ensures kept { KeepsOthers (files_of all.old) (F.told files.old) (F.told files.new) }
@@ -178,7 +182,9 @@ pub(crate) fn compare_all<F: Files>(
 {
     for k in 0..all.len() {
         let one = all.item_mut(k);
-        match compare_sent(files, one, buffer, k as u32, packet, original, frame, done) {
+        match compare_sent(
+            files, one, buffer, format, k as u32, packet, original, frame, done,
+        ) {
             Ok(()) => {}
             Err(stop) => return Err(stop),
         }

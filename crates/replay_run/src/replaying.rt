@@ -19,6 +19,7 @@ use crate::begun::Begun;
 use crate::lines::{End, read_lines};
 use crate::outputs::{begin, first_other};
 use crate::replayed::Replayed;
+use capture_format::CaptureFormat;
 use file_match::Compared;
 use journal_check::Judge;
 use journal_read::Journal;
@@ -83,6 +84,7 @@ fn replay_with<F: Files>(
     captures: &[u32],
     journal: &mut Journal,
     header: Header,
+    format: CaptureFormat,
     outputs: &[u32],
 ) -> Result<Replayed, Stop>
     requires keyed { IsKeyed header.mode keys }
@@ -103,7 +105,7 @@ fn replay_with<F: Files>(
         Begins header feed.old journal.old start bytes (F.told files.old) →
         Replays (IsRun (function_of func.now) (keys_in keys.entry) header)
         header (length captures.now)
-        (beside_of feed.old start bytes outputs.now (F.told files.old) most) result }
+        (beside_of format feed.old start bytes outputs.now (F.told files.old) most) result }
     ensures kept { let all = captures.now ++ journal.old.file ∷ outputs.now in
         KeepsOthers all (F.told files.old) (F.told files.new) }
     ensures cause { IsStopCause (F.counted files.old) (F.counted files.new) result }
@@ -134,6 +136,7 @@ fn replay_with<F: Files>(
         most,
         captures,
         journal,
+        format,
         &mut compared,
     ) {
         Ok(end) => end,
@@ -197,10 +200,11 @@ pub fn first_line<F: Files>(
 /// their order, each handled by the worker whose number is its port modulo theirs.
 ///
 /// The keys are for the card that the first line tells. The captures are those of the feed, which gave no
-/// packet yet, and `most` is how many it gives at most. The outputs are in the order of their ports;
-/// nothing was read of them yet, and of the journal the first line alone. The journal may end early. Of as
-/// many lines of packets as `most` each is judged; what stands behind them is not. Of no file more is held
-/// than what was read at once and a record. The feed and the files are not to be used on.
+/// packet yet, and `most` is how many it gives at most. The outputs are in the order of their ports, and
+/// are to be captures of this format; nothing was read of them yet, and of the journal the first line
+/// alone. The journal may end early. Of as many lines of packets as `most` each is judged; what stands
+/// behind them is not. Of no file more is held than what was read at once and a record. The feed and the
+/// files are not to be used on.
 pub fn replay<F: Files>(
     alloc: Global,
     files: &mut F,
@@ -210,6 +214,7 @@ pub fn replay<F: Files>(
     most: u32,
     captures: &[u32],
     begun: Begun,
+    format: CaptureFormat,
     outputs: &[u32],
 ) -> Result<Replayed, Stop>
     requires keys { IfSome keys (λ k. length func.now.handlers ≤ length k.now.ports) }
@@ -231,7 +236,7 @@ pub fn replay<F: Files>(
     ensures comes { (start : Told) → (bytes : Option (List ℕ)) →
         Begins begun.header feed.old begun.lines start bytes (F.told files.old) →
         Comes (function_of func.now) (lent keys.entry) begun.header (length captures.now)
-        (beside_of feed.old start bytes outputs.now (F.told files.old) most) result }
+        (beside_of format feed.old start bytes outputs.now (F.told files.old) most) result }
     ensures kept { let all = captures.now ++ begun.lines.file ∷ outputs.now in
         KeepsOthers all (F.told files.old) (F.told files.new) }
     ensures cause { IsStopCause (F.counted files.old) (F.counted files.new) result }
@@ -246,6 +251,6 @@ pub fn replay<F: Files>(
     }
     let mut lines = lines;
     replay_with(
-        alloc, files, func, keys, feed, most, captures, &mut lines, header, outputs,
+        alloc, files, func, keys, feed, most, captures, &mut lines, header, format, outputs,
     )
 }

@@ -14,6 +14,7 @@ ghost use Rattle.replay_run.specs.Turns.{AreClear, Turns, Counts};
 
 use crate::outputs::compare_all;
 use crate::packets::packet_for;
+use capture_format::CaptureFormat;
 use file_match::Compared;
 use journal_check::Judge;
 use nf_base::func::Func;
@@ -52,6 +53,7 @@ pub(crate) fn one_turn<F: Files>(
     captures: &[u32],
     outputs: &mut Seq<Compared>,
     buffer: &mut Vec<u8>,
+    format: CaptureFormat,
     line: &JournalLine,
 ) -> Result<bool, Stop>
     requires of_func { judge.old.tables.decls ≡ func.now.chains }
@@ -71,7 +73,7 @@ pub(crate) fn one_turn<F: Files>(
     requires clear { AreClear captures.now (files_of outputs.old) }
     requires few { length outputs.old ≤ 2 ^ 32 }
     ensures turns { let heading = judge.old.heading in
-        Turns (IsRun (function_of func.now) (keys_in keys.entry) heading) heading.mode line.now
+        Turns (IsRun (function_of func.now) (keys_in keys.entry) heading) heading.mode format line.now
         judge.old.tables.state judge.new.tables.state feed.old feed.new
         (F.told files.old) (F.told files.new) outputs.old outputs.new result }
     ensures same { fixed_of judge.new.tables ≡ fixed_of judge.old.tables }
@@ -96,7 +98,7 @@ pub(crate) fn one_turn<F: Files>(
             match judge.judge(func, &packet, queue, line) {
                 None => Ok(false),
                 Some(done) => match compare_all(
-                    files, outputs, buffer, &packet, original, frame, &done,
+                    files, outputs, buffer, format, &packet, original, frame, &done,
                 ) {
                     Ok(()) => Ok(true),
                     Err(stop) => Err(stop),

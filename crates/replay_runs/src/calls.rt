@@ -6,6 +6,7 @@ ghost use Rattle.nf_base.specs.Functions.{function_of};
 ghost use Rattle.packet_feed.specs.Told.{EachFile, IsApart};
 ghost use Rattle.packet_feed.specs.Sources.{files_in, sixes_in};
 
+use capture_format::CaptureFormat;
 use nf_base::func::Func;
 use nf_base::keys::Keys;
 use nf_files::{Files, FilesFault};
@@ -89,6 +90,15 @@ pub fn check<F: Files>(
     requires few { length outputs.now ≤ 2 ^ 32 }
 {
     replay(
-        alloc, files, func, keys, feed, most, captures, begun, outputs,
+        alloc,
+        files,
+        func,
+        keys,
+        feed,
+        most,
+        captures,
+        begun,
+        CaptureFormat::Pcap,
+        outputs,
     )
 }

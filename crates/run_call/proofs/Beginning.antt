@@ -30,7 +30,8 @@ use Rattle.call_base.proofs.Reading.{IsUnfound, has_found, is_unfound, is_starve
 use Rattle.run_call.specs.declared.course.Course.{Course}
 use Rattle.run_call.specs.declared.course.Course.TheVariants as course
 use Rattle.run_call.specs.declared.job.Job.{Job}
-use Rattle.run_call.specs.Modes.{NeedsKeys, HasKeys, IsCourse, Serves, ShareTables}
+use Rattle.call_base.specs.Rules.{HasKeys, ShareTables}
+use Rattle.run_call.specs.Modes.{NeedsKeys, IsCourse, Serves}
 use Rattle.run_call.specs.Runs.{HasPorts}
 use Rattle.run_call.specs.Ending.{KnownAt, IsKnown, IsUnbegun, IsStopped, RunsTo}
 use Rattle.run_call.specs.Progress.{IsJob, asked, ports_of, reads_of}

@@ -95,23 +95,23 @@ half_printed before a b job mode packets state end lines stop is h all line half
 
 -- ---- a run that leaves one
 
-text_is : {Refused : Type 0} {before a : Outside} {job : Job} {mode : Mode} {packets : ℕ} {state : State} {end : End} → IsJob before.told job → (h : HasRun Refused before a job mode packets state end) → state_text (function_of job.func.now) state ≡ bytes_at h.run (ports_of job + 1)
+text_is : {Refused : Type 0} {before a : Outside} {job : Job} {mode : Mode} {packets : ℕ} {state : State} {end : End} → IsJob before.told job → (h : HasRun Refused before a job mode packets state end) → state_text (function_of job.func.now) state ≡ bytes_at (asked job).format h.run (ports_of job + 1)
 text_is {before = before} {job = job} {state = state} is h =
-    ap (λ (f : Function). state_text f state) (sym h.of_function) ∙ sym (last_bytes h.run (ports_of job) state h.answers (are_of before job h.run is h.is_run.has_ports).ports h.left)
+    ap (λ (f : Function). state_text f state) (sym h.of_function) ∙ sym (last_bytes (asked job).format h.run (ports_of job) state h.answers (are_of before job h.run is h.is_run.has_ports).ports h.left)
 
 -- the name that the code has
-name_is : (before : Outside) (job : Job) → IsJob before.told job → name_at (asked job).out (length job.func.now.handlers) (length job.func.now.handlers + 1) ≡ name_at (asked job).out (ports_of job) (ports_of job + 1)
-name_is before job is = ap (λ (n : ℕ). name_at (asked job).out n (n + 1)) (is.handlers ∙ is.ports)
+name_is : (before : Outside) (job : Job) → IsJob before.told job → name_at (asked job).format (asked job).out (length job.func.now.handlers) (length job.func.now.handlers + 1) ≡ name_at (asked job).format (asked job).out (ports_of job) (ports_of job + 1)
+name_is before job is = ap (λ (n : ℕ). name_at (asked job).format (asked job).out n (n + 1)) (is.handlers ∙ is.ports)
 
 pub run_finished : {Refused : Type 0} (before a b : Outside) (job : Job) (mode : Mode) (packets : ℕ) (state : State) (end : End) (lines : List ℕ) → IsJob before.told job → HasRun Refused before a job mode packets state end → left_by (ports_of job) end ≡ ports_of job + 2 → lines ≡ ran_line packets mode (asked job).workers
-    → (mid : Outside) → IsPut (name_at (asked job).out (length job.func.now.handlers) (length job.func.now.handlers + 1)) (state_text (function_of job.func.now) state) a mid → IsOut lines mid b → IsFinished Refused (asked job) before b end
+    → (mid : Outside) → IsPut (name_at (asked job).format (asked job).out (length job.func.now.handlers) (length job.func.now.handlers + 1)) (state_text (function_of job.func.now) state) a mid → IsOut lines mid b → IsFinished Refused (asked job) before b end
 run_finished before a b job mode packets state end lines is h all line mid put out =
     let text = state_text (function_of job.func.now) state in
     is_finished before a b job mode packets state end lines (ports_of job + 2) h all line
     (finished (leaves_of (asked job) before) before a mid b h.run text lines (are_of before job h.run is h.is_run.has_ports) h.made (text_is is h) (subst (λ (n : List ℕ). IsPut n text a mid) (name_is before job is) put) out)
 
 pub run_unfinished : {Refused : Type 0} (before a b : Outside) (job : Job) (mode : Mode) (packets : ℕ) (state : State) (end : End) (lines : List ℕ) (stop : NumberStop) → IsJob before.told job → HasRun Refused before a job mode packets state end → left_by (ports_of job) end ≡ ports_of job + 2 → lines ≡ ran_line packets mode (asked job).workers
-    → FinishesTo {T = Unit {0}} (name_at (asked job).out (length job.func.now.handlers) (length job.func.now.handlers + 1)) (state_text (function_of job.func.now) state) lines a b (Err stop) → IsStopped Refused (asked job) before b (stop_named (run_numbering before.told.next (ports_of job)) stop)
+    → FinishesTo {T = Unit {0}} (name_at (asked job).format (asked job).out (length job.func.now.handlers) (length job.func.now.handlers + 1)) (state_text (function_of job.func.now) state) lines a b (Err stop) → IsStopped Refused (asked job) before b (stop_named (run_numbering before.told.next (ports_of job)) stop)
 run_unfinished before a b job mode packets state end lines stop is h all line failed =
     let c = asked job in
     let text = state_text (function_of job.func.now) state in

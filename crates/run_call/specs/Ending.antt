@@ -31,7 +31,7 @@ use Rattle.packet_feed.specs.Arrivals.{Arrival}
 abbrev pub HasLeft : RunAsked → Outside → Outside → Run → (made full : ℕ) → Type 0
 HasLeft c before now run made full =
     let ports = length c.captures in
-    Left before.told now.told (before.told.next + 1 + ports) (name_at c.out ports) (bytes_at run) made full
+    Left before.told now.told (before.told.next + 1 + ports) (name_at c.format c.out ports) (bytes_at c.format run) made full
 
 -- A finished run: its journal lists every packet of every capture once, or the first so many, or those
 -- before the share stop, in capture order, or with each port's in that order where workers share the

@@ -1,7 +1,6 @@
 -- Who handles the packets of a run that a command asks for.
 use Rattle.std.specs.Prelude.{◌≡◌, ℕ, ◌<◌, ◌≤◌, Result, Ok, Err}
 use Rattle.nf_base.specs.Text.{Function}
-use Rattle.nf_base.specs.declared.keys.Keys.{Keys}
 use Rattle.nf_base.specs.declared.card.Card.{Card}
 use Rattle.command_words.specs.declared.command.ModeChoice.{ModeChoice}
 use Rattle.command_words.specs.declared.command.ModeChoice.TheVariants.{Auto, Shard, Lock}
@@ -15,6 +14,7 @@ use Rattle.run_call.specs.declared.course.Course.{Course}
 use Rattle.run_call.specs.declared.course.Course.TheVariants.{One, Shards, Tables}
 use Rattle.call_base.specs.declared.status.NoKeys.{NoKeys}
 use Rattle.call_base.specs.Named.{SaysCause}
+use Rattle.call_base.specs.Rules.{HasKeys, MayShard, ShareTables}
 use Rattle.call_base.specs.declared.status.Halt.{Halt}
 use Rattle.call_base.specs.declared.status.Halt.TheVariants as halts
 use Rattle.call_base.specs.declared.status.Refusal.{Refusal}
@@ -24,16 +24,6 @@ use Rattle.call_base.specs.declared.status.Stop.TheVariants as stops
 -- keys are needed where mode `shard` is asked for
 abbrev pub NeedsKeys : RunAsked → Type 0
 NeedsKeys c = c.mode ≡ Shard
-
--- a function has keys for a network card
-pub record HasKeys (f : Function) (card : Card) : Type 0 where
-  pub keys : Keys
-  pub given : AreGiven f card keys
-
--- a function has no keys for a network card
-pub record IsKeyless (f : Function) (card : Card) : Type 0 where
-  pub cause : Cause
-  pub locked : IsVerdict f card (Locked cause)
 
 -- A function has no keys for a network card, for this cause.
 pub record IsLocked (f : Function) (card : Card) (why : NoKeys) : Type 0 where
@@ -49,18 +39,6 @@ AsksIn Lock workers = ⊥
 
 abbrev pub Asks : RunAsked → Type 0
 Asks c = AsksIn c.mode c.workers
-
--- Several workers may share nothing: mode `shard` is asked for, or any.
-abbrev pub MayShard : ModeChoice → Type 0
-MayShard Auto = Unit {0}
-MayShard Shard = Unit {0}
-MayShard Lock = ⊥
-
--- Several workers share the tables: mode `lock` is asked for, or any, and the function has no keys.
-abbrev pub ShareTables : ModeChoice → Card → Function → Type 0
-ShareTables Auto card f = IsKeyless f card
-ShareTables Shard card f = ⊥
-ShareTables Lock card f = Unit {0}
 
 -- who handles the packets: one worker, or as many as are asked for, which share nothing, under the
 -- function's keys for the network card that is asked for, or share the tables

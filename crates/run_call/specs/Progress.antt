@@ -53,7 +53,7 @@ reads_of c = record { text = c.function; captures = c.captures; most = c.most }
 abbrev pub leaves_of : RunAsked → Outside → Leaves
 leaves_of c before =
     let ports = length c.captures in
-    record { inputs = inputs_of c; captures = ports; ports = ports; out = c.out; base = before.told.next + 1 + ports }
+    record { inputs = inputs_of c; captures = ports; ports = ports; format = c.format; out = c.out; base = before.told.next + 1 + ports }
 
 -- the captures of a job were read
 abbrev pub HasFed : Outside → Outside → Job → List ℕ → Feeding → Type 0

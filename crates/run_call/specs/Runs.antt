@@ -1,5 +1,5 @@
 -- The run that a command asks for, and how it ends.
-use Rattle.std.specs.Prelude.{◌≡◌, ◌≢◌, ◌⊎◌, ℕ, ◌+◌, ◌<◌, ◌≤◌, List, length, map, slice_get, Some, None}
+use Rattle.std.specs.Prelude.{◌≡◌, ◌≢◌, ℕ, ◌+◌, ◌<◌, ◌≤◌, List, length, map, slice_get, Some, None}
 use Rattle.nf_base.specs.Text.{Function}
 use Rattle.nf_base.specs.declared.keys.Keys.{Keys}
 use Rattle.nf_files.specs.Told.{Told}
@@ -7,11 +7,12 @@ use Rattle.packet_feed.specs.Arrivals.{Arrival}
 use Rattle.packet_feed.specs.Told.{IsTear, IsCapture, IsNoCapture}
 use Rattle.packet_feed.specs.Feeding.{AreAll, HasMore}
 use Rattle.stream_run.specs.Runs.{Run, arrival_in}
-use Rattle.stream_run.specs.Lawful.{IsOneRun}
+use Rattle.stream_run.specs.Rules.{Rule, IsRunBy}
+use Rattle.stream_run.specs.Lawful.{AreTheFirst}
 use Rattle.stream_run.specs.Streaming.{AreFirst}
 use Rattle.key_synth.specs.Keys.{AreGiven}
 use Rattle.shard_core.specs.declared.collected.Stop.{Stop as ShareStop}
-use Rattle.sharded_run.specs.Sharded.{IsShardRun, IsStopBehind, AreBefore}
+use Rattle.sharded_run.specs.Sharded.{IsStopBehind, AreBefore}
 use Rattle.command_words.specs.Commands.{Run as RunAsked}
 use Rattle.call_base.specs.declared.status.End.{End}
 use Rattle.call_base.specs.declared.status.End.TheVariants.{Whole, Torn, TooMany, ShareFull}
@@ -20,9 +21,9 @@ use Rattle.call_base.specs.declared.status.NoKeys.{NoKeys}
 use Rattle.call_base.specs.Source.{IsFunctionUnder}
 use Rattle.call_base.specs.Named.{IsToldStop}
 use Rattle.call_base.specs.Captures.{packets_under, Below}
-use Rattle.run_call.specs.Modes.{NeedsKeys, HasKeys, IsLocked, MayShard, ShareTables}
+use Rattle.call_base.specs.Rules.{HasKeys, IsRuleOf}
+use Rattle.run_call.specs.Modes.{NeedsKeys, IsLocked}
 use Rattle.run_history.specs.declared.line.Mode.TheVariants.{Shard}
-use Rattle.locked_run.specs.Locked.{IsLockRun, IsLoneRun}
 
 -- The text is a network function that has as many ports as there are captures, and keys for the network
 -- card that is asked for, where they are needed.
@@ -35,44 +36,18 @@ pub record HasPorts (c : RunAsked) (told : Told) (f : Function) : Type 0 where
 abbrev pub packets : Run → List Arrival
 packets run = map arrival_in run.turns
 
--- One worker handles the packets of the captures, each once, in capture order: all of them, or the most
--- that may be handled.
-pub record IsByOne (c : RunAsked) (told : Told) (arrivals : List Arrival) (run : Run) : Type 0 where
-  pub alone : c.workers ≡ 1
-  pub order : packets run ≡ arrivals
-  pub is_run : IsOneRun run.function c.card c.most (packets_under run.function c.captures told) run
-
--- As many workers as are asked for, which share nothing, handle the first packets of the captures, each
--- once, in capture order, each by the worker of its queue under the function's keys for the network card
--- that is asked for: at most as many as may be handled.
-pub record IsByShards (c : RunAsked) (told : Told) (arrivals : List Arrival) (run : Run) : Type 0 where
-  pub several : 1 < c.workers
-  pub may : MayShard c.mode
-  pub order : packets run ≡ arrivals
-  pub keys : Keys
-  pub given : AreGiven run.function c.card keys
-  pub is_run : IsShardRun run.function keys c.workers c.card run
-  pub within : length run.turns ≤ c.most
-  pub first : AreFirst (packets_under run.function c.captures told) (packets run)
-
--- As many workers as are asked for, which share the tables, handle the first packets of the captures,
--- each once, at most as many as may be handled. Each handles those of its own ports, and each port's stay
--- in capture order. Or one worker handles them in capture order; that is so only where the gate to the
--- tables refused.
-pub record IsByTables (Refused : Type 0) (c : RunAsked) (told : Told) (arrivals : List Arrival) (run : Run) : Type 0 where
-  pub several : 1 < c.workers
-  pub share : ShareTables c.mode c.card run.function
-  pub is_run : IsLockRun run.function c.workers c.card arrivals run
-      ⊎ (Refused × IsLoneRun run.function c.workers c.card arrivals run)
-  pub within : length arrivals ≤ c.most
-  pub first : AreFirst (packets_under run.function c.captures told) arrivals
-
 -- A run that a command asks for: its text and its captures are those that stood under their names. These
--- are its packets, in capture order.
+-- are its packets, handled by the rule that is due: the first of the captures, in capture order, at most
+-- so many, and of a run by one worker all of these.
 pub record IsRunOf (Refused : Type 0) (c : RunAsked) (told : Told) (arrivals : List Arrival) (run : Run) : Type 0 where
   pub has_ports : HasPorts c told run.function
   pub captures : Below IsCapture told c.captures (length c.captures)
-  pub handled : IsByOne c told arrivals run ⊎ (IsByShards c told arrivals run ⊎ IsByTables Refused c told arrivals run)
+  pub rule : Rule
+  pub due : IsRuleOf Refused c.mode c.workers c.card run.function rule
+  pub is_run : IsRunBy rule run.function c.card arrivals run
+  pub within : length arrivals ≤ c.most
+  pub first : AreFirst (packets_under run.function c.captures told) arrivals
+  pub all : c.workers ≡ 1 → AreTheFirst c.most (packets_under run.function c.captures told) arrivals
 
 -- The capture of a port is torn there, and that of each lower one is not, where they are told.
 pub record IsLeastTear (told : Told) (names : List (List ℕ)) (port offset : ℕ) : Type 0 where

@@ -79,6 +79,7 @@ pub(crate) fn leave_ran<F: Files>(
         alloc,
         files,
         job.func,
+        job.command.format,
         out,
         &ran.state,
         line.as_slice(),

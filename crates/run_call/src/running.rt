@@ -55,8 +55,10 @@ fn run_one<F: Files>(
     ensures runs { (old new : ℕ) → RunsTo (Rose old new) (asked job.now) before
         (seen (F.told files.new) (F.counted files.new)) result }
 {
-    let card = job.command.card;
-    match run_stream(alloc, files, job.func, card, feed, captures, targets) {
+    let (card, format) = (job.command.card, job.command.format);
+    match run_stream(
+        alloc, files, job.func, card, format, feed, captures, targets,
+    ) {
         Ok(ran) => {
             let last = targets[job.layout.ports as usize];
             leave_ran(alloc, files, job, Mode::One, &ran, feed.torn(), last)
@@ -88,9 +90,9 @@ fn run_shards<R: Threads + Sync, F: Files, G: Turns + Sync>(
         (seen (F.told files.new) (F.counted files.new)) result }
 {
     let workers = job.command.workers;
-    let card = job.command.card;
+    let (card, format) = (job.command.card, job.command.format);
     match run_sharded(
-        rt, alloc, files, job.func, keys, workers, card, feed, captures, targets, turns,
+        rt, alloc, files, job.func, keys, workers, card, format, feed, captures, targets, turns,
     ) {
         Ok(Came::Ran(ran)) => {
             let last = targets[job.layout.ports as usize];
@@ -127,9 +129,9 @@ fn run_tables<R: Threads + Wait + Sync, F: Files, G: Turns + Sync, L: Gate + Dro
         (seen (F.told files.new) (F.counted files.new)) result }
 {
     let workers = job.command.workers;
-    let card = job.command.card;
+    let (card, format) = (job.command.card, job.command.format);
     match run_locked(
-        rt, alloc, files, job.func, workers, card, feed, captures, targets, turns, gate,
+        rt, alloc, files, job.func, workers, card, format, feed, captures, targets, turns, gate,
     ) {
         Ok(came) => {
             let last = targets[job.layout.ports as usize];
@@ -190,7 +192,8 @@ fn run_fed<R: Threads + Wait + Sync, F: Files, G: Turns + Sync, L: Gate + Drop +
 {
     let ports = job.layout.ports;
     let last = captures[ports as usize - 1];
-    match create_targets(alloc, files, &job.command.out, ports, last) {
+    let out = &job.command.out;
+    match create_targets(alloc, files, job.command.format, out, ports, last) {
         Ok(targets) => {
             let targets = targets.as_slice();
             run_ready(rt, alloc, files, job, feed, captures, targets, turns, gate)

@@ -1,5 +1,5 @@
 -- The share rule: what is asked of a packet's line where the indices of the chains are shared out.
-use Rattle.std.specs.Prelude.{◌≡◌, ◌<◌, ℕ, ◌%◌, List, [], ◌∷◌}
+use Rattle.std.specs.Prelude.{◌≡◌, ◌<◌, ℕ, ◌%◌, ◌==◌, IsTrue, List, [], ◌∷◌, All}
 use Rattle.nf_base.specs.declared.packet.Packet.{Packet}
 use Rattle.nf_base.specs.declared.share.Share.{Share}
 use Rattle.nf_base.specs.declared.state.State.{State}
@@ -27,6 +27,16 @@ TakeOfShare share queue (h ∷ hs) =
 -- of its step answers full.
 pub record KeepsRule (share : Share) (f : Function) (s : State) (h : Handling) : Type 0 where
   pub own : AreOwn share h.choices
+  pub granted : MeetsNoFull f s h
+
+-- indices that this queue owns, of so many
+abbrev pub AreOfQueue : ℕ → ℕ → List ℕ → Type 0
+AreOfQueue count queue choices = All (λ i. IsTrue (i % count == queue)) choices
+
+-- The rule of shares, of a packet of a queue with its choices at a state: the choices are the queue's
+-- own, and no `new` answers that its chain is full.
+pub record KeepsToQueue (count queue : ℕ) (f : Function) (s : State) (h : Handling) : Type 0 where
+  pub own : AreOfQueue count queue h.choices
   pub granted : MeetsNoFull f s h
 
 -- each line of a run keeps the rule of its queue's share

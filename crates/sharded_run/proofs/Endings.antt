@@ -1,6 +1,7 @@
 -- Runs that ended, by what their files have then.
 use Rattle.std.proofs.Common.{◌≡◌, ◌<◌, ℕ, List, [], ◌∷◌, map, Option, Some, None, Result, subst, arith}
 use Rattle.nf_base.specs.declared.card.Card.{Card}
+use Rattle.capture_format.specs.declared.format.CaptureFormat.{CaptureFormat}
 use Rattle.nf_base.specs.declared.func.Func.{Func}
 use Rattle.nf_base.specs.declared.keys.Keys.{Keys}
 use Rattle.nf_base.specs.declared.packet.Packet.{Packet}
@@ -28,8 +29,8 @@ use Rattle.sharded_run.proofs.Lined.{ran_of, worked_stand}
 -- what a round comes to, whatever was reached before it
 abbrev pub WentOf : (E : Type 0) → Func → ℕ → Feeding → Told → List Holding → Sharded → List Handled → List Arrival → Feeding → Told → List Holding → Sharded → List Arrival → Result went.Went E → Type 0
 WentOf E func ports feed old sinks v late batch next now left new more result =
-    (keys : Keys) (workers : ℕ) (card : Card) (begun : Feeding) (start : Told) → 1 < workers → HashAlikeWhereTheyMeet (function_of func) keys → Awaits (function_of func) keys workers card ports begun start feed old sinks v late batch None
-    → GoesOn {E = E} (function_of func) keys workers card ports begun start next now left new batch more result
+    (keys : Keys) (workers : ℕ) (card : Card) (format : CaptureFormat) (begun : Feeding) (start : Told) → 1 < workers → HashAlikeWhereTheyMeet (function_of func) keys → Awaits (function_of func) keys workers card format ports begun start feed old sinks v late batch None
+    → GoesOn {E = E} (function_of func) keys workers card format ports begun start next now left new batch more result
 
 pub went_as : (E : Type 0) (func other : Func) (ports : ℕ) (feed : Feeding) (old : Told) (sinks : List Holding) (v : Sharded) (late : List Handled) (batch : List Arrival) (next : Feeding) (now : Told) (left : List Holding) (new : Sharded) (more : List Arrival) (result : Result went.Went E) → func ≡ other
     → WentOf E func ports feed old sinks v late batch next now left new more result → WentOf E other ports feed old sinks v late batch next now left new more result
@@ -38,8 +39,8 @@ went_as E func other ports feed old sinks v late batch next now left new more re
 -- what the last round comes to
 abbrev pub LastOf : (E : Type 0) → Func → ℕ → Feeding → Told → List Holding → Sharded → List Arrival → Ending → Told → List Holding → Sharded → Result ended.Ended E → Type 0
 LastOf E func ports feed old sinks v batch ending now left new result =
-    (keys : Keys) (workers : ℕ) (card : Card) (begun : Feeding) (start : Told) → 1 < workers → HashAlikeWhereTheyMeet (function_of func) keys → Awaits (function_of func) keys workers card ports begun start feed old sinks v [] batch (Some ending)
-    → Comes {E = E} (function_of func) keys workers card ports begun start feed now left new result
+    (keys : Keys) (workers : ℕ) (card : Card) (format : CaptureFormat) (begun : Feeding) (start : Told) → 1 < workers → HashAlikeWhereTheyMeet (function_of func) keys → Awaits (function_of func) keys workers card format ports begun start feed old sinks v [] batch (Some ending)
+    → Comes {E = E} (function_of func) keys workers card format ports begun start feed now left new result
 
 pub last_as : (E : Type 0) (func other : Func) (ports : ℕ) (feed : Feeding) (old : Told) (sinks : List Holding) (v : Sharded) (batch : List Arrival) (ending : Ending) (now : Told) (left : List Holding) (new : Sharded) (result : Result ended.Ended E) → func ≡ other
     → LastOf E func ports feed old sinks v batch ending now left new result → LastOf E other ports feed old sinks v batch ending now left new result
@@ -78,12 +79,12 @@ first_before : (all : Option (List Arrival)) (given : List Arrival) (packet : Pa
 first_before None given packet h = tt
 first_before (Some all) given packet h = (h.0 ∷ h.1, h.3)
 
-pub halts_ended : (f : Function) (keys : Keys) (workers : ℕ) (card : Card) (ports : ℕ) (begun : Feeding) (start : Told) (feed : Feeding) (v : Sharded) (e : ended.Ended) (now : Told) (files : List ℕ) → 1 < workers → HashAlikeWhereTheyMeet f keys
-    → EndsSo f keys workers begun start feed v e (λ hs. AreFronts Shard workers card ports hs now files) → Halts f keys workers card ports begun start now files
-halts_ended f keys workers card ports begun start feed v (Over ending) now files several alike h =
+pub halts_ended : (f : Function) (keys : Keys) (workers : ℕ) (card : Card) (format : CaptureFormat) (ports : ℕ) (begun : Feeding) (start : Told) (feed : Feeding) (v : Sharded) (e : ended.Ended) (now : Told) (files : List ℕ) → 1 < workers → HashAlikeWhereTheyMeet f keys
+    → EndsSo f keys workers begun start feed v e (λ hs. AreFronts Shard workers card format ports hs now files) → Halts f keys workers card format ports begun start now files
+halts_ended f keys workers card format ports begun start feed v (Over ending) now files several alike h =
     let ran = ran_of f keys workers h.worked.share h.hs v h.worked.at several alike (worked_stand f keys workers h.hs v h.worked) in
     record { hs = h.hs; state = ran.ran.state; sharded = ran.sharded; first = h.first; within = h.within; fronts = h.left }
-halts_ended f keys workers card ports begun start feed v (Full full) now files several alike h = record {
+halts_ended f keys workers card format ports begun start feed v (Full full) now files several alike h = record {
   hs = h.hs;
   state = h.state;
   sharded = h.sharded;

@@ -1,6 +1,7 @@
 -- Shards that worked packets have run them as the undivided function does.
-use Rattle.std.proofs.Common.{◌≡◌, ◌<◌, ℕ, List, [], ◌∷◌, map, Some, refl, ap, sym, ◌∙◌, subst}
-use Rattle.std.specs.List.{AllByRecursion}
+use Rattle.std.proofs.Common.{◌≡◌, ◌<◌, ◌%◌, ◌==◌, ℕ, List, [], ◌∷◌, map, Some, refl, ap, sym, ◌∙◌, subst}
+use Rattle.std.specs.Bool.{IsTrue}
+use Rattle.std.specs.List.{All, AllByRecursion}
 use Rattle.std.proofs.lemmas.List.Elements.{All-from_recursion, All-contains}
 use Rattle.nf_base.specs.declared.done.Done.{Done}
 use Rattle.nf_base.specs.declared.keys.Keys.{Keys}
@@ -14,7 +15,8 @@ use Rattle.nf_base.specs.Shares.{IsShareStop}
 use Rattle.nf_base.specs.Step.{opening}
 use Rattle.hash_fields.specs.Hashed.{HasInput}
 use Rattle.toeplitz_hash.specs.Meeting.{HashAlikeWhereTheyMeet}
-use Rattle.shard_laws.specs.Rule.{KeepShareRule}
+use Rattle.shard_laws.specs.Queues.{Throughout}
+use Rattle.shard_laws.specs.Rule.{AreShares, KeepsRule, KeepsToQueue, KeepShareRule}
 use Rattle.shard_machine.specs.Machine.{Machine, dones_of, lines_of}
 use Rattle.shard_machine.specs.Moments.{IsAtStop}
 use Rattle.shard_machine.specs.Laws.{OneQueueWhereTheyMeet}
@@ -24,9 +26,11 @@ use Rattle.shard_core.specs.Sharded.{Sharded}
 use Rattle.shard_core.proofs.Keyed.{keys_give}
 use Rattle.stream_run.specs.Runs.{Handled}
 use Rattle.stream_run.specs.Streaming.{handling_in}
-use Rattle.sharded_run.specs.Setups.{queue_by, setup_of}
+use Rattle.stream_run.specs.Rules.{queue_by, shard_rule, KeepsBy, AreBy}
+use Rattle.stream_run.proofs.Stepping.{weaker}
+use Rattle.sharded_run.specs.Setups.{setup_of}
 use Rattle.sharded_run.specs.Reading.{Rises}
-use Rattle.sharded_run.specs.Going.{answer_in, AreSharded, HaveWorked}
+use Rattle.sharded_run.specs.Going.{answer_in, HaveWorked}
 use Rattle.sharded_run.proofs.Rising.{never_fall}
 
 lines_are : (hs : List Handled) → lines_of (map answer_in hs) ≡ map handling_in hs
@@ -36,6 +40,22 @@ lines_are (h ∷ hs) = ap (λ (t : List Handling). handling_in h ∷ t) (lines_a
 dones_are : (hs : List Handled) → dones_of (map answer_in hs) ≡ map (λ (h : Handled). h.done) hs
 dones_are [] = refl
 dones_are (h ∷ hs) = ap (λ (t : List Done). h.done ∷ t) (dones_are hs)
+
+-- ---- the rule of shares, by the number of the queue
+
+to_queue : (share : Share) (n q : ℕ) (f : Function) (s : State) (h : Handling) → share.of ≡ n → share.queue ≡ q → KeepsRule share f s h → KeepsToQueue n q f s h
+to_queue share n q f s h of queue k = record {
+  own = subst (λ (m : ℕ). All (λ i. IsTrue (i % n == m)) h.choices) queue (subst (λ (m : ℕ). All (λ i. IsTrue (i % m == share.queue)) h.choices) of k.own);
+  granted = k.granted;
+}
+
+within_shares : (f : Function) (keys : Keys) (workers : ℕ) (share : ℕ → Share) (s : State) (hs : List Handling) → AreShares workers share → ((p : Packet) → queue_by keys workers p < workers) → KeepShareRule share (queue_by keys workers) f s hs → Throughout (KeepsBy (shard_rule keys workers) f) f s hs
+within_shares f keys workers share s hs shares below t =
+    let queue = λ (h : Handling). queue_by keys workers h.packet in
+    weaker (λ u h. KeepsRule (share (queue h)) f u h) (KeepsBy (shard_rule keys workers) f) f
+    (λ u h k. to_queue (share (queue h)) workers (queue h) f u h (shares.of (queue h) (below h.packet)) (shares.queue (queue h) (below h.packet)) k) s hs t
+
+-- ---- shards
 
 -- shards at a moment, of packets whose times never fall, with their fields within their widths
 pub record Stand (f : Function) (keys : Keys) (workers : ℕ) (share : ℕ → Share) (hs : List Handled) (v : Sharded) (at : Machine) : Type 0 where
@@ -53,7 +73,7 @@ one_queue f keys workers share sent alike inputs =
 pub record Ran (f : Function) (keys : Keys) (workers : ℕ) (hs : List Handled) (at : Machine) : Type 0 where
   pub ran : RunResult
   pub is : run f (opening f) (lines_of at.collected) ≡ Some ran
-  pub sharded : AreSharded f keys workers hs ran.state
+  pub sharded : AreBy (shard_rule keys workers) f hs ran.state
 
 pub ran_of : (f : Function) (keys : Keys) (workers : ℕ) (share : ℕ → Share) (hs : List Handled) (v : Sharded) (at : Machine) → 1 < workers → HashAlikeWhereTheyMeet f keys → Stand f keys workers share hs v at → Ran f keys workers hs at
 ran_of f keys workers share hs v at several alike s =
@@ -66,10 +86,9 @@ ran_of f keys workers share hs v at several alike s =
       is = c.is;
       sharded = record {
         undivided = ap (run f (opening f)) (sym lines) ∙ c.is ∙ ap (λ (ds : List Done). Some (record { state = c.ran.state; answers = ds })) dones;
-        queues = s.queues;
-        share = share;
-        shares = s.stands.setup.is.shares;
-        rule = subst (λ (ls : List Handling). KeepShareRule share (queue_by keys workers) f (opening f) ls) lines (c.rule several);
+        own = s.queues;
+        kept = within_shares f keys workers share (opening f) (map handling_in hs) s.stands.setup.is.shares s.stands.setup.is.below
+            (subst (λ (ls : List Handling). KeepShareRule share (queue_by keys workers) f (opening f) ls) lines (c.rule several));
       };
     }
 

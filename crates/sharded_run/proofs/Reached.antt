@@ -3,6 +3,7 @@ use Rattle.std.proofs.Common.{◌≡◌, ◌≤◌, ◌<◌, ◌+◌, ℕ, Bool,
 use Rattle.std.specs.List.{AllByRecursion}
 use Rattle.std.proofs.lemmas.List.{map-append, length-map, length-append}
 use Rattle.nf_base.specs.declared.card.Card.{Card}
+use Rattle.capture_format.specs.declared.format.CaptureFormat.{CaptureFormat}
 use Rattle.nf_base.specs.declared.keys.Keys.{Keys}
 use Rattle.nf_base.specs.declared.packet.Packet.{Packet}
 use Rattle.nf_base.specs.declared.share.Share.{Share}
@@ -30,7 +31,8 @@ use Rattle.stream_run.specs.Writing.{Holding, Holds, IsFrontIfTold, files_of, Ar
 use Rattle.stream_run.specs.Streaming.{arrival_of, AreFirst, IsEnding}
 use Rattle.stream_run.proofs.Held.{front_all, stays_in}
 use Rattle.stream_run.proofs.Reached.{first_given}
-use Rattle.sharded_run.specs.Setups.{queue_by, setup_of}
+use Rattle.stream_run.specs.Rules.{queue_by}
+use Rattle.sharded_run.specs.Setups.{setup_of}
 use Rattle.sharded_run.specs.Sharded.{AreBefore}
 use Rattle.sharded_run.specs.Reading.{Rises, Fits, Gathers, IsOver}
 use Rattle.sharded_run.specs.Rounds.{AreIdle, IsRound, answered}
@@ -106,10 +108,10 @@ pub record Rounded (f : Function) (keys : Keys) (workers ports : ℕ) (begun : F
   pub same_most : next.most ≡ begun.most
   pub within : next.given ≤ next.most
 
-pub rounded : (f : Function) (keys : Keys) (workers : ℕ) (card : Card) (ports : ℕ) (begun : Feeding) (start : Told) (feed next : Feeding) (old read : Told) (sinks : List Holding) (batch : List Arrival) (handled : List Collected) (stop : Option Stop) (v new : Sharded)
-    → (r : Reaches f keys workers card ports begun start feed old sinks v) → Gathers ports feed next old read batch → IsRound (setup_of f keys workers r.worked.share) r.worked.at (map packet_of batch) handled stop new
+pub rounded : (f : Function) (keys : Keys) (workers : ℕ) (card : Card) (format : CaptureFormat) (ports : ℕ) (begun : Feeding) (start : Told) (feed next : Feeding) (old read : Told) (sinks : List Holding) (batch : List Arrival) (handled : List Collected) (stop : Option Stop) (v new : Sharded)
+    → (r : Reaches f keys workers card format ports begun start feed old sinks v) → Gathers ports feed next old read batch → IsRound (setup_of f keys workers r.worked.share) r.worked.at (map packet_of batch) handled stop new
     → Rounded f keys workers ports begun start next read batch handled stop new r.hs
-rounded f keys workers card ports begun start feed next old read sinks batch handled stop v new r g k =
+rounded f keys workers card format ports begun start feed next old read sinks batch handled stop v new r g k =
     let w = r.worked in
     let t = g.times w.last r.from in
     let e = parts_by w.at k.at (map packet_of batch) handled k.stands.left w.sent k.dispatched k.collected k.stands.sent in
@@ -174,10 +176,10 @@ all_counted f keys workers ports begun start next read batch handled v done r =
     let every = ap (λ (t : List Packet). length t) (all_got (setup_of f keys workers r.share) r.before (map packet_of batch) handled v r.idle r.round) in
     omega (arith, count_more f keys workers ports begun start next read batch handled None v done r, every, length-map batch packet_of, length-map handled (λ (c : Collected). c.packet), r.count)
 
-pub reaches_on : (f : Function) (keys : Keys) (workers : ℕ) (card : Card) (ports : ℕ) (begun : Feeding) (start : Told) (next : Feeding) (read now : Told) (batch : List Arrival) (handled : List Collected) (sinks : List Holding) (v : Sharded) (done : List Handled)
-    → (r : Rounded f keys workers ports begun start next read batch handled None v done) → ((g : ℕ) → now.rest g ≡ read.rest g) → AreHeld Shard workers card ports (done ++ answered batch handled) now sinks
-    → Reaches f keys workers card ports begun start next now sinks v
-reaches_on f keys workers card ports begun start next read now batch handled sinks v done r rests held =
+pub reaches_on : (f : Function) (keys : Keys) (workers : ℕ) (card : Card) (format : CaptureFormat) (ports : ℕ) (begun : Feeding) (start : Told) (next : Feeding) (read now : Told) (batch : List Arrival) (handled : List Collected) (sinks : List Holding) (v : Sharded) (done : List Handled)
+    → (r : Rounded f keys workers ports begun start next read batch handled None v done) → ((g : ℕ) → now.rest g ≡ read.rest g) → AreHeld Shard workers card format ports (done ++ answered batch handled) now sinks
+    → Reaches f keys workers card format ports begun start next now sinks v
+reaches_on f keys workers card format ports begun start next read now batch handled sinks v done r rests held =
     let hs = done ++ answered batch handled in
     let same = all_answered f keys workers ports begun start next read batch handled v done r in
     record {
@@ -206,11 +208,11 @@ reaches_on f keys workers card ports begun start next read now batch handled sin
     }
 
 -- what was handled then
-pub reached_hs : (f : Function) (keys : Keys) (workers : ℕ) (card : Card) (ports : ℕ) (begun : Feeding) (start : Told) (next : Feeding) (read now : Told) (batch : List Arrival) (handled : List Collected) (sinks : List Holding) (v : Sharded) (done : List Handled)
-    → (r : Rounded f keys workers ports begun start next read batch handled None v done) → (rests : (g : ℕ) → now.rest g ≡ read.rest g) → (held : AreHeld Shard workers card ports (done ++ answered batch handled) now sinks)
-    → (reaches_on f keys workers card ports begun start next read now batch handled sinks v done r rests held).hs ≡ done ++ answered batch handled
+pub reached_hs : (f : Function) (keys : Keys) (workers : ℕ) (card : Card) (format : CaptureFormat) (ports : ℕ) (begun : Feeding) (start : Told) (next : Feeding) (read now : Told) (batch : List Arrival) (handled : List Collected) (sinks : List Holding) (v : Sharded) (done : List Handled)
+    → (r : Rounded f keys workers ports begun start next read batch handled None v done) → (rests : (g : ℕ) → now.rest g ≡ read.rest g) → (held : AreHeld Shard workers card format ports (done ++ answered batch handled) now sinks)
+    → (reaches_on f keys workers card format ports begun start next read now batch handled sinks v done r rests held).hs ≡ done ++ answered batch handled
 unfolding reaches_on
-reached_hs f keys workers card ports begun start next read now batch handled sinks v done r rests held = refl
+reached_hs f keys workers card format ports begun start next read now batch handled sinks v done r rests held = refl
 
 ending_of : (e : Ending) (feed next : Feeding) (old before : Told) (given batch : List Arrival) (hs : List Handled) → given ++ batch ≡ map arrival_of hs → length hs ≡ next.given → IsOver e feed old next batch → StandsFor before given feed old → IsEnding e next before hs
 ending_of All feed next old before given batch hs same count over b =
@@ -220,11 +222,11 @@ ending_of TooMany feed next old before given batch hs same count over b =
     let long : length (given ++ batch) ≡ length hs = ap (λ (t : List Arrival). length t) same ∙ length-map hs arrival_of in
     (count ∙ over.0, subst (λ (n : ℕ). HasMore (told_of.packets_of (sixes_in next.sources) (files_in next.sources) before) n) long (over.1 before given b))
 
-pub ends_with : (f : Function) (keys : Keys) (workers : ℕ) (card : Card) (ports : ℕ) (begun : Feeding) (start : Told) (feed next : Feeding) (old read now : Told) (ending : Ending) (batch : List Arrival) (handled : List Collected) (sinks : List Holding) (v : Sharded) (done : List Handled)
+pub ends_with : (f : Function) (keys : Keys) (workers : ℕ) (card : Card) (format : CaptureFormat) (ports : ℕ) (begun : Feeding) (start : Told) (feed next : Feeding) (old read now : Told) (ending : Ending) (batch : List Arrival) (handled : List Collected) (sinks : List Holding) (v : Sharded) (done : List Handled)
     → (r : Rounded f keys workers ports begun start next read batch handled None v done) → ((before : Told) → StandsFor before [] begun start → StandsFor before (map arrival_of done) feed old) → IsOver ending feed old next batch
-    → AreHeld Shard workers card ports (done ++ answered batch handled) now sinks
-    → EndsWith f keys workers begun start next v ending (λ hs. AreHeld Shard workers card ports hs now sinks)
-ends_with f keys workers card ports begun start feed next old read now ending batch handled sinks v done r given over held =
+    → AreHeld Shard workers card format ports (done ++ answered batch handled) now sinks
+    → EndsWith f keys workers begun start next v ending (λ hs. AreHeld Shard workers card format ports hs now sinks)
+ends_with f keys workers card format ports begun start feed next old read now ending batch handled sinks v done r given over held =
     let hs = done ++ answered batch handled in
     let same = all_answered f keys workers ports begun start next read batch handled v done r in
     let count = all_counted f keys workers ports begun start next read batch handled v done r in
@@ -252,11 +254,11 @@ are_before (Some all) given batch done next later packet h is whole = (
   h.1 ∙ ap (λ (t : List Arrival). (given ++ t) ++ h.0) whole ∙ ap (λ (t : List Arrival). t ++ h.0) (sym (append_assoc given done (next ∷ later))) ∙ append_assoc (given ++ done) (next ∷ later) h.0,
 )
 
-pub stops_with : (f : Function) (keys : Keys) (workers : ℕ) (card : Card) (ports : ℕ) (begun : Feeding) (start : Told) (next : Feeding) (read now : Told) (batch : List Arrival) (handled : List Collected) (stop : Stop) (packets : ℕ) (sinks : List Holding) (v : Sharded) (done : List Handled)
+pub stops_with : (f : Function) (keys : Keys) (workers : ℕ) (card : Card) (format : CaptureFormat) (ports : ℕ) (begun : Feeding) (start : Told) (next : Feeding) (read now : Told) (batch : List Arrival) (handled : List Collected) (stop : Stop) (packets : ℕ) (sinks : List Holding) (v : Sharded) (done : List Handled)
     → 1 < workers → HashAlikeWhereTheyMeet f keys → (r : Rounded f keys workers ports begun start next read batch handled (Some stop) v done) → packets + length batch ≡ next.given + length handled
-    → AreHeld Shard workers card ports (done ++ answered batch handled) now sinks
-    → StopsWith f keys workers begun start stop packets (λ hs. AreHeld Shard workers card ports hs now sinks)
-stops_with f keys workers card ports begun start next read now batch handled stop packets sinks v done several alike r counted held =
+    → AreHeld Shard workers card format ports (done ++ answered batch handled) now sinks
+    → StopsWith f keys workers begun start stop packets (λ hs. AreHeld Shard workers card format ports hs now sinks)
+stops_with f keys workers card format ports begun start next read now batch handled stop packets sinks v done several alike r counted held =
     let hs = done ++ answered batch handled in
     let at = r.round.at in
     let is = r.round.stops in
@@ -288,16 +290,16 @@ stops_with f keys workers card ports begun start next read now batch handled sto
 -- ---- where the run is stopped
 
 -- what stands of files is a front where none of them was written
-pub fronts_kept : (workers : ℕ) (card : Card) (ports : ℕ) (hs : List Handled) (old new : Told) (sinks : List Holding) → ((g : ℕ) → new.given g ≡ old.given g) → AreHeld Shard workers card ports hs old sinks → AreFronts Shard workers card ports hs new (files_of sinks)
-fronts_kept workers card ports hs old new sinks same held k file e =
+pub fronts_kept : (workers : ℕ) (card : Card) (format : CaptureFormat) (ports : ℕ) (hs : List Handled) (old new : Told) (sinks : List Holding) → ((g : ℕ) → new.given g ≡ old.given g) → AreHeld Shard workers card format ports hs old sinks → AreFronts Shard workers card format ports hs new (files_of sinks)
+fronts_kept workers card format ports hs old new sinks same held k file e =
     let s = stays_in sinks k file e in
-    let there : Holds (bytes_of Shard workers card ports k hs) (new.given s.0.file) s.0.held = subst (λ (o : Option (List ℕ)). Holds (bytes_of Shard workers card ports k hs) o s.0.held) (sym (same s.0.file)) (held k s.0 s.1) in
-    subst (λ (n : ℕ). IsFrontIfTold (bytes_of Shard workers card ports k hs) (new.given n)) s.2 (front_all (bytes_of Shard workers card ports k hs) (new.given s.0.file) s.0.held there)
+    let there : Holds (bytes_of Shard workers card format ports k hs) (new.given s.0.file) s.0.held = subst (λ (o : Option (List ℕ)). Holds (bytes_of Shard workers card format ports k hs) o s.0.held) (sym (same s.0.file)) (held k s.0 s.1).1 in
+    subst (λ (n : ℕ). IsFrontIfTold (bytes_of Shard workers card format ports k hs) (new.given n)) s.2 (front_all (bytes_of Shard workers card format ports k hs) (new.given s.0.file) s.0.held there)
 
 -- before a round was worked
-pub halts_at : (f : Function) (keys : Keys) (workers : ℕ) (card : Card) (ports : ℕ) (begun : Feeding) (start : Told) (feed : Feeding) (old new : Told) (sinks : List Holding) (v : Sharded) (files : List ℕ) → 1 < workers → HashAlikeWhereTheyMeet f keys
-    → (r : Reaches f keys workers card ports begun start feed old sinks v) → AreFronts Shard workers card ports r.hs new files → Halts f keys workers card ports begun start new files
-halts_at f keys workers card ports begun start feed old new sinks v files several alike r fronts =
+pub halts_at : (f : Function) (keys : Keys) (workers : ℕ) (card : Card) (format : CaptureFormat) (ports : ℕ) (begun : Feeding) (start : Told) (feed : Feeding) (old new : Told) (sinks : List Holding) (v : Sharded) (files : List ℕ) → 1 < workers → HashAlikeWhereTheyMeet f keys
+    → (r : Reaches f keys workers card format ports begun start feed old sinks v) → AreFronts Shard workers card format ports r.hs new files → Halts f keys workers card format ports begun start new files
+halts_at f keys workers card format ports begun start feed old new sinks v files several alike r fronts =
     let ran = ran_of f keys workers r.worked.share r.hs v r.worked.at several alike (worked_stand f keys workers r.hs v r.worked) in
     record {
       hs = r.hs;
@@ -308,10 +310,10 @@ halts_at f keys workers card ports begun start feed old new sinks v files severa
       fronts = fronts;
     }
 
-pub halts_before : (f : Function) (keys : Keys) (workers : ℕ) (card : Card) (ports : ℕ) (begun : Feeding) (start : Told) (feed : Feeding) (old new : Told) (sinks : List Holding) (v : Sharded) → 1 < workers → HashAlikeWhereTheyMeet f keys
-    → Reaches f keys workers card ports begun start feed old sinks v → ((g : ℕ) → new.given g ≡ old.given g) → Halts f keys workers card ports begun start new (files_of sinks)
-halts_before f keys workers card ports begun start feed old new sinks v several alike r same =
-    halts_at f keys workers card ports begun start feed old new sinks v (files_of sinks) several alike r (fronts_kept workers card ports r.hs old new sinks same r.held)
+pub halts_before : (f : Function) (keys : Keys) (workers : ℕ) (card : Card) (format : CaptureFormat) (ports : ℕ) (begun : Feeding) (start : Told) (feed : Feeding) (old new : Told) (sinks : List Holding) (v : Sharded) → 1 < workers → HashAlikeWhereTheyMeet f keys
+    → Reaches f keys workers card format ports begun start feed old sinks v → ((g : ℕ) → new.given g ≡ old.given g) → Halts f keys workers card format ports begun start new (files_of sinks)
+halts_before f keys workers card format ports begun start feed old new sinks v several alike r same =
+    halts_at f keys workers card format ports begun start feed old new sinks v (files_of sinks) several alike r (fronts_kept workers card format ports r.hs old new sinks same r.held)
 
 are_first : (all : Option (List Arrival)) (given batch done later : List Arrival) → AreFirst all (given ++ batch) → batch ≡ done ++ later → AreFirst all (given ++ done)
 are_first None given batch done later h whole = tt
@@ -321,10 +323,10 @@ are_first (Some all) given batch done later h whole = (
 )
 
 -- while it was written
-pub halts_writing : (f : Function) (keys : Keys) (workers : ℕ) (card : Card) (ports : ℕ) (begun : Feeding) (start : Told) (next : Feeding) (read now : Told) (batch : List Arrival) (handled : List Collected) (stop : Option Stop) (files : List ℕ) (v : Sharded) (done : List Handled)
-    → 1 < workers → HashAlikeWhereTheyMeet f keys → (r : Rounded f keys workers ports begun start next read batch handled stop v done) → AreFronts Shard workers card ports (done ++ answered batch handled) now files
-    → Halts f keys workers card ports begun start now files
-halts_writing f keys workers card ports begun start next read now batch handled stop files v done several alike r fronts =
+pub halts_writing : (f : Function) (keys : Keys) (workers : ℕ) (card : Card) (format : CaptureFormat) (ports : ℕ) (begun : Feeding) (start : Told) (next : Feeding) (read now : Told) (batch : List Arrival) (handled : List Collected) (stop : Option Stop) (files : List ℕ) (v : Sharded) (done : List Handled)
+    → 1 < workers → HashAlikeWhereTheyMeet f keys → (r : Rounded f keys workers ports begun start next read batch handled stop v done) → AreFronts Shard workers card format ports (done ++ answered batch handled) now files
+    → Halts f keys workers card format ports begun start now files
+halts_writing f keys workers card format ports begun start next read now batch handled stop files v done several alike r fronts =
     let hs = done ++ answered batch handled in
     let ran = ran_of f keys workers r.share hs v r.round.at several alike r.stand in
     let b = arrivals_front batch handled r.round.stands.left (parts f keys workers ports begun start next read batch handled stop v done r) in

@@ -3,6 +3,7 @@ use Rattle.std.proofs.Common.{◌≡◌, ◌≢◌, ◌<◌, ◌+◌, ℕ, List,
 use Rattle.std.specs.List.{All, flat_map}
 use Rattle.std.proofs.lemmas.List.Elements.{recursion_from_All}
 use Rattle.nf_base.specs.declared.card.Card.{Card}
+use Rattle.capture_format.specs.declared.format.CaptureFormat.{CaptureFormat}
 use Rattle.nf_base.specs.declared.packet.Packet.{Packet}
 use Rattle.nf_base.specs.declared.keys.Keys.{Keys}
 use Rattle.nf_base.specs.Text.{Function}
@@ -47,8 +48,8 @@ pub none_other : (g : ℕ) → All (λ f. f ≢ g) []
 none_other g = λ k d lt. absurd (omega (arith, lt))
 
 -- what stands of files stands where captures were read
-pub held_on : (workers : ℕ) (card : Card) (ports : ℕ) (hs : List Handled) (old new : Told) (sinks : List Holding) → ((g : ℕ) → new.given g ≡ old.given g) → AreHeld Shard workers card ports hs old sinks → AreHeld Shard workers card ports hs new sinks
-held_on workers card ports hs old new sinks same h k s e = subst (λ (o : Option (List ℕ)). Holds (bytes_of Shard workers card ports k hs) o s.held) (sym (same s.file)) (h k s e)
+pub held_on : (workers : ℕ) (card : Card) (format : CaptureFormat) (ports : ℕ) (hs : List Handled) (old new : Told) (sinks : List Holding) → ((g : ℕ) → new.given g ≡ old.given g) → AreHeld Shard workers card format ports hs old sinks → AreHeld Shard workers card format ports hs new sinks
+held_on workers card format ports hs old new sinks same h k s e = let x = h k s e in (x.0, subst (λ (o : Option (List ℕ)). Holds (bytes_of Shard workers card format ports k hs) o s.held) (sym (same s.file)) x.1)
 
 -- shards that were idle before a round are so behind it, where the rounds go on
 pub idle_on : (v new : Sharded) (i : AreIdle v) (batch : List Arrival) (handled : List Collected) (stop : Option Stop) → IsRound i.setup i.at (map packet_of batch) handled stop new → stop ≡ None → AreIdle new
@@ -103,12 +104,12 @@ is_round x m batch r v h = record {
 }
 
 -- behind the last round
-pub ends_by : (E : Type 0) (f : Function) (keys : Keys) (workers : ℕ) (card : Card) (ports : ℕ) (begun : Feeding) (start : Told) (feed next : Feeding) (old read now : Told) (batch : List Arrival) (handled : List Collected) (ending : Ending) (stop : Option Stop) (packets : ℕ) (sinks : List Holding) (v : Sharded) (done : List Handled)
+pub ends_by : (E : Type 0) (f : Function) (keys : Keys) (workers : ℕ) (card : Card) (format : CaptureFormat) (ports : ℕ) (begun : Feeding) (start : Told) (feed next : Feeding) (old read now : Told) (batch : List Arrival) (handled : List Collected) (ending : Ending) (stop : Option Stop) (packets : ℕ) (sinks : List Holding) (v : Sharded) (done : List Handled)
     → 1 < workers → HashAlikeWhereTheyMeet f keys → Rounded f keys workers ports begun start next read batch handled stop v done → IsOver ending feed old next batch → ((before : Told) → StandsFor before [] begun start → StandsFor before (map arrival_of done) feed old)
-    → packets + length batch ≡ next.given + length handled → AreHeld Shard workers card ports (done ++ answered batch handled) now sinks
-    → Comes {E = E} f keys workers card ports begun start next now sinks v (Ok (end_by ending stop packets))
-ends_by E f keys workers card ports begun start feed next old read now batch handled ending None packets sinks v done several alike r over given counted held = ends_with f keys workers card ports begun start feed next old read now ending batch handled sinks v done r given over held
-ends_by E f keys workers card ports begun start feed next old read now batch handled ending (Some stop) packets sinks v done several alike r over given counted held = stops_with f keys workers card ports begun start next read now batch handled stop packets sinks v done several alike r counted held
+    → packets + length batch ≡ next.given + length handled → AreHeld Shard workers card format ports (done ++ answered batch handled) now sinks
+    → Comes {E = E} f keys workers card format ports begun start next now sinks v (Ok (end_by ending stop packets))
+ends_by E f keys workers card format ports begun start feed next old read now batch handled ending None packets sinks v done several alike r over given counted held = ends_with f keys workers card format ports begun start feed next old read now ending batch handled sinks v done r given over held
+ends_by E f keys workers card format ports begun start feed next old read now batch handled ending (Some stop) packets sinks v done several alike r over given counted held = stops_with f keys workers card format ports begun start next read now batch handled stop packets sinks v done several alike r counted held
 
 -- what was read since a moment was read since any at which the captures are as they were
 pub reads_from : (E : Type 0) (most ports : ℕ) (begun : Feeding) (start other : Told) (feed : Feeding) (now : Told) (batch : List Arrival) (result : Result (Option Ending) E) → ((g : ℕ) → start.rest g ≡ other.rest g) → Reads {E = E} most ports begun start feed now batch result → Reads {E = E} most ports begun other feed now batch result
@@ -117,31 +118,31 @@ reads_from E most ports begun start other feed now batch (Ok (Some ending)) same
 reads_from E most ports begun start other feed now batch (Err e) same h = tt
 
 -- what stands of files stands, or is a front, where captures were read behind it
-pub goes_on_read : (E : Type 0) (workers : ℕ) (card : Card) (ports : ℕ) (hs : List Handled) (old new : Told) (sinks : List Holding) (result : Result (Option Ending) E) → ((g : ℕ) → new.given g ≡ old.given g) → AreHeld Shard workers card ports hs old sinks → AllGoOn {T = Option Ending} {E = E} Shard workers card ports hs new sinks result
-goes_on_read E workers card ports hs old new sinks (Ok e) same h = held_on workers card ports hs old new sinks same h
-goes_on_read E workers card ports hs old new sinks (Err e) same h = fronts_kept workers card ports hs old new sinks same h
+pub goes_on_read : (E : Type 0) (workers : ℕ) (card : Card) (format : CaptureFormat) (ports : ℕ) (hs : List Handled) (old new : Told) (sinks : List Holding) (result : Result (Option Ending) E) → ((g : ℕ) → new.given g ≡ old.given g) → AreHeld Shard workers card format ports hs old sinks → AllGoOn {T = Option Ending} {E = E} Shard workers card format ports hs new sinks result
+goes_on_read E workers card format ports hs old new sinks (Ok e) same h = held_on workers card format ports hs old new sinks same h
+goes_on_read E workers card format ports hs old new sinks (Err e) same h = fronts_kept workers card format ports hs old new sinks same h
 
 -- fronts of what some packets leave are fronts of what these and others leave
-fronts_more : (workers : ℕ) (card : Card) (ports : ℕ) (hs late : List Handled) (now : Told) (files : List ℕ) → AreFronts Shard workers card ports hs now files → AreFronts Shard workers card ports (hs ++ late) now files
-fronts_more workers card ports hs late now files h k file e =
-    let more : IsFrontOf (bytes_of Shard workers card ports k (hs ++ late)) (bytes_of Shard workers card ports k hs) = record {
-      later = flat_map (piece ports k) late;
-      all = sym (bytes_both Shard workers card ports k hs late);
+fronts_more : (workers : ℕ) (card : Card) (format : CaptureFormat) (ports : ℕ) (hs late : List Handled) (now : Told) (files : List ℕ) → AreFronts Shard workers card format ports hs now files → AreFronts Shard workers card format ports (hs ++ late) now files
+fronts_more workers card format ports hs late now files h k file e =
+    let more : IsFrontOf (bytes_of Shard workers card format ports k (hs ++ late)) (bytes_of Shard workers card format ports k hs) = record {
+      later = flat_map (piece format ports k) late;
+      all = sym (bytes_both Shard workers card format ports k hs late);
     } in
-    front_longer (bytes_of Shard workers card ports k hs) (bytes_of Shard workers card ports k (hs ++ late)) (now.given file) more (h k file e)
+    front_longer (bytes_of Shard workers card format ports k hs) (bytes_of Shard workers card format ports k (hs ++ late)) (now.given file) more (h k file e)
 
 -- what no file was given
-none_held : (workers : ℕ) (card : Card) (ports : ℕ) (hs : List Handled) (now : Told) → AreHeld Shard workers card ports hs now []
-none_held workers card ports hs now k s e = cc
+none_held : (workers : ℕ) (card : Card) (format : CaptureFormat) (ports : ℕ) (hs : List Handled) (now : Told) → AreHeld Shard workers card format ports hs now []
+none_held workers card format ports hs now k s e = absurd cc
 
 -- the same of no file
-of_none : (f : Function) (keys : Keys) (workers : ℕ) (card : Card) (ports : ℕ) (begun : Feeding) (start : Told) (feed : Feeding) (old : Told) (sinks : List Holding) (v : Sharded) → Reaches f keys workers card ports begun start feed old sinks v → Reaches f keys workers card ports begun start feed old [] v
-of_none f keys workers card ports begun start feed old sinks v r = record {
+of_none : (f : Function) (keys : Keys) (workers : ℕ) (card : Card) (format : CaptureFormat) (ports : ℕ) (begun : Feeding) (start : Told) (feed : Feeding) (old : Told) (sinks : List Holding) (v : Sharded) → Reaches f keys workers card format ports begun start feed old sinks v → Reaches f keys workers card format ports begun start feed old [] v
+of_none f keys workers card format ports begun start feed old sinks v r = record {
   hs = r.hs;
   worked = r.worked;
   from = r.from;
   given = r.given;
-  held = none_held workers card ports r.hs old;
+  held = none_held workers card format ports r.hs old;
   count = r.count;
   same_files = r.same_files;
   same_six = r.same_six;
@@ -150,85 +151,85 @@ of_none f keys workers card ports begun start feed old sinks v r = record {
 }
 
 -- behind a round that met no stop, while which what those before it leave was written and others were read
-pub awaits_on : (E : Type 0) (f : Function) (keys : Keys) (workers : ℕ) (card : Card) (ports : ℕ) (begun : Feeding) (start : Told) (feed next : Feeding) (old now : Told) (batch more : List Arrival) (handled : List Collected) (ending : Option Ending) (sinks left : List Holding) (v new : Sharded) (late : List Handled)
-    → (a : Awaits f keys workers card ports begun start feed old sinks v late batch None) → Rounded f keys workers ports begun start feed a.read batch handled None new a.reached.hs → Reads {E = E} 1024 ports feed old next now more (Ok ending)
-    → AreHeld Shard workers card ports (a.hs ++ late) now left
-    → Awaits f keys workers card ports begun start next now left new (answered batch handled) more ending
-awaits_on E f keys workers card ports begun start feed next old now batch more handled ending sinks left v new late a r h held = record {
+pub awaits_on : (E : Type 0) (f : Function) (keys : Keys) (workers : ℕ) (card : Card) (format : CaptureFormat) (ports : ℕ) (begun : Feeding) (start : Told) (feed next : Feeding) (old now : Told) (batch more : List Arrival) (handled : List Collected) (ending : Option Ending) (sinks left : List Holding) (v new : Sharded) (late : List Handled)
+    → (a : Awaits f keys workers card format ports begun start feed old sinks v late batch None) → Rounded f keys workers ports begun start feed a.read batch handled None new a.reached.hs → Reads {E = E} 1024 ports feed old next now more (Ok ending)
+    → AreHeld Shard workers card format ports (a.hs ++ late) now left
+    → Awaits f keys workers card format ports begun start next now left new (answered batch handled) more ending
+awaits_on E f keys workers card format ports begun start feed next old now batch more handled ending sinks left v new late a r h held = record {
   before = feed;
   old = a.read;
   read = now;
-  reached = reaches_on f keys workers card ports begun start feed a.read a.read batch handled [] new a.reached.hs r (λ n. refl) (none_held workers card ports (a.reached.hs ++ answered batch handled) a.read);
+  reached = reaches_on f keys workers card format ports begun start feed a.read a.read batch handled [] new a.reached.hs r (λ n. refl) (none_held workers card format ports (a.reached.hs ++ answered batch handled) a.read);
   hs = a.reached.hs;
-  behind = reached_hs f keys workers card ports begun start feed a.read a.read batch handled [] new a.reached.hs r (λ n. refl) (none_held workers card ports (a.reached.hs ++ answered batch handled) a.read);
-  held = subst (λ (hs : List Handled). AreHeld Shard workers card ports hs now left) (sym a.behind) held;
+  behind = reached_hs f keys workers card format ports begun start feed a.read a.read batch handled [] new a.reached.hs r (λ n. refl) (none_held workers card format ports (a.reached.hs ++ answered batch handled) a.read);
+  held = subst (λ (hs : List Handled). AreHeld Shard workers card format ports hs now left) (sym a.behind) held;
   gathers = gathers_from ports feed next old a.read now more a.rests (gathers_of E 1024 ports feed old next now more ending h);
   over = over_if E 1024 ports feed old a.read next now more ending a.rests h;
   rests = λ n. refl;
 }
 
 -- the packets of the first round
-pub awaits_first : (E : Type 0) (f : Function) (keys : Keys) (workers : ℕ) (card : Card) (ports : ℕ) (begun : Feeding) (start : Told) (feed next : Feeding) (old read : Told) (batch : List Arrival) (ending : Option Ending) (sinks : List Holding) (v : Sharded)
-    → Reaches f keys workers card ports begun start feed old sinks v → Reads {E = E} 1024 ports feed old next read batch (Ok ending) → ((g : ℕ) → read.given g ≡ old.given g)
-    → Awaits f keys workers card ports begun start next read sinks v [] batch ending
+pub awaits_first : (E : Type 0) (f : Function) (keys : Keys) (workers : ℕ) (card : Card) (format : CaptureFormat) (ports : ℕ) (begun : Feeding) (start : Told) (feed next : Feeding) (old read : Told) (batch : List Arrival) (ending : Option Ending) (sinks : List Holding) (v : Sharded)
+    → Reaches f keys workers card format ports begun start feed old sinks v → Reads {E = E} 1024 ports feed old next read batch (Ok ending) → ((g : ℕ) → read.given g ≡ old.given g)
+    → Awaits f keys workers card format ports begun start next read sinks v [] batch ending
 unfolding of_none
-awaits_first E f keys workers card ports begun start feed next old read batch ending sinks v r h same = record {
+awaits_first E f keys workers card format ports begun start feed next old read batch ending sinks v r h same = record {
   before = feed;
   old = old;
   read = read;
-  reached = of_none f keys workers card ports begun start feed old sinks v r;
+  reached = of_none f keys workers card format ports begun start feed old sinks v r;
   hs = r.hs;
   behind = sym (append_nil r.hs);
-  held = held_on workers card ports r.hs old read sinks same r.held;
+  held = held_on workers card format ports r.hs old read sinks same r.held;
   gathers = gathers_of E 1024 ports feed old next read batch ending h;
   over = over_if E 1024 ports feed old old next read batch ending (λ n. refl) h;
   rests = λ n. refl;
 }
 
 -- what the last round leaves was written
-pub awaits_written : (f : Function) (keys : Keys) (workers : ℕ) (card : Card) (ports : ℕ) (begun : Feeding) (start : Told) (feed : Feeding) (old now : Told) (sinks left : List Holding) (v : Sharded) (late : List Handled) (batch : List Arrival) (ending : Option Ending)
-    → (a : Awaits f keys workers card ports begun start feed old sinks v late batch ending) → ((g : ℕ) → now.rest g ≡ old.rest g) → AreHeld Shard workers card ports (a.hs ++ late) now left
-    → Awaits f keys workers card ports begun start feed now left v [] batch ending
-awaits_written f keys workers card ports begun start feed old now sinks left v late batch ending a same held = record {
+pub awaits_written : (f : Function) (keys : Keys) (workers : ℕ) (card : Card) (format : CaptureFormat) (ports : ℕ) (begun : Feeding) (start : Told) (feed : Feeding) (old now : Told) (sinks left : List Holding) (v : Sharded) (late : List Handled) (batch : List Arrival) (ending : Option Ending)
+    → (a : Awaits f keys workers card format ports begun start feed old sinks v late batch ending) → ((g : ℕ) → now.rest g ≡ old.rest g) → AreHeld Shard workers card format ports (a.hs ++ late) now left
+    → Awaits f keys workers card format ports begun start feed now left v [] batch ending
+awaits_written f keys workers card format ports begun start feed old now sinks left v late batch ending a same held = record {
   before = a.before;
   old = a.old;
   read = a.read;
   reached = a.reached;
   hs = a.reached.hs;
   behind = sym (append_nil a.reached.hs);
-  held = subst (λ (hs : List Handled). AreHeld Shard workers card ports hs now left) (sym a.behind) held;
+  held = subst (λ (hs : List Handled). AreHeld Shard workers card format ports hs now left) (sym a.behind) held;
   gathers = a.gathers;
   over = a.over;
   rests = λ n. same n ∙ a.rests n;
 }
 
 -- where the run is stopped before the round of a batch, and where it is
-pub halts_with : (f : Function) (keys : Keys) (workers : ℕ) (card : Card) (ports : ℕ) (begun : Feeding) (start : Told) (feed : Feeding) (old now : Told) (sinks : List Holding) (v : Sharded) (late : List Handled) (batch : List Arrival) (ending : Option Ending) (files : List ℕ) → 1 < workers → HashAlikeWhereTheyMeet f keys
-    → (a : Awaits f keys workers card ports begun start feed old sinks v late batch ending) → AreFronts Shard workers card ports (a.hs ++ late) now files → Halts f keys workers card ports begun start now files
-halts_with f keys workers card ports begun start feed old now sinks v late batch ending files several alike a fronts =
-    halts_at f keys workers card ports begun start a.before a.old now [] v files several alike a.reached (subst (λ (hs : List Handled). AreFronts Shard workers card ports hs now files) (sym a.behind) fronts)
+pub halts_with : (f : Function) (keys : Keys) (workers : ℕ) (card : Card) (format : CaptureFormat) (ports : ℕ) (begun : Feeding) (start : Told) (feed : Feeding) (old now : Told) (sinks : List Holding) (v : Sharded) (late : List Handled) (batch : List Arrival) (ending : Option Ending) (files : List ℕ) → 1 < workers → HashAlikeWhereTheyMeet f keys
+    → (a : Awaits f keys workers card format ports begun start feed old sinks v late batch ending) → AreFronts Shard workers card format ports (a.hs ++ late) now files → Halts f keys workers card format ports begun start now files
+halts_with f keys workers card format ports begun start feed old now sinks v late batch ending files several alike a fronts =
+    halts_at f keys workers card format ports begun start a.before a.old now [] v files several alike a.reached (subst (λ (hs : List Handled). AreFronts Shard workers card format ports hs now files) (sym a.behind) fronts)
 
-pub halts_waiting : (f : Function) (keys : Keys) (workers : ℕ) (card : Card) (ports : ℕ) (begun : Feeding) (start : Told) (feed : Feeding) (old : Told) (sinks : List Holding) (v : Sharded) (late : List Handled) (batch : List Arrival) (ending : Option Ending) → 1 < workers → HashAlikeWhereTheyMeet f keys
-    → Awaits f keys workers card ports begun start feed old sinks v late batch ending → Halts f keys workers card ports begun start old (files_of sinks)
-halts_waiting f keys workers card ports begun start feed old sinks v late batch ending several alike a =
-    halts_with f keys workers card ports begun start feed old old sinks v late batch ending (files_of sinks) several alike a
-    (fronts_more workers card ports a.hs late old (files_of sinks) (fronts_kept workers card ports a.hs old old sinks (λ n. refl) a.held))
+pub halts_waiting : (f : Function) (keys : Keys) (workers : ℕ) (card : Card) (format : CaptureFormat) (ports : ℕ) (begun : Feeding) (start : Told) (feed : Feeding) (old : Told) (sinks : List Holding) (v : Sharded) (late : List Handled) (batch : List Arrival) (ending : Option Ending) → 1 < workers → HashAlikeWhereTheyMeet f keys
+    → Awaits f keys workers card format ports begun start feed old sinks v late batch ending → Halts f keys workers card format ports begun start old (files_of sinks)
+halts_waiting f keys workers card format ports begun start feed old sinks v late batch ending several alike a =
+    halts_with f keys workers card format ports begun start feed old old sinks v late batch ending (files_of sinks) several alike a
+    (fronts_more workers card format ports a.hs late old (files_of sinks) (fronts_kept workers card format ports a.hs old old sinks (λ n. refl) a.held))
 
 -- what the round of a batch that was awaited is known to come to
-pub rounded_of : (f : Function) (keys : Keys) (workers : ℕ) (card : Card) (ports : ℕ) (begun : Feeding) (start : Told) (feed : Feeding) (now : Told) (sinks : List Holding) (late : List Handled) (batch : List Arrival) (ending : Option Ending) (handled : List Collected) (stop : Option Stop) (v new : Sharded)
-    → (a : Awaits f keys workers card ports begun start feed now sinks v late batch ending) → IsRound (setup_of f keys workers a.reached.worked.share) a.reached.worked.at (map packet_of batch) handled stop new
+pub rounded_of : (f : Function) (keys : Keys) (workers : ℕ) (card : Card) (format : CaptureFormat) (ports : ℕ) (begun : Feeding) (start : Told) (feed : Feeding) (now : Told) (sinks : List Holding) (late : List Handled) (batch : List Arrival) (ending : Option Ending) (handled : List Collected) (stop : Option Stop) (v new : Sharded)
+    → (a : Awaits f keys workers card format ports begun start feed now sinks v late batch ending) → IsRound (setup_of f keys workers a.reached.worked.share) a.reached.worked.at (map packet_of batch) handled stop new
     → Rounded f keys workers ports begun start feed a.read batch handled stop new a.reached.hs
-rounded_of f keys workers card ports begun start feed now sinks late batch ending handled stop v new a k =
-    rounded f keys workers card ports begun start a.before feed a.old a.read [] batch handled stop v new a.reached a.gathers k
+rounded_of f keys workers card format ports begun start feed now sinks late batch ending handled stop v new a k =
+    rounded f keys workers card format ports begun start a.before feed a.old a.read [] batch handled stop v new a.reached a.gathers k
 
 -- what is held once what the last round leaves was written
-pub held_behind : (f : Function) (keys : Keys) (workers : ℕ) (card : Card) (ports : ℕ) (begun : Feeding) (start : Told) (feed : Feeding) (old now : Told) (sinks left : List Holding) (late : List Handled) (batch : List Arrival) (ending : Option Ending) (v : Sharded)
-    → (a : Awaits f keys workers card ports begun start feed old sinks v late batch ending) → AreHeld Shard workers card ports (a.hs ++ late) now left → AreHeld Shard workers card ports a.reached.hs now left
-held_behind f keys workers card ports begun start feed old now sinks left late batch ending v a held = subst (λ (hs : List Handled). AreHeld Shard workers card ports hs now left) (sym a.behind) held
+pub held_behind : (f : Function) (keys : Keys) (workers : ℕ) (card : Card) (format : CaptureFormat) (ports : ℕ) (begun : Feeding) (start : Told) (feed : Feeding) (old now : Told) (sinks left : List Holding) (late : List Handled) (batch : List Arrival) (ending : Option Ending) (v : Sharded)
+    → (a : Awaits f keys workers card format ports begun start feed old sinks v late batch ending) → AreHeld Shard workers card format ports (a.hs ++ late) now left → AreHeld Shard workers card format ports a.reached.hs now left
+held_behind f keys workers card format ports begun start feed old now sinks left late batch ending v a held = subst (λ (hs : List Handled). AreHeld Shard workers card format ports hs now left) (sym a.behind) held
 
-pub held_waiting : (f : Function) (keys : Keys) (workers : ℕ) (card : Card) (ports : ℕ) (begun : Feeding) (start : Told) (feed : Feeding) (old : Told) (sinks : List Holding) (batch : List Arrival) (ending : Option Ending) (v : Sharded)
-    → (a : Awaits f keys workers card ports begun start feed old sinks v [] batch ending) → AreHeld Shard workers card ports a.reached.hs old sinks
-held_waiting f keys workers card ports begun start feed old sinks batch ending v a = subst (λ (hs : List Handled). AreHeld Shard workers card ports hs old sinks) (sym (a.behind ∙ append_nil a.hs)) a.held
+pub held_waiting : (f : Function) (keys : Keys) (workers : ℕ) (card : Card) (format : CaptureFormat) (ports : ℕ) (begun : Feeding) (start : Told) (feed : Feeding) (old : Told) (sinks : List Holding) (batch : List Arrival) (ending : Option Ending) (v : Sharded)
+    → (a : Awaits f keys workers card format ports begun start feed old sinks v [] batch ending) → AreHeld Shard workers card format ports a.reached.hs old sinks
+held_waiting f keys workers card format ports begun start feed old sinks batch ending v a = subst (λ (hs : List Handled). AreHeld Shard workers card format ports hs old sinks) (sym (a.behind ∙ append_nil a.hs)) a.held
 
 pub answered_none : (batch : List Arrival) → answered batch [] ≡ []
 answered_none [] = refl

@@ -2,13 +2,13 @@
 use Rattle.std.specs.Prelude.{◌≡◌, ◌+◌, ◌++◌, ◌≤◌, ◌<◌, ℕ, List, [], length, map, slice_get, Option, Some, None, Result, Ok, Err}
 use Rattle.std.specs.List.{AllByRecursion}
 use Rattle.nf_base.specs.declared.card.Card.{Card}
+use Rattle.capture_format.specs.declared.format.CaptureFormat.{CaptureFormat}
 use Rattle.nf_base.specs.declared.keys.Keys.{Keys}
 use Rattle.nf_base.specs.declared.packet.Fields.{Fields}
 use Rattle.nf_base.specs.declared.share.Share.{Share}
 use Rattle.nf_base.specs.declared.state.State.{State}
 use Rattle.nf_base.specs.Text.{Function}
 use Rattle.nf_base.specs.Shares.{IsShareStop}
-use Rattle.nf_base.specs.Step.{opening}
 use Rattle.nf_files.specs.Told.{Told, IsToldAs}
 use Rattle.hash_fields.specs.Hashed.{HasInput}
 use Rattle.packet_feed.specs.Arrivals.{Arrival, packet_of}
@@ -16,7 +16,6 @@ use Rattle.packet_feed.specs.Told.{packets_of}
 use Rattle.packet_feed.specs.Sources.{files_in, sixes_in, AreFrom}
 use Rattle.packet_feed.specs.Feeding.{Feeding, StandsFor}
 use Rattle.run_history.specs.declared.line.Mode.TheVariants.{Shard}
-use Rattle.shard_laws.specs.Rule.{AreShares, KeepShareRule}
 use Rattle.shard_machine.specs.declared.event.Answer.{Answer}
 use Rattle.shard_machine.specs.Machine as machine
 use Rattle.shard_machine.specs.Machine.{Machine}
@@ -28,8 +27,9 @@ use Rattle.stream_run.specs.declared.ending.Ending.{Ending}
 use Rattle.stream_run.specs.Runs.{Handled}
 use Rattle.stream_run.specs.Texts.{bytes_of}
 use Rattle.stream_run.specs.Writing.{Holding, files_of, AreHeld, AreFronts}
-use Rattle.stream_run.specs.Streaming.{IsUndivided, arrival_of, handling_in, AreFirst, IsEnding}
-use Rattle.sharded_run.specs.Setups.{queue_by, setup_of}
+use Rattle.stream_run.specs.Streaming.{arrival_of, AreFirst, IsEnding}
+use Rattle.stream_run.specs.Rules.{queue_by, shard_rule, AreBy}
+use Rattle.sharded_run.specs.Setups.{setup_of}
 use Rattle.sharded_run.specs.Sharded.{AreBefore}
 use Rattle.sharded_run.specs.Reading.{Rises, Fits, Gathers, IsOver}
 use Rattle.sharded_run.specs.Rounds.{answered}
@@ -42,15 +42,6 @@ use Rattle.sharded_run.specs.declared.came.Went.TheVariants.{On, Met}
 -- a packet that was handled, as its worker answered
 abbrev pub answer_in : Handled → Answer
 answer_in h = record { packet = h.arrival.packet; done = h.done }
-
--- Packets that were handled, each by the worker of its queue within its share, and the state that they
--- leave.
-pub record AreSharded (f : Function) (keys : Keys) (workers : ℕ) (hs : List Handled) (state : State) : Type 0 where
-  pub undivided : IsUndivided f hs state
-  pub queues : AllByRecursion (λ (h : Handled). h.worker ≡ queue_by keys workers h.arrival.packet) hs
-  pub share : ℕ → Share
-  pub shares : AreShares workers share
-  pub rule : KeepShareRule share (queue_by keys workers) f (opening f) (map handling_in hs)
 
 -- Shards worked these packets, gave up their answers, and were given no others.
 pub record HaveWorked (f : Function) (keys : Keys) (workers : ℕ) (hs : List Handled) (v : Sharded) : Type 0 where
@@ -65,12 +56,12 @@ pub record HaveWorked (f : Function) (keys : Keys) (workers : ℕ) (hs : List Ha
   pub inputs : AllByRecursion HasInput at.dispatched
 
 -- What packets leave was given to the files but for what is held, and they are those that were read.
-pub record Reaches (f : Function) (keys : Keys) (workers : ℕ) (card : Card) (ports : ℕ) (begun : Feeding) (start : Told) (feed : Feeding) (now : Told) (sinks : List Holding) (v : Sharded) : Type 0 where
+pub record Reaches (f : Function) (keys : Keys) (workers : ℕ) (card : Card) (format : CaptureFormat) (ports : ℕ) (begun : Feeding) (start : Told) (feed : Feeding) (now : Told) (sinks : List Holding) (v : Sharded) : Type 0 where
   pub hs : List Handled
   pub worked : HaveWorked f keys workers hs v
   pub from : AreFrom worked.last feed.sources
   pub given : (before : Told) → StandsFor before [] begun start → StandsFor before (map arrival_of hs) feed now
-  pub held : AreHeld Shard workers card ports hs now sinks
+  pub held : AreHeld Shard workers card format ports hs now sinks
   pub count : length hs ≡ feed.given
   pub same_files : files_in feed.sources ≡ files_in begun.sources
   pub same_six : sixes_in feed.sources ≡ sixes_in begun.sources
@@ -79,13 +70,13 @@ pub record Reaches (f : Function) (keys : Keys) (workers : ℕ) (card : Card) (p
 
 -- The run was stopped. These packets were handled until then, and each file was given a front of what
 -- they leave there.
-pub record Halts (f : Function) (keys : Keys) (workers : ℕ) (card : Card) (ports : ℕ) (begun : Feeding) (start now : Told) (files : List ℕ) : Type 0 where
+pub record Halts (f : Function) (keys : Keys) (workers : ℕ) (card : Card) (format : CaptureFormat) (ports : ℕ) (begun : Feeding) (start now : Told) (files : List ℕ) : Type 0 where
   pub hs : List Handled
   pub state : State
-  pub sharded : AreSharded f keys workers hs state
+  pub sharded : AreBy (shard_rule keys workers) f hs state
   pub first : (before : Told) → StandsFor before [] begun start → AreFirst (packets_of (sixes_in begun.sources) (files_in begun.sources) before) (map arrival_of hs)
   pub within : length hs ≤ begun.most
-  pub fronts : AreFronts Shard workers card ports hs now files
+  pub fronts : AreFronts Shard workers card format ports hs now files
 
 -- All packets were handled, or as many as may be; of them the files have what is said.
 pub record EndsWith (f : Function) (keys : Keys) (workers : ℕ) (begun : Feeding) (start : Told) (feed : Feeding) (v : Sharded) (ending : Ending) (Left : List Handled → Type 0) : Type 0 where
@@ -104,7 +95,7 @@ pub record EndsWith (f : Function) (keys : Keys) (workers : ℕ) (begun : Feedin
 pub record StopsWith (f : Function) (keys : Keys) (workers : ℕ) (begun : Feeding) (start : Told) (stop : Stop) (packets : ℕ) (Left : List Handled → Type 0) : Type 0 where
   pub hs : List Handled
   pub state : State
-  pub sharded : AreSharded f keys workers hs state
+  pub sharded : AreBy (shard_rule keys workers) f hs state
   pub queue_is : stop.queue ≡ queue_by keys workers stop.packet
   pub fields : Fields
   pub choices : List ℕ
@@ -129,38 +120,38 @@ IsOverIf (Some ending) begun start feed batch = IsOver ending begun start feed b
 
 -- What packets leave was given to the files but for what is held. Others were worked behind them, and
 -- what they leave is to be written. Those of a batch were read behind these and are to be worked.
-pub record Awaits (f : Function) (keys : Keys) (workers : ℕ) (card : Card) (ports : ℕ) (begun : Feeding) (start : Told) (feed : Feeding) (now : Told) (sinks : List Holding) (v : Sharded) (late : List Handled) (batch : List Arrival) (ending : Option Ending) : Type 0 where
+pub record Awaits (f : Function) (keys : Keys) (workers : ℕ) (card : Card) (format : CaptureFormat) (ports : ℕ) (begun : Feeding) (start : Told) (feed : Feeding) (now : Told) (sinks : List Holding) (v : Sharded) (late : List Handled) (batch : List Arrival) (ending : Option Ending) : Type 0 where
   pub before : Feeding
   pub old : Told
   pub read : Told
-  pub reached : Reaches f keys workers card ports begun start before old [] v
+  pub reached : Reaches f keys workers card format ports begun start before old [] v
   pub hs : List Handled
   pub behind : reached.hs ≡ hs ++ late
-  pub held : AreHeld Shard workers card ports hs now sinks
+  pub held : AreHeld Shard workers card format ports hs now sinks
   pub gathers : Gathers ports before feed old read batch
   pub over : IsOverIf ending before old feed batch
   pub rests : (g : ℕ) → now.rest g ≡ read.rest g
 
 -- what a round of a batch comes to behind which packets are left
-abbrev pub GoesOn : {E : Type 0} → Function → Keys → ℕ → Card → ℕ → Feeding → Told → Feeding → Told → List Holding → Sharded → List Arrival → List Arrival → Result Went E → Type 0
-GoesOn f keys workers card ports begun start feed now sinks v batch next (Ok (On ending handled)) = Awaits f keys workers card ports begun start feed now sinks v (answered batch handled) next ending
-GoesOn f keys workers card ports begun start feed now sinks v batch next (Ok (Met full)) = StopsWith f keys workers begun start full.stop full.packets (λ hs. AreHeld Shard workers card ports hs now sinks)
-GoesOn f keys workers card ports begun start feed now sinks v batch next (Err stop) = Halts f keys workers card ports begun start now (files_of sinks)
+abbrev pub GoesOn : {E : Type 0} → Function → Keys → ℕ → Card → CaptureFormat → ℕ → Feeding → Told → Feeding → Told → List Holding → Sharded → List Arrival → List Arrival → Result Went E → Type 0
+GoesOn f keys workers card format ports begun start feed now sinks v batch next (Ok (On ending handled)) = Awaits f keys workers card format ports begun start feed now sinks v (answered batch handled) next ending
+GoesOn f keys workers card format ports begun start feed now sinks v batch next (Ok (Met full)) = StopsWith f keys workers begun start full.stop full.packets (λ hs. AreHeld Shard workers card format ports hs now sinks)
+GoesOn f keys workers card format ports begun start feed now sinks v batch next (Err stop) = Halts f keys workers card format ports begun start now (files_of sinks)
 
 -- what all rounds come to
-abbrev pub Comes : {E : Type 0} → Function → Keys → ℕ → Card → ℕ → Feeding → Told → Feeding → Told → List Holding → Sharded → Result Ended E → Type 0
-Comes f keys workers card ports begun start feed now sinks v (Ok ended) = EndsSo f keys workers begun start feed v ended (λ hs. AreHeld Shard workers card ports hs now sinks)
-Comes f keys workers card ports begun start feed now sinks v (Err stop) = Halts f keys workers card ports begun start now (files_of sinks)
+abbrev pub Comes : {E : Type 0} → Function → Keys → ℕ → Card → CaptureFormat → ℕ → Feeding → Told → Feeding → Told → List Holding → Sharded → Result Ended E → Type 0
+Comes f keys workers card format ports begun start feed now sinks v (Ok ended) = EndsSo f keys workers begun start feed v ended (λ hs. AreHeld Shard workers card format ports hs now sinks)
+Comes f keys workers card format ports begun start feed now sinks v (Err stop) = Halts f keys workers card format ports begun start now (files_of sinks)
 
 -- each file was given what packets leave there
-abbrev pub AreWhole : ℕ → Card → ℕ → Told → List ℕ → List Handled → Type 0
-AreWhole workers card ports now files hs =
-    (k file : ℕ) → slice_get files k ≡ Some file → IsToldAs (bytes_of Shard workers card ports k hs) (now.given file)
+abbrev pub AreWhole : ℕ → Card → CaptureFormat → ℕ → Told → List ℕ → List Handled → Type 0
+AreWhole workers card format ports now files hs =
+    (k file : ℕ) → slice_get files k ≡ Some file → IsToldAs (bytes_of Shard workers card format ports k hs) (now.given file)
 
 -- what all rounds, and giving what is held to the files, come to
-abbrev pub Flows : {E : Type 0} → Function → Keys → ℕ → Card → ℕ → Feeding → Told → Feeding → Told → List ℕ → Sharded → Result Ended E → Type 0
-Flows f keys workers card ports begun start feed now files v (Ok ended) = EndsSo f keys workers begun start feed v ended (AreWhole workers card ports now files)
-Flows f keys workers card ports begun start feed now files v (Err stop) = Halts f keys workers card ports begun start now files
+abbrev pub Flows : {E : Type 0} → Function → Keys → ℕ → Card → CaptureFormat → ℕ → Feeding → Told → Feeding → Told → List ℕ → Sharded → Result Ended E → Type 0
+Flows f keys workers card format ports begun start feed now files v (Ok ended) = EndsSo f keys workers begun start feed v ended (AreWhole workers card format ports now files)
+Flows f keys workers card format ports begun start feed now files v (Err stop) = Halts f keys workers card format ports begun start now files
 
 -- the captures are the same, and no more packets were given than may be
 pub record StaysFed (old new : Feeding) : Type 0 where
@@ -196,4 +187,4 @@ end_by ending None packets = Over ending
 pub record IsLast (f : Function) (keys : Keys) (workers : ℕ) (hs : List Handled) (ending : Ending) (packets : ℕ) (ran : Ran) : Type 0 where
   pub ending_is : ran.ending ≡ ending
   pub packets_is : ran.packets ≡ packets
-  pub sharded : AreSharded f keys workers hs ran.state
+  pub sharded : AreBy (shard_rule keys workers) f hs ran.state

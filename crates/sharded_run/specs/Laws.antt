@@ -14,8 +14,8 @@ use Rattle.toeplitz_hash.specs.Packets.{hash_of}
 use Rattle.rss_table.specs.Tables.{table_index}
 use Rattle.shard_core.specs.declared.collected.Stop.{Stop}
 use Rattle.stream_run.specs.Runs.{Run, Turn}
-use Rattle.sharded_run.specs.Setups.{queue_by}
-use Rattle.sharded_run.specs.Sharded.{IsShardRun, IsStopBehind, AreBefore}
+use Rattle.stream_run.specs.Rules.{queue_by, shard_rule, IsRunBy}
+use Rattle.sharded_run.specs.Sharded.{IsStopBehind, AreBefore}
 
 -- a packet's worker is one of so many, and each index that the packet is given is that worker modulo
 -- their number
@@ -25,8 +25,8 @@ pub record IsOwnTurn (workers : ℕ) (t : Turn) : Type 0 where
 
 -- so it is of each packet of a run
 abbrev pub TurnsAreOwn : Type 0
-TurnsAreOwn = (f : Function) (keys : Keys) (workers : ℕ) (card : Card) (r : Run) → 0 < workers →
-    IsShardRun f keys workers card r → All (IsOwnTurn workers) r.turns
+TurnsAreOwn = (f : Function) (keys : Keys) (workers : ℕ) (card : Card) (given : List Arrival) (r : Run) → 0 < workers →
+    IsRunBy (shard_rule keys workers) f card given r → All (IsOwnTurn workers) r.turns
 
 -- Where a run stops: the handler of the packet comes to a `new` of the chain with no key taken, where
 -- no index of its queue's share is vacant.

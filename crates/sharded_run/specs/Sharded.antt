@@ -1,7 +1,5 @@
--- A run in mode `shard`: workers that share nothing handle the packets of their own queues.
-use Rattle.std.specs.Prelude.{◌≡◌, ℕ, List, ◌∷◌, ◌++◌, map, Option, Some, None}
-use Rattle.std.specs.List.{AllByRecursion}
-use Rattle.nf_base.specs.declared.card.Card.{Card}
+-- How a run in mode `shard` stops: at a packet whose queue's share has no index left.
+use Rattle.std.specs.Prelude.{◌≡◌, ℕ, List, ◌∷◌, ◌++◌, Option, Some, None}
 use Rattle.nf_base.specs.declared.done.Done.{Done}
 use Rattle.nf_base.specs.declared.keys.Keys.{Keys}
 use Rattle.nf_base.specs.declared.packet.Packet.{Packet}
@@ -10,28 +8,11 @@ use Rattle.nf_base.specs.declared.share.Share.{Share}
 use Rattle.nf_base.specs.declared.state.State.{State}
 use Rattle.nf_base.specs.Text.{Function}
 use Rattle.nf_base.specs.Shares.{IsShareStop}
-use Rattle.nf_base.specs.Step.{opening}
-use Rattle.run_history.specs.declared.line.Mode.TheVariants.{Shard}
 use Rattle.packet_feed.specs.Arrivals.{Arrival}
 use Rattle.packet_feed.specs.Order.{in_order}
-use Rattle.shard_laws.specs.Rule.{AreShares, KeepShareRule}
 use Rattle.shard_core.specs.declared.collected.Stop.{Stop}
-use Rattle.stream_run.specs.Runs.{Run, Turn, IsLegal, course_of, handling_of}
-use Rattle.sharded_run.specs.Setups.{queue_by}
-
--- Each packet is handled by the worker of its queue, with indices of that queue's share, and no `new`
--- answers that its chain is full. What the packets come to is what the undivided function does with
--- them, in this order.
-pub record IsShardRun (f : Function) (keys : Keys) (workers : ℕ) (card : Card) (r : Run) : Type 0 where
-  pub function : r.function ≡ f
-  pub mode : r.mode ≡ Shard
-  pub workers_are : r.workers ≡ workers
-  pub card_is : r.card ≡ card
-  pub queues : AllByRecursion (λ (t : Turn). t.worker ≡ queue_by keys workers t.arrival.packet) r.turns
-  pub legal : IsLegal r
-  pub share : ℕ → Share
-  pub shares : AreShares workers share
-  pub rule : KeepShareRule share (queue_by keys workers) f (opening f) (map handling_of r.turns)
+use Rattle.stream_run.specs.Runs.{Run, course_of}
+use Rattle.stream_run.specs.Rules.{queue_by}
 
 -- The share stop of a packet behind a run: at the state that the run leaves, some indices of its queue's
 -- share bring its handler to a `new` of a chain of which the share has none left.

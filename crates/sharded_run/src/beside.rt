@@ -1,6 +1,7 @@
 //! The packets of a round are worked while what those before it leave is written, and others are read.
 ghost use Rattle.std.specs.Prelude.{◌≡◌, ◌^◌, ◌≤◌, ◌++◌, ℕ, List, length};
 ghost use Rattle.nf_base.specs.declared.card.Card.{Card};
+ghost use Rattle.capture_format.specs.declared.format.CaptureFormat.{CaptureFormat};
 ghost use Rattle.packet_feed.specs.Told.{EachFile, IsApart};
 ghost use Rattle.packet_feed.specs.Sources.{files_in};
 ghost use Rattle.run_history.specs.declared.line.Mode.TheVariants as mode;
@@ -45,9 +46,10 @@ fn write_and_read<F: Files>(
     ensures reads_on { Reads 1024 (length captures.now)
         feed.old (F.told files.old) feed.new (F.told files.new) last.new result }
     ensures goes_on { let more = answered last.old handled.now in
-        (workers : ℕ) → (card : Card) → (hs : List Handled) →
-        AreHeld mode.Shard workers card ports hs (F.told files.old) sinks.old →
-        AllGoOn mode.Shard workers card ports (hs ++ more) (F.told files.new) sinks.new result }
+        (workers : ℕ) → (card : Card) → (format : CaptureFormat) → (hs : List Handled) →
+        AreHeld mode.Shard workers card format ports hs (F.told files.old) sinks.old →
+        AllGoOn mode.Shard workers card format ports (hs ++ more)
+        (F.told files.new) sinks.new result }
     ensures same_files { files_of sinks.new ≡ files_of sinks.old }
     ensures kept { KeepsBut (files_of sinks.old) (F.told files.old) (F.told files.new) }
     ensures cause { IsStopCause (F.counted files.old) (F.counted files.new) result }
@@ -92,9 +94,10 @@ pub(crate) fn work_and_pass<R: Threads + Sync, F: Files, G: Turns + Sync>(
     ensures reads_on { Reads 1024 (length captures.now)
         feed.old (F.told files.old) feed.new (F.told files.new) last.new result }
     ensures goes_on { let more = answered last.old handled.now in
-        (workers : ℕ) → (card : Card) → (hs : List Handled) →
-        AreHeld mode.Shard workers card ports hs (F.told files.old) sinks.old →
-        AllGoOn mode.Shard workers card ports (hs ++ more) (F.told files.new) sinks.new result }
+        (workers : ℕ) → (card : Card) → (format : CaptureFormat) → (hs : List Handled) →
+        AreHeld mode.Shard workers card format ports hs (F.told files.old) sinks.old →
+        AllGoOn mode.Shard workers card format ports (hs ++ more)
+        (F.told files.new) sinks.new result }
     ensures same_files { files_of sinks.new ≡ files_of sinks.old }
     ensures kept { KeepsBut (files_of sinks.old) (F.told files.old) (F.told files.new) }
     ensures cause { IsStopCause (F.counted files.old) (F.counted files.new) result }
@@ -112,9 +115,11 @@ pub(crate) fn work_and_pass<R: Threads + Sync, F: Files, G: Turns + Sync>(
         ensures { Reads 1024 (length captures.entry.now)
             feed.entry.now (F.told files.entry.now) feed.exit.now (F.told files.exit.now)
             last.exit.now result
-            × ((workers : ℕ) → (card : Card) → (hs : List Handled) →
-            AreHeld mode.Shard workers card ports hs (F.told files.entry.now) sinks.entry.now →
-            AllGoOn mode.Shard workers card ports (hs ++ answered last.entry.now handled.entry.now)
+            × ((workers : ℕ) → (card : Card) → (format : CaptureFormat) → (hs : List Handled) →
+            AreHeld mode.Shard workers card format ports hs
+            (F.told files.entry.now) sinks.entry.now →
+            AllGoOn mode.Shard workers card format ports
+            (hs ++ answered last.entry.now handled.entry.now)
             (F.told files.exit.now) sinks.exit.now result)
             × (files_of sinks.exit.now ≡ files_of sinks.entry.now)
             × KeepsBut (files_of sinks.entry.now)

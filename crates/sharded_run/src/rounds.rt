@@ -2,6 +2,7 @@
 ghost use Rattle.std.specs.Prelude.{◌≡◌, ◌^◌, ◌<◌, ◌≤◌, ℕ, [], Some, None, length, map};
 ghost use Rattle.std.specs.List.{AllByRecursion};
 ghost use Rattle.nf_base.specs.declared.card.Card.{Card};
+ghost use Rattle.capture_format.specs.declared.format.CaptureFormat.{CaptureFormat};
 ghost use Rattle.nf_base.specs.declared.keys.Keys as keys;
 ghost use Rattle.nf_base.specs.Doors.{six_ports};
 ghost use Rattle.nf_base.specs.Functions.{function_of};
@@ -67,11 +68,12 @@ fn last_round<R: Threads + Sync, F: Files, G: Turns + Sync>(
         (map packet_of batch.now) }
     requires enough { length batch.now ≤ feed.now.given }
     ensures comes { let f = function_of shards.old.func in let ports = length captures.now in
-        (keys : keys.Keys) → (workers : ℕ) → (card : Card) → (begun : Feeding) → (start : Told) →
+        (keys : keys.Keys) → (workers : ℕ) → (card : Card) →
+        (format : CaptureFormat) → (begun : Feeding) → (start : Told) →
         1 < workers → HashAlikeWhereTheyMeet f keys →
-        Awaits f keys workers card ports begun start
+        Awaits f keys workers card format ports begun start
         feed.now (F.told files.old) sinks.old shards.old [] batch.now (Some ending) →
-        Comes f keys workers card ports begun start
+        Comes f keys workers card format ports begun start
         feed.now (F.told files.new) sinks.new shards.new result }
     ensures same { SameSize shards.old shards.new }
     ensures same_files { files_of sinks.new ≡ files_of sinks.old }
@@ -124,11 +126,13 @@ fn one_round<R: Threads + Sync, F: Files, G: Turns + Sync>(
         (map packet_of batch.now) }
     requires enough { length batch.now ≤ feed.old.given }
     ensures on { let f = function_of shards.old.func in let ports = length captures.now in
-        (keys : keys.Keys) → (workers : ℕ) → (card : Card) → (begun : Feeding) → (start : Told) →
+        (keys : keys.Keys) → (workers : ℕ) → (card : Card) →
+        (format : CaptureFormat) → (begun : Feeding) → (start : Told) →
         1 < workers → HashAlikeWhereTheyMeet f keys →
-        Awaits f keys workers card ports begun start feed.old (F.told files.old) sinks.old shards.old
+        Awaits f keys workers card format ports begun start
+        feed.old (F.told files.old) sinks.old shards.old
         (answered last.old handled.now) batch.now None →
-        GoesOn f keys workers card ports begun start
+        GoesOn f keys workers card format ports begun start
         feed.new (F.told files.new) sinks.new shards.new batch.now last.new result }
     ensures idle { IfOn result (λ _ _. AreIdle shards.new) }
     ensures read { IfOn result (λ ending _.
@@ -193,11 +197,12 @@ fn rounds_in<R: Threads + Sync, F: Files, G: Turns + Sync>(
     requires few { length sinks.old ≤ 2 ^ 32 }
     requires empty { batch.old ≡ [] }
     ensures comes { let f = function_of shards.old.func in let ports = length captures.now in
-        (keys : keys.Keys) → (workers : ℕ) → (card : Card) → (begun : Feeding) → (start : Told) →
+        (keys : keys.Keys) → (workers : ℕ) → (card : Card) →
+        (format : CaptureFormat) → (begun : Feeding) → (start : Told) →
         1 < workers → HashAlikeWhereTheyMeet f keys →
-        Reaches f keys workers card ports begun start
+        Reaches f keys workers card format ports begun start
         feed.old (F.told files.old) sinks.old shards.old →
-        Comes f keys workers card ports begun start
+        Comes f keys workers card format ports begun start
         feed.new (F.told files.new) sinks.new shards.new result }
     ensures same { SameSize shards.old shards.new }
     ensures same_files { files_of sinks.new ≡ files_of sinks.old }
@@ -262,11 +267,12 @@ pub(crate) fn all_rounds<R: Threads + Sync, F: Files, G: Turns + Sync>(
     requires apart { IsApart (files_of sinks.old) }
     requires few { length sinks.old ≤ 2 ^ 32 }
     ensures comes { let f = function_of shards.old.func in let ports = length captures.now in
-        (keys : keys.Keys) → (workers : ℕ) → (card : Card) → (begun : Feeding) → (start : Told) →
+        (keys : keys.Keys) → (workers : ℕ) → (card : Card) →
+        (format : CaptureFormat) → (begun : Feeding) → (start : Told) →
         1 < workers → HashAlikeWhereTheyMeet f keys →
-        Reaches f keys workers card ports begun start
+        Reaches f keys workers card format ports begun start
         feed.old (F.told files.old) sinks.old shards.old →
-        Comes f keys workers card ports begun start
+        Comes f keys workers card format ports begun start
         feed.new (F.told files.new) sinks.new shards.new result }
     ensures same { SameSize shards.old shards.new }
     ensures same_files { files_of sinks.new ≡ files_of sinks.old }

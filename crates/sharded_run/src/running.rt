@@ -17,9 +17,11 @@ ghost use Rattle.stream_run.specs.Writing.{files_of, AreHeld, KeepsBut, IsStopCa
 ghost use Rattle.sharded_run.specs.Rounds.{AreIdle};
 ghost use Rattle.sharded_run.specs.Going.{Reaches, HaveWorked, IsLast, Flows};
 ghost use Rattle.sharded_run.specs.Lawful.{Runs};
+ghost use Rattle.capture_format.specs.declared.format.CaptureFormat.{CaptureFormat};
 
 use crate::came::{Came, Ended};
 use crate::rounds::all_rounds;
+use capture_format::CaptureFormat;
 use nf_base::card::Card;
 use nf_base::func::Func;
 use nf_base::keys::Keys;
@@ -55,11 +57,12 @@ fn flow<R: Threads + Sync, F: Files, G: Turns + Sync>(
     requires apart { IsApart (files_of sinks.old) }
     requires few { length sinks.old ≤ 2 ^ 32 }
     ensures flows { let f = function_of shards.old.func in let ports = length captures.now in
-        (keys : keys.Keys) → (workers : ℕ) → (card : Card) → (begun : Feeding) → (start : Told) →
+        (keys : keys.Keys) → (workers : ℕ) → (card : Card) →
+        (format : CaptureFormat) → (begun : Feeding) → (start : Told) →
         1 < workers → HashAlikeWhereTheyMeet f keys →
-        Reaches f keys workers card ports begun start
+        Reaches f keys workers card format ports begun start
         feed.old (F.told files.old) sinks.old shards.old →
-        Flows f keys workers card ports begun start
+        Flows f keys workers card format ports begun start
         feed.new (F.told files.new) (files_of sinks.old) shards.new result }
     ensures same { SameSize shards.old shards.new }
     ensures kept { KeepsBut (files_of sinks.old) (F.told files.old) (F.told files.new) }
@@ -134,12 +137,14 @@ fn stream<R: Threads + Sync, F: Files, G: Turns + Sync>(
     requires created { EachFile (F.is_written files.old) (files_of sinks.old) }
     requires apart { IsApart (files_of sinks.old) }
     requires few { length sinks.old ≤ 2 ^ 32 }
-    // All files are held as they begin, with some card.
+    // All files are held as they begin, with some card and outputs of some format.
     requires heads { let ports = length func.now.handlers in
-        (card : Card) × AreHeld mode.Shard workers card ports [] (F.told files.old) sinks.old }
+        (card : Card) × (format : CaptureFormat)
+        × AreHeld mode.Shard workers card format ports [] (F.told files.old) sinks.old }
     ensures runs { let ports = length func.now.handlers in
-        (card : Card) → AreHeld mode.Shard workers card ports [] (F.told files.old) sinks.old →
-        Runs (function_of func.now) keys.now workers card feed.old (F.told files.old)
+        (card : Card) → (format : CaptureFormat) →
+        AreHeld mode.Shard workers card format ports [] (F.told files.old) sinks.old →
+        Runs (function_of func.now) keys.now workers card format feed.old (F.told files.old)
         feed.new (F.told files.new) (files_of sinks.old) result }
     ensures kept { KeepsBut (files_of sinks.old) (F.told files.old) (F.told files.new) }
     ensures cause { IsStopCause (F.counted files.old) (F.counted files.new) result }
@@ -161,7 +166,7 @@ fn stream<R: Threads + Sync, F: Files, G: Turns + Sync>(
 }
 
 /// Handles the packets of captures in capture order, each by the worker of its queue, and writes the
-/// outputs and the journal as the run goes.
+/// outputs, in this format, and the journal as the run goes.
 ///
 /// The workers of a round run in threads of their own; `turns` is told when a worker comes to a packet and
 /// when it has handled it, and nothing depends on it. The keys are one for each port, by which packets
@@ -179,6 +184,7 @@ pub fn run<R: Threads + Sync, F: Files, G: Turns + Sync>(
     keys: &Keys,
     workers: Workers,
     card: Card,
+    format: CaptureFormat,
     feed: &mut Feed,
     captures: &[u32],
     targets: &[u32],
@@ -200,15 +206,16 @@ pub fn run<R: Threads + Sync, F: Files, G: Turns + Sync>(
         IsEmptyIfTold ((F.told files.old).given file) }
     // One run's files are whole, and it handled the first packets of the captures in capture order, or
     // those before a share stop; or each file holds a front of what such a run leaves there.
-    ensures runs { Runs (function_of func.now) keys.now workers card feed.old (F.told files.old)
-        feed.new (F.told files.new) targets.now result }
+    ensures runs { Runs (function_of func.now) keys.now workers card format feed.old
+        (F.told files.old) feed.new (F.told files.new) targets.now result }
     ensures kept { KeepsBut targets.now (F.told files.old) (F.told files.new) }
     ensures cause { IsStopCause (F.counted files.old) (F.counted files.new) result }
     // The file that failed is one of the captures or of the targets.
     ensures among { StopsAmong captures.now targets.now result }
 {
     let ports = func.handlers.len();
-    let mut sinks = match begin_sinks(alloc, Mode::Shard, workers, card, ports, targets) {
+    let mode = Mode::Shard;
+    let mut sinks = match begin_sinks(alloc, mode, workers, card, format, ports, targets) {
         Ok(sinks) => sinks,
         Err(_) => return Err(Stop::Memory),
     };

@@ -8,6 +8,7 @@ ghost use Rattle.nf_files.specs.Told.{IsEmptyIfTold};
 ghost use Rattle.packet_feed.specs.Told.{EachFile, IsApart};
 ghost use Rattle.packet_feed.specs.Sources.{files_in, sixes_in};
 
+use capture_format::CaptureFormat;
 use nf_base::card::Card;
 use nf_base::func::Func;
 use nf_base::keys::Keys;
@@ -112,6 +113,7 @@ pub fn run_all<R: Threads + Sync, F: Files>(
         keys,
         Workers::new(2),
         card,
+        CaptureFormat::Pcap,
         feed,
         opened,
         made,

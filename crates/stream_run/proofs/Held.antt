@@ -7,6 +7,7 @@ use Rattle.std.proofs.lemmas.List.Elements.{All-get_or, All-weaker}
 use Rattle.std.proofs.lemmas.Option.{slice_get-map, slice_get_within, get_or_from_slice_get}
 use Rattle.std.proofs.lemmas.Bool.{cases_eq, cases_lt}
 use Rattle.nf_base.specs.declared.card.Card.{Card}
+use Rattle.capture_format.specs.declared.format.CaptureFormat.{CaptureFormat}
 use Rattle.nf_base.proofs.Mixes.{got_set}
 use Rattle.nf_files.specs.Told.{Told, IsCurrent}
 use Rattle.nf_files.specs.Pieces.{Gains}
@@ -65,27 +66,28 @@ pub file_at : (sinks : List Holding) (k : ℕ) (s : Holding) → slice_get sinks
 file_at sinks k s e = slice_get-map (λ (x : Holding). x.file) sinks k ∙ ap (option_map (λ (x : Holding). x.file)) e
 
 -- Of the files below a number more was put already, of the others not.
-abbrev pub IsPartly : (ℕ → List ℕ) → (ℕ → List ℕ) → ℕ → Told → List Holding → Type 0
-IsPartly before after k told sinks =
-    (j : ℕ) (s : Holding) → slice_get sinks j ≡ Some s → (j < k → Holds (after j) (told.given s.file) s.held) × (k ≤ j → Holds (before j) (told.given s.file) s.held)
+abbrev pub IsPartly : CaptureFormat → (ℕ → List ℕ) → (ℕ → List ℕ) → ℕ → Told → List Holding → Type 0
+IsPartly format before after k told sinks =
+    (j : ℕ) (s : Holding) → slice_get sinks j ≡ Some s → (s.format ≡ format) × (j < k → Holds (after j) (told.given s.file) s.held) × (k ≤ j → Holds (before j) (told.given s.file) s.held)
 
 given_other : (sinks : List Holding) (k j : ℕ) (s x : Holding) (old new : Told) → IsApart (files_of sinks) → slice_get sinks k ≡ Some s → slice_get sinks j ≡ Some x → j ≢ k → KeepsOther s.file old new → new.given x.file ≡ old.given x.file
 given_other sinks k j s x old new apart e p ne kept = kept.givens x.file (apart j k x.file s.file (file_at sinks j x p) (file_at sinks k s e) ne)
 
-pub partly_more : (before after : ℕ → List ℕ) (sinks : List Holding) (k : ℕ) (s new_s : Holding) (old new : Told) → IsApart (files_of sinks) → slice_get sinks k ≡ Some s → new_s.file ≡ s.file → KeepsOther s.file old new
+pub partly_more : (format : CaptureFormat) (before after : ℕ → List ℕ) (sinks : List Holding) (k : ℕ) (s new_s : Holding) (old new : Told) → IsApart (files_of sinks) → slice_get sinks k ≡ Some s → new_s.file ≡ s.file → new_s.format ≡ s.format → KeepsOther s.file old new
     → (Holds (before k) (old.given s.file) s.held → Holds (after k) (new.given s.file) new_s.held)
-    → IsPartly before after k old sinks → IsPartly before after (k + 1) new (set sinks k new_s)
-partly_more before after sinks k s new_s old new apart e same kept step h j x q = elim (got_set sinks k j new_s x q) [
+    → IsPartly format before after k old sinks → IsPartly format before after (k + 1) new (set sinks k new_s)
+partly_more format before after sinks k s new_s old new apart e same kind kept step h j x q = elim (got_set sinks k j new_s x q) [
   | inl here ↦
-      let put : Holds (after k) (new.given s.file) new_s.held = step ((h k s e).1 (omega arith)) in
+      let put : Holds (after k) (new.given s.file) new_s.held = step ((h k s e).2 (omega arith)) in
       let at : Holds (after k) (new.given new_s.file) new_s.held = subst (λ (f : ℕ). Holds (after k) (new.given f) new_s.held) (sym same) put in
       let of : Holds (after j) (new.given x.file) x.held = subst (λ (t : Holding). Holds (after j) (new.given t.file) t.held) here.1 (subst (λ (n : ℕ). Holds (after n) (new.given new_s.file) new_s.held) (sym here.0) at) in
-      (λ lt. of, λ le. absurd (omega (arith, here.0, le)))
+      (sym (ap (λ (t : Holding). t.format) here.1) ∙ kind ∙ (h k s e).0, λ lt. of, λ le. absurd (omega (arith, here.0, le)))
   | inr there ↦
       let g = given_other sinks k j s x old new apart e there.1 there.0 kept in
       let before_x = h j x there.1 in (
-        λ lt. subst (λ (o : Option (List ℕ)). Holds (after j) o x.held) (sym g) (before_x.0 (omega (arith, lt, there.0))),
-        λ le. subst (λ (o : Option (List ℕ)). Holds (before j) o x.held) (sym g) (before_x.1 (omega (arith, le))),
+        before_x.0,
+        λ lt. subst (λ (o : Option (List ℕ)). Holds (after j) o x.held) (sym g) (before_x.1 (omega (arith, lt, there.0))),
+        λ le. subst (λ (o : Option (List ℕ)). Holds (before j) o x.held) (sym g) (before_x.2 (omega (arith, le))),
       )
 ]
 
@@ -95,29 +97,29 @@ stays_in (s ∷ sinks) zero file e = (s, refl, cc)
 stays_in (s ∷ sinks) (suc k) file e = stays_in sinks k file e
 
 -- one file failed
-pub partly_fronts : (before after : ℕ → List ℕ) (sinks : List Holding) (k : ℕ) (s : Holding) (old new : Told) → IsApart (files_of sinks) → slice_get sinks k ≡ Some s → KeepsOther s.file old new
-    → ((j : ℕ) → IsFrontOf (after j) (before j)) → (Holds (before k) (old.given s.file) s.held → IsFrontIfTold (after k) (new.given s.file)) → IsPartly before after k old sinks
+pub partly_fronts : (format : CaptureFormat) (before after : ℕ → List ℕ) (sinks : List Holding) (k : ℕ) (s : Holding) (old new : Told) → IsApart (files_of sinks) → slice_get sinks k ≡ Some s → KeepsOther s.file old new
+    → ((j : ℕ) → IsFrontOf (after j) (before j)) → (Holds (before k) (old.given s.file) s.held → IsFrontIfTold (after k) (new.given s.file)) → IsPartly format before after k old sinks
     → (j file : ℕ) → slice_get (files_of sinks) j ≡ Some file → IsFrontIfTold (after j) (new.given file)
-partly_fronts before after sinks k s old new apart e kept fronts step h j file q =
+partly_fronts format before after sinks k s old new apart e kept fronts step h j file q =
     let x = stays_in sinks j file q in
     subst (λ (f : ℕ). IsFrontIfTold (after j) (new.given f)) x.2 (elim (cases_eq j k) [
       | inl same ↦
           let is : s ≡ x.0 = one_is s x.0 (sym e ∙ ap (slice_get sinks) (sym same) ∙ x.1) in
-          subst (λ (t : Holding). IsFrontIfTold (after j) (new.given t.file)) is (subst (λ (n : ℕ). IsFrontIfTold (after n) (new.given s.file)) (sym same) (step ((h k s e).1 (omega arith))))
+          subst (λ (t : Holding). IsFrontIfTold (after j) (new.given t.file)) is (subst (λ (n : ℕ). IsFrontIfTold (after n) (new.given s.file)) (sym same) (step ((h k s e).2 (omega arith))))
       | inr ne ↦
           let g = given_other sinks k j s x.0 old new apart e x.1 ne kept in
           let parts = h j x.0 x.1 in
           subst (λ (o : Option (List ℕ)). IsFrontIfTold (after j) o) (sym g) (elim (cases_lt j k) [
-            | inl lt ↦ front_all (after j) (old.given x.0.file) x.0.held (parts.0 lt)
-            | inr le ↦ front_longer (before j) (after j) (old.given x.0.file) (fronts j) (front_all (before j) (old.given x.0.file) x.0.held (parts.1 le))
+            | inl lt ↦ front_all (after j) (old.given x.0.file) x.0.held (parts.1 lt)
+            | inr le ↦ front_longer (before j) (after j) (old.given x.0.file) (fronts j) (front_all (before j) (old.given x.0.file) x.0.held (parts.2 le))
           ])
     ])
   where
     one_is : (x y : Holding) → Some x ≡ Some y → x ≡ y
     one_is x y e = cc
 
-pub grows : (mode : Mode) (workers : ℕ) (card : Card) (ports : ℕ) (hs : List Handled) (h : Handled) (j : ℕ) → IsFrontOf (bytes_of mode workers card ports j (hs ++ h ∷ [])) (bytes_of mode workers card ports j hs)
-grows mode workers card ports hs h j = record { later = piece ports j h; all = sym (bytes_more mode workers card ports j hs h) }
+pub grows : (mode : Mode) (workers : ℕ) (card : Card) (format : CaptureFormat) (ports : ℕ) (hs : List Handled) (h : Handled) (j : ℕ) → IsFrontOf (bytes_of mode workers card format ports j (hs ++ h ∷ [])) (bytes_of mode workers card format ports j hs)
+grows mode workers card format ports hs h j = record { later = piece format ports j h; all = sym (bytes_more mode workers card format ports j hs h) }
 
 pub same_bytes : (bytes : List ℕ) → IsFrontOf bytes bytes
 same_bytes bytes = record { later = []; all = append-nil bytes }
@@ -151,11 +153,14 @@ pub same_length : (xs ys : List Holding) → files_of xs ≡ files_of ys → len
 same_length xs ys e = omega (arith, ap (λ (t : List ℕ). length t) e, length-map xs (λ (x : Holding). x.file), length-map ys (λ (x : Holding). x.file))
 
 -- more was put into all files
-pub all_partly : (before after : ℕ → List ℕ) (sinks : List Holding) (k : ℕ) (told : Told) → length sinks ≤ k → IsPartly before after k told sinks → (j : ℕ) (s : Holding) → slice_get sinks j ≡ Some s → Holds (after j) (told.given s.file) s.held
-all_partly before after sinks k told past h j s e = let inside : j < length sinks = slice_get_within sinks j s e in (h j s e).0 (omega arith)
+pub all_partly : (format : CaptureFormat) (before after : ℕ → List ℕ) (sinks : List Holding) (k : ℕ) (told : Told) → length sinks ≤ k → IsPartly format before after k told sinks → (j : ℕ) (s : Holding) → slice_get sinks j ≡ Some s → (s.format ≡ format) × Holds (after j) (told.given s.file) s.held
+all_partly format before after sinks k told past h j s e =
+    let inside : j < length sinks = slice_get_within sinks j s e in
+    let x = h j s e in
+    (x.0, x.1 (omega arith))
 
-pub none_partly : (before after : ℕ → List ℕ) (sinks : List Holding) (told : Told) → ((j : ℕ) (s : Holding) → slice_get sinks j ≡ Some s → Holds (before j) (told.given s.file) s.held) → IsPartly before after 0 told sinks
-none_partly before after sinks told h j s e = (λ lt. absurd (omega arith), λ le. h j s e)
+pub none_partly : (format : CaptureFormat) (before after : ℕ → List ℕ) (sinks : List Holding) (told : Told) → ((j : ℕ) (s : Holding) → slice_get sinks j ≡ Some s → (s.format ≡ format) × Holds (before j) (told.given s.file) s.held) → IsPartly format before after 0 told sinks
+none_partly format before after sinks told h j s e = let x = h j s e in (x.0, λ lt. absurd (omega arith), λ le. x.1)
 
 pub little_more : (sinks : List Holding) (k : ℕ) (new_s : Holding) → IsLittle new_s → ((j : ℕ) (s : Holding) → j < k → slice_get sinks j ≡ Some s → IsLittle s)
     → (j : ℕ) (s : Holding) → j < k + 1 → slice_get (set sinks k new_s) j ≡ Some s → IsLittle s

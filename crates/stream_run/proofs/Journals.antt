@@ -190,11 +190,11 @@ header_right : (h : Heading) (rest : List ℕ) → header_line h.mode h.workers 
 header_right h rest = simp append_assoc
 
 pub journals_one : JournalsAreOne
-journals_one r s h k e =
+journals_one a b r s h k e =
     let hs = flat_map line_of (handled_in r) in
     let ks = flat_map line_of (handled_in s) in
     let all : heading_words (heading_of r) ++ (10 ∷ hs) ≡ heading_words (heading_of s) ++ (10 ∷ ks) =
-    sym (header_right (heading_of r) hs) ∙ sym (are_lines r) ∙ e ∙ are_lines s ∙ header_right (heading_of s) ks in
+    sym (header_right (heading_of r) hs) ∙ sym (are_lines a r) ∙ e ∙ are_lines b s ∙ header_right (heading_of s) ks in
     let two = cut 10 (heading_words (heading_of r)) (heading_words (heading_of s)) hs ks (heading_in_line (heading_of r) h.workers) (heading_in_line (heading_of s) k.workers) all in
     let same = headings_one (heading_of r) (heading_of s) h.workers k.workers two.0 in (
       ap (λ (x : Heading). x.mode) same,

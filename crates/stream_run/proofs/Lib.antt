@@ -1,8 +1,11 @@
 pub mod Going
+pub mod Stepping
+pub mod Ordered
 pub mod Bytes
 pub mod Edited
 pub mod Held
 pub mod Reached
 pub mod Complete
+pub mod Ruled
 pub mod Journals
 pub mod Grown

@@ -7,6 +7,7 @@ use Rattle.nf_base.specs.Text.{Function}
 use Rattle.nf_base.specs.Step.{StepResult, step, opening}
 use Rattle.nf_base.specs.Runs.{Handling, RunResult, run, with_answer}
 use Rattle.nf_base.specs.declared.card.Card.{Card}
+use Rattle.capture_format.specs.declared.format.CaptureFormat.{CaptureFormat}
 use Rattle.nf_base.specs.declared.packet.Packet.{Packet}
 use Rattle.nf_base.specs.declared.done.Done.{Done}
 use Rattle.nf_base.specs.declared.state.State.{State}
@@ -71,8 +72,8 @@ alone_more [] h e all = (e, tt)
 alone_more (x ∷ hs) h e all = (all.0, alone_more hs h e all.1)
 
 -- what stands of files stands where none of them was written
-held_kept : (card : Card) (ports : ℕ) (hs : List Handled) (old new : Told) (sinks : List Holding) → ((g : ℕ) → new.given g ≡ old.given g) → AreHeld One 1 card ports hs old sinks → AreHeld One 1 card ports hs new sinks
-held_kept card ports hs old new sinks same h k s e = subst (λ (o : Option (List ℕ)). Holds (bytes_of One 1 card ports k hs) o s.held) (sym (same s.file)) (h k s e)
+held_kept : (card : Card) (format : CaptureFormat) (ports : ℕ) (hs : List Handled) (old new : Told) (sinks : List Holding) → ((g : ℕ) → new.given g ≡ old.given g) → AreHeld One 1 card format ports hs old sinks → AreHeld One 1 card format ports hs new sinks
+held_kept card format ports hs old new sinks same h k s e = let x = h k s e in (x.0, subst (λ (o : Option (List ℕ)). Holds (bytes_of One 1 card format ports k hs) o s.held) (sym (same s.file)) x.1)
 
 -- the arrivals so far and the packet that is shown
 arrivals_more : (hs : List Handled) (packet : Packet) (original : ℕ) (frame : List ℕ) (done : Done) (feed : Feeding) → original ≡ original_of feed → frame ≡ frame_of feed → map arrival_of hs ++ shown packet feed ∷ [] ≡ map arrival_of (hs ++ came_to 0 packet original frame done ∷ [])
@@ -82,8 +83,8 @@ arrivals_more hs packet original frame done feed o f =
 
 -- ---- what was reached
 
-pub reached_none : (f : Function) (card : Card) (ports : ℕ) (begun : Feeding) (start : Told) (sinks : List Holding) (state : State) → state ≡ opening f → begun.given ≡ 0 → AreHeld One 1 card ports [] start sinks → Reaches f card ports begun start begun start sinks state
-reached_none f card ports begun start sinks state opens new heads = record {
+pub reached_none : (f : Function) (card : Card) (format : CaptureFormat) (ports : ℕ) (begun : Feeding) (start : Told) (sinks : List Holding) (state : State) → state ≡ opening f → begun.given ≡ 0 → AreHeld One 1 card format ports [] start sinks → Reaches f card format ports begun start begun start sinks state
+reached_none f card format ports begun start sinks state opens new heads = record {
   hs = [];
   undivided = ap (λ (s : State). Some (result_in [] s)) (sym opens);
   alone = tt;
@@ -92,14 +93,14 @@ reached_none f card ports begun start sinks state opens new heads = record {
   count = sym new;
 }
 
-pub reached_more : (f : Function) (card : Card) (ports : ℕ) (begun : Feeding) (start : Told) (feed next : Feeding) (old read new : Told) (sinks now : List Holding) (state after : State) (packet : Packet) (original : ℕ) (frame : List ℕ)
-    → Reaches f card ports begun start feed old sinks state
+pub reached_more : (f : Function) (card : Card) (format : CaptureFormat) (ports : ℕ) (begun : Feeding) (start : Told) (feed next : Feeding) (old read new : Told) (sinks now : List Holding) (state after : State) (packet : Packet) (original : ℕ) (frame : List ℕ)
+    → Reaches f card format ports begun start feed old sinks state
     → ((before : Told) (given : List Arrival) → StandsFor before given feed old → StandsFor before (given ++ shown packet next ∷ []) next read)
     → original ≡ original_of next → frame ≡ frame_of next → next.given ≡ feed.given + 1
     → ((g : ℕ) → read.given g ≡ old.given g) → ((g : ℕ) → new.rest g ≡ read.rest g)
     → HandlesOne {T = Unit {0}} {E = Stop} f ports packet original frame state after read new sinks now (Ok tt)
-    → Reaches f card ports begun start next new now after
-reached_more f card ports begun start feed next old read new sinks now state after packet original frame r feeds o fr given givens rests h =
+    → Reaches f card format ports begun start next new now after
+reached_more f card format ports begun start feed next old read new sinks now state after packet original frame r feeds o fr given givens rests h =
     let one = came_to 0 packet original frame h.done in
     record {
       hs = r.hs ++ one ∷ [];
@@ -109,17 +110,17 @@ reached_more f card ports begun start feed next old read new sinks now state aft
           let s = feeds before (map arrival_of r.hs) (r.stands before b) in
           let moved : StandsFor before (map arrival_of (r.hs ++ one ∷ [])) next read = subst (λ (as_list : List Arrival). StandsFor before as_list next read) (arrivals_more r.hs packet original frame h.done next o fr) s in
           record { count = moved.count; sources = stands_kept before (map arrival_of (r.hs ++ one ∷ [])) next.sources read new rests moved.sources };
-      held = h.goes_on card r.hs (held_kept card ports r.hs old read sinks givens r.held);
+      held = h.goes_on card format r.hs (held_kept card format ports r.hs old read sinks givens r.held);
       count = omega (arith, length-append r.hs (one ∷ []), r.count);
     }
 
 -- ---- the end
 
-pub ends_all : (f : Function) (card : Card) (ports : ℕ) (begun : Feeding) (start : Told) (feed next : Feeding) (old new : Told) (sinks : List Holding) (state : State)
-    → Reaches f card ports begun start feed old sinks state
+pub ends_all : (f : Function) (card : Card) (format : CaptureFormat) (ports : ℕ) (begun : Feeding) (start : Told) (feed next : Feeding) (old new : Told) (sinks : List Holding) (state : State)
+    → Reaches f card format ports begun start feed old sinks state
     → ((before : Told) (given : List Arrival) → StandsFor before given feed old → StandsFor before given next new × AreAll (packets_of (sixes_in next.sources) (files_in next.sources) before) given × AreTorn before next.sources)
-    → next.given ≡ feed.given → ((g : ℕ) → new.given g ≡ old.given g) → files_in next.sources ≡ files_in begun.sources → sixes_in next.sources ≡ sixes_in begun.sources → next.most ≡ begun.most → feed.given ≤ begun.most → Ends f card ports begun start next new sinks state All
-ends_all f card ports begun start feed next old new sinks state r feeds given givens same six most within = record {
+    → next.given ≡ feed.given → ((g : ℕ) → new.given g ≡ old.given g) → files_in next.sources ≡ files_in begun.sources → sixes_in next.sources ≡ sixes_in begun.sources → next.most ≡ begun.most → feed.given ≤ begun.most → Ends f card format ports begun start next new sinks state All
+ends_all f card format ports begun start feed next old new sinks state r feeds given givens same six most within = record {
   same_files = same;
   same_six = six;
   same_most = most;
@@ -129,17 +130,17 @@ ends_all f card ports begun start feed next old new sinks state r feeds given gi
     undivided = r.undivided;
     alone = r.alone;
     stands = λ before b. (feeds before (map arrival_of r.hs) (r.stands before b)).0;
-    held = held_kept card ports r.hs old new sinks givens r.held;
+    held = held_kept card format ports r.hs old new sinks givens r.held;
     count = omega (arith, r.count);
   };
   ending_is = λ before b. let s = feeds before (map arrival_of r.hs) (r.stands before b) in (s.1, s.2);
 }
 
-pub ends_early : (f : Function) (card : Card) (ports : ℕ) (begun : Feeding) (start : Told) (feed next : Feeding) (old new : Told) (sinks : List Holding) (state : State)
-    → Reaches f card ports begun start feed old sinks state
+pub ends_early : (f : Function) (card : Card) (format : CaptureFormat) (ports : ℕ) (begun : Feeding) (start : Told) (feed next : Feeding) (old new : Told) (sinks : List Holding) (state : State)
+    → Reaches f card format ports begun start feed old sinks state
     → ((before : Told) (given : List Arrival) → StandsFor before given feed old → StandsFor before given next new × HasMore (packets_of (sixes_in next.sources) (files_in next.sources) before) (length given))
-    → next.given ≡ feed.given → feed.given ≡ feed.most → next.most ≡ feed.most → ((g : ℕ) → new.given g ≡ old.given g) → files_in next.sources ≡ files_in begun.sources → sixes_in next.sources ≡ sixes_in begun.sources → next.most ≡ begun.most → Ends f card ports begun start next new sinks state TooMany
-ends_early f card ports begun start feed next old new sinks state r feeds given all most givens same six same_most = record {
+    → next.given ≡ feed.given → feed.given ≡ feed.most → next.most ≡ feed.most → ((g : ℕ) → new.given g ≡ old.given g) → files_in next.sources ≡ files_in begun.sources → sixes_in next.sources ≡ sixes_in begun.sources → next.most ≡ begun.most → Ends f card format ports begun start next new sinks state TooMany
+ends_early f card format ports begun start feed next old new sinks state r feeds given all most givens same six same_most = record {
   same_files = same;
   same_six = six;
   same_most = same_most;
@@ -149,7 +150,7 @@ ends_early f card ports begun start feed next old new sinks state r feeds given 
     undivided = r.undivided;
     alone = r.alone;
     stands = λ before b. (feeds before (map arrival_of r.hs) (r.stands before b)).0;
-    held = held_kept card ports r.hs old new sinks givens r.held;
+    held = held_kept card format ports r.hs old new sinks givens r.held;
     count = omega (arith, r.count);
   };
   ending_is = λ before b.
@@ -170,9 +171,9 @@ first_given before given feed begun now same six h =
     (subst (λ (fs : List ℕ). AreFirst (packets_of (sixes_in feed.sources) fs before) given) same (are_first (packets_of (sixes_in feed.sources) (files_in feed.sources) before) given (all_left feed.sources now) h.sources.order))
 
 -- a capture failed
-pub halts_reading : (f : Function) (card : Card) (ports : ℕ) (begun : Feeding) (start : Told) (feed : Feeding) (old new : Told) (sinks : List Holding) (state : State)
-    → Reaches f card ports begun start feed old sinks state → files_in feed.sources ≡ files_in begun.sources → sixes_in feed.sources ≡ sixes_in begun.sources → feed.given ≤ begun.most → ((g : ℕ) → new.given g ≡ old.given g) → Halts f card ports begun start new (files_of sinks)
-halts_reading f card ports begun start feed old new sinks state r same six within givens = record {
+pub halts_reading : (f : Function) (card : Card) (format : CaptureFormat) (ports : ℕ) (begun : Feeding) (start : Told) (feed : Feeding) (old new : Told) (sinks : List Holding) (state : State)
+    → Reaches f card format ports begun start feed old sinks state → files_in feed.sources ≡ files_in begun.sources → sixes_in feed.sources ≡ sixes_in begun.sources → feed.given ≤ begun.most → ((g : ℕ) → new.given g ≡ old.given g) → Halts f card format ports begun start new (files_of sinks)
+halts_reading f card format ports begun start feed old new sinks state r same six within givens = record {
   hs = r.hs;
   state = state;
   undivided = r.undivided;
@@ -181,19 +182,19 @@ halts_reading f card ports begun start feed old new sinks state r same six withi
   within = omega (arith, r.count);
   fronts = λ k file e.
       let s = stays_in sinks k file e in
-      subst (λ (n : ℕ). IsFrontIfTold (bytes_of One 1 card ports k r.hs) (new.given n)) s.2
-      (front_all (bytes_of One 1 card ports k r.hs) (new.given s.0.file) s.0.held (held_kept card ports r.hs old new sinks givens r.held k s.0 s.1));
+      subst (λ (n : ℕ). IsFrontIfTold (bytes_of One 1 card format ports k r.hs) (new.given n)) s.2
+      (front_all (bytes_of One 1 card format ports k r.hs) (new.given s.0.file) s.0.held (held_kept card format ports r.hs old new sinks givens r.held k s.0 s.1).1);
 }
 
 -- a packet could not be put into all files
-pub halts_writing : (f : Function) (card : Card) (ports : ℕ) (begun : Feeding) (start : Told) (feed next : Feeding) (old read new : Told) (sinks now : List Holding) (state after : State) (packet : Packet) (original : ℕ) (frame : List ℕ) (stop : Stop)
-    → Reaches f card ports begun start feed old sinks state
+pub halts_writing : (f : Function) (card : Card) (format : CaptureFormat) (ports : ℕ) (begun : Feeding) (start : Told) (feed next : Feeding) (old read new : Told) (sinks now : List Holding) (state after : State) (packet : Packet) (original : ℕ) (frame : List ℕ) (stop : Stop)
+    → Reaches f card format ports begun start feed old sinks state
     → ((before : Told) (given : List Arrival) → StandsFor before given feed old → StandsFor before (given ++ shown packet next ∷ []) next read)
     → original ≡ original_of next → frame ≡ frame_of next → files_in next.sources ≡ files_in begun.sources → sixes_in next.sources ≡ sixes_in begun.sources → feed.given < begun.most
     → ((g : ℕ) → read.given g ≡ old.given g)
     → HandlesOne {T = Unit {0}} {E = Stop} f ports packet original frame state after read new sinks now (Err stop)
-    → Halts f card ports begun start new (files_of now)
-halts_writing f card ports begun start feed next old read new sinks now state after packet original frame stop r feeds o fr same six within givens h =
+    → Halts f card format ports begun start new (files_of now)
+halts_writing f card format ports begun start feed next old read new sinks now state after packet original frame stop r feeds o fr same six within givens h =
     let one = came_to 0 packet original frame h.done in
     record {
       hs = r.hs ++ one ∷ [];
@@ -205,5 +206,5 @@ halts_writing f card ports begun start feed next old read new sinks now state af
           let moved : StandsFor before (map arrival_of (r.hs ++ one ∷ [])) next read = subst (λ (as_list : List Arrival). StandsFor before as_list next read) (arrivals_more r.hs packet original frame h.done next o fr) s in
           first_given before (map arrival_of (r.hs ++ one ∷ [])) next begun read same six moved;
       within = omega (arith, length-append r.hs (one ∷ []), r.count);
-      fronts = h.goes_on card r.hs (held_kept card ports r.hs old read sinks givens r.held);
+      fronts = h.goes_on card format r.hs (held_kept card format ports r.hs old read sinks givens r.held);
     }

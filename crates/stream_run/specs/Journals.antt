@@ -1,6 +1,7 @@
 -- What a journal tells: a journal's bytes determine it.
 use Rattle.std.specs.Prelude.{◌≡◌, ◌<◌, ◌^◌, ℕ, List, length, map}
 use Rattle.std.specs.List.{AllByRecursion}
+use Rattle.capture_format.specs.declared.format.CaptureFormat.{CaptureFormat}
 use Rattle.nf_base.specs.declared.packet.PacketId.{PacketId}
 use Rattle.nf_base.specs.declared.done.Action.{Action}
 use Rattle.nf_base.specs.declared.done.Action.TheVariants.{Skip, Drop, To, Flood}
@@ -41,12 +42,12 @@ pub record JournalFits (r : Run) : Type 0 where
   pub workers : r.workers < 2 ^ 64
   pub entries : AllByRecursion EntryFits (map entry_of (handled_in r))
 
--- the bytes of a run's journal
-abbrev pub journal_of : Run → List ℕ
-journal_of r = file_bytes r (length r.function.handlers)
+-- the bytes of a run's journal, where the outputs are of this format
+abbrev pub journal_of : CaptureFormat → Run → List ℕ
+journal_of format r = file_bytes format r (length r.function.handlers)
 
 -- two runs with one journal were handled in one mode, by as many workers, with one card, and their packets
--- were the same, in the same order, with the same workers, actions and choices
+-- were the same, in the same order, with the same workers, actions and choices; whatever the outputs are
 abbrev pub JournalsAreOne : Type 0
-JournalsAreOne = (r s : Run) → JournalFits r → JournalFits s → journal_of r ≡ journal_of s →
+JournalsAreOne = (a b : CaptureFormat) (r s : Run) → JournalFits r → JournalFits s → journal_of a r ≡ journal_of b s →
     (r.mode ≡ s.mode) × (r.workers ≡ s.workers) × (r.card ≡ s.card) × (map entry_of (handled_in r) ≡ map entry_of (handled_in s))

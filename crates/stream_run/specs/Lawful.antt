@@ -3,6 +3,7 @@ use Rattle.std.specs.Prelude.{◌≡◌, ◌≤◌, ℕ, List, [], length, map, 
 use Rattle.std.specs.List.{AllByRecursion}
 use Rattle.nf_base.specs.Text.{Function}
 use Rattle.nf_base.specs.declared.card.Card.{Card}
+use Rattle.capture_format.specs.declared.format.CaptureFormat.{CaptureFormat}
 use Rattle.nf_base.specs.declared.done.Done.{Done}
 use Rattle.nf_base.specs.declared.state.State.{State}
 use Rattle.nf_files.specs.Told.{Told, IsToldAs}
@@ -16,7 +17,8 @@ use Rattle.stream_run.specs.declared.ending.Ending.{Ending}
 use Rattle.stream_run.specs.declared.ending.Ending.TheVariants.{All, TooMany}
 use Rattle.stream_run.specs.declared.ran.Ran.{Ran}
 use Rattle.stream_run.specs.declared.stop.Stop.{Stop}
-use Rattle.stream_run.specs.Runs.{Run, Turn, Handled, IsLegal, course_of, arrival_in}
+use Rattle.stream_run.specs.Runs.{Run, Handled, course_of, arrival_in}
+use Rattle.stream_run.specs.Rules.{Rule, one_rule, IsRunBy}
 use Rattle.stream_run.specs.Texts.{file_bytes, bytes_of}
 use Rattle.stream_run.specs.Writing.{IsFrontIfTold}
 use Rattle.stream_run.specs.Streaming.{IsUndivided, AreFirst, IsEnding, Halts, arrival_of}
@@ -26,17 +28,13 @@ abbrev pub AreTheFirst : ℕ → Option (List Arrival) → List Arrival → Type
 AreTheFirst most None arrivals = Unit {0}
 AreTheFirst most (Some all) arrivals = arrivals ≡ take most (in_order all)
 
--- One worker, whose number is 0, of a run with this card handles the first packets of captures in capture order, at most so
--- many, each with choices that are legal.
-pub record IsOneRun (f : Function) (card : Card) (most : ℕ) (all : Option (List Arrival)) (r : Run) : Type 0 where
-  pub function : r.function ≡ f
-  pub mode : r.mode ≡ One
-  pub workers : r.workers ≡ 1
-  pub card_is : r.card ≡ card
-  pub alone : AllByRecursion (λ (t : Turn). t.worker ≡ 0) r.turns
-  pub legal : IsLegal r
-  pub within : length r.turns ≤ most
-  pub packets : AreTheFirst most all (map arrival_in r.turns)
+-- The first packets of captures in capture order, at most so many, are handled by a rule, with this
+-- network card.
+pub record IsRunOver (rule : Rule) (f : Function) (card : Card) (most : ℕ) (all : Option (List Arrival)) (r : Run) : Type 0 where
+  pub given : List Arrival
+  pub is_run : IsRunBy rule f card given r
+  pub within : length given ≤ most
+  pub packets : AreTheFirst most all given
 
 -- how a run ended: all packets were handled, and captures are torn as was found; or there are more
 abbrev pub EndsSo : Ending → Feeding → Told → List Arrival → Type 0
@@ -44,36 +42,36 @@ EndsSo All feed before arrivals = AreAll (packets_of (sixes_in feed.sources) (fi
 EndsSo TooMany feed before arrivals = (length arrivals ≡ feed.most) × HasMore (packets_of (sixes_in feed.sources) (files_in feed.sources) before) (length arrivals)
 
 -- One run's files are whole, and its last state is told, and how it ended.
-pub record IsFinished (f : Function) (card : Card) (begun : Feeding) (start : Told) (feed : Feeding) (now : Told) (files : List ℕ) (ran : Ran) : Type 0 where
+pub record IsFinished (f : Function) (card : Card) (format : CaptureFormat) (begun : Feeding) (start : Told) (feed : Feeding) (now : Told) (files : List ℕ) (ran : Ran) : Type 0 where
   pub run : Run
-  pub some : IsOneRun f card begun.most None run
-  pub lawful : (before : Told) → StandsFor before [] begun start → IsOneRun f card begun.most (packets_of (sixes_in begun.sources) (files_in begun.sources) before) run
+  pub some : IsRunOver one_rule f card begun.most None run
+  pub lawful : (before : Told) → StandsFor before [] begun start → IsRunOver one_rule f card begun.most (packets_of (sixes_in begun.sources) (files_in begun.sources) before) run
   pub ending : (before : Told) → StandsFor before [] begun start → EndsSo ran.ending feed before (map arrival_in run.turns)
   pub same_files : files_in feed.sources ≡ files_in begun.sources
   pub same_six : sixes_in feed.sources ≡ sixes_in begun.sources
   pub same_most : feed.most ≡ begun.most
   pub count : length run.turns ≡ ran.packets
   pub left : (answers : List Done) × (course_of run ≡ Some (record { state = ran.state; answers = answers }))
-  pub wholes : (k file : ℕ) → slice_get files k ≡ Some file → IsToldAs (file_bytes run k) (now.given file)
+  pub wholes : (k file : ℕ) → slice_get files k ≡ Some file → IsToldAs (file_bytes format run k) (now.given file)
 
 -- each file holds a front of what one run leaves there
-pub record HoldsFronts (f : Function) (card : Card) (most : ℕ) (all : Option (List Arrival)) (now : Told) (files : List ℕ) : Type 0 where
+pub record HoldsFronts (f : Function) (card : Card) (format : CaptureFormat) (most : ℕ) (all : Option (List Arrival)) (now : Told) (files : List ℕ) : Type 0 where
   pub run : Run
-  pub is_run : IsOneRun f card most all run
-  pub fronts : (k file : ℕ) → slice_get files k ≡ Some file → IsFrontIfTold (file_bytes run k) (now.given file)
+  pub is_run : IsRunOver one_rule f card most all run
+  pub fronts : (k file : ℕ) → slice_get files k ≡ Some file → IsFrontIfTold (file_bytes format run k) (now.given file)
 
 -- the run was stopped, and could have gone on
-pub record IsCutShort (f : Function) (card : Card) (begun : Feeding) (start now : Told) (files : List ℕ) : Type 0 where
-  pub some : HoldsFronts f card begun.most None now files
-  pub lawful : (before : Told) → StandsFor before [] begun start → HoldsFronts f card begun.most (packets_of (sixes_in begun.sources) (files_in begun.sources) before) now files
+pub record IsCutShort (f : Function) (card : Card) (format : CaptureFormat) (begun : Feeding) (start now : Told) (files : List ℕ) : Type 0 where
+  pub some : HoldsFronts f card format begun.most None now files
+  pub lawful : (before : Told) → StandsFor before [] begun start → HoldsFronts f card format begun.most (packets_of (sixes_in begun.sources) (files_in begun.sources) before) now files
 
 -- what a run comes to
-abbrev pub Runs : Function → Card → Feeding → Told → Feeding → Told → List ℕ → Result Ran Stop → Type 0
-Runs f card begun start feed now files (Ok ran) = IsFinished f card begun start feed now files ran
-Runs f card begun start feed now files (Err stop) = IsCutShort f card begun start now files
+abbrev pub Runs : Function → Card → CaptureFormat → Feeding → Told → Feeding → Told → List ℕ → Result Ran Stop → Type 0
+Runs f card format begun start feed now files (Ok ran) = IsFinished f card format begun start feed now files ran
+Runs f card format begun start feed now files (Err stop) = IsCutShort f card format begun start now files
 
 -- these packets were handled, what they leave was given to the files, and nothing is held
-pub record Finishes (f : Function) (card : Card) (ports : ℕ) (begun : Feeding) (start : Told) (feed : Feeding) (now : Told) (files : List ℕ) (ending : Ending) (packets : ℕ) (state : State) : Type 0 where
+pub record Finishes (f : Function) (card : Card) (format : CaptureFormat) (ports : ℕ) (begun : Feeding) (start : Told) (feed : Feeding) (now : Told) (files : List ℕ) (ending : Ending) (packets : ℕ) (state : State) : Type 0 where
   pub hs : List Handled
   pub undivided : IsUndivided f hs state
   pub alone : AllByRecursion (λ (h : Handled). h.worker ≡ 0) hs
@@ -84,14 +82,14 @@ pub record Finishes (f : Function) (card : Card) (ports : ℕ) (begun : Feeding)
   pub same_most : feed.most ≡ begun.most
   pub within : length hs ≤ begun.most
   pub count : length hs ≡ packets
-  pub wholes : (k file : ℕ) → slice_get files k ≡ Some file → IsToldAs (bytes_of One 1 card ports k hs) (now.given file)
+  pub wholes : (k file : ℕ) → slice_get files k ≡ Some file → IsToldAs (bytes_of One 1 card format ports k hs) (now.given file)
 
 -- what handling all packets and giving what is held to the files comes to
-abbrev pub Flows : Function → Card → ℕ → Feeding → Told → Feeding → Told → List ℕ → State → Result Ending Stop → Type 0
-Flows f card ports begun start feed now files state (Ok ending) = Finishes f card ports begun start feed now files ending feed.given state
-Flows f card ports begun start feed now files state (Err stop) = Halts f card ports begun start now files
+abbrev pub Flows : Function → Card → CaptureFormat → ℕ → Feeding → Told → Feeding → Told → List ℕ → State → Result Ending Stop → Type 0
+Flows f card format ports begun start feed now files state (Ok ending) = Finishes f card format ports begun start feed now files ending feed.given state
+Flows f card format ports begun start feed now files state (Err stop) = Halts f card format ports begun start now files
 
 -- what a whole run comes to, of the packets that were handled
-abbrev pub Streams : Function → Card → ℕ → Feeding → Told → Feeding → Told → List ℕ → Result Ran Stop → Type 0
-Streams f card ports begun start feed now files (Ok ran) = Finishes f card ports begun start feed now files ran.ending ran.packets ran.state
-Streams f card ports begun start feed now files (Err stop) = Halts f card ports begun start now files
+abbrev pub Streams : Function → Card → CaptureFormat → ℕ → Feeding → Told → Feeding → Told → List ℕ → Result Ran Stop → Type 0
+Streams f card format ports begun start feed now files (Ok ran) = Finishes f card format ports begun start feed now files ran.ending ran.packets ran.state
+Streams f card format ports begun start feed now files (Err stop) = Halts f card format ports begun start now files

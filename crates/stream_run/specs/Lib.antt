@@ -4,5 +4,8 @@ pub mod Laws
 pub mod Stops
 pub mod Writing
 pub mod Streaming
+pub mod Orders
+pub mod Rules
+pub mod RuleLaws
 pub mod Lawful
 pub mod Journals

@@ -5,6 +5,7 @@ use Rattle.nf_base.specs.Text.{Function}
 use Rattle.nf_base.specs.Runs.{Handling, RunResult, run}
 use Rattle.nf_base.specs.Step.{step, opening}
 use Rattle.nf_base.specs.declared.card.Card.{Card}
+use Rattle.capture_format.specs.declared.format.CaptureFormat.{CaptureFormat}
 use Rattle.nf_base.specs.declared.packet.Packet.{Packet}
 use Rattle.nf_base.specs.declared.done.Done.{Done}
 use Rattle.nf_base.specs.declared.state.State.{State}
@@ -45,16 +46,16 @@ pub record HandlesOne {T E : Type 0} (f : Function) (ports : ℕ) (packet : Pack
     (before after : State) (old new : Told) (held now : List Holding) (result : Result T E) : Type 0 where
   pub done : Done
   pub steps : step f before packet done.picks ≡ Some (record { state = after; done = done })
-  pub goes_on : (card : Card) (hs : List Handled) → AreHeld One 1 card ports hs old held → AllGoOn One 1 card ports (hs ++ came_to 0 packet original frame done ∷ []) new now result
+  pub goes_on : (card : Card) (format : CaptureFormat) (hs : List Handled) → AreHeld One 1 card format ports hs old held → AllGoOn One 1 card format ports (hs ++ came_to 0 packet original frame done ∷ []) new now result
 
 -- These packets were handled since the run began, and what they leave was given to the files but for
 -- what is held.
-pub record Reaches (f : Function) (card : Card) (ports : ℕ) (begun : Feeding) (start : Told) (feed : Feeding) (now : Told) (sinks : List Holding) (state : State) : Type 0 where
+pub record Reaches (f : Function) (card : Card) (format : CaptureFormat) (ports : ℕ) (begun : Feeding) (start : Told) (feed : Feeding) (now : Told) (sinks : List Holding) (state : State) : Type 0 where
   pub hs : List Handled
   pub undivided : IsUndivided f hs state
   pub alone : AllByRecursion (λ h. h.worker ≡ 0) hs
   pub stands : (before : Told) → StandsFor before [] begun start → StandsFor before (map arrival_of hs) feed now
-  pub held : AreHeld One 1 card ports hs now sinks
+  pub held : AreHeld One 1 card format ports hs now sinks
   pub count : length hs ≡ feed.given
 
 -- these are the first packets of captures, in capture order, where all is told
@@ -64,14 +65,14 @@ AreFirst (Some all) given = (later : List Arrival) × (in_order all ≡ given ++
 
 -- The run was stopped. These packets were handled until then, and each file was given a front of what
 -- they leave there.
-pub record Halts (f : Function) (card : Card) (ports : ℕ) (begun : Feeding) (start now : Told) (files : List ℕ) : Type 0 where
+pub record Halts (f : Function) (card : Card) (format : CaptureFormat) (ports : ℕ) (begun : Feeding) (start now : Told) (files : List ℕ) : Type 0 where
   pub hs : List Handled
   pub state : State
   pub undivided : IsUndivided f hs state
   pub alone : AllByRecursion (λ h. h.worker ≡ 0) hs
   pub first : (before : Told) → StandsFor before [] begun start → AreFirst (packets_of (sixes_in begun.sources) (files_in begun.sources) before) (map arrival_of hs)
   pub within : length hs ≤ begun.most
-  pub fronts : AreFronts One 1 card ports hs now files
+  pub fronts : AreFronts One 1 card format ports hs now files
 
 -- how it ended: all packets were handled, or as many as were asked for
 abbrev pub IsEnding : Ending → Feeding → Told → List Handled → Type 0
@@ -79,8 +80,8 @@ IsEnding All feed before hs = AreAll (packets_of (sixes_in feed.sources) (files_
 IsEnding TooMany feed before hs = (length hs ≡ feed.most) × HasMore (packets_of (sixes_in feed.sources) (files_in feed.sources) before) (length hs)
 
 -- a run that nothing stopped
-pub record Ends (f : Function) (card : Card) (ports : ℕ) (begun : Feeding) (start : Told) (feed : Feeding) (now : Told) (sinks : List Holding) (state : State) (ending : Ending) : Type 0 where
-  pub reached : Reaches f card ports begun start feed now sinks state
+pub record Ends (f : Function) (card : Card) (format : CaptureFormat) (ports : ℕ) (begun : Feeding) (start : Told) (feed : Feeding) (now : Told) (sinks : List Holding) (state : State) (ending : Ending) : Type 0 where
+  pub reached : Reaches f card format ports begun start feed now sinks state
   pub ending_is : (before : Told) → StandsFor before [] begun start → IsEnding ending feed before reached.hs
   pub same_files : files_in feed.sources ≡ files_in begun.sources
   pub same_six : sixes_in feed.sources ≡ sixes_in begun.sources
@@ -88,9 +89,9 @@ pub record Ends (f : Function) (card : Card) (ports : ℕ) (begun : Feeding) (st
   pub within : feed.given ≤ feed.most
 
 -- what a run comes to
-abbrev pub Comes : Function → Card → ℕ → Feeding → Told → Feeding → Told → List Holding → State → Result Ending Stop → Type 0
-Comes f card ports begun start feed now sinks state (Ok ending) = Ends f card ports begun start feed now sinks state ending
-Comes f card ports begun start feed now sinks state (Err stop) = Halts f card ports begun start now (files_of sinks)
+abbrev pub Comes : Function → Card → CaptureFormat → ℕ → Feeding → Told → Feeding → Told → List Holding → State → Result Ending Stop → Type 0
+Comes f card format ports begun start feed now sinks state (Ok ending) = Ends f card format ports begun start feed now sinks state ending
+Comes f card format ports begun start feed now sinks state (Err stop) = Halts f card format ports begun start now (files_of sinks)
 
 -- the file of a port that failed
 abbrev pub stop_on : Option ℕ → Stop

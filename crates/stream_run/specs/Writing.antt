@@ -2,6 +2,7 @@
 use Rattle.std.specs.Prelude.{◌<◌, ◌≡◌, ◌≢◌, ◌⊎◌, ℕ, List, ◌++◌, length, map, slice_get, Option, Some, None, Result, Ok, Err}
 use Rattle.std.specs.List.{All}
 use Rattle.nf_base.specs.declared.card.Card.{Card}
+use Rattle.capture_format.specs.declared.format.CaptureFormat.{CaptureFormat}
 use Rattle.nf_base.specs.declared.packet.Packet.{Packet}
 use Rattle.nf_base.specs.declared.done.Done.{Done}
 use Rattle.nf_files.specs.Told.{Told, IsCurrent}
@@ -20,9 +21,10 @@ came_to worker packet original frame done = record {
   done = done;
 }
 
--- a file, and the bytes that are still to be given to it
+-- a file, the format of the packets that are put into it, and the bytes that are still to be given to it
 pub record Holding : Type 0 where
   pub file : ℕ
+  pub format : CaptureFormat
   pub held : List ℕ
 
 -- These bytes were given to a file, where that is told, but for those that are still held.
@@ -76,26 +78,27 @@ StopsAmong files others (Err (File file)) = IsOneOf files file ⊎ IsOneOf other
 abbrev pub files_of : List Holding → List ℕ
 files_of sinks = map (λ s. s.file) sinks
 
--- more is held for a file than before, behind what was held
-pub record IsGrown (more : List ℕ) (old : List Holding) (k : ℕ) (now : Holding) : Type 0 where
+-- more is held for a file than before, behind what was held; what it is goes by the file's format
+pub record IsGrown (more : CaptureFormat → List ℕ) (old : List Holding) (k : ℕ) (now : Holding) : Type 0 where
   pub before : Holding
   pub at : slice_get old k ≡ Some before
   pub file_same : now.file ≡ before.file
-  pub held_more : now.held ≡ before.held ++ more
+  pub format_same : now.format ≡ before.format
+  pub held_more : now.held ≡ before.held ++ more before.format
 
 -- so it is for each file
-abbrev pub AreGrown : (ℕ → List ℕ) → List Holding → List Holding → Type 0
+abbrev pub AreGrown : (ℕ → CaptureFormat → List ℕ) → List Holding → List Holding → Type 0
 AreGrown more old new = (k : ℕ) (s : Holding) → slice_get new k ≡ Some s → IsGrown (more k) old k s
 
--- Of each file what packets leave there was given, but for what is held.
-abbrev pub AreHeld : Mode → ℕ → Card → ℕ → List Handled → Told → List Holding → Type 0
-AreHeld mode workers card ports hs told sinks =
-    (k : ℕ) (s : Holding) → slice_get sinks k ≡ Some s → Holds (bytes_of mode workers card ports k hs) (told.given s.file) s.held
+-- Of each file what packets leave there was given, but for what is held; the outputs are of this format.
+abbrev pub AreHeld : Mode → ℕ → Card → CaptureFormat → ℕ → List Handled → Told → List Holding → Type 0
+AreHeld mode workers card format ports hs told sinks =
+    (k : ℕ) (s : Holding) → slice_get sinks k ≡ Some s → (s.format ≡ format) × Holds (bytes_of mode workers card format ports k hs) (told.given s.file) s.held
 
 -- Each file was given a front of what packets leave there.
-abbrev pub AreFronts : Mode → ℕ → Card → ℕ → List Handled → Told → List ℕ → Type 0
-AreFronts mode workers card ports hs told files =
-    (k file : ℕ) → slice_get files k ≡ Some file → IsFrontIfTold (bytes_of mode workers card ports k hs) (told.given file)
+abbrev pub AreFronts : Mode → ℕ → Card → CaptureFormat → ℕ → List Handled → Told → List ℕ → Type 0
+AreFronts mode workers card format ports hs told files =
+    (k file : ℕ) → slice_get files k ≡ Some file → IsFrontIfTold (bytes_of mode workers card format ports k hs) (told.given file)
 
 -- a file is this one, or another one that stands under another name
 abbrev pub IsSameOrOther : Told → List ℕ → ℕ → ℕ → Type 0
@@ -112,9 +115,9 @@ pub record KeepsAllBut (files : List ℕ) (old new : Told) : Type 0 where
   pub next_same : new.next ≡ old.next
 
 -- what writing to all files comes to: all is held or was given, or fronts were given
-abbrev pub AllGoOn : {T E : Type 0} → Mode → ℕ → Card → ℕ → List Handled → Told → List Holding → Result T E → Type 0
-AllGoOn mode workers card ports hs told sinks (Ok x) = AreHeld mode workers card ports hs told sinks
-AllGoOn mode workers card ports hs told sinks (Err e) = AreFronts mode workers card ports hs told (files_of sinks)
+abbrev pub AllGoOn : {T E : Type 0} → Mode → ℕ → Card → CaptureFormat → ℕ → List Handled → Told → List Holding → Result T E → Type 0
+AllGoOn mode workers card format ports hs told sinks (Ok x) = AreHeld mode workers card format ports hs told sinks
+AllGoOn mode workers card format ports hs told sinks (Err e) = AreFronts mode workers card format ports hs told (files_of sinks)
 
 -- less than 65,536 bytes are held
 abbrev pub IsLittle : Holding → Type 0

@@ -1,11 +1,11 @@
 //! Bytes that are still to be given to a file.
 ghost use Rattle.std.specs.Prelude.{◌≡◌, ◌+◌, ◌≤◌, ◌++◌, [], length, take, OnOk, OnErr, vec_len};
-ghost use Rattle.pcap_file.specs.Spelled.{written_bytes};
-ghost use Rattle.stream_run.specs.Texts.{record_of, line_of};
+ghost use Rattle.stream_run.specs.Texts.{written_of, line_of};
 
 use crate::handled::HandledParts;
 use crate::piece::{frame_length, put_handled_line, put_sent};
 use crate::room::make_room;
+use capture_format::{CaptureFormat, packet_length};
 use std::alloc::AllocError;
 use std::marker::Model;
 
@@ -55,16 +55,21 @@ impl Buffer {
         self.len = 0;
     }
 
-    /// Puts the record of a packet that is sent out behind them.
+    /// Puts a packet that is sent out behind them.
     #[inline(always)]
-    pub(crate) fn hold_record(&mut self, handled: &HandledParts) -> Result<(), AllocError>
-        ensures ok { OnOk result (self.new ≡ self.old ++ written_bytes (record_of handled.now)) }
+    pub(crate) fn hold_record(
+        &mut self,
+        format: CaptureFormat,
+        handled: &HandledParts,
+    ) -> Result<(), AllocError>
+        ensures ok { OnOk result (self.new ≡ self.old ++ written_of format handled.now) }
         ensures err { OnErr result (self.new ≡ self.old) }
     {
-        match make_room(&mut self.bytes, self.len, 16 + frame_length(handled)) {
+        let count = packet_length(format, frame_length(handled));
+        match make_room(&mut self.bytes, self.len, count) {
             Err(fault) => Err(fault),
             Ok(()) => {
-                self.len = put_sent(self.bytes.as_mut_slice(), self.len, handled);
+                self.len = put_sent(self.bytes.as_mut_slice(), self.len, format, handled);
                 Ok(())
             }
         }

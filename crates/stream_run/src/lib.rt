@@ -9,6 +9,7 @@ pub mod laws;
 mod piece;
 mod ran;
 mod room;
+pub mod rules;
 mod running;
 mod sink;
 mod sinks;

@@ -1,16 +1,16 @@
 //! What one packet leaves in a file.
 ghost use Rattle.std.specs.Prelude.{◌≡◌, ◌≤◌, ◌+◌, ◌++◌, true, length, take, drop, OnOk};
 ghost use Rattle.frame_ip.specs.Edit.{IsUnedited};
-ghost use Rattle.pcap_file.specs.Record.{greatest_time, record_at};
-ghost use Rattle.pcap_file.specs.Spelled.{written_bytes};
+ghost use Rattle.capture_format.specs.Written.{packet_bytes, packet_length};
+ghost use Rattle.pcap_file.specs.Record.{greatest_time};
 ghost use Rattle.run_history.specs.Room.{Puts};
-ghost use Rattle.stream_run.specs.Texts.{sends, with_edits, is_sent, record_of, sent_bytes, line_of};
+ghost use Rattle.stream_run.specs.Texts.{sends, with_edits, is_sent, written_of, sent_bytes, line_of};
 
 use crate::handled::{HandledPacket, HandledParts};
+use capture_format::{CaptureFormat, lead_length, push_packet, put_packet};
 use frame_ip::{edit, view};
 use nf_base::done::{Action, Edits};
-use pcap_file::{push_record, put_record};
-use run_history::line::put_packet;
+use run_history::line::put_packet as put_packet_line;
 use std::alloc::AllocError;
 
 // Whether an action sends a packet that came in at a port out at another.
@@ -60,20 +60,23 @@ fn edit_handled(frame: &mut [u8], edits: &Edits)
     }
 }
 
-// Writes a packet's edits into its frame, which stands last.
-fn edit_last(bytes: &mut [u8], start: usize, edits: &Edits)
-    requires { start ≤ length bytes.old }
-    ensures edited { bytes.new ≡
-        take start bytes.old ++ with_edits edits.now (drop start bytes.old) }
-    ensures long { length (with_edits edits.now (drop start bytes.old))
-        ≡ length (drop start bytes.old) }
+// Writes a packet's edits into its frame, which stands somewhere in bytes.
+#[inline(always)]
+fn edit_within(bytes: &mut [u8], start: usize, captured: usize, edits: &Edits)
+    requires { start + captured ≤ length bytes.old }
+    ensures edited { bytes.new ≡ take start bytes.old
+        ++ (with_edits edits.now (take captured (drop start bytes.old))
+        ++ drop captured (drop start bytes.old)) }
+    ensures long { length (with_edits edits.now (take captured (drop start bytes.old)))
+        ≡ length (take captured (drop start bytes.old)) }
 {
-    edit_handled(&mut bytes[start..], edits);
+    edit_handled(&mut bytes[start..start + captured], edits);
 }
 
-// Appends the record of a packet; its frame is edited where it is gathered.
+// Appends a packet; its frame is edited where it is gathered.
 fn push_edited(
     buffer: &mut Vec<u8>,
+    format: CaptureFormat,
     time: u64,
     original: u32,
     frame: &[u8],
@@ -82,20 +85,22 @@ fn push_edited(
     requires time { time ≤ greatest_time }
     requires captured { length frame.now ≤ 262144 }
     ensures { OnOk result (buffer.new.items ≡ buffer.old.items
-        ++ written_bytes (record_at time original (with_edits edits.now frame.now))) }
+        ++ packet_bytes format time original (with_edits edits.now frame.now)) }
 {
-    push_record(buffer, time, original, frame)?;
-    let start = buffer.len() - frame.len();
-    edit_last(buffer.as_mut_slice(), start, edits);
+    let before = buffer.len();
+    push_packet(buffer, format, time, original, frame)?;
+    let start = before + lead_length(format);
+    edit_within(buffer.as_mut_slice(), start, frame.len(), edits);
     Ok(())
 }
 
-/// Appends the record of a packet that is sent out.
-pub(crate) fn push_sent_record(
+/// Appends a packet that is sent out.
+pub(crate) fn push_sent_packet(
     buffer: &mut Vec<u8>,
+    format: CaptureFormat,
     handled: &HandledParts,
 ) -> Result<(), AllocError>
-    ensures { OnOk result (buffer.new.items ≡ buffer.old.items ++ written_bytes (record_of handled.now)) }
+    ensures { OnOk result (buffer.new.items ≡ buffer.old.items ++ written_of format handled.now) }
 {
     let HandledParts {
         worker: _,
@@ -106,15 +111,15 @@ pub(crate) fn push_sent_record(
         edits,
         picks: _,
     } = handled;
-    push_edited(buffer, packet.time, *original, frame, edits)
+    push_edited(buffer, format, packet.time, *original, frame, edits)
 }
 
-// Puts the record of a packet into some room, from a place on: where it ends. Its frame is edited where
-// it was put.
+// Puts a packet into some room, from a place on: where it ends. Its frame is edited where it was put.
 #[inline(always)]
 fn put_edited(
     room: &mut [u8],
     at: usize,
+    format: CaptureFormat,
     time: u64,
     original: u32,
     frame: &[u8],
@@ -122,23 +127,27 @@ fn put_edited(
 ) -> usize
     requires time { time ≤ greatest_time }
     requires captured { length frame.now ≤ 262144 }
-    requires room { at + 16 + length frame.now ≤ length room.old }
-    ensures end { result ≡ at + 16 + length frame.now }
+    requires room { at + packet_length format (length frame.now) ≤ length room.old }
+    ensures end { result ≡ at + packet_length format (length frame.now) }
     ensures put { take result room.new ≡ take at room.old
-        ++ written_bytes (record_at time original (with_edits edits.now frame.now)) }
+        ++ packet_bytes format time original (with_edits edits.now frame.now) }
 {
-    let end = put_record(room, at, time, original, frame);
-    let start = end - frame.len();
-    edit_handled(&mut room[start..end], edits);
+    let end = put_packet(room, at, format, time, original, frame);
+    edit_within(room, at + lead_length(format), frame.len(), edits);
     end
 }
 
-/// Puts the record of a packet that is sent out into some room, from a place on: where it ends.
+/// Puts a packet that is sent out into some room, from a place on: where it ends.
 #[inline(always)]
-pub(crate) fn put_sent(room: &mut [u8], at: usize, handled: &HandledParts) -> usize
-    requires { at + 16 + length handled.now.arrival.frame ≤ length room.old }
-    ensures end { result ≡ at + 16 + length handled.now.arrival.frame }
-    ensures put { take result room.new ≡ take at room.old ++ written_bytes (record_of handled.now) }
+pub(crate) fn put_sent(
+    room: &mut [u8],
+    at: usize,
+    format: CaptureFormat,
+    handled: &HandledParts,
+) -> usize
+    requires { at + packet_length format (length handled.now.arrival.frame) ≤ length room.old }
+    ensures end { result ≡ at + packet_length format (length handled.now.arrival.frame) }
+    ensures put { take result room.new ≡ take at room.old ++ written_of format handled.now }
 {
     let HandledParts {
         worker: _,
@@ -149,7 +158,7 @@ pub(crate) fn put_sent(room: &mut [u8], at: usize, handled: &HandledParts) -> us
         edits,
         picks: _,
     } = handled;
-    put_edited(room, at, packet.time, *original, frame, edits)
+    put_edited(room, at, format, packet.time, *original, frame, edits)
 }
 
 /// Puts a packet's line in the journal into some room, from a place on: where it ends.
@@ -168,7 +177,7 @@ pub(crate) fn put_handled_line(room: &mut [u8], at: usize, handled: &HandledPart
         edits: _,
         picks,
     } = handled;
-    put_packet(room, at, packet.id, *worker, *action, picks)
+    put_packet_line(room, at, packet.id, *worker, *action, picks)
 }
 
 /// How many bytes the frame of a packet has.
@@ -202,19 +211,32 @@ pub(crate) fn action_of(handled: &HandledParts) -> Action
     handled.action
 }
 
-fn push_parts(buffer: &mut Vec<u8>, port: u32, handled: &HandledParts) -> Result<(), AllocError>
-    ensures { OnOk result (buffer.new.items ≡ buffer.old.items ++ sent_bytes port handled.now) }
+fn push_parts(
+    buffer: &mut Vec<u8>,
+    format: CaptureFormat,
+    port: u32,
+    handled: &HandledParts,
+) -> Result<(), AllocError>
+    ensures { OnOk result
+        (buffer.new.items ≡ buffer.old.items ++ sent_bytes format port handled.now) }
 {
     if is_sent(port, handled) {
-        push_sent_record(buffer, handled)
+        push_sent_packet(buffer, format, handled)
     } else {
         Ok(())
     }
 }
 
-/// Appends what a packet leaves in the output of a port: a record where it is sent out there.
-pub fn push_sent(buffer: &mut Vec<u8>, port: u32, handled: &HandledPacket) -> Result<(), AllocError>
-    ensures { OnOk result (buffer.new.items ≡ buffer.old.items ++ sent_bytes port handled.now) }
+/// Appends what a packet leaves in the output of a port, which is of this format: the packet where it is
+/// sent out there.
+pub fn push_sent(
+    buffer: &mut Vec<u8>,
+    format: CaptureFormat,
+    port: u32,
+    handled: &HandledPacket,
+) -> Result<(), AllocError>
+    ensures { OnOk result
+        (buffer.new.items ≡ buffer.old.items ++ sent_bytes format port handled.now) }
 {
-    push_parts(buffer, port, &handled.parts())
+    push_parts(buffer, format, port, &handled.parts())
 }

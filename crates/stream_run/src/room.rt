@@ -10,7 +10,7 @@ const SPARE: usize = 65_536;
 fn grow(buffer: &mut Vec<u8>, held: usize, count: usize) -> Result<(), AllocError>
     requires within { held ≤ vec_len buffer.old }
     requires small { vec_len buffer.old ≤ held + count }
-    requires count { count ≤ 262160 }
+    requires count { count ≤ 262176 }
     ensures room { OnOk result (held + count ≤ vec_len buffer.new) }
     ensures within { held ≤ vec_len buffer.new }
     ensures same { take held buffer.new.items ≡ take held buffer.old.items }
@@ -22,7 +22,7 @@ fn grow(buffer: &mut Vec<u8>, held: usize, count: usize) -> Result<(), AllocErro
 #[inline(always)]
 pub(crate) fn make_room(buffer: &mut Vec<u8>, held: usize, count: usize) -> Result<(), AllocError>
     requires within { held ≤ vec_len buffer.old }
-    requires count { count ≤ 262160 }
+    requires count { count ≤ 262176 }
     ensures room { OnOk result (held + count ≤ vec_len buffer.new) }
     ensures within { held ≤ vec_len buffer.new }
     ensures same { take held buffer.new.items ≡ take held buffer.old.items }

@@ -1,6 +1,7 @@
 //! Packets, handled as they come.
 ghost use Rattle.std.specs.Prelude.{◌≡◌, ◌^◌, ◌<◌, ◌≤◌, ◌+◌, [], ℕ, Some, length};
 ghost use Rattle.nf_base.specs.declared.card.Card.{Card};
+ghost use Rattle.capture_format.specs.declared.format.CaptureFormat.{CaptureFormat};
 ghost use Rattle.nf_base.specs.Doors.{six_ports, IsServed};
 ghost use Rattle.nf_base.specs.Functions.{function_of};
 ghost use Rattle.nf_base.specs.Step.{step, opening};
@@ -138,8 +139,9 @@ pub fn handle_all<F: Files>(
     requires few { length sinks.old ≤ 2 ^ 32 }
     // Where the sinks hold what each file begins with, with some card.
     ensures comes { let ports = length func.now.handlers in
-        (card : Card) → AreHeld One 1 card ports [] (F.told files.old) sinks.old →
-        Comes (function_of func.now) card ports
+        (card : Card) → (format : CaptureFormat) →
+        AreHeld One 1 card format ports [] (F.told files.old) sinks.old →
+        Comes (function_of func.now) card format ports
         feed.old (F.told files.old) feed.new (F.told files.new)
         sinks.new tables.new.state result }
     ensures same { fixed_of tables.new ≡ fixed_of tables.old }

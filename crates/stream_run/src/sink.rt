@@ -1,13 +1,13 @@
 //! A file that is written in large pieces.
 ghost use Rattle.std.specs.Prelude.{◌≡◌, ◌<◌, ◌++◌, ◌⊎◌, ℕ, List, length, OnOk, vec_len};
-ghost use Rattle.pcap_file.specs.Spelled.{written_bytes};
-ghost use Rattle.stream_run.specs.Texts.{record_of, sent_bytes, line_of};
+ghost use Rattle.stream_run.specs.Texts.{written_of, sent_bytes, line_of};
 ghost use Rattle.stream_run.specs.Writing.{Holds, GoesOn, IsLittle, KeepsOther, IsStopCause, StopsAt};
 
 use crate::buffer::Buffer;
 use crate::handled::HandledParts;
 use crate::piece::is_sent;
 use crate::stop::Stop;
+use capture_format::CaptureFormat;
 use nf_files::{Files, write_whole};
 use std::alloc::AllocError;
 use std::marker::Model;
@@ -15,10 +15,12 @@ use std::marker::Model;
 /// From how many bytes on they are given to their file.
 const PIECE: usize = 65_536;
 
-/// A file that is written, and bytes that are still to be given to it.
+/// A file that is written, the format in which packets are put into it, and bytes that are still to be
+/// given to it.
 #[derive(Drop)]
 pub struct Sink {
     file: u32,
+    format: CaptureFormat,
     held: Buffer,
 }
 
@@ -27,16 +29,17 @@ impl Model for Sink {
 
     ghost Value = { Holding };
 
-    ghost view = { λ s. record { file = s.file; held = s.held } };
+    ghost view = { λ s. record { file = s.file; format = s.format; held = s.held } };
 }
 
 impl Sink {
-    /// A created file, and bytes that it is to begin with.
-    pub fn new(file: u32, buffer: Vec<u8>) -> Sink
-        ensures { result ≡ record { file = file; held = buffer.items } }
+    /// A created file, the format of what is to be put into it, and bytes that it is to begin with.
+    pub fn new(file: u32, format: CaptureFormat, buffer: Vec<u8>) -> Sink
+        ensures { result ≡ record { file = file; format = format; held = buffer.items } }
     {
         Sink {
             file,
+            format,
             held: Buffer::from_vec(buffer),
         }
     }
@@ -50,6 +53,7 @@ impl Sink {
             GoesOn bytes ((F.told files.new).given self.old.file) self.new.held result }
         ensures empty { OnOk result (length self.new.held ≡ 0) }
         ensures same_file { self.new.file ≡ self.old.file }
+        ensures same_format { self.new.format ≡ self.old.format }
         ensures kept { KeepsOther self.old.file (F.told files.old) (F.told files.new) }
         ensures cause { IsStopCause (F.counted files.old) (F.counted files.new) result }
         ensures at { StopsAt self.old.file result }
@@ -75,6 +79,7 @@ impl Sink {
         // The memory of a run doesn't grow with what it writes.
         ensures little { OnOk result (IsLittle self.new) }
         ensures same_file { self.new.file ≡ self.old.file }
+        ensures same_format { self.new.format ≡ self.old.format }
         ensures kept { KeepsOther self.old.file (F.told files.old) (F.told files.new) }
         ensures cause { IsStopCause (F.counted files.old) (F.counted files.new) result }
         ensures at { StopsAt self.old.file result }
@@ -88,20 +93,23 @@ impl Sink {
         }
     }
 
-    /// Puts a packet's record behind what is held.
+    /// Puts a packet behind what is held.
     #[inline(always)]
     pub(crate) fn hold_record(&mut self, handled: &HandledParts) -> Result<(), AllocError>
         ensures held { OnOk result
-            (self.new.held ≡ self.old.held ++ written_bytes (record_of handled.now)) }
+            (self.new.held ≡ self.old.held ++ written_of self.old.format handled.now) }
         ensures same_file { self.new.file ≡ self.old.file }
+        ensures same_format { self.new.format ≡ self.old.format }
     {
-        self.held.hold_record(handled)
+        self.held.hold_record(self.format, handled)
     }
 
     /// The same where the packet is sent out at a port.
     pub(crate) fn hold_sent(&mut self, port: u32, handled: &HandledParts) -> Result<(), AllocError>
-        ensures held { OnOk result (self.new.held ≡ self.old.held ++ sent_bytes port handled.now) }
+        ensures held { OnOk result
+            (self.new.held ≡ self.old.held ++ sent_bytes self.old.format port handled.now) }
         ensures same_file { self.new.file ≡ self.old.file }
+        ensures same_format { self.new.format ≡ self.old.format }
     {
         if is_sent(port, handled) {
             self.hold_record(handled)
@@ -115,6 +123,7 @@ impl Sink {
     pub(crate) fn hold_line(&mut self, handled: &HandledParts) -> Result<(), AllocError>
         ensures held { OnOk result (self.new.held ≡ self.old.held ++ line_of handled.now) }
         ensures same_file { self.new.file ≡ self.old.file }
+        ensures same_format { self.new.format ≡ self.old.format }
     {
         self.held.hold_line(handled)
     }

@@ -2,6 +2,7 @@
 //! journal behind them.
 ghost use Rattle.std.specs.Prelude.{◌≡◌, ◌^◌, ◌≤◌, ◌∷◌, ◌++◌, [], ℕ, List, length, OnOk};
 ghost use Rattle.nf_base.specs.declared.card.Card.{Card};
+ghost use Rattle.capture_format.specs.declared.format.CaptureFormat.{CaptureFormat};
 ghost use Rattle.nf_base.specs.declared.done.Action.TheVariants.{To};
 ghost use Rattle.packet_feed.specs.Told.{EachFile, IsApart};
 ghost use Rattle.run_history.specs.declared.line.Mode.{Mode};
@@ -84,7 +85,8 @@ fn hold_line(sinks: &mut Seq<Sink>, ports: u32, handled: &HandledParts) -> Resul
 
 /// Puts what a packet leaves in each file behind what is held for it. Nothing is given to the files.
 pub fn hold_all(sinks: &mut Seq<Sink>, ports: u32, handled: &HandledParts) -> Result<(), AllocError>
-    ensures ok { OnOk result (AreGrown (λ k. piece ports k handled.now) sinks.old sinks.new) }
+    ensures ok { OnOk result
+        (AreGrown (λ k format. piece format ports k handled.now) sinks.old sinks.new) }
     ensures same_files { files_of sinks.new ≡ files_of sinks.old }
 {
     match hold_sent(sinks, ports, handled) {
@@ -97,9 +99,10 @@ pub fn hold_all(sinks: &mut Seq<Sink>, ports: u32, handled: &HandledParts) -> Re
 pub fn flush_full<F: Files>(sinks: &mut Seq<Sink>, files: &mut F) -> Result<(), Stop>
     requires created { EachFile (F.is_written files.old) (files_of sinks.old) }
     requires apart { IsApart (files_of sinks.old) }
-    ensures goes_on { (mode : Mode) → (workers : ℕ) → (card : Card) → (ports : ℕ) → (hs : List Handled) →
-        AreHeld mode workers card ports hs (F.told files.old) sinks.old →
-        AllGoOn mode workers card ports hs (F.told files.new) sinks.new result }
+    ensures goes_on { (mode : Mode) → (workers : ℕ) → (card : Card) →
+        (format : CaptureFormat) → (ports : ℕ) → (hs : List Handled) →
+        AreHeld mode workers card format ports hs (F.told files.old) sinks.old →
+        AllGoOn mode workers card format ports hs (F.told files.new) sinks.new result }
     // Each file was given what it is to hold but for less than 65,536 bytes.
     ensures little { OnOk result (HoldLittle sinks.new) }
     ensures same_files { files_of sinks.new ≡ files_of sinks.old }
@@ -129,9 +132,11 @@ pub(crate) fn put_parts<F: Files>(
     requires created { EachFile (F.is_written files.old) (files_of sinks.old) }
     requires apart { IsApart (files_of sinks.old) }
     requires few { length sinks.old ≤ 2 ^ 32 }
-    ensures goes_on { (mode : Mode) → (workers : ℕ) → (card : Card) → (hs : List Handled) →
-        AreHeld mode workers card ports hs (F.told files.old) sinks.old →
-        AllGoOn mode workers card ports (hs ++ handled.now ∷ []) (F.told files.new) sinks.new result }
+    ensures goes_on { (mode : Mode) → (workers : ℕ) → (card : Card) →
+        (format : CaptureFormat) → (hs : List Handled) →
+        AreHeld mode workers card format ports hs (F.told files.old) sinks.old →
+        AllGoOn mode workers card format ports (hs ++ handled.now ∷ [])
+        (F.told files.new) sinks.new result }
     // Each file was given what it is to hold but for less than 65,536 bytes.
     ensures little { OnOk result (HoldLittle sinks.new) }
     ensures same_files { files_of sinks.new ≡ files_of sinks.old }
@@ -157,9 +162,11 @@ pub fn put_all<F: Files>(
     requires created { EachFile (F.is_written files.old) (files_of sinks.old) }
     requires apart { IsApart (files_of sinks.old) }
     requires few { length sinks.old ≤ 2 ^ 32 }
-    ensures goes_on { (mode : Mode) → (workers : ℕ) → (card : Card) → (hs : List Handled) →
-        AreHeld mode workers card ports hs (F.told files.old) sinks.old →
-        AllGoOn mode workers card ports (hs ++ handled.now ∷ []) (F.told files.new) sinks.new result }
+    ensures goes_on { (mode : Mode) → (workers : ℕ) → (card : Card) →
+        (format : CaptureFormat) → (hs : List Handled) →
+        AreHeld mode workers card format ports hs (F.told files.old) sinks.old →
+        AllGoOn mode workers card format ports (hs ++ handled.now ∷ [])
+        (F.told files.new) sinks.new result }
     // Each file was given what it is to hold but for less than 65,536 bytes.
     ensures little { OnOk result (HoldLittle sinks.new) }
     ensures same_files { files_of sinks.new ≡ files_of sinks.old }
@@ -176,9 +183,10 @@ pub fn put_all<F: Files>(
 pub fn flush_all<F: Files>(sinks: &mut Seq<Sink>, files: &mut F) -> Result<(), Stop>
     requires created { EachFile (F.is_written files.old) (files_of sinks.old) }
     requires apart { IsApart (files_of sinks.old) }
-    ensures goes_on { (mode : Mode) → (workers : ℕ) → (card : Card) → (ports : ℕ) → (hs : List Handled) →
-        AreHeld mode workers card ports hs (F.told files.old) sinks.old →
-        AllGoOn mode workers card ports hs (F.told files.new) sinks.new result }
+    ensures goes_on { (mode : Mode) → (workers : ℕ) → (card : Card) →
+        (format : CaptureFormat) → (ports : ℕ) → (hs : List Handled) →
+        AreHeld mode workers card format ports hs (F.told files.old) sinks.old →
+        AllGoOn mode workers card format ports hs (F.told files.new) sinks.new result }
     ensures empty { OnOk result (AreEmpty sinks.new) }
     ensures same_files { files_of sinks.new ≡ files_of sinks.old }
     ensures kept { KeepsAllBut (files_of sinks.old) (F.told files.old) (F.told files.new) }

@@ -9,6 +9,7 @@ ghost use Rattle.packet_feed.specs.Sources.{files_in, sixes_in};
 ghost use Rattle.run_history.specs.declared.line.Mode.TheVariants.{One};
 ghost use Rattle.stream_run.specs.Writing.{AreHeld, files_of, KeepsBut, IsStopCause, StopsAmong};
 ghost use Rattle.stream_run.specs.Lawful.{Runs, Flows, Streams};
+ghost use Rattle.capture_format.specs.declared.format.CaptureFormat.{CaptureFormat};
 
 use crate::ending::Ending;
 use crate::heads::begin_sinks;
@@ -17,6 +18,7 @@ use crate::running::handle_all;
 use crate::sink::Sink;
 use crate::sinks::flush_all;
 use crate::stop::Stop;
+use capture_format::CaptureFormat;
 use nf_base::card::Card;
 use nf_base::func::Func;
 use nf_base::seq::Seq;
@@ -50,8 +52,9 @@ fn flow<F: Files>(
     requires apart { IsApart (files_of sinks.old) }
     requires few { length sinks.old ≤ 2 ^ 32 }
     ensures flows { let ports = length func.now.handlers in
-        (card : Card) → AreHeld One 1 card ports [] (F.told files.old) sinks.old →
-        Flows (function_of func.now) card ports
+        (card : Card) → (format : CaptureFormat) →
+        AreHeld One 1 card format ports [] (F.told files.old) sinks.old →
+        Flows (function_of func.now) card format ports
         feed.old (F.told files.old) feed.new (F.told files.new)
         (files_of sinks.old) tables.new.state result }
     ensures kept { KeepsBut (files_of sinks.old) (F.told files.old) (F.told files.new) }
@@ -86,8 +89,9 @@ fn stream<F: Files>(
     requires apart { IsApart (files_of sinks.old) }
     requires few { length sinks.old ≤ 2 ^ 32 }
     ensures streams { let ports = length func.now.handlers in
-        (card : Card) → AreHeld One 1 card ports [] (F.told files.old) sinks.old →
-        Streams (function_of func.now) card ports
+        (card : Card) → (format : CaptureFormat) →
+        AreHeld One 1 card format ports [] (F.told files.old) sinks.old →
+        Streams (function_of func.now) card format ports
         feed.old (F.told files.old) feed.new (F.told files.new) (files_of sinks.old) result }
     ensures kept { KeepsBut (files_of sinks.old) (F.told files.old) (F.told files.new) }
     ensures cause { IsStopCause (F.counted files.old) (F.counted files.new) result }
@@ -115,8 +119,8 @@ fn stream<F: Files>(
     }
 }
 
-/// Handles the packets of captures in capture order, by one worker, and writes the outputs and the
-/// journal as the run goes.
+/// Handles the packets of captures in capture order, by one worker, and writes the outputs, in this
+/// format, and the journal as the run goes.
 ///
 /// The captures are those of the feed, which gave no packet yet, and was started for the function's
 /// ports. The targets are the outputs in the order of their ports, and the journal behind them;
@@ -127,6 +131,7 @@ pub fn run<F: Files>(
     files: &mut F,
     func: &Func,
     card: Card,
+    format: CaptureFormat,
     feed: &mut Feed,
     captures: &[u32],
     targets: &[u32],
@@ -144,7 +149,7 @@ pub fn run<F: Files>(
         IsEmptyIfTold ((F.told files.old).given file) }
     // One run's files are whole, and it handled the first packets of the captures in capture order;
     // or each file holds a front of what such a run leaves there.
-    ensures runs { Runs (function_of func.now) card feed.old (F.told files.old)
+    ensures runs { Runs (function_of func.now) card format feed.old (F.told files.old)
         feed.new (F.told files.new) targets.now result }
     ensures kept { KeepsBut targets.now (F.told files.old) (F.told files.new) }
     ensures cause { IsStopCause (F.counted files.old) (F.counted files.new) result }
@@ -152,7 +157,8 @@ pub fn run<F: Files>(
     ensures among { StopsAmong captures.now targets.now result }
 {
     let ports = func.handlers.len();
-    let mut sinks = match begin_sinks(alloc, Mode::One, Workers::new(1), card, ports, targets) {
+    let workers = Workers::new(1);
+    let mut sinks = match begin_sinks(alloc, Mode::One, workers, card, format, ports, targets) {
         Ok(sinks) => sinks,
         Err(_) => return Err(Stop::Memory),
     };

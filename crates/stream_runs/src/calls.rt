@@ -7,6 +7,7 @@ ghost use Rattle.nf_files.specs.Told.{IsEmptyIfTold};
 ghost use Rattle.packet_feed.specs.Told.{EachFile, IsApart};
 ghost use Rattle.packet_feed.specs.Sources.{files_in, sixes_in};
 
+use capture_format::CaptureFormat;
 use nf_base::card::Card;
 use nf_base::func::Func;
 use nf_files::{Files, FilesFault};
@@ -79,6 +80,7 @@ pub fn run_all<F: Files>(
     files: &mut F,
     func: &Func,
     card: Card,
+    format: CaptureFormat,
     feed: &mut Feed,
     opened: &[u32],
     made: &[u32],
@@ -94,7 +96,7 @@ pub fn run_all<F: Files>(
     requires few { length made.now ≤ 2 ^ 32 }
     requires empty { EachFile (λ file. IsEmptyIfTold ((F.told files.old).given file)) made.now }
 {
-    run(alloc, files, func, card, feed, opened, made)
+    run(alloc, files, func, card, format, feed, opened, made)
 }
 
 /// Where the captures are torn.

@@ -96,6 +96,40 @@ pub fn capture(alloc: Global, records: &[Record]) -> Result<Vec<u8>, AllocError>
     Ok(out)
 }
 
+/// What a pcapng capture of this program begins with (draft-ietf-opsawg-pcapng): a section header of 28 bytes and an
+/// interface of 32, link type 1, 262,144 captured bytes, units of 10^-9 seconds.
+const NG_HEADER: [u8; 60] = [
+    0x0a, 0x0d, 0x0d, 0x0a, 0x1c, 0x00, 0x00, 0x00, 0x4d, 0x3c, 0x2b, 0x1a, 0x01, 0x00, 0x00, 0x00,
+    0xff, 0xff, 0xff, 0xff, 0xff, 0xff, 0xff, 0xff, 0x1c, 0x00, 0x00, 0x00, 0x01, 0x00, 0x00, 0x00,
+    0x20, 0x00, 0x00, 0x00, 0x01, 0x00, 0x00, 0x00, 0x00, 0x00, 0x04, 0x00, 0x09, 0x00, 0x01, 0x00,
+    0x09, 0x00, 0x00, 0x00, 0x00, 0x00, 0x00, 0x00, 0x20, 0x00, 0x00, 0x00,
+];
+
+/// An Enhanced Packet Block of 76 bytes at a time below 256 and 2^32 nanoseconds more so many times, with a frame of 42
+/// bytes that had as many on the wire.
+fn push_ng(out: &mut Vec<u8>, high: u8, low: u8, frame: &[u8; 42]) -> Result<(), AllocError> {
+    out.extend_from_slice(&[6, 0, 0, 0, 76, 0, 0, 0, 0, 0, 0, 0])?;
+    out.extend_from_slice(&[high, 0, 0, 0, low, 0, 0, 0, 42, 0, 0, 0, 42, 0, 0, 0])?;
+    out.extend_from_slice(frame)?;
+    out.extend_from_slice(&[0, 0, 76, 0, 0, 0])
+}
+
+/// A pcapng capture of the reply at 5 and of the query at 2^32 + 1.
+pub fn ng_captures(alloc: Global) -> Result<[Vec<u8>; 2], AllocError> {
+    let mut reply = Vec::from_slice(alloc, &NG_HEADER)?;
+    push_ng(&mut reply, 0, 5, &REPLY)?;
+    let mut query = Vec::from_slice(alloc, &NG_HEADER)?;
+    push_ng(&mut query, 1, 1, &QUERY)?;
+    Ok([reply, query])
+}
+
+/// One of the edited frame at 1.
+pub fn ng_edited(alloc: Global) -> Result<Vec<u8>, AllocError> {
+    let mut edited = Vec::from_slice(alloc, &NG_HEADER)?;
+    push_ng(&mut edited, 0, 1, &EDITED)?;
+    Ok(edited)
+}
+
 /// A capture for each port.
 pub fn captures(alloc: Global, ports: &[&[Record]]) -> Result<Vec<Vec<u8>>, AllocError> {
     let mut captures = Vec::new(alloc);

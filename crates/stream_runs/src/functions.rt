@@ -29,3 +29,6 @@ pub const SPREAD: &str =
 
 /// A source address is written.
 pub const EDIT: &str = "nf edit { ports 2; on 0 { set src_ip = 50.133.0.1; forward 1; } on 1 { } }";
+
+/// What comes in at one port goes out at the other.
+pub const SWAP: &str = "nf swap { ports 2; on 0 { forward 1; } on 1 { forward 0; } }";

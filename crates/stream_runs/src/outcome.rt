@@ -7,6 +7,7 @@ ghost use Rattle.packet_feed.specs.Told.{EachFile, IsApart};
 ghost use Rattle.packet_feed.specs.Sources.{files_in, sixes_in};
 
 use crate::calls::{create_all, open_all, run_all, start, torn};
+use capture_format::CaptureFormat;
 use nf_base::card::Card;
 use nf_base::func::Func;
 use nf_files::{Files, MemoryFiles};
@@ -77,7 +78,7 @@ fn function(alloc: Global, text: &[u8]) -> Option<Func> {
     check(alloc, &tree).ok()
 }
 
-/// The same with the usual card.
+/// The same with the usual card and outputs in pcap.
 pub fn outcome_of(
     alloc: Global,
     text: &[u8],
@@ -85,14 +86,16 @@ pub fn outcome_of(
     most: u32,
     fails: &[u64],
 ) -> Result<Outcome, AllocError> {
-    outcome_with(alloc, Card::usual(), text, captures, most, fails)
+    let (card, format) = (Card::usual(), CaptureFormat::Pcap);
+    outcome_with(alloc, card, format, text, captures, most, fails)
 }
 
-/// Runs a function over captures, of which there are at most four, and at most so many packets, with a card; the calls
-/// on files that are listed fail.
+/// Runs a function over captures, of which there are at most four, and at most so many packets, with a card and
+/// outputs in this format; the calls on files that are listed fail.
 pub fn outcome_with(
     alloc: Global,
     card: Card,
+    format: CaptureFormat,
     text: &[u8],
     captures: &[Vec<u8>],
     most: u32,
@@ -112,7 +115,16 @@ pub fn outcome_with(
     };
     if let Some(func) = function(alloc, text) {
         if func.handlers.len() as usize == names.len() {
-            run_over(alloc, &mut files, &func, card, names, most, &mut outcome)?;
+            run_over(
+                alloc,
+                &mut files,
+                &func,
+                card,
+                format,
+                names,
+                most,
+                &mut outcome,
+            )?;
         }
     }
     for name in outputs(names.len()) {
@@ -128,6 +140,7 @@ fn run_made<F: Files>(
     files: &mut F,
     func: &Func,
     card: Card,
+    format: CaptureFormat,
     feed: &mut Feed,
     opened: &[u32],
     made: &[u32],
@@ -147,7 +160,7 @@ fn run_made<F: Files>(
         outcome.end = End::Uncreated;
         return Ok(());
     }
-    let ran = run_all(alloc, files, func, card, feed, opened, made);
+    let ran = run_all(alloc, files, func, card, format, feed, opened, made);
     outcome.torn = torn(feed);
     match ran {
         Err(stop) => outcome.end = End::Stopped(stop),
@@ -165,6 +178,7 @@ fn run_over<F: Files>(
     files: &mut F,
     func: &Func,
     card: Card,
+    format: CaptureFormat,
     names: &[&str],
     most: u32,
     outcome: &mut Outcome,
@@ -180,7 +194,9 @@ fn run_over<F: Files>(
                 Err(_) => outcome.end = End::Uncreated,
                 Ok(made) => {
                     let (opened, made) = (opened.as_slice(), made.as_slice());
-                    return run_made(alloc, files, func, card, &mut feed, opened, made, outcome);
+                    return run_made(
+                        alloc, files, func, card, format, &mut feed, opened, made, outcome,
+                    );
                 }
             },
         },

@@ -1,7 +1,8 @@
 //! Runs as streams, with all files that they leave.
-use crate::frames::{Frame, Record, capture, captures};
-use crate::functions::{EDIT, FIREWALL, MIRROR, SPREAD};
+use crate::frames::{Frame, Record, capture, captures, ng_captures, ng_edited};
+use crate::functions::{EDIT, FIREWALL, MIRROR, SPREAD, SWAP};
 use crate::outcome::{End, Outcome, is_absent, outcome_of, outcome_with};
+use capture_format::CaptureFormat;
 use nf_base::card::{Card, KeySize, TableSize};
 use packet_feed::FeedFault;
 use std::alloc::{AllocError, Global};
@@ -155,6 +156,7 @@ fn wrong_part(alloc: Global, case: &Case) -> Result<&'static str, AllocError> {
     let got = outcome_with(
         alloc,
         case.card,
+        CaptureFormat::Pcap,
         case.text.as_bytes(),
         captures.as_slice(),
         case.most,
@@ -184,6 +186,42 @@ fn runs_leave_these_files(rt: HostRuntime) -> Result<(), Fail> {
         let wrong = wrong_part(rt.alloc(), case)?;
         assert!(rt; wrong.is_empty(), "{}: {wrong}", case.shows);
     }
+    Ok(())
+}
+
+/// What a run over captures of these frames leaves, with outputs in pcapng.
+fn ng_outcome(alloc: Global, text: &str, ports: &[&[Record]]) -> Result<Outcome, AllocError> {
+    let captures = captures(alloc, ports)?;
+    let (card, format) = (USUAL, CaptureFormat::Pcapng);
+    outcome_with(
+        alloc,
+        card,
+        format,
+        text.as_bytes(),
+        captures.as_slice(),
+        9,
+        &[],
+    )
+}
+
+/// A packet has 76 bytes there, two of them zeros behind its frame. The journal is the same as beside pcap.
+#[test]
+fn outputs_are_pcapng_where_that_is_asked_for(rt: HostRuntime) -> Result<(), Fail> {
+    let alloc = rt.alloc();
+    let ports: [&[Record]; 2] = [&[(4_294_967_297, Frame::Query)], &[(5, Frame::Reply)]];
+    let got = ng_outcome(alloc, SWAP, &ports)?;
+    let [reply, query] = ng_captures(alloc)?;
+    assert_eq!(rt; (reply.len(), query.len()), (136, 136));
+    assert!(rt; is_left(&got, 0, reply.as_slice()), "the output of port 0");
+    assert!(rt; is_left(&got, 1, query.as_slice()), "the output of port 1");
+    let journal = "maestro journal 1 one 1\n1 0 0 to:0 -\n0 0 0 to:1 -\n";
+    assert!(rt; is_left(&got, 2, journal.as_bytes()), "the journal");
+    let got = ng_outcome(alloc, EDIT, &[&[(1, Frame::Summed)], &[]])?;
+    let edited = ng_edited(alloc)?;
+    assert!(rt;
+        is_left(&got, 1, edited.as_slice()),
+        "a frame with its edits"
+    );
     Ok(())
 }
 

@@ -2,6 +2,7 @@
 use Rattle.std.proofs.Common.{◌≡◌, ℕ, suc, ◌+◌, ◌-◌, ◌^◌, ◌<◌, ◌≤◌, ◌⊎◌, inl, inr, Bool, true, false, cond, List, length, Option, Some, Result, Ok, Err, refl, sym, ap, subst, ◌∙◌, arith}
 use Rattle.std.specs.List.{slice_index_or}
 use Rattle.std.proofs.lemmas.Bool.{cases_lt, le-ltb}
+use Rattle.capture_format.specs.declared.format.CaptureFormat.{CaptureFormat}
 use Rattle.nf_base.specs.declared.card.Card.{Card}
 use Rattle.nf_base.specs.Text.{Function}
 use Rattle.nf_files.specs.Told.{Told, IsToldAs}
@@ -91,40 +92,40 @@ keeps_back files cs ds a b r s old new p q small k =
 
 -- ---- what was given to files
 
-pub full_back : (who : Who) (card : Card) (f : Function) (arrivals : List Arrival) (told now : Told) (files : List ℕ) (full : ShareFull) → ((g : ℕ) → told.given g ≡ now.given g) → IsFull who card f arrivals told files full → IsFull who card f arrivals now files full
-full_back whos.One card f arrivals told now files full same h = absurd h
-full_back (whos.Shards keys workers) card f arrivals told now files full same h = record {
+pub full_back : (who : Who) (card : Card) (format : CaptureFormat) (f : Function) (arrivals : List Arrival) (told now : Told) (files : List ℕ) (full : ShareFull) → ((g : ℕ) → told.given g ≡ now.given g) → IsFull who card format f arrivals told files full → IsFull who card format f arrivals now files full
+full_back whos.One card format f arrivals told now files full same h = absurd h
+full_back (whos.Shards keys workers) card format f arrivals told now files full same h = record {
   run = h.run;
   is_run = h.is_run;
   stops = h.stops;
   packets = h.packets;
-  wholes = λ k file e. subst (IsToldAs (file_bytes h.run k)) (same file) (h.wholes k file e);
+  wholes = λ k file e. subst (IsToldAs (file_bytes format h.run k)) (same file) (h.wholes k file e);
 }
-full_back (whos.Sharing workers) card f arrivals told now files full same h = absurd h
+full_back (whos.Sharing workers) card format f arrivals told now files full same h = absurd h
 
-leaves_same : (who : Who) (card : Card) (Refused : Type 0) (f : Function) (arrivals : List Arrival) (told now : Told) (files : List ℕ) (result : Result Left Stop) → ((g : ℕ) → told.given g ≡ now.given g) → Leaves who card Refused f arrivals told files result → Leaves who card Refused f arrivals now files result
-leaves_same who card Refused f arrivals told now files (Ok (Whole m state)) same h = record {
+leaves_same : (who : Who) (card : Card) (format : CaptureFormat) (Refused : Type 0) (f : Function) (arrivals : List Arrival) (told now : Told) (files : List ℕ) (result : Result Left Stop) → ((g : ℕ) → told.given g ≡ now.given g) → Leaves who card format Refused f arrivals told files result → Leaves who card format Refused f arrivals now files result
+leaves_same who card format Refused f arrivals told now files (Ok (Whole m state)) same h = record {
   run = h.run;
   is_run = h.is_run;
   mode_is = h.mode_is;
   left = h.left;
-  wholes = λ k file e. subst (IsToldAs (file_bytes h.run k)) (same file) (h.wholes k file e);
+  wholes = λ k file e. subst (IsToldAs (file_bytes format h.run k)) (same file) (h.wholes k file e);
 }
-leaves_same who card Refused f arrivals told now files (Ok (Full full)) same h = full_back who card f arrivals told now files full same h
-leaves_same who card Refused f arrivals told now files (Err stop) same h = record {
+leaves_same who card format Refused f arrivals told now files (Ok (Full full)) same h = full_back who card format f arrivals told now files full same h
+leaves_same who card format Refused f arrivals told now files (Err stop) same h = record {
   run = h.run;
   given = h.given;
   first = h.first;
   is_run = h.is_run;
-  fronts = λ k file e. subst (IsFrontIfTold (file_bytes h.run k)) (same file) (h.fronts k file e);
+  fronts = λ k file e. subst (IsFrontIfTold (file_bytes format h.run k)) (same file) (h.fronts k file e);
 }
 
 given_if : (right : Bool) (told : Told) (g : ℕ) → right ≡ true → (told_if right told).given g ≡ told.given g
 given_if right told g e = ap (λ (b : Bool). (told_if b told).given g) e
 
-pub leaves_back : (who : Who) (card : Card) (Refused : Type 0) (f : Function) (arrivals : List Arrival) (captures : List (List ℕ)) (mark : List ℕ) (right : Bool) (now : Told) (files : List ℕ) (result : Result Left Stop) → right ≡ true
-    → Leaves who card Refused f arrivals (with_made captures mark (told_if right now)) files result → Leaves who card Refused f arrivals now files result
-leaves_back who card Refused f arrivals captures mark right now files result e h = leaves_same who card Refused f arrivals (with_made captures mark (told_if right now)) now files result (λ g. given_if right now g e) h
+pub leaves_back : (who : Who) (card : Card) (format : CaptureFormat) (Refused : Type 0) (f : Function) (arrivals : List Arrival) (captures : List (List ℕ)) (mark : List ℕ) (right : Bool) (now : Told) (files : List ℕ) (result : Result Left Stop) → right ≡ true
+    → Leaves who card format Refused f arrivals (with_made captures mark (told_if right now)) files result → Leaves who card format Refused f arrivals now files result
+leaves_back who card format Refused f arrivals captures mark right now files result e h = leaves_same who card format Refused f arrivals (with_made captures mark (told_if right now)) now files result (λ g. given_if right now g e) h
 
 pub empty_beside : (right : Bool) (told : Told) (P : Option (List ℕ) → Type 0) (g : ℕ) → right ≡ true → P (told.given g) → P ((told_if right told).given g)
 empty_beside right told P g e p = subst P (sym (given_if right told g e)) p

@@ -2,7 +2,7 @@
 use Rattle.std.proofs.Common.{◌≡◌, ℕ, zero, suc, ◌+◌, Bool, List, [], ◌∷◌, Option, Some, None, Err, slice_get, option_map, refl, sym, ap, ◌∙◌, subst}
 use Rattle.nf_base.specs.Doors.{six_at}
 use Rattle.nf_files.specs.Told.{Told}
-use Rattle.packet_feed.specs.Arrivals.{Arrival, arrivals_from}
+use Rattle.packet_feed.specs.Arrivals.{Arrival, arrivals_in}
 use Rattle.packet_feed.specs.Told.{both, gathered, packets_in, packets_of, IsNoCapture}
 use Rattle.packet_feed.specs.Sources.{IsLeastBad}
 use Rattle.packet_feed.specs.Feeding.{Starts}
@@ -18,7 +18,7 @@ both_none (Some xs) = refl
 -- bytes that are no capture tell no packets
 no_packets : (six : Bool) (port : ℕ) (rest : Option (List ℕ)) → IsNoCapture rest → packets_in six port rest ≡ None
 no_packets six port None none = refl
-no_packets six port (Some bytes) none = ap (option_map (λ c. arrivals_from six port c.form.unit 0 0 c.records)) none
+no_packets six port (Some bytes) none = ap (option_map (arrivals_in six port)) none
 
 bad_at : (six : List Bool) (told : Told) (place k : ℕ) (files : List ℕ) (file : ℕ) → slice_get files k ≡ Some file → IsNoCapture (told.rest file) → gathered (λ (port f : ℕ). packets_in (six_at six port) port (told.rest f)) place files ≡ None
 bad_at six told place k [] file at none = absurd (cc at)

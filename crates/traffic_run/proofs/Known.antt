@@ -4,6 +4,7 @@ use Rattle.std.specs.Prelude.{Option, Some, None, Result, Ok, Err, option_map}
 use Rattle.std.proofs.lemmas.Option.{slice_get_within}
 use Rattle.std.specs.List.{slice_get}
 use Rattle.std.proofs.lemmas.Bool.{le-leb, lt-leb}
+use Rattle.capture_format.specs.declared.format.CaptureFormat.{CaptureFormat}
 use Rattle.nf_base.specs.declared.card.Card.{Card}
 use Rattle.nf_base.specs.Text.{Function}
 use Rattle.nf_files.specs.Told.{Told, IsEmptyIfTold}
@@ -120,22 +121,22 @@ stop_among T U captures files first n (File file) is as_many numbers low (inr ow
     let lt : own.0 < n + 1 = omega (arith, slice_get_within files own.0 file own.1, as_many) in
     inr (own.0, own.1 ∙ ap Some (sym (in_told first n file (omega (arith, e)) (omega (arith, e, lt)))))
 
-pub came_causes : (captures files : List ℕ) (first n bytes : ℕ) (old new : Counted) (result : Result Left Stop) → captures ≡ numbers_of n → length files ≡ n + 1 → ((k file : ℕ) → slice_get files k ≡ Some file → file ≡ first + k) → first + n + n < 2 ^ 32 → StaysKnown (first + n) old new
-    → StopsAmong captures files result → IsStopCause old new result → IsStopCause old new (came_of first n bytes result)
-came_causes captures files first n bytes old new (Ok (Whole m state)) is as_many numbers low known among h = h
-came_causes captures files first n bytes old new (Ok (Full full)) is as_many numbers low known among h = h
-came_causes captures files first n bytes old new (Err stop) is as_many numbers low known among h = stop_causes Left Came captures files first n old new stop is as_many numbers low known h among
+pub came_causes : (format : CaptureFormat) (captures files : List ℕ) (first n bytes : ℕ) (old new : Counted) (result : Result Left Stop) → captures ≡ numbers_of n → length files ≡ n + 1 → ((k file : ℕ) → slice_get files k ≡ Some file → file ≡ first + k) → first + n + n < 2 ^ 32 → StaysKnown (first + n) old new
+    → StopsAmong captures files result → IsStopCause old new result → IsStopCause old new (came_of format first n bytes result)
+came_causes format captures files first n bytes old new (Ok (Whole m state)) is as_many numbers low known among h = h
+came_causes format captures files first n bytes old new (Ok (Full full)) is as_many numbers low known among h = h
+came_causes format captures files first n bytes old new (Err stop) is as_many numbers low known among h = stop_causes Left Came captures files first n old new stop is as_many numbers low known h among
 
-pub came_among : (captures files : List ℕ) (first n bytes : ℕ) (result : Result Left Stop) → captures ≡ numbers_of n → length files ≡ n + 1 → ((k file : ℕ) → slice_get files k ≡ Some file → file ≡ first + k) → first + n + n < 2 ^ 32
-    → StopsAmong captures files result → StopsAmong [] files (came_of first n bytes result)
-came_among captures files first n bytes (Ok (Whole m state)) is as_many numbers low among = tt
-came_among captures files first n bytes (Ok (Full full)) is as_many numbers low among = tt
-came_among captures files first n bytes (Err stop) is as_many numbers low among = stop_among Left Came captures files first n stop is as_many numbers low among
+pub came_among : (format : CaptureFormat) (captures files : List ℕ) (first n bytes : ℕ) (result : Result Left Stop) → captures ≡ numbers_of n → length files ≡ n + 1 → ((k file : ℕ) → slice_get files k ≡ Some file → file ≡ first + k) → first + n + n < 2 ^ 32
+    → StopsAmong captures files result → StopsAmong [] files (came_of format first n bytes result)
+came_among format captures files first n bytes (Ok (Whole m state)) is as_many numbers low among = tt
+came_among format captures files first n bytes (Ok (Full full)) is as_many numbers low among = tt
+came_among format captures files first n bytes (Err stop) is as_many numbers low among = stop_among Left Came captures files first n stop is as_many numbers low among
 
 -- ---- what a run came to
 
-pub came_runs : (who : Who) (card : Card) (Refused : Type 0) (f : Function) (made : Recipe) (now : Told) (files : List ℕ) (first n bytes : ℕ) (result : Result Left Stop) → length (arrivals_of made) < 2 ^ 32 → length f.handlers ≡ n → n ≤ 4 → length files ≡ n + 1 → ((k file : ℕ) → slice_get files k ≡ Some file → file ≡ first + k)
-    → CountsTo first n now bytes → Leaves who card Refused f (arrivals_of made) now files result → Runs who card Refused f (arrivals_of made) now files first (came_of first n bytes result)
-came_runs who card Refused f made now files first n bytes (Ok (Whole m state)) short ports few as_many numbers right h = record { whole = h; sent_is = is_sent_by who card Refused f made now files m state h first n bytes short ports few as_many numbers right }
-came_runs who card Refused f made now files first n bytes (Ok (Full full)) short ports few as_many numbers right h = h
-came_runs who card Refused f made now files first n bytes (Err stop) short ports few as_many numbers right h = h
+pub came_runs : (who : Who) (card : Card) (format : CaptureFormat) (Refused : Type 0) (f : Function) (made : Recipe) (now : Told) (files : List ℕ) (first n bytes : ℕ) (result : Result Left Stop) → length (arrivals_of made) < 2 ^ 32 → length f.handlers ≡ n → n ≤ 4 → length files ≡ n + 1 → ((k file : ℕ) → slice_get files k ≡ Some file → file ≡ first + k)
+    → CountsTo first n now bytes → Leaves who card format Refused f (arrivals_of made) now files result → Runs who card format Refused f (arrivals_of made) now files first (came_of format first n bytes result)
+came_runs who card format Refused f made now files first n bytes (Ok (Whole m state)) short ports few as_many numbers right h = record { whole = h; sent_is = is_sent_by who card format Refused f made now files m state h first n bytes short ports few as_many numbers right }
+came_runs who card format Refused f made now files first n bytes (Ok (Full full)) short ports few as_many numbers right h = h
+came_runs who card format Refused f made now files first n bytes (Err stop) short ports few as_many numbers right h = h

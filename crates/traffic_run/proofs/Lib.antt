@@ -1,4 +1,4 @@
-mod Over
+pub mod Over
 mod Back
 mod Making
 pub mod Sending

@@ -1,10 +1,10 @@
 -- A run over captures that are made of packets is one of these packets.
-use Rattle.std.proofs.Common.{◌≡◌, ℕ, ◌<◌, Bool, List, [], length, map, take, Option, Some, Result, Ok, Err, refl, sym, ap, ap₂, subst, ◌∙◌, append-nil, arith}
+use Rattle.std.proofs.Common.{◌≡◌, inl, ℕ, Bool, List, [], length, map, take, Option, Some, Result, Ok, Err, refl, sym, ap, ap₂, subst, ◌∙◌, append-nil, arith}
 use Rattle.std.specs.List.{slice_get}
 use Rattle.std.proofs.lemmas.List.{length-map, take_all}
+use Rattle.capture_format.specs.declared.format.CaptureFormat.{CaptureFormat}
 use Rattle.nf_base.specs.declared.card.Card.{Card}
 use Rattle.nf_base.specs.Text.{Function}
-use Rattle.nf_base.specs.Step.{opening}
 use Rattle.nf_base.specs.declared.keys.Keys.{Keys}
 use Rattle.nf_base.specs.declared.packet.Packet.{Packet}
 use Rattle.nf_files.specs.Told.{Told, IsEmptyIfTold}
@@ -13,21 +13,20 @@ use Rattle.packet_feed.specs.Order.{in_order}
 use Rattle.packet_feed.specs.Told.{packets_of}
 use Rattle.packet_feed.specs.Sources.{files_in, sixes_in}
 use Rattle.packet_feed.specs.Feeding.{Feeding}
-use Rattle.run_history.specs.declared.line.Mode.{Mode}
 use Rattle.run_history.specs.declared.line.Mode.TheVariants as mode
 use Rattle.stream_run.specs.declared.ran.Ran.{Ran}
-use Rattle.stream_run.specs.Runs.{Run, IsLegal, arrival_in}
+use Rattle.stream_run.specs.Runs.{Run, arrival_in}
+use Rattle.stream_run.specs.Rules.{Rule, one_rule, shard_rule, lock_rule, IsRunBy}
 use Rattle.stream_run.specs.Texts.{file_bytes}
 use Rattle.stream_run.specs.Streaming as stream
-use Rattle.stream_run.specs.Lawful.{AreTheFirst, IsOneRun}
+use Rattle.stream_run.specs.Lawful.{AreTheFirst, IsRunOver}
 use Rattle.stream_run.specs.Lawful as one
 use Rattle.stream_run.proofs.Complete.{empty_front}
+use Rattle.stream_run.proofs.Ruled.{nothing_is}
 use Rattle.sharded_run.specs.declared.came.ShareFull.{ShareFull}
 use Rattle.sharded_run.specs.Sharded as sharded
 use Rattle.sharded_run.specs.Lawful as shards
-use Rattle.sharded_run.proofs.Begun.{share_by, is_setup}
 use Rattle.locked_run.specs.declared.came.Came.{Came}
-use Rattle.locked_run.specs.Locked.{IsRunIn}
 use Rattle.locked_run.specs.Lawful as locked
 use Rattle.gen_traffic.specs.Traffic.{Recipe, traffic}
 use Rattle.gen_traffic.proofs.Streams.{counted}
@@ -38,7 +37,7 @@ use Rattle.stream_run.specs.declared.stop.Stop.{Stop}
 use Rattle.traffic_run.specs.declared.came.Left.{Left}
 use Rattle.traffic_run.specs.declared.came.Left.TheVariants as left
 use Rattle.traffic_run.specs.Started.{HasStarted}
-use Rattle.traffic_run.specs.Runs.{IsByOne, IsRunBy, Serves, IsWhole, AreBefore, IsStopped, AreFirst, IsCutShort, Leaves}
+use Rattle.traffic_run.specs.Runs.{IsDue, IsWhole, AreBefore, IsStopped, AreFirst, IsCutShort, Leaves}
 
 -- ---- the packets of traffic
 
@@ -47,49 +46,24 @@ arrivals_long r = length-map (traffic r) arrival_of ∙ (counted r).count
 
 -- ---- nothing was handled
 
-empty_run : Function → Mode → ℕ → Card → Run
-empty_run f m workers card = record { function = f; mode = m; workers = workers; card = card; turns = [] }
-
-legal_none : (f : Function) (m : Mode) (workers : ℕ) (card : Card) → IsLegal (empty_run f m workers card)
-unfolding empty_run
-legal_none f m workers card = record { result = record { state = opening f; answers = [] }; ran = refl }
+-- a rule that is due before any packet came
+first_due : (who : Who) (Refused : Type 0) → (rule : Rule) × IsDue who Refused rule
+first_due One Refused = (one_rule, refl)
+first_due (Shards keys workers) Refused = (shard_rule keys workers, refl)
+first_due (Sharing workers) Refused = (lock_rule workers, inl refl)
 
 -- where files are empty, each holds a front of what a run over no packet leaves there
-none_of : (who : Who) (card : Card) (Refused : Type 0) (f : Function) (arrivals : List Arrival) (now : Told) (files : List ℕ) (r : Run) → IsRunBy who card Refused f [] r → ((k file : ℕ) → slice_get files k ≡ Some file → IsEmptyIfTold (now.given file)) → IsCutShort who card Refused f arrivals now files
-none_of who card Refused f arrivals now files r is empty = record {
-  run = r;
-  given = [];
-  first = (arrivals, refl);
-  is_run = is;
-  fronts = λ k file e. empty_front (file_bytes r k) (now.given file) (empty k file e);
-}
-
-pub none_by : (who : Who) (card : Card) (Refused : Type 0) (f : Function) (arrivals : List Arrival) (now : Told) (files : List ℕ) → Serves f who → ((k file : ℕ) → slice_get files k ≡ Some file → IsEmptyIfTold (now.given file)) → IsCutShort who card Refused f arrivals now files
-unfolding empty_run
-none_by One card Refused f arrivals now files s empty =
-    none_of One card Refused f arrivals now files (empty_run f mode.One 1 card) (record { function = refl; mode_is = refl; workers = refl; card_is = refl; alone = tt; legal = legal_none f mode.One 1 card; packets = refl }) empty
-none_by (Shards keys workers) card Refused f arrivals now files s empty =
-    let some : 0 < workers = omega (arith, s.0.0) in
-    none_of (Shards keys workers) card Refused f arrivals now files (empty_run f mode.Shard workers card)
-    (record {
-      is_run = record {
-        function = refl;
-        mode = refl;
-        workers_are = refl;
-        card_is = refl;
-        queues = tt;
-        legal = legal_none f mode.Shard workers card;
-        share = share_by workers some s.0.1;
-        shares = (is_setup f keys workers some s.0.1).shares;
-        rule = tt;
-      };
-      packets = refl;
-    })
-    empty
-none_by (Sharing workers) card Refused f arrivals now files s empty =
-    none_of (Sharing workers) card Refused f arrivals now files (empty_run f mode.Lock workers card)
-    (record { function = refl; mode = refl; workers_are = refl; card_is = refl; own = tt; order = λ port. refl; legal = legal_none f mode.Lock workers card })
-    empty
+pub none_by : (who : Who) (card : Card) (format : CaptureFormat) (Refused : Type 0) (f : Function) (arrivals : List Arrival) (now : Told) (files : List ℕ) → ((k file : ℕ) → slice_get files k ≡ Some file → IsEmptyIfTold (now.given file)) → IsCutShort who card format Refused f arrivals now files
+none_by who card format Refused f arrivals now files empty =
+    let due = first_due who Refused in
+    let r : Run = record { function = f; mode = due.0.mode; workers = due.0.workers; card = card; turns = [] } in
+    record {
+      run = r;
+      given = [];
+      first = (arrivals, refl);
+      is_run = record { rule = due.0; due = due.1; is_run = nothing_is due.0 f card };
+      fronts = λ k file e. empty_front (file_bytes format r k) (now.given file) (empty k file e);
+    }
 
 -- ---- what is known of captures that are told
 
@@ -110,35 +84,38 @@ some_first six captures begun start arrivals given h p =
 
 -- ---- by one worker
 
-by_one : (f : Function) (card : Card) (six : List Bool) (captures : List ℕ) (begun : Feeding) (start : Told) (arrivals : List Arrival) (r : Run) (h : HasStarted six captures begun start arrivals) → IsOneRun f card begun.most (packets_of (sixes_in begun.sources) (files_in begun.sources) h.before) r → IsByOne f card arrivals r
-by_one f card six captures begun start arrivals r h is = record {
-  function = is.function;
-  mode_is = is.mode;
-  workers = is.workers;
-  card_is = is.card_is;
-  alone = is.alone;
-  legal = is.legal;
-  packets = all_first six captures begun start arrivals (map arrival_in r.turns) h is.packets;
-}
+by_one : (f : Function) (card : Card) (six : List Bool) (captures : List ℕ) (begun : Feeding) (start : Told) (arrivals : List Arrival) (r : Run) (h : HasStarted six captures begun start arrivals) → IsRunOver one_rule f card begun.most (packets_of (sixes_in begun.sources) (files_in begun.sources) h.before) r → IsRunBy one_rule f card arrivals r
+by_one f card six captures begun start arrivals r h is =
+    subst (λ (given : List Arrival). IsRunBy one_rule f card given r) (all_first six captures begun start arrivals is.given h is.packets) is.is_run
 
-pub whole_one : (card : Card) (Refused : Type 0) (f : Function) (six : List Bool) (captures : List ℕ) (begun : Feeding) (start : Told) (arrivals : List Arrival) (later : Feeding) (now : Told) (files : List ℕ) (ran : Ran) (h : HasStarted six captures begun start arrivals) → one.IsFinished f card begun start later now files ran
-    → IsWhole One card Refused f arrivals now files mode.One ran.state
-whole_one card Refused f six captures begun start arrivals later now files ran h k =
+pub whole_one : (card : Card) (format : CaptureFormat) (Refused : Type 0) (f : Function) (six : List Bool) (captures : List ℕ) (begun : Feeding) (start : Told) (arrivals : List Arrival) (later : Feeding) (now : Told) (files : List ℕ) (ran : Ran) (h : HasStarted six captures begun start arrivals) → one.IsFinished f card format begun start later now files ran
+    → IsWhole One card format Refused f arrivals now files mode.One ran.state
+whole_one card format Refused f six captures begun start arrivals later now files ran h k =
     let is = by_one f card six captures begun start arrivals k.run h (k.lawful h.before h.stands) in
-    record { run = k.run; is_run = is; mode_is = sym is.mode_is; left = k.left; wholes = k.wholes }
+    record { run = k.run; is_run = record { rule = one_rule; due = refl; is_run = is }; mode_is = sym is.mode; left = k.left; wholes = k.wholes }
 
-pub cut_one : (card : Card) (Refused : Type 0) (f : Function) (six : List Bool) (captures : List ℕ) (begun : Feeding) (start : Told) (arrivals : List Arrival) (now : Told) (files : List ℕ) (h : HasStarted six captures begun start arrivals) → one.IsCutShort f card begun start now files → IsCutShort One card Refused f arrivals now files
-cut_one card Refused f six captures begun start arrivals now files h k =
+pub cut_one : (card : Card) (format : CaptureFormat) (Refused : Type 0) (f : Function) (six : List Bool) (captures : List ℕ) (begun : Feeding) (start : Told) (arrivals : List Arrival) (now : Told) (files : List ℕ) (h : HasStarted six captures begun start arrivals) → one.IsCutShort f card format begun start now files → IsCutShort One card format Refused f arrivals now files
+cut_one card format Refused f six captures begun start arrivals now files h k =
     let cut = k.lawful h.before h.stands in
-    record { run = cut.run; given = arrivals; first = ([], sym (append-nil arrivals)); is_run = by_one f card six captures begun start arrivals cut.run h cut.is_run; fronts = cut.fronts }
+    record {
+      run = cut.run;
+      given = arrivals;
+      first = ([], sym (append-nil arrivals));
+      is_run = record { rule = one_rule; due = refl; is_run = by_one f card six captures begun start arrivals cut.run h cut.is_run };
+      fronts = cut.fronts;
+    }
 
 -- ---- by several that share nothing
 
-pub whole_shards : (card : Card) (Refused : Type 0) (f : Function) (keys : Keys) (workers : ℕ) (six : List Bool) (captures : List ℕ) (begun : Feeding) (start : Told) (arrivals : List Arrival) (later : Feeding) (now : Told) (files : List ℕ) (ran : Ran) (h : HasStarted six captures begun start arrivals)
-    → shards.IsFinished f keys workers card begun start later now files ran → IsWhole (Shards keys workers) card Refused f arrivals now files mode.Shard ran.state
-whole_shards card Refused f keys workers six captures begun start arrivals later now files ran h k = record {
+pub whole_shards : (card : Card) (format : CaptureFormat) (Refused : Type 0) (f : Function) (keys : Keys) (workers : ℕ) (six : List Bool) (captures : List ℕ) (begun : Feeding) (start : Told) (arrivals : List Arrival) (later : Feeding) (now : Told) (files : List ℕ) (ran : Ran) (h : HasStarted six captures begun start arrivals)
+    → shards.IsFinished f keys workers card format begun start later now files ran → IsWhole (Shards keys workers) card format Refused f arrivals now files mode.Shard ran.state
+whole_shards card format Refused f keys workers six captures begun start arrivals later now files ran h k = record {
   run = k.run;
-  is_run = record { is_run = k.is_run; packets = all_first six captures begun start arrivals (map arrival_in k.run.turns) h (k.packets h.before h.stands) };
+  is_run = record {
+    rule = shard_rule keys workers;
+    due = refl;
+    is_run = subst (λ (given : List Arrival). IsRunBy (shard_rule keys workers) f card given k.run) (all_first six captures begun start arrivals (map arrival_in k.run.turns) h (k.packets h.before h.stands)) k.is_run;
+  };
   mode_is = sym k.is_run.mode;
   left = k.left;
   wholes = k.wholes;
@@ -147,9 +124,9 @@ whole_shards card Refused f keys workers six captures begun start arrivals later
 before_of : (all arrivals given : List Arrival) (packet : Packet) → in_order all ≡ arrivals → sharded.AreBefore (Some all) given packet → AreBefore arrivals given packet
 before_of all arrivals given packet order h = (h.0, h.1, h.2, sym order ∙ h.3)
 
-pub full_shards : (f : Function) (keys : Keys) (workers : ℕ) (card : Card) (six : List Bool) (captures : List ℕ) (begun : Feeding) (start : Told) (arrivals : List Arrival) (now : Told) (files : List ℕ) (full : ShareFull) (h : HasStarted six captures begun start arrivals) → shards.IsFull f keys workers card begun start now files full
-    → IsStopped f keys workers card arrivals now files full
-full_shards f keys workers card six captures begun start arrivals now files full h k =
+pub full_shards : (f : Function) (keys : Keys) (workers : ℕ) (card : Card) (format : CaptureFormat) (six : List Bool) (captures : List ℕ) (begun : Feeding) (start : Told) (arrivals : List Arrival) (now : Told) (files : List ℕ) (full : ShareFull) (h : HasStarted six captures begun start arrivals) → shards.IsFull f keys workers card format begun start now files full
+    → IsStopped f keys workers card format arrivals now files full
+full_shards f keys workers card format six captures begun start arrivals now files full h k =
     let given = map arrival_in k.run.turns in
     record {
       run = k.run;
@@ -159,43 +136,39 @@ full_shards f keys workers card six captures begun start arrivals now files full
       wholes = k.wholes;
     }
 
-pub cut_shards : (card : Card) (Refused : Type 0) (f : Function) (keys : Keys) (workers : ℕ) (six : List Bool) (captures : List ℕ) (begun : Feeding) (start : Told) (arrivals : List Arrival) (now : Told) (files : List ℕ) (h : HasStarted six captures begun start arrivals) → shards.IsCutShort f keys workers card begun start now files
-    → IsCutShort (Shards keys workers) card Refused f arrivals now files
-cut_shards card Refused f keys workers six captures begun start arrivals now files h k = record {
+pub cut_shards : (card : Card) (format : CaptureFormat) (Refused : Type 0) (f : Function) (keys : Keys) (workers : ℕ) (six : List Bool) (captures : List ℕ) (begun : Feeding) (start : Told) (arrivals : List Arrival) (now : Told) (files : List ℕ) (h : HasStarted six captures begun start arrivals) → shards.IsCutShort f keys workers card format begun start now files
+    → IsCutShort (Shards keys workers) card format Refused f arrivals now files
+cut_shards card format Refused f keys workers six captures begun start arrivals now files h k = record {
   run = k.run;
   given = map arrival_in k.run.turns;
   first = some_first six captures begun start arrivals (map arrival_in k.run.turns) h (k.packets h.before h.stands);
-  is_run = record { is_run = k.is_run; packets = refl };
+  is_run = record { rule = shard_rule keys workers; due = refl; is_run = k.is_run };
   fronts = k.fronts;
 }
 
 -- ---- by several that share all tables
 
-mode_in : (m : Mode) (f : Function) (workers : ℕ) (card : Card) (Refused : Type 0) (given : List Arrival) (r : Run) → IsRunIn m f workers card Refused given r → m ≡ r.mode
-mode_in mode.Lock f workers card Refused given r is = sym is.mode
-mode_in mode.One f workers card Refused given r is = sym is.1.mode
-mode_in mode.Shard f workers card Refused given r is = absurd is
-
-own_mode : (m : Mode) (f : Function) (workers : ℕ) (card : Card) (Refused : Type 0) (given : List Arrival) (r : Run) → IsRunIn m f workers card Refused given r → IsRunIn r.mode f workers card Refused given r
-own_mode m f workers card Refused given r is = subst (λ (n : Mode). IsRunIn n f workers card Refused given r) (mode_in m f workers card Refused given r is) is
-
-pub whole_sharing : (card : Card) (Refused : Type 0) (f : Function) (workers : ℕ) (six : List Bool) (captures : List ℕ) (begun : Feeding) (start : Told) (arrivals : List Arrival) (later : Feeding) (now : Told) (files : List ℕ) (came : Came) (h : HasStarted six captures begun start arrivals)
-    → locked.IsFinished f workers card Refused begun start later now files came → IsWhole (Sharing workers) card Refused f arrivals now files came.mode came.ran.state
-whole_sharing card Refused f workers six captures begun start arrivals later now files came h k = record {
+pub whole_sharing : (card : Card) (format : CaptureFormat) (Refused : Type 0) (f : Function) (workers : ℕ) (six : List Bool) (captures : List ℕ) (begun : Feeding) (start : Told) (arrivals : List Arrival) (later : Feeding) (now : Told) (files : List ℕ) (came : Came) (h : HasStarted six captures begun start arrivals)
+    → locked.IsFinished f workers card format Refused begun start later now files came → IsWhole (Sharing workers) card format Refused f arrivals now files came.mode came.ran.state
+whole_sharing card format Refused f workers six captures begun start arrivals later now files came h k = record {
   run = k.run;
-  is_run = subst (λ (given : List Arrival). IsRunIn k.run.mode f workers card Refused given k.run) (all_first six captures begun start arrivals k.given h (k.packets h.before h.stands)) (own_mode came.mode f workers card Refused k.given k.run k.is_run);
-  mode_is = mode_in came.mode f workers card Refused k.given k.run k.is_run;
+  is_run = record {
+    rule = k.rule;
+    due = k.due;
+    is_run = subst (λ (given : List Arrival). IsRunBy k.rule f card given k.run) (all_first six captures begun start arrivals k.given h (k.packets h.before h.stands)) k.is_run;
+  };
+  mode_is = k.mode_is ∙ sym k.is_run.mode;
   left = k.left;
   wholes = k.wholes;
 }
 
-pub cut_sharing : (card : Card) (Refused : Type 0) (f : Function) (workers : ℕ) (six : List Bool) (captures : List ℕ) (begun : Feeding) (start : Told) (arrivals : List Arrival) (now : Told) (files : List ℕ) (h : HasStarted six captures begun start arrivals) → locked.IsCutShort f workers card Refused begun start now files
-    → IsCutShort (Sharing workers) card Refused f arrivals now files
-cut_sharing card Refused f workers six captures begun start arrivals now files h k = record {
+pub cut_sharing : (card : Card) (format : CaptureFormat) (Refused : Type 0) (f : Function) (workers : ℕ) (six : List Bool) (captures : List ℕ) (begun : Feeding) (start : Told) (arrivals : List Arrival) (now : Told) (files : List ℕ) (h : HasStarted six captures begun start arrivals) → locked.IsCutShort f workers card format Refused begun start now files
+    → IsCutShort (Sharing workers) card format Refused f arrivals now files
+cut_sharing card format Refused f workers six captures begun start arrivals now files h k = record {
   run = k.run;
   given = k.given;
   first = some_first six captures begun start arrivals k.given h (k.packets h.before h.stands);
-  is_run = own_mode k.mode f workers card Refused k.given k.run k.is_run;
+  is_run = record { rule = k.rule; due = k.due; is_run = k.is_run };
   fronts = k.fronts;
 }
 
@@ -206,12 +179,12 @@ still_empty files old new same empty k file e = subst IsEmptyIfTold (sym (same f
 
 -- ---- a gate that isn't asked may have refused or not
 
-pub one_whole : (card : Card) (Refused : Type 0) (f : Function) (arrivals : List Arrival) (now : Told) (files : List ℕ) (result : Result Left Stop) → Leaves One card ⊥ f arrivals now files result → Leaves One card Refused f arrivals now files result
-one_whole card Refused f arrivals now files (Ok (left.Whole m state)) h = record { run = h.run; is_run = h.is_run; mode_is = h.mode_is; left = h.left; wholes = h.wholes }
-one_whole card Refused f arrivals now files (Ok (left.Full full)) h = absurd h
-one_whole card Refused f arrivals now files (Err stop) h = record { run = h.run; given = h.given; first = h.first; is_run = h.is_run; fronts = h.fronts }
+pub one_whole : (card : Card) (format : CaptureFormat) (Refused : Type 0) (f : Function) (arrivals : List Arrival) (now : Told) (files : List ℕ) (result : Result Left Stop) → Leaves One card format ⊥ f arrivals now files result → Leaves One card format Refused f arrivals now files result
+one_whole card format Refused f arrivals now files (Ok (left.Whole m state)) h = record { run = h.run; is_run = record { rule = h.is_run.rule; due = h.is_run.due; is_run = h.is_run.is_run }; mode_is = h.mode_is; left = h.left; wholes = h.wholes }
+one_whole card format Refused f arrivals now files (Ok (left.Full full)) h = absurd h
+one_whole card format Refused f arrivals now files (Err stop) h = record { run = h.run; given = h.given; first = h.first; is_run = record { rule = h.is_run.rule; due = h.is_run.due; is_run = h.is_run.is_run }; fronts = h.fronts }
 
-pub shards_whole : (card : Card) (Refused : Type 0) (f : Function) (keys : Keys) (workers : ℕ) (arrivals : List Arrival) (now : Told) (files : List ℕ) (result : Result Left Stop) → Leaves (Shards keys workers) card ⊥ f arrivals now files result → Leaves (Shards keys workers) card Refused f arrivals now files result
-shards_whole card Refused f keys workers arrivals now files (Ok (left.Whole m state)) h = record { run = h.run; is_run = h.is_run; mode_is = h.mode_is; left = h.left; wholes = h.wholes }
-shards_whole card Refused f keys workers arrivals now files (Ok (left.Full full)) h = h
-shards_whole card Refused f keys workers arrivals now files (Err stop) h = record { run = h.run; given = h.given; first = h.first; is_run = h.is_run; fronts = h.fronts }
+pub shards_whole : (card : Card) (format : CaptureFormat) (Refused : Type 0) (f : Function) (keys : Keys) (workers : ℕ) (arrivals : List Arrival) (now : Told) (files : List ℕ) (result : Result Left Stop) → Leaves (Shards keys workers) card format ⊥ f arrivals now files result → Leaves (Shards keys workers) card format Refused f arrivals now files result
+shards_whole card format Refused f keys workers arrivals now files (Ok (left.Whole m state)) h = record { run = h.run; is_run = record { rule = h.is_run.rule; due = h.is_run.due; is_run = h.is_run.is_run }; mode_is = h.mode_is; left = h.left; wholes = h.wholes }
+shards_whole card format Refused f keys workers arrivals now files (Ok (left.Full full)) h = h
+shards_whole card format Refused f keys workers arrivals now files (Err stop) h = record { run = h.run; given = h.given; first = h.first; is_run = record { rule = h.is_run.rule; due = h.is_run.due; is_run = h.is_run.is_run }; fronts = h.fronts }

@@ -1,5 +1,6 @@
 -- What is known of a run whose captures are made, behind it.
 use Rattle.std.specs.Prelude.{◌≡◌, ℕ, ◌+◌, ◌≤◌, true, List, Some, slice_get, nat_le, if◌then◌else◌, Result, Ok, Err}
+use Rattle.capture_format.specs.declared.format.CaptureFormat.{CaptureFormat}
 use Rattle.nf_files.specs.Told.{Told}
 use Rattle.nf_files.specs.Causes.{Counted}
 use Rattle.stream_run.specs.declared.stop.Stop.{Stop}
@@ -33,7 +34,7 @@ told_stop first ports (File file) = File (told_file first ports file)
 told_stop first ports Memory = Memory
 
 -- what a run came to, whose outputs were given so many bytes
-abbrev pub came_of : ℕ → ℕ → ℕ → Result Left Stop → Result Came Stop
-came_of first ports bytes (Ok (left.Whole m state)) = Ok (came.Whole m state (records_in bytes ports))
-came_of first ports bytes (Ok (left.Full full)) = Ok (came.Full full)
-came_of first ports bytes (Err stop) = Err (told_stop first ports stop)
+abbrev pub came_of : CaptureFormat → ℕ → ℕ → ℕ → Result Left Stop → Result Came Stop
+came_of format first ports bytes (Ok (left.Whole m state)) = Ok (came.Whole m state (records_in format bytes ports))
+came_of format first ports bytes (Ok (left.Full full)) = Ok (came.Full full)
+came_of format first ports bytes (Err stop) = Err (told_stop first ports stop)

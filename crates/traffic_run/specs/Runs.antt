@@ -1,6 +1,6 @@
 -- A run of made-up traffic, and what it leaves.
 use Rattle.std.specs.Prelude.{◌≡◌, ◌≢◌, ◌<◌, ◌≤◌, ℕ, zero, suc, ◌+◌, Bool, List, ◌∷◌, ◌++◌, length, map, slice_get, Some, None, Result, Ok, Err}
-use Rattle.std.specs.List.{AllByRecursion}
+use Rattle.capture_format.specs.declared.format.CaptureFormat.{CaptureFormat}
 use Rattle.nf_base.specs.declared.card.Card.{Card}
 use Rattle.nf_base.specs.Text.{Function}
 use Rattle.nf_base.specs.declared.done.Done.{Done}
@@ -15,12 +15,13 @@ use Rattle.run_history.specs.declared.line.Mode.{Mode}
 use Rattle.run_history.specs.declared.line.Mode.TheVariants as mode
 use Rattle.toeplitz_hash.specs.Meeting.{HashAlikeWhereTheyMeet}
 use Rattle.stream_run.specs.declared.stop.Stop.{Stop}
-use Rattle.stream_run.specs.Runs.{Run, Turn, Handled, IsLegal, course_of, arrival_in, handled_in}
+use Rattle.stream_run.specs.Runs.{Run, Handled, course_of, arrival_in, handled_in}
+use Rattle.stream_run.specs.Rules.{Rule, one_rule, shard_rule, IsRunBy}
 use Rattle.stream_run.specs.Texts.{file_bytes, sent_records}
 use Rattle.stream_run.specs.Writing.{IsFrontIfTold}
 use Rattle.sharded_run.specs.declared.came.ShareFull.{ShareFull}
-use Rattle.sharded_run.specs.Sharded.{IsShardRun, IsStopBehind}
-use Rattle.locked_run.specs.Locked.{IsRunIn}
+use Rattle.sharded_run.specs.Sharded.{IsStopBehind}
+use Rattle.locked_run.specs.Locked as locked
 use Rattle.traffic_run.specs.declared.who.Who.{Who}
 use Rattle.traffic_run.specs.declared.who.Who.TheVariants.{One, Shards, Sharing}
 use Rattle.traffic_run.specs.declared.came.Left.{Left}
@@ -37,27 +38,18 @@ pub record ArePackets (six : List Bool) (captures : List ℕ) (told : Told) (arr
 
 -- ---- who handles the packets
 
--- One worker, whose number is 0, handles these packets in this order, each with choices that are legal.
-pub record IsByOne (f : Function) (card : Card) (arrivals : List Arrival) (r : Run) : Type 0 where
-  pub function : r.function ≡ f
-  pub mode_is : r.mode ≡ mode.One
-  pub workers : r.workers ≡ 1
-  pub card_is : r.card ≡ card
-  pub alone : AllByRecursion (λ (t : Turn). t.worker ≡ 0) r.turns
-  pub legal : IsLegal r
-  pub packets : map arrival_in r.turns ≡ arrivals
+-- The rule that is due: one worker's; that of several that share nothing, under keys; or that of several
+-- that share all tables, and where the gate refused these, one worker's for them all.
+abbrev pub IsDue : Who → Type 0 → Rule → Type 0
+IsDue One Refused rule = rule ≡ one_rule
+IsDue (Shards keys workers) Refused rule = rule ≡ shard_rule keys workers
+IsDue (Sharing workers) Refused rule = locked.IsDue workers Refused rule
 
--- Workers that share nothing handle these packets in this order, each its own queue's.
-pub record IsByShards (f : Function) (keys : Keys) (workers : ℕ) (card : Card) (arrivals : List Arrival) (r : Run) : Type 0 where
-  pub is_run : IsShardRun f keys workers card r
-  pub packets : map arrival_in r.turns ≡ arrivals
-
--- A run of these packets: by one worker, or by several that share nothing, or by several that share all
--- tables, where each port's packets keep their order; where the gate refused these, by one.
-abbrev pub IsRunBy : Who → Card → Type 0 → Function → List Arrival → Run → Type 0
-IsRunBy One card Refused f arrivals r = IsByOne f card arrivals r
-IsRunBy (Shards keys workers) card Refused f arrivals r = IsByShards f keys workers card arrivals r
-IsRunBy (Sharing workers) card Refused f arrivals r = IsRunIn r.mode f workers card Refused arrivals r
+-- These packets were handled by the rule that is due, with this network card.
+pub record IsRunOf (who : Who) (card : Card) (Refused : Type 0) (f : Function) (arrivals : List Arrival) (r : Run) : Type 0 where
+  pub rule : Rule
+  pub due : IsDue who Refused rule
+  pub is_run : IsRunBy rule f card arrivals r
 
 -- What is needed of who handles packets: several are more than one and at most 16, and keys are those
 -- of the function.
@@ -69,12 +61,12 @@ Serves f (Sharing workers) = (1 < workers) × (workers ≤ 16)
 -- ---- what a run leaves
 
 -- Its files are whole, and its last state is told.
-pub record IsWhole (who : Who) (card : Card) (Refused : Type 0) (f : Function) (arrivals : List Arrival) (now : Told) (files : List ℕ) (m : Mode) (state : State) : Type 0 where
+pub record IsWhole (who : Who) (card : Card) (format : CaptureFormat) (Refused : Type 0) (f : Function) (arrivals : List Arrival) (now : Told) (files : List ℕ) (m : Mode) (state : State) : Type 0 where
   pub run : Run
-  pub is_run : IsRunBy who card Refused f arrivals run
+  pub is_run : IsRunOf who card Refused f arrivals run
   pub mode_is : m ≡ run.mode
   pub left : (answers : List Done) × (course_of run ≡ Some (record { state = state; answers = answers }))
-  pub wholes : (k file : ℕ) → slice_get files k ≡ Some file → IsToldAs (file_bytes run k) (now.given file)
+  pub wholes : (k file : ℕ) → slice_get files k ≡ Some file → IsToldAs (file_bytes format run k) (now.given file)
 
 -- these are the first of packets, and this one is the next
 abbrev pub AreBefore : List Arrival → List Arrival → Packet → Type 0
@@ -83,36 +75,36 @@ AreBefore arrivals given packet =
 
 -- The run's packets are those before the packet at which a share has no index left, and its files are
 -- whole.
-pub record IsStopped (f : Function) (keys : Keys) (workers : ℕ) (card : Card) (arrivals : List Arrival) (now : Told) (files : List ℕ) (full : ShareFull) : Type 0 where
+pub record IsStopped (f : Function) (keys : Keys) (workers : ℕ) (card : Card) (format : CaptureFormat) (arrivals : List Arrival) (now : Told) (files : List ℕ) (full : ShareFull) : Type 0 where
   pub run : Run
-  pub is_run : IsShardRun f keys workers card run
+  pub is_run : IsRunBy (shard_rule keys workers) f card (map arrival_in run.turns) run
   pub stops : IsStopBehind f keys workers run full.stop
   pub packets : AreBefore arrivals (map arrival_in run.turns) full.stop.packet
-  pub wholes : (k file : ℕ) → slice_get files k ≡ Some file → IsToldAs (file_bytes run k) (now.given file)
+  pub wholes : (k file : ℕ) → slice_get files k ≡ Some file → IsToldAs (file_bytes format run k) (now.given file)
 
 -- that is met by workers that share nothing, and by them alone
-abbrev pub IsFull : Who → Card → Function → List Arrival → Told → List ℕ → ShareFull → Type 0
-IsFull One card f arrivals now files full = ⊥
-IsFull (Shards keys workers) card f arrivals now files full = IsStopped f keys workers card arrivals now files full
-IsFull (Sharing workers) card f arrivals now files full = ⊥
+abbrev pub IsFull : Who → Card → CaptureFormat → Function → List Arrival → Told → List ℕ → ShareFull → Type 0
+IsFull One card format f arrivals now files full = ⊥
+IsFull (Shards keys workers) card format f arrivals now files full = IsStopped f keys workers card format arrivals now files full
+IsFull (Sharing workers) card format f arrivals now files full = ⊥
 
 -- these are the first of packets
 abbrev pub AreFirst : List Arrival → List Arrival → Type 0
 AreFirst arrivals given = (later : List Arrival) × (arrivals ≡ given ++ later)
 
 -- The run was stopped. Each file holds a front of what a run over some first packets leaves there.
-pub record IsCutShort (who : Who) (card : Card) (Refused : Type 0) (f : Function) (arrivals : List Arrival) (now : Told) (files : List ℕ) : Type 0 where
+pub record IsCutShort (who : Who) (card : Card) (format : CaptureFormat) (Refused : Type 0) (f : Function) (arrivals : List Arrival) (now : Told) (files : List ℕ) : Type 0 where
   pub run : Run
   pub given : List Arrival
   pub first : AreFirst arrivals given
-  pub is_run : IsRunBy who card Refused f given run
-  pub fronts : (k file : ℕ) → slice_get files k ≡ Some file → IsFrontIfTold (file_bytes run k) (now.given file)
+  pub is_run : IsRunOf who card Refused f given run
+  pub fronts : (k file : ℕ) → slice_get files k ≡ Some file → IsFrontIfTold (file_bytes format run k) (now.given file)
 
 -- what handling packets comes to
-abbrev pub Leaves : Who → Card → Type 0 → Function → List Arrival → Told → List ℕ → Result Left Stop → Type 0
-Leaves who card Refused f arrivals now files (Ok (left.Whole m state)) = IsWhole who card Refused f arrivals now files m state
-Leaves who card Refused f arrivals now files (Ok (left.Full full)) = IsFull who card f arrivals now files full
-Leaves who card Refused f arrivals now files (Err stop) = IsCutShort who card Refused f arrivals now files
+abbrev pub Leaves : Who → Card → CaptureFormat → Type 0 → Function → List Arrival → Told → List ℕ → Result Left Stop → Type 0
+Leaves who card format Refused f arrivals now files (Ok (left.Whole m state)) = IsWhole who card format Refused f arrivals now files m state
+Leaves who card format Refused f arrivals now files (Ok (left.Full full)) = IsFull who card format f arrivals now files full
+Leaves who card format Refused f arrivals now files (Err stop) = IsCutShort who card format Refused f arrivals now files
 
 -- ---- how many records it sent
 
@@ -135,12 +127,12 @@ abbrev pub IsSent : Told → ℕ → Run → ℕ → Type 0
 IsSent now first r sent = r.mode ≢ mode.Lock → AreTold now first (length r.function.handlers) → sent ≡ sent_in r
 
 -- its files are whole, its last state is told, and how many records it sent
-pub record IsFinished (who : Who) (card : Card) (Refused : Type 0) (f : Function) (arrivals : List Arrival) (now : Told) (files : List ℕ) (first : ℕ) (m : Mode) (state : State) (sent : ℕ) : Type 0 where
-  pub whole : IsWhole who card Refused f arrivals now files m state
+pub record IsFinished (who : Who) (card : Card) (format : CaptureFormat) (Refused : Type 0) (f : Function) (arrivals : List Arrival) (now : Told) (files : List ℕ) (first : ℕ) (m : Mode) (state : State) (sent : ℕ) : Type 0 where
+  pub whole : IsWhole who card format Refused f arrivals now files m state
   pub sent_is : IsSent now first whole.run sent
 
 -- what a run comes to
-abbrev pub Runs : Who → Card → Type 0 → Function → List Arrival → Told → List ℕ → ℕ → Result Came Stop → Type 0
-Runs who card Refused f arrivals now files first (Ok (came.Whole m state sent)) = IsFinished who card Refused f arrivals now files first m state sent
-Runs who card Refused f arrivals now files first (Ok (came.Full full)) = IsFull who card f arrivals now files full
-Runs who card Refused f arrivals now files first (Err stop) = IsCutShort who card Refused f arrivals now files
+abbrev pub Runs : Who → Card → CaptureFormat → Type 0 → Function → List Arrival → Told → List ℕ → ℕ → Result Came Stop → Type 0
+Runs who card format Refused f arrivals now files first (Ok (came.Whole m state sent)) = IsFinished who card format Refused f arrivals now files first m state sent
+Runs who card format Refused f arrivals now files first (Ok (came.Full full)) = IsFull who card format f arrivals now files full
+Runs who card format Refused f arrivals now files first (Err stop) = IsCutShort who card format Refused f arrivals now files

@@ -1,16 +1,18 @@
 //! What traffic is asked for.
 ghost use Rattle.std.specs.Prelude.{◌≡◌, ◌<◌, ◌^◌};
 
+use capture_format::CaptureFormat;
 use nf_base::card::Card;
 
-/// What traffic is asked for: a seed, how many packets, of how many flows, and through what network card they
-/// come.
+/// What traffic is asked for: a seed, how many packets, of how many flows, through what network card they
+/// come, and in what format outputs are to be.
 #[derive(Clone, Copy, Debug, PartialEq, Eq)]
 pub struct Asked {
     pub seed: u32,
     pub count: u32,
     pub flows: u32,
     pub card: Card,
+    pub format: CaptureFormat,
 }
 
 impl Asked {

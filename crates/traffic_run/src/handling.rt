@@ -52,12 +52,14 @@ fn run_one<F: Files>(
     requires empty { (k : ℕ) → (file : ℕ) → slice_get targets.now k ≡ Some file →
         IsEmptyIfTold ((F.told files.old).given file) }
     ensures leaves { let all = asked_for asked.now (length func.now.handlers) in
-        Leaves One asked.now.card ⊥ (function_of func.now) all (F.told files.new) targets.now result }
+        Leaves One asked.now.card asked.now.format ⊥ (function_of func.now) all
+        (F.told files.new) targets.now result }
     ensures kept { KeepsBut targets.now (F.told files.old) (F.told files.new) }
     ensures cause { IsStopCause (F.counted files.old) (F.counted files.new) result }
     ensures among { StopsAmong captures.now targets.now result }
 {
-    match stream_run::run(alloc, files, func, asked.card, feed, captures, targets) {
+    let (card, format) = (asked.card, asked.format);
+    match stream_run::run(alloc, files, func, card, format, feed, captures, targets) {
         Ok(ran) => Ok(Left::Whole {
             mode: Mode::One,
             state: ran.state,
@@ -97,13 +99,25 @@ fn run_shards<R: Threads + Sync, F: Files, T: Turns + Sync>(
         IsEmptyIfTold ((F.told files.old).given file) }
     ensures leaves { let all = asked_for asked.now (length func.now.handlers) in
         let who = Shards keys.now workers in
-        Leaves who asked.now.card ⊥ (function_of func.now) all (F.told files.new) targets.now result }
+        Leaves who asked.now.card asked.now.format ⊥ (function_of func.now) all
+        (F.told files.new) targets.now result }
     ensures kept { KeepsBut targets.now (F.told files.old) (F.told files.new) }
     ensures cause { IsStopCause (F.counted files.old) (F.counted files.new) result }
     ensures among { StopsAmong captures.now targets.now result }
 {
     match sharded_run::run(
-        rt, alloc, files, func, keys, workers, asked.card, feed, captures, targets, turns,
+        rt,
+        alloc,
+        files,
+        func,
+        keys,
+        workers,
+        asked.card,
+        asked.format,
+        feed,
+        captures,
+        targets,
+        turns,
     ) {
         Ok(Came::Ran(ran)) => Ok(Left::Whole {
             mode: Mode::Shard,
@@ -143,15 +157,25 @@ fn run_sharing<R: Threads + Wait + Sync, F: Files, T: Turns + Sync, G: Gate + Dr
         IsEmptyIfTold ((F.told files.old).given file) }
     ensures leaves { let Refused = Rose (G.refused gate.old) (G.refused gate.new) in
         let all = asked_for asked.now (length func.now.handlers) in
-        let card = asked.now.card in
-        Leaves (Sharing workers) card Refused (function_of func.now) all
+        Leaves (Sharing workers) asked.now.card asked.now.format Refused (function_of func.now) all
         (F.told files.new) targets.now result }
     ensures kept { KeepsBut targets.now (F.told files.old) (F.told files.new) }
     ensures cause { IsStopCause (F.counted files.old) (F.counted files.new) result }
     ensures among { StopsAmong captures.now targets.now result }
 {
     match locked_run::run(
-        rt, alloc, files, func, workers, asked.card, feed, captures, targets, turns, gate,
+        rt,
+        alloc,
+        files,
+        func,
+        workers,
+        asked.card,
+        asked.format,
+        feed,
+        captures,
+        targets,
+        turns,
+        gate,
     ) {
         Ok(came) => Ok(Left::Whole {
             mode: came.mode,
@@ -190,7 +214,7 @@ fn run_by<R: Threads + Wait + Sync, F: Files, T: Turns + Sync, G: Gate + Drop + 
         IsEmptyIfTold ((F.told files.old).given file) }
     ensures leaves { let Refused = Rose (G.refused gate.old) (G.refused gate.new) in
         let all = asked_for asked.now (length func.now.handlers) in
-        Leaves who.now asked.now.card Refused (function_of func.now) all
+        Leaves who.now asked.now.card asked.now.format Refused (function_of func.now) all
         (F.told files.new) targets.now result }
     ensures kept { KeepsBut targets.now (F.told files.old) (F.told files.new) }
     ensures cause { IsStopCause (F.counted files.old) (F.counted files.new) result }
@@ -235,7 +259,7 @@ pub(crate) fn run_over<R: Threads + Wait + Sync, F: Files, T: Turns + Sync, G: G
         IsEmptyIfTold ((F.told files.old).given file) }
     ensures leaves { let Refused = Rose (G.refused gate.old) (G.refused gate.new) in
         let all = asked_for asked.now (length func.now.handlers) in
-        Leaves who.now asked.now.card Refused (function_of func.now) all
+        Leaves who.now asked.now.card asked.now.format Refused (function_of func.now) all
         (F.told files.new) targets.now result }
     ensures kept { KeepsBut targets.now (F.told files.old) (F.told files.new) }
     ensures cause { IsStopCause (F.counted files.old) (F.counted files.new) result }

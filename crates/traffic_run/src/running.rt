@@ -18,6 +18,7 @@ use crate::came::{Came, Left};
 use crate::handling::run_over;
 use crate::sent::records_in;
 use crate::who::Who;
+use capture_format::CaptureFormat;
 use lock_mode::Gate;
 use made_captures::laws::captures_are_traffic;
 use made_captures::{Captures, MadeCaptures, Outputs};
@@ -62,7 +63,7 @@ fn run_beside<'a, R: Threads + Wait + Sync, F: Files, T: Turns + Sync, G: Gate +
     ensures same_files { beside.new.files.ghost_name ≡ beside.old.files.ghost_name }
     ensures leaves { let Refused = Rose (G.refused gate.old) (G.refused gate.new) in
         let all = asked_for asked.now (length func.now.handlers) in
-        Leaves who.now asked.now.card Refused (function_of func.now) all
+        Leaves who.now asked.now.card asked.now.format Refused (function_of func.now) all
         (F.told beside.new.files.now) targets.now result }
     ensures counts { let c = beside.old.outputs in
         CountsTo c.first c.count (F.told beside.new.files.now) beside.new.outputs.bytes }
@@ -120,7 +121,7 @@ fn run_made<R: Threads + Wait + Sync, F: Files, T: Turns + Sync, G: Gate + Drop 
         IsEmptyIfTold ((F.told files.old).given file) }
     ensures leaves { let Refused = Rose (G.refused gate.old) (G.refused gate.new) in
         let all = asked_for asked.now (length func.now.handlers) in
-        Leaves who.now asked.now.card Refused (function_of func.now) all
+        Leaves who.now asked.now.card asked.now.format Refused (function_of func.now) all
         (F.told files.new) targets.now result.result }
     ensures counts { CountsTo first (length func.now.handlers) (F.told files.new) result.bytes }
     ensures known { StaysKnown (first + length func.now.handlers)
@@ -163,16 +164,16 @@ fn told_file(first: u32, ports: u32, file: u32) -> u32
 }
 
 // What a run came to.
-fn came_of(handled: Handled, first: u32, ports: u32) -> Result<Came, Stop>
+fn came_of(handled: Handled, format: CaptureFormat, first: u32, ports: u32) -> Result<Came, Stop>
     requires { first + ports < 2 ^ 32 }
-    ensures { result ≡ came_of first ports handled.bytes handled.result }
+    ensures { result ≡ came_of format first ports handled.bytes handled.result }
 {
     let Handled { result, bytes } = handled;
     match result {
         Ok(Left::Whole { mode, state }) => Ok(Came::Whole {
             mode,
             state,
-            sent: records_in(bytes, ports),
+            sent: records_in(format, bytes, ports),
         }),
         Ok(Left::Full(full)) => Ok(Came::Full(full)),
         Err(Stop::File(file)) => Err(Stop::File(told_file(first, ports, file))),
@@ -189,7 +190,7 @@ fn is_low(first: u32, ports: u32) -> bool
     u64::from(first) + u64::from(ports) + u64::from(ports) < 0x1_0000_0000
 }
 
-/// Handles made-up traffic, and writes the outputs and the journal.
+/// Handles made-up traffic, and writes the outputs, in the format that is asked for, and the journal.
 ///
 /// The traffic comes in at the function's ports in turn. The targets are the outputs in the order of the
 /// ports, and the journal behind them, numbered one after another from `first` on; nothing was given to
@@ -224,7 +225,7 @@ pub fn run<R: Threads + Wait + Sync, F: Files, T: Turns + Sync, G: Gate + Drop +
     // stop; or each file holds a front of what such a run leaves there.
     ensures runs { let Refused = Rose (G.refused gate.old) (G.refused gate.new) in
         let all = asked_for asked (length func.now.handlers) in
-        Runs who.now asked.card Refused (function_of func.now) all
+        Runs who.now asked.card asked.format Refused (function_of func.now) all
         (F.told files.new) targets.now first result }
     ensures kept { KeepsBut targets.now (F.told files.old) (F.told files.new) }
     ensures cause { IsStopCause (F.counted files.old) (F.counted files.new) result }
@@ -248,5 +249,5 @@ pub fn run<R: Threads + Wait + Sync, F: Files, T: Turns + Sync, G: Gate + Drop +
     let handled = run_made(
         rt, alloc, files, captures, func, who, &asked, numbers, first, targets, turns, gate,
     );
-    came_of(handled, first, ports)
+    came_of(handled, asked.format, first, ports)
 }

@@ -7,6 +7,15 @@ const HEADER: [u8; 24] = [
     0x00, 0x00, 0x04, 0x00, 0x01, 0x00, 0x00, 0x00,
 ];
 
+// What an output in pcapng begins with: a section, little-endian, and an interface, Ethernet, with at most
+// 262,144 bytes a frame and times in nanoseconds (draft-ietf-opsawg-pcapng).
+const NG_HEADER: [u8; 60] = [
+    0x0a, 0x0d, 0x0d, 0x0a, 0x1c, 0x00, 0x00, 0x00, 0x4d, 0x3c, 0x2b, 0x1a, 0x01, 0x00, 0x00, 0x00,
+    0xff, 0xff, 0xff, 0xff, 0xff, 0xff, 0xff, 0xff, 0x1c, 0x00, 0x00, 0x00, 0x01, 0x00, 0x00, 0x00,
+    0x20, 0x00, 0x00, 0x00, 0x01, 0x00, 0x00, 0x00, 0x00, 0x00, 0x04, 0x00, 0x09, 0x00, 0x01, 0x00,
+    0x09, 0x00, 0x00, 0x00, 0x00, 0x00, 0x00, 0x00, 0x20, 0x00, 0x00, 0x00,
+];
+
 // A UDP frame from 10.0.0.1:1000 to 10.0.0.2:80.
 const QUERY: [u8; 42] = [
     0x02, 0x00, 0x00, 0x00, 0x00, 0x02, 0x02, 0x00, 0x00, 0x00, 0x00, 0x01, 0x08, 0x00, 0x45, 0x00,
@@ -216,6 +225,34 @@ pub fn capture(alloc: Global, records: &[Record]) -> Result<Vec<u8>, AllocError>
     let mut out = Vec::from_slice(alloc, &HEADER)?;
     for (time, frame) in records {
         push_frame(alloc, &mut out, *time, *frame)?;
+    }
+    Ok(out)
+}
+
+// A packet of pcapng: times go by 2^32 nanoseconds, and zeros behind the frame make its length a multiple of four.
+fn push_block(out: &mut Vec<u8>, time: u64, original: u64, bytes: &[u8]) -> Result<(), AllocError> {
+    let padding = [0, 3, 2, 1][bytes.len() % 4];
+    let length = (bytes.len() as u64)
+        .saturating_add(padding)
+        .saturating_add(32);
+    for number in [6, length, 0, time / 4_294_967_296, time] {
+        push_number(out, number)?;
+    }
+    push_number(out, bytes.len() as u64)?;
+    push_number(out, original)?;
+    out.extend_from_slice(bytes)?;
+    for _ in 0..padding {
+        out.push(0)?;
+    }
+    push_number(out, length)
+}
+
+/// An output in pcapng of these frames.
+pub fn ng_capture(alloc: Global, records: &[Record]) -> Result<Vec<u8>, AllocError> {
+    let mut out = Vec::from_slice(alloc, &NG_HEADER)?;
+    for (time, frame) in records {
+        let bytes = frame_bytes(alloc, *frame)?;
+        push_block(&mut out, *time, original_length(*frame), bytes.as_slice())?;
     }
     Ok(out)
 }

@@ -1,5 +1,6 @@
 use Rattle.std.proofs.Common.{◌≡◌, ◌+◌, ◌<◌, ◌≤◌, inl, inr, ℕ, List, [], ◌∷◌, ◌++◌, length, length-append, slice_get, Some, Err, string_bytes, ap, sym, subst, ◌∙◌, arith}
 use Rattle.std.proofs.lemmas.List.FromFn.{map-range_with_len_more}
+use Rattle.capture_format.specs.declared.format.CaptureFormat.{CaptureFormat}
 use Rattle.nf_files.specs.Causes.{Asked, Counted, asking}
 use Rattle.stream_run.specs.declared.stop.Stop.{Stop}
 use Rattle.stream_run.specs.declared.stop.Stop.TheVariants.{File, Memory}
@@ -13,11 +14,11 @@ use Rattle.call_base.proofs.Naming.{names_apart}
 use Rattle.call_base.proofs.opening.create_targets.Goals as goal
 
 -- one name more of those that are created
-next_of : (out : List ℕ) (ports made : ℕ) → created_by out ports made ++ writing (name_at out ports made) ∷ [] ≡ created_by out ports (made + 1)
-next_of out ports made = sym (map-range_with_len_more (λ k. writing (name_at out ports k)) 0 made made (omega arith))
+next_of : (format : CaptureFormat) (out : List ℕ) (ports made : ℕ) → created_by format out ports made ++ writing (name_at format out ports made) ∷ [] ≡ created_by format out ports (made + 1)
+next_of format out ports made = sym (map-range_with_len_more (λ k. writing (name_at format out ports k)) 0 made made (omega arith))
 
-front_of : (out : List ℕ) (ports k n : ℕ) → k ≤ n → IsFrontOf (created_by out ports n) (created_by out ports k)
-front_of out ports k n le = front_range (λ j. writing (name_at out ports j)) 0 k n le
+front_of : (format : CaptureFormat) (out : List ℕ) (ports k n : ℕ) → k ≤ n → IsFrontOf (created_by format out ports n) (created_by format out ports k)
+front_of format out ports k n le = front_range (λ j. writing (name_at format out ports j)) 0 k n le
 
 fails_at : (number next made count : ℕ) (stop : Stop) (old new : Counted) (one : Asked) → AsksNext {T = ℕ} one number old new (Err stop) → number ≡ next + made → made < count → (file : ℕ) → stop ≡ File file → (file ≡ next + made) × (made < count)
 fails_at number next made count Memory old new one h at lt file e = absurd (cc e)
@@ -40,14 +41,14 @@ places-preserved g c =
         | inl was ↦ inv.numbers i f was
         | inr last ↦ last.1 ∙ c.in-Ok.ensures.ok.number ∙ inv.created.next ∙ ap (λ (j : ℕ). (told c.args.files.now).next + j) (sym (last.0 ∙ inv.count))
       ];
-      created = created_more (told c.args.files.now) (told c.places.files) (told c.create_at.new.files) (name_at out ports) k c.in-Ok.file inv.created c.in-Ok.ensures.ok (λ j lt. names_apart out ports j k c.requires.few (omega (arith, lt, c.places-test.true)) (omega (arith, c.places-test.true)) (λ e. omega (arith, e, lt)));
+      created = created_more (told c.args.files.now) (told c.places.files) (told c.create_at.new.files) (name_at c.args.format out ports) k c.in-Ok.file inv.created c.in-Ok.ensures.ok (λ j lt. names_apart c.args.format out ports j k c.requires.few (omega (arith, lt, c.places-test.true)) (omega (arith, c.places-test.true)) (λ e. omega (arith, e, lt)));
       writable = λ i f got. elim (got_either old c.in-Ok.file i f (ap (λ xs. slice_get xs i) (sym new) ∙ got)) [
         | inl was ↦ c.create_at.ensures.writes f (inv.writable i f was)
         | inr last ↦ subst (g.F.Files.is_written c.create_at.new.files) (sym last.1) c.in-Ok.ensures.writable
       ];
       reads = λ n r. c.create_at.ensures.reads n (inv.reads n r);
-      asked = asked_more (created_by out ports k) (writing (name_at out ports k)) (counted c.args.files.now) (counted c.places.files) (counted c.create_at.new.files) inv.asked c.in-Ok.ensures.cause
-          ∙ ap (λ (t : List Asked). asking t (counted c.args.files.now)) (next_of out ports k);
+      asked = asked_more (created_by c.args.format out ports k) (writing (name_at c.args.format out ports k)) (counted c.args.files.now) (counted c.places.files) (counted c.create_at.new.files) inv.asked c.in-Ok.ensures.cause
+          ∙ ap (λ (t : List Asked). asking t (counted c.args.files.now)) (next_of c.args.format out ports k);
     }
 
 pub returns-in-Err-clause-some : goal.returns-in-Err-clause-some
@@ -58,7 +59,7 @@ returns-in-Err-clause-some g c =
     record {
       made = k;
       less = omega (arith, c.places-test.true);
-      created = created_same (told c.args.files.now) (told c.places.files) (told c.create_at.new.files) (name_at (string_bytes c.args.out.now) c.args.ports) k inv.created c.in-Err.ensures.err;
+      created = created_same (told c.args.files.now) (told c.places.files) (told c.create_at.new.files) (name_at c.args.format (string_bytes c.args.out.now) c.args.ports) k inv.created c.in-Err.ensures.err;
       at = fails_at (c.places.last + 1) (told c.args.files.now).next k (c.args.ports + 1) c.in-Err.stop (g.F.Files.counted c.places.files) (g.F.Files.counted c.create_at.new.files) _ c.in-Err.ensures.cause (sym inv.behind ∙ inv.created.next) (omega (arith, c.places-test.true));
     }
 
@@ -69,9 +70,9 @@ returns-in-Err-clause-cause g c =
     let k = c.places.place in
     let out = string_bytes c.args.out.now in
     let ports = c.args.ports in
-    asks_next (created_by out ports (ports + 1)) (created_by out ports k) (writing (name_at out ports k)) (c.places.last + 1) (counted c.args.files.now) (counted c.places.files) (counted c.create_at.new.files) c.in-Err.stop
-    (front_of out ports k (ports + 1) (omega (arith, c.places-test.true)))
-    (subst (IsFrontOf (created_by out ports (ports + 1))) (sym (next_of out ports k)) (front_of out ports (k + 1) (ports + 1) (omega (arith, c.places-test.true)))) inv.asked c.in-Err.ensures.cause
+    asks_next (created_by c.args.format out ports (ports + 1)) (created_by c.args.format out ports k) (writing (name_at c.args.format out ports k)) (c.places.last + 1) (counted c.args.files.now) (counted c.places.files) (counted c.create_at.new.files) c.in-Err.stop
+    (front_of c.args.format out ports k (ports + 1) (omega (arith, c.places-test.true)))
+    (subst (IsFrontOf (created_by c.args.format out ports (ports + 1))) (sym (next_of c.args.format out ports k)) (front_of c.args.format out ports (k + 1) (ports + 1) (omega (arith, c.places-test.true)))) inv.asked c.in-Err.ensures.cause
 
 pub returns-in-Err-push-clause-some : goal.returns-in-Err-push-clause-some
 returns-in-Err-push-clause-some g c =
@@ -83,7 +84,7 @@ returns-in-Err-push-clause-some g c =
     record {
       made = k + 1;
       less = omega (arith, c.places-test.true);
-      created = created_more (told c.args.files.now) (told c.places.files) (told c.create_at.new.files) (name_at out ports) k c.in-Ok.file inv.created c.in-Ok.ensures.ok (λ j lt. names_apart out ports j k c.requires.few (omega (arith, lt, c.places-test.true)) (omega (arith, c.places-test.true)) (λ e. omega (arith, e, lt)));
+      created = created_more (told c.args.files.now) (told c.places.files) (told c.create_at.new.files) (name_at c.args.format out ports) k c.in-Ok.file inv.created c.in-Ok.ensures.ok (λ j lt. names_apart c.args.format out ports j k c.requires.few (omega (arith, lt, c.places-test.true)) (omega (arith, c.places-test.true)) (λ e. omega (arith, e, lt)));
       at = λ file e. absurd (cc e);
     }
 
@@ -94,6 +95,6 @@ returns-in-Err-push-clause-cause g c =
     let k = c.places.place in
     let out = string_bytes c.args.out.now in
     let ports = c.args.ports in
-    asks_here (created_by out ports (ports + 1)) (created_by out ports (k + 1)) (counted c.args.files.now) (counted c.create_at.new.files) (front_of out ports (k + 1) (ports + 1) (omega (arith, c.places-test.true)))
-    (asked_more (created_by out ports k) (writing (name_at out ports k)) (counted c.args.files.now) (counted c.places.files) (counted c.create_at.new.files) inv.asked c.in-Ok.ensures.cause
-    ∙ ap (λ (t : List Asked). asking t (counted c.args.files.now)) (next_of out ports k))
+    asks_here (created_by c.args.format out ports (ports + 1)) (created_by c.args.format out ports (k + 1)) (counted c.args.files.now) (counted c.create_at.new.files) (front_of c.args.format out ports (k + 1) (ports + 1) (omega (arith, c.places-test.true)))
+    (asked_more (created_by c.args.format out ports k) (writing (name_at c.args.format out ports k)) (counted c.args.files.now) (counted c.places.files) (counted c.create_at.new.files) inv.asked c.in-Ok.ensures.cause
+    ∙ ap (λ (t : List Asked). asking t (counted c.args.files.now)) (next_of c.args.format out ports k))

@@ -12,8 +12,8 @@ invariant-places g l =
       count : length l.targets.items ≡ l.place;
       behind : (told l.files).next ≡ l.last + 1;
       numbers : (i f : ℕ) → slice_get l.targets.items i ≡ Some f → f ≡ (told l.fn.files).next + i;
-      created : AreCreated (told l.fn.files) (told l.files) (name_at (string_bytes l.out) l.ports) l.place;
+      created : AreCreated (told l.fn.files) (told l.files) (name_at l.format (string_bytes l.out) l.ports) l.place;
       writable : (i f : ℕ) → slice_get l.targets.items i ≡ Some f → g.F.Files.is_written l.files f;
       reads : (n : ℕ) → g.F.Files.is_read l.fn.files n → g.F.Files.is_read l.files n;
-      asked : g.F.Files.counted l.files ≡ asking (created_by (string_bytes l.out) l.ports l.place) (g.F.Files.counted l.fn.files);
+      asked : g.F.Files.counted l.files ≡ asking (created_by l.format (string_bytes l.out) l.ports l.place) (g.F.Files.counted l.fn.files);
     }

@@ -16,7 +16,7 @@ returns-in-Err g c =
     let since : Since = record { before = g.before; was = g.G.Gate.refused c.args.gate.now; is = g.G.Gate.refused c.args.gate.now } in
     let a = seen (told c.args.files.now) (counted c.args.files.now) in
     let b = seen (told c.create_targets.new.files) (counted c.create_targets.new.files) in
-    let stopped = uncreated since a b job c.args.who.now c.in-Err.stop requires.0 requires.1.1.1.1.0 requires.1.1.1.1.1 requires.1.1.0 requires.1.1.1.0 c.in-Err.ensures.some c.in-Err.ensures.cause in
+    let stopped = uncreated since a b job c.args.who.now c.in-Err.stop requires.0 requires.1.1.1.1.0 requires.1.1.1.1.1 requires.1.1.0 c.in-Err.ensures.some c.in-Err.ensures.cause in
     record { gens = halted since b job c.in-Err.stop c.halt.result requires.0 c.halt.ensures stopped }
 
 pub run_created-requires : goal.run_created-requires
@@ -55,7 +55,7 @@ run_created-requires g c κs within =
                               old = a;
                               next = requires.1.1.1.1.0;
                               only = requires.1.1.1.1.1;
-                              created = subst (λ (fs : List ℕ). AreAllCreated a.told b.told (name_at (asked job).out ports) fs (ports + 1)) (sym c.as_slice.ensures.value) c.in-Ok.ensures.created;
+                              created = subst (λ (fs : List ℕ). AreAllCreated a.told b.told (name_at (asked job).format (asked job).out ports) fs (ports + 1)) (sym c.as_slice.ensures.value) c.in-Ok.ensures.created;
                               asked_for = c.in-Ok.ensures.cause;
                             },
                           ),

@@ -1,4 +1,4 @@
-use Rattle.std.proofs.Common.{◌≡◌, refl, subst, arith}
+use Rattle.std.proofs.Common.{◌≡◌, ◌≢◌, refl, subst, arith}
 use Rattle.nf_base.specs.Functions.{function_of}
 use Rattle.nf_base.specs.Text.{Function}
 use Rattle.nf_base.specs.declared.card.Card.{Card}
@@ -7,12 +7,17 @@ use Rattle.key_synth.specs.declared.verdict.Verdict.TheVariants.{Locked}
 use Rattle.key_synth.specs.Verdicts.{IsVerdict, Separates}
 use Rattle.command_words.specs.declared.command.ModeChoice.{ModeChoice}
 use Rattle.command_words.specs.declared.command.ModeChoice.TheVariants as choice
-use Rattle.gen_call.specs.Runs.{MayShare}
+use Rattle.call_base.specs.Rules.{MayShard, ShareTables}
 use Rattle.gen_call.proofs.who.several_by.Goals as goal
 
-may_share : (mode : ModeChoice) (card : Card) (f : Function) (cause : Cause) → (mode ≡ choice.Shard → ⊥) → IsVerdict f card (Locked cause) → MayShare mode card f
+may_shard : (mode : ModeChoice) → mode ≢ choice.Lock → MayShard mode
+may_shard choice.Auto other = tt
+may_shard choice.Shard other = tt
+may_shard choice.Lock other = absurd (other refl)
+
+may_share : (mode : ModeChoice) (card : Card) (f : Function) (cause : Cause) → (mode ≡ choice.Shard → ⊥) → IsVerdict f card (Locked cause) → ShareTables mode card f
 may_share choice.Lock card f cause other locked = tt
-may_share choice.Auto card f cause other locked = (cause, locked)
+may_share choice.Auto card f cause other locked = record { cause = cause; locked = locked }
 may_share choice.Shard card f cause other locked = absurd (other refl)
 
 pub returns-in-Sharded : goal.returns-in-Sharded
@@ -21,7 +26,7 @@ returns-in-Sharded c =
     let given = subst (IsVerdict f c.args.command.now.card) c.in-Sharded.is c.requires.verdict in
     record {
       serves = (
-        (refl, c.requires.several, c.requires.unlocked, given),
+        (refl, c.requires.several, may_shard c.args.command.now.mode c.requires.unlocked, given),
         ((c.requires.several, c.requires.few), (omega (arith, given.may.count), subst (Separates f) c.in-Sharded.is c.requires.separates)),
       );
     }

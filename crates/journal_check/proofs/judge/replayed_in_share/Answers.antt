@@ -1,6 +1,6 @@
 use Rattle.std.proofs.Common.{◌∙◌, ℕ, subst}
 use Rattle.nf_base.specs.Functions.{function_of}
-use Rattle.journal_check.specs.Judging.{AreOfQueue}
+use Rattle.shard_laws.specs.Rule.{AreOfQueue}
 use Rattle.journal_check.proofs.Judged.{replays_granted}
 use Rattle.journal_check.proofs.judge.replayed_in_share.Goals as goal
 

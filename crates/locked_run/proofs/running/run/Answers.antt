@@ -15,7 +15,7 @@ pub returns-in-Err-clause-runs : goal.returns-in-Err-clause-runs
 returns-in-Err-clause-runs g c =
     let told = g.F.Files.told in
     let Refused = Rose (g.G.Gate.refused c.args.gate.now) (g.G.Gate.refused c.args.gate.now) in
-    cut_none (function_of c.args.func.now) c.args.workers c.args.card Refused (length c.args.func.now.handlers) c.args.feed.now (told c.args.files.now) (told c.read_all.new.files) c.args.targets.now (counted c.args.func.now)
+    cut_none (function_of c.args.func.now) c.args.workers c.args.card c.args.format Refused (length c.args.func.now.handlers) c.args.feed.now (told c.args.files.now) (told c.read_all.new.files) c.args.targets.now (counted c.args.func.now)
     (still_empty (told c.args.files.now) (told c.read_all.new.files) c.args.targets.now (c.read_all.ensures.kept []) c.requires.empty)
 
 pub returns-in-Err-clause-kept : goal.returns-in-Err-clause-kept
@@ -47,7 +47,7 @@ returns-in-Ok-settle-clause-runs g c =
     let told = g.F.Files.told in
     let Refused = Rose (g.G.Gate.refused c.args.gate.now) (g.G.Gate.refused c.settle.new.gate) in
     let read = c.in-Ok.ensures.reads_all in
-    finished_of (function_of c.args.func.now) c.args.workers c.args.card Refused (length c.args.func.now.handlers) (length c.args.captures.now) c.args.feed.now c.read_all.new.feed (told c.args.files.now) (told c.read_all.new.files) (told c.settle.new.files) c.args.targets.now c.read_all.new.batch c.in-Ok.ending c.in-Ok-settle.settled c.given-packets.result
+    finished_of (function_of c.args.func.now) c.args.workers c.args.card c.args.format Refused (length c.args.func.now.handlers) (length c.args.captures.now) c.args.feed.now c.read_all.new.feed (told c.args.files.now) (told c.read_all.new.files) (told c.settle.new.files) c.args.targets.now c.read_all.new.batch c.in-Ok.ending c.in-Ok-settle.settled c.given-packets.result
     (counted c.args.func.now) c.requires.new read.0 read.1 c.in-Ok-settle.ensures.settles c.given-packets.ensures
 
 pub returns-in-Ok-settle-clause-kept : goal.returns-in-Ok-settle-clause-kept
@@ -60,7 +60,7 @@ returns-clause-runs g c =
     let told = g.F.Files.told in
     let Refused = Rose (g.G.Gate.refused c.args.gate.now) (g.G.Gate.refused c.settle.new.gate) in
     let read = c.in-Ok.ensures.reads_all in
-    cut_short_of (function_of c.args.func.now) c.args.workers c.args.card Refused (length c.args.func.now.handlers) (length c.args.captures.now) c.args.feed.now c.read_all.new.feed (told c.args.files.now) (told c.read_all.new.files) (told c.settle.new.files) c.args.targets.now c.read_all.new.batch
+    cut_short_of (function_of c.args.func.now) c.args.workers c.args.card c.args.format Refused (length c.args.func.now.handlers) (length c.args.captures.now) c.args.feed.now c.read_all.new.feed (told c.args.files.now) (told c.read_all.new.files) (told c.settle.new.files) c.args.targets.now c.read_all.new.batch
     (counted c.args.func.now) c.requires.new read.0 c.in-Err-settle.ensures.settles
 
 pub returns-clause-kept : goal.returns-clause-kept

@@ -10,7 +10,7 @@ use Rattle.locked_run.proofs.running.settle.Goals as goal
 
 pub returns-in-Err-clause-settles : goal.returns-in-Err-clause-settles
 returns-in-Err-clause-settles g c =
-    halted_none (function_of c.args.func.now) c.args.workers c.args.card (Rose (g.G.Gate.refused c.args.gate.now) (g.G.Gate.refused c.work.new.gate)) (length c.args.func.now.handlers) c.args.batch.now (g.F.Files.told c.args.files.now) c.args.targets.now c.requires.empty
+    halted_none (function_of c.args.func.now) c.args.workers c.args.card c.args.format (Rose (g.G.Gate.refused c.args.gate.now) (g.G.Gate.refused c.work.new.gate)) (length c.args.func.now.handlers) c.args.batch.now (g.F.Files.told c.args.files.now) c.args.targets.now c.requires.empty
 
 pub returns-in-Ok-write-clause-settles : goal.returns-in-Ok-write-clause-settles
 returns-in-Ok-write-clause-settles g c =
@@ -25,7 +25,7 @@ returns-in-Ok-write-clause-settles g c =
       hs = hs;
       are = subst (λ (m : Mode). AreSettled f m workers Refused batch hs worked.state) (sym mode)
           (settled_of f workers Refused batch worked.order.items worked.places.items worked.state worked.workers c.requires.several c.in-Ok.ensures.handled c.in-Ok.ensures.as_many);
-      wholes = subst (λ (n : ℕ). AreWhole c.mode_of-mode.result workers c.args.card n hs (g.F.Files.told c.write.new.files) c.args.targets.now) c.len-ports.ensures.value c.in-Ok-write.ensures.written;
+      wholes = subst (λ (n : ℕ). AreWhole c.mode_of-mode.result workers c.args.card c.args.format n hs (g.F.Files.told c.write.new.files) c.args.targets.now) c.len-ports.ensures.value c.in-Ok-write.ensures.written;
     }
 
 pub returns-in-Err-write-clause-settles : goal.returns-in-Err-write-clause-settles
@@ -45,5 +45,5 @@ returns-in-Err-write-clause-settles g c =
       some = inr refl;
       are = subst (λ (m : Mode). AreSettled f m workers Refused batch hs worked.state) (sym mode)
           (settled_of f workers Refused batch worked.order.items worked.places.items worked.state worked.workers c.requires.several c.in-Ok.ensures.handled c.in-Ok.ensures.as_many);
-      fronts = subst (λ (n : ℕ). AreFronts c.mode_of-mode.result workers c.args.card n hs (g.F.Files.told c.write.new.files) c.args.targets.now) c.len-ports.ensures.value c.in-Err-write.ensures.written;
+      fronts = subst (λ (n : ℕ). AreFronts c.mode_of-mode.result workers c.args.card c.args.format n hs (g.F.Files.told c.write.new.files) c.args.targets.now) c.len-ports.ensures.value c.in-Err-write.ensures.written;
     }

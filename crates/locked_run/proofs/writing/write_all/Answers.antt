@@ -18,7 +18,7 @@ item-requires g c =
     place_within c.args.batch.now c.args.order.now c.args.places.now c.loop-k.k 0 c.requires.at (omega arith)
 
 pub returns-in-Err-clause-goes_on : goal.returns-in-Err-clause-goes_on
-returns-in-Err-clause-goes_on g c = λ mode workers card hs held.
+returns-in-Err-clause-goes_on g c = λ mode workers card format hs held.
     let told = g.F.Files.told in
     let batch = c.args.batch.now in
     let order = c.args.order.now in
@@ -27,9 +27,9 @@ returns-in-Err-clause-goes_on g c = λ mode workers card hs held.
     let all = joined batch order places in
     let files = files_of c.write_one.new.sinks in
     let now = told c.write_one.new.files in
-    fronts_longer mode workers card c.args.ports hs all (k + 1) now files
-    (subst (λ (t : List Handled). AreFronts mode workers card c.args.ports t now files) (so_far hs batch order places k c.item.result.now c.index-order-k.result 0 c.requires.at (omega arith) c.item.ensures c.index-order-k.is)
-    (c.in-Err.ensures.goes_on mode workers card (hs ++ take k all) (c.loop-k.invariant.held mode workers card hs held)))
+    fronts_longer mode workers card format c.args.ports hs all (k + 1) now files
+    (subst (λ (t : List Handled). AreFronts mode workers card format c.args.ports t now files) (so_far hs batch order places k c.item.result.now c.index-order-k.result 0 c.requires.at (omega arith) c.item.ensures c.index-order-k.is)
+    (c.in-Err.ensures.goes_on mode workers card format (hs ++ take k all) (c.loop-k.invariant.held mode workers card format hs held)))
 
 pub returns-in-Err-clause-kept : goal.returns-in-Err-clause-kept
 returns-in-Err-clause-kept g c =
@@ -48,9 +48,9 @@ loop-k-preserved g c =
     let k = c.loop-k.k in
     let all = joined batch order places in
     record {
-      held = λ mode workers card hs held.
-          subst (λ (t : List Handled). AreHeld mode workers card c.args.ports t (told c.write_one.new.files) c.write_one.new.sinks) (so_far hs batch order places k c.item.result.now c.index-order-k.result 0 c.requires.at (omega arith) c.item.ensures c.index-order-k.is)
-          (c.in-Ok.ensures.goes_on mode workers card (hs ++ take k all) (inv.held mode workers card hs held));
+      held = λ mode workers card format hs held.
+          subst (λ (t : List Handled). AreHeld mode workers card format c.args.ports t (told c.write_one.new.files) c.write_one.new.sinks) (so_far hs batch order places k c.item.result.now c.index-order-k.result 0 c.requires.at (omega arith) c.item.ensures c.index-order-k.is)
+          (c.in-Ok.ensures.goes_on mode workers card format (hs ++ take k all) (inv.held mode workers card format hs held));
       same_files = c.write_one.ensures.same_files ∙ inv.same_files;
       kept = but_both (files_of c.args.sinks.now) (told c.args.files.now) (told c.loop-k.files) (told c.write_one.new.files) inv.kept
           (but_written (files_of c.args.sinks.now) (files_of c.loop-k.sinks) (told c.loop-k.files) (told c.write_one.new.files) inv.same_files c.write_one.ensures.kept);
@@ -59,10 +59,10 @@ loop-k-preserved g c =
     }
 
 pub returns-clause-goes_on : goal.returns-clause-goes_on
-returns-clause-goes_on g c = λ mode workers card hs held.
+returns-clause-goes_on g c = λ mode workers card format hs held.
     let told = g.F.Files.told in
     let all = joined c.args.batch.now c.args.order.now c.args.places.now in
     let k = c.loop-k.k in
     let long = joined_long c.args.batch.now c.args.order.now c.args.places.now c.requires.at in
     let past : length all ≤ k = omega (arith, long) in
-    subst (λ (t : List Handled). AreHeld mode workers card c.args.ports (hs ++ t) (told c.loop-k.files) c.loop-k.sinks) (take_all k all past) (c.loop-k.invariant.held mode workers card hs held)
+    subst (λ (t : List Handled). AreHeld mode workers card format c.args.ports (hs ++ t) (told c.loop-k.files) c.loop-k.sinks) (take_all k all past) (c.loop-k.invariant.held mode workers card format hs held)

@@ -1,5 +1,6 @@
 use Rattle.std.proofs.Common.{◌≡◌, ◌++◌, ℕ, List, take}
 use Rattle.nf_base.specs.declared.card.Card.{Card}
+use Rattle.capture_format.specs.declared.format.CaptureFormat.{CaptureFormat}
 use Rattle.run_history.specs.declared.line.Mode.{Mode}
 use Rattle.stream_run.specs.Runs.{Handled}
 use Rattle.stream_run.specs.Writing.{files_of, AreHeld, KeepsBut}
@@ -11,8 +12,8 @@ abbrev pub invariant-loop-k : goal.invariant-loop-k
 invariant-loop-k g l =
     let told = g.F.Files.told in
     record {
-      held : (mode : Mode) (workers : ℕ) (card : Card) (hs : List Handled) → AreHeld mode workers card l.ports hs (told l.fn.files) l.fn.sinks
-          → AreHeld mode workers card l.ports (hs ++ take l.k (joined l.batch l.order l.places)) (told l.files) l.sinks;
+      held : (mode : Mode) (workers : ℕ) (card : Card) (format : CaptureFormat) (hs : List Handled) → AreHeld mode workers card format l.ports hs (told l.fn.files) l.fn.sinks
+          → AreHeld mode workers card format l.ports (hs ++ take l.k (joined l.batch l.order l.places)) (told l.files) l.sinks;
       same_files : files_of l.sinks ≡ files_of l.fn.sinks;
       kept : KeepsBut (files_of l.fn.sinks) (told l.fn.files) (told l.files);
       writes : (n : ℕ) → g.F.Files.is_written l.fn.files n → g.F.Files.is_written l.files n;

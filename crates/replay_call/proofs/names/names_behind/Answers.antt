@@ -2,11 +2,12 @@ use Rattle.std.proofs.Common.{◌≡◌, ◌+◌, ◌∷◌, ◌++◌, ◌∙◌
 use Rattle.std.specs.List.{range_with_len}
 use Rattle.std.proofs.lemmas.List.{map-append}
 use Rattle.std.proofs.lemmas.List.FromFn.{map-range_with_len_more}
+use Rattle.capture_format.specs.declared.format.CaptureFormat.{CaptureFormat}
 use Rattle.call_base.specs.Names.{output_name}
 use Rattle.replay_call.proofs.names.names_behind.Goals as goal
 
-more : (out : List ℕ) (n : ℕ) → map (output_name out) (range_with_len 0 n) ++ output_name out n ∷ [] ≡ map (output_name out) (range_with_len 0 (n + 1))
-more out n = sym (map-range_with_len_more (output_name out) 0 n n (omega arith))
+more : (format : CaptureFormat) (out : List ℕ) (n : ℕ) → map (output_name format out) (range_with_len 0 n) ++ output_name format out n ∷ [] ≡ map (output_name format out) (range_with_len 0 (n + 1))
+more format out n = sym (map-range_with_len_more (output_name format out) 0 n n (omega arith))
 
 pub loop-port-preserved : goal.loop-port-preserved
 loop-port-preserved c =
@@ -17,6 +18,6 @@ loop-port-preserved c =
       named = ap (λ xs. map string_bytes xs) c.in_ok-push-2.ensures.items
           ∙ map-append string_bytes c.loop-port.names.items (c.in_ok-output_name.field-0 ∷ [])
           ∙ ap (λ (n : List ℕ). map string_bytes c.loop-port.names.items ++ n ∷ []) c.in_ok-output_name.ensures
-          ∙ ap (λ (ns : List (List ℕ)). ns ++ output_name out port ∷ []) c.loop-port.invariant.named
-          ∙ ap (λ (ns : List (List ℕ)). first ∷ ns) (more out port);
+          ∙ ap (λ (ns : List (List ℕ)). ns ++ output_name c.args.format out port ∷ []) c.loop-port.invariant.named
+          ∙ ap (λ (ns : List (List ℕ)). first ∷ ns) (more c.args.format out port);
     }

@@ -6,5 +6,5 @@ use Rattle.replay_call.proofs.names.names_behind.Given as goal
 -- the names so far
 abbrev pub invariant-loop-port : goal.invariant-loop-port
 invariant-loop-port l = record {
-  named : map string_bytes l.names.items ≡ string_bytes l.journal ∷ map (output_name (string_bytes l.out)) (range_with_len 0 l.port);
+  named : map string_bytes l.names.items ≡ string_bytes l.journal ∷ map (output_name l.format (string_bytes l.out)) (range_with_len 0 l.port);
 }

@@ -56,10 +56,10 @@ lines-init g c =
     let j = c.args.judge.now in
     let kept = c.compare_headers.ensures.kept in
     record {
-      reached = λ start bytes b. reached_none (IsRun (function_of c.args.func.now) (keys_in c.args.keys) j.heading) j.heading (length captures) start bytes c.args.feed.now c.args.journal.now old now c.compare_headers.new.all j.tables.state c.requires.opens c.requires.new
+      reached = λ start bytes b. reached_none (IsRun (function_of c.args.func.now) (keys_in c.args.keys) j.heading) j.heading c.args.format (length captures) start bytes c.args.feed.now c.args.journal.now old now c.compare_headers.new.all j.tables.state c.requires.opens c.requires.new
           (λ port f e. kept.rests f (c.requires.clear.behind port f (sym (ap (λ (fs : List ℕ). slice_get fs port) c.requires.captures) ∙ e)))
           (kept.rests c.args.journal.now.file c.requires.no_output)
-          (subst (λ (n : ℕ). AreFound (λ k. bytes_of j.heading.mode j.heading.workers j.heading.card n k []) old.rest c.compare_headers.new.all now) c.requires.as_many (c.in-Ok.ensures.compares j.heading.mode j.heading.workers j.heading.card))
+          (subst (λ (n : ℕ). AreFound (λ k. bytes_of j.heading.mode j.heading.workers j.heading.card c.args.format n k []) old.rest c.compare_headers.new.all now) c.requires.as_many (c.in-Ok.ensures.compares j.heading.mode j.heading.workers j.heading.card))
           b;
       captures = c.requires.captures;
       six = refl;
@@ -91,11 +91,11 @@ lines-preserved g c =
     let read : Keeps old mid file = subst (λ (n : ℕ). Keeps old mid n) inv.same_file c.next_line.ensures.kept in
     let turned : KeepsOthers (captures ++ outputs) mid new = subst (λ (fs : List ℕ). KeepsOthers (captures ++ fs) mid new) inv.same_outputs c.one_turn.ensures.kept in
     let gives = rw c.in-Ok-Line.field-0-is at c.in-Ok-Line.ensures.gives in
-    let turn = subst (λ (h : Heading). IsTurn (IsRun (function_of c.args.func.now) (keys_in c.args.keys) h) h.mode c.in-Ok-Line.line c.lines.judge.tables.state c.one_turn.new.judge.tables.state c.lines.feed c.one_turn.new.feed mid new c.lines.outputs c.one_turn.new.outputs) inv.same_heading (rw c.in-Ok-true.field-0-test at c.in-Ok-true.ensures.turns) in
+    let turn = subst (λ (h : Heading). IsTurn (IsRun (function_of c.args.func.now) (keys_in c.args.keys) h) h.mode c.args.format c.in-Ok-Line.line c.lines.judge.tables.state c.one_turn.new.judge.tables.state c.lines.feed c.one_turn.new.feed mid new c.lines.outputs c.one_turn.new.outputs) inv.same_heading (rw c.in-Ok-true.field-0-test at c.in-Ok-true.ensures.turns) in
     let counts = rw c.in-Ok-true.field-0-test at c.in-Ok-true.ensures.counts in
     let few : length c.lines.outputs ≤ length captures = omega (arith, same_length c.lines.outputs begun inv.same_outputs, c.requires.as_many) in
     record {
-      reached = λ start bytes b. reached_more (IsRun (function_of c.args.func.now) (keys_in c.args.keys) j.heading) j.heading (length captures) start bytes first.rest file old mid new c.lines.feed c.one_turn.new.feed c.lines.journal c.next_line.new.journal c.lines.outputs c.one_turn.new.outputs c.lines.judge.tables.state c.one_turn.new.judge.tables.state c.in-Ok-Line.line
+      reached = λ start bytes b. reached_more (IsRun (function_of c.args.func.now) (keys_in c.args.keys) j.heading) j.heading c.args.format (length captures) start bytes first.rest file old mid new c.lines.feed c.one_turn.new.feed c.lines.journal c.next_line.new.journal c.lines.outputs c.one_turn.new.outputs c.lines.judge.tables.state c.one_turn.new.judge.tables.state c.in-Ok-Line.line
           (inv.reached start bytes b)
           (λ at lines stands. gives_at c.lines.journal c.next_line.new.journal old mid c.lines.journal.file file c.in-Ok-Line.line inv.same_file gives at lines stands)
           turn
@@ -143,7 +143,7 @@ returns-then-given-most-clause-reads_all g c =
     let read : Keeps old new file = subst (λ (n : ℕ). Keeps old new n) inv.same_file c.end_of.ensures.kept in
     let ends = subst (λ (m : ℕ). (at : Option (List ℕ)) (lines : List JournalLine) → Stands at lines c.lines.journal (old.rest m) → IsEnd at lines c.end_of.result) inv.same_file c.end_of.ensures.ends in
     λ start bytes b.
-    ends_at f heading (length captures) start bytes c.args.feed.now outputs first c.args.most Stop old new c.lines.feed c.lines.journal file c.lines.outputs c.lines.judge.tables.state c.end_of.result (inv.reached start bytes b) same inv.six (omega (arith, c.if-given-most.true, c.given.ensures))
+    ends_at f heading c.args.format (length captures) start bytes c.args.feed.now outputs first c.args.most Stop old new c.lines.feed c.lines.journal file c.lines.outputs c.lines.judge.tables.state c.end_of.result (inv.reached start bytes b) same inv.six (omega (arith, c.if-given-most.true, c.given.ensures))
     ends c.end_of.ensures.right (outputs_while c.lines.outputs begun file old new inv.same_outputs c.requires.no_output read)
 
 pub returns-then-given-most-clause-kept : goal.returns-then-given-most-clause-kept
@@ -181,7 +181,7 @@ returns-in-Ok-End-clause-reads_all g c =
     let gives = rw c.in-Ok-End.field-0-is at c.in-Ok-End.ensures.gives in
     let all = subst (λ (m : ℕ). (at : Option (List ℕ)) (lines : List JournalLine) → Stands at lines c.lines.journal (old.rest m) → AreAllLines at lines) inv.same_file gives in
     λ start bytes b.
-    over_at f heading (length captures) start bytes c.args.feed.now outputs first c.args.most old mid c.lines.feed c.lines.journal file c.lines.outputs c.lines.judge.tables.state (inv.reached start bytes b) same inv.six inv.within all (outputs_while c.lines.outputs begun file old mid inv.same_outputs c.requires.no_output read)
+    over_at f heading c.args.format (length captures) start bytes c.args.feed.now outputs first c.args.most old mid c.lines.feed c.lines.journal file c.lines.outputs c.lines.judge.tables.state (inv.reached start bytes b) same inv.six inv.within all (outputs_while c.lines.outputs begun file old mid inv.same_outputs c.requires.no_output read)
 
 pub returns-in-Ok-Wrong-clause-reads_all : goal.returns-in-Ok-Wrong-clause-reads_all
 returns-in-Ok-Wrong-clause-reads_all g c =
@@ -199,7 +199,7 @@ returns-in-Ok-Wrong-clause-reads_all g c =
     let gives = rw c.in-Ok-Wrong.field-0-is at c.in-Ok-Wrong.ensures.gives in
     let wrong = subst (λ (m : ℕ). (at : Option (List ℕ)) (lines : List JournalLine) → Stands at lines c.lines.journal (old.rest m) → journals.IsWrong at lines) inv.same_file gives in
     λ start bytes b.
-    wrong_at f heading (length captures) start bytes c.args.feed.now outputs first c.args.most old c.lines.feed c.lines.journal file c.lines.outputs c.lines.judge.tables.state _ (inv.reached start bytes b) same inv.six (omega (arith, inv.within, c.if-given-most.false, c.given.ensures)) (grind arith) wrong
+    wrong_at f heading c.args.format (length captures) start bytes c.args.feed.now outputs first c.args.most old c.lines.feed c.lines.journal file c.lines.outputs c.lines.judge.tables.state _ (inv.reached start bytes b) same inv.six (omega (arith, inv.within, c.if-given-most.false, c.given.ensures)) (grind arith) wrong
 
 pub returns-in-Ok-false-clause-reads_all : goal.returns-in-Ok-false-clause-reads_all
 returns-in-Ok-false-clause-reads_all g c =
@@ -219,7 +219,7 @@ returns-in-Ok-false-clause-reads_all g c =
     let gives = rw c.in-Ok-Line.field-0-is at c.in-Ok-Line.ensures.gives in
     let none = subst (λ (h : Heading). (before : Told) (hs : List Handled) → IsRun (function_of c.args.func.now) (keys_in c.args.keys) h hs c.lines.judge.tables.state → StandsIn h.mode before (map arrival_of hs) c.lines.feed mid → NoneGoesOn (IsRun (function_of c.args.func.now) (keys_in c.args.keys) h) h.mode (packets_at c.lines.feed before) hs (λ l. l ≡ c.in-Ok-Line.line)) inv.same_heading (rw c.in-Ok-false.field-0-test at c.in-Ok-false.ensures.turns) in
     λ start bytes b.
-    wrong_turn f heading (length captures) start bytes c.args.feed.now outputs first c.args.most old mid c.lines.feed c.lines.journal c.next_line.new.journal file c.lines.outputs c.lines.judge.tables.state c.in-Ok-Line.line _ (inv.reached start bytes b) same inv.six (omega (arith, inv.within, c.if-given-most.false, c.given.ensures)) (grind arith)
+    wrong_turn f heading c.args.format (length captures) start bytes c.args.feed.now outputs first c.args.most old mid c.lines.feed c.lines.journal c.next_line.new.journal file c.lines.outputs c.lines.judge.tables.state c.in-Ok-Line.line _ (inv.reached start bytes b) same inv.six (omega (arith, inv.within, c.if-given-most.false, c.given.ensures)) (grind arith)
     (λ at lines stands. gives_at c.lines.journal c.next_line.new.journal old mid c.lines.journal.file file c.in-Ok-Line.line inv.same_file gives at lines stands)
     (λ port n e. captures_while captures file old mid c.requires.no_capture read port n (sym (ap (λ (fs : List ℕ). slice_get fs port) inv.captures) ∙ e))
     none

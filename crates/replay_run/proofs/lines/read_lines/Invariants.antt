@@ -16,7 +16,7 @@ invariant-lines g l =
     let told = g.F.Files.told in
     record {
       reached : (start : Told) (bytes : Option (List ℕ)) → Begins l.fn.judge.heading l.fn.feed l.fn.journal start bytes (told l.fn.files)
-          → Reaches (IsRun (function_of l.func) (keys_in l.keys) l.fn.judge.heading) l.fn.judge.heading (length l.captures) start bytes (told l.fn.files).rest l.feed l.journal l.fn.journal.file (told l.files) l.outputs l.judge.tables.state;
+          → Reaches (IsRun (function_of l.func) (keys_in l.keys) l.fn.judge.heading) l.fn.judge.heading l.format (length l.captures) start bytes (told l.fn.files).rest l.feed l.journal l.fn.journal.file (told l.files) l.outputs l.judge.tables.state;
       captures : files_in l.feed.sources ≡ l.captures;
       six : sixes_in l.feed.sources ≡ sixes_in l.fn.feed.sources;
       most : l.feed.most ≡ l.most;

@@ -76,9 +76,9 @@ loop-k-preserved g c =
     let file = sym (ap (λ (fs : List ℕ). slice_get fs k) inv.same_files) ∙ file_at now k o at in
     let apart = subst (λ (fs : List ℕ). IsApart fs) (sym inv.same_files) c.requires.apart in
     record {
-      partly = λ worker start mode workers card ports hs few found. partly_more (FoundAt (λ j. bytes_of mode workers card ports j (hs ++ came_to worker c.args.packet.now c.args.original c.args.frame.now c.args.done.now ∷ [])) start) (FoundAt (λ j. bytes_of mode workers card ports j hs) start) now k o c.compare_sent.new.compared (told c.loop-k.files) (told c.compare_sent.new.files) (found_decides (λ j. bytes_of mode workers card ports j (hs ++ came_to worker c.args.packet.now c.args.original c.args.frame.now c.args.done.now ∷ [])) start) (found_decides (λ j. bytes_of mode workers card ports j hs) start) apart at c.compare_sent.ensures.kept
-          (λ was. subst (λ (bytes : List ℕ). Found c.compare_sent.new.compared bytes (start c.compare_sent.new.compared.file) ((told c.compare_sent.new.files).rest c.compare_sent.new.compared.file)) (sent_more mode workers card ports k hs (came_to worker c.args.packet.now c.args.original c.args.frame.now c.args.done.now) (omega (arith, lt, few, same_length now c.args.all.now inv.same_files)))
-          (found_step (bytes_of mode workers card ports k hs) (sent_bytes k (came_to worker c.args.packet.now c.args.original c.args.frame.now c.args.done.now)) start o c.compare_sent.new.compared (told c.loop-k.files) (told c.compare_sent.new.files) c.compare_sent.ensures.same_file c.in-Ok.ensures.compares was)) (inv.partly worker start mode workers card ports hs few found);
+      partly = λ worker start mode workers card ports hs few found. partly_more (FoundAt (λ j. bytes_of mode workers card c.args.format ports j (hs ++ came_to worker c.args.packet.now c.args.original c.args.frame.now c.args.done.now ∷ [])) start) (FoundAt (λ j. bytes_of mode workers card c.args.format ports j hs) start) now k o c.compare_sent.new.compared (told c.loop-k.files) (told c.compare_sent.new.files) (found_decides (λ j. bytes_of mode workers card c.args.format ports j (hs ++ came_to worker c.args.packet.now c.args.original c.args.frame.now c.args.done.now ∷ [])) start) (found_decides (λ j. bytes_of mode workers card c.args.format ports j hs) start) apart at c.compare_sent.ensures.kept
+          (λ was. subst (λ (bytes : List ℕ). Found c.compare_sent.new.compared bytes (start c.compare_sent.new.compared.file) ((told c.compare_sent.new.files).rest c.compare_sent.new.compared.file)) (sent_more mode workers card c.args.format ports k hs (came_to worker c.args.packet.now c.args.original c.args.frame.now c.args.done.now) (omega (arith, lt, few, same_length now c.args.all.now inv.same_files)))
+          (found_step (bytes_of mode workers card c.args.format ports k hs) (sent_bytes c.args.format k (came_to worker c.args.packet.now c.args.original c.args.frame.now c.args.done.now)) start o c.compare_sent.new.compared (told c.loop-k.files) (told c.compare_sent.new.files) c.compare_sent.ensures.same_file c.in-Ok.ensures.compares was)) (inv.partly worker start mode workers card ports hs few found);
       same_files = map_kept (λ (x : Comparing). x.file) now k o c.compare_sent.new.compared at c.compare_sent.ensures.same_file ∙ inv.same_files;
       kept = kept_more (files_of c.args.all.now) k o.file (told c.args.files.now) (told c.loop-k.files) (told c.compare_sent.new.files) file inv.kept c.compare_sent.ensures.kept;
       reads = λ n r. c.compare_sent.ensures.reads n (inv.reads n r);
@@ -88,4 +88,4 @@ loop-k-preserved g c =
 
 pub returns-clause-compares : goal.returns-clause-compares
 returns-clause-compares g c = λ worker start mode workers card ports hs few found.
-    all_partly (FoundAt (λ j. bytes_of mode workers card ports j (hs ++ came_to worker c.args.packet.now c.args.original c.args.frame.now c.args.done.now ∷ [])) start) (FoundAt (λ j. bytes_of mode workers card ports j hs) start) c.loop-k.all c.loop-k.k (g.F.Files.told c.loop-k.files) (omega (arith, c.len-k-end.ensures, c.loop-k-test.false, same_length c.loop-k.all c.args.all.now c.loop-k.invariant.same_files)) (c.loop-k.invariant.partly worker start mode workers card ports hs few found)
+    all_partly (FoundAt (λ j. bytes_of mode workers card c.args.format ports j (hs ++ came_to worker c.args.packet.now c.args.original c.args.frame.now c.args.done.now ∷ [])) start) (FoundAt (λ j. bytes_of mode workers card c.args.format ports j hs) start) c.loop-k.all c.loop-k.k (g.F.Files.told c.loop-k.files) (omega (arith, c.len-k-end.ensures, c.loop-k-test.false, same_length c.loop-k.all c.args.all.now c.loop-k.invariant.same_files)) (c.loop-k.invariant.partly worker start mode workers card ports hs few found)

@@ -15,8 +15,8 @@ invariant-loop-k g l =
     let told = g.F.Files.told in
     record {
       partly : (worker : ℕ) (start : ℕ → Option (List ℕ)) (mode : Mode) (workers : ℕ) (card : Card) (ports : ℕ) (hs : List Handled) → length l.fn.all ≤ ports
-          → AreFound (λ k. bytes_of mode workers card ports k hs) start l.fn.all (told l.fn.files)
-          → IsPartly (FoundAt (λ k. bytes_of mode workers card ports k (hs ++ came_to worker l.packet l.original l.frame l.done ∷ [])) start) (FoundAt (λ k. bytes_of mode workers card ports k hs) start) l.k (told l.files) l.all;
+          → AreFound (λ k. bytes_of mode workers card l.format ports k hs) start l.fn.all (told l.fn.files)
+          → IsPartly (FoundAt (λ k. bytes_of mode workers card l.format ports k (hs ++ came_to worker l.packet l.original l.frame l.done ∷ [])) start) (FoundAt (λ k. bytes_of mode workers card l.format ports k hs) start) l.k (told l.files) l.all;
       same_files : files_of l.all ≡ files_of l.fn.all;
       kept : KeepsOthers (files_of l.fn.all) (told l.fn.files) (told l.files);
       reads : (n : ℕ) → g.F.Files.is_read l.fn.files n → g.F.Files.is_read l.files n;

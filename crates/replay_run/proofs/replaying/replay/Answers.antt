@@ -20,6 +20,6 @@ returns-then-not-is_keyed-clause-comes g c = λ start bytes b. inl (record {
 pub returns-clause-comes : goal.returns-clause-comes
 returns-clause-comes g c = λ start bytes b.
     let keys = lent c.args.keys in
-    let beside = beside_of c.args.feed.now start bytes c.args.outputs.now (g.F.Files.told c.args.files.now) c.args.most in
+    let beside = beside_of c.args.format c.args.feed.now start bytes c.args.outputs.now (g.F.Files.told c.args.files.now) c.args.most in
     let keyed = subst (λ (m : Mode). IsKeyedBy m keys) c.mode.ensures.value (c.is_keyed.ensures.0 c.if-not-is_keyed.false) in
     headed (function_of c.args.func.now) keys c.args.begun.header (length c.args.captures.now) beside c.replay_with.result c.mode.ensures.heading keyed (c.replay_with.ensures.replays start bytes b)

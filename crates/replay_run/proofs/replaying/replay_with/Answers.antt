@@ -78,14 +78,14 @@ pub returns-in-Wrong-clause-replays : goal.returns-in-Wrong-clause-replays
 returns-in-Wrong-clause-replays g c = λ start bytes b.
     let told = g.F.Files.told in
     let reads = rw c.in-Wrong.is at c.in-Ok-read_lines.ensures.reads_all in
-    read_as (function_of c.args.func.now) (keys_in c.args.keys) c.in-Ok.judge.heading c.args.header (length c.args.captures.now) c.args.feed.now c.args.journal.now (files_of c.in-Ok-begin.compared) c.args.outputs.now (told c.args.files.now) (told c.read_lines.new.files) c.args.most
+    read_as c.args.format (function_of c.args.func.now) (keys_in c.args.keys) c.in-Ok.judge.heading c.args.header (length c.args.captures.now) c.args.feed.now c.args.journal.now (files_of c.in-Ok-begin.compared) c.args.outputs.now (told c.args.files.now) (told c.read_lines.new.files) c.args.most
     c.read_lines.new.outputs c.read_lines.new.judge.tables.state (Ok (end.Wrong c.in-Wrong.line)) c.in-Ok.ensures.heading c.in-Ok-begin.ensures.files reads start bytes b
 
 pub returns-in-TooMany-clause-replays : goal.returns-in-TooMany-clause-replays
 returns-in-TooMany-clause-replays g c = λ start bytes b.
     let told = g.F.Files.told in
     let reads = rw c.in-TooMany.is at c.in-Ok-read_lines.ensures.reads_all in
-    read_as (function_of c.args.func.now) (keys_in c.args.keys) c.in-Ok.judge.heading c.args.header (length c.args.captures.now) c.args.feed.now c.args.journal.now (files_of c.in-Ok-begin.compared) c.args.outputs.now (told c.args.files.now) (told c.read_lines.new.files) c.args.most
+    read_as c.args.format (function_of c.args.func.now) (keys_in c.args.keys) c.in-Ok.judge.heading c.args.header (length c.args.captures.now) c.args.feed.now c.args.journal.now (files_of c.in-Ok-begin.compared) c.args.outputs.now (told c.args.files.now) (told c.read_lines.new.files) c.args.most
     c.read_lines.new.outputs c.read_lines.new.judge.tables.state (Ok end.TooMany) c.in-Ok.ensures.heading c.in-Ok-begin.ensures.files reads start bytes b
 
 pub returns-clause-replays : goal.returns-clause-replays
@@ -96,8 +96,8 @@ returns-clause-replays g c = λ start bytes b.
     let ports = length c.args.captures.now in
     let reads = rw c.in-Over.is at c.in-Ok-read_lines.ensures.reads_all in
     let files = c.read_lines.ensures.same_outputs ∙ c.in-Ok-begin.ensures.files in
-    let over = read_as (function_of c.args.func.now) (keys_in c.args.keys) c.in-Ok.judge.heading c.args.header ports c.args.feed.now c.args.journal.now (files_of c.in-Ok-begin.compared) c.args.outputs.now old (told c.read_lines.new.files) c.args.most
+    let over = read_as c.args.format (function_of c.args.func.now) (keys_in c.args.keys) c.in-Ok.judge.heading c.args.header ports c.args.feed.now c.args.journal.now (files_of c.in-Ok-begin.compared) c.args.outputs.now old (told c.read_lines.new.files) c.args.most
     c.read_lines.new.outputs c.read_lines.new.judge.tables.state (Ok end.Over) c.in-Ok.ensures.heading c.in-Ok-begin.ensures.files reads start bytes b in
     let r = c.finish.result in
-    let finishes = subst (λ (fs : List ℕ). Finishes (sent c.args.header ports over.hs) old.rest fs c.read_lines.new.judge.tables.state r) files (c.finish.ensures.finishes old.rest (sent c.args.header ports over.hs) over.compared) in
-    finished f c.args.header ports c.args.feed.now start bytes c.args.outputs.now old c.args.most (told c.read_lines.new.files) c.read_lines.new.outputs c.read_lines.new.judge.tables.state r (sym c.requires.as_many) over finishes
+    let finishes = subst (λ (fs : List ℕ). Finishes (sent c.args.format c.args.header ports over.hs) old.rest fs c.read_lines.new.judge.tables.state r) files (c.finish.ensures.finishes old.rest (sent c.args.format c.args.header ports over.hs) over.compared) in
+    finished f c.args.header c.args.format ports c.args.feed.now start bytes c.args.outputs.now old c.args.most (told c.read_lines.new.files) c.read_lines.new.outputs c.read_lines.new.judge.tables.state r (sym c.requires.as_many) over finishes

@@ -102,7 +102,7 @@ returns-in-Ok-clause-turns g c =
           (λ port n e. c.compare_all.ensures.kept.rests n (c.requires.clear.behind port n (sym (ap (λ (fs : List ℕ). slice_get fs port) files) ∙ e)))
           (subst (λ (a : Arrival). StandsIn j.heading.mode start (given ++ a ∷ []) next read) (sym (shown_is p original frame next c.original-original.ensures c.frame-frame.ensures)) (fetches.1 start given b));
       compares =
-          compares_after h c.args.outputs.now c.compare_all.new.all old read new
+          compares_after c.args.format h c.args.outputs.now c.compare_all.new.all old read new
           (λ k o e. c.packet_for.ensures.kept.rests o.file (c.requires.clear.ahead k o.file (file_at c.args.outputs.now k o e)))
           (c.in-Ok.ensures.compares h.worker);
     }

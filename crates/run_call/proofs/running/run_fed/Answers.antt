@@ -19,8 +19,8 @@ returns-in-Err g c =
     record {
       runs = halted g.before b job c.in-Err.stop c.halt.result c.requires.1.1.1.1.1.1.1.0 c.halt.ensures
           (uncreated (Rose (g.L.Gate.refused c.args.gate.now) (g.L.Gate.refused c.args.gate.now)) g.before a b job c.args.captures.now c.args.feed.now c.in-Err.stop c.requires.1.1.1.1.1.1.1.0 c.requires.1.1.1.1.1.1.1.1.1
-          (subst (λ (p : ℕ). AreSomeCreated a.told b.told (name_at (asked job).out p) (p + 1) c.in-Err.stop) ports c.in-Err.ensures.some)
-          (subst (λ (p : ℕ). AsksSome (created_by (asked job).out p (p + 1)) a.counted b.counted c.in-Err.stop) ports c.in-Err.ensures.cause));
+          (subst (λ (p : ℕ). AreSomeCreated a.told b.told (name_at (asked job).format (asked job).out p) (p + 1) c.in-Err.stop) ports c.in-Err.ensures.some)
+          (subst (λ (p : ℕ). AsksSome (created_by (asked job).format (asked job).out p (p + 1)) a.counted b.counted c.in-Err.stop) ports c.in-Err.ensures.cause));
     }
 
 pub run_ready-requires : goal.run_ready-requires

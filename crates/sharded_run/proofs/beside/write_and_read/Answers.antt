@@ -13,10 +13,10 @@ returns-clause-reads_on g c =
     reads_from Stop 1024 _ c.args.feed.now (told c.write_round.new.files) (told c.args.files.now) c.read_round.new.feed (told c.read_round.new.files) c.read_round.new.batch c.read_round.result c.write_round.ensures.rests c.read_round.ensures.reads_on
 
 pub returns-clause-goes_on : goal.returns-clause-goes_on
-returns-clause-goes_on g c = λ workers card hs held.
+returns-clause-goes_on g c = λ workers card format hs held.
     let told = g.F.Files.told in
-    goes_on_read Stop workers card c.args.ports (hs ++ answered c.args.last.now c.args.handled.now) (told c.write_round.new.files) (told c.read_round.new.files) c.write_round.new.sinks c.read_round.result
-    (λ n. (c.read_round.ensures.kept []).givens n (none_other n)) (c.in-Ok.ensures.goes_on Shard workers card hs held)
+    goes_on_read Stop workers card format c.args.ports (hs ++ answered c.args.last.now c.args.handled.now) (told c.write_round.new.files) (told c.read_round.new.files) c.write_round.new.sinks c.read_round.result
+    (λ n. (c.read_round.ensures.kept []).givens n (none_other n)) (c.in-Ok.ensures.goes_on Shard workers card format hs held)
 
 pub returns-clause-kept : goal.returns-clause-kept
 returns-clause-kept g c =

@@ -30,12 +30,12 @@ work_kept-requires-clause-served g c = λ κs lives.
     are_served c.args.shards.now.func (length c.args.captures.now) (sixes_in c.args.feed.now.sources) (map packet_of c.args.batch.now) c.requires.ports c.requires.six c.requires.fit
 
 pub returns-in-Err-clause-comes : goal.returns-in-Err-clause-comes
-returns-in-Err-clause-comes g c = λ keys workers card begun start several alike a.
+returns-in-Err-clause-comes g c = λ keys workers card format begun start several alike a.
     let told = g.F.Files.told in
-    halts_waiting (function_of c.args.shards.now.func) keys workers card (length c.args.captures.now) begun start c.args.feed.now (told c.args.files.now) c.args.sinks.now c.args.shards.now [] c.args.batch.now (Some c.args.ending) several alike a
+    halts_waiting (function_of c.args.shards.now.func) keys workers card format (length c.args.captures.now) begun start c.args.feed.now (told c.args.files.now) c.args.sinks.now c.args.shards.now [] c.args.batch.now (Some c.args.ending) several alike a
 
 pub returns-in-Err-write_round-clause-comes : goal.returns-in-Err-write_round-clause-comes
-returns-in-Err-write_round-clause-comes g c = λ keys workers card begun start several alike a.
+returns-in-Err-write_round-clause-comes g c = λ keys workers card format begun start several alike a.
     let told = g.F.Files.told in
     let f = function_of c.args.shards.now.func in
     let ports = length c.args.captures.now in
@@ -48,16 +48,16 @@ returns-in-Err-write_round-clause-comes g c = λ keys workers card begun start s
     let v = c.args.shards.now in
     let new = c.work_kept.new.shards in
     let hs = a.reached.hs in
-    let rd = rounded_of f keys workers card ports begun start feed old sinks [] batch (Some c.args.ending) round.handled round.stop v new a (c.in-Ok.ensures.round (setup_of f keys workers a.reached.worked.share) a.reached.worked.at a.reached.worked.stands) in
-    let held = held_waiting f keys workers card ports begun start feed old sinks batch (Some c.args.ending) v a in
+    let rd = rounded_of f keys workers card format ports begun start feed old sinks [] batch (Some c.args.ending) round.handled round.stop v new a (c.in-Ok.ensures.round (setup_of f keys workers a.reached.worked.share) a.reached.worked.at a.reached.worked.stands) in
+    let held = held_waiting f keys workers card format ports begun start feed old sinks batch (Some c.args.ending) v a in
     let same : ports ≡ c.len-ports.result = c.requires.ports ∙ sym (c.len-ports.ensures.value ∙ ap (λ (fn : Func). length fn.handlers) (c.func.ensures ∙ c.work_kept.ensures.same.func)) in
     let files = files_of c.write_round.new.sinks in
-    halts_writing f keys workers card ports begun start feed a.read now batch round.handled round.stop files new hs several alike rd
-    (subst (λ (n : ℕ). AreFronts Shard workers card n (hs ++ answered batch round.handled) now files) (sym same)
-    (c.in-Err-write_round.ensures.goes_on Shard workers card hs (subst (λ (n : ℕ). AreHeld Shard workers card n hs old sinks) same held)))
+    halts_writing f keys workers card format ports begun start feed a.read now batch round.handled round.stop files new hs several alike rd
+    (subst (λ (n : ℕ). AreFronts Shard workers card format n (hs ++ answered batch round.handled) now files) (sym same)
+    (c.in-Err-write_round.ensures.goes_on Shard workers card format hs (subst (λ (n : ℕ). AreHeld Shard workers card format n hs old sinks) same held)))
 
 pub returns-clause-comes : goal.returns-clause-comes
-returns-clause-comes g c = λ keys workers card begun start several alike a.
+returns-clause-comes g c = λ keys workers card format begun start several alike a.
     let told = g.F.Files.told in
     let f = function_of c.args.shards.now.func in
     let ports = length c.args.captures.now in
@@ -71,11 +71,11 @@ returns-clause-comes g c = λ keys workers card begun start several alike a.
     let new = c.work_kept.new.shards in
     let hs = a.reached.hs in
     let packets = c.given.result - (c.len.result - c.len-2.result) in
-    let rd = rounded_of f keys workers card ports begun start feed old sinks [] batch (Some c.args.ending) round.handled round.stop v new a (c.in-Ok.ensures.round (setup_of f keys workers a.reached.worked.share) a.reached.worked.at a.reached.worked.stands) in
-    let held = held_waiting f keys workers card ports begun start feed old sinks batch (Some c.args.ending) v a in
+    let rd = rounded_of f keys workers card format ports begun start feed old sinks [] batch (Some c.args.ending) round.handled round.stop v new a (c.in-Ok.ensures.round (setup_of f keys workers a.reached.worked.share) a.reached.worked.at a.reached.worked.stands) in
+    let held = held_waiting f keys workers card format ports begun start feed old sinks batch (Some c.args.ending) v a in
     let same : ports ≡ c.len-ports.result = c.requires.ports ∙ sym (c.len-ports.ensures.value ∙ ap (λ (fn : Func). length fn.handlers) (c.func.ensures ∙ c.work_kept.ensures.same.func)) in
     let counted : packets + length batch ≡ feed.given + length round.handled = omega (arith, c.given.ensures, c.len.ensures, c.len-2.ensures, c.in-Ok.ensures.fewer, c.requires.enough) in
-    subst (λ (e : Ended). Comes {E = Stop} f keys workers card ports begun start feed now c.write_round.new.sinks new (Ok e)) (sym c.ended.ensures)
-    (ends_by Stop f keys workers card ports begun start a.before feed a.old a.read now batch round.handled c.args.ending round.stop packets c.write_round.new.sinks new hs several alike rd a.over a.reached.given counted
-    (subst (λ (n : ℕ). AreHeld Shard workers card n (hs ++ answered batch round.handled) now c.write_round.new.sinks) (sym same)
-    (c.in-Ok-write_round.ensures.goes_on Shard workers card hs (subst (λ (n : ℕ). AreHeld Shard workers card n hs old sinks) same held))))
+    subst (λ (e : Ended). Comes {E = Stop} f keys workers card format ports begun start feed now c.write_round.new.sinks new (Ok e)) (sym c.ended.ensures)
+    (ends_by Stop f keys workers card format ports begun start a.before feed a.old a.read now batch round.handled c.args.ending round.stop packets c.write_round.new.sinks new hs several alike rd a.over a.reached.given counted
+    (subst (λ (n : ℕ). AreHeld Shard workers card format n (hs ++ answered batch round.handled) now c.write_round.new.sinks) (sym same)
+    (c.in-Ok-write_round.ensures.goes_on Shard workers card format hs (subst (λ (n : ℕ). AreHeld Shard workers card format n hs old sinks) same held))))

@@ -33,12 +33,12 @@ begin_kept-requires-clause-served g c =
     are_served c.args.shards.now.func (length c.args.captures.now) (sixes_in c.args.feed.now.sources) (map packet_of c.args.batch.now) c.requires.ports c.requires.six c.requires.fit
 
 pub returns-in-Err-clause-on : goal.returns-in-Err-clause-on
-returns-in-Err-clause-on g c = λ keys workers card begun start several alike a.
+returns-in-Err-clause-on g c = λ keys workers card format begun start several alike a.
     let told = g.F.Files.told in
-    halts_waiting (function_of c.args.shards.now.func) keys workers card (length c.args.captures.now) begun start c.args.feed.now (told c.args.files.now) c.args.sinks.now c.args.shards.now (answered c.args.last.now c.args.handled.now) c.args.batch.now None several alike a
+    halts_waiting (function_of c.args.shards.now.func) keys workers card format (length c.args.captures.now) begun start c.args.feed.now (told c.args.files.now) c.args.sinks.now c.args.shards.now (answered c.args.last.now c.args.handled.now) c.args.batch.now None several alike a
 
 pub returns-in-Err-passed-clause-on : goal.returns-in-Err-passed-clause-on
-returns-in-Err-passed-clause-on g c = λ keys workers card begun start several alike a.
+returns-in-Err-passed-clause-on g c = λ keys workers card format begun start several alike a.
     let told = g.F.Files.told in
     let f = function_of c.args.shards.now.func in
     let ports = length c.args.captures.now in
@@ -51,9 +51,9 @@ returns-in-Err-passed-clause-on g c = λ keys workers card begun start several a
     let left = c.work_and_pass-passed.new.sinks in
     let v = c.args.shards.now in
     let same : ports ≡ c.len-ports.result = c.requires.ports ∙ sym (c.len-ports.ensures.value ∙ ap (λ (fn : Func). length fn.handlers) c.func.ensures) in
-    halts_with f keys workers card ports begun start feed old mid sinks v late batch None (files_of left) several alike a
-    (subst (λ (n : ℕ). AreFronts Shard workers card n (a.hs ++ late) mid (files_of left)) (sym same)
-    (c.in-Err-passed.ensures.goes_on workers card a.hs (subst (λ (n : ℕ). AreHeld Shard workers card n a.hs old sinks) same a.held)))
+    halts_with f keys workers card format ports begun start feed old mid sinks v late batch None (files_of left) several alike a
+    (subst (λ (n : ℕ). AreFronts Shard workers card format n (a.hs ++ late) mid (files_of left)) (sym same)
+    (c.in-Err-passed.ensures.goes_on workers card format a.hs (subst (λ (n : ℕ). AreHeld Shard workers card format n a.hs old sinks) same a.held)))
 
 pub returns-in-Err-passed-clause-among : goal.returns-in-Err-passed-clause-among
 returns-in-Err-passed-clause-among g c = among_as (Option Ending) Went c.args.captures.now (files_of c.args.sinks.now) c.in-Err-passed.stop c.in-Err-passed.ensures.among
@@ -70,7 +70,7 @@ write_round-requires-clause-handled g c =
     omega (arith, fewer_got i.setup i.at (map packet_of batch) round.handled round.stop new i.sent k, length-map batch packet_of)
 
 pub returns-in-Err-write_round-clause-on : goal.returns-in-Err-write_round-clause-on
-returns-in-Err-write_round-clause-on g c = λ keys workers card begun start several alike a.
+returns-in-Err-write_round-clause-on g c = λ keys workers card format begun start several alike a.
     let told = g.F.Files.told in
     let f = function_of c.args.shards.now.func in
     let ports = length c.args.captures.now in
@@ -89,15 +89,15 @@ returns-in-Err-write_round-clause-on g c = λ keys workers card begun start seve
     let m = a.reached.worked.at in
     let stands = a.reached.worked.stands in
     let ran = c.end_round-got.ensures.ran x m (map packet_of batch) v stands (c.work_and_pass-passed.ensures.worked x _ (c.in-Ok.ensures.given x m stands)) in
-    let rd = rounded_of f keys workers card ports begun start feed old sinks late batch None round.handled round.stop v new a (is_round x m (map packet_of batch) round new ran) in
-    let written : AreHeld Shard workers card ports (a.hs ++ late) mid left = subst (λ (n : ℕ). AreHeld Shard workers card n (a.hs ++ late) mid left) (sym same)
-    (c.in-Ok-passed.ensures.goes_on workers card a.hs (subst (λ (n : ℕ). AreHeld Shard workers card n a.hs old sinks) same a.held)) in
+    let rd = rounded_of f keys workers card format ports begun start feed old sinks late batch None round.handled round.stop v new a (is_round x m (map packet_of batch) round new ran) in
+    let written : AreHeld Shard workers card format ports (a.hs ++ late) mid left = subst (λ (n : ℕ). AreHeld Shard workers card format n (a.hs ++ late) mid left) (sym same)
+    (c.in-Ok-passed.ensures.goes_on workers card format a.hs (subst (λ (n : ℕ). AreHeld Shard workers card format n a.hs old sinks) same a.held)) in
     let now = told c.write_round.new.files in
-    let there = held_behind f keys workers card ports begun start feed old mid sinks left late batch None v a written in
+    let there = held_behind f keys workers card format ports begun start feed old mid sinks left late batch None v a written in
     let files = files_of c.write_round.new.sinks in
-    halts_writing f keys workers card ports begun start feed a.read now batch round.handled round.stop files new a.reached.hs several alike rd
-    (subst (λ (n : ℕ). AreFronts Shard workers card n (a.reached.hs ++ answered batch round.handled) now files) (sym same)
-    (c.in-Err-write_round.ensures.goes_on Shard workers card a.reached.hs (subst (λ (n : ℕ). AreHeld Shard workers card n a.reached.hs mid left) same there)))
+    halts_writing f keys workers card format ports begun start feed a.read now batch round.handled round.stop files new a.reached.hs several alike rd
+    (subst (λ (n : ℕ). AreFronts Shard workers card format n (a.reached.hs ++ answered batch round.handled) now files) (sym same)
+    (c.in-Err-write_round.ensures.goes_on Shard workers card format a.reached.hs (subst (λ (n : ℕ). AreHeld Shard workers card format n a.reached.hs mid left) same there)))
 
 pub returns-in-Err-write_round-clause-kept : goal.returns-in-Err-write_round-clause-kept
 returns-in-Err-write_round-clause-kept g c =
@@ -112,7 +112,7 @@ returns-in-Ok-write_round-clause-kept g c =
     (subst (λ (fs : List ℕ). KeepsBut fs (told c.work_and_pass-passed.new.files) (told c.write_round.new.files)) c.work_and_pass-passed.ensures.same_files c.write_round.ensures.kept)
 
 pub returns-in-Ok-write_round-clause-on : goal.returns-in-Ok-write_round-clause-on
-returns-in-Ok-write_round-clause-on g c = λ keys workers card begun start several alike a.
+returns-in-Ok-write_round-clause-on g c = λ keys workers card format begun start several alike a.
     let told = g.F.Files.told in
     let f = function_of c.args.shards.now.func in
     let ports = length c.args.captures.now in
@@ -131,17 +131,17 @@ returns-in-Ok-write_round-clause-on g c = λ keys workers card begun start sever
     let m = a.reached.worked.at in
     let stands = a.reached.worked.stands in
     let ran = c.end_round-got.ensures.ran x m (map packet_of batch) v stands (c.work_and_pass-passed.ensures.worked x _ (c.in-Ok.ensures.given x m stands)) in
-    let rd = rounded_of f keys workers card ports begun start feed old sinks late batch None round.handled round.stop v new a (is_round x m (map packet_of batch) round new ran) in
-    let written : AreHeld Shard workers card ports (a.hs ++ late) mid left = subst (λ (n : ℕ). AreHeld Shard workers card n (a.hs ++ late) mid left) (sym same)
-    (c.in-Ok-passed.ensures.goes_on workers card a.hs (subst (λ (n : ℕ). AreHeld Shard workers card n a.hs old sinks) same a.held)) in
+    let rd = rounded_of f keys workers card format ports begun start feed old sinks late batch None round.handled round.stop v new a (is_round x m (map packet_of batch) round new ran) in
+    let written : AreHeld Shard workers card format ports (a.hs ++ late) mid left = subst (λ (n : ℕ). AreHeld Shard workers card format n (a.hs ++ late) mid left) (sym same)
+    (c.in-Ok-passed.ensures.goes_on workers card format a.hs (subst (λ (n : ℕ). AreHeld Shard workers card format n a.hs old sinks) same a.held)) in
     let now = told c.write_round.new.files in
-    let there = held_behind f keys workers card ports begun start feed old mid sinks left late batch None v a written in
+    let there = held_behind f keys workers card format ports begun start feed old mid sinks left late batch None v a written in
     let packets = c.given-given.result - (c.len.result - c.len-in-Some.result) in
     let counted : packets + length batch ≡ feed.given + length round.handled = omega (arith, c.given-given.ensures, c.len.ensures, c.len-in-Some.ensures, c.requires.enough, fewer_got x m (map packet_of batch) round.handled round.stop new a.reached.worked.sent (is_round x m (map packet_of batch) round new ran), length-map batch packet_of) in
-    stops_with f keys workers card ports begun start feed a.read now batch round.handled c.in-Some.stop packets c.write_round.new.sinks new a.reached.hs several alike
+    stops_with f keys workers card format ports begun start feed a.read now batch round.handled c.in-Some.stop packets c.write_round.new.sinks new a.reached.hs several alike
     (subst (λ (s : Option stopping.Stop). Rounded f keys workers ports begun start feed a.read batch round.handled s new a.reached.hs) c.in-Some.is rd) counted
-    (subst (λ (n : ℕ). AreHeld Shard workers card n (a.reached.hs ++ answered batch round.handled) now c.write_round.new.sinks) (sym same)
-    (c.in-Ok-write_round.ensures.goes_on Shard workers card a.reached.hs (subst (λ (n : ℕ). AreHeld Shard workers card n a.reached.hs mid left) same there)))
+    (subst (λ (n : ℕ). AreHeld Shard workers card format n (a.reached.hs ++ answered batch round.handled) now c.write_round.new.sinks) (sym same)
+    (c.in-Ok-write_round.ensures.goes_on Shard workers card format a.reached.hs (subst (λ (n : ℕ). AreHeld Shard workers card format n a.reached.hs mid left) same there)))
 
 pub overflow_sub-packets : goal.overflow_sub-packets
 overflow_sub-packets g c =
@@ -155,7 +155,7 @@ overflow_sub-packets g c =
     omega (arith, c.len.ensures, c.len-in-Some.ensures, fewer_got i.setup i.at (map packet_of batch) round.handled round.stop new i.sent k, length-map batch packet_of)
 
 pub returns-in-None-clause-on : goal.returns-in-None-clause-on
-returns-in-None-clause-on g c = λ keys workers card begun start several alike a.
+returns-in-None-clause-on g c = λ keys workers card format begun start several alike a.
     let told = g.F.Files.told in
     let f = function_of c.args.shards.now.func in
     let ports = length c.args.captures.now in
@@ -174,10 +174,10 @@ returns-in-None-clause-on g c = λ keys workers card begun start several alike a
     let m = a.reached.worked.at in
     let stands = a.reached.worked.stands in
     let ran = c.end_round-got.ensures.ran x m (map packet_of batch) v stands (c.work_and_pass-passed.ensures.worked x _ (c.in-Ok.ensures.given x m stands)) in
-    let rd = rounded_of f keys workers card ports begun start feed old sinks late batch None round.handled round.stop v new a (is_round x m (map packet_of batch) round new ran) in
-    let written : AreHeld Shard workers card ports (a.hs ++ late) mid left = subst (λ (n : ℕ). AreHeld Shard workers card n (a.hs ++ late) mid left) (sym same)
-    (c.in-Ok-passed.ensures.goes_on workers card a.hs (subst (λ (n : ℕ). AreHeld Shard workers card n a.hs old sinks) same a.held)) in
-    awaits_on Stop f keys workers card ports begun start feed c.work_and_pass-passed.new.feed old mid batch c.work_and_pass-passed.new.last round.handled c.in-Ok-passed.ending sinks left v new late a
+    let rd = rounded_of f keys workers card format ports begun start feed old sinks late batch None round.handled round.stop v new a (is_round x m (map packet_of batch) round new ran) in
+    let written : AreHeld Shard workers card format ports (a.hs ++ late) mid left = subst (λ (n : ℕ). AreHeld Shard workers card format n (a.hs ++ late) mid left) (sym same)
+    (c.in-Ok-passed.ensures.goes_on workers card format a.hs (subst (λ (n : ℕ). AreHeld Shard workers card format n a.hs old sinks) same a.held)) in
+    awaits_on Stop f keys workers card format ports begun start feed c.work_and_pass-passed.new.feed old mid batch c.work_and_pass-passed.new.last round.handled c.in-Ok-passed.ending sinks left v new late a
     (subst (λ (s : Option stopping.Stop). Rounded f keys workers ports begun start feed a.read batch round.handled s new a.reached.hs) c.in-None.is rd) c.in-Ok-passed.ensures.reads_on written
 
 pub returns-in-None-clause-idle : goal.returns-in-None-clause-idle

@@ -23,9 +23,9 @@ use Rattle.sharded_run.proofs.Rounding.{among_as, none_other, has_read, awaits_f
 use Rattle.sharded_run.proofs.rounds.rounds_in.Goals as goal
 
 pub returns-in-Err-clause-comes : goal.returns-in-Err-clause-comes
-returns-in-Err-clause-comes g c = λ keys workers card begun start several alike r.
+returns-in-Err-clause-comes g c = λ keys workers card format begun start several alike r.
     let told = g.F.Files.told in
-    halts_before (function_of c.args.shards.now.func) keys workers card (length c.args.captures.now) begun start c.args.feed.now (told c.args.files.now) (told c.read_round.new.files) c.args.sinks.now c.args.shards.now several alike r
+    halts_before (function_of c.args.shards.now.func) keys workers card format (length c.args.captures.now) begun start c.args.feed.now (told c.args.files.now) (told c.read_round.new.files) c.args.sinks.now c.args.shards.now several alike r
     (λ n. (c.read_round.ensures.kept []).givens n (none_other n))
 
 pub returns-in-Err-clause-kept : goal.returns-in-Err-clause-kept
@@ -40,10 +40,10 @@ rounds-init g c =
     let on = c.in-Ok.ensures.reads_on in
     let h = has_read Stop (length c.args.captures.now) c.args.feed.now (told c.args.files.now) c.read_round.new.feed (told c.read_round.new.files) c.read_round.new.batch c.in-Ok.ending c.requires.within on in
     record {
-      on = λ keys workers card begun start several alike r.
-          subst (λ (cs : List Collected). Awaits (function_of c.args.shards.now.func) keys workers card (length c.args.captures.now) begun start c.read_round.new.feed (told c.read_round.new.files) c.args.sinks.now c.args.shards.now (answered c.args.last.now cs) c.read_round.new.batch c.in-Ok.ending) (sym c.new-handled.ensures)
-          (subst (λ (hs : List Handled). Awaits (function_of c.args.shards.now.func) keys workers card (length c.args.captures.now) begun start c.read_round.new.feed (told c.read_round.new.files) c.args.sinks.now c.args.shards.now hs c.read_round.new.batch c.in-Ok.ending) (sym (answered_none c.args.last.now))
-          (awaits_first Stop (function_of c.args.shards.now.func) keys workers card (length c.args.captures.now) begun start c.args.feed.now c.read_round.new.feed (told c.args.files.now) (told c.read_round.new.files) c.read_round.new.batch c.in-Ok.ending c.args.sinks.now c.args.shards.now r on
+      on = λ keys workers card format begun start several alike r.
+          subst (λ (cs : List Collected). Awaits (function_of c.args.shards.now.func) keys workers card format (length c.args.captures.now) begun start c.read_round.new.feed (told c.read_round.new.files) c.args.sinks.now c.args.shards.now (answered c.args.last.now cs) c.read_round.new.batch c.in-Ok.ending) (sym c.new-handled.ensures)
+          (subst (λ (hs : List Handled). Awaits (function_of c.args.shards.now.func) keys workers card format (length c.args.captures.now) begun start c.read_round.new.feed (told c.read_round.new.files) c.args.sinks.now c.args.shards.now hs c.read_round.new.batch c.in-Ok.ending) (sym (answered_none c.args.last.now))
+          (awaits_first Stop (function_of c.args.shards.now.func) keys workers card format (length c.args.captures.now) begun start c.args.feed.now c.read_round.new.feed (told c.args.files.now) (told c.read_round.new.files) c.read_round.new.batch c.in-Ok.ending c.args.sinks.now c.args.shards.now r on
           (λ n. (c.read_round.ensures.kept []).givens n (none_other n))));
       idle = c.requires.idle;
       captures = h.fed.same_files ∙ c.requires.captures;
@@ -73,11 +73,11 @@ rounds-preserved g c =
     let on = went_as Stop c.rounds.shards.func c.args.shards.now.func ports c.rounds.feed (told c.rounds.files) c.rounds.sinks c.rounds.shards (answered c.rounds.last c.rounds.handled) c.rounds.batch c.one_round.new.feed (told c.one_round.new.files) c.one_round.new.sinks c.one_round.new.shards c.one_round.new.last (Ok (On c.in-Ok-On.then c.in-Ok-On.got)) inv.same.func
     (rw c.in-Ok-On.field-0-is at ok.on) in
     record {
-      on = λ keys workers card begun start several alike r.
-          subst (λ (b : List Arrival). Awaits (function_of c.args.shards.now.func) keys workers card ports begun start c.one_round.new.feed (told c.one_round.new.files) c.one_round.new.sinks c.one_round.new.shards (answered c.swap.new.x c.in-Ok-On.got) b c.in-Ok-On.then) batch_is
-          (subst (λ (b : List Arrival). Awaits (function_of c.args.shards.now.func) keys workers card ports begun start c.one_round.new.feed (told c.one_round.new.files) c.one_round.new.sinks c.one_round.new.shards (answered b c.in-Ok-On.got) c.one_round.new.last c.in-Ok-On.then) last_is
-          (on keys workers card begun start several alike
-          (subst (λ (e : Option Ending). Awaits (function_of c.args.shards.now.func) keys workers card ports begun start c.rounds.feed (told c.rounds.files) c.rounds.sinks c.rounds.shards (answered c.rounds.last c.rounds.handled) c.rounds.batch e) c.in-None.is (inv.on keys workers card begun start several alike r))));
+      on = λ keys workers card format begun start several alike r.
+          subst (λ (b : List Arrival). Awaits (function_of c.args.shards.now.func) keys workers card format ports begun start c.one_round.new.feed (told c.one_round.new.files) c.one_round.new.sinks c.one_round.new.shards (answered c.swap.new.x c.in-Ok-On.got) b c.in-Ok-On.then) batch_is
+          (subst (λ (b : List Arrival). Awaits (function_of c.args.shards.now.func) keys workers card format ports begun start c.one_round.new.feed (told c.one_round.new.files) c.one_round.new.sinks c.one_round.new.shards (answered b c.in-Ok-On.got) c.one_round.new.last c.in-Ok-On.then) last_is
+          (on keys workers card format begun start several alike
+          (subst (λ (e : Option Ending). Awaits (function_of c.args.shards.now.func) keys workers card format ports begun start c.rounds.feed (told c.rounds.files) c.rounds.sinks c.rounds.shards (answered c.rounds.last c.rounds.handled) c.rounds.batch e) c.in-None.is (inv.on keys workers card format begun start several alike r))));
       idle = rw c.in-Ok-On.field-0-is at ok.idle;
       captures = read.fed.same_files ∙ inv.captures;
       six = read.fed.same_six ∙ inv.six ∙ ap (λ (fn : Func). six_ports (function_of fn)) (sym ok.same.func);
@@ -95,13 +95,13 @@ rounds-preserved g c =
     }
 
 pub returns-in-Ok-Met-clause-comes : goal.returns-in-Ok-Met-clause-comes
-returns-in-Ok-Met-clause-comes g c = λ keys workers card begun start several alike r.
+returns-in-Ok-Met-clause-comes g c = λ keys workers card format begun start several alike r.
     let told = g.F.Files.told in
     let inv = c.rounds.invariant in
     let ports = length c.args.captures.now in
     went_as Stop c.rounds.shards.func c.args.shards.now.func ports c.rounds.feed (told c.rounds.files) c.rounds.sinks c.rounds.shards (answered c.rounds.last c.rounds.handled) c.rounds.batch c.one_round.new.feed (told c.one_round.new.files) c.one_round.new.sinks c.one_round.new.shards c.one_round.new.last (Ok (Met c.in-Ok-Met.full)) inv.same.func
-    (rw c.in-Ok-Met.field-0-is at c.in-Ok-Met.ensures.on) keys workers card begun start several alike
-    (subst (λ (e : Option Ending). Awaits (function_of c.args.shards.now.func) keys workers card ports begun start c.rounds.feed (told c.rounds.files) c.rounds.sinks c.rounds.shards (answered c.rounds.last c.rounds.handled) c.rounds.batch e) c.in-None.is (inv.on keys workers card begun start several alike r))
+    (rw c.in-Ok-Met.field-0-is at c.in-Ok-Met.ensures.on) keys workers card format begun start several alike
+    (subst (λ (e : Option Ending). Awaits (function_of c.args.shards.now.func) keys workers card format ports begun start c.rounds.feed (told c.rounds.files) c.rounds.sinks c.rounds.shards (answered c.rounds.last c.rounds.handled) c.rounds.batch e) c.in-None.is (inv.on keys workers card format begun start several alike r))
 
 pub returns-in-Ok-Met-clause-kept : goal.returns-in-Ok-Met-clause-kept
 returns-in-Ok-Met-clause-kept g c =
@@ -111,13 +111,13 @@ returns-in-Ok-Met-clause-kept g c =
     (subst (λ (fs : List ℕ). KeepsBut fs (told c.rounds.files) (told c.one_round.new.files)) inv.same_files c.one_round.ensures.kept)
 
 pub returns-in-Err-one_round-clause-comes : goal.returns-in-Err-one_round-clause-comes
-returns-in-Err-one_round-clause-comes g c = λ keys workers card begun start several alike r.
+returns-in-Err-one_round-clause-comes g c = λ keys workers card format begun start several alike r.
     let told = g.F.Files.told in
     let inv = c.rounds.invariant in
     let ports = length c.args.captures.now in
     went_as Stop c.rounds.shards.func c.args.shards.now.func ports c.rounds.feed (told c.rounds.files) c.rounds.sinks c.rounds.shards (answered c.rounds.last c.rounds.handled) c.rounds.batch c.one_round.new.feed (told c.one_round.new.files) c.one_round.new.sinks c.one_round.new.shards c.one_round.new.last (Err c.in-Err-one_round.stop) inv.same.func
-    c.in-Err-one_round.ensures.on keys workers card begun start several alike
-    (subst (λ (e : Option Ending). Awaits (function_of c.args.shards.now.func) keys workers card ports begun start c.rounds.feed (told c.rounds.files) c.rounds.sinks c.rounds.shards (answered c.rounds.last c.rounds.handled) c.rounds.batch e) c.in-None.is (inv.on keys workers card begun start several alike r))
+    c.in-Err-one_round.ensures.on keys workers card format begun start several alike
+    (subst (λ (e : Option Ending). Awaits (function_of c.args.shards.now.func) keys workers card format ports begun start c.rounds.feed (told c.rounds.files) c.rounds.sinks c.rounds.shards (answered c.rounds.last c.rounds.handled) c.rounds.batch e) c.in-None.is (inv.on keys workers card format begun start several alike r))
 
 pub returns-in-Err-one_round-clause-kept : goal.returns-in-Err-one_round-clause-kept
 returns-in-Err-one_round-clause-kept g c =
@@ -127,18 +127,18 @@ returns-in-Err-one_round-clause-kept g c =
     (subst (λ (fs : List ℕ). KeepsBut fs (told c.rounds.files) (told c.one_round.new.files)) inv.same_files c.one_round.ensures.kept)
 
 pub returns-in-Err-write_round-clause-comes : goal.returns-in-Err-write_round-clause-comes
-returns-in-Err-write_round-clause-comes g c = λ keys workers card begun start several alike r.
+returns-in-Err-write_round-clause-comes g c = λ keys workers card format begun start several alike r.
     let told = g.F.Files.told in
     let inv = c.rounds.invariant in
     let ports = length c.args.captures.now in
     let same : ports ≡ c.len-ports.result = c.requires.ports ∙ sym (c.len-ports.ensures.value ∙ ap (λ (fn : Func). length fn.handlers) c.func.ensures) in
-    let a = inv.on keys workers card begun start several alike r in
-    halts_with (function_of c.args.shards.now.func) keys workers card ports begun start c.rounds.feed (told c.rounds.files) (told c.write_round.new.files) c.rounds.sinks c.rounds.shards (answered c.rounds.last c.rounds.handled) c.rounds.batch c.rounds.ending (files_of c.write_round.new.sinks) several alike a
-    (subst (λ (n : ℕ). AreFronts Shard workers card n (a.hs ++ answered c.rounds.last c.rounds.handled) (told c.write_round.new.files) (files_of c.write_round.new.sinks)) (sym same)
-    (c.in-Err-write_round.ensures.goes_on Shard workers card a.hs (subst (λ (n : ℕ). AreHeld Shard workers card n a.hs (told c.rounds.files) c.rounds.sinks) same a.held)))
+    let a = inv.on keys workers card format begun start several alike r in
+    halts_with (function_of c.args.shards.now.func) keys workers card format ports begun start c.rounds.feed (told c.rounds.files) (told c.write_round.new.files) c.rounds.sinks c.rounds.shards (answered c.rounds.last c.rounds.handled) c.rounds.batch c.rounds.ending (files_of c.write_round.new.sinks) several alike a
+    (subst (λ (n : ℕ). AreFronts Shard workers card format n (a.hs ++ answered c.rounds.last c.rounds.handled) (told c.write_round.new.files) (files_of c.write_round.new.sinks)) (sym same)
+    (c.in-Err-write_round.ensures.goes_on Shard workers card format a.hs (subst (λ (n : ℕ). AreHeld Shard workers card format n a.hs (told c.rounds.files) c.rounds.sinks) same a.held)))
 
 pub returns-in-Some-clause-comes : goal.returns-in-Some-clause-comes
-returns-in-Some-clause-comes g c = λ keys workers card begun start several alike r.
+returns-in-Some-clause-comes g c = λ keys workers card format begun start several alike r.
     let told = g.F.Files.told in
     let inv = c.rounds.invariant in
     let ports = length c.args.captures.now in
@@ -146,13 +146,13 @@ returns-in-Some-clause-comes g c = λ keys workers card begun start several alik
     let f = function_of c.args.shards.now.func in
     let mid = told c.write_round.new.files in
     let left = c.write_round.new.sinks in
-    let a = inv.on keys workers card begun start several alike r in
-    let held = subst (λ (n : ℕ). AreHeld Shard workers card n (a.hs ++ answered c.rounds.last c.rounds.handled) mid left) (sym same)
-    (c.in-Ok-write_round.ensures.goes_on Shard workers card a.hs (subst (λ (n : ℕ). AreHeld Shard workers card n a.hs (told c.rounds.files) c.rounds.sinks) same a.held)) in
-    let b = awaits_written f keys workers card ports begun start c.rounds.feed (told c.rounds.files) mid c.rounds.sinks left c.rounds.shards (answered c.rounds.last c.rounds.handled) c.rounds.batch c.rounds.ending a c.write_round.ensures.rests held in
+    let a = inv.on keys workers card format begun start several alike r in
+    let held = subst (λ (n : ℕ). AreHeld Shard workers card format n (a.hs ++ answered c.rounds.last c.rounds.handled) mid left) (sym same)
+    (c.in-Ok-write_round.ensures.goes_on Shard workers card format a.hs (subst (λ (n : ℕ). AreHeld Shard workers card format n a.hs (told c.rounds.files) c.rounds.sinks) same a.held)) in
+    let b = awaits_written f keys workers card format ports begun start c.rounds.feed (told c.rounds.files) mid c.rounds.sinks left c.rounds.shards (answered c.rounds.last c.rounds.handled) c.rounds.batch c.rounds.ending a c.write_round.ensures.rests held in
     last_as Stop c.rounds.shards.func c.args.shards.now.func ports c.rounds.feed mid left c.rounds.shards c.rounds.batch c.in-Some.end (told c.last_round.new.files) c.last_round.new.sinks c.last_round.new.shards c.last_round.result inv.same.func
-    c.last_round.ensures.comes keys workers card begun start several alike
-    (subst (λ (e : Option Ending). Awaits f keys workers card ports begun start c.rounds.feed mid left c.rounds.shards [] c.rounds.batch e) c.in-Some.is b)
+    c.last_round.ensures.comes keys workers card format begun start several alike
+    (subst (λ (e : Option Ending). Awaits f keys workers card format ports begun start c.rounds.feed mid left c.rounds.shards [] c.rounds.batch e) c.in-Some.is b)
 
 pub returns-in-Err-write_round-clause-kept : goal.returns-in-Err-write_round-clause-kept
 returns-in-Err-write_round-clause-kept g c =

@@ -1,6 +1,7 @@
 use Rattle.std.proofs.Common.{◌≡◌, ◌<◌, ◌≤◌, ◌-◌, ◌+◌, ℕ, length, map}
 use Rattle.std.specs.List.{AllByRecursion}
 use Rattle.nf_base.specs.declared.card.Card.{Card}
+use Rattle.capture_format.specs.declared.format.CaptureFormat.{CaptureFormat}
 use Rattle.nf_base.specs.declared.keys.Keys.{Keys}
 use Rattle.nf_base.specs.Doors.{six_ports}
 use Rattle.nf_base.specs.Functions.{function_of}
@@ -23,8 +24,8 @@ invariant-rounds g l =
     let f = function_of l.fn.shards.func in
     let ports = length l.captures in
     record {
-      on : (keys : Keys) (workers : ℕ) (card : Card) (begun : Feeding) (start : Told) → 1 < workers → HashAlikeWhereTheyMeet f keys
-          → Reaches f keys workers card ports begun start l.fn.feed (told l.fn.files) l.fn.sinks l.fn.shards → Awaits f keys workers card ports begun start l.feed (told l.files) l.sinks l.shards (answered l.last l.handled) l.batch l.ending;
+      on : (keys : Keys) (workers : ℕ) (card : Card) (format : CaptureFormat) (begun : Feeding) (start : Told) → 1 < workers → HashAlikeWhereTheyMeet f keys
+          → Reaches f keys workers card format ports begun start l.fn.feed (told l.fn.files) l.fn.sinks l.fn.shards → Awaits f keys workers card format ports begun start l.feed (told l.files) l.sinks l.shards (answered l.last l.handled) l.batch l.ending;
       idle : AreIdle l.shards;
       captures : files_in l.feed.sources ≡ l.captures;
       six : sixes_in l.feed.sources ≡ six_ports (function_of l.shards.func);

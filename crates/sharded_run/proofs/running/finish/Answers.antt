@@ -4,7 +4,7 @@ use Rattle.nf_base.specs.Functions.{function_of}
 use Rattle.nf_base.specs.Runs.{RunResult}
 use Rattle.nf_base.specs.declared.state.State.{State}
 use Rattle.sharded_run.specs.Setups.{setup_of}
-use Rattle.sharded_run.specs.Going.{AreSharded}
+use Rattle.stream_run.specs.Rules.{shard_rule, AreBy}
 use Rattle.sharded_run.proofs.Rising.{never_fall}
 use Rattle.sharded_run.proofs.Lined.{one_queue, ran_of, worked_stand}
 use Rattle.sharded_run.proofs.Reached.{none_queued}
@@ -20,4 +20,4 @@ returns c = λ keys workers hs several alike h.
     let fin = c.in_ok-tables.ensures.stands (setup_of f keys workers h.share) h.at h.stands (never_fall 0 h.at.dispatched h.last h.rises) (one_queue f keys workers h.share h.at.dispatched alike h.inputs) in
     let same : fin.ran ≡ ran.ran = same_Some _ _ (sym fin.is ∙ ran.is) in
     let state : c.in_ok-state.state ≡ ran.ran.state = c.in_ok-state.ensures ∙ fin.state ∙ ap (λ (x : RunResult). x.state) same in
-    record { ending_is = refl; packets_is = refl; sharded = subst (λ (s : State). AreSharded f keys workers hs s) (sym state) ran.sharded }
+    record { ending_is = refl; packets_is = refl; sharded = subst (λ (s : State). AreBy (shard_rule keys workers) f hs s) (sym state) ran.sharded }

@@ -15,13 +15,14 @@ loop-k-preserved c =
     let inv = c.loop-k.invariant in
     let pushed : c.push.new.self ≡ now ++ s ∷ [] = c.in_ok-push.ensures.ok in
     let file : s.file ≡ get_or all k 0 = ap (λ (x : Holding). x.file) c.new.ensures in
-    let held : s.held ≡ head c.args.mode c.args.workers c.args.card c.args.ports k = ap (λ (x : Holding). x.held) c.new.ensures ∙ c.in_ok-bytes.ensures in
+    let format : s.format ≡ c.args.format = ap (λ (x : Holding). x.format) c.new.ensures in
+    let held : s.held ≡ head c.args.mode c.args.workers c.args.card c.args.format c.args.ports k = ap (λ (x : Holding). x.held) c.new.ensures ∙ c.in_ok-bytes.ensures in
     let lt : k < length all = omega arith in
     let long : length now ≡ k = omega (arith, ap (λ (t : List ℕ). length t) inv.files, length-map now (λ (x : Holding). x.file), length-take-le k all (omega arith)) in
     record {
       files = ap files_of pushed ∙ map_push (λ (x : Holding). x.file) now s ∙ ap (λ (t : List ℕ). t ++ s.file ∷ []) inv.files ∙ ap (λ (n : ℕ). take k all ++ n ∷ []) file ∙ sym (take_more all k 0 lt);
       heads = λ j x e. elim (got_end now s j x (ap (λ (t : List Holding). slice_get t j) (sym pushed) ∙ e)) [
-        | inl here ↦ subst (λ (t : Holding). t.held ≡ head c.args.mode c.args.workers c.args.card c.args.ports j) here.1 (subst (λ (n : ℕ). s.held ≡ head c.args.mode c.args.workers c.args.card c.args.ports n) (sym (here.0 ∙ long)) held)
+        | inl here ↦ (sym (ap (λ (t : Holding). t.format) here.1) ∙ format, subst (λ (t : Holding). t.held ≡ head c.args.mode c.args.workers c.args.card c.args.format c.args.ports j) here.1 (subst (λ (n : ℕ). s.held ≡ head c.args.mode c.args.workers c.args.card c.args.format c.args.ports n) (sym (here.0 ∙ long)) held))
         | inr there ↦ inv.heads j x there
       ];
     }

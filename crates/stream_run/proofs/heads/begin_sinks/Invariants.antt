@@ -8,5 +8,5 @@ use Rattle.stream_run.proofs.heads.begin_sinks.Given as goal
 abbrev pub invariant-loop-k : goal.invariant-loop-k
 invariant-loop-k l = record {
   files : files_of l.sinks ≡ take l.k l.targets;
-  heads : (k : ℕ) (s : Holding) → slice_get l.sinks k ≡ Some s → s.held ≡ head l.mode l.workers l.card l.ports k;
+  heads : (k : ℕ) (s : Holding) → slice_get l.sinks k ≡ Some s → (s.format ≡ l.format) × (s.held ≡ head l.mode l.workers l.card l.format l.ports k);
 }

@@ -1,10 +1,14 @@
-use Rattle.std.proofs.Common.{◌-◌, length, take, arith}
-use Rattle.stream_run.proofs.Edited.{edited_put}
+use Rattle.std.proofs.Common.{◌≡◌, ◌+◌, length, take, arith}
+use Rattle.std.proofs.lemmas.List.{length-take-le}
+use Rattle.stream_run.proofs.Edited.{packet_put}
 use Rattle.stream_run.proofs.piece.put_edited.Goals as goal
 
 pub returns-clause-put : goal.returns-clause-put
 returns-clause-put c =
-    let end = c.put_record-end.result in
-    let start = end - length c.args.frame.now in
-    edited_put c.args.edits.now (take c.args.at c.args.room.now) c.args.frame.now c.put_record-end.new.room c.edit_handled.new.frame c.args.time c.args.original start end
-    c.put_record-end.ensures.put (omega (arith, c.put_record-end.ensures.end)) (omega (arith, c.put_record-end.ensures.end)) c.edit_handled.ensures.edited c.edit_handled.ensures.long
+    let at = c.args.at in
+    let room = c.args.room.now in
+    let front = take at room in
+    let put = c.put_packet-end.new.room in
+    packet_put c.args.format c.args.time c.args.original c.args.edits.now front c.args.frame.now put c.edit_within.new.bytes (at + c.lead_length.result) c.put_packet-end.result
+    c.put_packet-end.ensures.put (omega (arith, c.put_packet-end.ensures.end)) (omega (arith, length-take-le at room (omega arith), c.lead_length.ensures.value))
+    c.edit_within.ensures.edited c.edit_within.ensures.long

@@ -12,7 +12,7 @@ pub packets-init : goal.packets-init
 packets-init g c =
     let told = g.F.Files.told in
     record {
-      reached = λ card heads. reached_none (function_of c.args.func.now) card (length c.args.func.now.handlers) c.args.feed.now (told c.args.files.now) c.args.sinks.now c.args.tables.now.state c.requires.opens c.requires.new heads;
+      reached = λ card format heads. reached_none (function_of c.args.func.now) card format (length c.args.func.now.handlers) c.args.feed.now (told c.args.files.now) c.args.sinks.now c.args.tables.now.state c.requires.opens c.requires.new heads;
       captures = c.requires.captures;
       six = c.requires.six;
       most = refl;
@@ -26,18 +26,18 @@ packets-init g c =
     }
 
 pub returns-in-Ok-End-clause-comes : goal.returns-in-Ok-End-clause-comes
-returns-in-Ok-End-clause-comes g c = λ card heads.
+returns-in-Ok-End-clause-comes g c = λ card format heads.
     let told = g.F.Files.told in
     let ok = c.in-Ok-End.ensures in
-    ends_all (function_of c.args.func.now) card (length c.args.func.now.handlers) c.args.feed.now (told c.args.files.now) c.packets.feed c.next.new.self (told c.packets.files) (told c.next.new.files) c.packets.sinks c.packets.tables.state (c.packets.invariant.reached card heads)
+    ends_all (function_of c.args.func.now) card format (length c.args.func.now.handlers) c.args.feed.now (told c.args.files.now) c.packets.feed c.next.new.self (told c.packets.files) (told c.next.new.files) c.packets.sinks c.packets.tables.state (c.packets.invariant.reached card format heads)
     (rw c.in-Ok-End.field-0-is at ok.feeds) (rw c.in-Ok-End.field-0-is at ok.counts) c.next.ensures.kept.givens (c.next.ensures.same_files ∙ c.packets.invariant.captures ∙ sym c.requires.captures) (c.next.ensures.same_six ∙ c.packets.invariant.six ∙ sym c.requires.six) (c.next.ensures.same_most ∙ c.packets.invariant.most) (omega (arith, c.packets.invariant.within, c.packets.invariant.most))
 
 pub returns-in-Ok-TooMany-clause-comes : goal.returns-in-Ok-TooMany-clause-comes
-returns-in-Ok-TooMany-clause-comes g c = λ card heads.
+returns-in-Ok-TooMany-clause-comes g c = λ card format heads.
     let told = g.F.Files.told in
     let ok = c.in-Ok-TooMany.ensures in
     let counts = rw c.in-Ok-TooMany.field-0-is at ok.counts in
-    ends_early (function_of c.args.func.now) card (length c.args.func.now.handlers) c.args.feed.now (told c.args.files.now) c.packets.feed c.next.new.self (told c.packets.files) (told c.next.new.files) c.packets.sinks c.packets.tables.state (c.packets.invariant.reached card heads)
+    ends_early (function_of c.args.func.now) card format (length c.args.func.now.handlers) c.args.feed.now (told c.args.files.now) c.packets.feed c.next.new.self (told c.packets.files) (told c.next.new.files) c.packets.sinks c.packets.tables.state (c.packets.invariant.reached card format heads)
     (rw c.in-Ok-TooMany.field-0-is at ok.feeds) counts.0 counts.1 c.next.ensures.same_most c.next.ensures.kept.givens (c.next.ensures.same_files ∙ c.packets.invariant.captures ∙ sym c.requires.captures) (c.next.ensures.same_six ∙ c.packets.invariant.six ∙ sym c.requires.six) (c.next.ensures.same_most ∙ c.packets.invariant.most)
 
 pub handle_one-requires-clause-few : goal.handle_one-requires-clause-few
@@ -56,8 +56,8 @@ packets-preserved g c =
     let ok = c.in-Ok-Packet.ensures in
     let counts = rw c.in-Ok-Packet.field-0-is at ok.counts in
     record {
-      reached = λ card heads. reached_more (function_of c.args.func.now) card (length c.args.func.now.handlers) c.args.feed.now (told c.args.files.now) c.packets.feed c.next.new.self (told c.packets.files) (told c.next.new.files) (told c.handle_one.new.files) c.packets.sinks c.handle_one.new.sinks c.packets.tables.state c.handle_one.new.tables.state
-          c.in-Ok-Packet.packet c.original-original.result c.frame-frame.result.now (inv.reached card heads)
+      reached = λ card format heads. reached_more (function_of c.args.func.now) card format (length c.args.func.now.handlers) c.args.feed.now (told c.args.files.now) c.packets.feed c.next.new.self (told c.packets.files) (told c.next.new.files) (told c.handle_one.new.files) c.packets.sinks c.handle_one.new.sinks c.packets.tables.state c.handle_one.new.tables.state
+          c.in-Ok-Packet.packet c.original-original.result c.frame-frame.result.now (inv.reached card format heads)
           (rw c.in-Ok-Packet.field-0-is at ok.feeds) c.original-original.ensures c.frame-frame.ensures counts.0 c.next.ensures.kept.givens c.handle_one.ensures.kept.rests c.in-Ok.ensures.handles;
       captures = c.next.ensures.same_files ∙ inv.captures;
       six = c.next.ensures.same_six ∙ inv.six;
@@ -72,20 +72,20 @@ packets-preserved g c =
     }
 
 pub returns-in-Err-handle_one-clause-comes : goal.returns-in-Err-handle_one-clause-comes
-returns-in-Err-handle_one-clause-comes g c = λ card heads.
+returns-in-Err-handle_one-clause-comes g c = λ card format heads.
     let told = g.F.Files.told in
     let inv = c.packets.invariant in
     let ok = c.in-Ok-Packet.ensures in
     let counts = rw c.in-Ok-Packet.field-0-is at ok.counts in
-    halts_writing (function_of c.args.func.now) card (length c.args.func.now.handlers) c.args.feed.now (told c.args.files.now) c.packets.feed c.next.new.self (told c.packets.files) (told c.next.new.files) (told c.handle_one.new.files) c.packets.sinks c.handle_one.new.sinks c.packets.tables.state c.handle_one.new.tables.state
-    c.in-Ok-Packet.packet c.original-original.result c.frame-frame.result.now c.in-Err-handle_one.stop (inv.reached card heads)
+    halts_writing (function_of c.args.func.now) card format (length c.args.func.now.handlers) c.args.feed.now (told c.args.files.now) c.packets.feed c.next.new.self (told c.packets.files) (told c.next.new.files) (told c.handle_one.new.files) c.packets.sinks c.handle_one.new.sinks c.packets.tables.state c.handle_one.new.tables.state
+    c.in-Ok-Packet.packet c.original-original.result c.frame-frame.result.now c.in-Err-handle_one.stop (inv.reached card format heads)
     (rw c.in-Ok-Packet.field-0-is at ok.feeds) c.original-original.ensures c.frame-frame.ensures (c.next.ensures.same_files ∙ inv.captures ∙ sym c.requires.captures) (c.next.ensures.same_six ∙ inv.six ∙ sym c.requires.six) (omega (arith, counts.1, inv.most)) c.next.ensures.kept.givens c.in-Err-handle_one.ensures.handles
 
 pub returns-in-Err-clause-comes : goal.returns-in-Err-clause-comes
-returns-in-Err-clause-comes g c = λ card heads.
+returns-in-Err-clause-comes g c = λ card format heads.
     let told = g.F.Files.told in
     let inv = c.packets.invariant in
-    halts_reading (function_of c.args.func.now) card (length c.args.func.now.handlers) c.args.feed.now (told c.args.files.now) c.packets.feed (told c.packets.files) (told c.next.new.files) c.packets.sinks c.packets.tables.state (inv.reached card heads)
+    halts_reading (function_of c.args.func.now) card format (length c.args.func.now.handlers) c.args.feed.now (told c.args.files.now) c.packets.feed (told c.packets.files) (told c.next.new.files) c.packets.sinks c.packets.tables.state (inv.reached card format heads)
     (inv.captures ∙ sym c.requires.captures) (inv.six ∙ sym c.requires.six) (omega (arith, inv.within, inv.most)) c.next.ensures.kept.givens
 
 pub returns-in-Ok-End-clause-kept : goal.returns-in-Ok-End-clause-kept

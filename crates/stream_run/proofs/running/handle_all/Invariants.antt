@@ -1,5 +1,6 @@
 use Rattle.std.proofs.Common.{◌≡◌, ◌-◌, ◌≤◌, ℕ, [], length}
 use Rattle.nf_base.specs.declared.card.Card.{Card}
+use Rattle.capture_format.specs.declared.format.CaptureFormat.{CaptureFormat}
 use Rattle.nf_base.specs.Doors.{six_ports}
 use Rattle.nf_base.specs.Functions.{function_of}
 use Rattle.nf_engine.specs.View.{fixed_of}
@@ -14,7 +15,7 @@ abbrev pub invariant-packets : goal.invariant-packets
 invariant-packets g l =
     let told = g.F.Files.told in
     record {
-      reached : (card : Card) → AreHeld One 1 card (length l.func.handlers) [] (told l.fn.files) l.fn.sinks → Reaches (function_of l.func) card (length l.func.handlers) l.fn.feed (told l.fn.files) l.feed (told l.files) l.sinks l.tables.state;
+      reached : (card : Card) → (format : CaptureFormat) → AreHeld One 1 card format (length l.func.handlers) [] (told l.fn.files) l.fn.sinks → Reaches (function_of l.func) card format (length l.func.handlers) l.fn.feed (told l.fn.files) l.feed (told l.files) l.sinks l.tables.state;
       captures : files_in l.feed.sources ≡ l.captures;
       six : sixes_in l.feed.sources ≡ six_ports (function_of l.func);
       most : l.feed.most ≡ l.fn.feed.most;

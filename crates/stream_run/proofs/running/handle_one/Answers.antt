@@ -30,5 +30,5 @@ returns-clause-handles g c =
     record {
       done = done;
       steps = steps_with (function_of c.args.func.now) c.args.tables.now.state c.handle_kept-action.new.tables.state c.args.packet.now c.handle_kept-action.result left.edits c.edits.result.now left.picks c.picks.result.now c.edits.ensures c.picks.ensures c.handle_kept-action.ensures.steps;
-      goes_on = λ card hs. subst (λ (n : ℕ). AreHeld One 1 card n hs (told c.args.files.now) c.args.sinks.now → AllGoOn One 1 card n (hs ++ h ∷ []) (told c.put_parts.new.files) c.put_parts.new.sinks c.put_parts.result) (c.len.ensures.value ∙ ap (λ (f : Func). length f.handlers) c.func.ensures) (c.put_parts.ensures.goes_on One 1 card hs);
+      goes_on = λ card format hs. subst (λ (n : ℕ). AreHeld One 1 card format n hs (told c.args.files.now) c.args.sinks.now → AllGoOn One 1 card format n (hs ++ h ∷ []) (told c.put_parts.new.files) c.put_parts.new.sinks c.put_parts.result) (c.len.ensures.value ∙ ap (λ (f : Func). length f.handlers) c.func.ensures) (c.put_parts.ensures.goes_on One 1 card format hs);
     }

@@ -5,7 +5,7 @@ use Rattle.packet_feed.specs.Told.{IsApart}
 use Rattle.packet_feed.proofs.Gathering.{map_kept}
 use Rattle.stream_run.specs.Texts.{bytes_of}
 use Rattle.stream_run.specs.Writing.{Holding, files_of}
-use Rattle.stream_run.proofs.Held.{file_at, same_length, partly_more, partly_fronts, all_partly, same_bytes, kept_more, stops_here, empty_more}
+use Rattle.stream_run.proofs.Held.{file_at, same_length, partly_more, partly_fronts, all_partly, none_partly, same_bytes, kept_none, kept_more, stops_here, empty_more}
 use Rattle.stream_run.proofs.sinks.flush_all.Goals as goal
 
 pub flush-requires : goal.flush-requires
@@ -22,7 +22,7 @@ flush-requires g c =
     record { created = inv.writes s.file (c.requires.created k s.file file) }
 
 pub returns-in-Err-clause-goes_on : goal.returns-in-Err-clause-goes_on
-returns-in-Err-clause-goes_on g c = λ mode workers card ports hs held j f q.
+returns-in-Err-clause-goes_on g c = λ mode workers card format ports hs held j f q.
     let told = g.F.Files.told in
     let now = c.loop-k.sinks in
     let k = c.loop-k.k in
@@ -33,7 +33,7 @@ returns-in-Err-clause-goes_on g c = λ mode workers card ports hs held j f q.
     let file = sym (ap (λ (fs : List ℕ). slice_get fs k) inv.same_files) ∙ file_at now k s at in
     let apart = subst (λ (fs : List ℕ). IsApart fs) (sym inv.same_files) c.requires.apart in
     let same = map_kept (λ (x : Holding). x.file) now k s c.flush.new.self at c.flush.ensures.same_file in
-    partly_fronts (λ j. bytes_of mode workers card ports j hs) (λ j. bytes_of mode workers card ports j hs) now k s (told c.loop-k.files) (told c.flush.new.files) apart at c.flush.ensures.kept (λ j. same_bytes (bytes_of mode workers card ports j hs)) (λ x. c.in-Err.ensures.goes_on (bytes_of mode workers card ports k hs) x) (inv.partly mode workers card ports hs held) j f (ap (λ (fs : List ℕ). slice_get fs j) (sym same) ∙ q)
+    partly_fronts format (λ j. bytes_of mode workers card format ports j hs) (λ j. bytes_of mode workers card format ports j hs) now k s (told c.loop-k.files) (told c.flush.new.files) apart at c.flush.ensures.kept (λ j. same_bytes (bytes_of mode workers card format ports j hs)) (λ x. c.in-Err.ensures.goes_on (bytes_of mode workers card format ports k hs) x) (inv.partly mode workers card format ports hs held) j f (ap (λ (fs : List ℕ). slice_get fs j) (sym same) ∙ q)
 
 pub returns-in-Err-clause-same_files : goal.returns-in-Err-clause-same_files
 returns-in-Err-clause-same_files g c =
@@ -61,6 +61,19 @@ returns-in-Err-clause-kept g c =
     let apart = subst (λ (fs : List ℕ). IsApart fs) (sym inv.same_files) c.requires.apart in
     kept_more (files_of c.args.sinks.now) k s.file (told c.args.files.now) (told c.loop-k.files) (told c.flush.new.files) file inv.kept c.flush.ensures.kept
 
+pub loop-k-init : goal.loop-k-init
+loop-k-init g c =
+    let now = g.F.Files.told c.args.files.now in
+    record {
+      partly = λ mode workers card format ports hs held. none_partly format (λ j. bytes_of mode workers card format ports j hs) (λ j. bytes_of mode workers card format ports j hs) c.args.sinks.now now held;
+      empty = λ j s lt e. absurd (omega (arith, lt));
+      same_files = refl;
+      kept = kept_none (files_of c.args.sinks.now) now;
+      reads = λ n r. r;
+      writes = λ n r. r;
+      count = refl;
+    }
+
 pub loop-k-preserved : goal.loop-k-preserved
 loop-k-preserved g c =
     let told = g.F.Files.told in
@@ -73,7 +86,7 @@ loop-k-preserved g c =
     let file = sym (ap (λ (fs : List ℕ). slice_get fs k) inv.same_files) ∙ file_at now k s at in
     let apart = subst (λ (fs : List ℕ). IsApart fs) (sym inv.same_files) c.requires.apart in
     record {
-      partly = λ mode workers card ports hs held. partly_more (λ j. bytes_of mode workers card ports j hs) (λ j. bytes_of mode workers card ports j hs) now k s c.flush.new.self (told c.loop-k.files) (told c.flush.new.files) apart at c.flush.ensures.same_file c.flush.ensures.kept (λ x. c.in-Ok.ensures.goes_on (bytes_of mode workers card ports k hs) x) (inv.partly mode workers card ports hs held);
+      partly = λ mode workers card format ports hs held. partly_more format (λ j. bytes_of mode workers card format ports j hs) (λ j. bytes_of mode workers card format ports j hs) now k s c.flush.new.self (told c.loop-k.files) (told c.flush.new.files) apart at c.flush.ensures.same_file c.flush.ensures.same_format c.flush.ensures.kept (λ x. c.in-Ok.ensures.goes_on (bytes_of mode workers card format ports k hs) x) (inv.partly mode workers card format ports hs held);
       empty = empty_more now k c.flush.new.self c.in-Ok.ensures.empty inv.empty;
       same_files = map_kept (λ (x : Holding). x.file) now k s c.flush.new.self at c.flush.ensures.same_file ∙ inv.same_files;
       kept = kept_more (files_of c.args.sinks.now) k s.file (told c.args.files.now) (told c.loop-k.files) (told c.flush.new.files) file inv.kept c.flush.ensures.kept;
@@ -83,8 +96,8 @@ loop-k-preserved g c =
     }
 
 pub returns-clause-goes_on : goal.returns-clause-goes_on
-returns-clause-goes_on g c = λ mode workers card ports hs held.
-    all_partly (λ j. bytes_of mode workers card ports j hs) (λ j. bytes_of mode workers card ports j hs) c.loop-k.sinks c.loop-k.k (g.F.Files.told c.loop-k.files) (omega (arith, c.len-k-end.ensures, c.loop-k-test.false, same_length c.loop-k.sinks c.args.sinks.now c.loop-k.invariant.same_files)) (c.loop-k.invariant.partly mode workers card ports hs held)
+returns-clause-goes_on g c = λ mode workers card format ports hs held.
+    all_partly format (λ j. bytes_of mode workers card format ports j hs) (λ j. bytes_of mode workers card format ports j hs) c.loop-k.sinks c.loop-k.k (g.F.Files.told c.loop-k.files) (omega (arith, c.len-k-end.ensures, c.loop-k-test.false, same_length c.loop-k.sinks c.args.sinks.now c.loop-k.invariant.same_files)) (c.loop-k.invariant.partly mode workers card format ports hs held)
 
 pub returns-clause-empty : goal.returns-clause-empty
 returns-clause-empty g c = λ k s e.

@@ -8,7 +8,7 @@ use Rattle.stream_run.proofs.Grown.{none_grown, grown_more, all_grown, sent_if, 
 use Rattle.stream_run.proofs.sinks.hold_each.Goals as goal
 
 pub loop-k-init : goal.loop-k-init
-loop-k-init c = record { grown = none_grown (sent_in c.args.ports c.args.handled.now) c.args.sinks.now 0 (λ j lt. absurd (omega arith)); same_files = refl }
+loop-k-init c = record { grown = none_grown (sent_in c.args.ports c.args.handled.now) c.args.sinks.now 0 (λ j format lt. absurd (omega arith)); same_files = refl }
 
 pub loop-k-preserved : goal.loop-k-preserved
 loop-k-preserved c =
@@ -21,9 +21,9 @@ loop-k-preserved c =
     let lt : k < length now = omega (arith, c.loop-k-test.true, same_length now c.args.sinks.now inv.same_files) in
     let in_ports : k < ports = omega (arith, c.loop-k-test.true) in
     let at = slice_get_read now (length now) k s refl lt c.item_mut-sink.ensures.value in
-    let put : c.hold_sent.new.self.held ≡ s.held ++ sent_in ports h k = c.in-Ok.ensures.held ∙ ap (λ (t : List ℕ). s.held ++ t) (sym (sent_if ports h k in_ports)) in
+    let put : c.hold_sent.new.self.held ≡ s.held ++ sent_in ports h k s.format = c.in-Ok.ensures.held ∙ ap (λ (t : List ℕ). s.held ++ t) (sym (sent_if ports h k s.format in_ports)) in
     record {
-      grown = grown_more (sent_in ports h) c.args.sinks.now now k s c.hold_sent.new.self at c.hold_sent.ensures.same_file put inv.grown;
+      grown = grown_more (sent_in ports h) c.args.sinks.now now k s c.hold_sent.new.self at c.hold_sent.ensures.same_file c.hold_sent.ensures.same_format put inv.grown;
       same_files = map_kept (λ (x : Holding). x.file) now k s c.hold_sent.new.self at c.hold_sent.ensures.same_file ∙ inv.same_files;
     }
 
@@ -44,5 +44,5 @@ returns-clause-ok c =
     let now = c.loop-k.sinks in
     let inv = c.loop-k.invariant in
     all_grown (sent_in c.args.ports c.args.handled.now) c.args.sinks.now now c.loop-k.k
-    (λ j le lt. sent_past c.args.ports c.args.handled.now j (omega (arith, c.loop-k-test.false, le, lt, same_length now c.args.sinks.now inv.same_files)))
+    (λ j format le lt. sent_past c.args.ports c.args.handled.now j format (omega (arith, c.loop-k-test.false, le, lt, same_length now c.args.sinks.now inv.same_files)))
     inv.grown

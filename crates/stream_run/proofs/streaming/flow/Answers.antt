@@ -9,15 +9,15 @@ use Rattle.stream_run.proofs.Complete.{empty_told, finishes}
 use Rattle.stream_run.proofs.streaming.flow.Goals as goal
 
 pub returns-in-Ok-flush_all-clause-flows : goal.returns-in-Ok-flush_all-clause-flows
-returns-in-Ok-flush_all-clause-flows g c = λ card heads.
+returns-in-Ok-flush_all-clause-flows g c = λ card format heads.
     let told = g.F.Files.told in
     let f = function_of c.args.func.now in
     let ports = length c.args.func.now.handlers in
-    let h = c.in-Ok.ensures.comes card heads in
-    let held = c.in-Ok-flush_all.ensures.goes_on One 1 card ports h.reached.hs h.reached.held in
+    let h = c.in-Ok.ensures.comes card format heads in
+    let held = c.in-Ok-flush_all.ensures.goes_on One 1 card format ports h.reached.hs h.reached.held in
     let same = c.flush_all.ensures.same_files ∙ c.handle_all.ensures.same_files in
-    finishes f card ports c.args.feed.now (told c.args.files.now) c.handle_all.new.feed (told c.handle_all.new.files) c.handle_all.new.sinks c.handle_all.new.tables.state c.in-Ok.ending (told c.flush_all.new.files) (files_of c.args.sinks.now) h
-    (λ k file e. empty_told One 1 card ports (told c.flush_all.new.files) c.flush_all.new.sinks h.reached.hs held c.in-Ok-flush_all.ensures.empty k file (ap (λ (fs : List ℕ). slice_get fs k) same ∙ e))
+    finishes f card format ports c.args.feed.now (told c.args.files.now) c.handle_all.new.feed (told c.handle_all.new.files) c.handle_all.new.sinks c.handle_all.new.tables.state c.in-Ok.ending (told c.flush_all.new.files) (files_of c.args.sinks.now) h
+    (λ k file e. empty_told One 1 card format ports (told c.flush_all.new.files) c.flush_all.new.sinks h.reached.hs held c.in-Ok-flush_all.ensures.empty k file (ap (λ (fs : List ℕ). slice_get fs k) same ∙ e))
 
 pub returns-in-Ok-flush_all-clause-kept : goal.returns-in-Ok-flush_all-clause-kept
 returns-in-Ok-flush_all-clause-kept g c =

@@ -20,18 +20,18 @@ returns-in-Err-clause-runs g c =
     let told = g.F.Files.told in
     let f = function_of c.args.func.now in
     let ports = ap (λ (t : List ℕ). length t) c.requires.captures ∙ c.requires.ports in
-    cut_short_at f c.args.card (length c.args.func.now.handlers) c.args.feed.now (told c.args.files.now) (told c.args.files.now) c.args.targets.now (counted c.args.func.now) ports c.requires.six
-    (halts_none f c.args.card (length c.args.func.now.handlers) c.args.feed.now (told c.args.files.now) c.args.targets.now c.requires.empty)
+    cut_short_at f c.args.card c.args.format (length c.args.func.now.handlers) c.args.feed.now (told c.args.files.now) (told c.args.files.now) c.args.targets.now (counted c.args.func.now) ports c.requires.six
+    (halts_none f c.args.card c.args.format (length c.args.func.now.handlers) c.args.feed.now (told c.args.files.now) c.args.targets.now c.requires.empty)
 
 pub returns-clause-runs : goal.returns-clause-runs
 returns-clause-runs g c =
     let told = g.F.Files.told in
     let f = function_of c.args.func.now in
     let ports = ap (λ (t : List ℕ). length t) c.requires.captures ∙ c.requires.ports in
-    let heads = heads_held One 1 c.args.card (length c.args.func.now.handlers) (told c.args.files.now) c.in-Ok.sinks c.args.targets.now c.in-Ok.ensures.files
-    (λ k s e. c.in-Ok.ensures.heads k s e ∙ ap₂ (λ (w m : ℕ). head One w c.args.card m k) c.new.ensures c.len-ports.ensures.value) c.requires.empty in
-    is_run_at f c.args.card (length c.args.func.now.handlers) c.args.feed.now (told c.args.files.now) c.stream.new.feed (told c.stream.new.files) c.args.targets.now c.stream.result (counted c.args.func.now) ports c.requires.six
-    (subst (λ (fs : List ℕ). Streams f c.args.card (length c.args.func.now.handlers) c.args.feed.now (told c.args.files.now) c.stream.new.feed (told c.stream.new.files) fs c.stream.result) c.in-Ok.ensures.files (c.stream.ensures.streams c.args.card heads))
+    let heads = heads_held One 1 c.args.card c.args.format (length c.args.func.now.handlers) (told c.args.files.now) c.in-Ok.sinks c.args.targets.now c.in-Ok.ensures.files
+    (λ k s e. let begun = c.in-Ok.ensures.heads k s e in (begun.0, begun.1 ∙ ap₂ (λ (w m : ℕ). head One w c.args.card c.args.format m k) c.new-workers.ensures c.len-ports.ensures.value)) c.requires.empty in
+    is_run_at f c.args.card c.args.format (length c.args.func.now.handlers) c.args.feed.now (told c.args.files.now) c.stream.new.feed (told c.stream.new.files) c.args.targets.now c.stream.result (counted c.args.func.now) ports c.requires.six
+    (subst (λ (fs : List ℕ). Streams f c.args.card c.args.format (length c.args.func.now.handlers) c.args.feed.now (told c.args.files.now) c.stream.new.feed (told c.stream.new.files) fs c.stream.result) c.in-Ok.ensures.files (c.stream.ensures.streams c.args.card c.args.format heads))
 
 pub returns-in-Err-clause-kept : goal.returns-in-Err-clause-kept
 returns-in-Err-clause-kept g c = but_none c.args.targets.now (g.F.Files.told c.args.files.now)

@@ -9,13 +9,13 @@ pub returns-in-Ok-clause-leaves : goal.returns-in-Ok-clause-leaves
 returns-in-Ok-clause-leaves g c =
     let told = g.F.Files.told in
     let all = asked_for c.args.asked.now (length c.args.func.now.handlers) in
-    whole_one c.args.asked.now.card ⊥ (function_of c.args.func.now) (six_ports (function_of c.args.func.now)) c.args.captures.now c.args.feed.now (told c.args.files.now) all c.run.new.feed (told c.run.new.files) c.args.targets.now c.in-Ok.ran c.requires.started c.in-Ok.ensures.runs
+    whole_one c.args.asked.now.card c.args.asked.now.format ⊥ (function_of c.args.func.now) (six_ports (function_of c.args.func.now)) c.args.captures.now c.args.feed.now (told c.args.files.now) all c.run.new.feed (told c.run.new.files) c.args.targets.now c.in-Ok.ran c.requires.started c.in-Ok.ensures.runs
 
 pub returns-in-Err-clause-leaves : goal.returns-in-Err-clause-leaves
 returns-in-Err-clause-leaves g c =
     let told = g.F.Files.told in
     let all = asked_for c.args.asked.now (length c.args.func.now.handlers) in
-    cut_one c.args.asked.now.card ⊥ (function_of c.args.func.now) (six_ports (function_of c.args.func.now)) c.args.captures.now c.args.feed.now (told c.args.files.now) all (told c.run.new.files) c.args.targets.now c.requires.started c.in-Err.ensures.runs
+    cut_one c.args.asked.now.card c.args.asked.now.format ⊥ (function_of c.args.func.now) (six_ports (function_of c.args.func.now)) c.args.captures.now c.args.feed.now (told c.args.files.now) all (told c.run.new.files) c.args.targets.now c.requires.started c.in-Err.ensures.runs
 
 pub run-requires-clause-captures : goal.run-requires-clause-captures
 run-requires-clause-captures g c = c.requires.started.files

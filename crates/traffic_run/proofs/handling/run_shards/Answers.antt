@@ -10,20 +10,20 @@ returns-in-Ok-Ran-clause-leaves g c =
     let told = g.F.Files.told in
     let all = asked_for c.args.asked.now (length c.args.func.now.handlers) in
     let came = rw c.in-Ok-Ran.field-0-is at c.in-Ok-Ran.ensures.runs in
-    whole_shards c.args.asked.now.card ⊥ (function_of c.args.func.now) c.args.keys.now c.args.workers (six_ports (function_of c.args.func.now)) c.args.captures.now c.args.feed.now (told c.args.files.now) all c.run.new.feed (told c.run.new.files) c.args.targets.now c.in-Ok-Ran.ran c.requires.started came
+    whole_shards c.args.asked.now.card c.args.asked.now.format ⊥ (function_of c.args.func.now) c.args.keys.now c.args.workers (six_ports (function_of c.args.func.now)) c.args.captures.now c.args.feed.now (told c.args.files.now) all c.run.new.feed (told c.run.new.files) c.args.targets.now c.in-Ok-Ran.ran c.requires.started came
 
 pub returns-in-Ok-Full-clause-leaves : goal.returns-in-Ok-Full-clause-leaves
 returns-in-Ok-Full-clause-leaves g c =
     let told = g.F.Files.told in
     let all = asked_for c.args.asked.now (length c.args.func.now.handlers) in
     let came = rw c.in-Ok-Full.field-0-is at c.in-Ok-Full.ensures.runs in
-    full_shards (function_of c.args.func.now) c.args.keys.now c.args.workers c.args.asked.now.card (six_ports (function_of c.args.func.now)) c.args.captures.now c.args.feed.now (told c.args.files.now) all (told c.run.new.files) c.args.targets.now c.in-Ok-Full.full c.requires.started came
+    full_shards (function_of c.args.func.now) c.args.keys.now c.args.workers c.args.asked.now.card c.args.asked.now.format (six_ports (function_of c.args.func.now)) c.args.captures.now c.args.feed.now (told c.args.files.now) all (told c.run.new.files) c.args.targets.now c.in-Ok-Full.full c.requires.started came
 
 pub returns-in-Err-clause-leaves : goal.returns-in-Err-clause-leaves
 returns-in-Err-clause-leaves g c =
     let told = g.F.Files.told in
     let all = asked_for c.args.asked.now (length c.args.func.now.handlers) in
-    cut_shards c.args.asked.now.card ⊥ (function_of c.args.func.now) c.args.keys.now c.args.workers (six_ports (function_of c.args.func.now)) c.args.captures.now c.args.feed.now (told c.args.files.now) all (told c.run.new.files) c.args.targets.now c.requires.started c.in-Err.ensures.runs
+    cut_shards c.args.asked.now.card c.args.asked.now.format ⊥ (function_of c.args.func.now) c.args.keys.now c.args.workers (six_ports (function_of c.args.func.now)) c.args.captures.now c.args.feed.now (told c.args.files.now) all (told c.run.new.files) c.args.targets.now c.requires.started c.in-Err.ensures.runs
 
 pub run-requires-clause-captures : goal.run-requires-clause-captures
 run-requires-clause-captures g c = λ κs lives. c.requires.started.files

@@ -11,14 +11,14 @@ returns-in-Ok-clause-leaves g c =
     let told = g.F.Files.told in
     let all = asked_for c.args.asked.now (length c.args.func.now.handlers) in
     let Refused = Rose (g.G.Gate.refused c.args.gate.now) (g.G.Gate.refused c.run.new.gate) in
-    whole_sharing c.args.asked.now.card Refused (function_of c.args.func.now) c.args.workers (six_ports (function_of c.args.func.now)) c.args.captures.now c.args.feed.now (told c.args.files.now) all c.run.new.feed (told c.run.new.files) c.args.targets.now c.in-Ok.came c.requires.started c.in-Ok.ensures.runs
+    whole_sharing c.args.asked.now.card c.args.asked.now.format Refused (function_of c.args.func.now) c.args.workers (six_ports (function_of c.args.func.now)) c.args.captures.now c.args.feed.now (told c.args.files.now) all c.run.new.feed (told c.run.new.files) c.args.targets.now c.in-Ok.came c.requires.started c.in-Ok.ensures.runs
 
 pub returns-in-Err-clause-leaves : goal.returns-in-Err-clause-leaves
 returns-in-Err-clause-leaves g c =
     let told = g.F.Files.told in
     let all = asked_for c.args.asked.now (length c.args.func.now.handlers) in
     let Refused = Rose (g.G.Gate.refused c.args.gate.now) (g.G.Gate.refused c.run.new.gate) in
-    cut_sharing c.args.asked.now.card Refused (function_of c.args.func.now) c.args.workers (six_ports (function_of c.args.func.now)) c.args.captures.now c.args.feed.now (told c.args.files.now) all (told c.run.new.files) c.args.targets.now c.requires.started c.in-Err.ensures.runs
+    cut_sharing c.args.asked.now.card c.args.asked.now.format Refused (function_of c.args.func.now) c.args.workers (six_ports (function_of c.args.func.now)) c.args.captures.now c.args.feed.now (told c.args.files.now) all (told c.run.new.files) c.args.targets.now c.requires.started c.in-Err.ensures.runs
 
 pub run-requires-clause-captures : goal.run-requires-clause-captures
 run-requires-clause-captures g c = λ κs lives. c.requires.started.files

@@ -4,4 +4,4 @@ use Rattle.packet_feed.proofs.source.Source.give.Goals as goal
 
 pub returns-clause-packet : goal.returns-clause-packet
 unfolding arrival_of
-returns-clause-packet c = rw (c.served.ensures, c.fields_of.ensures, c.as_slice.ensures.value, ← c.self.view_is) refl
+returns-clause-packet c = rw (c.served.ensures, c.fields.ensures, ← c.self.view_is) refl

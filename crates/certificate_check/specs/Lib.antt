@@ -1,0 +1,4 @@
+pub mod Adding
+pub mod Tasks
+pub mod Checking
+pub mod Naming

@@ -1,0 +1,14 @@
+pub mod Ranges
+pub mod Named
+pub mod Judged
+pub mod Ends
+pub mod Read
+pub mod Spans
+pub mod Checked
+pub mod AtPorts
+pub mod Behind
+pub mod Numbers
+pub mod Lists
+pub mod Right
+pub mod Told
+pub mod Showing

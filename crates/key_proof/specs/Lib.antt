@@ -1,0 +1,6 @@
+pub mod Sites
+pub mod Rows
+pub mod Judging
+pub mod Faults
+pub mod Reading
+pub mod Shown

@@ -1,0 +1,140 @@
+//! A capture that is read from its file, one packet after the other, whatever its format.
+ghost use Rattle.std.specs.Prelude.{◌≡◌, ◌≤◌, ℕ, true, Some, IfOk, IfErr, option_map};
+ghost use Rattle.nf_files.specs.Told.{Told};
+ghost use Rattle.nf_files.specs.Reads.{Keeps};
+ghost use Rattle.pcap_file.specs.Held.{IsBegun};
+ghost use Rattle.pcap_file.specs.Causes.{IsCause, IsNoHeaderFault};
+ghost use Rattle.pcap_file.specs.Reading.{left_in};
+ghost use Rattle.pcapng_file.specs.Heard.{stream_of};
+ghost use Rattle.packet_feed.specs.Captures.{next_of, file_in, is_pcap, left_of, records_left, Heads, IsHeaded, IsKind, Moves, Steps, TakesRecord};
+
+use nf_files::Files;
+use pcap_file::{CapFault, Front, Reader};
+use pcapng_file::{Next, NgReader, is_pcapng};
+use std::alloc::Global;
+
+/// A capture that is read from its file, one packet after the other.
+#[derive(Drop)]
+pub(crate) enum Captured {
+    /// In the libpcap file format.
+    Pcap(Reader),
+    /// In the pcapng format.
+    Pcapng(NgReader),
+}
+
+// What the next record of a libpcap capture is.
+fn next_of(next: pcap_file::Next) -> Next
+    ensures { result ≡ next_of next }
+{
+    match next {
+        pcap_file::Next::Frame(head) => Next::Frame(head),
+        pcap_file::Next::End => Next::End,
+        pcap_file::Next::Torn(offset) => Next::Torn(offset),
+    }
+}
+
+// The next record of a libpcap capture.
+fn next_record<F: Files>(
+    reader: &mut Reader,
+    files: &mut F,
+    frame: &mut Vec<u8>,
+) -> Result<Next, CapFault>
+    requires opened { F.is_read files.old reader.old.file }
+    ensures steps { let file = reader.old.file in
+        let before = records_left reader.old ((F.told files.old).rest file) in
+        let after = records_left reader.new ((F.told files.new).rest file) in
+        Steps before after frame.new.items result }
+    ensures moves { Moves frame.old.items frame.new.items result }
+    // No byte behind the record is taken.
+    ensures takes { let file = reader.old.file in
+        TakesRecord ((F.told files.old).rest file) ((F.told files.new).rest file)
+        frame.new.items result }
+    ensures same_file { reader.new.file ≡ reader.old.file }
+    ensures kept { Keeps (F.told files.old) (F.told files.new) reader.old.file }
+    ensures cause { let file = reader.old.file in
+        IsCause (F.counted files.old) (F.counted files.new) file result }
+    ensures never { IsNoHeaderFault result }
+    ensures reads { (g : ℕ) → F.is_read files.old g → F.is_read files.new g }
+    ensures writes { (g : ℕ) → F.is_written files.old g → F.is_written files.new g }
+{
+    let next = reader.next(files, frame)?;
+    Ok(next_of(next))
+}
+
+impl Captured {
+    /// Reads the header of a capture, 24 bytes, of a file of which nothing was read yet.
+    pub(crate) fn header<F: Files>(
+        alloc: Global,
+        files: &mut F,
+        file: u32,
+    ) -> Result<Captured, CapFault>
+        requires opened { F.is_read files.old file }
+        ensures heads { let before = (F.told files.old).rest file in
+            Heads before ((F.told files.new).rest file) result }
+        ensures headed { let before = (F.told files.old).rest file in
+            IfOk result (IsHeaded file before ((F.told files.new).rest file)) }
+        ensures kept { Keeps (F.told files.old) (F.told files.new) file }
+        ensures cause { IsCause (F.counted files.old) (F.counted files.new) file result }
+        ensures reads { (g : ℕ) → F.is_read files.old g → F.is_read files.new g }
+        ensures writes { (g : ℕ) → F.is_written files.old g → F.is_written files.new g }
+    {
+        match Front::begin(alloc, files, file) {
+            Err(fault) => Err(fault),
+            Ok(front) => Captured::of(alloc, front),
+        }
+    }
+
+    // A capture whose file was begun: its first four bytes tell its format.
+    fn of(alloc: Global, front: Front) -> Result<Captured, CapFault>
+        ensures heads { (before now : Told) → IsBegun front.file front before now →
+            Heads (before.rest front.file) (now.rest front.file) result }
+        ensures kind { (before now : Told) → IsBegun front.file front before now →
+            IfOk result (IsKind (before.rest front.file)) }
+        ensures file { IfOk result (λ captured. file_in captured ≡ front.file) }
+        ensures err { IfErr result (λ fault. fault ≡ CapFault.NotCapture) }
+    {
+        if is_pcapng(front.as_slice()) {
+            match NgReader::of(alloc, front) {
+                Err(fault) => Err(fault),
+                Ok(reader) => Ok(Captured::Pcapng(reader)),
+            }
+        } else {
+            match Reader::of(front) {
+                Err(fault) => Err(fault),
+                Ok(reader) => Ok(Captured::Pcap(reader)),
+            }
+        }
+    }
+
+    /// The next packet: its head, and its captured bytes in `frame`.
+    ///
+    /// After an `Err` this capture may have moved, and no call is to be made on it.
+    pub(crate) fn next<F: Files>(
+        &mut self,
+        files: &mut F,
+        frame: &mut Vec<u8>,
+    ) -> Result<Next, CapFault>
+        requires opened { F.is_read files.old (file_in self.old) }
+        ensures steps { let file = file_in self.old in
+            let before = left_of self.old ((F.told files.old).rest file) in
+            Steps before (left_of self.new ((F.told files.new).rest file)) frame.new.items result }
+        ensures moves { Moves frame.old.items frame.new.items result }
+        // Of a libpcap capture no byte behind the record is taken.
+        ensures takes { let file = file_in self.old in is_pcap self.old ≡ true →
+            TakesRecord ((F.told files.old).rest file) ((F.told files.new).rest file)
+            frame.new.items result }
+        ensures same_file { file_in self.new ≡ file_in self.old }
+        ensures same_kind { is_pcap self.new ≡ is_pcap self.old }
+        ensures kept { Keeps (F.told files.old) (F.told files.new) (file_in self.old) }
+        ensures cause { let file = file_in self.old in
+            IsCause (F.counted files.old) (F.counted files.new) file result }
+        ensures never { IsNoHeaderFault result }
+        ensures reads { (g : ℕ) → F.is_read files.old g → F.is_read files.new g }
+        ensures writes { (g : ℕ) → F.is_written files.old g → F.is_written files.new g }
+    {
+        match self {
+            Captured::Pcap(reader) => next_record(reader, files, frame),
+            Captured::Pcapng(reader) => reader.next(files, frame),
+        }
+    }
+}

@@ -1,0 +1,12 @@
+pub mod Rows
+pub mod Limits
+pub mod Streaming
+pub mod Again
+pub mod Captures
+pub mod Options
+pub mod Fronts
+pub mod Packets
+pub mod Taking
+pub mod Hearing
+pub mod Stepping
+pub mod Heading

@@ -1,0 +1,12 @@
+pub mod Heard
+pub mod Options
+pub mod Blocks
+pub mod Captures
+pub mod Written
+pub mod Rows
+pub mod Limits
+pub mod Laws
+pub mod Walked
+pub mod Taking
+pub mod Places
+pub mod Reading

@@ -1,0 +1,10 @@
+pub mod Packing
+pub mod Handling
+pub mod Ends
+pub mod InOrder
+pub mod Playing
+pub mod Lined
+pub mod Answering
+pub mod Crossing
+pub mod Telling
+pub mod Laning

@@ -1,0 +1,6 @@
+use Rattle.ring_line.specs.Shops.{Given, AtWork}
+use Rattle.ring_line.proofs.shop.Shop.work.Given as goal
+
+-- it is still at work
+abbrev pub invariant-loop : goal.invariant-loop
+invariant-loop g l = (given : Given) → AtWork given l.fn.self.ends l.fn.self.desk → AtWork given l.shop.ends l.shop.desk

@@ -1,0 +1,82 @@
+-- What a lane stands for.
+use Rattle.std.specs.Prelude.{◌≡◌, ◌≤◌, ◌+◌, ℕ, List, [], ◌∷◌, ◌++◌, length, map, drop, Option, Some, None, All}
+use Rattle.rtrb.specs.Ring as ring
+use Rattle.nf_base.specs.declared.func.Func.{Func}
+use Rattle.nf_base.specs.declared.packet.Packet.{Packet}
+use Rattle.nf_base.specs.declared.share.Share.{Share}
+use Rattle.nf_base.specs.Functions.{function_of}
+use Rattle.nf_base.specs.Step.{opening}
+use Rattle.vig_tables.specs.TablesState.{TablesState, opened_tables}
+use Rattle.shard_machine.specs.declared.event.Answer.{Answer}
+use Rattle.ring_line.specs.declared.halt.Halt.{Halt}
+use Rattle.ring_line.specs.declared.lane.Lane.{Lane}
+use Rattle.ring_line.specs.declared.lane.Next as next
+use Rattle.ring_line.specs.declared.lane.Next.TheVariants.{Answered, Halted, Nothing}
+use Rattle.ring_line.specs.Packs.{Packed, packets_in, answers_in, answers_of}
+use Rattle.ring_line.specs.Handled.{CanServe, CameTo}
+use Rattle.ring_line.specs.Desks.{Seated}
+use Rattle.ring_line.specs.Shops.{Given, as_work, given_by}
+
+-- a worker was given tables of a share of a function that have handled nothing
+pub record AreOpened (given : Given) (func : Func) (share : Share) : Type 0 where
+  pub func_is : given.func ≡ func
+  pub tables_are : given.tables ≡ opened_tables (function_of func) share
+
+-- a pack is the last of those that came back; where none did, its share hasn't ended
+abbrev pub IsLast : List Packed → Packed → Type 0
+IsLast [] pack = pack.halt ≡ None
+IsLast (first ∷ []) pack = first ≡ pack
+IsLast (first ∷ second ∷ packs) pack = IsLast (second ∷ packs) pack
+
+-- A lane stands for these packets, which were sent to a worker with opened tables, and for these
+-- answers, which were collected: the packets stand in the packs that were pushed and in the one
+-- that is being filled, and behind the answers come those of the last pack that weren't collected.
+pub record StandsFor (lane : Lane) (func : Func) (share : Share) (packets : List Packet)
+    (answers : List Answer) : Type 0 where
+  pub opened : AreOpened (given_by lane.child.promise) func share
+  pub served : All (CanServe func) packets
+  pub packs : List Packed
+  pub pushed : ring.sent lane.to ≡ map as_work packs
+  pub packets_are : packets ≡ packets_in packs ++ lane.filling.packets
+  pub answers_are :
+      answers_in (ring.received lane.back) ≡ answers ++ drop lane.at (answers_of lane.current)
+  pub last : IsLast (ring.received lane.back) lane.current
+
+-- the lane has come to the share's end
+abbrev pub HasHalted : Lane → Halt → Type 0
+HasHalted lane halt = (length lane.current.answers ≤ lane.at) × (lane.current.halt ≡ Some halt)
+
+-- what comes next is collected, or the lane stays as it is
+abbrev pub Gives :
+    next.Next → Lane → Func → Share → List Packet → List Answer → Type 0
+Gives (Answered answer) lane func share packets answers =
+    StandsFor lane func share packets (answers ++ answer ∷ [])
+Gives (Halted halt) lane func share packets answers =
+    StandsFor lane func share packets answers × HasHalted lane halt
+Gives Nothing lane func share packets answers = StandsFor lane func share packets answers
+
+-- What a lane comes to once its worker is joined: the worker handled the packets that were sent, in
+-- order, all of them or those before its share's end, and what was collected are the first of its
+-- answers; all of them, where the lane had come to that end.
+pub record Finishes (lane : Lane) (func : Func) (share : Share) (packets : List Packet)
+    (answers : List Answer) (tables : TablesState) : Type 0 where
+  pub decls : tables.decls ≡ func.chains
+  pub share_is : tables.share ≡ share
+  pub more : List Answer
+  pub halt : Option Halt
+  pub came :
+      CameTo (function_of func) share (opening (function_of func)) packets (answers ++ more) halt
+      tables.state
+  pub halted : (at : Halt) → HasHalted lane at → (halt ≡ Some at) × (more ≡ [])
+
+-- and how many are in flight then
+abbrev pub AfterNext : next.Next → ℕ → ℕ → Type 0
+AfterNext (Answered answer) old new = old ≡ new + 1
+AfterNext (Halted halt) old new = new ≡ old
+AfterNext Nothing old new = new ≡ old
+
+-- a lane of a worker that was given a desk, to which nothing was sent
+abbrev pub StartsWith : Lane → Seated → Type 0
+StartsWith lane desk =
+    (share : Share) → desk.tables ≡ opened_tables (function_of desk.func) share →
+    StandsFor lane desk.func share [] []

@@ -1,0 +1,220 @@
+//! A worker is started.
+ghost use Rattle.std.specs.Prelude.{◌≡◌, ◌<◌, ◌≤◌, [], None, IfOk};
+ghost use Rattle.rtrb.specs.Ring.{sent, received, IsPair};
+ghost use Rattle.nf_base.specs.Functions.{function_of};
+ghost use Rattle.vig_tables.specs.TablesState.{opened_tables};
+ghost use Rattle.ring_line.specs.Packs.{empty_pack};
+ghost use Rattle.ring_line.specs.Lanes.{StandsFor, StartsWith};
+ghost use Rattle.ring_line.specs.Starts.{IsGiven, AreEnds};
+
+use super::Lane;
+use crate::desk::Desk;
+use crate::item::Item;
+use crate::keeps::{Ended, Ends, Keeps};
+use crate::pack::{IN_FLIGHT, Pack};
+use crate::shop::Shop;
+use nf_base::func::Func;
+use nf_base::share::Share;
+use rtrb::{Consumer, Producer, RingBuffer};
+use std::alloc::{AllocError, Global};
+use std::snapshot::Snapshot;
+use std::sync::{Arc, Wait};
+use std::thread;
+use std::thread::{Parker, PromisedHandle, Threads};
+use vig_tables::Tables;
+use worker_turns::Turns;
+
+/// The ends of two rings, for whoever sends and collects and for a worker.
+#[derive(Drop)]
+pub struct Rings {
+    pub to: Producer<Item>,
+    pub back: Consumer<Pack>,
+    pub ends: Ends,
+}
+
+/// Two rings with a place for each pack: as many as packets are in flight, one that is filled, and
+/// one whose answers are collected; and for the end of work.
+fn new_rings(alloc: Global) -> Result<Rings, AllocError>
+    ensures { IfOk result (λ rings. AreEnds rings) }
+{
+    let (to, from) = RingBuffer::new(alloc, IN_FLIGHT + 3)?;
+    let (answers, back) = RingBuffer::new(alloc, IN_FLIGHT + 3)?;
+    let ends = Ends { from, to: answers };
+    Ok(Rings { to, back, ends })
+}
+
+/// Starts a worker's thread.
+fn started<
+    R: Threads + Wait + Clone + Send + Drop + 'static,
+    G: Turns + Send + Sync + Drop + 'static,
+>(rt: &R, shop: Shop<G>) -> Result<PromisedHandle<Ended, Keeps>, AllocError>
+    requires received { received shop.ends.from ≡ [] }
+    requires sent { sent shop.ends.to ≡ [] }
+    requires running { shop.desk.halt ≡ None }
+    ensures { IfOk result (λ child. IsGiven child.promise shop.ends shop.desk) }
+{
+    let handle = rt.clone()?;
+    let keeps = Keeps {
+        ends: Snapshot::of(&shop.ends),
+        func: Snapshot::of(shop.desk.func()),
+        tables: Snapshot::of(shop.desk.tables()),
+    };
+    let child = thread::spawn_with(rt, keeps, move || shop.run(&handle))?;
+    Ok(child)
+}
+
+/// The packs of a lane.
+#[derive(Drop)]
+struct Stock {
+    filling: Pack,
+    current: Pack,
+    spares: Vec<Pack>,
+}
+
+/// Empty packs, as many as packets may be in flight.
+fn new_packs(alloc: Global) -> Result<Vec<Pack>, AllocError> {
+    let mut packs = Vec::with_capacity(alloc, IN_FLIGHT)?;
+    for _ in 0..IN_FLIGHT {
+        match add_pack(alloc, &mut packs) {
+            Ok(()) => {}
+            Err(fault) => return Err(fault),
+        }
+    }
+    Ok(packs)
+}
+
+fn add_pack(alloc: Global, packs: &mut Vec<Pack>) -> Result<(), AllocError> {
+    let pack = Pack::new(alloc)?;
+    packs.push(pack)?;
+    Ok(())
+}
+
+/// Those packs, and two more.
+fn new_stock(alloc: Global) -> Result<Stock, AllocError>
+    ensures filling { IfOk result (λ stock. stock.filling ≡ empty_pack) }
+    ensures current { IfOk result (λ stock. stock.current ≡ empty_pack) }
+{
+    let filling = Pack::new(alloc)?;
+    let current = Pack::new(alloc)?;
+    let spares = new_packs(alloc)?;
+    Ok(Stock {
+        filling,
+        current,
+        spares,
+    })
+}
+
+/// A worker's bell, and that of whoever collects: each side has both.
+#[derive(Drop)]
+struct Bells {
+    bell: Arc<Parker>,
+    own_bell: Arc<Parker>,
+    bell_there: Arc<Parker>,
+    own_bell_there: Arc<Parker>,
+}
+
+fn new_bells(alloc: Global, own_bell: &Arc<Parker>) -> Result<Bells, AllocError> {
+    let bell = Arc::new(alloc, Parker::new())?;
+    let bell_there = Arc::try_clone(&bell)?;
+    Ok(Bells {
+        bell,
+        own_bell: Arc::try_clone(own_bell)?,
+        bell_there,
+        own_bell_there: Arc::try_clone(own_bell)?,
+    })
+}
+
+/// A desk with opened tables.
+fn new_desk<G: Turns + Drop>(
+    alloc: Global,
+    func: Func,
+    share: Share,
+    turns: &Arc<G>,
+) -> Result<Desk<G>, AllocError>
+    ensures func { IfOk result (λ desk. desk.func ≡ func) }
+    ensures tables { IfOk result (λ desk. desk.tables ≡ opened_tables (function_of func) share) }
+    ensures halt { IfOk result (λ desk. desk.halt ≡ None) }
+{
+    let tables = Tables::new(alloc, &func, share)?;
+    let turns = Arc::try_clone(turns)?;
+    Ok(Desk::new(func, tables, share.queue, turns))
+}
+
+impl Lane {
+    /// Starts a worker of a share, whose tables are opened here. A pack is pushed once it has so many
+    /// packets, 64 at most, or when all are flushed.
+    ///
+    /// The bell is rung whenever a pack comes back.
+    pub fn start<
+        R: Threads + Wait + Clone + Send + Drop + 'static,
+        G: Turns + Send + Sync + Drop + 'static,
+    >(
+        rt: &R,
+        alloc: Global,
+        func: Func,
+        share: Share,
+        size: usize,
+        turns: &Arc<G>,
+        own_bell: &Arc<Parker>,
+    ) -> Result<Lane, AllocError>
+        ensures stands { IfOk result (λ lane. StandsFor lane func share [] []) }
+        ensures none { IfOk result (λ lane. lane.in_flight ≡ 0) }
+    {
+        let desk = new_desk(alloc, func, share, turns)?;
+        let stock = new_stock(alloc)?;
+        let bells = new_bells(alloc, own_bell)?;
+        Lane::begin(rt, alloc, desk, stock, bells, size)
+    }
+
+    /// Starts a worker's thread with its desk.
+    fn begin<
+        R: Threads + Wait + Clone + Send + Drop + 'static,
+        G: Turns + Send + Sync + Drop + 'static,
+    >(
+        rt: &R,
+        alloc: Global,
+        desk: Desk<G>,
+        stock: Stock,
+        bells: Bells,
+        size: usize,
+    ) -> Result<Lane, AllocError>
+        requires filling { stock.filling ≡ empty_pack }
+        requires current { stock.current ≡ empty_pack }
+        requires running { desk.halt ≡ None }
+        ensures stands { IfOk result (λ lane. StartsWith lane desk) }
+        ensures none { IfOk result (λ lane. lane.in_flight ≡ 0) }
+    {
+        let Bells {
+            bell,
+            own_bell,
+            bell_there,
+            own_bell_there,
+        } = bells;
+        let Rings { to, back, ends } = new_rings(alloc)?;
+        let shop = Shop {
+            ends,
+            desk,
+            bell: bell_there,
+            other: own_bell_there,
+        };
+        let child = started(rt, shop)?;
+        let Stock {
+            filling,
+            current,
+            spares,
+        } = stock;
+        Ok(Lane {
+            to,
+            back,
+            child,
+            bell,
+            own_bell,
+            filling,
+            current,
+            at: 0,
+            spares,
+            in_flight: 0,
+            size,
+        })
+    }
+}

@@ -1,0 +1,20 @@
+//! Lasting workers behind rings: each has tables of its own share in a thread of its own, packets go
+//! out to it in packs, and its answers come back in the order in which the packets were sent.
+#![tactic(auto)]
+
+mod bell;
+mod desk;
+mod halt;
+mod item;
+mod keeps;
+mod lane;
+pub mod laws;
+mod pack;
+pub mod rows;
+mod shop;
+
+pub use desk::Desk;
+pub use halt::Halt;
+pub use lane::{Lane, Next};
+pub use shard_machine::Answer;
+pub use worker_turns::{Idle, Turns};

@@ -1,0 +1,100 @@
+//! What a worker does in its thread: it answers packs until the end of work comes.
+ghost use Rattle.std.specs.Prelude.{◌≡◌, Bool, None, List, [], ◌∷◌, ◌++◌};
+ghost use Rattle.rtrb.specs.Ring.{sent, received, SameConsumer, SameProducer};
+ghost use Rattle.ring_line.specs.Packs.{Packed};
+ghost use Rattle.ring_line.specs.Shops.{Given, Told, AtWork, AtEnd, AtItem, Returned, begun};
+
+use crate::bell::{give, take};
+use crate::desk::Desk;
+use crate::item::Item;
+use crate::keeps::{Ended, Ends};
+use crate::pack::Pack;
+use std::sync::{Arc, Wait};
+use std::thread::Parker;
+use worker_turns::Turns;
+
+/// A desk between its two rings.
+#[derive(Drop)]
+pub struct Shop<G> {
+    pub ends: Ends,
+    pub desk: Desk<G>,
+    /// Rung when something comes.
+    pub bell: Arc<Parker>,
+    /// To be rung when something went back.
+    pub other: Arc<Parker>,
+}
+
+impl<G: Turns + Drop> Shop<G> {
+    /// Answers a pack and sends it back; one that comes behind the share's end is let go.
+    fn serve<R: Wait>(&mut self, rt: &R, pack: Pack)
+        ensures from { self.new.ends.from ≡ self.old.ends.from }
+        ensures to { SameProducer self.old.ends.to self.new.ends.to }
+        ensures func { self.new.desk.func ≡ self.old.desk.func }
+        ensures told { (given : Given) → (packs : List Packed) →
+            Told given packs (sent self.old.ends.to) self.old.desk →
+            Told given (packs ++ pack ∷ []) (sent self.new.ends.to) self.new.desk }
+    {
+        match self.desk.halt() {
+            Some(_) => {}
+            None => {
+                let mut pack = pack;
+                self.desk.answer(&mut pack);
+                give(rt, &mut self.ends.to, pack, &*self.other);
+            }
+        }
+    }
+
+    /// Waits for what comes next, and tells whether it was not the end of work.
+    pub fn step<R: Wait>(&mut self, rt: &R) -> bool
+        ensures { (given : Given) → AtWork given self.old.ends self.old.desk →
+            AtItem result given self.new.ends self.new.desk }
+    {
+        match take(rt, &mut self.ends.from, &*self.bell) {
+            Item::Work(pack) => {
+                self.serve(rt, pack);
+                true
+            }
+            Item::End => false,
+        }
+    }
+
+    fn close(self) -> Ended
+        ensures { (given : Given) → AtEnd given self.ends self.desk → Returned given result }
+    {
+        let Shop {
+            ends,
+            desk,
+            bell: _,
+            other: _,
+        } = self;
+        let halt = desk.halt();
+        Ended {
+            ends,
+            tables: desk.into_tables(),
+            halt,
+        }
+    }
+
+    /// Answers each pack, until the end of work comes.
+    pub fn work<R: Wait>(self, rt: &R) -> Ended
+        ensures { (given : Given) → AtWork given self.ends self.desk → Returned given result }
+    {
+        let mut shop = self;
+        for _ in rt.forever() {
+            if !shop.step(rt) {
+                return shop.close();
+            }
+        }
+        unreachable!()
+    }
+
+    /// The same from the beginning on.
+    pub fn run<R: Wait>(self, rt: &R) -> Ended
+        requires received { received self.ends.from ≡ [] }
+        requires sent { sent self.ends.to ≡ [] }
+        requires running { self.desk.halt ≡ None }
+        ensures { Returned (begun self.ends self.desk) result }
+    {
+        self.work(rt)
+    }
+}
