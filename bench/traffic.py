@@ -16,6 +16,10 @@ LIFETIME = 60_000_000_000
 HEADER = struct.pack("<IHHIIII", 0xA1B23C4D, 2, 4, 0, 0, 262144, 1)
 HEADER_SIZE = len(HEADER)
 RECORD = struct.Struct("<IIII")
+# The same of pcapng (draft-ietf-opsawg-pcapng): a section's header, and an interface.
+PCAPNG_HEADER = struct.pack("<IIIHHqI", 0x0A0D0D0A, 28, 0x1A2B3C4D, 1, 0, -1, 28) + struct.pack(
+    "<IIHHIHHBxxxHHI", 1, 32, 1, 0, 262144, 9, 1, 9, 0, 0, 32)
+BLOCK = struct.Struct("<IIIIIII")
 # As in the "simple Internet mix", of 12 frames 7 small ones, 4 of middle size and a large one, in bytes.
 MIX = (64, 570, 64, 64, 570, 64, 1500, 64, 570, 64, 570, 64)
 # Six small frames, three of middle size and three large ones: 565 bytes on the mean.
@@ -99,3 +103,16 @@ class Traffic:
                     frames[flow, size] = frame
                 out.write(RECORD.pack(time // 10**9, time % 10**9, len(frame), size) + frame)
                 time += step
+
+
+def as_pcapng(capture, made):
+    """Writes a capture's packets as pcapng: one section of one Ethernet interface that counts nanoseconds."""
+    with open(capture, "rb", 1 << 20) as source, open(made, "wb", 1 << 20) as file:
+        source.seek(HEADER_SIZE)
+        file.write(PCAPNG_HEADER)
+        while record := source.read(RECORD.size):
+            seconds, fraction, captured, size = RECORD.unpack(record)
+            time, padding = seconds * 10**9 + fraction, -captured % 4
+            total = 32 + captured + padding
+            file.write(BLOCK.pack(6, total, 0, time >> 32, time & 0xFFFFFFFF, captured, size))
+            file.write(source.read(captured) + bytes(padding) + struct.pack("<I", total))

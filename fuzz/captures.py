@@ -1,6 +1,9 @@
 """Captures and frames, as docs/FORMATS.md has them: records and fields read, edits and outputs written."""
 import struct
 from dataclasses import dataclass
+from typing import Callable
+
+import pcapng
 
 # The order of bytes and the nanoseconds of a fraction's unit, by a capture's first bytes.
 FORMS = {
@@ -16,14 +19,31 @@ ETHERNET, IPV4, IPV6, TCP, UDP = 1, 0x0800, 0x86DD, 6, 17
 
 @dataclass
 class Record:
-    """A record of a capture: its packet's time, the original length and the captured bytes."""
+    """A packet of a capture: its time, the original length, the captured bytes, and whether these are an Ethernet frame."""
     time: int
     length: int
     frame: bytes
+    is_ethernet: bool = True
 
 
 def records_of(data):
-    """The whole records of a capture, and the byte at which it is torn or None. None where it is no capture."""
+    """The packets of a capture of either kind, and the byte at which it is torn or None. None where it is none."""
+    return records_of_pcapng(data) if data[:4] == pcapng.FIRST else records_of_pcap(data)
+
+
+def records_of_pcapng(data):
+    """The packets of a pcapng capture. One without a time of its own comes at that of the packet before."""
+    read, latest, records = pcapng.heard_in(data), 0, []
+    if read is None:
+        return None
+    for it in read[0]:
+        latest = max(latest, min(it.time or 0, LATEST))
+        records.append(Record(latest, it.length, it.frame, it.link == ETHERNET))
+    return records, read[1]
+
+
+def records_of_pcap(data):
+    """The whole records of a pcap capture."""
     form = FORMS.get(data[:4])
     if len(data) < 24 or form is None:
         return None
@@ -48,6 +68,18 @@ def output_record(time, length, frame):
     return struct.pack("<4I", time // 10**9, time % 10**9, len(frame), length) + frame
 
 
+@dataclass(frozen=True)
+class Format:
+    """A kind of output: how its names end, its header, and the record of a time, a length and a frame."""
+    end: str
+    header: bytes
+    record: Callable
+
+
+PCAP = Format("pcap", OUTPUT_HEADER, output_record)
+PCAPNG = Format("pcapng", pcapng.OUTPUT_HEADER, pcapng.output_block)
+
+
 def is_six(frame):
     """Whether a handled frame is one of IPv6."""
     return frame[12:14] == IPV6.to_bytes(2, "big")
@@ -63,6 +95,8 @@ def fields_of(record):
     """The fields of a packet that may be handled, None for one that is skipped: IPv4 in Ethernet, no fragment, or IPv6
     without extension headers, with the first 20 bytes of TCP (RFC 9293 section 3.1) or 8 of UDP (RFC 768)."""
     frame = record.frame
+    if not record.is_ethernet:
+        return None
 
     def number(at, size):
         return int.from_bytes(frame[at:at + size], "big")

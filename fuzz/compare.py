@@ -2,7 +2,9 @@
 import subprocess
 from dataclasses import dataclass, field
 
+import formats
 from analysis import analysed
+from captures import PCAP, Format
 from faults import first_fault
 from interpreter import IllegalChoice
 from keys import USUAL, Card
@@ -16,13 +18,14 @@ LIMIT = 60
 @dataclass
 class Case:
     """A text's bytes, the captures of its ports, how many packets may be handled, and whether paths are counted before
-    a run; the network card, and the options that tell of it."""
+    a run; the network card, the options that tell of it, and the format of the outputs."""
     text: bytes
     captures: list
     most: int = MOST_PACKETS
     counts_paths: bool = False
     card: Card = USUAL
     card_words: list = field(default_factory=list)
+    format: Format = PCAP
 
 
 def run(program, folder, case, options=()):
@@ -32,7 +35,7 @@ def run(program, folder, case, options=()):
     inputs = {"x.nf": case.text, **{f"in.{port}.pcap": data for port, data in enumerate(case.captures)}}
     for name, data in inputs.items():
         (folder / name).write_bytes(data)
-    words = [program, "run", *inputs, "--max-packets", str(case.most), *case.card_words, *options]
+    words = [program, "run", *inputs, "--max-packets", str(case.most), *case.card_words, *formats.words(case.format), *options]
     words.insert(3, "out")
     try:
         took = subprocess.run(words, cwd=folder, stdin=subprocess.DEVNULL, capture_output=True, timeout=LIMIT)
@@ -50,7 +53,7 @@ def wanted(case, got, events):
     if fault:
         return refused(fault)
     journal = got.files.get(".journal", b"")
-    return expected(read(case.text), case.captures, journal, case.most, events, OneWorker(case.card))
+    return expected(read(case.text), case.captures, journal, case.most, events, OneWorker(case.card, case.format))
 
 
 def differences(got, want):

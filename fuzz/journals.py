@@ -2,7 +2,7 @@
 from collections import Counter
 from dataclasses import dataclass
 
-from captures import OUTPUT_HEADER, edited, fields_of, output_record, records_of
+from captures import PCAP, Format, edited, fields_of, records_of
 from interpreter import Handling, State
 from keys import CARDS, hash_of
 from runs import MOST_PACKETS, capture_order, first_line, receivers
@@ -48,10 +48,11 @@ class Sharing(Worker):
 
 @dataclass
 class Made:
-    """What a run leaves: its journal's lines, its outputs and its state, and where it stopped: a chain's name, a
-    queue, a port and a number, or None."""
+    """What a run leaves: its journal's lines, its outputs, their format and its state, and where it stopped: a chain's
+    name, a queue, a port and a number, or None."""
     lines: list
     outputs: list
+    format: Format
     state: State
     stop: tuple = None
 
@@ -75,7 +76,7 @@ def interleaved(packets, random):
     return found
 
 
-def made(found, captures, mode, workers, random, most=MOST_PACKETS, events=None, pick=any_free, state=None):
+def made(found, captures, mode, workers, random, most=MOST_PACKETS, events=None, pick=any_free, state=None, format=PCAP):
     """A run of an analysed function in a mode, over the first packets of captures, from its opening state, for the card
     of the analysis. In mode `lock` any order may come."""
     function, events = found.function, Counter() if events is None else events
@@ -83,8 +84,8 @@ def made(found, captures, mode, workers, random, most=MOST_PACKETS, events=None,
     packets = capture_order([records_of(data)[0] for data in captures])[:most]
     if mode == "lock":
         packets = interleaved(packets, random)
-    sent_at = [bytearray(OUTPUT_HEADER) for _ in range(function.ports)]
-    run = Made([first_line(mode, workers, found.card).encode()], sent_at, state)
+    sent_at = [bytearray(format.header) for _ in range(function.ports)]
+    run = Made([first_line(mode, workers, found.card).encode()], sent_at, format, state)
     for port, number, record in packets:
         fields, action, edits, indices = function.seen(port, fields_of(record)), "skip", {}, []
         worker = port % workers if mode == "lock" else 0
@@ -104,7 +105,7 @@ def made(found, captures, mode, workers, random, most=MOST_PACKETS, events=None,
         run.lines.append(f"{port} {number} {worker} {action} {told}".encode())
         sent = edited(record.frame, edits) if edits else record.frame
         for receiver in receivers(action, port, function.ports):
-            sent_at[receiver] += output_record(record.time, record.length, sent)
+            sent_at[receiver] += format.record(record.time, record.length, sent)
     run.outputs = list(map(bytes, sent_at))
     return run
 

@@ -1,6 +1,7 @@
 """Random captures: few hosts and ports, so that keys are met again, and times that stand still, step or jump."""
 import struct
 
+import blocks
 from captures import IPV6, LATEST, LONGEST_FRAME, TCP, UDP, put_checksum
 
 HOSTS = [bytes((10, 0, 0, host)) for host in range(4)]
@@ -99,8 +100,19 @@ def record(random, order, unit, time, captured):
 
 
 def capture(random, opening, longest=60):
-    """A capture of one of the four forms, of less records than the longest has. Few go back in time, few are torn, and
-    very few are none."""
+    """A capture of either kind, of less packets than the longest has. Few go back in time, few are torn, and very few
+    are none."""
+    if random.random() < 0.35:
+        times, time = [], opening
+        for _ in range(random.randrange(longest)):
+            time += random.choice(STEPS)
+            times.append(max(0, time - random.choice(STEPS)) if random.random() < 0.05 else time)
+        return blocks.capture(random, times, frame)
+    return pcap(random, opening, longest)
+
+
+def pcap(random, opening, longest):
+    """A pcap capture of one of its four forms."""
     order, unit, time = random.choice("<>"), random.choice((1, 1, 1, 1, 1000)), opening
     link = random.randrange(2**16) << 16 | 1
     data = struct.pack(f"{order}IHHiIII", MAGIC[unit], 2, 4, 0, 0, random.choice((0, 262144)), link)

@@ -4,7 +4,7 @@ from collections import Counter
 from dataclasses import dataclass
 
 from analysis import analysed
-from captures import OUTPUT_HEADER, edited, fields_of, output_record, records_of
+from captures import PCAP, edited, fields_of, records_of
 from interpreter import IllegalChoice, State, handle
 from keys import USUAL, Card, hash_of
 from runs import MOST_PACKETS, Result, capture_order, receivers, refused
@@ -78,12 +78,12 @@ class Replay:
     """The undivided run over a journal's packets, with the journal's choices. `course` is the journal's first line. The
     keys are those of the analysed function for the card that stands there, where it has some."""
 
-    def __init__(self, found, captures, course, events=None):
-        function = found.function
+    def __init__(self, found, captures, course, events=None, format=PCAP):
+        function, self.format = found.function, format
         self.function, self.keys, self.course = function, found.on(course.card).keys, course
         self.events = Counter() if events is None else events
         self.state = State(function)
-        self.outputs = [bytearray(OUTPUT_HEADER) for _ in range(function.ports)]
+        self.outputs = [bytearray(format.header) for _ in range(function.ports)]
         records = [records_of(data)[0] for data in captures]
         order = [(port, number) for port, number, _ in capture_order(records)]
         self.records, self.order, self.taken = records, order, [0] * function.ports
@@ -126,7 +126,7 @@ class Replay:
         self.taken[line.port] += 1
         sent = edited(record.frame, edits) if edits else record.frame
         for receiver in receivers(action, line.port, self.function.ports):
-            self.outputs[receiver] += output_record(record.time, record.length, sent)
+            self.outputs[receiver] += self.format.record(record.time, record.length, sent)
 
     def handled(self, line, fields):
         """The action and the edits of a packet that isn't skipped."""
@@ -151,7 +151,7 @@ def differs_at(where):
     return Result(10, err=f"maestro: replay differs at {where}\n".encode())
 
 
-def judged(text, captures, journal, outputs, most=MOST_PACKETS, events=None):
+def judged(text, captures, journal, outputs, most=MOST_PACKETS, events=None, format=PCAP):
     """The result of `replay`. What is None is a file that isn't there, whose opening fails."""
     if text is None:
         return file_fault("nf")
@@ -169,10 +169,10 @@ def judged(text, captures, journal, outputs, most=MOST_PACKETS, events=None):
         return file_fault("journal")
     if None in outputs:
         return file_fault(f"output {outputs.index(None)}")
-    return answer(found, captures, journal, outputs, most, events)
+    return answer(found, captures, journal, outputs, most, events, format)
 
 
-def answer(found, captures, journal, outputs, most, events):
+def answer(found, captures, journal, outputs, most, events, format):
     """What is answered once all files are open."""
     replay = None
     for number, (text, ended) in enumerate(lines_in(journal), 1):
@@ -180,7 +180,7 @@ def answer(found, captures, journal, outputs, most, events):
             return Result(7, err=f"maestro: more than {most} packets\n".encode())
         if number == 1:
             course = header_of(text) if ended else None
-            replay = Replay(found, captures, course, events) if course else None
+            replay = Replay(found, captures, course, events, format) if course else None
             if replay is None or course.mode == "shard" and replay.keys is None:
                 return differs_at("line 1")
             continue

@@ -3,7 +3,7 @@ import re
 from collections import Counter
 from dataclasses import dataclass, field
 
-from captures import OUTPUT_HEADER, edited, fields_of, output_record, records_of
+from captures import PCAP, edited, fields_of, records_of
 from interpreter import IllegalChoice, State, handle
 from keys import USUAL
 from tree import is_six
@@ -38,8 +38,8 @@ class OneWorker:
     """A run by one worker."""
     mode, workers = "one", 1
 
-    def __init__(self, card=USUAL):
-        self.card = card
+    def __init__(self, card=USUAL, format=PCAP):
+        self.card, self.format = card, format
 
     def worker(self, port, fields):
         """Who handles a packet with these fields, None where it is skipped."""
@@ -95,7 +95,7 @@ def expected(function, captures, journal, most=MOST_PACKETS, events=None, course
         return Result(4, err=f"maestro: capture {read.index(None)} has no pcap header\n".encode())
     packets = capture_order([records for records, _ in read])
     state, choices = State(function), Choices(journal)
-    lines, outputs = [first_line(course.mode, course.workers, course.card)], [OUTPUT_HEADER] * function.ports
+    lines, outputs = [first_line(course.mode, course.workers, course.card)], [course.format.header] * function.ports
     before = None
     for position, (port, number, record) in enumerate(packets[:most]):
         fields, told, edits = function.seen(port, fields_of(record)), [], {}
@@ -120,15 +120,15 @@ def expected(function, captures, journal, most=MOST_PACKETS, events=None, course
         lines.append(f"{port} {number} {worker} {action} {','.join(map(str, told)) or '-'}")
         sent = edited(record.frame, edits) if edits else record.frame
         for receiver in receivers(action, port, function.ports):
-            outputs[receiver] += output_record(record.time, record.length, sent)
-    files = written(outputs, lines)
+            outputs[receiver] += course.format.record(record.time, record.length, sent)
+    files = written(course.format, outputs, lines)
     files[".state"] = state.text().encode()
     return ended(packets, most, [torn for _, torn in read], files, course)
 
 
-def written(outputs, lines):
+def written(format, outputs, lines):
     """The outputs and the journal, by what stands behind OUT."""
-    files = {f".{port}.pcap": output for port, output in enumerate(outputs)}
+    files = {f".{port}.{format.end}": output for port, output in enumerate(outputs)}
     files[".journal"] = "".join(f"{line}\n" for line in lines).encode()
     return files
 
@@ -138,7 +138,7 @@ def stopped(handled, course, why, port, number, outputs, lines):
     chain, queue = why
     said = f"maestro: share full: chain {chain}, queue {queue}, packet {port} {number}\n"
     ran = f"ran {handled} {course.mode} {course.workers}\n"
-    return Result(6, ran.encode(), said.encode(), written(outputs, lines))
+    return Result(6, ran.encode(), said.encode(), written(course.format, outputs, lines))
 
 
 def ended(packets, most, tears, files, course):
