@@ -59,6 +59,10 @@ def command_lines():
     return [
         (["run", "a b.nf", "o u t", "c d.pcap"], 0, "ran 0 one 1\n", "", ""),
         (["run", "--workers", "1", "a b.nf", "o u t", "--max-packets=5", "--", "c d.pcap"], 0, "ran 0 one 1\n", "", ""),
+        (["run", "a b.nf", "o u t", "--pcapng", "c d.pcap"], 0, "ran 0 one 1\n", "", ""),
+        (["run", "--pcapng", "a b.nf", "o u t", "c d.pcap", "--pcapng"], *bad("--pcapng stands twice")),
+        (["run", "--pcapng=true", "a b.nf", "o u t", "c d.pcap"], *bad("--pcapng has no value")),
+        (["check", "a b.nf", "--pcapng"], *bad("--pcapng is no option of check, which has none")),
         (["run", "--workers", "16", "--mode", "shard", "a b.nf", "o u t", "c d.pcap"], 0, "ran 0 shard 16\n", "", ""),
         (["run", "--mode", "shard", "a b.nf", "o u t", "c d.pcap"], 0, "ran 0 one 1\n", "", ""),
         (["run", "--mode", "one", "a b.nf", "o u t", "c d.pcap"], *bad("--mode is auto, shard or lock, not one")),
@@ -135,7 +139,7 @@ def made_up(no_file):
         (["gen", "a b.nf", "o", "0", "4", "0"], *bad("FLOWS is 1 to 65536, not 0")),
         (["gen", "a b.nf", "o", "0", "4", "65537"], *bad("FLOWS is 1 to 65536, not 65537")),
         (["gen", "a b.nf", "o", "00", "4", "1"], *bad("SEED is 0 to 4294967295, not 00")),
-        (["gen", "a b.nf", "o", "0", "4", "1", "--max-packets", "4"], *bad("--max-packets is no option of gen; it has --workers --mode --table --key-bytes")),
+        (["gen", "a b.nf", "o", "0", "4", "1", "--max-packets", "4"], *bad("--max-packets is no option of gen; it has --workers --mode --table --key-bytes --pcapng")),
     ]
 
 
@@ -193,7 +197,7 @@ def replays(no_file):
         (["replay", "a b.nf", "none.journal", "no", "torn.pcap"], 3, "", "file fault: output 0", f"output 0 is no.0.pcap{no_file}"),
         (["replay", "a b.nf", "none.journal", "none"], *bad("replay takes NF JOURNAL OUT CAPTURE..: 3 names given")),
         (["replay", "a b.nf", "none.journal", "none", "torn.pcap", "torn.pcap"], *bad("a b.nf has 1 port, and takes as many captures: 2 given")),
-        (["replay", "a b.nf", "none.journal", "none", "torn.pcap", "--workers", "2"], *bad("--workers is no option of replay; it has --max-packets")),
+        (["replay", "a b.nf", "none.journal", "none", "torn.pcap", "--workers", "2"], *bad("--workers is no option of replay; it has --max-packets --pcapng")),
     ]
 
 

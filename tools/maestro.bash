@@ -23,7 +23,7 @@ _maestro_files() {
             # shellcheck disable=SC2053 # it is a pattern
             [[ $it == $pattern ]] || continue
             kept=1
-            if [[ $pattern == \*.pcap && $it =~ ^(.*)\.[0-3]\.pcap$ && -e ${BASH_REMATCH[1]}.journal ]]; then kept=''; fi
+            if [[ $pattern == \*.pcap* && $it =~ ^(.*)\.[0-3]\.pcap(ng)?$ && -e ${BASH_REMATCH[1]}.journal ]]; then kept=''; fi
             [ -z "$kept" ] || COMPREPLY+=("$it")
             break
         done
@@ -69,9 +69,9 @@ _maestro() {
     -o) _maestro_files "$word" '*.svg' && return ;;
     esac
     case $command in
-    run) options='--workers --mode --max-packets --table --key-bytes --help' ;;
-    replay) options='--max-packets --help' ;;
-    gen) options='--workers --mode --table --key-bytes --help' ;;
+    run) options='--workers --mode --max-packets --table --key-bytes --pcapng --help' ;;
+    replay) options='--max-packets --pcapng --help' ;;
+    gen) options='--workers --mode --table --key-bytes --pcapng --help' ;;
     hash) options='--key --workers --table --key-bytes --help' ;;
     explain | keys | card) options='--table --key-bytes --help' ;;
     spread) options='--workers --table --help' ;;
@@ -104,9 +104,7 @@ _maestro() {
     replay:1) _maestro_files "$word" '*.journal' ;;
     show:1) _maestro_files "$word" '*.state' ;;
     run:1 | replay:2 | gen:1 | summary:0 | plot:0) _maestro_fronts "$word" ;;
-    split:0) _maestro_files "$word" '*.pcap' '*.cap' ;;
-    split:1 | split:2) _maestro_files "$word" '*.pcap' ;;
-    run:* | replay:* | plot:* | spread:*) _maestro_files "$word" '*.pcap' '*.cap' ;;
+    split:* | run:* | replay:* | plot:* | spread:*) _maestro_files "$word" '*.pcap' '*.pcapng' '*.cap' ;;
     esac
 }
 complete -F _maestro maestro
