@@ -60,7 +60,8 @@ class Choices:
         self.lines = journal.decode("latin-1").split("\n")[1:]
 
     def __len__(self):
-        return len(self.lines) - 1
+        # A run that was stopped leaves no journal.
+        return max(0, len(self.lines) - 1)
 
     def of(self, number):
         """The indices in a packet's line."""
