@@ -9,7 +9,7 @@ mod policer;
 use lanes::{await_next, open, send};
 use meeting::Meeting;
 use policer::packet;
-use ring_line::{Idle, Lane, Next};
+use ring_line::{Idle, Next, Place, Turns};
 use std::io;
 use std::sync::{Arc, Wait};
 use std::thread::{Parker, Threads};
@@ -35,7 +35,12 @@ fn tell(rt: &HostRuntime, next: &Next) -> io::Result<()> {
     }
 }
 
-fn tell_some<R: Wait>(rt: &HostRuntime, waits: &R, lane: &mut Lane, n: u32) -> io::Result<()> {
+fn tell_some<R: Wait, G: Turns + Drop>(
+    rt: &HostRuntime,
+    waits: &R,
+    lane: &mut Place<G>,
+    n: u32,
+) -> io::Result<()> {
     for _ in 0..n {
         let next = await_next(waits, lane);
         tell(rt, &next)?;
@@ -96,7 +101,7 @@ fn tell_meeting<R: Threads + Wait + Clone + Send + Drop + 'static>(
     threads: &R,
 ) -> io::Result<()> {
     let alloc = rt.alloc();
-    let turns = Arc::new(alloc, Meeting::new())?;
+    let turns = Arc::new(alloc, Meeting::new(1))?;
     let bell = Arc::new(alloc, Parker::new())?;
     let mut near = open(threads, alloc, false, 16, &turns, &bell)?;
     match open(threads, alloc, true, 16, &turns, &bell) {
