@@ -57,7 +57,7 @@ def interface(random, order, link, resolution):
         found += option(order, 9, bytes([resolution]))
         if random.random() < 0.1:
             found += option(order, 9, b"\x03")
-    elif random.random() < 0.1:
+    elif random.random() < 0.5:
         # Behind the end of the list nothing is read.
         found += option(order, 0, b"") + option(order, 9, b"\x09")
     return block(order, INTERFACE, found + ending(random, order))
