@@ -15,7 +15,7 @@ use Rattle.pcapng_file.specs.Taking.{IsTaken}
 use Rattle.pcapng_file.specs.Places.{Moved}
 use Rattle.pcapng_file.specs.Reading.{Reading, none_left, left, IsNext, Steps}
 use Rattle.pcapng_file.proofs.Stepping.{reading_of, stream_at, is_left, ends_so, torn_so, stopped_so, quiet_so, packet_so, left_behind, heard_so}
-use Rattle.pcapng_file.proofs.reader.NgReader.step.Goals as goal
+use Rattle.pcapng_file.proofs.reader.NgReader.read_step.Goals as goal
 
 pub returns-in-Nothing-clause-stepped : goal.returns-in-Nothing-clause-stepped
 returns-in-Nothing-clause-stepped g c = λ before e.
