@@ -11,7 +11,7 @@ use Rattle.certificate_laws.specs.Due.{Due, after, and_then, after_all}
 use Rattle.certificate_text.specs.declared.heading.Heading.{Heading}
 use Rattle.key_proof.specs.declared.subject.Subject.{Subject}
 use Rattle.key_proof.specs.Faults.{ports_of, line_here, after_if, due_then, trees_fault, keys_with, judged_fault, key_in, key_then, keys_fault, proof_fault, row_in, row_then, rows_fault}
-use Rattle.key_proof.specs.Reading.{IsRowHere}
+use Rattle.key_proof.specs.Reading.{IsRowHere, IsToldHere}
 use Rattle.key_proof.proofs.Read.{named_row, key_long}
 
 -- lines behind which nothing is due
@@ -61,11 +61,6 @@ rows_listed objects s h rows n (l ∷ lines) named none =
     rows_line objects s h rows n l lines (row_in s (line_here s h l)) named refl none (λ row more is. rows_listed objects s h (rows ++ row ∷ []) (n + 1) lines more is)
 
 -- keys of all ports, each told by a line, that are judged to be right
-pub record IsToldHere (s : Subject) (h : Heading) (key : List ℕ) : Type 0 where
-  pub port : ℕ
-  pub bytes : List ℕ
-  pub is : key_in h.card.key port (line_here s h bytes) ≡ Some key
-
 pub record AreToldKeys (objects : List Object) (s : Subject) (h : Heading) (rows : List (List ℕ)) (count : ℕ) : Type 0 where
   pub keys : List (List ℕ)
   pub told : All (IsToldHere s h) keys

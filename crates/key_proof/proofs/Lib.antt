@@ -12,3 +12,4 @@ pub mod Lists
 pub mod Right
 pub mod Told
 pub mod Showing
+pub mod Certified

@@ -18,7 +18,7 @@ use Rattle.key_proof.specs.declared.reading.Cursor.{Cursor}
 use Rattle.key_proof.specs.declared.subject.Subject.{Subject}
 use Rattle.key_proof.specs.Rows.{row_of, IsRowWithin}
 use Rattle.key_proof.specs.Faults.{ports_of, line_here, after_if, due_then, trees_fault, judged_fault, key_in, key_then, keys_fault, proof_fault, row_in, row_then, rows_fault}
-use Rattle.key_proof.specs.Reading.{IsCursor, rest_at, IsRowHere, AreRowsRead, AreKeysRead}
+use Rattle.key_proof.specs.Reading.{IsCursor, rest_at, IsRowHere, IsToldHere, AreRowsRead, AreKeysRead}
 
 -- the place behind a line
 pub record IsNext (text line : List ℕ) (old new : Cursor) : Type 0 where
@@ -100,6 +100,7 @@ pub record AreKeysSoFar (s : Subject) (h : Heading) (text : List ℕ) (start her
   pub same : (objects : List Object) (rows : List (List ℕ)) → keys_fault objects s h rows start.number [] (ports_of s) (rest_at text start)
       ≡ keys_fault objects s h rows here.number keys (ports_of s - port) (rest_at text here)
   pub whole : All (λ key. length key ≡ key_bytes h.card.key) keys
+  pub told : All (IsToldHere s h) keys
   pub count : length keys ≡ port
   pub number : here.number ≡ start.number + port
 
@@ -110,6 +111,7 @@ keys_start s h text start keys at none = record {
       ap (λ (k : List (List ℕ)). keys_fault objects s h rows start.number k (ports_of s) (rest_at text start)) (sym none)
       ∙ ap (λ n. keys_fault objects s h rows start.number keys n (rest_at text start)) (let same : ports_of s ≡ ports_of s - 0 = omega arith in same);
   whole = subst (All (λ key. length key ≡ key_bytes h.card.key)) (sym none) (All-nil (λ key. length key ≡ key_bytes h.card.key));
+  told = subst (All (IsToldHere s h)) (sym none) (All-nil (IsToldHere s h));
   count = ap length none;
   number = omega arith;
 }
@@ -217,6 +219,7 @@ module _ (s : Subject) (h : Heading) (text : List ℕ) (start old : Cursor) (key
         ∙ ap (λ o. key_then o old.number (λ k. keys_fault objects s h rows (old.number + 1) (keys ++ k ∷ []) (ports_of s - (port + 1)) (rest_at text new))) (sym is)
         ∙ ap (λ n. keys_fault objects s h rows n (keys ++ key ∷ []) (ports_of s - (port + 1)) (rest_at text new)) (sym next.number);
     whole = All-push (λ k. length k ≡ key_bytes h.card.key) keys key so.whole (key_long h.card.key port (line_here s h line) key (sym is));
+    told = All-push (IsToldHere s h) keys key so.told (record { port = port; bytes = line; is = sym is });
     count = length_one keys key ∙ ap (λ n. n + 1) so.count;
     number = omega (arith, next.number, so.number);
   })

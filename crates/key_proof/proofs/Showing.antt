@@ -43,9 +43,9 @@ use Rattle.certificate_text.specs.Lines.{heading_in}
 use Rattle.key_proof.specs.declared.subject.Subject.{Subject}
 use Rattle.key_proof.specs.Judging.{is_unfit, is_flat, rows_fail, is_wrong, wrong_port}
 use Rattle.key_proof.specs.Faults.{ports_of, positions_in, spans_in, subject_of, trees_fault, keys_with, due_behind, key_or, judged_fault, kind_fault, proof_fault, rows_fault, heading_of, heading_then, lines_fault, first_wrong}
-use Rattle.key_proof.specs.Reading.{IsRowHere}
+use Rattle.key_proof.specs.Reading.{IsRowHere, IsToldHere}
 use Rattle.key_proof.specs.Shown.{IsShown, IsCertificate}
-use Rattle.key_proof.proofs.Behind.{AreTaken, trees_taken, AreListedRows, rows_listed, IsToldHere, AreToldKeys, keys_told}
+use Rattle.key_proof.proofs.Behind.{AreTaken, trees_taken, AreListedRows, rows_listed, AreToldKeys, keys_told}
 use Rattle.key_proof.proofs.Lists.{named_is_listed}
 use Rattle.key_proof.proofs.Told.{told_is_key}
 use Rattle.key_proof.proofs.Right.{or_none, none_wrong, past_zero, default_there, spreads_there, all_even}
@@ -168,7 +168,7 @@ module _ (f : Function) (h : Heading) where
               (subst (λ (q : ℕ). AreRefuted (bit (counted (positions_in (subject_of f)) q)) (rows_at rows) (spans_of (own_plan f).objects h.card.table q) (319 * q) (default_bits q) (bits_of q (keys_with h keys))) same_ports refuted);
         })
 
-judged : (f : Function) (h : Heading) (rows keys : List (List ℕ)) (n : ℕ) (lines : List (List ℕ)) (o : Option ℕ) → All (IsRowHere (subject_of f)) rows → All (IsToldHere (subject_of f) h) keys → length keys ≡ ports_of (subject_of f)
+pub judged : (f : Function) (h : Heading) (rows keys : List (List ℕ)) (n : ℕ) (lines : List (List ℕ)) (o : Option ℕ) → All (IsRowHere (subject_of f)) rows → All (IsToldHere (subject_of f) h) keys → length keys ≡ ports_of (subject_of f)
     → wrong_port (own_plan f).objects h.card (subject_of f).positions (keys_with h keys) ≡ o
     → key_or o n (ports_of (subject_of f)) (trees_fault (subject_of f) h rows (spans_in (own_plan f).objects (subject_of f) h) n (due_behind (subject_of f) (keys_with h keys)) lines) ≡ None → AreGiven f h.card (keys_with h keys)
 judged f h rows keys n lines None named told long is none = given f h keys told long is rows n lines named none

@@ -21,7 +21,7 @@ use Rattle.certificate_text.specs.Lines.{terms_in, sum_in, named_in, row_in, key
 use Rattle.key_proof.specs.declared.subject.Subject.{Subject}
 use Rattle.key_proof.specs.Faults.{line_here, key_in}
 use Rattle.key_proof.proofs.Read.{key_long}
-use Rattle.key_proof.proofs.Behind.{IsToldHere}
+use Rattle.key_proof.specs.Reading.{IsToldHere}
 
 abbrev key_of : Line → List ℕ
 key_of (line.Key port key) = key

@@ -9,7 +9,7 @@ use Rattle.key_proof.specs.declared.reading.RowStep.{RowStep}
 use Rattle.key_proof.specs.declared.reading.RowStep.TheVariants as step
 use Rattle.key_proof.specs.declared.subject.Subject.{Subject}
 use Rattle.key_proof.specs.Rows.{row_of, IsRowWithin}
-use Rattle.key_proof.specs.Faults.{ports_of, rows_fault, proof_fault, keys_fault, judged_fault}
+use Rattle.key_proof.specs.Faults.{ports_of, line_here, key_in, rows_fault, proof_fault, keys_fault, judged_fault}
 
 -- at most 4 ports, and 319 bits of the key of each
 pub record IsSubject (s : Subject) : Type 0 where
@@ -40,6 +40,12 @@ IsStepWithin ports step.Other = Unit {0}
 pub record IsRowHere (s : Subject) (row : List ℕ) : Type 0 where
   pub named : Named
   pub is : row_of (ports_of s) s.sites named ≡ Some row
+
+-- a key that some line tells
+pub record IsToldHere (s : Subject) (h : Heading) (key : List ℕ) : Type 0 where
+  pub port : ℕ
+  pub bytes : List ℕ
+  pub is : key_in h.card.key port (line_here s h bytes) ≡ Some key
 
 -- Rows were read from a place on; or one that a line names is none.
 abbrev pub AreRowsRead : Subject → Heading → List ℕ → Cursor → Cursor → List (List ℕ) → Bool → Type 0

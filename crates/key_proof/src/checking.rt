@@ -1,4 +1,4 @@
-//! The first wrong line of a certificate.
+//! The first wrong line of a certificate, and what it tells where there is none.
 ghost use Rattle.std.specs.Prelude.{◌≡◌, ◌≤◌, ◌*◌, ◌∷◌, [], All, IfOk, length};
 ghost use Rattle.nf_base.specs.Functions.{function_of};
 ghost use Rattle.key_rows.specs.Keyed.{AreAtPorts};
@@ -8,7 +8,10 @@ ghost use Rattle.certificate_laws.specs.Due.{Whole};
 ghost use Rattle.key_proof.specs.Faults.{ports_of, spans_in, trees_fault, due_behind, keys_fault, proof_fault, rows_fault, first_wrong};
 ghost use Rattle.key_proof.specs.Rows.{IsRowWithin};
 ghost use Rattle.key_proof.specs.Reading.{IsSubject, IsCursor, rest_at};
+ghost use Rattle.key_proof.specs.Found.{fault_found, FindsBehind, Finds};
+ghost use Rattle.key_proof.specs.Shown.{Shows};
 
+use crate::finding::Finding;
 use crate::judging::wrong_port;
 use crate::reading::{Cursor, check_lines, read_keys, read_rows};
 use crate::subject::{Subject, subject_of};
@@ -87,9 +90,9 @@ fn bits_fault(
     Ok(fault)
 }
 
-/// The first wrong line of keys and of what stands behind them.
+/// Keys, and the first wrong line of them and of what stands behind them.
 #[tactic(auto, using(crate::proofs::Checked::keys_wrong, crate::proofs::Checked::port_wrong, crate::proofs::Checked::keys_right))]
-fn keys_fault(
+fn find_keys(
     alloc: Global,
     subject: &Subject,
     objects: &[Object],
@@ -97,19 +100,20 @@ fn keys_fault(
     rows: Seq<Seq<u32>>,
     text: &[u8],
     cursor: Cursor,
-) -> Result<Option<usize>, AllocError>
+) -> Result<Finding, AllocError>
     requires subject { IsSubject subject.now }
     requires cursor { IsCursor text.now cursor }
     requires rows { All (IsRowWithin (ports_of subject.now)) rows }
     requires places { All (λ object. AreAtPorts (ports_of subject.now) object.places) objects.now }
-    ensures { IfOk result (λ fault. fault
+    ensures fault { IfOk result (λ found. fault_found found
         ≡ keys_fault objects.now subject.now heading rows cursor.number [] (ports_of subject.now)
         (rest_at text.now cursor)) }
+    ensures finds { IfOk result (FindsBehind objects.now subject.now heading rows) }
 {
     let mut here = cursor;
     let mut ports = Limited::new(alloc);
     if !read_keys(alloc, subject, heading, text, &mut here, &mut ports)? {
-        return Ok(Some(here.number));
+        return Ok(Finding::Wrong(here.number));
     }
     let keys = Keys {
         table: heading.card.table,
@@ -117,14 +121,17 @@ fn keys_fault(
     };
     if let Some(port) = wrong_port(objects, heading.card, subject.positions.as_slice(), &keys) {
         let first = here.number - subject.positions.len() as usize;
-        return Ok(Some(first + port as usize));
+        return Ok(Finding::Wrong(first + port as usize));
     }
     let fault = bits_fault(alloc, subject, objects, heading, rows, &keys, text, here)?;
-    Ok(fault)
+    match fault {
+        Some(line) => Ok(Finding::Wrong(line)),
+        None => Ok(Finding::Told(keys)),
+    }
 }
 
-/// The first wrong line behind the rows.
-fn proof_fault(
+/// That there are no keys, where no line of the tree that shows it is wrong.
+fn find_none(
     alloc: Global,
     subject: &Subject,
     objects: &[Object],
@@ -132,51 +139,110 @@ fn proof_fault(
     rows: Seq<Seq<u32>>,
     text: &[u8],
     cursor: Cursor,
-) -> Result<Option<usize>, AllocError>
+) -> Result<Finding, AllocError>
+    requires kind { heading.kind ≡ Kind.Locked }
+    requires subject { IsSubject subject.now }
+    requires cursor { IsCursor text.now cursor }
+    requires rows { All (IsRowWithin (ports_of subject.now)) rows }
+    ensures fault { IfOk result (λ found. fault_found found
+        ≡ trees_fault subject.now heading rows (spans_in objects.now subject.now heading)
+        cursor.number (Whole (none_fixed (319 * ports_of subject.now)) ∷ [])
+        (rest_at text.now cursor)) }
+    ensures finds { IfOk result (FindsBehind objects.now subject.now heading rows) }
+{
+    match tree_fault(alloc, subject, objects, heading, rows, text, cursor)? {
+        Some(line) => Ok(Finding::Wrong(line)),
+        None => Ok(Finding::NoKeys),
+    }
+}
+
+/// What stands behind the rows.
+fn find_behind(
+    alloc: Global,
+    subject: &Subject,
+    objects: &[Object],
+    heading: Heading,
+    rows: Seq<Seq<u32>>,
+    text: &[u8],
+    cursor: Cursor,
+) -> Result<Finding, AllocError>
     requires subject { IsSubject subject.now }
     requires cursor { IsCursor text.now cursor }
     requires rows { All (IsRowWithin (ports_of subject.now)) rows }
     requires places { All (λ object. AreAtPorts (ports_of subject.now) object.places) objects.now }
-    ensures { IfOk result (λ fault. fault
+    ensures fault { IfOk result (λ found. fault_found found
         ≡ proof_fault objects.now subject.now heading rows cursor.number (rest_at text.now cursor)) }
+    ensures finds { IfOk result (FindsBehind objects.now subject.now heading rows) }
 {
     match heading.kind {
-        Kind::Sharded => keys_fault(alloc, subject, objects, heading, rows, text, cursor),
-        Kind::Locked => tree_fault(alloc, subject, objects, heading, rows, text, cursor),
+        Kind::Sharded => find_keys(alloc, subject, objects, heading, rows, text, cursor),
+        Kind::Locked => find_none(alloc, subject, objects, heading, rows, text, cursor),
     }
 }
 
-/// The first wrong line behind the first.
-#[tactic(auto, using(crate::proofs::Checked::rows_wrong, crate::proofs::Checked::rows_right))]
-fn rows_fault(
+/// What stands behind the first line.
+#[tactic(auto, using(crate::proofs::Checked::rows_wrong, crate::proofs::Checked::rows_right, crate::proofs::Certified::with_rows))]
+fn find_rows(
     alloc: Global,
     subject: &Subject,
     objects: &[Object],
     heading: Heading,
     text: &[u8],
     cursor: Cursor,
-) -> Result<Option<usize>, AllocError>
+) -> Result<Finding, AllocError>
     requires subject { IsSubject subject.now }
     requires cursor { IsCursor text.now cursor }
     requires places { All (λ object. AreAtPorts (ports_of subject.now) object.places) objects.now }
-    ensures { IfOk result (λ fault. fault
+    ensures fault { IfOk result (λ found. fault_found found
         ≡ rows_fault objects.now subject.now heading [] cursor.number (rest_at text.now cursor)) }
+    ensures finds { IfOk result (Finds objects.now subject.now heading) }
 {
     let mut here = cursor;
     let mut rows = Seq::new(alloc);
     if !read_rows(alloc, subject, heading, text, &mut here, &mut rows)? {
-        return Ok(Some(here.number));
+        return Ok(Finding::Wrong(here.number));
     }
-    let fault = proof_fault(alloc, subject, objects, heading, rows, text, here)?;
-    Ok(fault)
+    let found = find_behind(alloc, subject, objects, heading, rows, text, here)?;
+    Ok(found)
 }
 
 /// The number of the first wrong line of a text as a certificate of a function's keys, or of there
-/// being none, from the function's sites and their plan; None where no line is wrong.
+/// being none, from the function's sites and their plan; where no line is wrong the keys, or that
+/// there are none.
 ///
-/// Lines are numbered from 1, and an end too early counts as the line after the last. The work is
-/// bounded by the text's length times the bits of four keys, and by the pairs of places of an object.
+/// Lines are numbered from 1, and an end too early counts as the line after the last.
 #[tactic(auto, using(crate::proofs::AtPorts::all_at_ports, crate::proofs::AtPorts::is_subject, crate::proofs::Checked::no_line, crate::proofs::Checked::no_heading, crate::proofs::Checked::headed))]
+pub fn find(
+    alloc: Global,
+    func: &Func,
+    sites: &[Site],
+    plan: &Plan,
+    text: &[u8],
+) -> Result<Finding, AllocError>
+    requires sites { sites.now ≡ own_sites (function_of func.now) }
+    requires plan { plan.now ≡ own_plan (function_of func.now) }
+    ensures fault { IfOk result (λ found. fault_found found
+        ≡ first_wrong (function_of func.now) text.now) }
+    ensures shows { IfOk result (Shows (function_of func.now) text.now) }
+{
+    let Some(line) = next_line(text, 0) else {
+        return Ok(Finding::Wrong(1));
+    };
+    let Some(heading) = heading_in(line) else {
+        return Ok(Finding::Wrong(1));
+    };
+    let cursor = Cursor {
+        at: line.len() + 1,
+        number: 2,
+    };
+    let subject = subject_of(alloc, func, sites, plan)?;
+    let objects = plan.objects.as_slice();
+    let found = find_rows(alloc, &subject, objects, heading, text, cursor)?;
+    Ok(found)
+}
+
+/// The number of the first wrong line of a text as a certificate of a function; None where no line is
+/// wrong.
 pub fn first_wrong(
     alloc: Global,
     func: &Func,
@@ -188,18 +254,8 @@ pub fn first_wrong(
     requires plan { plan.now ≡ own_plan (function_of func.now) }
     ensures { IfOk result (λ fault. fault ≡ first_wrong (function_of func.now) text.now) }
 {
-    let Some(line) = next_line(text, 0) else {
-        return Ok(Some(1));
-    };
-    let Some(heading) = heading_in(line) else {
-        return Ok(Some(1));
-    };
-    let cursor = Cursor {
-        at: line.len() + 1,
-        number: 2,
-    };
-    let subject = subject_of(alloc, func, sites, plan)?;
-    let objects = plan.objects.as_slice();
-    let fault = rows_fault(alloc, &subject, objects, heading, text, cursor)?;
-    Ok(fault)
+    match find(alloc, func, sites, plan, text) {
+        Ok(found) => Ok(found.fault()),
+        Err(error) => Err(error),
+    }
 }

@@ -2,8 +2,10 @@
 //! them.
 #![tactic(auto)]
 
+mod certifying;
 mod checking;
 mod fields;
+mod finding;
 mod judging;
 mod keyed;
 pub mod laws;
@@ -13,4 +15,5 @@ mod rows;
 mod subject;
 mod vectors;
 
+pub use certifying::{CertifyFault, certify};
 pub use checking::first_wrong;

@@ -4,7 +4,7 @@ ghost use Rattle.nf_base.specs.Cards.{key_bytes};
 ghost use Rattle.certificate_check.specs.Checking.{due};
 ghost use Rattle.key_proof.specs.Faults.{ports_of, line_here, trees_fault, key_in, row_in, after_if};
 ghost use Rattle.key_proof.specs.Rows.{row_of, IsRowWithin};
-ghost use Rattle.key_proof.specs.Reading.{IsSubject, IsCursor, rest_at, step_of, IsStepWithin, IsRowHere, AreRowsRead, AreKeysRead};
+ghost use Rattle.key_proof.specs.Reading.{IsSubject, IsCursor, rest_at, step_of, IsStepWithin, IsRowHere, IsToldHere, AreRowsRead, AreKeysRead};
 
 use crate::rows::row_of;
 use crate::subject::Subject;
@@ -172,6 +172,7 @@ pub fn read_keys(
         (AreKeysRead subject.now heading text.now cursor.old cursor.new keys.new) }
     ensures count { IfOk result (λ all. all ≡ true → length keys.new ≡ ports_of subject.now) }
     ensures whole { OnOk result (All (λ key. length key ≡ key_bytes heading.card.key) keys.new) }
+    ensures told { OnOk result (All (IsToldHere subject.now heading) keys.new) }
     ensures number { OnOk result (cursor.new.number ≡ cursor.old.number + length keys.new) }
 {
     for port in 0..subject.positions.len() {
