@@ -68,12 +68,18 @@ pub record Describe : Type 0 where
   pub function : Text
   pub card : Card
 
+-- the judging of a certificate: the names of the function's file and of the certificate
+pub record Certify : Type 0 where
+  pub function : Text
+  pub proof : Text
+
 pub data Command : Type 0 where
   RunCommand : Run → Command
   ReplayCommand : Replay → Command
   GenCommand : Gen → Command
   HashCommand : Hash → Command
   DescribeCommand : Describe → Command
+  CertifyCommand : Certify → Command
 
 -- an option's value: its default where the option is left out, and else what its text says
 abbrev pub or_default : {A : Type 0} → A → (Text → Option A) → Option Text → Option A
@@ -196,6 +202,11 @@ describe_in what rows =
     and_then (first_of (codes "function") rows) (λ f.
     option_map (λ card. record { what = what; function = f; card = card }) (described_card what rows))
 
+abbrev pub certify_in : List Row → Option Certify
+certify_in rows =
+    and_then (first_of (codes "function") rows) (λ f.
+    option_map (λ p. record { function = f; proof = p }) (first_of (codes "proof") rows))
+
 -- the command of a name, with what stands beside it
 abbrev pub named : Text → List Row → Option Command
 named name rows =
@@ -203,6 +214,7 @@ named name rows =
     if bytes_eq name (codes "replay") then option_map ReplayCommand (replay_in rows) else
     if bytes_eq name (codes "gen") then option_map GenCommand (gen_in rows) else
     if bytes_eq name (codes "hash") then option_map HashCommand (hash_in rows) else
+    if bytes_eq name (codes "certify") then option_map CertifyCommand (certify_in rows) else
     and_then (description_named name) (λ what. option_map DescribeCommand (describe_in what rows))
 
 abbrev pub in_match : Option (Text × List Row) → Option Command

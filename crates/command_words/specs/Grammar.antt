@@ -81,6 +81,11 @@ description_names name = with_rule (new_app name) (word (codes "function"))
 unfoldable pub description_app : Text → App
 description_app name = with_card (description_names name)
 
+-- certify NF FILE
+unfoldable pub certify_app : App
+certify_app =
+    with_rule (with_rule (new_app (codes "certify")) (word (codes "function"))) (word (codes "proof"))
+
 -- check NF, explain NF and keys NF, behind other commands: `check` alone asks for no card
 unfoldable pub with_descriptions : App → App
 with_descriptions others =
@@ -94,4 +99,6 @@ with_runs others = with_subcommand (with_subcommand (with_subcommand others run_
 
 -- every command
 unfoldable pub app : App
-app = with_descriptions (with_subcommand (with_runs (new_app (codes "maestro"))) hash_app.top)
+app =
+    with_descriptions (with_subcommand (with_subcommand (with_runs (new_app (codes "maestro")))
+    hash_app.top) certify_app.top)

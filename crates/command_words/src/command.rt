@@ -110,6 +110,15 @@ pub struct DescribeCommand {
     pub card: Card,
 }
 
+/// The judging of a certificate of a function's keys, or of there being none.
+#[derive(Drop)]
+pub struct CertifyCommand {
+    /// The name of the function's text.
+    pub function: String,
+    /// The name of the certificate.
+    pub proof: String,
+}
+
 /// A command.
 #[derive(Drop)]
 pub enum Command {
@@ -118,4 +127,5 @@ pub enum Command {
     Gen(GenCommand),
     Hash(HashCommand),
     Describe(DescribeCommand),
+    Certify(CertifyCommand),
 }

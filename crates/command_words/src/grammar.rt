@@ -151,6 +151,15 @@ fn description_words<'a>(alloc: Global, name: &'a str) -> Result<Command<'a>, Al
     with_card(alloc, description_names(alloc, name)?)
 }
 
+/// `certify NF FILE`
+fn certify_words<'a>(alloc: Global) -> Result<Command<'a>, AllocError>
+    ensures { IfOk result (λ c. IsMade c grammar.certify_app) }
+{
+    Command::new(alloc, "certify")
+        .arg(word(alloc, "function"))?
+        .arg(word(alloc, "proof"))
+}
+
 /// `check`, `explain` and `keys`, behind the commands that are there: `check` says nothing of keys, so
 /// it asks for no card.
 fn with_descriptions<'a>(alloc: Global, command: Command<'a>) -> Result<Command<'a>, AllocError>
@@ -178,6 +187,8 @@ fn with_runs<'a>(alloc: Global, command: Command<'a>) -> Result<Command<'a>, All
 pub fn all_words<'a>(alloc: Global) -> Result<Command<'a>, AllocError>
     ensures { IfOk result (λ c. IsMade c grammar.app) }
 {
-    let command = with_runs(alloc, Command::new(alloc, "maestro"))?.subcommand(hash_words(alloc)?)?;
+    let command = with_runs(alloc, Command::new(alloc, "maestro"))?
+        .subcommand(hash_words(alloc)?)?
+        .subcommand(certify_words(alloc)?)?;
     with_descriptions(alloc, command)
 }

@@ -7,8 +7,8 @@ ghost use Rattle.command_words.specs.Commands as meant;
 ghost use Rattle.command_words.specs.View as view;
 
 use crate::command::{
-    Command, DescribeCommand, Description, GenCommand, HashCommand, ModeChoice, ReplayCommand,
-    RunCommand,
+    CertifyCommand, Command, DescribeCommand, Description, GenCommand, HashCommand, ModeChoice,
+    ReplayCommand, RunCommand,
 };
 use crate::endpoint::{Endpoint, Ends, endpoint_in, ends_between, number_up_to};
 use crate::grammar::all_words;
@@ -363,6 +363,21 @@ fn describe_command(
     }
 }
 
+fn certify_command(
+    alloc: Global,
+    matches: &ArgMatches,
+) -> Result<Option<CertifyCommand>, AllocError>
+    ensures { IfOk result (λ r. option_map view.certify r ≡ meant.certify_in (rows_of (found_of matches.now))) }
+{
+    match (value(matches, "function"), value(matches, "proof")) {
+        (Some(function), Some(proof)) => Ok(Some(CertifyCommand {
+            function: String::from_str(alloc, function)?,
+            proof: String::from_str(alloc, proof)?,
+        })),
+        _ => Ok(None),
+    }
+}
+
 /// Which text on a function a name asks for.
 fn description_named(name: &str) -> Option<Description>
     ensures { result ≡ meant.description_named name.now }
@@ -388,6 +403,8 @@ fn named(alloc: Global, name: &str, matches: &ArgMatches) -> Result<Option<Comma
         Ok(gen_command(alloc, matches)?.map(Command::Gen))
     } else if name == "hash" {
         Ok(hash_command(matches).map(Command::Hash))
+    } else if name == "certify" {
+        Ok(certify_command(alloc, matches)?.map(Command::Certify))
     } else {
         match description_named(name) {
             Some(what) => Ok(describe_command(alloc, what, matches)?.map(Command::Describe)),

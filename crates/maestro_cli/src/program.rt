@@ -3,7 +3,7 @@ ghost use Rattle.std.specs.Prelude.{◌≤◌, length, map, string_bytes, Some};
 ghost use Rattle.command_words.specs.Commands.{command_of};
 ghost use Rattle.command_words.specs.View as view;
 ghost use Rattle.call_base.specs.Outside.{seen};
-ghost use Rattle.maestro_cli.specs.Answer.{Answers, Comes, ComesTo, Runs, Replays, Gens, Hashes, Describes};
+ghost use Rattle.maestro_cli.specs.Answer.{Answers, Comes, ComesTo, Runs, Replays, Gens, Hashes, Describes, Certifies};
 ghost use Rattle.maestro_cli.specs.Causes.{HasCallCause};
 ghost use Rattle.describe_call.specs.Described.{HashesTo};
 ghost use Rattle.lock_mode.specs.Gates.{Rose};
@@ -11,8 +11,10 @@ ghost use Rattle.lock_mode.specs.Gates.{Rose};
 use call_base::loading::NoFunction;
 use call_base::say::{print_out, tell};
 use call_base::status::{Halt, Refusal, Status, Stop};
+use certify_call::judge;
 use command_words::{
-    Command, DescribeCommand, GenCommand, HashCommand, ReplayCommand, RunCommand, command_of,
+    CertifyCommand, Command, DescribeCommand, GenCommand, HashCommand, ReplayCommand, RunCommand,
+    command_of,
 };
 use describe_call::{hash_line, print_description};
 use gen_call::generate;
@@ -116,6 +118,18 @@ fn do_describe<F: Files>(alloc: Global, files: &mut F, command: &DescribeCommand
     }
 }
 
+// Judges a certificate.
+fn do_certify<F: Files>(alloc: Global, files: &mut F, command: &CertifyCommand) -> Status
+    ensures { Certifies (view.certify command.now) (seen (F.told files.old) (F.counted files.old))
+        (seen (F.told files.new) (F.counted files.new)) result }
+{
+    match judge(alloc, files, command) {
+        Ok(judged) => judged.status(),
+        Err(NoFunction::Text(fault)) => Refusal::Text(fault).status(),
+        Err(NoFunction::Stop(stop)) => stop.status(),
+    }
+}
+
 // Does what a command asks for.
 fn obey<R: Threads + Wait + Sync, F: Files, G: Turns + Sync, L: Gate + Drop + Send>(
     rt: &R,
@@ -136,6 +150,7 @@ fn obey<R: Threads + Wait + Sync, F: Files, G: Turns + Sync, L: Gate + Drop + Se
         Command::Gen(asked) => do_gen(rt, alloc, files, asked, turns, gate),
         Command::Hash(asked) => do_hash(alloc, files, asked),
         Command::Describe(asked) => do_describe(alloc, files, asked),
+        Command::Certify(asked) => do_certify(alloc, files, asked),
     }
 }
 
@@ -173,7 +188,8 @@ fn carry_out<R: Threads + Wait + Sync, F: Files, G: Turns + Sync, L: Gate + Drop
 ///   how many flows, 1 to 65,536; with the options `--workers`, `--mode`, those of a network card, and `--pcapng`;
 /// - `hash`, a source and a destination as `ADDRESS:PORT`; with the options `--key`, 80 or 104 hexadecimal digits,
 ///   `--workers`, 1 to 16, and those of a network card;
-/// - `check`, `explain` or `keys`, a network function's file; the last two with the options of a network card.
+/// - `check`, `explain` or `keys`, a network function's file; the last two with the options of a network card;
+/// - `certify`, a network function's file and a certificate of its keys, or of there being none.
 ///
 /// Several workers of a run, over captures or made-up traffic, are threads of `rt`; where one can't be started,
 /// the caller does its work. What they come to is told to `turns`. Workers that share tables go in by `gate`;

@@ -1,17 +1,19 @@
-//! Says of each certificate of its input which line is the first that is wrong.
+//! Says of each certificate of its input what it shows, or which line is the first that is wrong.
 //!
 //! A case is a line with a function, the lines of a certificate, and a line with a dot.
 #![tactic(auto)]
 
 mod judging;
 
-use judging::fault_of;
+use judging::verdict_of;
+use key_synth::{Cause, Verdict};
 use std::io;
 
-fn print_fault(rt: &HostRuntime, function: &[u8], text: &[u8]) -> io::Result<()> {
-    match fault_of(rt.alloc(), function, text) {
-        Ok(None) => println!(rt; "no line is wrong"),
-        Ok(Some(line)) => println!(rt; "line {line} is wrong"),
+fn print_verdict(rt: &HostRuntime, function: &[u8], text: &[u8]) -> io::Result<()> {
+    match verdict_of(rt.alloc(), function, text) {
+        Ok(Verdict::Sharded(keys)) => println!(rt; "sharded, {} keys", keys.ports.len()),
+        Ok(Verdict::Locked(Cause::Hash)) => println!(rt; "locked by the hash"),
+        Ok(Verdict::Locked(Cause::Object { .. })) => println!(rt; "locked by an object"),
         Err(fault) => println!(rt; "{fault}"),
     }
 }
@@ -24,7 +26,7 @@ fn main(rt: HostRuntime) -> io::Result<()> {
         let bytes = line.as_str().as_bytes();
         match bytes {
             [b'.'] => {
-                print_fault(&rt, function.as_slice(), text.as_slice())?;
+                print_verdict(&rt, function.as_slice(), text.as_slice())?;
                 text.clear();
             }
             [b'n', b'f', b' ', ..] => {

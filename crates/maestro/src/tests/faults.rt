@@ -67,6 +67,7 @@ fn said(file: RunFile) -> &'static str {
         RunFile::Output(_) => "maestro: file fault: output 1\n",
         RunFile::OutJournal => "maestro: file fault: out journal\n",
         RunFile::State => "maestro: file fault: state\n",
+        RunFile::Proof => "maestro: file fault: proof\n",
         RunFile::Stdout => "maestro: file fault: stdout\n",
         RunFile::Stderr => "",
     }
