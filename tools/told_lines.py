@@ -116,7 +116,7 @@ NO_CAPTURES = {
     "empty.pcap": (b"", "it is empty, and the header of a capture has 24 bytes"),
     "text.pcap": (b"nf x { ports 1; on 0 { drop; } }", "it begins with the bytes 6e662078, and no capture does"),
 }
-THERE = "There are check explain keys run replay gen hash help summary show spread card draw plot split"
+THERE = "There are check explain keys certify run replay gen hash help summary show spread card draw plot split"
 KEY = "0123456789" * 8
 # Command lines with one wrong word, and what is told of it; there are the files of command_lines.py.
 WRONG_WORDS = [
