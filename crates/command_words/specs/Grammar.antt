@@ -81,6 +81,10 @@ description_names name = with_rule (new_app name) (word (codes "function"))
 unfoldable pub description_app : Text → App
 description_app name = with_card (description_names name)
 
+-- keys NF [--table 128|512] [--key-bytes 40|52] [--proof FILE]
+unfoldable pub keys_app : App
+keys_app = with_rule (description_app (codes "keys")) (option (codes "proof"))
+
 -- certify NF FILE
 unfoldable pub certify_app : App
 certify_app =
@@ -91,7 +95,7 @@ unfoldable pub with_descriptions : App → App
 with_descriptions others =
     with_subcommand (with_subcommand (with_subcommand others
     (description_names (codes "check")).top) (description_app (codes "explain")).top)
-    (description_app (codes "keys")).top
+    keys_app.top
 
 -- the commands that handle packets, behind other commands
 unfoldable pub with_runs : App → App

@@ -160,6 +160,13 @@ fn certify_words<'a>(alloc: Global) -> Result<Command<'a>, AllocError>
         .arg(word(alloc, "proof"))
 }
 
+/// `keys NF [--table 128|512] [--key-bytes 40|52] [--proof FILE]`
+fn keys_words<'a>(alloc: Global) -> Result<Command<'a>, AllocError>
+    ensures { IfOk result (λ c. IsMade c grammar.keys_app) }
+{
+    description_words(alloc, "keys")?.arg(option(alloc, "proof"))
+}
+
 /// `check`, `explain` and `keys`, behind the commands that are there: `check` says nothing of keys, so
 /// it asks for no card.
 fn with_descriptions<'a>(alloc: Global, command: Command<'a>) -> Result<Command<'a>, AllocError>
@@ -169,7 +176,7 @@ fn with_descriptions<'a>(alloc: Global, command: Command<'a>) -> Result<Command<
     command
         .subcommand(description_names(alloc, "check")?)?
         .subcommand(description_words(alloc, "explain")?)?
-        .subcommand(description_words(alloc, "keys")?)
+        .subcommand(keys_words(alloc)?)
 }
 
 /// The commands that handle packets, behind the commands that are there.

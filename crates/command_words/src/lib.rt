@@ -10,7 +10,7 @@ mod words;
 
 pub use command::{
     CertifyCommand, Command, DescribeCommand, Description, GenCommand, HashCommand, ModeChoice,
-    ReplayCommand, RunCommand,
+    ProveCommand, ReplayCommand, RunCommand,
 };
 pub use endpoint::Ends;
 pub use words::command_of;

@@ -5,16 +5,16 @@ use Rattle.clap.specs.Words.{App, Kinds, app_of, fault_of, is_simple, is_simple_
 use Rattle.clap.proofs.OnLiterals.{clap_on_literals}
 use Rattle.clap.specs.declared.error.kind.ErrorKind.{ErrorKind}
 use Rattle.clap.specs.declared.error.kind.ErrorKind.TheVariants.{OutOfMemory}
-use Rattle.command_words.specs.Grammar.{app, certify_app, description_app, description_names, flag, gen_amounts, gen_app, gen_names, hash_app, option, replay_app, replay_names, run_amounts, run_app, run_names, with_card, with_descriptions, with_runs, word, words}
+use Rattle.command_words.specs.Grammar.{app, certify_app, description_app, description_names, flag, gen_amounts, gen_app, gen_names, hash_app, keys_app, option, replay_app, replay_names, run_amounts, run_app, run_names, with_card, with_descriptions, with_runs, word, words}
 use Rattle.command_words.specs.Commands.{Command, in_match, if_faultless}
 use Rattle.command_words.proofs.words.command_of.Goals as goal
 
 app_is_simple : is_simple app ≡ true
-unfolding clap_on_literals word words option flag run_names with_card run_amounts run_app replay_names replay_app gen_names gen_amounts gen_app hash_app certify_app description_names description_app with_descriptions with_runs app
+unfolding clap_on_literals word words option flag run_names with_card run_amounts run_app replay_names replay_app gen_names gen_amounts gen_app hash_app keys_app certify_app description_names description_app with_descriptions with_runs app
 app_is_simple = refl
 
 app_is_free : is_simple_and_free app ≡ true
-unfolding clap_on_literals word words option flag run_names with_card run_amounts run_app replay_names replay_app gen_names gen_amounts gen_app hash_app certify_app description_names description_app with_descriptions with_runs app
+unfolding clap_on_literals word words option flag run_names with_card run_amounts run_app replay_names replay_app gen_names gen_amounts gen_app hash_app keys_app certify_app description_names description_app with_descriptions with_runs app
 app_is_free = refl
 
 -- an error that is no want of memory is a fault of the words
