@@ -1,0 +1,6 @@
+//! Writes the certificate of a function's keys, or of there being none: a text that anyone can check.
+#![tactic(auto)]
+
+mod proving;
+
+pub use proving::prove;
