@@ -14,3 +14,7 @@ mod subject;
 mod vectors;
 
 pub use checking::first_wrong;
+pub use numbered::Numbered;
+pub use rows::row_of;
+pub use subject::{Subject, subject_of};
+pub use vectors::{bits_of, counted, default_bits, spans_of};
