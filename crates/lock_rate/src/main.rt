@@ -9,7 +9,8 @@ mod gates;
 mod packets;
 mod working;
 
-use lock_core::{Ordered, Way};
+use lock_core::Way;
+use lock_log::Order;
 use nf_base::func::Func;
 use nf_syntax::parse;
 use nf_types::check;
@@ -34,8 +35,14 @@ fn function(alloc: Global, text: &str) -> Option<Func> {
 }
 
 /// How many packets of an order were looked at.
-fn looks(order: &[Ordered]) -> usize {
-    order.iter().filter(|x| x.way == Way::Look).count()
+fn looks(order: &Order) -> usize {
+    let mut looks: usize = 0;
+    for k in 0..order.len() {
+        if order.way(k) == Way::Look {
+            looks = looks.saturating_add(1);
+        }
+    }
+    looks
 }
 
 fn run_by<R: Threads + Wait + Sync>(
@@ -57,7 +64,7 @@ fn run_by<R: Threads + Wait + Sync>(
             "{} workers, {} packets, {} looked",
             worked.workers,
             worked.order.len(),
-            looks(worked.order.as_slice())
+            looks(&worked.order)
         ),
         None => println!(rt; "no run"),
     }

@@ -41,6 +41,9 @@ stands_at batch place x e =
 abbrev pub handled_as : Arrival → Ordered → Handled
 handled_as a x = record { arrival = a; worker = x.seat; done = x.done }
 
+pub handled_so : (a : Arrival) (x : Ordered) (worker : ℕ) (done : Done) → worker ≡ x.seat → done ≡ x.done → ◌≡◌ {A = Handled} (record { arrival = a; worker = worker; done = done }) (handled_as a x)
+handled_so a x worker done same is = ap (λ (w : ℕ). record { arrival = a; worker = w; done = done }) same ∙ ap (λ (d : Done). record { arrival = a; worker = x.seat; done = d }) is
+
 pub joined_is : (batch : List Arrival) (x : Ordered) (xs : List Ordered) (place : ℕ) (places : List ℕ) (s : Stands batch place x) → joined batch (x ∷ xs) (place ∷ places) ≡ handled_as s.a x ∷ joined batch xs places
 joined_is batch x xs place places s = ap (λ (o : Option Arrival). in_front o x (joined batch xs places)) s.at
 
@@ -267,6 +270,11 @@ joined_more batch (y ∷ ys) (p ∷ ps) k x place a h e q at =
 some_within : (packets : List Packet) (place : ℕ) (p : Packet) → slice_get packets place ≡ Some p → place < length packets
 some_within packets place p at = slice_get_within packets place p at
 
+some_item : {A : Type 0} (xs : List A) (k : ℕ) → k < length xs → (x : A) × (slice_get xs k ≡ Some x)
+some_item [] k lt = absurd (omega (arith, lt))
+some_item (x ∷ xs) zero lt = (x, refl)
+some_item (x ∷ xs) (suc k) lt = some_item xs k (omega (arith, lt))
+
 -- the place of a packet is one
 pub place_within : (batch : List Arrival) (xs : List Ordered) (places : List ℕ) (k d : ℕ) → AreAt (map packet_of batch) xs places → k < length xs → slice_index_or places k d < length batch
 place_within batch xs places k d at lt =
@@ -276,19 +284,28 @@ place_within batch xs places k d at lt =
     let there = some_within (map packet_of batch) (slice_index_or places k d) x.0.packet (at_place (map packet_of batch) xs places k x.0 (slice_index_or places k d) at x.1 here) in
     let same = length-map batch packet_of in
     omega (arith, there, same)
-  where
-    some_item : {A : Type 0} (xs : List A) (k : ℕ) → k < length xs → (x : A) × (slice_get xs k ≡ Some x)
-    some_item [] k lt = absurd (omega (arith, lt))
-    some_item (x ∷ xs) zero lt = (x, refl)
-    some_item (x ∷ xs) (suc k) lt = some_item xs k (omega (arith, lt))
 
--- the packets so far, and one more
-pub so_far : (hs : List Handled) (batch : List Arrival) (xs : List Ordered) (places : List ℕ) (k : ℕ) (a : Arrival) (x : Ordered) (d : ℕ) → AreAt (map packet_of batch) xs places → k < length xs → a ≡ slice_index_or batch (slice_index_or places k d) a → x ≡ slice_index_or xs k x
-    → (hs ++ take k (joined batch xs places)) ++ handled_as a x ∷ [] ≡ hs ++ take (k + 1) (joined batch xs places)
-so_far hs batch xs places k a x d at lt a_is x_is =
+-- a packet of an order with what stands at its place: with it there is one more
+pub record IsPaired (batch : List Arrival) (xs : List Ordered) (places : List ℕ) (k : ℕ) : Type 0 where
+  pub a : Arrival
+  pub x : Ordered
+  pub at : slice_get batch (slice_index_or places k 0) ≡ Some a
+  pub is : slice_get xs k ≡ Some x
+  pub more : (hs : List Handled) → (hs ++ take k (joined batch xs places)) ++ handled_as a x ∷ [] ≡ hs ++ take (k + 1) (joined batch xs places)
+
+pub pair_at : (batch : List Arrival) (xs : List Ordered) (places : List ℕ) (k : ℕ) → AreAt (map packet_of batch) xs places → k < length xs → IsPaired batch xs places k
+pair_at batch xs places k at lt =
     let long = places_long (map packet_of batch) xs places at in
-    let place = slice_index_or places k d in
-    let there = slice_get_read xs (length xs) k x refl lt x_is in
-    let here = slice_get-get_or places k d (omega (arith, long, lt)) in
-    let stands = slice_get_read batch (length batch) place a refl (place_within batch xs places k d at lt) a_is in
-    append_assoc hs (take k (joined batch xs places)) (handled_as a x ∷ []) ∙ ap (λ (t : List Handled). hs ++ t) (sym (joined_more batch xs places k x place a at there here stands))
+    let place = slice_index_or places k 0 in
+    let x = some_item xs k lt in
+    let a = some_item batch place (place_within batch xs places k 0 at lt) in
+    let here = slice_get-get_or places k 0 (omega (arith, long, lt)) in
+    record {
+      a = a.0;
+      x = x.0;
+      at = a.1;
+      is = x.1;
+      more = λ hs.
+          append_assoc hs (take k (joined batch xs places)) (handled_as a.0 x.0 ∷ [])
+          ∙ ap (λ (t : List Handled). hs ++ t) (sym (joined_more batch xs places k x.0 place a.0 at x.1 here a.1));
+    }

@@ -1,3 +1,4 @@
 pub mod Once
+pub mod Batching
 pub mod Joining
 pub mod Finishing

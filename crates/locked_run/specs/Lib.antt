@@ -1,4 +1,5 @@
 pub mod Locked
+pub mod Batches
 pub mod Reading
 pub mod Handled
 pub mod Going

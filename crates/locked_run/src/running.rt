@@ -15,7 +15,7 @@ ghost use Rattle.locked_run.specs.Going.{mode_of, Writes, Settles};
 ghost use Rattle.locked_run.specs.Lawful.{Runs};
 
 use crate::came::{Came, Settled};
-use crate::kept::{Kept, packets_in};
+use crate::kept::Batch;
 use crate::reading::read_all;
 use crate::writing::write_all;
 use capture_format::CaptureFormat;
@@ -23,7 +23,6 @@ use lock_mode::Gate;
 use lock_workers::{Turns, Worked};
 use nf_base::card::Card;
 use nf_base::func::Func;
-use nf_base::seq::Seq;
 use nf_base::workers::Workers;
 use nf_files::Files;
 use packet_feed::Feed;
@@ -50,7 +49,7 @@ fn work<R: Threads + Wait + Sync, T: Turns + Sync, G: Gate + Drop + Send>(
     alloc: Global,
     func: &Func,
     workers: Workers,
-    batch: &Seq<Kept>,
+    batch: &Batch,
     turns: &T,
     gate: &mut G,
 ) -> Result<Worked, AllocError>
@@ -59,21 +58,12 @@ fn work<R: Threads + Wait + Sync, T: Turns + Sync, G: Gate + Drop + Send>(
         All (λ p. p.id.port < ports) (map packet_of batch.now) }
     requires served { All (IsServed (function_of func.now)) (map packet_of batch.now) }
     ensures handled { IfOk result (λ all. AreHandled (function_of func.now) all.workers
-        (map packet_of batch.now) all.order.items all.places.items all.state) }
+        (map packet_of batch.now) all.order all.places.items all.state) }
     ensures as_many { IfOk result (λ all. (all.workers ≡ workers)
         ⊎ ((all.workers ≡ 1) × Rose (G.refused gate.old) (G.refused gate.new))) }
     ensures rises { G.refused gate.old ≤ G.refused gate.new }
 {
-    let packets = packets_in(alloc, batch)?;
-    lock_workers::run(
-        rt,
-        alloc,
-        func,
-        workers.get(),
-        packets.as_slice(),
-        turns,
-        gate,
-    )
+    lock_workers::run(rt, alloc, func, workers.get(), batch.packets(), turns, gate)
 }
 
 // Writes what packets leave, from what files begin with on.
@@ -85,18 +75,18 @@ fn write<F: Files>(
     card: Card,
     format: CaptureFormat,
     ports: u32,
-    batch: &Seq<Kept>,
+    batch: &Batch,
     worked: &Worked,
     targets: &[u32],
 ) -> Result<(), Stop>
     requires heading { IsHeading (record { mode = mode; workers = workers; card = card }) }
-    requires at { AreAt (map packet_of batch.now) worked.now.order.items worked.now.places.items }
+    requires at { AreAt (map packet_of batch.now) worked.now.order worked.now.places.items }
     requires created { EachFile (F.is_written files.old) targets.now }
     requires apart { IsApart targets.now }
     requires few { length targets.now ≤ 2 ^ 32 }
     requires empty { (k : ℕ) → (file : ℕ) → slice_get targets.now k ≡ Some file →
         IsEmptyIfTold ((F.told files.old).given file) }
-    ensures written { let hs = joined batch.now worked.now.order.items worked.now.places.items in
+    ensures written { let hs = joined batch.now worked.now.order worked.now.places.items in
         Writes mode workers card format ports hs (F.told files.new) targets.now result }
     ensures kept { KeepsBut targets.now (F.told files.old) (F.told files.new) }
     ensures cause { IsStopCause (F.counted files.old) (F.counted files.new) result }
@@ -106,8 +96,8 @@ fn write<F: Files>(
         Ok(sinks) => sinks,
         Err(_) => return Err(Stop::Memory),
     };
-    let (order, places) = (worked.order.as_slice(), worked.places.as_slice());
-    match write_all(files, &mut sinks, ports, batch, order, places) {
+    let places = worked.places.as_slice();
+    match write_all(files, &mut sinks, ports, batch, &worked.order, places) {
         Ok(()) => flush_all(&mut sinks, files),
         Err(stop) => Err(stop),
     }
@@ -122,7 +112,7 @@ fn settle<R: Threads + Wait + Sync, F: Files, T: Turns + Sync, G: Gate + Drop + 
     workers: Workers,
     card: Card,
     format: CaptureFormat,
-    batch: &Seq<Kept>,
+    batch: &Batch,
     targets: &[u32],
     turns: &T,
     gate: &mut G,
@@ -213,7 +203,7 @@ pub fn run<R: Threads + Wait + Sync, F: Files, T: Turns + Sync, G: Gate + Drop +
     // The file that failed is one of the captures or of the targets.
     ensures among { StopsAmong captures.now targets.now result }
 {
-    let mut batch = Seq::new(alloc);
+    let mut batch = Batch::new(alloc);
     let ending = match read_all(alloc, files, feed, captures, &mut batch) {
         Ok(ending) => ending,
         Err(stop) => return Err(stop),

@@ -1,34 +1,50 @@
 //! What packets leave is written, in the order in which they were handled.
-ghost use Rattle.std.specs.Prelude.{◌≡◌, ◌^◌, ◌≤◌, ◌∷◌, ◌++◌, [], ℕ, List, length, map};
+ghost use Rattle.std.specs.Prelude.{◌≡◌, ◌^◌, ◌<◌, ◌≤◌, ◌∷◌, ◌++◌, [], ℕ, List, length, map, slice_get, Some};
 ghost use Rattle.nf_base.specs.declared.card.Card.{Card};
 ghost use Rattle.capture_format.specs.declared.format.CaptureFormat.{CaptureFormat};
-ghost use Rattle.packet_feed.specs.Arrivals.{packet_of};
+ghost use Rattle.packet_feed.specs.Arrivals.{Arrival, packet_of};
 ghost use Rattle.packet_feed.specs.Told.{EachFile, IsApart};
 ghost use Rattle.run_history.specs.declared.line.Mode.{Mode};
 ghost use Rattle.stream_run.specs.Runs.{Handled};
 ghost use Rattle.stream_run.specs.Writing.{files_of, AreHeld, AllGoOn, KeepsBut, KeepsAllBut, IsStopCause, StopsAmong};
+ghost use Rattle.lock_log.specs.Answers.{done_told};
 ghost use Rattle.lock_workers.specs.Worked.{AreAt};
 ghost use Rattle.locked_run.specs.Handled.{joined};
 
-use crate::kept::Kept;
-use lock_core::Ordered;
+use crate::kept::Batch;
+use lock_core::again;
+use lock_log::{Order, Told, plain};
+use nf_base::done::Done;
 use nf_base::seq::Seq;
 use nf_files::Files;
-use stream_run::{HandledPacket, Sink, Stop, put_all};
+use stream_run::{Sink, Stop, put_all};
+
+// All that a packet came to.
+fn done_of(told: Told) -> Done
+    ensures { result ≡ done_told told.entry }
+{
+    match told {
+        Told::Plain(action) => plain(action),
+        Told::Whole(done) => again(done),
+    }
+}
 
 // Puts what one packet leaves into all files.
 fn write_one<F: Files>(
     files: &mut F,
     sinks: &mut Seq<Sink>,
     ports: u32,
-    kept: &Kept,
-    ordered: &Ordered,
+    batch: &Batch,
+    place: usize,
+    worker: u32,
+    done: &Done,
 ) -> Result<(), Stop>
+    requires place { place < length batch.now }
     requires created { EachFile (F.is_written files.old) (files_of sinks.old) }
     requires apart { IsApart (files_of sinks.old) }
     requires few { length sinks.old ≤ 2 ^ 32 }
-    ensures goes_on { let x = ordered.now in
-        let h : Handled = record { arrival = kept.now; worker = x.seat; done = x.done } in
+    ensures goes_on { (arrival : Arrival) → slice_get batch.now place ≡ Some arrival →
+        let h : Handled = record { arrival = arrival; worker = worker; done = done.now } in
         (mode : Mode) → (workers : ℕ) → (card : Card) → (format : CaptureFormat) →
         (hs : List Handled) →
         AreHeld mode workers card format ports hs (F.told files.old) sinks.old →
@@ -40,14 +56,7 @@ fn write_one<F: Files>(
     ensures reads { (g : ℕ) → F.is_read files.old g → F.is_read files.new g }
     ensures writes { (g : ℕ) → F.is_written files.old g → F.is_written files.new g }
 {
-    let handled = HandledPacket {
-        worker: ordered.seat,
-        packet: kept.packet(),
-        original: kept.original(),
-        frame: kept.frame(),
-        done: &ordered.done,
-    };
-    put_all(sinks, files, ports, &handled)
+    put_all(sinks, files, ports, &batch.handled(place, worker, done))
 }
 
 /// Puts what packets leave into all files, in an order of them, each of which stands at its place.
@@ -55,8 +64,8 @@ pub(crate) fn write_all<F: Files>(
     files: &mut F,
     sinks: &mut Seq<Sink>,
     ports: u32,
-    batch: &Seq<Kept>,
-    order: &[Ordered],
+    batch: &Batch,
+    order: &Order,
     places: &[u32],
 ) -> Result<(), Stop>
     requires at { AreAt (map packet_of batch.now) order.now places.now }
@@ -74,13 +83,16 @@ pub(crate) fn write_all<F: Files>(
     ensures among { StopsAmong [] (files_of sinks.old) result }
     ensures writes { (g : ℕ) → F.is_written files.old g → F.is_written files.new g }
 {
-    for k in 0..order.len() {
+    for k in 0..places.len() {
+        let done = done_of(order.told(k));
         match write_one(
             files,
             sinks,
             ports,
-            batch.item(places[k] as usize),
-            &order[k],
+            batch,
+            places[k] as usize,
+            order.seat(k),
+            &done,
         ) {
             Ok(()) => {}
             Err(stop) => return Err(stop),

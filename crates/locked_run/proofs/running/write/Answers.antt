@@ -1,5 +1,4 @@
 use Rattle.std.proofs.Common.{◌≡◌, ◌∙◌, ℕ, List, [], ap, subst}
-use Rattle.lock_core.specs.declared.call.Ordered.{Ordered}
 use Rattle.stream_run.specs.Runs.{Handled}
 use Rattle.stream_run.specs.Texts.{bytes_of}
 use Rattle.stream_run.specs.Writing.{files_of, AreHeld, AreFronts, KeepsBut}
@@ -11,7 +10,7 @@ use Rattle.locked_run.proofs.running.write.Goals as goal
 
 pub returns-in-Err-clause-written : goal.returns-in-Err-clause-written
 returns-in-Err-clause-written g c = λ k file e.
-    let hs = joined c.args.batch.now c.args.worked.now.order.items c.args.worked.now.places.items in
+    let hs = joined c.args.batch.now c.args.worked.now.order c.args.worked.now.places.items in
     empty_front (bytes_of c.args.mode c.args.workers c.args.card c.args.format c.args.ports k hs) ((g.F.Files.told c.args.files.now).given file) (c.requires.empty k file e)
 
 pub returns-in-Ok-write_all-clause-written : goal.returns-in-Ok-write_all-clause-written
@@ -22,11 +21,9 @@ returns-in-Ok-write_all-clause-written g c =
     let card = c.args.card in
     let format = c.args.format in
     let ports = c.args.ports in
-    let hs = joined c.args.batch.now c.args.worked.now.order.items c.args.worked.now.places.items in
-    let mine = joined c.args.batch.now c.as_slice-order.result.now c.as_slice-places.result.now in
-    let same : mine ≡ hs =
-    ap (λ (xs : List Ordered). joined c.args.batch.now xs c.as_slice-places.result.now) c.as_slice-order.ensures.value
-    ∙ ap (joined c.args.batch.now c.args.worked.now.order.items) c.as_slice-places.ensures.value in
+    let hs = joined c.args.batch.now c.args.worked.now.order c.args.worked.now.places.items in
+    let mine = joined c.args.batch.now c.args.worked.now.order c.as_slice-places.result.now in
+    let same : mine ≡ hs = ap (joined c.args.batch.now c.args.worked.now.order) c.as_slice-places.ensures.value in
     let heads = heads_held mode workers card format ports (told c.args.files.now) c.in-Ok.sinks c.args.targets.now c.in-Ok.ensures.files c.in-Ok.ensures.heads c.requires.empty in
     let held : AreHeld mode workers card format ports hs (told c.write_all.new.files) c.write_all.new.sinks =
     subst (λ (xs : List Handled). AreHeld mode workers card format ports xs (told c.write_all.new.files) c.write_all.new.sinks) same (c.in-Ok-write_all.ensures.goes_on mode workers card format [] heads) in
@@ -49,11 +46,9 @@ returns-clause-written g c =
     let card = c.args.card in
     let format = c.args.format in
     let ports = c.args.ports in
-    let hs = joined c.args.batch.now c.args.worked.now.order.items c.args.worked.now.places.items in
-    let mine = joined c.args.batch.now c.as_slice-order.result.now c.as_slice-places.result.now in
-    let same : mine ≡ hs =
-    ap (λ (xs : List Ordered). joined c.args.batch.now xs c.as_slice-places.result.now) c.as_slice-order.ensures.value
-    ∙ ap (joined c.args.batch.now c.args.worked.now.order.items) c.as_slice-places.ensures.value in
+    let hs = joined c.args.batch.now c.args.worked.now.order c.args.worked.now.places.items in
+    let mine = joined c.args.batch.now c.args.worked.now.order c.as_slice-places.result.now in
+    let same : mine ≡ hs = ap (joined c.args.batch.now c.args.worked.now.order) c.as_slice-places.ensures.value in
     let heads = heads_held mode workers card format ports (told c.args.files.now) c.in-Ok.sinks c.args.targets.now c.in-Ok.ensures.files c.in-Ok.ensures.heads c.requires.empty in
     let now = told c.write_all.new.files in
     subst (λ (fs : List ℕ). AreFronts mode workers card format ports hs now fs) (c.write_all.ensures.same_files ∙ c.in-Ok.ensures.files)
