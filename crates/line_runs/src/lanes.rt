@@ -1,15 +1,15 @@
-//! Lanes of the policer's queues, each with a worker in a thread of its own.
+//! Workers of the policer's queues, each in a thread of its own.
 
 use crate::policer::policer;
 use nf_base::packet::Packet;
 use nf_base::workers::Workers;
-use ring_line::{Lane, Next, Turns};
+use ring_line::{Next, Place, Turns};
 use rss_table::share;
 use std::alloc::{AllocError, Global};
 use std::sync::{Arc, Wait};
 use std::thread::{Parker, Threads};
 
-/// A lane of queue 0 or 1, whose packs have so many packets.
+/// A worker of queue 0 or 1, whose packs have so many packets.
 pub fn open<
     R: Threads + Wait + Clone + Send + Drop + 'static,
     G: Turns + Send + Sync + Drop + 'static,
@@ -20,19 +20,19 @@ pub fn open<
     size: usize,
     turns: &Arc<G>,
     bell: &Arc<Parker>,
-) -> Result<Lane, AllocError> {
+) -> Result<Place<G>, AllocError> {
     let func = policer(alloc)?;
     let queue = if second { 1 } else { 0 };
     let share = share(queue, Workers::new(2));
-    Lane::start(rt, alloc, func, share, size, turns, bell)
+    Place::start(rt, alloc, &func, share, size, turns, bell)
 }
 
 /// Sends packets while there is room, and tells how many were sent.
-pub fn send<R: Wait>(rt: &R, lane: &mut Lane, packets: &[Packet]) -> usize {
+pub fn send<R: Wait, G: Turns + Drop>(rt: &R, place: &mut Place<G>, packets: &[Packet]) -> usize {
     let mut sent = 0usize;
     for packet in packets {
-        if lane.has_room() {
-            lane.send(rt, packet);
+        if place.has_room() {
+            place.send(rt, packet);
             sent = sent.wrapping_add(1);
         }
     }
@@ -40,14 +40,14 @@ pub fn send<R: Wait>(rt: &R, lane: &mut Lane, packets: &[Packet]) -> usize {
 }
 
 /// Waits for what comes next: a packet is in flight.
-pub fn await_next<R: Wait>(rt: &R, lane: &mut Lane) -> Next {
+pub fn await_next<R: Wait, G: Turns + Drop>(rt: &R, place: &mut Place<G>) -> Next {
     for _ in rt.forever() {
-        match lane.next() {
+        match place.next() {
             Next::Nothing => {}
             next => return next,
         }
-        lane.flush(rt);
-        lane.turn(rt);
+        place.flush(rt);
+        place.turn(rt);
     }
     unreachable!()
 }

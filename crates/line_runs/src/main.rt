@@ -3,13 +3,14 @@
 #![tactic(auto)]
 
 mod lanes;
+mod lines;
 mod meeting;
 mod policer;
 
 use lanes::{await_next, open, send};
 use meeting::Meeting;
 use policer::packet;
-use ring_line::{Idle, Lane, Next};
+use ring_line::{Idle, Next, Place, Turns};
 use std::io;
 use std::sync::{Arc, Wait};
 use std::thread::{Parker, Threads};
@@ -35,7 +36,12 @@ fn tell(rt: &HostRuntime, next: &Next) -> io::Result<()> {
     }
 }
 
-fn tell_some<R: Wait>(rt: &HostRuntime, waits: &R, lane: &mut Lane, n: u32) -> io::Result<()> {
+fn tell_some<R: Wait, G: Turns + Drop>(
+    rt: &HostRuntime,
+    waits: &R,
+    lane: &mut Place<G>,
+    n: u32,
+) -> io::Result<()> {
     for _ in 0..n {
         let next = await_next(waits, lane);
         tell(rt, &next)?;
@@ -96,7 +102,7 @@ fn tell_meeting<R: Threads + Wait + Clone + Send + Drop + 'static>(
     threads: &R,
 ) -> io::Result<()> {
     let alloc = rt.alloc();
-    let turns = Arc::new(alloc, Meeting::new())?;
+    let turns = Arc::new(alloc, Meeting::new(1))?;
     let bell = Arc::new(alloc, Parker::new())?;
     let mut near = open(threads, alloc, false, 16, &turns, &bell)?;
     match open(threads, alloc, true, 16, &turns, &bell) {
@@ -121,6 +127,31 @@ fn tell_meeting<R: Threads + Wait + Clone + Send + Drop + 'static>(
     }
 }
 
+/// Worker 0 waits in its packet until worker 1 has handled 64, as many as can be in flight.
+fn tell_line<R: Threads + Wait + Clone + Send + Drop + 'static>(
+    rt: &HostRuntime,
+    threads: &R,
+    size: usize,
+) -> io::Result<()> {
+    let alloc = rt.alloc();
+    let turns = Arc::new(alloc, Meeting::new(64))?;
+    let mut line = lines::open(threads, alloc, size, &turns)?;
+    let near = lines::send(threads, &mut line, 0, &packet(0, 0, NEAR), 1);
+    let far = lines::send(threads, &mut line, 1, &packet(1, 1, FAR), 70);
+    let (room_near, room_far) = (line.has_room(0), line.has_room(1));
+    let came = lines::collect(threads, &mut line);
+    let told = println!(rt;
+        "packs of {size}: {near} and {far} sent, room {room_near} {room_far}, then {} and {} collected in order {}, room {}",
+        came.0,
+        came.1,
+        came.2,
+        line.has_room(1)
+    );
+    drop(line.finish(threads));
+    told?;
+    println!(rt; "the workers met: {}", turns.was_kept())
+}
+
 fn main(rt: HostRuntime) -> io::Result<()> {
     for size in [1, 2, 64] {
         tell_end(&rt, &rt, size)?;
@@ -128,5 +159,9 @@ fn main(rt: HostRuntime) -> io::Result<()> {
     for size in [1, 16, 64] {
         tell_room(&rt, &rt, size)?;
     }
-    tell_meeting(&rt, &rt)
+    tell_meeting(&rt, &rt)?;
+    for size in [1, 16, 64] {
+        tell_line(&rt, &rt, size)?;
+    }
+    Ok(())
 }

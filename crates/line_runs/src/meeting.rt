@@ -6,23 +6,25 @@ use std::sync::atomic::{AtomicU64, Ordering};
 /// Reads of a flag after which a worker gives up.
 const READS: u64 = 200_000_000;
 
-/// Holds worker 0 before its packet until worker 1 has handled one.
+/// Holds worker 0 before its packet until worker 1 has handled so many.
 #[derive(Drop)]
 pub struct Meeting {
+    wanted: u64,
     handled: AtomicU64,
     gave_up: AtomicU64,
 }
 
 impl Meeting {
     /// Before any packet.
-    pub fn new() -> Meeting {
+    pub fn new(wanted: u64) -> Meeting {
         Meeting {
+            wanted,
             handled: AtomicU64::new(0),
             gave_up: AtomicU64::new(0),
         }
     }
 
-    /// Whether worker 0 saw that worker 1 had handled a packet, each time it waited.
+    /// Whether worker 0 saw that worker 1 had handled as many, each time it waited.
     pub fn was_kept(&self) -> bool {
         self.gave_up.load(Ordering::SeqCst) == 0
     }
@@ -34,7 +36,7 @@ impl Turns for Meeting {
             return;
         }
         for _ in 0..READS {
-            if self.handled.load(Ordering::SeqCst) > 0 {
+            if self.handled.load(Ordering::SeqCst) >= self.wanted {
                 return;
             }
         }
@@ -43,7 +45,7 @@ impl Turns for Meeting {
 
     fn after(&self, worker: u32, _packet: PacketId) {
         if worker == 1 {
-            self.handled.store(1, Ordering::SeqCst);
+            self.handled.fetch_add(1, Ordering::SeqCst);
         }
     }
 }

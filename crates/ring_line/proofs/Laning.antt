@@ -13,13 +13,14 @@ use Rattle.ring_line.specs.declared.halt.Halt.{Halt}
 use Rattle.ring_line.specs.declared.lane.Lane.{Lane}
 use Rattle.ring_line.specs.Packs.{Packed, packets_in, answers_in, answers_of, TellsAtLast}
 use Rattle.ring_line.specs.Handled.{CanServe, CameTo}
-use Rattle.ring_line.specs.Shops.{Given, Answered}
-use Rattle.ring_line.specs.Lanes.{AreOpened, IsLast, Finishes}
+use Rattle.ring_line.specs.Shops.{Given, HasAnswered}
+use Rattle.ring_line.specs.Handed.{Finishes}
+use Rattle.ring_line.specs.Lanes.{AreOpened, IsLast, HasHalted}
 use Rattle.ring_line.proofs.Packing.{answers_append, answered_past, tells_end}
 
 -- the worker came to what it was sent
 worker_came : (given : Given) (func : Func) (share : Share) (packets : List Packet) (packs sent_back : List Packed) (tables : TablesState) (halt : Option Halt) → AreOpened given func share → All (CanServe func) packets → packets_in packs ≡ packets →
-    Answered given packs sent_back tables halt → CameTo (function_of func) share (opening (function_of func)) packets (answers_in sent_back) halt tables.state
+    HasAnswered given packs sent_back tables halt → CameTo (function_of func) share (opening (function_of func)) packets (answers_in sent_back) halt tables.state
 worker_came given func share packets packs sent_back tables halt opened served are h =
     let all : All (CanServe given.func) (packets_in packs) = subst (λ (g : Func). All (CanServe g) (packets_in packs)) (sym opened.func_is) (subst (All (CanServe func)) (sym are) served) in
     subst (λ (ps : List Packet). CameTo (function_of func) share (opening (function_of func)) ps (answers_in sent_back) halt tables.state) are
@@ -27,7 +28,7 @@ worker_came given func share packets packs sent_back tables halt opened served a
     (subst (λ (g : Func). CameTo (function_of g) given.tables.share given.tables.state (packets_in packs) (answers_in sent_back) halt tables.state) opened.func_is (h.came all)))
 
 pub lane_ends : (lane : Lane) (given : Given) (func : Func) (share : Share) (packets : List Packet) (answers : List Answer) (packs came left sent_back : List Packed) (tables : TablesState) (halt : Option Halt) → AreOpened given func share → All (CanServe func) packets → packets_in packs ≡ packets →
-    sent_back ≡ came ++ left → answers_in came ≡ answers ++ drop lane.at (answers_of lane.current) → IsLast came lane.current → tables.decls ≡ given.func.chains → Answered given packs sent_back tables halt → Finishes lane func share packets answers tables
+    sent_back ≡ came ++ left → answers_in came ≡ answers ++ drop lane.at (answers_of lane.current) → IsLast came lane.current → tables.decls ≡ given.func.chains → HasAnswered given packs sent_back tables halt → Finishes (HasHalted lane) (function_of func) share packets answers tables
 lane_ends lane given func share packets answers packs came left sent_back tables halt opened served are split had last decls h =
     let behind = drop lane.at (answers_of lane.current) in
     let all : answers_in sent_back ≡ answers ++ (behind ++ answers_in left) =

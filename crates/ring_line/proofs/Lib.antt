@@ -8,3 +8,6 @@ pub mod Answering
 pub mod Crossing
 pub mod Telling
 pub mod Laning
+pub mod Nearing
+pub mod Placing
+pub mod Lining

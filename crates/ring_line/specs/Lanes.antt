@@ -1,19 +1,16 @@
 -- What a lane stands for.
-use Rattle.std.specs.Prelude.{◌≡◌, ◌≤◌, ◌+◌, ℕ, List, [], ◌∷◌, ◌++◌, length, map, drop, Option, Some, None, All}
+use Rattle.std.specs.Prelude.{◌≡◌, ◌≤◌, List, [], ◌∷◌, ◌++◌, length, map, drop, Some, None, All}
 use Rattle.rtrb.specs.Ring as ring
 use Rattle.nf_base.specs.declared.func.Func.{Func}
 use Rattle.nf_base.specs.declared.packet.Packet.{Packet}
 use Rattle.nf_base.specs.declared.share.Share.{Share}
 use Rattle.nf_base.specs.Functions.{function_of}
-use Rattle.nf_base.specs.Step.{opening}
-use Rattle.vig_tables.specs.TablesState.{TablesState, opened_tables}
+use Rattle.vig_tables.specs.TablesState.{opened_tables}
 use Rattle.shard_machine.specs.declared.event.Answer.{Answer}
 use Rattle.ring_line.specs.declared.halt.Halt.{Halt}
 use Rattle.ring_line.specs.declared.lane.Lane.{Lane}
-use Rattle.ring_line.specs.declared.lane.Next as next
-use Rattle.ring_line.specs.declared.lane.Next.TheVariants.{Answered, Halted, Nothing}
 use Rattle.ring_line.specs.Packs.{Packed, packets_in, answers_in, answers_of}
-use Rattle.ring_line.specs.Handled.{CanServe, CameTo}
+use Rattle.ring_line.specs.Handled.{CanServe}
 use Rattle.ring_line.specs.Desks.{Seated}
 use Rattle.ring_line.specs.Shops.{Given, as_work, given_by}
 
@@ -45,35 +42,6 @@ pub record StandsFor (lane : Lane) (func : Func) (share : Share) (packets : List
 -- the lane has come to the share's end
 abbrev pub HasHalted : Lane → Halt → Type 0
 HasHalted lane halt = (length lane.current.answers ≤ lane.at) × (lane.current.halt ≡ Some halt)
-
--- what comes next is collected, or the lane stays as it is
-abbrev pub Gives :
-    next.Next → Lane → Func → Share → List Packet → List Answer → Type 0
-Gives (Answered answer) lane func share packets answers =
-    StandsFor lane func share packets (answers ++ answer ∷ [])
-Gives (Halted halt) lane func share packets answers =
-    StandsFor lane func share packets answers × HasHalted lane halt
-Gives Nothing lane func share packets answers = StandsFor lane func share packets answers
-
--- What a lane comes to once its worker is joined: the worker handled the packets that were sent, in
--- order, all of them or those before its share's end, and what was collected are the first of its
--- answers; all of them, where the lane had come to that end.
-pub record Finishes (lane : Lane) (func : Func) (share : Share) (packets : List Packet)
-    (answers : List Answer) (tables : TablesState) : Type 0 where
-  pub decls : tables.decls ≡ func.chains
-  pub share_is : tables.share ≡ share
-  pub more : List Answer
-  pub halt : Option Halt
-  pub came :
-      CameTo (function_of func) share (opening (function_of func)) packets (answers ++ more) halt
-      tables.state
-  pub halted : (at : Halt) → HasHalted lane at → (halt ≡ Some at) × (more ≡ [])
-
--- and how many are in flight then
-abbrev pub AfterNext : next.Next → ℕ → ℕ → Type 0
-AfterNext (Answered answer) old new = old ≡ new + 1
-AfterNext (Halted halt) old new = new ≡ old
-AfterNext Nothing old new = new ≡ old
 
 -- a lane of a worker that was given a desk, to which nothing was sent
 abbrev pub StartsWith : Lane → Seated → Type 0

@@ -2,7 +2,11 @@ pub mod Packs
 pub mod Handled
 pub mod Desks
 pub mod Shops
+pub mod Handed
 pub mod Lanes
 pub mod Starts
 pub mod Plays
+pub mod Nears
+pub mod Places
+pub mod Lines
 pub mod Rows

@@ -37,7 +37,7 @@ given_by keeps = record {
 
 -- Packs came in, and these went back: their packets were handled in order, from the tables that the
 -- worker was given, where the function has a handler for each of them.
-pub record Answered (given : Given) (packs sent_back : List Packed) (tables : TablesState)
+pub record HasAnswered (given : Given) (packs sent_back : List Packed) (tables : TablesState)
     (halt : Option Halt) : Type 0 where
   pub share : tables.share ≡ given.tables.share
   pub last : TellsAtLast halt sent_back
@@ -48,7 +48,7 @@ pub record Answered (given : Given) (packs sent_back : List Packed) (tables : Ta
 -- the same of a desk
 abbrev pub Told : Given → List Packed → List Packed → Seated → Type 0
 Told given packs sent_back desk =
-    (desk.func ≡ given.func) × Answered given packs sent_back desk.tables desk.halt
+    (desk.func ≡ given.func) × HasAnswered given packs sent_back desk.tables desk.halt
 
 -- the ends of one worker's rings, at two moments
 abbrev pub SameEnds : Ends → Ends → Type 0
@@ -80,7 +80,7 @@ pub record Returned (given : Given) (ended : Ended) : Type 0 where
   pub same : SameEnds given.ends ended.ends
   pub packs : List Packed
   pub received : received ended.ends.from ≡ closed packs
-  pub told : Answered given packs (sent ended.ends.to) ended.tables ended.halt
+  pub told : HasAnswered given packs (sent ended.ends.to) ended.tables ended.halt
   pub decls : ended.tables.decls ≡ given.func.chains
 
 -- a worker keeps what it was started with

@@ -11,7 +11,7 @@ use std::thread::Parker;
 const LOOKS: u32 = 300;
 
 /// The next item, if there is one.
-fn pop<T>(from: &mut Consumer<T>) -> Option<T>
+pub fn pop<T>(from: &mut Consumer<T>) -> Option<T>
     ensures ring { SameConsumer from.old from.new }
     ensures some { IfSome result (λ item. received from.new ≡ received from.old ++ item ∷ []) }
     ensures none { IfNone result (received from.new ≡ received from.old) }

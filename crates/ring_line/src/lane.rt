@@ -11,7 +11,7 @@ use shard_machine::Answer;
 use std::sync::Arc;
 use std::thread::{Parker, PromisedHandle};
 
-mod start;
+pub(crate) mod start;
 mod travel;
 
 /// What comes next of a lane.

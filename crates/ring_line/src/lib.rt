@@ -9,12 +9,17 @@ mod item;
 mod keeps;
 mod lane;
 pub mod laws;
+mod line;
+mod near;
 mod pack;
+mod place;
 pub mod rows;
 mod shop;
 
 pub use desk::Desk;
 pub use halt::Halt;
-pub use lane::{Lane, Next};
+pub use lane::Next;
+pub use line::{Answered, Line};
+pub use place::Place;
 pub use shard_machine::Answer;
 pub use worker_turns::{Idle, Turns};

@@ -1,5 +1,5 @@
 //! A worker is started.
-ghost use Rattle.std.specs.Prelude.{◌≡◌, ◌<◌, ◌≤◌, [], None, IfOk};
+ghost use Rattle.std.specs.Prelude.{◌≡◌, ◌<◌, ◌≤◌, [], None, IfOk, IfSome};
 ghost use Rattle.rtrb.specs.Ring.{sent, received, IsPair};
 ghost use Rattle.nf_base.specs.Functions.{function_of};
 ghost use Rattle.vig_tables.specs.TablesState.{opened_tables};
@@ -43,15 +43,15 @@ fn new_rings(alloc: Global) -> Result<Rings, AllocError>
     Ok(Rings { to, back, ends })
 }
 
-/// Starts a worker's thread.
+/// Starts a worker's thread: None where none can be started.
 fn started<
     R: Threads + Wait + Clone + Send + Drop + 'static,
     G: Turns + Send + Sync + Drop + 'static,
->(rt: &R, shop: Shop<G>) -> Result<PromisedHandle<Ended, Keeps>, AllocError>
+>(rt: &R, shop: Shop<G>) -> Result<Option<PromisedHandle<Ended, Keeps>>, AllocError>
     requires received { received shop.ends.from ≡ [] }
     requires sent { sent shop.ends.to ≡ [] }
     requires running { shop.desk.halt ≡ None }
-    ensures { IfOk result (λ child. IsGiven child.promise shop.ends shop.desk) }
+    ensures { IfOk result (λ o. IfSome o (λ child. IsGiven child.promise shop.ends shop.desk)) }
 {
     let handle = rt.clone()?;
     let keeps = Keeps {
@@ -59,8 +59,10 @@ fn started<
         func: Snapshot::of(shop.desk.func()),
         tables: Snapshot::of(shop.desk.tables()),
     };
-    let child = thread::spawn_with(rt, keeps, move || shop.run(&handle))?;
-    Ok(child)
+    match thread::spawn_with(rt, keeps, move || shop.run(&handle)) {
+        Ok(child) => Ok(Some(child)),
+        Err(_) => Ok(None),
+    }
 }
 
 /// The packs of a lane.
@@ -89,13 +91,22 @@ fn add_pack(alloc: Global, packs: &mut Vec<Pack>) -> Result<(), AllocError> {
     Ok(())
 }
 
+/// Two empty packs.
+pub(crate) fn pack_pair(alloc: Global) -> Result<(Pack, Pack), AllocError>
+    ensures first { IfOk result (λ pair. pair.0 ≡ empty_pack) }
+    ensures second { IfOk result (λ pair. pair.1 ≡ empty_pack) }
+{
+    let first = Pack::new(alloc)?;
+    let second = Pack::new(alloc)?;
+    Ok((first, second))
+}
+
 /// Those packs, and two more.
 fn new_stock(alloc: Global) -> Result<Stock, AllocError>
     ensures filling { IfOk result (λ stock. stock.filling ≡ empty_pack) }
     ensures current { IfOk result (λ stock. stock.current ≡ empty_pack) }
 {
-    let filling = Pack::new(alloc)?;
-    let current = Pack::new(alloc)?;
+    let (filling, current) = pack_pair(alloc)?;
     let spares = new_packs(alloc)?;
     Ok(Stock {
         filling,
@@ -124,8 +135,8 @@ fn new_bells(alloc: Global, own_bell: &Arc<Parker>) -> Result<Bells, AllocError>
     })
 }
 
-/// A desk with opened tables.
-fn new_desk<G: Turns + Drop>(
+/// A desk of a function, with opened tables.
+pub(crate) fn new_desk<G: Turns + Drop>(
     alloc: Global,
     func: Func,
     share: Share,
@@ -141,11 +152,11 @@ fn new_desk<G: Turns + Drop>(
 }
 
 impl Lane {
-    /// Starts a worker of a share, whose tables are opened here. A pack is pushed once it has so many
-    /// packets, 64 at most, or when all are flushed.
+    /// Starts a worker of a share, whose tables are opened here: None where no thread can be started.
+    /// A pack is pushed once it has so many packets, 64 at most, or when it is flushed.
     ///
     /// The bell is rung whenever a pack comes back.
-    pub fn start<
+    pub(crate) fn start<
         R: Threads + Wait + Clone + Send + Drop + 'static,
         G: Turns + Send + Sync + Drop + 'static,
     >(
@@ -156,9 +167,9 @@ impl Lane {
         size: usize,
         turns: &Arc<G>,
         own_bell: &Arc<Parker>,
-    ) -> Result<Lane, AllocError>
-        ensures stands { IfOk result (λ lane. StandsFor lane func share [] []) }
-        ensures none { IfOk result (λ lane. lane.in_flight ≡ 0) }
+    ) -> Result<Option<Lane>, AllocError>
+        ensures stands { IfOk result (λ o. IfSome o (λ lane. StandsFor lane func share [] [])) }
+        ensures none { IfOk result (λ o. IfSome o (λ lane. lane.in_flight ≡ 0)) }
     {
         let desk = new_desk(alloc, func, share, turns)?;
         let stock = new_stock(alloc)?;
@@ -177,12 +188,12 @@ impl Lane {
         stock: Stock,
         bells: Bells,
         size: usize,
-    ) -> Result<Lane, AllocError>
+    ) -> Result<Option<Lane>, AllocError>
         requires filling { stock.filling ≡ empty_pack }
         requires current { stock.current ≡ empty_pack }
         requires running { desk.halt ≡ None }
-        ensures stands { IfOk result (λ lane. StartsWith lane desk) }
-        ensures none { IfOk result (λ lane. lane.in_flight ≡ 0) }
+        ensures stands { IfOk result (λ o. IfSome o (λ lane. StartsWith lane desk)) }
+        ensures none { IfOk result (λ o. IfSome o (λ lane. lane.in_flight ≡ 0)) }
     {
         let Bells {
             bell,
@@ -197,24 +208,26 @@ impl Lane {
             bell: bell_there,
             other: own_bell_there,
         };
-        let child = started(rt, shop)?;
         let Stock {
             filling,
             current,
             spares,
         } = stock;
-        Ok(Lane {
-            to,
-            back,
-            child,
-            bell,
-            own_bell,
-            filling,
-            current,
-            at: 0,
-            spares,
-            in_flight: 0,
-            size,
-        })
+        match started(rt, shop)? {
+            Some(child) => Ok(Some(Lane {
+                to,
+                back,
+                child,
+                bell,
+                own_bell,
+                filling,
+                current,
+                at: 0,
+                spares,
+                in_flight: 0,
+                size,
+            })),
+            None => Ok(None),
+        }
     }
 }

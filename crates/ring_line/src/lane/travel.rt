@@ -3,12 +3,14 @@ ghost use Rattle.std.specs.Prelude.{◌≡◌, ◌≤◌, ◌<◌, ◌+◌, true
 ghost use Rattle.nf_base.specs.declared.func.Func.{Func};
 ghost use Rattle.nf_base.specs.declared.packet.Packet as arrival;
 ghost use Rattle.nf_base.specs.declared.share.Share.{Share};
+ghost use Rattle.nf_base.specs.Functions.{function_of};
 ghost use Rattle.shard_machine.specs.declared.event.Answer as answer;
 ghost use Rattle.ring_line.specs.Handled.{CanServe};
-ghost use Rattle.ring_line.specs.Lanes.{StandsFor, Gives, Finishes, AfterNext};
+ghost use Rattle.ring_line.specs.Handed.{Gives, Finishes, AfterNext};
+ghost use Rattle.ring_line.specs.Lanes.{StandsFor, HasHalted};
 
 use super::{Lane, Next};
-use crate::bell::{give, take};
+use crate::bell::{give, pop, take};
 use crate::item::Item;
 use crate::keeps::{Ended, Ends};
 use crate::pack::{IN_FLIGHT, Pack};
@@ -88,7 +90,7 @@ impl Lane {
     pub fn next(&mut self) -> Next
         ensures gives { (func : Func) → (share : Share) → (packets : List arrival.Packet) →
             (answers : List answer.Answer) → StandsFor self.old func share packets answers →
-            Gives result self.new func share packets answers }
+            Gives result (StandsFor self.new func share packets) (HasHalted self.new) answers }
         ensures in_flight { AfterNext result self.old.in_flight self.new.in_flight }
     {
         if self.at < self.current.answered() {
@@ -147,11 +149,43 @@ impl Lane {
         keep(&mut self.spares, used);
     }
 
+    /// Takes the next pack, where all answers of the last one are collected and one has come; and tells
+    /// whether it did.
+    pub fn poll(&mut self) -> bool
+        ensures stands { (func : Func) → (share : Share) → (packets : List arrival.Packet) →
+            (answers : List answer.Answer) → StandsFor self.old func share packets answers →
+            StandsFor self.new func share packets answers }
+        ensures in_flight { self.new.in_flight ≡ self.old.in_flight }
+    {
+        if self.at < self.current.answered() {
+            return false;
+        }
+        self.poll_over()
+    }
+
+    fn poll_over(&mut self) -> bool
+        requires { length self.old.current.answers ≤ self.old.at }
+        ensures stands { (func : Func) → (share : Share) → (packets : List arrival.Packet) →
+            (answers : List answer.Answer) → StandsFor self.old func share packets answers →
+            StandsFor self.new func share packets answers }
+        ensures in_flight { self.new.in_flight ≡ self.old.in_flight }
+    {
+        match pop(&mut self.back) {
+            Some(pack) => {
+                let used = mem::replace(&mut self.current, pack);
+                self.at = 0;
+                keep(&mut self.spares, used);
+                true
+            }
+            None => false,
+        }
+    }
+
     /// Joins the worker, and hands its tables out.
     pub fn finish<R: Threads + Wait>(self, rt: &R) -> Tables
         ensures { (func : Func) → (share : Share) → (packets : List arrival.Packet) →
             (answers : List answer.Answer) → StandsFor self func share packets answers →
-            Finishes self func share packets answers result }
+            Finishes (HasHalted self) (function_of func) share packets answers result }
     {
         let Lane {
             mut to,

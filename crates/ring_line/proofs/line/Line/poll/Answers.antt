@@ -1,0 +1,21 @@
+use Rattle.std.proofs.Common.{◌≡◌, Some, slice_get, length, refl, ◌∙◌}
+use Rattle.std.proofs.lemmas.Option.{slice_get_read}
+use Rattle.std.proofs.lemmas.List.{length-set}
+use Rattle.shard_machine.specs.Machine.{packets_at}
+use Rattle.ring_line.specs.Plays.{collected_at}
+use Rattle.ring_line.proofs.Lining.{StandAt, each_set}
+use Rattle.ring_line.proofs.line.Line.poll.Goals as goal
+
+pub returns-clause-stands : goal.returns-clause-stands
+returns-clause-stands g c = λ x packets got st.
+    let old = c.args.self.now in
+    let q = c.args.queue in
+    let place = c.item_mut.result.now in
+    let at : slice_get old.places q ≡ Some place = slice_get_read old.places (length old.places) q place refl c.requires c.item_mut.ensures.value in
+    record {
+      count = length-set old.places q c.poll.new.self ∙ st.count;
+      order = st.order;
+      time = st.time;
+      places = each_set (StandAt x packets got) old.places q c.poll.new.self st.places
+          (c.poll.ensures.stands x.function (x.share q) (packets_at x.queue q packets) (collected_at q got) (st.places q place at));
+    }

@@ -1,0 +1,23 @@
+use Rattle.std.proofs.Common.{◌≡◌, ◌++◌, map, Some, slice_get, length, refl, ap, ◌∙◌}
+use Rattle.std.proofs.lemmas.Option.{slice_get_read}
+use Rattle.std.proofs.lemmas.List.{length-set}
+use Rattle.shard_core.specs.declared.collected.Collected.{Collected}
+use Rattle.shard_machine.specs.Machine.{packets_at}
+use Rattle.ring_line.specs.Plays.{collected_at}
+use Rattle.ring_line.proofs.Lining.{sent_places, sent_order}
+use Rattle.ring_line.proofs.line.Line.send.Goals as goal
+
+pub returns-clause-stands : goal.returns-clause-stands
+returns-clause-stands g c = λ x packets got st can home.
+    let old = c.args.self.now in
+    let q = c.args.queue in
+    let p = c.args.packet.now in
+    let place = c.item_mut.result.now in
+    let at : slice_get old.places q ≡ Some place = slice_get_read old.places (length old.places) q place refl c.requires.queue c.item_mut.ensures.value in
+    record {
+      count = length-set old.places q c.send.new.self ∙ st.count;
+      order = ap (λ qs. map (λ (d : Collected). d.queue) got ++ qs) c.push_back_reserved.ensures.items ∙ sent_order x packets got old.order.items q p home st.order;
+      time = st.time;
+      places = sent_places x packets got old.places q p c.send.new.self home st.places
+          (c.send.ensures.stands x.function (x.share q) (packets_at x.queue q packets) (collected_at q got) (st.places q place at) can);
+    }

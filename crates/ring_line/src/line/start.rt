@@ -1,0 +1,86 @@
+//! Workers of all queues are started.
+ghost use Rattle.std.specs.Prelude.{◌≡◌, ◌≤◌, ◌<◌, ◌+◌, [], length, IfOk, OnOk};
+ghost use Rattle.std.specs.Vec.{vec_capacity};
+ghost use Rattle.nf_base.specs.Functions.{function_of};
+ghost use Rattle.shard_machine.specs.Machine.{Setup};
+ghost use Rattle.shard_machine.specs.Moments.{IsSetup};
+ghost use Rattle.ring_line.specs.Lines.{LineStands, AreStarted};
+
+use super::finish::finish_all;
+use super::{ALL_IN_FLIGHT, Line};
+use crate::place::Place;
+use nf_base::func::Func;
+use nf_base::seq::Seq;
+use nf_base::workers::Workers;
+use rss_table::share;
+use std::alloc::{AllocError, Global};
+use std::collections::VecDeque;
+use std::sync::{Arc, Wait};
+use std::thread::{Parker, Threads};
+use worker_turns::Turns;
+
+impl<G: Turns + Send + Sync + Drop + 'static> Line<G> {
+    /// Starts a worker of each queue, in a thread of its own where one can be started. A pack goes out once
+    /// it has so many packets, 64 at most, or when an answer is waited for.
+    ///
+    /// `turns` is told of each packet that a worker comes to. At an `Err` no worker is left running.
+    pub fn start<R: Threads + Wait + Clone + Send + Drop + 'static>(
+        rt: &R,
+        alloc: Global,
+        func: &Func,
+        workers: Workers,
+        size: usize,
+        turns: &Arc<G>,
+    ) -> Result<Line<G>, AllocError>
+        ensures stands { IfOk result (λ line. (x : Setup) → IsSetup x →
+            x.function ≡ function_of func.now → x.workers ≡ workers →
+            LineStands line x [] []) }
+        ensures queues { IfOk result (λ line. length line.places ≡ workers) }
+        ensures none { IfOk result (λ line. line.order.items ≡ []) }
+    {
+        let order = VecDeque::with_capacity(alloc, ALL_IN_FLIGHT)?;
+        let parts = Vec::with_capacity(alloc, 16)?;
+        let mut places = Vec::with_capacity(alloc, 16)?;
+        match start_all(rt, alloc, func, workers, size, turns, &mut places) {
+            Ok(()) => Ok(Line {
+                places: Seq::from_vec(places),
+                order,
+                parts,
+                time: 0,
+            }),
+            Err(fault) => {
+                finish_all(rt, Seq::from_vec(places), parts);
+                Err(fault)
+            }
+        }
+    }
+}
+
+/// Starts workers, of one queue after another. There is room for them.
+fn start_all<
+    R: Threads + Wait + Clone + Send + Drop + 'static,
+    G: Turns + Send + Sync + Drop + 'static,
+>(
+    rt: &R,
+    alloc: Global,
+    func: &Func,
+    workers: Workers,
+    size: usize,
+    turns: &Arc<G>,
+    places: &mut Vec<Place<G>>,
+) -> Result<(), AllocError>
+    requires none { places.old.items ≡ [] }
+    requires room { 16 ≤ vec_capacity places.old }
+    ensures started { OnOk result (AreStarted (function_of func.now) workers places.new.items) }
+    ensures all { OnOk result (length places.new.items ≡ workers) }
+    ensures most { length places.new.items ≤ 16 }
+{
+    let bell = Arc::new(alloc, Parker::new())?;
+    for queue in 0..workers.get() {
+        match Place::start(rt, alloc, func, share(queue, workers), size, turns, &bell) {
+            Ok(place) => places.push_reserved(place),
+            Err(fault) => return Err(fault),
+        }
+    }
+    Ok(())
+}

@@ -1,0 +1,166 @@
+//! A desk's packets, worked when one would wait for them.
+ghost use Rattle.std.specs.Prelude.{◌≡◌, ◌≤◌, ◌<◌, ◌+◌, true, None, List, [], ◌∷◌, ◌++◌, length, All};
+ghost use Rattle.nf_base.specs.declared.func.Func.{Func};
+ghost use Rattle.nf_base.specs.declared.packet.Packet as arrival;
+ghost use Rattle.nf_base.specs.declared.share.Share.{Share};
+ghost use Rattle.nf_base.specs.declared.state.State.{State};
+ghost use Rattle.nf_base.specs.Functions.{function_of};
+ghost use Rattle.vig_tables.specs.TablesState.{opened_tables};
+ghost use Rattle.shard_machine.specs.declared.event.Answer as answer;
+ghost use Rattle.ring_line.specs.Packs.{empty_pack};
+ghost use Rattle.ring_line.specs.Handled.{CanServe, CameTo};
+ghost use Rattle.ring_line.specs.Handed.{Gives, Finishes, AfterNext};
+ghost use Rattle.ring_line.specs.Nears.{NearStands, NearHalted, CameOn};
+
+use super::Near;
+use crate::desk::Desk;
+use crate::lane::Next;
+use crate::pack::{IN_FLIGHT, Pack};
+use nf_base::packet::Packet;
+use shard_machine::Answer;
+use std::mem;
+use vig_tables::Tables;
+use worker_turns::Turns;
+
+impl<G: Turns + Drop> Near<G> {
+    /// A worker with its desk, to which nothing was sent.
+    pub(crate) fn new(desk: Desk<G>, filling: Pack, current: Pack) -> Near<G>
+        requires filling { filling ≡ empty_pack }
+        requires current { current ≡ empty_pack }
+        requires running { desk.halt ≡ None }
+        ensures stands { (share : Share) → desk.tables ≡ opened_tables (function_of desk.func) share →
+            NearStands result desk.func share [] [] }
+        ensures none { result.in_flight ≡ 0 }
+    {
+        Near {
+            desk,
+            filling,
+            current,
+            at: 0,
+            in_flight: 0,
+        }
+    }
+
+    pub(crate) fn has_room(&self) -> bool
+        ensures yes { result ≡ true → self.now.in_flight < 64 }
+        ensures all { self.now.in_flight < 64 → result ≡ true }
+    {
+        self.in_flight < IN_FLIGHT
+    }
+
+    /// A packet waits to be worked.
+    pub(crate) fn send(&mut self, packet: &Packet)
+        requires { self.old.in_flight < 64 }
+        ensures stands { (func : Func) → (share : Share) → (packets : List arrival.Packet) →
+            (answers : List answer.Answer) → NearStands self.old func share packets answers →
+            CanServe func packet.now →
+            NearStands self.new func share (packets ++ packet.now ∷ []) answers }
+        ensures in_flight { self.new.in_flight ≡ self.old.in_flight + 1 }
+    {
+        self.in_flight += 1;
+        self.filling.push(packet);
+    }
+
+    /// The next answer of the packets that were worked last, or the share's end behind all of them.
+    pub(crate) fn next(&mut self) -> Next
+        ensures gives { (func : Func) → (share : Share) → (packets : List arrival.Packet) →
+            (answers : List answer.Answer) → NearStands self.old func share packets answers →
+            Gives result (NearStands self.new func share packets) (NearHalted self.new) answers }
+        ensures in_flight { AfterNext result self.old.in_flight self.new.in_flight }
+    {
+        if self.at < self.current.answered() {
+            // What is not worked yet is in flight too.
+            if self.filling.len() < self.in_flight {
+                Next::Answered(self.take_next())
+            } else {
+                Next::Nothing
+            }
+        } else {
+            match self.current.halt() {
+                Some(halt) => Next::Halted(halt),
+                None => Next::Nothing,
+            }
+        }
+    }
+
+    fn take_next(&mut self) -> Answer
+        requires left { self.old.at < length self.old.current.answers }
+        requires in_flight { length self.old.filling.packets < self.old.in_flight }
+        ensures stands { (func : Func) → (share : Share) → (packets : List arrival.Packet) →
+            (answers : List answer.Answer) → NearStands self.old func share packets answers →
+            NearStands self.new func share packets (answers ++ result ∷ []) }
+        ensures in_flight { self.old.in_flight ≡ self.new.in_flight + 1 }
+    {
+        let answer = self.current.get(self.at);
+        self.at += 1;
+        self.in_flight -= 1;
+        answer
+    }
+
+    /// Works the packets that wait, where all answers of the last ones are collected and the share goes
+    /// on.
+    pub(crate) fn turn(&mut self)
+        ensures stands { (func : Func) → (share : Share) → (packets : List arrival.Packet) →
+            (answers : List answer.Answer) → NearStands self.old func share packets answers →
+            NearStands self.new func share packets answers }
+        ensures in_flight { self.new.in_flight ≡ self.old.in_flight }
+    {
+        if self.at < self.current.answered() {
+            return;
+        }
+        match self.desk.halt() {
+            Some(_) => {}
+            None => self.turn_over(),
+        }
+    }
+
+    fn turn_over(&mut self)
+        requires past { length self.old.current.answers ≤ self.old.at }
+        requires running { self.old.desk.halt ≡ None }
+        ensures stands { (func : Func) → (share : Share) → (packets : List arrival.Packet) →
+            (answers : List answer.Answer) → NearStands self.old func share packets answers →
+            NearStands self.new func share packets answers }
+        ensures in_flight { self.new.in_flight ≡ self.old.in_flight }
+    {
+        mem::swap(&mut self.filling, &mut self.current);
+        self.filling.clear();
+        self.at = 0;
+        self.desk.answer(&mut self.current);
+    }
+
+    /// Works the packets that wait, and hands the tables out.
+    pub(crate) fn finish(self) -> Tables
+        ensures { (func : Func) → (share : Share) → (packets : List arrival.Packet) →
+            (answers : List answer.Answer) → NearStands self func share packets answers →
+            Finishes (NearHalted self) (function_of func) share packets answers result }
+    {
+        let Near {
+            desk,
+            filling,
+            current: _,
+            at: _,
+            in_flight: _,
+        } = self;
+        match desk.halt() {
+            Some(_) => desk.into_tables(),
+            None => work_rest(desk, filling),
+        }
+    }
+}
+
+/// Works packets behind those that a desk has worked, and hands its tables out.
+fn work_rest<G: Turns + Drop>(desk: Desk<G>, pack: Pack) -> Tables
+    requires { desk.halt ≡ None }
+    ensures decls { result.decls ≡ desk.func.chains }
+    ensures share { result.share ≡ desk.tables.share }
+    ensures came { (first : State) → (packets : List arrival.Packet) → (told : List answer.Answer) →
+        let f = function_of desk.func in let share = desk.tables.share in
+        All (CanServe desk.func) pack.packets →
+        CameTo f share first packets told None desk.tables.state →
+        CameOn f share first (packets ++ pack.packets) told result.state }
+{
+    let mut desk = desk;
+    let mut pack = pack;
+    desk.answer(&mut pack);
+    desk.into_tables()
+}
