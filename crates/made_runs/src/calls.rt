@@ -14,7 +14,7 @@ use nf_base::func::Func;
 use nf_files::{Files, FilesFault};
 use packet_feed::{Fed, Feed, FeedFault};
 use std::alloc::{AllocError, Global};
-use std::sync::Wait;
+use std::sync::{Arc, Wait};
 use std::thread::Threads;
 use stream_run::Stop;
 use traffic_run::{Asked, Came, Who, run};
@@ -77,7 +77,7 @@ pub fn create_all<F: Files>(
 }
 
 /// Handles traffic, and writes what it leaves into files that follow one another.
-pub fn run_all<R: Threads + Wait + Sync, F: Files>(
+pub fn run_all<R: Threads + Wait + Clone + Send + Sync + Drop + 'static, F: Files>(
     rt: &R,
     alloc: Global,
     files: &mut F,
@@ -97,7 +97,10 @@ pub fn run_all<R: Threads + Wait + Sync, F: Files>(
 {
     let first = made[0];
     let mut gate = PackGate::new();
-    run(
-        rt, alloc, files, func, who, asked, first, made, &Idle, &mut gate,
-    )
+    match Arc::new(alloc, Idle) {
+        Ok(turns) => run(
+            rt, alloc, files, func, who, asked, first, made, &turns, &mut gate,
+        ),
+        Err(_) => Err(Stop::Memory),
+    }
 }

@@ -74,7 +74,7 @@ fn workers_in(by: By) -> Workers {
 }
 
 /// Runs a function of two ports over traffic; the calls on files that are listed fail.
-pub fn outcome_of<R: Threads + Wait + Sync>(
+pub fn outcome_of<R: Threads + Wait + Clone + Send + Sync + Drop + 'static>(
     rt: &R,
     alloc: Global,
     text: &str,
@@ -102,7 +102,7 @@ pub fn outcome_of<R: Threads + Wait + Sync>(
 }
 
 /// Runs a function over traffic, by who is to handle it.
-fn run_over<R: Threads + Wait + Sync, F: Files>(
+fn run_over<R: Threads + Wait + Clone + Send + Sync + Drop + 'static, F: Files>(
     rt: &R,
     alloc: Global,
     files: &mut F,
@@ -147,7 +147,7 @@ fn run_over<R: Threads + Wait + Sync, F: Files>(
 }
 
 /// Leaves what comes of a run in files that are created.
-fn run_by<R: Threads + Wait + Sync, F: Files>(
+fn run_by<R: Threads + Wait + Clone + Send + Sync + Drop + 'static, F: Files>(
     rt: &R,
     alloc: Global,
     files: &mut F,

@@ -21,17 +21,22 @@ use nf_files::Files;
 use replay_call::replay;
 use run_call::run;
 use std::alloc::Global;
-use std::sync::Wait;
+use std::sync::{Arc, Wait};
 use std::thread::Threads;
 use worker_turns::Turns;
 
 // Does a run.
-fn do_run<R: Threads + Wait + Sync, F: Files, G: Turns + Sync, L: Gate + Drop + Send>(
+fn do_run<
+    R: Threads + Wait + Clone + Send + Sync + Drop + 'static,
+    F: Files,
+    G: Turns + Send + Sync + Drop + 'static,
+    L: Gate + Drop + Send,
+>(
     rt: &R,
     alloc: Global,
     files: &mut F,
     command: &RunCommand,
-    turns: &G,
+    turns: &Arc<G>,
     gate: &mut L,
 ) -> Status
     requires some { 1 ≤ length command.now.captures.items }
@@ -62,12 +67,17 @@ fn do_replay<F: Files>(alloc: Global, files: &mut F, command: &ReplayCommand) ->
 }
 
 // Does a run over made-up traffic.
-fn do_gen<R: Threads + Wait + Sync, F: Files, G: Turns + Sync, L: Gate + Drop + Send>(
+fn do_gen<
+    R: Threads + Wait + Clone + Send + Sync + Drop + 'static,
+    F: Files,
+    G: Turns + Send + Sync + Drop + 'static,
+    L: Gate + Drop + Send,
+>(
     rt: &R,
     alloc: Global,
     files: &mut F,
     command: &GenCommand,
-    turns: &G,
+    turns: &Arc<G>,
     gate: &mut L,
 ) -> Status
     requires flows { 1 ≤ (view.gen command.now).flows }
@@ -117,14 +127,12 @@ fn do_describe<F: Files>(alloc: Global, files: &mut F, command: &DescribeCommand
 }
 
 // Does what a command asks for.
-fn obey<R: Threads + Wait + Sync, F: Files, G: Turns + Sync, L: Gate + Drop + Send>(
-    rt: &R,
-    alloc: Global,
-    files: &mut F,
-    command: &Command,
-    turns: &G,
-    gate: &mut L,
-) -> Status
+fn obey<
+    R: Threads + Wait + Clone + Send + Sync + Drop + 'static,
+    F: Files,
+    G: Turns + Send + Sync + Drop + 'static,
+    L: Gate + Drop + Send,
+>(rt: &R, alloc: Global, files: &mut F, command: &Command, turns: &Arc<G>, gate: &mut L) -> Status
     requires few { view.HasFew command.now }
     ensures { let before = seen (F.told files.old) (F.counted files.old) in
         Comes (Rose (L.refused gate.old) (L.refused gate.new)) (Some (view.asked command.now)) before
@@ -140,14 +148,12 @@ fn obey<R: Threads + Wait + Sync, F: Files, G: Turns + Sync, L: Gate + Drop + Se
 }
 
 // Does what words ask for.
-fn carry_out<R: Threads + Wait + Sync, F: Files, G: Turns + Sync, L: Gate + Drop + Send>(
-    rt: &R,
-    alloc: Global,
-    words: &[String],
-    files: &mut F,
-    turns: &G,
-    gate: &mut L,
-) -> Status
+fn carry_out<
+    R: Threads + Wait + Clone + Send + Sync + Drop + 'static,
+    F: Files,
+    G: Turns + Send + Sync + Drop + 'static,
+    L: Gate + Drop + Send,
+>(rt: &R, alloc: Global, words: &[String], files: &mut F, turns: &Arc<G>, gate: &mut L) -> Status
     ensures { let before = seen (F.told files.old) (F.counted files.old) in
         ComesTo (Rose (L.refused gate.old) (L.refused gate.new))
         (command_of (map string_bytes words.now)) before
@@ -178,14 +184,12 @@ fn carry_out<R: Threads + Wait + Sync, F: Files, G: Turns + Sync, L: Gate + Drop
 /// Several workers of a run, over captures or made-up traffic, are threads of `rt`; where one can't be started,
 /// the caller does its work. What they come to is told to `turns`. Workers that share tables go in by `gate`;
 /// where it can't make the ways in, one worker does the run.
-pub fn maestro<R: Threads + Wait + Sync, F: Files, G: Turns + Sync, L: Gate + Drop + Send>(
-    rt: &R,
-    alloc: Global,
-    words: &[String],
-    files: &mut F,
-    turns: &G,
-    gate: &mut L,
-) -> Status
+pub fn maestro<
+    R: Threads + Wait + Clone + Send + Sync + Drop + 'static,
+    F: Files,
+    G: Turns + Send + Sync + Drop + 'static,
+    L: Gate + Drop + Send,
+>(rt: &R, alloc: Global, words: &[String], files: &mut F, turns: &Arc<G>, gate: &mut L) -> Status
     // What the call came to, what it asked for and which call failed; and what standard error holds of that.
     ensures answer { let before = seen (F.told files.old) (F.counted files.old) in
         Answers (Rose (L.refused gate.old) (L.refused gate.new))

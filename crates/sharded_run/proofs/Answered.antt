@@ -9,7 +9,7 @@ use Rattle.shard_core.specs.Sharded.{answer_of}
 use Rattle.stream_run.specs.Runs.{Handled}
 use Rattle.stream_run.specs.Streaming.{arrival_of}
 use Rattle.sharded_run.specs.Going.{answer_in}
-use Rattle.sharded_run.specs.Rounds.{answered}
+use Rattle.sharded_run.specs.Answered.{answered}
 
 -- the packets of what was collected
 abbrev pub packets_got : List Collected → List Packet

@@ -2,12 +2,13 @@ pub mod Rising
 pub mod Fitting
 pub mod Answered
 pub mod Lined
-pub mod Reached
+pub mod Lines
+pub mod Endings
+pub mod Passed
 pub mod Complete
 pub mod Begun
+pub mod Concluded
 pub mod Gathered
 pub mod Owned
 pub mod Written
-pub mod Rounding
-pub mod Endings
 pub mod Queued

@@ -13,7 +13,7 @@ use Rattle.stream_run.specs.Texts.{piece, bytes_of, IsFrontOf}
 use Rattle.stream_run.specs.Writing.{AreFronts}
 use Rattle.stream_run.proofs.Bytes.{bytes_both}
 use Rattle.stream_run.proofs.Held.{front_longer}
-use Rattle.sharded_run.specs.Rounds.{answered}
+use Rattle.sharded_run.specs.Answered.{answered}
 use Rattle.sharded_run.proofs.Answered.{answered_more}
 
 -- the packets so far, and one more

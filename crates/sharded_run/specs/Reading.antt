@@ -56,9 +56,3 @@ IsOver TooMany begun start feed batch =
     (feed.given ≡ feed.most)
     × ((before : Told) (given : List Arrival) → StandsFor before given begun start →
     HasMore (packets_of (sixes_in feed.sources) (files_in feed.sources) before) (length (given ++ batch)))
-
--- what reading at most so many packets comes to: as many, or fewer and an end
-abbrev pub Reads : {E : Type 0} → ℕ → ℕ → Feeding → Told → Feeding → Told → List Arrival → Result (Option Ending) E → Type 0
-Reads most ports begun start feed now batch (Ok None) = Gathers ports begun feed start now batch × (length batch ≡ most)
-Reads most ports begun start feed now batch (Ok (Some ending)) = Gathers ports begun feed start now batch × IsOver ending begun start feed batch
-Reads most ports begun start feed now batch (Err stop) = Unit {0}

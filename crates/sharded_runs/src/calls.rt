@@ -15,11 +15,12 @@ use nf_base::keys::Keys;
 use nf_base::workers::Workers;
 use nf_files::{Files, FilesFault};
 use packet_feed::{Feed, FeedFault};
-use shard_rounds::Idle;
 use sharded_run::{Came, run};
 use std::alloc::Global;
+use std::sync::{Arc, Wait};
 use std::thread::Threads;
 use stream_run::Stop;
+use worker_turns::Idle;
 
 /// Opens names to be read.
 pub fn open_all<F: Files>(
@@ -81,7 +82,7 @@ pub fn start<F: Files>(
 }
 
 /// Handles packets, and writes what they leave.
-pub fn run_all<R: Threads + Sync, F: Files>(
+pub fn run_all<R: Threads + Wait + Clone + Send + Sync + Drop + 'static, F: Files>(
     rt: &R,
     alloc: Global,
     files: &mut F,
@@ -105,6 +106,10 @@ pub fn run_all<R: Threads + Sync, F: Files>(
     requires few { length made.now ≤ 2 ^ 32 }
     requires empty { EachFile (λ file. IsEmptyIfTold ((F.told files.old).given file)) made.now }
 {
+    let turns = match Arc::new(alloc, Idle) {
+        Ok(turns) => turns,
+        Err(_) => return Err(Stop::Memory),
+    };
     run(
         rt,
         alloc,
@@ -117,7 +122,7 @@ pub fn run_all<R: Threads + Sync, F: Files>(
         feed,
         opened,
         made,
-        &Idle,
+        &turns,
     )
 }
 

@@ -14,6 +14,7 @@ use nf_base::card::{Card, KeySize, TableSize};
 use outcome::{Outcome, outcome_of};
 use std::alloc::{AllocError, Global};
 use std::io::{self, Write};
+use std::sync::Wait;
 use std::thread::Threads;
 
 /// Port 0 sends a query, port 1 its answer.
@@ -38,7 +39,7 @@ const LARGE: Card = Card {
     key: KeySize::Bytes52,
 };
 
-fn case<R: Threads + Sync>(
+fn case<R: Threads + Wait + Clone + Send + Sync + Drop + 'static>(
     rt: &R,
     alloc: Global,
     card: Card,

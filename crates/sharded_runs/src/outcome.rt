@@ -17,6 +17,7 @@ use packet_feed::{Feed, FeedFault};
 use run_history::state_text::state_text;
 use sharded_run::Came;
 use std::alloc::{AllocError, Global};
+use std::sync::Wait;
 use std::thread::Threads;
 use stream_run::{Ending, Stop};
 
@@ -81,7 +82,7 @@ fn function(alloc: Global, text: &[u8]) -> Option<Func> {
 
 /// Runs a function over captures, of which there are at most four, and at most so many packets, with a card; the calls
 /// on files that are listed fail.
-pub fn outcome_of<R: Threads + Sync>(
+pub fn outcome_of<R: Threads + Wait + Clone + Send + Sync + Drop + 'static>(
     rt: &R,
     alloc: Global,
     card: Card,
@@ -124,7 +125,7 @@ pub fn outcome_of<R: Threads + Sync>(
 }
 
 /// Runs a function over captures that are opened, where a file was created for each port and one for the journal.
-fn run_made<R: Threads + Sync, F: Files>(
+fn run_made<R: Threads + Wait + Clone + Send + Sync + Drop + 'static, F: Files>(
     rt: &R,
     alloc: Global,
     files: &mut F,
@@ -167,7 +168,7 @@ fn run_made<R: Threads + Sync, F: Files>(
 }
 
 /// Runs a function over the captures of these names in any files.
-fn run_over<R: Threads + Sync, F: Files>(
+fn run_over<R: Threads + Wait + Clone + Send + Sync + Drop + 'static, F: Files>(
     rt: &R,
     alloc: Global,
     files: &mut F,

@@ -4,8 +4,8 @@ use super::captures::{Frame, Record, capture, captures};
 use maestro_cli::Turns;
 use nf_base::packet::PacketId;
 use std::alloc::{AllocError, Global};
-use std::sync::Wait;
 use std::sync::atomic::{AtomicU64, Ordering};
+use std::sync::{Arc, Wait};
 use std::test::Fail;
 use std::thread::Threads;
 
@@ -54,7 +54,7 @@ const TWO_WORKERS: &str = "maestro run x.nf out a.pcap b.pcap --workers 2";
 // From 9.9.9.9:1 to 10.0.0.1:2.
 const TO_TEN: Frame = Frame::Flow((151_587_081, 1), (167_772_161, 2), 0x5ebf);
 
-fn run_policer<R: Threads + Wait + Sync>(
+fn run_policer<R: Threads + Wait + Clone + Send + Sync + Drop + 'static>(
     rt: &R,
     alloc: Global,
     line: &str,
@@ -170,7 +170,7 @@ fn each_share_forgets_by_the_last_packet(rt: HostRuntime) -> Result<(), Fail> {
 }
 
 // A call that ends for want of keys, before any capture is opened.
-fn is_without_keys<R: Threads + Wait + Sync>(
+fn is_without_keys<R: Threads + Wait + Clone + Send + Sync + Drop + 'static>(
     rt: &R,
     alloc: Global,
     line: &str,
@@ -249,10 +249,11 @@ fn two_queues() -> &'static [Record] {
 #[test]
 fn two_workers_meet(rt: HostRuntime) -> Result<(), Fail> {
     let alloc = rt.alloc();
-    let turns = Meeting {
+    let meeting = Meeting {
         left: AtomicU64::new(0),
         gave_up: AtomicU64::new(0),
     };
+    let turns = Arc::new(alloc, meeting)?;
     let captures = captures(alloc, &[&[], two_queues()])?;
     let got = call_with(
         &rt,

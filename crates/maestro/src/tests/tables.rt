@@ -5,7 +5,7 @@ use super::gates::{Doors, Meeting, Shut};
 use super::shards::{bridge, policer};
 use maestro_cli::{Gate, Idle, PackGate, RunFile, Status, Turns};
 use std::alloc::{AllocError, Global};
-use std::sync::Wait;
+use std::sync::{Arc, Wait};
 use std::test::Fail;
 use std::thread::Threads;
 
@@ -51,7 +51,7 @@ const LOCK: &str = "maestro run x.nf out a.pcap b.pcap --workers 2 --mode lock";
 
 const AUTO: &str = "maestro run x.nf out a.pcap b.pcap --workers 2";
 
-fn run_bridge<R: Threads + Wait + Sync>(
+fn run_bridge<R: Threads + Wait + Clone + Send + Sync + Drop + 'static>(
     rt: &R,
     alloc: Global,
     line: &str,
@@ -61,12 +61,11 @@ fn run_bridge<R: Threads + Wait + Sync>(
     call(rt, alloc, line, "out", bridge(), captures.as_slice(), fails)
 }
 
-fn run_gated<R: Threads + Wait + Sync, G: Turns + Sync, L: Gate + Drop + Send>(
-    rt: &R,
-    alloc: Global,
-    turns: &G,
-    gate: &mut L,
-) -> Result<Outcome, AllocError> {
+fn run_gated<
+    R: Threads + Wait + Clone + Send + Sync + Drop + 'static,
+    G: Turns + Send + Sync + Drop + 'static,
+    L: Gate + Drop + Send,
+>(rt: &R, alloc: Global, turns: &Arc<G>, gate: &mut L) -> Result<Outcome, AllocError> {
     let captures = captures(alloc, talk())?;
     call_gated(rt, alloc, LOCK, bridge(), captures.as_slice(), turns, gate)
 }
@@ -105,7 +104,8 @@ fn each_port_keeps_its_order(rt: HostRuntime) -> Result<(), Fail> {
 
 #[test]
 fn a_gate_that_makes_nothing_leaves_one_worker(rt: HostRuntime) -> Result<(), Fail> {
-    let got = run_gated(&rt, rt.alloc(), &Idle, &mut Shut::new())?;
+    let turns = Arc::new(rt.alloc(), Idle)?;
+    let got = run_gated(&rt, rt.alloc(), &turns, &mut Shut::new())?;
     assert!(rt; got.status == Status::Done);
     assert!(rt; is_text(got.stdout.as_slice(), "ran 2 one 2\n"));
     let journal = "maestro journal 1 one 2\n0 0 0 flood 0\n1 0 0 to:0 1\n";
@@ -118,12 +118,13 @@ fn a_gate_that_makes_nothing_leaves_one_worker(rt: HostRuntime) -> Result<(), Fa
 
 #[test]
 fn two_seats_meet(rt: HostRuntime) -> Result<(), Fail> {
-    let turns = Meeting::new();
+    let turns = Arc::new(rt.alloc(), Meeting::new())?;
     let met = run_gated(&rt, rt.alloc(), &turns, &mut PackGate::new())?;
     assert!(rt; turns.was_kept());
     assert!(rt; is_right(rt.alloc(), &met)?);
     let inside = Meeting::new();
-    let both = run_gated(&rt, rt.alloc(), &Idle, &mut Doors::new(&inside))?;
+    let idle = Arc::new(rt.alloc(), Idle)?;
+    let both = run_gated(&rt, rt.alloc(), &idle, &mut Doors::new(&inside))?;
     assert!(rt; inside.was_kept() && inside.has_come(2));
     assert!(rt; is_right(rt.alloc(), &both)?);
     Ok(())
