@@ -1,0 +1,5 @@
+use Rattle.std.proofs.Common.{refl}
+use Rattle.lock_log.proofs.rows.notes_are_calls.Goals as goal
+
+pub returns : goal.returns
+returns c = refl
