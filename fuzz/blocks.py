@@ -119,6 +119,19 @@ def torn(random, data, order, interfaces):
     ))()
 
 
+def at_a_limit(random):
+    """A capture with an interface, interfaces or a frame of the greatest size or number, or just past it."""
+    order, more = random.choice("<>"), random.choice((0, 1))
+    described = struct.pack(f"{order}HHI", ETHERNET, 0, 0)
+    one, frame = block(order, INTERFACE, described), bytes(LONGEST_FRAME + more)
+    return section(random, order) + random.choice((
+        # The lengths and the type round a block's body take 12 bytes.
+        lambda: block(order, INTERFACE, described + bytes(LONGEST_INTERFACE - 12 - len(described) + 4 * more)),
+        lambda: one * (MOST_INTERFACES + more),
+        lambda: one + block(order, ENHANCED_PACKET, struct.pack(f"{order}5I", 0, 0, 1, len(frame), len(frame)) + frame),
+    ))()
+
+
 def capture(random, times, frame):
     """A capture with a packet at each of these times, whose frames are made by `frame`. Few are torn."""
     it = Writer(random)
