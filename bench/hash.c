@@ -1,4 +1,4 @@
-/* The program of crates/hash_rate in C: the same loop over the bits, with a mask for each. */
+/* The program of crates/hash_bench in C: the same loop over the bits, with a mask for each. */
 #include <stdint.h>
 #include <stdio.h>
 

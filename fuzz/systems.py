@@ -83,7 +83,7 @@ class System:
     wanted: int
 
     def line(self):
-        """It as gf2_runs reads it."""
+        """It as gf2_tests reads it."""
         vectors = self.rows, [sum(1 << at for at in group) for group in self.groups]
         rows, members = (" ".join(map(large_text, of)) for of in vectors)
         return f"{large_text(self.wanted)} | {rows} | {members}\n"

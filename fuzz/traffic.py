@@ -39,7 +39,7 @@ def digest(packets):
 
 
 def show(line):
-    """What `traffic_runs` prints of a line."""
+    """What `traffic_tests` prints of a line."""
     seed, count, flows, ports = map(int, line.split())
     packets = list(traffic(seed, count, flows, ports))
     for port, number, time, data in packets[:8]:

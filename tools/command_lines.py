@@ -53,7 +53,7 @@ def bad(told):
 def command_lines():
     """Command lines of each status that can be had: the status, what is printed, and what a terminal shows beside it."""
     no_file = ", and there is no such file"
-    words = "there are check explain keys run replay gen hash help summary show spread card draw plot split"
+    words = "there are check explain keys certify run replay gen hash help summary show spread card draw plot split"
     one_port = bad("a b.nf has 1 port, and takes as many captures: 2 given")
     two = ["c d.pcap", "hosts.pcap"]
     return [
@@ -84,6 +84,7 @@ def command_lines():
         (["explain"], *bad("explain takes NF: 0 names given")),
         (["keys", "a b.nf", "a b.nf"], *bad("keys takes NF: 2 names given")),
         (["keys", "no one.nf"], 3, "", "file fault: nf", f"nf is no one.nf{no_file}"),
+        *proved(no_file),
         (["check", "a b.nf", "a b.nf"], *bad("check takes NF: 2 names given")),
         (["check", "no one.nf"], 3, "", "file fault: nf", f"nf is no one.nf{no_file}"),
         (["run", "a b.nf", "o u t", "c d.pcap", "c d.pcap"], *one_port),
@@ -107,8 +108,51 @@ def command_lines():
         (["run", "--workers", "2", "--mode", "shard", "bridge.nf", "o", *two], 8, "", "no keys: macs J4", ""),
         (["run", "--mode", "shard", "bridge.nf", "o", *two], 8, "", "no keys: macs J4", ""),
         (["run", "--workers", "2", "--table", "512", "--key-bytes", "52", "a b.nf", "o u t", "c d.pcap"], 0, "ran 0 shard 2\n", "", ""),
+        *certified(no_file),
         *made_up(no_file),
         *replays(no_file),
+    ]
+
+
+def proved(no_file):
+    """Command lines of `keys` that write a certificate."""
+    def keys(key):
+        return (0, f"sharded\nkey 0 {key}\n", "", "")
+
+    return [
+        (["keys", "a b.nf", "--proof", "ma de.proof"], *keys(DEFAULT_KEY)),
+        (["keys", "--proof=made 512.proof", "--table", "512", "--key-bytes=52", "--", "a b.nf"], *keys(LONG_KEY)),
+        (["keys", "bridge.nf", "--proof", "bridge.proof"], 0, "locked macs J4\n", "", ""),
+        (["keys", "no one.nf", "--proof", "no one.proof"], 3, "", "file fault: nf", f"nf is no one.nf{no_file}"),
+        (["keys", "a b.nf", "--proof", "no folder/x.proof"], 3, "", "file fault: proof", "proof is no folder/x.proof"),
+        (["keys", "--proof=taken.journal", "a b.nf"], 3, "", "file fault: proof", "proof is taken.journal"),
+        # What is read isn't overwritten.
+        (["keys", "a b.nf", "--proof", "a b.nf"], 3, "", "file fault: proof", "proof is a b.nf"),
+        (["keys", "a b.nf", "--proof"], *bad("--proof wants a value")),
+        (["keys", "--proof", "x.proof", "a b.nf", "--proof=y.proof"], *bad("--proof stands twice")),
+        (["keys", "--proof", "x.proof"], *bad("keys takes NF: 0 names given")),
+        (["explain", "a b.nf", "--proof", "x.proof"], *bad("--proof is no option of explain; it has --table --key-bytes")),
+    ]
+
+
+def certified(no_file):
+    """Command lines of `certify`."""
+    def at(line, text):
+        told = "The lines before it are right. `maestro help 11` tells what a right line is."
+        return (11, "", f"proof fails at line {line}", f"{line:7} |{' ' * bool(text)}{text}\n{told}")
+
+    return [
+        (["certify", "a b.nf", "hub.proof"], 0, "certified\n", "", ""),
+        (["certify", "--", "a b.nf", "hub 512.proof"], 0, "certified\n", "", ""),
+        (["certify", "a b.nf", "other.proof"], *at(2, f"key 0 {DEFAULT_KEY[:-1]}b")),
+        (["certify", "a b.nf", "early.proof"], *at(2, "")),
+        (["certify", "a b.nf", "late.proof"], *at(3, "clash")),
+        (["certify", "a b.nf", "none.journal"], *at(1, "maestro journal 1 one 1")),
+        (["certify", "bridge.nf", "hub.proof"], *at(3, "")),
+        (["certify", "no one.nf", "hub.proof"], 3, "", "file fault: nf", f"nf is no one.nf{no_file}"),
+        (["certify", "a b.nf", "no.proof"], 3, "", "file fault: proof", f"proof is no.proof{no_file}"),
+        (["certify", "a b.nf"], *bad("certify takes NF FILE: 1 name given")),
+        (["certify", "a b.nf", "hub.proof", "--table", "512"], *bad("--table is no option of certify, which has none")),
     ]
 
 
@@ -260,4 +304,11 @@ def fill(room):
         (room / f"{name}.pcap").write_bytes(data)
     for name in ("taken.journal", "stated.state"):
         (room / name).mkdir()
+    proof = f"maestro proof 1 128 40 sharded\nkey 0 {DEFAULT_KEY}\n"
+    proofs = {
+        "hub": proof, "hub 512": f"maestro proof 1 512 52 sharded\nkey 0 {LONG_KEY}\n", "other": f"{proof[:-2]}b\n",
+        "early": proof.partition("\n")[0] + "\n", "late": f"{proof}clash\n",
+    }
+    for name, text in proofs.items():
+        (room / f"{name}.proof").write_text(text)
     fill_replays(room)

@@ -49,8 +49,8 @@ _maestro_fronts() {
 
 _maestro() {
     local word=${COMP_WORDS[COMP_CWORD]} command=${COMP_WORDS[1]-} previous=${COMP_WORDS[COMP_CWORD - 1]} options='' it
-    local commands='check explain keys run replay gen hash summary show spread card draw plot split help'
-    local kinds='S1 S2 S3 S4 S5 T01 T02 T03 T04 T05 T06 T07 T08 T09 P1 0 1 2 3 4 5 6 7 8 9 10'
+    local commands='check explain keys certify run replay gen hash summary show spread card draw plot split help'
+    local kinds='S1 S2 S3 S4 S5 T01 T02 T03 T04 T05 T06 T07 T08 T09 P1 0 1 2 3 4 5 6 7 8 9 10 11'
     local -i at name=0
     COMPREPLY=()
     # Where `=` parts words, `--mode=l` is three of them.
@@ -66,6 +66,7 @@ _maestro() {
     --table) _maestro_words "$word" '128 512' && return ;;
     --key-bytes) _maestro_words "$word" '40 52' && return ;;
     --max-packets | --key) return ;;
+    --proof) _maestro_files "$word" '*.proof' && return ;;
     -o) _maestro_files "$word" '*.svg' && return ;;
     esac
     case $command in
@@ -73,10 +74,11 @@ _maestro() {
     replay) options='--max-packets --pcapng --help' ;;
     gen) options='--workers --mode --table --key-bytes --pcapng --help' ;;
     hash) options='--key --workers --table --key-bytes --help' ;;
-    explain | keys | card) options='--table --key-bytes --help' ;;
+    explain | card) options='--table --key-bytes --help' ;;
+    keys) options='--table --key-bytes --proof --help' ;;
     spread) options='--workers --table --help' ;;
     plot) options='-o --help' ;;
-    check | summary | show | draw | split) options='--help' ;;
+    check | certify | summary | show | draw | split) options='--help' ;;
     help) _maestro_words "$word" "${commands% help} language $kinds" && return ;;
     *) return ;;
     esac
@@ -88,7 +90,7 @@ _maestro() {
     for ((at = 2; at < COMP_CWORD; at++)); do
         it=${COMP_WORDS[at]}
         case $it in
-        --mode | --workers | --max-packets | --table | --key-bytes | --key | -o)
+        --mode | --workers | --max-packets | --table | --key-bytes | --key | --proof | -o)
             [ "${COMP_WORDS[at + 1]-}" != = ] || ((at++))
             ((at++))
             ;;
@@ -97,10 +99,11 @@ _maestro() {
         esac
     done
     case $command:$name in
-    check:0 | explain:0 | keys:0 | run:0 | replay:0 | gen:0 | show:0 | spread:0 | card:0 | draw:0) _maestro_files "$word" '*.nf' ;;
+    check:0 | explain:0 | keys:0 | certify:0 | run:0 | replay:0 | gen:0 | show:0 | spread:0 | card:0 | draw:0) _maestro_files "$word" '*.nf' ;;
     draw:1) _maestro_files "$word" '*.svg' ;;
     card:1) _maestro_words "$word" 'ethtool dpdk' ;;
     card:*) [ "${COMP_WORDS[3]-}" != ethtool ] || _maestro_words "$word" "$(ls /sys/class/net 2>/dev/null)" ;;
+    certify:1) _maestro_files "$word" '*.proof' ;;
     replay:1) _maestro_files "$word" '*.journal' ;;
     show:1) _maestro_files "$word" '*.state' ;;
     run:1 | replay:2 | gen:1 | summary:0 | plot:0) _maestro_fronts "$word" ;;

@@ -116,7 +116,7 @@ NO_CAPTURES = {
     "empty.pcap": (b"", "it is empty, and the header of a capture has 24 bytes"),
     "text.pcap": (b"nf x { ports 1; on 0 { drop; } }", "it begins with the bytes 6e662078, and no capture does"),
 }
-THERE = "There are check explain keys run replay gen hash help summary show spread card draw plot split"
+THERE = "There are check explain keys certify run replay gen hash help summary show spread card draw plot split"
 KEY = "0123456789" * 8
 # Command lines with one wrong word, and what is told of it; there are the files of command_lines.py.
 WRONG_WORDS = [
@@ -128,7 +128,7 @@ WRONG_WORDS = [
     ("run fw.nf o left.pcap right.pcap -w 2", "-w is no option of run; it has --workers --mode --max-packets --table --key-bytes --pcapng"),
     ("check fw.nf --mode auto", "--mode is no option of check, which has none"),
     ("check fw.nf --table 512", "--table is no option of check, which has none"),
-    ("keys fw.nf --key 00", "--key is no option of keys; did you mean --key-bytes? It has --table --key-bytes"),
+    ("keys fw.nf --key 00", "--key is no option of keys; did you mean --key-bytes? It has --table --key-bytes --proof"),
     ("keys fw.nf --table 256", "--table is 128 or 512, not 256"),
     ("explain fw.nf --table=0512", "--table is 128 or 512, not 0512"),
     ("run fw.nf o left.pcap right.pcap --table 512 --table 512", "--table stands twice"),

@@ -8,7 +8,7 @@ use Rattle.stream_run.specs.Writing.{StopsAt, StopsAmong}
 use Rattle.call_base.specs.declared.layout.Behind.{Behind}
 use Rattle.call_base.specs.declared.layout.Behind.TheVariants.{Created, Read}
 use Rattle.call_base.specs.declared.status.RunFile.{RunFile}
-use Rattle.call_base.specs.declared.status.RunFile.TheVariants.{Nf, Capture, Journal, Output, OutJournal, State, Stdout, Stderr}
+use Rattle.call_base.specs.declared.status.RunFile.TheVariants.{Nf, Capture, Journal, Output, OutJournal, State, Proof, Stdout, Stderr}
 use Rattle.call_base.specs.Numbers.{Numbering}
 use Rattle.call_base.specs.Layout.{file_behind, opened_file, file_of, number_of, numbering, stop_named}
 use Rattle.call_base.specs.Far.{IsFar, IsFarAt}

@@ -5,7 +5,7 @@ use Rattle.nf_files.specs.Told.{Told}
 use Rattle.nf_files.specs.Pieces.{Gains}
 use Rattle.nf_files.specs.Writes.{Writes, WritesFront}
 use Rattle.call_base.specs.declared.status.Status.{Status}
-use Rattle.call_base.specs.declared.status.Status.TheVariants.{Done, Usage, Refused, FileFault, NotCapture, Torn, ShareFull, TooMany, NoKeys, Memory, Differs}
+use Rattle.call_base.specs.declared.status.Status.TheVariants.{Done, Usage, Refused, FileFault, NotCapture, Torn, ShareFull, TooMany, NoKeys, Memory, Differs, ProofFails}
 use Rattle.nf_files.specs.Causes.{Faulted}
 use Rattle.stream_run.specs.declared.stop.Stop.{Stop as NumberStop}
 use Rattle.stream_run.specs.declared.stop.Stop.TheVariants as numbered
@@ -76,6 +76,7 @@ said_is (TooMany most) some = refl
 said_is (NoKeys why) some = refl
 said_is Memory some = refl
 said_is (Differs at) some = refl
+said_is (ProofFails line) some = refl
 
 -- standard output failed, or memory ran out there
 pub half_printed : (a b : Outside) (piece : List ℕ) (stop : NumberStop) → a.told.name 0 ≡ None → WritesFront a.told b.told 0 piece → StopsAt {T = Unit {0}} 0 (Err stop) → IsStopCause {T = Unit {0}} a.counted b.counted (Err stop) → IsHalfPrinted a b piece (stop_at_stdout stop)

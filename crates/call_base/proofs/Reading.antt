@@ -24,7 +24,7 @@ use Rattle.call_base.specs.declared.layout.Behind.{Behind}
 use Rattle.call_base.specs.declared.layout.Layout.{Layout}
 use Rattle.call_base.specs.declared.loading.Found.{Found}
 use Rattle.call_base.specs.declared.status.RunFile.{RunFile}
-use Rattle.call_base.specs.declared.status.RunFile.TheVariants.{Nf, Capture, Journal, Output, OutJournal, State, Stdout, Stderr}
+use Rattle.call_base.specs.declared.status.RunFile.TheVariants.{Nf, Capture, Journal, Output, OutJournal, State, Proof, Stdout, Stderr}
 use Rattle.call_base.specs.declared.status.Stop.{Stop}
 use Rattle.call_base.specs.declared.status.Stop.TheVariants.{File, Memory}
 use Rattle.call_base.specs.Captures.{packets_under, Below}
@@ -254,6 +254,7 @@ read_cause c before now behind ports old new (File Journal) h = absurd h
 read_cause c before now behind ports old new (File (Output port)) h = absurd h
 read_cause c before now behind ports old new (File OutJournal) h = absurd h
 read_cause c before now behind ports old new (File State) h = absurd h
+read_cause c before now behind ports old new (File Proof) h = absurd h
 read_cause c before now behind ports old new (File Stdout) h = absurd h
 read_cause c before now behind ports old new (File Stderr) h = absurd h
 read_cause c before now behind ports old new Memory h = h

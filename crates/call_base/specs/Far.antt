@@ -1,7 +1,7 @@
 -- How far a run came that was stopped once it had begun to create files.
 use Rattle.std.specs.Prelude.{◌≡◌, ℕ, ◌+◌, ◌≤◌}
 use Rattle.call_base.specs.declared.status.RunFile.{RunFile}
-use Rattle.call_base.specs.declared.status.RunFile.TheVariants.{Nf, Capture, Journal, Output, OutJournal, State, Stdout, Stderr}
+use Rattle.call_base.specs.declared.status.RunFile.TheVariants.{Nf, Capture, Journal, Output, OutJournal, State, Proof, Stdout, Stderr}
 use Rattle.call_base.specs.declared.status.Stop.{Stop}
 use Rattle.call_base.specs.declared.status.Stop.TheVariants.{File, Memory}
 
@@ -15,6 +15,7 @@ IsFarAt ended stated ports Journal made full = ⊥
 IsFarAt ended stated ports (Output port) made full = (port ≤ made) × (made ≤ ports + 1)
 IsFarAt ended stated ports OutJournal made full = (ports ≤ made) × (made ≤ ports + 1)
 IsFarAt ended stated ports State made full = (ports + 1 ≤ full) × stated
+IsFarAt ended stated ports Proof made full = ⊥
 IsFarAt ended stated ports Stdout made full = ended
 IsFarAt ended stated ports Stderr made full = ⊥
 

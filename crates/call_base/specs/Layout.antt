@@ -7,7 +7,7 @@ use Rattle.call_base.specs.declared.layout.Behind.{Behind}
 use Rattle.call_base.specs.declared.layout.Behind.TheVariants.{Created, Read}
 use Rattle.call_base.specs.declared.layout.Layout.{Layout}
 use Rattle.call_base.specs.declared.status.RunFile.{RunFile}
-use Rattle.call_base.specs.declared.status.RunFile.TheVariants.{Nf, Capture, Journal, Output, OutJournal, State, Stdout, Stderr}
+use Rattle.call_base.specs.declared.status.RunFile.TheVariants.{Nf, Capture, Journal, Output, OutJournal, State, Proof, Stdout, Stderr}
 use Rattle.call_base.specs.declared.status.Stop.{Stop}
 use Rattle.call_base.specs.declared.status.Stop.TheVariants as stops
 use Rattle.call_base.specs.Numbers.{Numbering, StopsBy}
@@ -50,6 +50,7 @@ number_of behind first captures ports Journal = first + 1 + captures
 number_of behind first captures ports (Output port) = first + 1 + captures + output_place behind port
 number_of behind first captures ports OutJournal = first + 1 + captures + ports
 number_of behind first captures ports State = first + 1 + captures + (ports + 1)
+number_of behind first captures ports Proof = first + 1 + captures
 number_of behind first captures ports Stdout = 0
 number_of behind first captures ports Stderr = 1
 

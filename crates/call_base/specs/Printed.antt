@@ -9,7 +9,7 @@ use Rattle.stream_run.specs.declared.stop.Stop.{Stop as NumberStop}
 use Rattle.stream_run.specs.declared.stop.Stop.TheVariants as numbered
 use Rattle.call_base.specs.declared.status.RunFile.TheVariants.{Stderr}
 use Rattle.call_base.specs.declared.status.Status.{Status}
-use Rattle.call_base.specs.declared.status.Status.TheVariants.{Done, Usage, Refused, FileFault, NotCapture, Torn, ShareFull, TooMany, NoKeys, Memory, Differs}
+use Rattle.call_base.specs.declared.status.Status.TheVariants.{Done, Usage, Refused, FileFault, NotCapture, Torn, ShareFull, TooMany, NoKeys, Memory, Differs, ProofFails}
 use Rattle.call_base.specs.Outside.{Outside}
 use Rattle.call_base.specs.Texts.{error_line, said_of}
 
@@ -47,6 +47,7 @@ after_stop (TooMany most) stop = stopped_at stop
 after_stop (NoKeys why) stop = stopped_at stop
 after_stop Memory stop = stopped_at stop
 after_stop (Differs at) stop = stopped_at stop
+after_stop (ProofFails line) stop = stopped_at stop
 
 -- A call's end was told on standard error, and nothing else was done.
 pub record IsSaid (ended after : Outside) (due status : Status) : Type 0 where

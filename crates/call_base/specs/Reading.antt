@@ -15,7 +15,7 @@ use Rattle.call_base.specs.declared.inputs.Inputs.{Inputs}
 use Rattle.call_base.specs.declared.loading.Found.{Found}
 use Rattle.call_base.specs.declared.loading.NoFunction.{NoFunction}
 use Rattle.call_base.specs.declared.loading.NoFunction.TheVariants as none
-use Rattle.call_base.specs.declared.status.RunFile.TheVariants.{Nf, Capture, Journal, Output, OutJournal, State, Stdout, Stderr}
+use Rattle.call_base.specs.declared.status.RunFile.TheVariants.{Nf, Capture, Journal, Output, OutJournal, State, Proof, Stdout, Stderr}
 use Rattle.call_base.specs.declared.status.Refusal.TheVariants as refusals
 use Rattle.call_base.specs.declared.status.Stop.{Stop}
 use Rattle.call_base.specs.declared.status.Stop.TheVariants.{File, Memory}
@@ -112,6 +112,7 @@ IsReadCause c before now old new (File Journal) = ⊥
 IsReadCause c before now old new (File (Output port)) = ⊥
 IsReadCause c before now old new (File OutJournal) = ⊥
 IsReadCause c before now old new (File State) = ⊥
+IsReadCause c before now old new (File Proof) = ⊥
 IsReadCause c before now old new (File Stdout) = ⊥
 IsReadCause c before now old new (File Stderr) = ⊥
 IsReadCause c before now old new Memory = new ≡ old

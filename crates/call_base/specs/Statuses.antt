@@ -8,7 +8,7 @@ use Rattle.call_base.specs.declared.status.Refusal.TheVariants as refusals
 use Rattle.call_base.specs.declared.status.Stop.{Stop}
 use Rattle.call_base.specs.declared.status.Stop.TheVariants as stops
 use Rattle.call_base.specs.declared.status.Status.{Status}
-use Rattle.call_base.specs.declared.status.Status.TheVariants.{Done, Usage, Refused, FileFault, NotCapture, Torn, ShareFull, TooMany, NoKeys, Memory, Differs}
+use Rattle.call_base.specs.declared.status.Status.TheVariants.{Done, Usage, Refused, FileFault, NotCapture, Torn, ShareFull, TooMany, NoKeys, Memory, Differs, ProofFails}
 
 -- one number for each way to end
 abbrev pub number_of_status : Status → ℕ
@@ -23,6 +23,7 @@ number_of_status (TooMany most) = 7
 number_of_status (NoKeys why) = 8
 number_of_status Memory = 9
 number_of_status (Differs at) = 10
+number_of_status (ProofFails line) = 11
 
 -- the status of a run that ends so
 abbrev pub end_status : End → Status

@@ -6,7 +6,7 @@ use Rattle.call_base.specs.Named.{name_bytes}
 use Rattle.call_base.specs.declared.status.Fault.{Fault}
 use Rattle.call_base.specs.declared.status.Fault.TheVariants as kinds
 use Rattle.call_base.specs.declared.status.RunFile.{RunFile}
-use Rattle.call_base.specs.declared.status.RunFile.TheVariants.{Nf, Capture, Journal, Output, OutJournal, State, Stdout, Stderr}
+use Rattle.call_base.specs.declared.status.RunFile.TheVariants.{Nf, Capture, Journal, Output, OutJournal, State, Proof, Stdout, Stderr}
 use Rattle.nf_base.specs.declared.packet.PacketId.{PacketId}
 use Rattle.run_history.specs.declared.line.Mode.{Mode}
 use Rattle.run_history.specs.Line.{mode_word}
@@ -17,7 +17,7 @@ use Rattle.call_base.specs.declared.status.NoKeys.TheVariants as cause
 use Rattle.call_base.specs.declared.status.Difference.{Difference}
 use Rattle.call_base.specs.declared.status.Difference.TheVariants as differing
 use Rattle.call_base.specs.declared.status.Status.{Status}
-use Rattle.call_base.specs.declared.status.Status.TheVariants.{Done, Usage, Refused, FileFault, NotCapture, Torn, ShareFull, TooMany, NoKeys, Memory, Differs}
+use Rattle.call_base.specs.declared.status.Status.TheVariants.{Done, Usage, Refused, FileFault, NotCapture, Torn, ShareFull, TooMany, NoKeys, Memory, Differs, ProofFails}
 
 -- how a file of a run is called in a fault's line
 abbrev pub file_text : RunFile → List ℕ
@@ -27,6 +27,7 @@ file_text Journal = codes "journal"
 file_text (Output port) = codes "output " ++ decimal port
 file_text OutJournal = codes "out journal"
 file_text State = codes "state"
+file_text Proof = codes "proof"
 file_text Stdout = codes "stdout"
 file_text Stderr = codes "stderr"
 
@@ -88,6 +89,7 @@ status_words (TooMany most) = codes "more than " ++ decimal most ++ codes " pack
 status_words (NoKeys why) = codes "no keys: " ++ cause_text why
 status_words Memory = codes "out of memory"
 status_words (Differs at) = codes "replay differs at " ++ difference_text at
+status_words (ProofFails line) = codes "proof fails at line " ++ decimal line
 
 -- the line on standard error of a status that is no success
 abbrev pub error_line : Status → List ℕ

@@ -45,8 +45,8 @@ impl NoFunction {
     }
 }
 
-// The bytes under a name.
-fn read_text<F: Files>(alloc: Global, files: &mut F, name: &String) -> Result<Text, FilesFault>
+/// The bytes under a name.
+pub fn read_text<F: Files>(alloc: Global, files: &mut F, name: &String) -> Result<Text, FilesFault>
     ensures text { let name = string_bytes name.now in
         IfOk result (λ text. IsTextAt (F.told files.old) name text) }
     ensures next { OnOk result ((F.told files.new).next ≡ (F.told files.old).next + 1) }

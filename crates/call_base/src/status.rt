@@ -23,6 +23,8 @@ pub enum RunFile {
     OutJournal,
     /// The text of the last state.
     State,
+    /// A certificate of keys.
+    Proof,
     Stdout,
     Stderr,
 }
@@ -139,6 +141,8 @@ pub enum Status {
     Memory,
     /// A journal, or the outputs beside it, are those of no run.
     Differs(Difference),
+    /// A certificate of keys shows nothing; this is its first wrong line. Lines count from 1.
+    ProofFails { line: u64 },
 }
 
 impl Status {
@@ -158,6 +162,7 @@ impl Status {
             Status::NoKeys(_) => 8,
             Status::Memory => 9,
             Status::Differs(_) => 10,
+            Status::ProofFails { .. } => 11,
         }
     }
 }

@@ -29,6 +29,7 @@ fn push_file(line: &mut Line, file: RunFile)
         }
         RunFile::OutJournal => push_bytes(line, b"out journal"),
         RunFile::State => push_bytes(line, b"state"),
+        RunFile::Proof => push_bytes(line, b"proof"),
         RunFile::Stdout => push_bytes(line, b"stdout"),
         RunFile::Stderr => push_bytes(line, b"stderr"),
     }
@@ -204,6 +205,16 @@ fn push_difference(line: &mut Line, at: Difference)
     }
 }
 
+fn push_failing(line: &mut Line, number: u64)
+    requires { length line.old.items ≤ 20 }
+    ensures bytes { line.new.items ≡ line.old.items ++
+        (codes "proof fails at line " ++ decimal number) }
+    ensures len { length line.new.items ≤ length line.old.items + 140 }
+{
+    push_bytes(line, b"proof fails at line ");
+    push_number(line, number);
+}
+
 fn push_words(line: &mut Line, status: Status)
     requires { length line.old.items ≤ 20 }
     ensures bytes { line.new.items ≡ line.old.items ++ meant.status_words status }
@@ -225,6 +236,7 @@ fn push_words(line: &mut Line, status: Status)
         Status::NoKeys(why) => push_no_keys(line, why),
         Status::Memory => push_bytes(line, b"out of memory"),
         Status::Differs(at) => push_difference(line, at),
+        Status::ProofFails { line: number } => push_failing(line, number),
     }
 }
 

@@ -20,7 +20,7 @@ abbrev fix : (ℕ → Bool) → List Bool → ℕ → ℕ → Option Bool
 fix counts x place k = if nat_lt k place && counts k then Some (bit x k) else None
 
 module _ (counts : ℕ → Bool) (n : ℕ) (x : List Bool) where
-  fixed_long : (place : ℕ) → length (fixed_before counts n x place) ≡ n
+  pub fixed_long : (place : ℕ) → length (fixed_before counts n x place) ≡ n
   fixed_long place = length-map-range_with_len (fix counts x place) 0 n
 
   fixed_there : (place k : ℕ) (d : Option Bool) → k < n → get_or (fixed_before counts n x place) k d ≡ fix counts x place k
@@ -45,7 +45,7 @@ module _ (counts : ℕ → Bool) (n : ℕ) (x : List Bool) where
   ]
 
   -- one bit more is fixed
-  fixed_next : (place : ℕ) → place < n → counts place ≡ true → set (fixed_before counts n x place) place (Some (bit x place)) ≡ fixed_before counts n x (place + 1)
+  pub fixed_next : (place : ℕ) → place < n → counts place ≡ true → set (fixed_before counts n x place) place (Some (bit x place)) ≡ fixed_before counts n x (place + 1)
   fixed_next place within is =
       same_lists (set (fixed_before counts n x place) place (Some (bit x place))) (fixed_before counts n x (place + 1))
       (length-set (fixed_before counts n x place) place (Some (bit x place)) ∙ fixed_long place ∙ sym (fixed_long (place + 1)))
@@ -65,7 +65,7 @@ module _ (counts : ℕ → Bool) (n : ℕ) (x : List Bool) where
       ])
 
   -- one that doesn't count changes nothing
-  fixed_same : (place : ℕ) → counts place ≡ false → fixed_before counts n x place ≡ fixed_before counts n x (place + 1)
+  pub fixed_same : (place : ℕ) → counts place ≡ false → fixed_before counts n x place ≡ fixed_before counts n x (place + 1)
   fixed_same place is =
       same_lists (fixed_before counts n x place) (fixed_before counts n x (place + 1)) (fixed_long place ∙ sym (fixed_long (place + 1)))
       (λ k d below.
@@ -81,7 +81,7 @@ module _ (counts : ℕ → Bool) (n : ℕ) (x : List Bool) where
       ]
       ∙ sym (fixed_there (place + 1) k d inside))
 
-  none_before : fixed_before counts n x 0 ≡ none_fixed n
+  pub none_before : fixed_before counts n x 0 ≡ none_fixed n
   none_before =
       same_lists (fixed_before counts n x 0) (none_fixed n) (fixed_long 0 ∙ sym (length-replicate {A = Option Bool} n None))
       (λ k d below.

@@ -8,3 +8,4 @@ mod sums;
 mod tasks;
 
 pub use checker::Checker;
+pub use sums::is_sum;

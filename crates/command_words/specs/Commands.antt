@@ -68,12 +68,26 @@ pub record Describe : Type 0 where
   pub function : Text
   pub card : Card
 
+-- keys with a certificate: the names of the function's file and of the certificate, and the sizes of the
+-- network card that keys are for
+pub record Prove : Type 0 where
+  pub function : Text
+  pub proof : Text
+  pub card : Card
+
+-- the judging of a certificate: the names of the function's file and of the certificate
+pub record Certify : Type 0 where
+  pub function : Text
+  pub proof : Text
+
 pub data Command : Type 0 where
   RunCommand : Run → Command
   ReplayCommand : Replay → Command
   GenCommand : Gen → Command
   HashCommand : Hash → Command
   DescribeCommand : Describe → Command
+  CertifyCommand : Certify → Command
+  ProveCommand : Prove → Command
 
 -- an option's value: its default where the option is left out, and else what its text says
 abbrev pub or_default : {A : Type 0} → A → (Text → Option A) → Option Text → Option A
@@ -177,12 +191,11 @@ hash_in rows =
     and_then (or_default 1 workers_in (first_of (codes "workers") rows)) (λ w.
     option_map (λ card. record { ends = ends; key = key; workers = w; card = card }) (card_asked rows))))
 
--- which text on a function a name asks for
+-- which text on a function a name asks for, but for `keys`
 abbrev pub description_named : Text → Option Description
 description_named name =
     if bytes_eq name (codes "check") then Some Check else
     if bytes_eq name (codes "explain") then Some Explain else
-    if bytes_eq name (codes "keys") then Some Keys else
     None
 
 -- the network card that a text on a function is for; `check` says nothing of keys, and takes no options
@@ -196,6 +209,24 @@ describe_in what rows =
     and_then (first_of (codes "function") rows) (λ f.
     option_map (λ card. record { what = what; function = f; card = card }) (described_card what rows))
 
+abbrev pub prove_in : Text → List Row → Option Prove
+prove_in proof rows =
+    and_then (first_of (codes "function") rows) (λ f.
+    option_map (λ card. record { function = f; proof = proof; card = card }) (card_asked rows))
+
+-- keys alone, or with a certificate where a name is given for one
+abbrev pub keys_by : Option Text → List Row → Option Command
+keys_by None rows = option_map DescribeCommand (describe_in Keys rows)
+keys_by (Some proof) rows = option_map ProveCommand (prove_in proof rows)
+
+abbrev pub keys_in : List Row → Option Command
+keys_in rows = keys_by (first_of (codes "proof") rows) rows
+
+abbrev pub certify_in : List Row → Option Certify
+certify_in rows =
+    and_then (first_of (codes "function") rows) (λ f.
+    option_map (λ p. record { function = f; proof = p }) (first_of (codes "proof") rows))
+
 -- the command of a name, with what stands beside it
 abbrev pub named : Text → List Row → Option Command
 named name rows =
@@ -203,6 +234,8 @@ named name rows =
     if bytes_eq name (codes "replay") then option_map ReplayCommand (replay_in rows) else
     if bytes_eq name (codes "gen") then option_map GenCommand (gen_in rows) else
     if bytes_eq name (codes "hash") then option_map HashCommand (hash_in rows) else
+    if bytes_eq name (codes "certify") then option_map CertifyCommand (certify_in rows) else
+    if bytes_eq name (codes "keys") then keys_in rows else
     and_then (description_named name) (λ what. option_map DescribeCommand (describe_in what rows))
 
 abbrev pub in_match : Option (Text × List Row) → Option Command

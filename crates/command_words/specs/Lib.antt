@@ -1,4 +1,5 @@
 pub mod Grammar
+pub mod Made
 pub mod Texts
 pub mod Commands
 pub mod View

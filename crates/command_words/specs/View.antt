@@ -5,9 +5,11 @@ use Rattle.command_words.specs.declared.command.ReplayCommand as declared_replay
 use Rattle.command_words.specs.declared.command.GenCommand as declared_gen
 use Rattle.command_words.specs.declared.command.HashCommand as declared_hash
 use Rattle.command_words.specs.declared.command.DescribeCommand as declared_describe
+use Rattle.command_words.specs.declared.command.CertifyCommand as declared_certify
+use Rattle.command_words.specs.declared.command.ProveCommand as declared_prove
 use Rattle.command_words.specs.declared.command.Command as declared_command
 use Rattle.command_words.specs.declared.command.Command.TheVariants as commands
-use Rattle.command_words.specs.Commands.{Run, Replay, Gen, Hash, Describe, Command, RunCommand, ReplayCommand, GenCommand, HashCommand, DescribeCommand}
+use Rattle.command_words.specs.Commands.{Run, Replay, Gen, Hash, Describe, Certify, Prove, Command, RunCommand, ReplayCommand, GenCommand, HashCommand, DescribeCommand, CertifyCommand, ProveCommand}
 
 abbrev pub run : declared_run.RunCommand → Run
 run c = record {
@@ -50,6 +52,12 @@ hash c = record { ends = c.ends; key = c.key; workers = c.workers; card = c.card
 abbrev pub describe : declared_describe.DescribeCommand → Describe
 describe c = record { what = c.what; function = string_bytes c.function; card = c.card }
 
+abbrev pub certify : declared_certify.CertifyCommand → Certify
+certify c = record { function = string_bytes c.function; proof = string_bytes c.proof }
+
+abbrev pub prove : declared_prove.ProveCommand → Prove
+prove c = record { function = string_bytes c.function; proof = string_bytes c.proof; card = c.card }
+
 -- what is asked for
 abbrev pub asked : declared_command.Command → Command
 asked (commands.Run c) = RunCommand (run c)
@@ -57,6 +65,8 @@ asked (commands.Replay c) = ReplayCommand (replay c)
 asked (commands.Gen c) = GenCommand (gen c)
 asked (commands.Hash c) = HashCommand (hash c)
 asked (commands.Describe c) = DescribeCommand (describe c)
+asked (commands.Certify c) = CertifyCommand (certify c)
+asked (commands.Prove c) = ProveCommand (prove c)
 
 -- a run and a replay have one to four captures, and made-up traffic has one to 65,536 flows
 abbrev pub HasFew : declared_command.Command → Type 0
@@ -65,3 +75,5 @@ HasFew (commands.Replay c) = (1 ≤ length c.captures.items) × (length c.captur
 HasFew (commands.Gen c) = (1 ≤ c.flows) × (c.flows ≤ 65536)
 HasFew (commands.Hash c) = Unit {0}
 HasFew (commands.Describe c) = Unit {0}
+HasFew (commands.Certify c) = Unit {0}
+HasFew (commands.Prove c) = Unit {0}

@@ -110,6 +110,26 @@ pub struct DescribeCommand {
     pub card: Card,
 }
 
+/// The keys of a function with a certificate: what `keys` prints, and the certificate is written.
+#[derive(Drop)]
+pub struct ProveCommand {
+    /// The name of the function's text.
+    pub function: String,
+    /// The name of the certificate.
+    pub proof: String,
+    /// The sizes of the network card that keys are for.
+    pub card: Card,
+}
+
+/// The judging of a certificate of a function's keys, or of there being none.
+#[derive(Drop)]
+pub struct CertifyCommand {
+    /// The name of the function's text.
+    pub function: String,
+    /// The name of the certificate.
+    pub proof: String,
+}
+
 /// A command.
 #[derive(Drop)]
 pub enum Command {
@@ -118,4 +138,6 @@ pub enum Command {
     Gen(GenCommand),
     Hash(HashCommand),
     Describe(DescribeCommand),
+    Certify(CertifyCommand),
+    Prove(ProveCommand),
 }

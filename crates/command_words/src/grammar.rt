@@ -1,49 +1,45 @@
 //! The words that a command line may have, for `clap`.
 
 ghost use Rattle.std.specs.Prelude.{◌≡◌, false, IfOk};
-ghost use Rattle.clap.specs.Words.{app_of, rule_of};
+ghost use Rattle.clap.specs.Words.{app_of};
 ghost use Rattle.clap.specs.declared.builder.command.Command.TheViews.{out-Command};
 ghost use Rattle.command_words.specs.Grammar as grammar;
+ghost use Rattle.command_words.specs.Made.{IsRule, IsMade};
 
 use clap::{Arg, ArgAction, Command};
 use std::alloc::{AllocError, Global};
 
 /// One word that has to be there.
 fn word<'a>(alloc: Global, id: &'a str) -> Arg<'a>
-    ensures rule { rule_of result ≡ grammar.word id.entry.now }
-    ensures local { result.global ≡ false }
+    ensures { IsRule result (grammar.word id.entry.now) }
 {
     Arg::new(alloc, id).required(true).action(ArgAction::Set)
 }
 
 /// One word or more.
 fn words<'a>(alloc: Global, id: &'a str) -> Arg<'a>
-    ensures rule { rule_of result ≡ grammar.words id.entry.now }
-    ensures local { result.global ≡ false }
+    ensures { IsRule result (grammar.words id.entry.now) }
 {
     Arg::new(alloc, id).required(true).action(ArgAction::Append)
 }
 
 /// An option with a value, `--id`, which may be left out.
 fn option<'a>(alloc: Global, id: &'a str) -> Arg<'a>
-    ensures rule { rule_of result ≡ grammar.option id.entry.now }
-    ensures local { result.global ≡ false }
+    ensures { IsRule result (grammar.option id.entry.now) }
 {
     Arg::new(alloc, id).long(id).action(ArgAction::Set)
 }
 
 /// An option without a value, `--id`, which may be left out.
 fn flag<'a>(alloc: Global, id: &'a str) -> Arg<'a>
-    ensures rule { rule_of result ≡ grammar.flag id.entry.now }
-    ensures local { result.global ≡ false }
+    ensures { IsRule result (grammar.flag id.entry.now) }
 {
     Arg::new(alloc, id).long(id).action(ArgAction::SetTrue)
 }
 
 /// `run NF OUT CAPTURE..`
 fn run_names<'a>(alloc: Global) -> Result<Command<'a>, AllocError>
-    ensures app { IfOk result (λ c. app_of c ≡ grammar.run_names) }
-    ensures local { IfOk result (λ c. (out-Command c).has_globals ≡ false) }
+    ensures { IfOk result (λ c. IsMade c grammar.run_names) }
 {
     Command::new(alloc, "run")
         .arg(word(alloc, "function"))?
@@ -55,8 +51,7 @@ fn run_names<'a>(alloc: Global) -> Result<Command<'a>, AllocError>
 /// card.
 fn with_card<'a>(alloc: Global, command: Command<'a>) -> Result<Command<'a>, AllocError>
     requires local { (out-Command command).has_globals ≡ false }
-    ensures app { IfOk result (λ c. app_of c ≡ grammar.with_card (app_of command.entry)) }
-    ensures local { IfOk result (λ c. (out-Command c).has_globals ≡ false) }
+    ensures { IfOk result (λ c. IsMade c (grammar.with_card (app_of command.entry))) }
 {
     command
         .arg(option(alloc, "table"))?
@@ -65,8 +60,7 @@ fn with_card<'a>(alloc: Global, command: Command<'a>) -> Result<Command<'a>, All
 
 /// `run NF OUT CAPTURE.. [--workers W] [--mode M] [--max-packets N]`
 fn run_amounts<'a>(alloc: Global) -> Result<Command<'a>, AllocError>
-    ensures app { IfOk result (λ c. app_of c ≡ grammar.run_amounts) }
-    ensures local { IfOk result (λ c. (out-Command c).has_globals ≡ false) }
+    ensures { IfOk result (λ c. IsMade c grammar.run_amounts) }
 {
     run_names(alloc)?
         .arg(option(alloc, "workers"))?
@@ -77,16 +71,14 @@ fn run_amounts<'a>(alloc: Global) -> Result<Command<'a>, AllocError>
 /// `run NF OUT CAPTURE.. [--workers W] [--mode M] [--max-packets N] [--table 128|512] [--key-bytes 40|52]
 /// [--pcapng]`
 fn run_words<'a>(alloc: Global) -> Result<Command<'a>, AllocError>
-    ensures app { IfOk result (λ c. app_of c ≡ grammar.run_app) }
-    ensures local { IfOk result (λ c. (out-Command c).has_globals ≡ false) }
+    ensures { IfOk result (λ c. IsMade c grammar.run_app) }
 {
     with_card(alloc, run_amounts(alloc)?)?.arg(flag(alloc, "pcapng"))
 }
 
 /// `replay NF JOURNAL OUT`
 fn replay_names<'a>(alloc: Global) -> Result<Command<'a>, AllocError>
-    ensures app { IfOk result (λ c. app_of c ≡ grammar.replay_names) }
-    ensures local { IfOk result (λ c. (out-Command c).has_globals ≡ false) }
+    ensures { IfOk result (λ c. IsMade c grammar.replay_names) }
 {
     Command::new(alloc, "replay")
         .arg(word(alloc, "function"))?
@@ -96,8 +88,7 @@ fn replay_names<'a>(alloc: Global) -> Result<Command<'a>, AllocError>
 
 /// `replay NF JOURNAL OUT CAPTURE.. [--max-packets N] [--pcapng]`
 fn replay_words<'a>(alloc: Global) -> Result<Command<'a>, AllocError>
-    ensures app { IfOk result (λ c. app_of c ≡ grammar.replay_app) }
-    ensures local { IfOk result (λ c. (out-Command c).has_globals ≡ false) }
+    ensures { IfOk result (λ c. IsMade c grammar.replay_app) }
 {
     replay_names(alloc)?
         .arg(words(alloc, "capture"))?
@@ -107,8 +98,7 @@ fn replay_words<'a>(alloc: Global) -> Result<Command<'a>, AllocError>
 
 /// `gen NF OUT SEED`
 fn gen_names<'a>(alloc: Global) -> Result<Command<'a>, AllocError>
-    ensures app { IfOk result (λ c. app_of c ≡ grammar.gen_names) }
-    ensures local { IfOk result (λ c. (out-Command c).has_globals ≡ false) }
+    ensures { IfOk result (λ c. IsMade c grammar.gen_names) }
 {
     Command::new(alloc, "gen")
         .arg(word(alloc, "function"))?
@@ -118,8 +108,7 @@ fn gen_names<'a>(alloc: Global) -> Result<Command<'a>, AllocError>
 
 /// `gen NF OUT SEED COUNT FLOWS`
 fn gen_amounts<'a>(alloc: Global) -> Result<Command<'a>, AllocError>
-    ensures app { IfOk result (λ c. app_of c ≡ grammar.gen_amounts) }
-    ensures local { IfOk result (λ c. (out-Command c).has_globals ≡ false) }
+    ensures { IfOk result (λ c. IsMade c grammar.gen_amounts) }
 {
     gen_names(alloc)?
         .arg(word(alloc, "count"))?
@@ -128,8 +117,7 @@ fn gen_amounts<'a>(alloc: Global) -> Result<Command<'a>, AllocError>
 
 /// `gen NF OUT SEED COUNT FLOWS [--workers W] [--mode M] [--table 128|512] [--key-bytes 40|52] [--pcapng]`
 fn gen_words<'a>(alloc: Global) -> Result<Command<'a>, AllocError>
-    ensures app { IfOk result (λ c. app_of c ≡ grammar.gen_app) }
-    ensures local { IfOk result (λ c. (out-Command c).has_globals ≡ false) }
+    ensures { IfOk result (λ c. IsMade c grammar.gen_app) }
 {
     let command = gen_amounts(alloc)?
         .arg(option(alloc, "workers"))?
@@ -139,8 +127,7 @@ fn gen_words<'a>(alloc: Global) -> Result<Command<'a>, AllocError>
 
 /// `hash SRC:PORT DST:PORT [--key HEX] [--workers W] [--table 128|512] [--key-bytes 40|52]`
 fn hash_words<'a>(alloc: Global) -> Result<Command<'a>, AllocError>
-    ensures app { IfOk result (λ c. app_of c ≡ grammar.hash_app) }
-    ensures local { IfOk result (λ c. (out-Command c).has_globals ≡ false) }
+    ensures { IfOk result (λ c. IsMade c grammar.hash_app) }
 {
     let command = Command::new(alloc, "hash")
         .arg(word(alloc, "source"))?
@@ -152,38 +139,50 @@ fn hash_words<'a>(alloc: Global) -> Result<Command<'a>, AllocError>
 
 /// `check NF`, or another word in its place that asks for a text on a function.
 fn description_names<'a>(alloc: Global, name: &'a str) -> Result<Command<'a>, AllocError>
-    ensures app { IfOk result (λ c. app_of c ≡ grammar.description_names name.entry.now) }
-    ensures local { IfOk result (λ c. (out-Command c).has_globals ≡ false) }
+    ensures { IfOk result (λ c. IsMade c (grammar.description_names name.entry.now)) }
 {
     Command::new(alloc, name).arg(word(alloc, "function"))
 }
 
 /// `keys NF [--table 128|512] [--key-bytes 40|52]`, or another word in the place of `keys`.
 fn description_words<'a>(alloc: Global, name: &'a str) -> Result<Command<'a>, AllocError>
-    ensures app { IfOk result (λ c. app_of c ≡ grammar.description_app name.entry.now) }
-    ensures local { IfOk result (λ c. (out-Command c).has_globals ≡ false) }
+    ensures { IfOk result (λ c. IsMade c (grammar.description_app name.entry.now)) }
 {
     with_card(alloc, description_names(alloc, name)?)
+}
+
+/// `certify NF FILE`
+fn certify_words<'a>(alloc: Global) -> Result<Command<'a>, AllocError>
+    ensures { IfOk result (λ c. IsMade c grammar.certify_app) }
+{
+    Command::new(alloc, "certify")
+        .arg(word(alloc, "function"))?
+        .arg(word(alloc, "proof"))
+}
+
+/// `keys NF [--table 128|512] [--key-bytes 40|52] [--proof FILE]`
+fn keys_words<'a>(alloc: Global) -> Result<Command<'a>, AllocError>
+    ensures { IfOk result (λ c. IsMade c grammar.keys_app) }
+{
+    description_words(alloc, "keys")?.arg(option(alloc, "proof"))
 }
 
 /// `check`, `explain` and `keys`, behind the commands that are there: `check` says nothing of keys, so
 /// it asks for no card.
 fn with_descriptions<'a>(alloc: Global, command: Command<'a>) -> Result<Command<'a>, AllocError>
     requires local { (out-Command command).has_globals ≡ false }
-    ensures app { IfOk result (λ c. app_of c ≡ grammar.with_descriptions (app_of command.entry)) }
-    ensures local { IfOk result (λ c. (out-Command c).has_globals ≡ false) }
+    ensures { IfOk result (λ c. IsMade c (grammar.with_descriptions (app_of command.entry))) }
 {
     command
         .subcommand(description_names(alloc, "check")?)?
         .subcommand(description_words(alloc, "explain")?)?
-        .subcommand(description_words(alloc, "keys")?)
+        .subcommand(keys_words(alloc)?)
 }
 
 /// The commands that handle packets, behind the commands that are there.
 fn with_runs<'a>(alloc: Global, command: Command<'a>) -> Result<Command<'a>, AllocError>
     requires local { (out-Command command).has_globals ≡ false }
-    ensures app { IfOk result (λ c. app_of c ≡ grammar.with_runs (app_of command.entry)) }
-    ensures local { IfOk result (λ c. (out-Command c).has_globals ≡ false) }
+    ensures { IfOk result (λ c. IsMade c (grammar.with_runs (app_of command.entry))) }
 {
     command
         .subcommand(run_words(alloc)?)?
@@ -193,9 +192,10 @@ fn with_runs<'a>(alloc: Global, command: Command<'a>) -> Result<Command<'a>, All
 
 /// Every command.
 pub fn all_words<'a>(alloc: Global) -> Result<Command<'a>, AllocError>
-    ensures app { IfOk result (λ c. app_of c ≡ grammar.app) }
-    ensures local { IfOk result (λ c. (out-Command c).has_globals ≡ false) }
+    ensures { IfOk result (λ c. IsMade c grammar.app) }
 {
-    let command = with_runs(alloc, Command::new(alloc, "maestro"))?.subcommand(hash_words(alloc)?)?;
+    let command = with_runs(alloc, Command::new(alloc, "maestro"))?
+        .subcommand(hash_words(alloc)?)?
+        .subcommand(certify_words(alloc)?)?;
     with_descriptions(alloc, command)
 }

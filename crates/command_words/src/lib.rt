@@ -9,8 +9,8 @@ mod key;
 mod words;
 
 pub use command::{
-    Command, DescribeCommand, Description, GenCommand, HashCommand, ModeChoice, ReplayCommand,
-    RunCommand,
+    CertifyCommand, Command, DescribeCommand, Description, GenCommand, HashCommand, ModeChoice,
+    ProveCommand, ReplayCommand, RunCommand,
 };
 pub use endpoint::Ends;
 pub use words::command_of;

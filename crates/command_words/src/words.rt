@@ -7,8 +7,8 @@ ghost use Rattle.command_words.specs.Commands as meant;
 ghost use Rattle.command_words.specs.View as view;
 
 use crate::command::{
-    Command, DescribeCommand, Description, GenCommand, HashCommand, ModeChoice, ReplayCommand,
-    RunCommand,
+    CertifyCommand, Command, DescribeCommand, Description, GenCommand, HashCommand, ModeChoice,
+    ProveCommand, ReplayCommand, RunCommand,
 };
 use crate::endpoint::{Endpoint, Ends, endpoint_in, ends_between, number_up_to};
 use crate::grammar::all_words;
@@ -363,14 +363,56 @@ fn describe_command(
     }
 }
 
-/// Which text on a function a name asks for.
+fn certify_command(
+    alloc: Global,
+    matches: &ArgMatches,
+) -> Result<Option<CertifyCommand>, AllocError>
+    ensures { IfOk result (λ r. option_map view.certify r ≡ meant.certify_in (rows_of (found_of matches.now))) }
+{
+    match (value(matches, "function"), value(matches, "proof")) {
+        (Some(function), Some(proof)) => Ok(Some(CertifyCommand {
+            function: String::from_str(alloc, function)?,
+            proof: String::from_str(alloc, proof)?,
+        })),
+        _ => Ok(None),
+    }
+}
+
+fn prove_command(
+    alloc: Global,
+    proof: &str,
+    matches: &ArgMatches,
+) -> Result<Option<ProveCommand>, AllocError>
+    ensures { IfOk result (λ r. option_map view.prove r ≡ meant.prove_in proof.now (rows_of (found_of matches.now))) }
+{
+    match (value(matches, "function"), card_asked(matches)) {
+        (Some(function), Some(card)) => Ok(Some(ProveCommand {
+            function: String::from_str(alloc, function)?,
+            proof: String::from_str(alloc, proof)?,
+            card,
+        })),
+        _ => Ok(None),
+    }
+}
+
+/// Keys alone, or with a certificate where a name is given for one.
+fn keys_command(alloc: Global, matches: &ArgMatches) -> Result<Option<Command>, AllocError>
+    ensures few { IfOk result (λ r. IfSome r view.HasFew) }
+    ensures value { IfOk result (λ r. option_map view.asked r ≡ meant.keys_in (rows_of (found_of matches.now))) }
+{
+    match value(matches, "proof") {
+        Some(proof) => Ok(prove_command(alloc, proof, matches)?.map(Command::Prove)),
+        None => Ok(describe_command(alloc, Description::Keys, matches)?.map(Command::Describe)),
+    }
+}
+
+/// Which text on a function a name asks for, but for `keys`.
 fn description_named(name: &str) -> Option<Description>
     ensures { result ≡ meant.description_named name.now }
 {
     match name {
         "check" => Some(Description::Check),
         "explain" => Some(Description::Explain),
-        "keys" => Some(Description::Keys),
         _ => None,
     }
 }
@@ -388,6 +430,10 @@ fn named(alloc: Global, name: &str, matches: &ArgMatches) -> Result<Option<Comma
         Ok(gen_command(alloc, matches)?.map(Command::Gen))
     } else if name == "hash" {
         Ok(hash_command(matches).map(Command::Hash))
+    } else if name == "certify" {
+        Ok(certify_command(alloc, matches)?.map(Command::Certify))
+    } else if name == "keys" {
+        keys_command(alloc, matches)
     } else {
         match description_named(name) {
             Some(what) => Ok(describe_command(alloc, what, matches)?.map(Command::Describe)),

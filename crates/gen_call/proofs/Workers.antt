@@ -1,5 +1,5 @@
 -- A run over made-up traffic, by the workers that a command asks for.
-use Rattle.std.proofs.Common.{◌≡◌, inl, inr, ℕ, ◌+◌, List, [], ◌∷◌, length, map, get_or, Err, refl, ap, sym, subst, ◌∙◌, arith}
+use Rattle.std.proofs.Common.{◌≡◌, inl, inr, ℕ, ◌+◌, List, [], ◌∷◌, length, map, get_or, slice_get, Some, Err, refl, ap, sym, subst, ◌∙◌, arith}
 use Rattle.std.proofs.lemmas.Option.{slice_get-get_or}
 use Rattle.nf_base.specs.Functions.{function_of}
 use Rattle.nf_base.specs.Text.{Function}
@@ -79,6 +79,10 @@ pub first_is : (before a : Outside) (job : Job) (targets : List ℕ) → HasCrea
 first_is before a job targets h =
     let at = slice_get-get_or targets 0 0 (omega (arith, h.created.all)) in
     omega (arith, (targets_from h 0 (get_or targets 0 0) at).0)
+
+-- so the number of each target is that of the first and its place
+pub numbers_are : (before a : Outside) (job : Job) (targets : List ℕ) → HasCreated (leaves_of (asked job) before job.layout.ports) before a targets → (k file : ℕ) → slice_get targets k ≡ Some file → file ≡ get_or targets 0 0 + k
+numbers_are before a job targets h k file at = omega (arith, (targets_from h k file at).0, first_is before a job targets h)
 
 -- all packets were handled
 pub done : (since : Since) (a b : Outside) (job : Job) (targets : List ℕ) (who : Who) (all : List Arrival) (first : ℕ) (m : Mode) (state : State) (sent : ℕ) → IsJob since.before job → HasCreated (leaves_of (asked job) since.before job.layout.ports) since.before a targets → IsWho (asked job) (function_of job.func.now) who

@@ -28,7 +28,7 @@ use nf_base::state::State;
 use nf_files::Files;
 use run_history::line::Mode;
 use std::alloc::Global;
-use std::sync::Wait;
+use std::sync::{Arc, Wait};
 use std::thread::Threads;
 use stream_run::Stop as NumberStop;
 use traffic_run::{Asked, Came, Who, run};
@@ -67,14 +67,19 @@ fn leave_run<F: Files>(
 }
 
 // Handles all packets, and leaves what comes of them in the files that were created.
-fn run_created<R: Threads + Wait + Sync, F: Files, T: Turns + Sync, G: Gate + Drop + Send>(
+fn run_created<
+    R: Threads + Wait + Clone + Send + Sync + Drop + 'static,
+    F: Files,
+    T: Turns + Send + Sync + Drop + 'static,
+    G: Gate + Drop + Send,
+>(
     rt: &R,
     alloc: Global,
     files: &mut F,
     job: &Job,
     who: &Who,
     targets: &[u32],
-    turns: &T,
+    turns: &Arc<T>,
     gate: &mut G,
 ) -> Result<End, Halt>
     ghost before: { Outside }
@@ -112,13 +117,18 @@ fn run_created<R: Threads + Wait + Sync, F: Files, T: Turns + Sync, G: Gate + Dr
 }
 
 // Creates the outputs and the journal, and runs.
-fn run_served<R: Threads + Wait + Sync, F: Files, T: Turns + Sync, G: Gate + Drop + Send>(
+fn run_served<
+    R: Threads + Wait + Clone + Send + Sync + Drop + 'static,
+    F: Files,
+    T: Turns + Send + Sync + Drop + 'static,
+    G: Gate + Drop + Send,
+>(
     rt: &R,
     alloc: Global,
     files: &mut F,
     job: &Job,
     who: &Who,
-    turns: &T,
+    turns: &Arc<T>,
     gate: &mut G,
 ) -> Result<End, Halt>
     ghost before: { Outside }
@@ -141,13 +151,18 @@ fn run_served<R: Threads + Wait + Sync, F: Files, T: Turns + Sync, G: Gate + Dro
 }
 
 // Runs, where it is known who handles the packets.
-fn run_found<R: Threads + Wait + Sync, F: Files, T: Turns + Sync, G: Gate + Drop + Send>(
+fn run_found<
+    R: Threads + Wait + Clone + Send + Sync + Drop + 'static,
+    F: Files,
+    T: Turns + Send + Sync + Drop + 'static,
+    G: Gate + Drop + Send,
+>(
     rt: &R,
     alloc: Global,
     files: &mut F,
     command: &GenCommand,
     found: &Found,
-    turns: &T,
+    turns: &Arc<T>,
     gate: &mut G,
 ) -> Result<End, Halt>
     ghost before: { Outside }
@@ -177,12 +192,17 @@ fn run_found<R: Threads + Wait + Sync, F: Files, T: Turns + Sync, G: Gate + Drop
 }
 
 /// Runs a function over the traffic that is asked for, and sums the run up.
-pub fn generate<R: Threads + Wait + Sync, F: Files, T: Turns + Sync, G: Gate + Drop + Send>(
+pub fn generate<
+    R: Threads + Wait + Clone + Send + Sync + Drop + 'static,
+    F: Files,
+    T: Turns + Send + Sync + Drop + 'static,
+    G: Gate + Drop + Send,
+>(
     rt: &R,
     alloc: Global,
     files: &mut F,
     command: &GenCommand,
-    turns: &T,
+    turns: &Arc<T>,
     gate: &mut G,
 ) -> Result<End, Halt>
     ghost before: { Outside }

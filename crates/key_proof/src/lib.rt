@@ -17,3 +17,7 @@ mod vectors;
 
 pub use certifying::{CertifyFault, certify};
 pub use checking::first_wrong;
+pub use numbered::Numbered;
+pub use rows::row_of;
+pub use subject::{Subject, subject_of};
+pub use vectors::{bits_of, counted, default_bits, spans_of};

@@ -1,10 +1,10 @@
 -- One call more in an order that is put together of all.
-use Rattle.std.proofs.Common.{◌≡◌, ◌⊎◌, ⊎_elim, ℕ, zero, suc, ◌+◌, ◌≤◌, ◌<◌, ◌==◌, Bool, true, false, List, [], ◌∷◌, ◌++◌, length, map, fold, take, set, get_or, replicate, Option, Some, None, slice_get, option_and_then, refl, ap, sym, ◌∙◌, subst, arith, le_refl, length-append, append-nil, eqb-true, eq-eqb, ne_eqb, length-set, get_or-set_same, get_or-set_other, take_all}
+use Rattle.std.proofs.Common.{◌≡◌, ◌⊎◌, ⊎_elim, ℕ, zero, suc, ◌+◌, ◌≤◌, ◌<◌, ◌==◌, Bool, true, false, List, [], ◌∷◌, ◌++◌, length, map, fold, take, set, get_or, replicate, Option, Some, None, slice_get, option_map, option_and_then, refl, ap, sym, ◌∙◌, subst, arith, le_refl, length-append, append-nil, eqb-true, eq-eqb, ne_eqb, length-set, get_or-set_same, get_or-set_other, take_all}
 use Rattle.std.specs.Bool.{OnTrue}
 use Rattle.std.proofs.lemmas.Bool.{cases_eq, false≢true}
 use Rattle.std.proofs.lemmas.List.{map-append, take_more, length-take-le, length-replicate, get_or-replicate}
 use Rattle.std.proofs.lemmas.List.Sums.{fold-append}
-use Rattle.std.proofs.lemmas.Option.{slice_get_within, slice_get_read, get_or_from_slice_get, same_Some}
+use Rattle.std.proofs.lemmas.Option.{slice_get_within, slice_get_read, slice_get-map, get_or_from_slice_get, same_Some}
 use mathlib.Core.List.{IsPrefix}
 use Rattle.nf_base.specs.declared.state.State.{State}
 use Rattle.nf_base.specs.declared.done.Done.{Done}
@@ -27,10 +27,13 @@ use Rattle.lock_core.specs.Histories.{handling_in, answer_in, Runs}
 use Rattle.lock_core.proofs.Orders.{longer, length_is, left_by_look, grown_by_alone}
 use Rattle.lock_core.proofs.Calls.{own_call, calls_more}
 use Rattle.lock_core.proofs.Going.{comes_none, comes_once, comes_more}
+use Rattle.lock_log.specs.declared.order.Turn.{Turn}
+use Rattle.lock_log.specs.Turns.{call_of, in_turn, AreThere}
+use Rattle.lock_log.proofs.Turning.{turn_pushed, there_pushed}
 use Rattle.lock_mode.specs.Seats.{SeatState, entry_of, IsMadeBy, AreMade, AreAll}
 use Rattle.lock_mode.specs.Sides.{RanTo}
 use Rattle.lock_mode.specs.Closing.{IsOrder, IsClosed}
-use Rattle.lock_mode.specs.Merging.{HaveSeen, IsMerged, AreTaken, IsBehind, AreMerged}
+use Rattle.lock_mode.specs.Merging.{HaveSeen, IsMerged, calls_each, AreTurns, AreTaken, IsBehind, AreMerged}
 use Rattle.lock_mode.proofs.Fronts.{prefix_get, prefix_length}
 use Rattle.lock_mode.proofs.Making.{take_prefix}
 
@@ -181,6 +184,36 @@ merged_all f all seats order taken entries m seen whole every =
         others = m.others;
         seen = λ k seat there. subst (IsPrefix seat.seen) (sym is) (seen k seat (slice_get_within seats k seat there) there);
       };
+    }
+
+-- ---- turns of it
+
+pub turns_none : (f : Function) (all : List Entry) (seats : List SeatState) (turns : List Turn) (taken : List ℕ) → turns ≡ [] → taken ≡ replicate (length seats) 0 → AreTurns f all seats turns taken 0
+turns_none f all seats turns taken none zeros = record {
+  there = subst (AreThere (calls_each seats)) (sym none) tt;
+  merged = merged_none f all seats (in_turn (calls_each seats) turns) taken (ap (in_turn (calls_each seats)) none) zeros;
+}
+
+-- a seat's call has its turn
+has_call : (seats : List SeatState) (at n count : ℕ) (s : SeatState) (c : Call) → AreAll count seats → slice_get seats at ≡ Some s → slice_get s.calls n ≡ Some c → call_of (calls_each seats) (record { seat = s.number; number = n }) ≡ Some c
+has_call seats at n count s c numbered here call =
+    let number : s.number ≡ at = numbered.each at s here in
+    let calls = λ (z : SeatState). z.calls in
+    ap (λ (k : ℕ). option_and_then (λ (cs : List Call). slice_get cs n) (slice_get (calls_each seats) k)) number
+    ∙ ap (option_and_then (λ (cs : List Call). slice_get cs n)) (slice_get-map calls seats at ∙ ap (option_map calls) here)
+    ∙ call
+
+pub turns_more : (f : Function) (all : List Entry) (seats : List SeatState) (turns : List Turn) (taken : List ℕ) (entries new at n count : ℕ) (s : SeatState) (c : Call) → AreTurns f all seats turns taken entries → AreAll count seats → HaveSeen seats all (length seats)
+    → slice_get seats at ≡ Some s → AreMade f s.number s.seen s.calls → n ≡ get_or taken at 0 → slice_get s.calls n ≡ Some c → c.place ≡ entries → IsBehind c.way entries (length all) new
+    → AreTurns f all seats (turns ++ record { seat = s.number; number = n } ∷ []) (set taken at (n + 1)) new
+turns_more f all seats turns taken entries new at n count s c m numbered seen here made is call due behind =
+    let each = calls_each seats in
+    let t : Turn = record { seat = s.number; number = n } in
+    let has = has_call seats at n count s c numbered here call in
+    record {
+      there = there_pushed each turns t c m.there has;
+      merged = subst (λ (xs : List Ordered). IsMerged f all seats xs (set taken at (n + 1)) new) (sym (turn_pushed each turns t c has))
+          (put_more f all seats (in_turn each turns) taken entries new at n count s c m.merged numbered seen here made is call due behind);
     }
 
 -- with the tables that the history leaves

@@ -1,15 +1,18 @@
 -- An order that is being put together of the calls of all seats.
-use Rattle.std.specs.Prelude.{◌≡◌, ℕ, ◌+◌, ◌≤◌, ◌<◌, List, [], length, take, get_or, Some, slice_get}
+use Rattle.std.specs.Prelude.{◌≡◌, ℕ, ◌+◌, ◌≤◌, ◌<◌, List, [], length, map, take, get_or, Some, slice_get}
 use mathlib.Core.List.{IsPrefix}
 use Rattle.nf_base.specs.declared.state.State.{State}
 use Rattle.nf_base.specs.Text.{Function}
 use Rattle.lock_core.specs.declared.call.Way.{Way}
 use Rattle.lock_core.specs.declared.call.Way.TheVariants.{Look, Alone}
 use Rattle.lock_core.specs.declared.call.Entry.{Entry}
+use Rattle.lock_core.specs.declared.call.Call.{Call}
 use Rattle.lock_core.specs.declared.call.Ordered.{Ordered}
 use Rattle.lock_core.specs.Calls.{history, calls_of}
 use Rattle.lock_core.specs.Events.{ComesTo}
 use Rattle.lock_core.specs.Histories.{Runs}
+use Rattle.lock_log.specs.declared.order.Turn.{Turn}
+use Rattle.lock_log.specs.Turns.{in_turn, AreThere}
 use Rattle.lock_mode.specs.Seats.{SeatState}
 use Rattle.lock_mode.specs.Closing.{IsOrder}
 
@@ -32,6 +35,16 @@ pub record IsMerged (f : Function) (all : List Entry) (seats : List SeatState)
   pub calls : (k : ℕ) (seat : SeatState) → slice_get seats k ≡ Some seat →
       calls_of k order ≡ take (get_or taken k 0) seat.calls
   pub others : (k : ℕ) → length seats ≤ k → calls_of k order ≡ []
+
+-- the calls of each seat
+abbrev pub calls_each : List SeatState → List (List Call)
+calls_each seats = map (λ (s : SeatState). s.calls) seats
+
+-- turns of an order that is being put together so
+pub record AreTurns (f : Function) (all : List Entry) (seats : List SeatState) (turns : List Turn)
+    (taken : List ℕ) (entries : ℕ) : Type 0 where
+  pub there : AreThere (calls_each seats) turns
+  pub merged : IsMerged f all seats (in_turn (calls_each seats) turns) taken entries
 
 -- the calls of each of the first seats were all taken
 abbrev pub AreTaken : List SeatState → List ℕ → ℕ → Type 0

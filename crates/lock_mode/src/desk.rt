@@ -8,7 +8,8 @@ ghost use mathlib.Core.List.{IsPrefix};
 ghost use Rattle.lock_core.specs.Calls.{count_of};
 ghost use Rattle.lock_mode.specs.Alone.{IsAlone};
 ghost use Rattle.lock_mode.specs.Closing.{IsClosed};
-ghost use Rattle.lock_mode.specs.Merging.{HaveSeen, AreMerged};
+ghost use Rattle.lock_log.specs.Turns.{in_turn, AreThere};
+ghost use Rattle.lock_mode.specs.Merging.{HaveSeen, AreMerged, calls_each};
 ghost use Rattle.lock_mode.specs.Seats.{AreAll};
 ghost use Rattle.lock_mode.specs.Sides.{IsNext};
 ghost use Rattle.lock_mode.specs.Tails.{end_of};
@@ -18,17 +19,19 @@ use crate::gate::Gate;
 use crate::merge::merged;
 use crate::rule::{Rising, Seeing, TableWriter};
 use crate::seat::Seat;
-use crate::shared::{Closed, Published};
+use crate::shared::Published;
 use crate::side::{Op, Side};
 use crate::tail::Tail;
 use crate::viewer::until;
 use core::mem::replace_with;
 use crossbeam_utils::rule::Protocol;
 use left_right::Absorb;
-use lock_core::{Entry, Ordered, Placed, again};
+use lock_core::{Entry, Placed, again};
+use lock_log::Turn;
 use nf_base::packet::Packet;
 use std::alloc::{AllocError, Global};
 use std::sync::Wait;
+use vig_tables::Tables;
 
 /// How many entries a history has at most.
 const MOST: u64 = 1 << 32;
@@ -50,6 +53,13 @@ where
     pub ghost same: { writer.desk.shown.value.0 ≡ front },
     pub ghost whole: { writer.desk.shown.value.1 ≡ true },
     pub ghost ends: { end_of tail front ≡ front },
+}
+
+/// The turns of all that seats did, and the tables that these leave.
+#[derive(Drop)]
+pub(crate) struct Turned {
+    pub(crate) tables: Tables,
+    pub(crate) turns: Vec<Turn>,
 }
 
 /// Whether a history begins with what was seen.
@@ -261,17 +271,18 @@ impl<J: Naming> Desk<J> {
         }
     }
 
-    /// All calls of all seats in one order.
+    /// The turns of all calls of all seats in one order.
     ///
     /// `Err` is for want of memory, or where they are not the whole history.
-    fn order<G: Gate + Drop>(
+    fn turns<G: Gate + Drop>(
         &self,
         alloc: Global,
         seats: &[Seat<J, G>],
-    ) -> Result<Vec<Ordered>, AllocError>
+    ) -> Result<Vec<Turn>, AllocError>
         requires { AreAll J.seats seats.now }
-        ensures { IfOk result (λ order.
-            AreMerged J.function self.now.front seats.now order.items) }
+        ensures there { IfOk result (λ turns. AreThere (calls_each seats.now) turns.items) }
+        ensures merged { IfOk result (λ turns. AreMerged J.function self.now.front seats.now
+            (in_turn (calls_each seats.now) turns.items)) }
     {
         if !have_seen(seats, &self.front) {
             return Err(AllocError);
@@ -279,26 +290,28 @@ impl<J: Naming> Desk<J> {
         merged(alloc, seats, &self.front)
     }
 
-    /// What all seats did, as one order, with the tables that it leaves; and what is published.
+    /// The turns of all that seats did in one order, with the tables that it leaves; and what is
+    /// published.
     ///
     /// `Err` is for want of memory, or where the seats' calls are not the whole history.
     pub(crate) fn close<G: Gate + Drop>(
         self,
         alloc: Global,
         seats: &[Seat<J, G>],
-    ) -> Result<(Closed, Published<J>), Desk<J>>
+    ) -> Result<(Turned, Published<J>), Desk<J>>
         requires { AreAll J.seats seats.now }
-        ensures { IfOk result (λ r.
-            IsClosed J.function seats.now r.0.order.items r.0.tables) }
+        ensures there { IfOk result (λ r. AreThere (calls_each seats.now) r.0.turns.items) }
+        ensures closed { IfOk result (λ r. IsClosed J.function seats.now
+            (in_turn (calls_each seats.now) r.0.turns.items) r.0.tables) }
     {
-        let Ok(order) = self.order(alloc, seats) else {
+        let Ok(turns) = self.turns(alloc, seats) else {
             return Err(self);
         };
         let (desk, tail) = self.without_end();
         match tail {
             Some(tail) => {
                 let tables = tail.into_tables();
-                Ok((Closed { tables, order }, desk.published()))
+                Ok((Turned { tables, turns }, desk.published()))
             }
             None => Err(desk),
         }

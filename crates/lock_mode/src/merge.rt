@@ -1,20 +1,21 @@
 //! One order, put together of the calls of all seats.
-ghost use Rattle.std.specs.Prelude.{◌≡◌, ◌<◌, ◌≤◌, ◌++◌, ◌∷◌, [], length, replicate, IfOk, IfSome};
+ghost use Rattle.std.specs.Prelude.{◌≡◌, ◌<◌, ◌≤◌, length, replicate, IfOk, IfSome};
 ghost use Rattle.std.specs.Bool.{OnTrue};
-ghost use Rattle.std.specs.Vec.{vec_len, vec_capacity};
+ghost use Rattle.lock_log.specs.Turns.{in_turn, AreThere};
 ghost use Rattle.lock_mode.specs.Seats.{AreAll};
-ghost use Rattle.lock_mode.specs.Merging.{HaveSeen, IsMerged, AreTaken, IsBehind, AreMerged};
+ghost use Rattle.lock_mode.specs.Merging.{HaveSeen, AreTurns, AreTaken, IsBehind, AreMerged, calls_each};
 
 use crate::book::{Front, Naming};
 use crate::gate::Gate;
 use crate::seat::Seat;
-use lock_core::{Call, Ordered, Way, again};
+use lock_core::Way;
+use lock_log::{CallLog, Turn};
 use std::alloc::{AllocError, Global};
 
-/// An order, how many calls of each seat stand in it, and how many entries of the history.
+/// The turns of an order, how many calls of each seat stand in it, and how many entries of the history.
 #[derive(Drop)]
 struct Merge {
-    order: Vec<Ordered>,
+    turns: Vec<Turn>,
     taken: Vec<usize>,
     entries: u64,
 }
@@ -33,29 +34,6 @@ fn zeros(alloc: Global, count: usize) -> Result<Vec<usize>, AllocError>
     ensures { IfOk result (λ zeros. zeros.items ≡ replicate count 0) }
 {
     Ok(vec![in alloc; 0; count]?)
-}
-
-/// A call of a seat, as it stands in an order.
-fn ordered(seat: u32, call: &Call) -> Ordered
-    ensures { result ≡ record { seat = seat; way = call.now.way; packet = call.now.packet; done = call.now.done } }
-{
-    Ordered {
-        seat,
-        way: call.way,
-        packet: call.packet,
-        done: again(&call.done),
-    }
-}
-
-/// Appends to an order that has room.
-fn put_last(order: &mut Vec<Ordered>, x: Ordered)
-    requires room { vec_len order.old < vec_capacity order.old }
-    ensures { order.new.items ≡ order.old.items ++ x ∷ [] }
-{
-    match order.push(x) {
-        Ok(()) => {}
-        Err(_) => unreachable!(),
-    }
 }
 
 /// How many entries stand behind a call, of which there are no more than the last.
@@ -77,24 +55,24 @@ impl Merge {
         seats: &[Seat<J, G>],
         all: &Front<J>,
     ) -> Result<Merge, AllocError>
-        ensures { IfOk result (λ merge. IsMerged J.function all.now seats.now
-            merge.order.items merge.taken.items merge.entries) }
+        ensures { IfOk result (λ merge. AreTurns J.function all.now seats.now
+            merge.turns.items merge.taken.items merge.entries) }
     {
-        let order = Vec::with_capacity(alloc, count_calls(seats))?;
+        let turns = Vec::with_capacity(alloc, count_calls(seats))?;
         let taken = zeros(alloc, seats.len())?;
         Ok(Merge {
-            order,
+            turns,
             taken,
             entries: 0,
         })
     }
 
     /// How the next call of a seat was made, where it stands behind so many entries.
-    fn due(&self, calls: &[Call], at: usize) -> Option<Way> {
+    fn due(&self, calls: &CallLog, at: usize) -> Option<Way> {
         let next = *self.taken.get(at)?;
-        let call = calls.get(next)?;
-        if call.place == self.entries {
-            Some(call.way)
+        let head = calls.head(next)?;
+        if head.place == self.entries {
+            Some(head.way)
         } else {
             None
         }
@@ -127,25 +105,26 @@ impl Merge {
         requires within { at < length seats.now }
         requires numbered { AreAll J.seats seats.now }
         requires seen { HaveSeen seats.now all.now (length seats.now) }
-        requires merged { IsMerged J.function all.now seats.now
-            self.old.order.items self.old.taken.items self.old.entries }
-        ensures merged { IsMerged J.function all.now seats.now
-            self.new.order.items self.new.taken.items self.new.entries }
+        requires merged { AreTurns J.function all.now seats.now
+            self.old.turns.items self.old.taken.items self.old.entries }
+        ensures merged { AreTurns J.function all.now seats.now
+            self.new.turns.items self.new.taken.items self.new.entries }
     {
         let seat = &seats[at];
-        let calls = seat.calls();
         let next = self.taken[at];
-        if next >= calls.len() {
+        let Some(head) = seat.calls().head(next) else {
+            return Ok(false);
+        };
+        if head.place != self.entries {
             return Ok(false);
         }
-        let call = &calls[next];
-        if call.place != self.entries {
-            return Ok(false);
-        }
-        self.order.reserve(1)?;
-        put_last(&mut self.order, ordered(seat.number(), call));
+        self.turns.reserve(1)?;
+        self.turns.push_reserved(Turn {
+            seat: seat.number(),
+            number: next as u32,
+        });
         self.taken[at] = next + 1;
-        self.entries = behind(self.entries, all.len(), call.way);
+        self.entries = behind(self.entries, all.len(), head.way);
         Ok(true)
     }
 
@@ -157,10 +136,10 @@ impl Merge {
     ) -> Result<(), AllocError>
         requires numbered { AreAll J.seats seats.now }
         requires seen { HaveSeen seats.now all.now (length seats.now) }
-        requires merged { IsMerged J.function all.now seats.now
-            self.old.order.items self.old.taken.items self.old.entries }
-        ensures merged { IsMerged J.function all.now seats.now
-            self.new.order.items self.new.taken.items self.new.entries }
+        requires merged { AreTurns J.function all.now seats.now
+            self.old.turns.items self.old.taken.items self.old.entries }
+        ensures merged { AreTurns J.function all.now seats.now
+            self.new.turns.items self.new.taken.items self.new.entries }
     {
         for _ in 0..u64::MAX {
             let Some(at) = self.next(seats) else {
@@ -197,42 +176,46 @@ impl Merge {
         self.entries == all.len() && self.has_all(seats)
     }
 
-    /// The order, where all calls and all entries stand in it.
-    fn into_order<J: Naming, G: Gate + Drop>(
+    /// The turns, where all calls and all entries stand in their order.
+    fn into_turns<J: Naming, G: Gate + Drop>(
         self,
         seats: &[Seat<J, G>],
         all: &Front<J>,
-    ) -> Result<Vec<Ordered>, AllocError>
+    ) -> Result<Vec<Turn>, AllocError>
         requires seen { HaveSeen seats.now all.now (length seats.now) }
-        requires merged { IsMerged J.function all.now seats.now
-            self.order.items self.taken.items self.entries }
-        ensures { IfOk result (λ order. AreMerged J.function all.now seats.now order.items) }
+        requires merged { AreTurns J.function all.now seats.now
+            self.turns.items self.taken.items self.entries }
+        ensures there { IfOk result (λ turns. AreThere (calls_each seats.now) turns.items) }
+        ensures merged { IfOk result (λ turns. AreMerged J.function all.now seats.now
+            (in_turn (calls_each seats.now) turns.items)) }
     {
         if !self.is_whole(seats, all) {
             return Err(AllocError);
         }
         let Merge {
-            order,
+            turns,
             taken: _taken,
             entries: _entries,
         } = self;
-        Ok(order)
+        Ok(turns)
     }
 }
 
-/// All calls of all seats in one order.
+/// The turns of all calls of all seats in one order.
 ///
 /// `Err` is for want of memory, or where they are not the whole history.
 pub(crate) fn merged<J: Naming, G: Gate + Drop>(
     alloc: Global,
     seats: &[Seat<J, G>],
     all: &Front<J>,
-) -> Result<Vec<Ordered>, AllocError>
+) -> Result<Vec<Turn>, AllocError>
     requires numbered { AreAll J.seats seats.now }
     requires seen { HaveSeen seats.now all.now (length seats.now) }
-    ensures { IfOk result (λ order. AreMerged J.function all.now seats.now order.items) }
+    ensures there { IfOk result (λ turns. AreThere (calls_each seats.now) turns.items) }
+    ensures merged { IfOk result (λ turns. AreMerged J.function all.now seats.now
+        (in_turn (calls_each seats.now) turns.items)) }
 {
     let mut merge = Merge::new(alloc, seats, all)?;
     merge.put_all(seats, all)?;
-    merge.into_order(seats, all)
+    merge.into_turns(seats, all)
 }

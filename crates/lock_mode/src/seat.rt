@@ -1,6 +1,5 @@
 //! A seat: it looks at the published tables, and knows all that it did.
 ghost use Rattle.std.specs.Prelude.{◌≡◌, ◌<◌, ◌≤◌, ◌+◌, ◌++◌, ◌∷◌, [], length, OnOk};
-ghost use Rattle.std.specs.Vec.{vec_len, vec_capacity};
 ghost use mathlib.Core.List.{IsPrefix};
 ghost use Rattle.nf_base.specs.Doors.{IsServed};
 ghost use Rattle.lock_core.specs.declared.call.Way.TheVariants as way;
@@ -16,7 +15,8 @@ use crate::looked::Looked;
 use crate::rule::TableReader;
 use crate::viewer::{Viewer, catch_up, look_by};
 use core::mem::replace_with;
-use lock_core::{Call, Placed, Way, again};
+use lock_core::{Placed, Way};
+use lock_log::CallLog;
 use nf_base::packet::Packet;
 use std::alloc::{AllocError, Global};
 use std::marker::Model;
@@ -32,12 +32,10 @@ pub struct Seat<J: Naming, G: Gate + Drop> {
     number: u32,
     gate: G,
     viewer: Viewer<J>,
-    calls: Vec<Call>,
+    calls: CallLog,
 }
 
 impl<J: Naming, G: Gate + Drop> Model for Seat<J, G> {
-    ghost use Rattle.std.specs.Prelude.{◌-◌};
-    ghost use Rattle.std.specs.Vec.{vec_len, vec_capacity};
     ghost use Rattle.lock_mode.specs.Seats.{SeatState, IsSeat};
 
     ghost Value = { SeatState };
@@ -45,38 +43,26 @@ impl<J: Naming, G: Gate + Drop> Model for Seat<J, G> {
     ghost view = { λ s. record {
       number = s.number;
       seen = s.viewer.front;
-      calls = s.calls.items;
-      room = vec_capacity s.calls - vec_len s.calls;
+      calls = s.calls.calls;
+      room = s.calls.room;
       refused = G.refused s.gate;
     } };
 
     ghost invariant = { λ s.
-        IsSeat J.function J.seats s.number s.viewer.front s.calls.items };
+        IsSeat J.function J.seats s.number s.viewer.front s.calls.calls };
 }
 
 /// Appends a look that was done to the calls of a seat, which have room.
-fn add_look(calls: &mut Vec<Call>, place: u64, packet: &Packet, looked: &Looked)
-    requires room { vec_len calls.old < vec_capacity calls.old }
-    ensures done { IfDone looked.now (λ done. calls.new.items ≡ calls.old.items
+fn add_look(calls: &mut CallLog, place: u64, packet: &Packet, looked: &Looked)
+    requires room { 0 < calls.old.room }
+    ensures done { IfDone looked.now (λ done. calls.new.calls ≡ calls.old.calls
         ++ (record { way = way.Look; place = place; packet = packet.now; done = done }) ∷ []) }
     ensures needs { IfNeedsWrite looked.now (calls.new ≡ calls.old) }
     ensures refused { IfRefused looked.now (calls.new ≡ calls.old) }
-    ensures capacity { vec_capacity calls.old ≤ vec_capacity calls.new }
-    ensures len { vec_len calls.new ≤ vec_len calls.old + 1 }
+    ensures room { calls.old.room ≤ calls.new.room + 1 }
 {
     match looked {
-        Looked::Done(done) => {
-            let call = Call {
-                way: Way::Look,
-                place,
-                packet: *packet,
-                done: again(done),
-            };
-            match calls.push(call) {
-                Ok(()) => {}
-                Err(_) => unreachable!(),
-            }
-        }
+        Looked::Done(done) => calls.push(Way::Look, place, packet, done),
         Looked::NeedsWrite => {}
         Looked::Refused => {}
     }
@@ -143,16 +129,7 @@ fn stand_seat<J: Naming, G: Gate + Drop, R: Wait>(
         viewer,
         mut calls,
     } = seat;
-    let call = Call {
-        way: Way::Alone,
-        place: placed.place,
-        packet: *packet,
-        done: again(&placed.done),
-    };
-    match calls.push(call) {
-        Ok(()) => {}
-        Err(_) => unreachable!(),
-    }
+    calls.push(Way::Alone, placed.place, packet, &placed.done);
     let Viewer {
         front: _seen,
         reader,
@@ -190,7 +167,7 @@ impl<J: Naming, G: Gate + Drop> Seat<J, G> {
             number,
             gate,
             viewer: Viewer::new(front, reader),
-            calls: Vec::new(alloc),
+            calls: CallLog::new(alloc),
         }
     }
 
@@ -203,11 +180,24 @@ impl<J: Naming, G: Gate + Drop> Seat<J, G> {
     }
 
     /// Its calls, in their order.
-    pub fn calls(&self) -> &[Call]
-        ensures calls { result.now ≡ self.now.calls }
+    pub fn calls(&self) -> &CallLog
+        ensures calls { result.now.calls ≡ self.now.calls }
         ensures made { AreMade J.function self.now.number self.now.seen self.now.calls }
     {
-        self.calls.as_slice()
+        &self.calls
+    }
+
+    /// The same, where the seat has ended.
+    pub(crate) fn into_calls(self) -> CallLog
+        ensures { result.calls ≡ self.calls }
+    {
+        let Seat {
+            number: _number,
+            gate: _gate,
+            viewer: _viewer,
+            calls,
+        } = self;
+        calls
     }
 
     /// The beginning of the history that it has seen.

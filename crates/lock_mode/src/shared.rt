@@ -1,17 +1,20 @@
 //! The tables that seats share.
 ghost use Rattle.std.specs.Prelude.{◌≡◌, ◌<◌, ◌≤◌, ◌+◌, ◌++◌, ◌∷◌, [], length, drop, true, IfOk, IfErr, OnErr};
+ghost use Rattle.std.specs.Vec.{vec_capacity};
 ghost use mathlib.Core.List.{IsPrefix};
 ghost use Rattle.nf_base.specs.Doors.{IsServed};
 ghost use Rattle.nf_base.specs.Functions.{function_of};
 ghost use Rattle.lock_core.specs.declared.call.Way.TheVariants as way;
+ghost use Rattle.lock_log.specs.Turns.{in_turn, calls_of_each, AreThere};
 ghost use Rattle.lock_mode.specs.Alone.{IsAlone};
 ghost use Rattle.lock_mode.specs.Closing.{IsClosed};
 ghost use Rattle.lock_mode.specs.Gates.{Rose};
+ghost use Rattle.lock_mode.specs.Merging.{calls_each};
 ghost use Rattle.lock_mode.specs.Opening.{IfMany, IfOneSeat, AreNew, AreOpening};
 ghost use Rattle.lock_mode.specs.Seats.{AreAll};
 
 use crate::book::{Blank, Book, Naming};
-use crate::desk::Desk;
+use crate::desk::{Desk, Turned};
 use crate::gate::Gate;
 use crate::opening::{Opened, copies_of, opened_by};
 use crate::rule::{Rising, TableWriter};
@@ -20,9 +23,11 @@ use crate::side::{Op, Side};
 use crate::tail::Tail;
 use crossbeam_utils::rule::Protocol;
 use left_right::Absorb;
-use lock_core::{Ordered, Placed};
+use lock_core::Placed;
+use lock_log::{CallLog, Order};
 use nf_base::func::Func;
 use nf_base::packet::Packet;
+use nf_base::seq::Seq;
 use std::alloc::{AllocError, Global};
 use std::sync::{Mutex, MutexGuard, Wait};
 use vig_tables::Tables;
@@ -40,7 +45,40 @@ where
 #[derive(Drop)]
 pub struct Closed {
     pub tables: Tables,
-    pub order: Vec<Ordered>,
+    pub order: Order,
+}
+
+/// The calls of seats that have ended; there is room for them.
+fn logs_of<J: Naming, G: Gate + Drop>(logs: Vec<CallLog>, seats: Vec<Seat<J, G>>) -> Vec<CallLog>
+    requires none { logs.items ≡ [] }
+    requires room { length seats.items ≤ vec_capacity logs }
+    ensures { calls_of_each result.items ≡ calls_each seats.items }
+{
+    let mut logs = logs;
+    let mut rest = Seq::from_vec(seats);
+    for _k in 0..rest.len() {
+        let seat = rest.remove_first();
+        logs.push_reserved(seat.into_calls());
+    }
+    logs
+}
+
+/// What seats that have ended did, in the order of these turns.
+fn closed_of<J: Naming, G: Gate + Drop>(
+    logs: Vec<CallLog>,
+    seats: Vec<Seat<J, G>>,
+    turned: Turned,
+) -> Closed
+    requires none { logs.items ≡ [] }
+    requires room { length seats.items ≤ vec_capacity logs }
+    requires there { AreThere (calls_each seats.items) turned.turns.items }
+    requires closed { IsClosed J.function seats.items
+        (in_turn (calls_each seats.items) turned.turns.items) turned.tables }
+    ensures { IsClosed J.function seats.items result.order result.tables }
+{
+    let Turned { tables, turns } = turned;
+    let order = Order::of(logs_of(logs, seats), turns);
+    Closed { tables, order }
 }
 
 /// The tables that seats looked at, once they are closed. It is not `Drop`: it ends by `end`.
@@ -153,13 +191,18 @@ impl<J: Naming> Shared<J> {
     ) -> Result<(Closed, Published<J>), CloseRefused<J, G>>
         requires all { AreAll J.seats seats.items }
         ensures closed { IfOk result (λ r.
-            IsClosed J.function seats.items r.0.order.items r.0.tables) }
+            IsClosed J.function seats.items r.0.order r.0.tables) }
         ensures refused { IfErr result (λ refused. refused.seats ≡ seats) }
     {
+        let Ok(logs) = Vec::with_capacity(alloc, seats.len()) else {
+            return Err(CloseRefused {
+                shared: self,
+                seats,
+            });
+        };
         let Shared { desk } = self;
-        let desk = desk.into_inner();
-        match desk.close(alloc, seats.as_slice()) {
-            Ok(closed) => Ok(closed),
+        match desk.into_inner().close(alloc, seats.as_slice()) {
+            Ok((turned, published)) => Ok((closed_of(logs, seats, turned), published)),
             Err(desk) => Err(CloseRefused {
                 shared: Shared {
                     desk: Mutex::new(desk),

@@ -35,7 +35,7 @@ use Rattle.nf_base.specs.contracts.packet.Packet as packet
 use Rattle.nf_base.proofs.packet.Packet.TheSendSync as packet_law
 use Rattle.vig_tables.proofs.tables.Tables.TheSendSync as tables_law
 use Rattle.lock_core.specs.declared.call.Entry.{Entry}
-use Rattle.lock_core.specs.contracts.call.Call as call
+use Rattle.lock_log.proofs.log.CallLog.TheSendSync as log_law
 use Rattle.left_right.proofs.part.Part.TheSendSync as part
 use Rattle.left_right.proofs.writer.Writer.TheSendSync as writer_law
 use Rattle.atomic_table.proofs.shared.Seat.TheSendSync as place
@@ -138,9 +138,6 @@ packet_sync = packet_law.the_sync
 pub places_sync : IsSync (seq.the_row (seq.the_row (UInt w32)))
 places_sync = seq_law.the_sync (seq.the_row (UInt w32)) (seq_law.the_sync (UInt w32) (search sendable))
 
-call_send : IsSend call.the_row
-call_send = search (sendable, crosses) depth 40
-
 module _ (J : RattleType) (n : naming.Ghosts J.Denot) where
   side_send : IsSend (side.the_row J n)
   side_send = view_send _ _ _ _ _ (declared_send (side_inside.the_type J n) (
@@ -182,7 +179,7 @@ module _ (J : RattleType) (n : naming.Ghosts J.Denot) where
       search (sendable, as_row_send, g) depth 40,
       (
         search (sendable, as_row_send, viewer_send) depth 40,
-        (search (sendable, crosses, as_row_send, call_send) depth 40, tt),
+        (search (sendable, as_row_send, log_law.the_send) depth 40, tt),
       ),
     ),
   ))

@@ -1,7 +1,7 @@
 -- The places of an order's packets, as there are more.
 use Rattle.std.proofs.Common.{◌≡◌, ◌≢◌, ⊎_elim, ℕ, zero, suc, ◌+◌, ◌<◌, ◌≤◌, ◌==◌, Bool, true, false, List, [], ◌∷◌, ◌++◌, length, filter, cond, take, drop, set, get_or, replicate, All, Some, slice_get, slice_index_or, if◌then◌else◌, refl, ap, sym, ◌∙◌, subst, arith, append-nil, length-append, length-set, get_or-set_same, get_or-set_other, eq-eqb, ne_eqb, take_all}
 use Rattle.std.proofs.lemmas.Bool.{cases_eq}
-use Rattle.std.proofs.lemmas.List.{take_more, get_or-replicate, length-replicate, take-append-drop}
+use Rattle.std.proofs.lemmas.List.{take_more, get_or-replicate, length-replicate, length-take, take-append-drop}
 use Rattle.std.proofs.lemmas.List.Elements.{filter-append}
 use Rattle.std.proofs.lemmas.Option.{slice_get_within, slice_get_read, get_or_from_slice_get}
 use Rattle.lock_core.specs.declared.call.Ordered.{Ordered}
@@ -151,6 +151,18 @@ next_of own order i k taken places x all placed below lt x_is all_is k_is =
       is = sym (get_or_from_slice_get taken x.seat k 0 (slice_get_read taken (length taken) x.seat k refl (omega (arith, many, inside)) k_is));
     }
 
+-- the same where its worker was told
+pub next_at : (own : List (List ℕ)) (order : List Ordered) (i k w : ℕ) (taken places : List ℕ) (x : Ordered) (all : List ℕ) → ArePlaced own order i taken places → All (λ (y : Ordered). y.seat < length own) order → slice_get order i ≡ Some x → w ≡ x.seat → all ≡ slice_index_or own w all → k ≡ slice_index_or taken w k → Next own order i k taken x all
+next_at own order i k w taken places x all placed below at is all_is k_is =
+    next_of own order i k taken places x all placed below (slice_get_within order i x at) (sym (get_or_from_slice_get order i x x at))
+    (subst (λ (v : ℕ). all ≡ slice_index_or own v all) is all_is) (subst (λ (v : ℕ). k ≡ slice_index_or taken v k) is k_is)
+
+-- what stands at a place of an order
+pub ordered_at : (order : List Ordered) (i : ℕ) → i < length order → (x : Ordered) × (slice_get order i ≡ Some x)
+ordered_at [] i lt = absurd (omega (arith, lt))
+ordered_at (x ∷ xs) zero lt = (x, refl)
+ordered_at (x ∷ xs) (suc i) lt = ordered_at xs i (omega (arith, lt))
+
 short_case : {A : Type 0} (b : Bool) (x : A) (xs rest : List A) → length rest ≤ length xs → length (cond b (x ∷ rest) rest) ≤ length (x ∷ xs)
 short_case true x xs rest le = omega (arith, le)
 short_case false x xs rest le = omega (arith, le)
@@ -167,3 +179,15 @@ taken_within own order i k taken places x all placed n =
     let first = count_first x.seat i order in
     let is = n.is in
     omega (arith, c, short, first, is)
+
+-- nor than stand before the next one
+pub taken_before : (own : List (List ℕ)) (order : List Ordered) (i k : ℕ) (taken places : List ℕ) (x : Ordered) (all : List ℕ) → ArePlaced own order i taken places → Next own order i k taken x all → k ≤ i
+taken_before own order i k taken places x all placed n =
+    let c = placed.counted x.seat 0 (slice_get_within own x.seat all n.at) in
+    let short = filter_short (λ (y : Ordered). y.seat == x.seat) (take i order) in
+    let front = length-take i order in
+    let is = n.is in
+    omega (arith, c, short, front, is)
+
+pub seat_inside : (own : List (List ℕ)) (order : List Ordered) (i : ℕ) (x : Ordered) → All (λ (y : Ordered). y.seat < length own) order → slice_get order i ≡ Some x → x.seat < length own
+seat_inside own order i x below at = subst (λ (y : Ordered). y.seat < length own) (get_or_from_slice_get order i x x at) (below i x (slice_get_within order i x at))

@@ -2,7 +2,7 @@
 ghost use Rattle.std.specs.Prelude.{◌≡◌, ◌<◌, ℕ, List, [], length, replicate, All, IfOk, Some, slice_get};
 ghost use Rattle.lock_workers.specs.Worked.{count_by, places_by};
 
-use lock_core::Ordered;
+use lock_log::Order;
 use nf_base::seq::Seq;
 use std::alloc::{AllocError, Global};
 
@@ -19,7 +19,7 @@ fn zeros(alloc: Global, count: usize) -> Result<Vec<usize>, AllocError>
 /// `Err` is for want of memory.
 pub(crate) fn places_of(
     alloc: Global,
-    order: &[Ordered],
+    order: &Order,
     own: &Seq<Seq<u32>>,
 ) -> Result<Vec<u32>, AllocError>
     requires below { All (λ x. x.seat < length own.now) order.now }
@@ -31,9 +31,9 @@ pub(crate) fn places_of(
         places_by w order.now all.items ≡ places) }
 {
     let mut taken = zeros(alloc, own.len())?;
-    let mut all = Vec::new(alloc);
+    let mut all = Vec::with_capacity(alloc, order.len())?;
     for i in 0..order.len() {
-        let w = order[i].seat as usize;
+        let w = order.seat(i) as usize;
         let k = taken[w];
         all.push(*own.item(w).item(k))?;
         taken[w] = k + 1;

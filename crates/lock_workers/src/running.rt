@@ -12,7 +12,7 @@ use crate::alone::handle_all;
 use crate::dealing::deal;
 use crate::joining::places_of;
 use crate::sharing::{Met, share};
-use lock_core::Ordered;
+use lock_log::Order;
 use lock_mode::{Blank, Closed, Gate};
 use nf_base::func::Func;
 use nf_base::packet::Packet;
@@ -31,7 +31,7 @@ pub struct Worked {
     /// How many handled the packets: as many as were asked for, or one, where the gate refused.
     pub workers: u32,
     /// The packets in the order in which they were handled, with who handled each and what it came to.
-    pub order: Vec<Ordered>,
+    pub order: Order,
     /// The place of each of them among the packets.
     pub places: Vec<u32>,
     /// The state that is left.
@@ -54,7 +54,7 @@ fn share_anew<R: Threads + Wait + Sync, T: Turns + Sync, G: Gate + Drop + Send>(
     requires ports { All (λ p. p.id.port < length func.now.handlers) packets.now }
     requires served { All (IsServed (function_of func.now)) packets.now }
     ensures together { let f = function_of func.now in IfOk result (λ met. IfTogether met (λ closed.
-        IsShared f packets.now own.now closed.order.items closed.tables)) }
+        IsShared f packets.now own.now closed.order closed.tables)) }
     ensures alone { let f = function_of func.now in IfOk result (λ met. IfAlone met (λ tables.
         AreOpening f tables)) }
     ensures refused { IfOk result (λ met. IfAlone met (λ _.
@@ -77,13 +77,13 @@ fn joined(
     requires some { 0 < workers }
     requires dealt { AreDealt workers packets.now own.now }
     requires shared { IsShared (function_of func.now) packets.now own.now
-        closed.order.items closed.tables }
+        closed.order closed.tables }
     ensures handled { IfOk result (λ all. AreHandled (function_of func.now) all.workers
-        packets.now all.order.items all.places.items all.state) }
+        packets.now all.order all.places.items all.state) }
     ensures as_many { IfOk result (λ all. all.workers ≡ workers) }
 {
     let Closed { tables, order } = closed;
-    let places = places_of(alloc, order.as_slice(), own)?;
+    let places = places_of(alloc, &order, own)?;
     let state = tables.state(alloc)?;
     Ok(Worked {
         workers,
@@ -105,13 +105,15 @@ fn work_alone(
     requires ports { All (λ p. p.id.port < length func.now.handlers) packets.now }
     requires served { All (IsServed (function_of func.now)) packets.now }
     ensures handled { IfOk result (λ all. AreHandled (function_of func.now) all.workers
-        packets.now all.order.items all.places.items all.state) }
+        packets.now all.order all.places.items all.state) }
     ensures one { IfOk result (λ all. all.workers ≡ 1) }
 {
     let mut tables = tables;
     let own = deal(alloc, packets, 1)?;
-    let order = handle_all(alloc, func, &mut tables, packets)?;
-    joined(alloc, 1, packets, &own, func, Closed { tables, order })
+    match handle_all(alloc, func, &mut tables, packets) {
+        Ok(order) => joined(alloc, 1, packets, &own, func, Closed { tables, order }),
+        Err(refused) => Err(refused),
+    }
 }
 
 /// Handles packets by workers that share the tables of a function: a worker has the packets whose port
@@ -135,15 +137,16 @@ pub fn run<R: Threads + Wait + Sync, T: Turns + Sync, G: Gate + Drop + Send>(
     requires ports { All (λ p. p.id.port < length func.now.handlers) packets.now }
     requires served { All (IsServed (function_of func.now)) packets.now }
     ensures handled { IfOk result (λ all. AreHandled (function_of func.now) all.workers
-        packets.now all.order.items all.places.items all.state) }
+        packets.now all.order all.places.items all.state) }
     // One worker did only where the gate's count rose or stands at its end.
     ensures as_many { IfOk result (λ all. (all.workers ≡ workers)
         ⊎ ((all.workers ≡ 1) × Rose (G.refused gate.old) (G.refused gate.new))) }
     ensures rises { G.refused gate.old ≤ G.refused gate.new }
 {
     let own = deal(alloc, packets, workers)?;
-    match share_anew(rt, alloc, func, workers, packets, &own, turns, gate)? {
-        Met::Together(closed) => joined(alloc, workers, packets, &own, func, closed),
-        Met::Alone(tables) => work_alone(alloc, func, packets, tables),
+    match share_anew(rt, alloc, func, workers, packets, &own, turns, gate) {
+        Ok(Met::Together(closed)) => joined(alloc, workers, packets, &own, func, closed),
+        Ok(Met::Alone(tables)) => work_alone(alloc, func, packets, tables),
+        Err(refused) => Err(refused),
     }
 }

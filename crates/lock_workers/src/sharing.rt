@@ -10,7 +10,6 @@ ghost use Rattle.lock_workers.specs.Dealing.{AreDealt};
 ghost use Rattle.lock_workers.specs.Sharing.{AreAllDone, IsShared, IfTogether, IfAlone};
 
 use crate::working::work_each;
-use lock_core::Ordered;
 use lock_mode::{Blank, CloseRefused, Closed, Gate, Naming, Opened, Seat, Shared};
 use nf_base::func::Func;
 use nf_base::packet::Packet;
@@ -54,7 +53,7 @@ fn work_shared<
     requires ports { All (λ p. p.id.port < length J.function.handlers) packets.now }
     requires served { All (IsServed J.function) packets.now }
     ensures { IfOk result (λ closed.
-        IsShared J.function packets.now own.now closed.order.items closed.tables) }
+        IsShared J.function packets.now own.now closed.order closed.tables) }
 {
     let mut seats = seats;
     work_each(rt, &shared, &mut seats, packets, own, turns);
@@ -110,7 +109,7 @@ pub(crate) fn share<
     requires ports { All (λ p. p.id.port < length func.now.handlers) packets.now }
     requires served { All (IsServed (function_of func.now)) packets.now }
     ensures together { let f = function_of func.now in IfOk result (λ met. IfTogether met (λ closed.
-        IsShared f packets.now own.now closed.order.items closed.tables)) }
+        IsShared f packets.now own.now closed.order closed.tables)) }
     ensures alone { let f = function_of func.now in IfOk result (λ met. IfAlone met (λ tables.
         AreOpening f tables)) }
     ensures refused { IfOk result (λ met. IfAlone met (λ _.

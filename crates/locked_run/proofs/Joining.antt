@@ -1,8 +1,8 @@
 -- An order of packets, with what stands at their places.
-use Rattle.std.proofs.Common.{◌≡◌, ℕ, zero, suc, ◌+◌, ◌<◌, ◌%◌, ◌==◌, Bool, true, false, List, [], ◌∷◌, ◌++◌, length, map, filter, cond, take, Option, Some, None, slice_get, slice_index_or, option_map, if◌then◌else◌, refl, ap, sym, ◌∙◌, subst, arith, append_assoc, length-append, eqb-true, eq-eqb}
+use Rattle.std.proofs.Common.{◌≡◌, ℕ, zero, suc, ◌+◌, ◌<◌, ◌%◌, ◌==◌, Bool, true, false, List, [], ◌∷◌, ◌++◌, length, map, filter, cond, Option, Some, None, slice_get, slice_index_or, option_map, if◌then◌else◌, refl, ap, sym, ◌∙◌, subst, arith, append_assoc, length-append, eqb-true, eq-eqb}
 use Rattle.std.specs.List.{AllByRecursion}
 use Rattle.std.proofs.lemmas.List.{length-map}
-use Rattle.std.proofs.lemmas.Option.{slice_get-map, slice_get_within, slice_get_read, slice_get-get_or, same_Some}
+use Rattle.std.proofs.lemmas.Option.{slice_get-map, slice_get_within, slice_get-get_or, same_Some}
 use Rattle.std.proofs.lemmas.Nat.{mod_below}
 use Rattle.nf_base.specs.declared.packet.Packet.{Packet}
 use Rattle.nf_base.specs.declared.done.Done.{Done}
@@ -40,6 +40,9 @@ stands_at batch place x e =
 -- a packet as it was handled
 abbrev pub handled_as : Arrival → Ordered → Handled
 handled_as a x = record { arrival = a; worker = x.seat; done = x.done }
+
+pub handled_so : (a : Arrival) (x : Ordered) (worker : ℕ) (done : Done) → worker ≡ x.seat → done ≡ x.done → ◌≡◌ {A = Handled} (record { arrival = a; worker = worker; done = done }) (handled_as a x)
+handled_so a x worker done same is = ap (λ (w : ℕ). record { arrival = a; worker = w; done = done }) same ∙ ap (λ (d : Done). record { arrival = a; worker = x.seat; done = d }) is
 
 pub joined_is : (batch : List Arrival) (x : Ordered) (xs : List Ordered) (place : ℕ) (places : List ℕ) (s : Stands batch place x) → joined batch (x ∷ xs) (place ∷ places) ≡ handled_as s.a x ∷ joined batch xs places
 joined_is batch x xs place places s = ap (λ (o : Option Arrival). in_front o x (joined batch xs places)) s.at
@@ -218,11 +221,6 @@ in_capture_order f batch xs places state h =
 
 -- ---- one packet after another
 
-abbrev one_of : List Arrival → Option Ordered → Option ℕ → List Handled
-one_of batch None place = []
-one_of batch (Some x) None = []
-one_of batch (Some x) (Some place) = in_front (slice_get batch place) x []
-
 pub joined_long : (batch : List Arrival) (xs : List Ordered) (places : List ℕ) → AreAt (map packet_of batch) xs places → length (joined batch xs places) ≡ length xs
 joined_long batch [] places h = refl
 joined_long batch (x ∷ xs) [] h = absurd h
@@ -242,30 +240,32 @@ at_place packets (y ∷ ys) [] k x place h e q = absurd h
 at_place packets (y ∷ ys) (p ∷ ps) zero x place h e q = let same : p ≡ place = cc q in ap (slice_get packets) (sym same) ∙ h.0 ∙ ap (λ (z : Ordered). Some z.packet) (same_Some _ _ e)
 at_place packets (y ∷ ys) (p ∷ ps) (suc k) x place h e q = at_place packets ys ps k x place h.1 e q
 
-pub joined_more : (batch : List Arrival) (xs : List Ordered) (places : List ℕ) (k : ℕ) (x : Ordered) (place : ℕ) (a : Arrival) → AreAt (map packet_of batch) xs places → slice_get xs k ≡ Some x → slice_get places k ≡ Some place → slice_get batch place ≡ Some a
-    → take (k + 1) (joined batch xs places) ≡ take k (joined batch xs places) ++ handled_as a x ∷ []
-joined_more batch [] places k x place a h e q at = absurd (cc e)
-joined_more batch (y ∷ ys) [] k x place a h e q at = absurd h
-joined_more batch (y ∷ ys) (p ∷ ps) k x place a h e q at =
+pub joined_at : (batch : List Arrival) (xs : List Ordered) (places : List ℕ) (k : ℕ) (x : Ordered) (place : ℕ) (a : Arrival) → AreAt (map packet_of batch) xs places → slice_get xs k ≡ Some x → slice_get places k ≡ Some place → slice_get batch place ≡ Some a
+    → slice_get (joined batch xs places) k ≡ Some (handled_as a x)
+joined_at batch [] places k x place a h e q at = absurd (cc e)
+joined_at batch (y ∷ ys) [] k x place a h e q at = absurd h
+joined_at batch (y ∷ ys) (p ∷ ps) k x place a h e q at =
     let s = stands_at batch p y h.0 in
-    ap (take (k + 1)) (joined_is batch y ys p ps s)
-    ∙ step k e q (λ j f r. joined_more batch ys ps j x place a h.1 f r at) s.a s.at
-    ∙ ap (λ (hs : List Handled). take k hs ++ handled_as a x ∷ []) (sym (joined_is batch y ys p ps s))
+    ap (λ (hs : List Handled). slice_get hs k) (joined_is batch y ys p ps s)
+    ∙ step k e q (λ j f r. joined_at batch ys ps j x place a h.1 f r at) s.a s.at
   where
     step : (k : ℕ) → slice_get (y ∷ ys) k ≡ Some x → slice_get (p ∷ ps) k ≡ Some place
-        → ((j : ℕ) → slice_get ys j ≡ Some x → slice_get ps j ≡ Some place → take (j + 1) (joined batch ys ps) ≡ take j (joined batch ys ps) ++ handled_as a x ∷ [])
-        → (b : Arrival) → slice_get batch p ≡ Some b → take (k + 1) (handled_as b y ∷ joined batch ys ps) ≡ take k (handled_as b y ∷ joined batch ys ps) ++ handled_as a x ∷ []
+        → ((j : ℕ) → slice_get ys j ≡ Some x → slice_get ps j ≡ Some place → slice_get (joined batch ys ps) j ≡ Some (handled_as a x))
+        → (b : Arrival) → slice_get batch p ≡ Some b → slice_get (handled_as b y ∷ joined batch ys ps) k ≡ Some (handled_as a x)
     step zero e q more b there =
         let same_x : y ≡ x = same_Some _ _ e in
         let same_p : p ≡ place = same_Some _ _ q in
         let same_a : b ≡ a = same_Some _ _ (sym there ∙ ap (slice_get batch) same_p ∙ at) in
-        ap (λ (z : Arrival). handled_as z y ∷ []) same_a ∙ ap (λ (z : Ordered). handled_as a z ∷ []) same_x
-    step (suc k) e q more b there =
-        let n : suc k + 1 ≡ suc (k + 1) = omega arith in
-        ap (λ (m : ℕ). take m (handled_as b y ∷ joined batch ys ps)) n ∙ ap (λ (hs : List Handled). handled_as b y ∷ hs) (more k e q)
+        ap (λ (z : Arrival). Some (handled_as z y)) same_a ∙ ap (λ (z : Ordered). Some (handled_as a z)) same_x
+    step (suc k) e q more b there = more k e q
 
 some_within : (packets : List Packet) (place : ℕ) (p : Packet) → slice_get packets place ≡ Some p → place < length packets
 some_within packets place p at = slice_get_within packets place p at
+
+some_item : {A : Type 0} (xs : List A) (k : ℕ) → k < length xs → (x : A) × (slice_get xs k ≡ Some x)
+some_item [] k lt = absurd (omega (arith, lt))
+some_item (x ∷ xs) zero lt = (x, refl)
+some_item (x ∷ xs) (suc k) lt = some_item xs k (omega (arith, lt))
 
 -- the place of a packet is one
 pub place_within : (batch : List Arrival) (xs : List Ordered) (places : List ℕ) (k d : ℕ) → AreAt (map packet_of batch) xs places → k < length xs → slice_index_or places k d < length batch
@@ -276,19 +276,26 @@ place_within batch xs places k d at lt =
     let there = some_within (map packet_of batch) (slice_index_or places k d) x.0.packet (at_place (map packet_of batch) xs places k x.0 (slice_index_or places k d) at x.1 here) in
     let same = length-map batch packet_of in
     omega (arith, there, same)
-  where
-    some_item : {A : Type 0} (xs : List A) (k : ℕ) → k < length xs → (x : A) × (slice_get xs k ≡ Some x)
-    some_item [] k lt = absurd (omega (arith, lt))
-    some_item (x ∷ xs) zero lt = (x, refl)
-    some_item (x ∷ xs) (suc k) lt = some_item xs k (omega (arith, lt))
 
--- the packets so far, and one more
-pub so_far : (hs : List Handled) (batch : List Arrival) (xs : List Ordered) (places : List ℕ) (k : ℕ) (a : Arrival) (x : Ordered) (d : ℕ) → AreAt (map packet_of batch) xs places → k < length xs → a ≡ slice_index_or batch (slice_index_or places k d) a → x ≡ slice_index_or xs k x
-    → (hs ++ take k (joined batch xs places)) ++ handled_as a x ∷ [] ≡ hs ++ take (k + 1) (joined batch xs places)
-so_far hs batch xs places k a x d at lt a_is x_is =
+-- a packet of an order with what stands at its place
+pub record IsPaired (batch : List Arrival) (xs : List Ordered) (places : List ℕ) (k : ℕ) : Type 0 where
+  pub a : Arrival
+  pub x : Ordered
+  pub at : slice_get batch (slice_index_or places k 0) ≡ Some a
+  pub is : slice_get xs k ≡ Some x
+  pub here : slice_get (joined batch xs places) k ≡ Some (handled_as a x)
+
+pub pair_at : (batch : List Arrival) (xs : List Ordered) (places : List ℕ) (k : ℕ) → AreAt (map packet_of batch) xs places → k < length xs → IsPaired batch xs places k
+pair_at batch xs places k at lt =
     let long = places_long (map packet_of batch) xs places at in
-    let place = slice_index_or places k d in
-    let there = slice_get_read xs (length xs) k x refl lt x_is in
-    let here = slice_get-get_or places k d (omega (arith, long, lt)) in
-    let stands = slice_get_read batch (length batch) place a refl (place_within batch xs places k d at lt) a_is in
-    append_assoc hs (take k (joined batch xs places)) (handled_as a x ∷ []) ∙ ap (λ (t : List Handled). hs ++ t) (sym (joined_more batch xs places k x place a at there here stands))
+    let place = slice_index_or places k 0 in
+    let x = some_item xs k lt in
+    let a = some_item batch place (place_within batch xs places k 0 at lt) in
+    let here = slice_get-get_or places k 0 (omega (arith, long, lt)) in
+    record {
+      a = a.0;
+      x = x.0;
+      at = a.1;
+      is = x.1;
+      here = joined_at batch xs places k x.0 place a.0 at x.1 here a.1;
+    }

@@ -1,3 +1,6 @@
 pub mod Once
+pub mod Placing
+pub mod Batching
 pub mod Joining
+pub mod Chunked
 pub mod Finishing

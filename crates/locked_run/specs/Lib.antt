@@ -1,6 +1,9 @@
 pub mod Locked
+pub mod Pieces
+pub mod Batches
 pub mod Reading
 pub mod Handled
 pub mod Going
+pub mod Chunks
 pub mod Lawful
 pub mod Laws

@@ -1,72 +1,131 @@
-//! A packet that was read, with its frame.
-ghost use Rattle.std.specs.Prelude.{◌≡◌, ◌≤◌, ◌∷◌, [], ◌++◌, length, map, IfOk, OnOk, OnErr};
+//! Packets that were read, with their frames.
+ghost use Rattle.std.specs.Prelude.{◌≡◌, ◌<◌, ◌≤◌, ◌∷◌, [], ◌++◌, length, map, slice_get, Some, IfOk, OnOk, OnErr};
+ghost use Rattle.nf_base.specs.declared.done.Done.{Done};
 ghost use Rattle.hash_fields.specs.Hashed.{HasInput};
 ghost use Rattle.pcap_file.specs.Record.{greatest_time};
 ghost use Rattle.packet_feed.specs.Arrivals.{Arrival, packet_of};
+ghost use Rattle.stream_run.specs.Runs.{Handled};
 
+use crate::pieces::{Pieces, Spot};
+use nf_base::done::{Action, Edits};
 use nf_base::packet::Packet;
-use nf_base::seq::Seq;
+use nf_base::picks::Picks;
 use std::alloc::{AllocError, Global};
 use std::marker::Model;
+use stream_run::HandledParts;
 
-/// A packet that was read and is not handled yet, with the captured bytes of its frame and the length
-/// of that on the wire.
-#[derive(Drop)]
-pub(crate) struct Kept {
-    packet: Packet,
+/// The length of a frame on the wire, and where its captured bytes lie.
+#[derive(Clone, Copy, Debug, PartialEq, Eq)]
+struct Frame {
     original: u32,
-    frame: Vec<u8>,
+    spot: Spot,
 }
 
-impl Model for Kept {
+/// Packets that were read and are not handled yet, which workers share, and beside them their frames,
+/// which lie one behind another in large pieces of memory.
+///
+/// Contracts see them as what came in.
+#[derive(Drop)]
+pub(crate) struct Batch {
+    packets: Vec<Packet>,
+    frames: Vec<Frame>,
+    pieces: Pieces,
+    longest: usize,
+}
+
+impl Model for Batch {
+    ghost use Rattle.std.specs.Prelude.{List};
     ghost use Rattle.packet_feed.specs.Arrivals.{Arrival};
-    ghost use Rattle.sharded_run.specs.Reading.{IsKept};
+    ghost use Rattle.locked_run.specs.Batches.{arrivals, AreKept};
 
-    ghost Value = { Arrival };
+    ghost Value = { List Arrival };
 
-    ghost view = { λ k. record {
-      packet = k.packet;
-      original = k.original;
-      frame = k.frame.items;
-    } };
+    ghost view = { λ b. arrivals b.pieces b.packets.items b.frames.items };
 
-    ghost invariant = { λ k. IsKept k.packet.time k.frame.items };
+    ghost invariant = { λ b. AreKept b.pieces b.packets.items b.frames.items };
 }
 
-impl Kept {
-    fn new(alloc: Global, packet: &Packet, original: u32, frame: &[u8]) -> Result<Kept, AllocError>
+impl Batch {
+    /// None yet.
+    pub(crate) fn new(alloc: Global) -> Batch
+        ensures { result ≡ [] }
+    {
+        Batch {
+            packets: Vec::new(alloc),
+            frames: Vec::new(alloc),
+            pieces: Pieces::new(alloc),
+            longest: 0,
+        }
+    }
+
+    /// How many packets there are.
+    pub(crate) fn len(&self) -> usize {
+        self.packets.len()
+    }
+
+    /// How many bytes the longest frame has.
+    pub(crate) fn longest(&self) -> usize {
+        self.longest
+    }
+
+    /// The packets alone.
+    pub(crate) fn packets(&self) -> &[Packet]
+        ensures { result.now ≡ map packet_of self.now }
+    {
+        self.packets.as_slice()
+    }
+
+    fn push(
+        &mut self,
+        alloc: Global,
+        packet: &Packet,
+        original: u32,
+        frame: &[u8],
+    ) -> Result<(), AllocError>
         requires time { packet.now.time ≤ greatest_time }
         requires captured { length frame.now ≤ 262144 }
-        ensures { IfOk result (λ kept. kept
-            ≡ record { packet = packet.now; original = original; frame = frame.now }) }
+        ensures ok { let one : Arrival
+            = record { packet = packet.now; original = original; frame = frame.now } in
+            OnOk result (self.new ≡ self.old ++ one ∷ []) }
+        ensures err { OnErr result (self.new ≡ self.old) }
     {
-        let frame = Vec::from_slice(alloc, frame)?;
+        self.frames.reserve(1)?;
+        self.packets.reserve(1)?;
+        let spot = self.pieces.put(alloc, frame)?;
         let Packet { id, time, fields } = *packet;
-        Ok(Kept {
-            packet: Packet { id, time, fields },
-            original,
-            frame,
-        })
+        self.packets.push_reserved(Packet { id, time, fields });
+        self.frames.push_reserved(Frame { original, spot });
+        self.longest = self.longest.max(frame.len());
+        Ok(())
     }
 
-    pub(crate) fn packet(&self) -> &Packet
-        ensures packet { result.now ≡ self.now.packet }
-        ensures time { self.now.packet.time ≤ greatest_time }
+    /// The packet at a place with its frame, as a worker handled it.
+    pub(crate) fn handled<'a>(
+        &'a self,
+        place: usize,
+        worker: u32,
+        action: Action,
+        edits: &'a Edits,
+        picks: &'a Picks,
+    ) -> HandledParts<'a>
+        requires { place < length self.now }
+        ensures { let done : Done
+            = record { action = action; edits = edits.now; picks = picks.now } in
+            (a : Arrival) → slice_get self.now place ≡ Some a →
+            result ≡ record { arrival = a; worker = worker; done = done } }
     {
-        &self.packet
-    }
-
-    pub(crate) fn original(&self) -> u32
-        ensures { result ≡ self.now.original }
-    {
-        self.original
-    }
-
-    pub(crate) fn frame(&self) -> &[u8]
-        ensures frame { result.now ≡ self.now.frame }
-        ensures captured { length self.now.frame ≤ 262144 }
-    {
-        self.frame.as_slice()
+        let packet = &self.packets[place];
+        let frame = &self.frames[place];
+        let bytes = self.pieces.at(frame.spot);
+        HandledParts {
+            worker,
+            packet,
+            original: frame.original,
+            frame: bytes,
+            action,
+            edits,
+            picks,
+        }
     }
 }
 
@@ -78,7 +137,7 @@ fn fits(packet: Packet)
 /// Puts a packet with its frame behind others.
 pub(crate) fn keep(
     alloc: Global,
-    batch: &mut Seq<Kept>,
+    batch: &mut Batch,
     packet: &Packet,
     original: u32,
     frame: &[u8],
@@ -92,18 +151,5 @@ pub(crate) fn keep(
     ensures input { HasInput packet.now }
 {
     fits(*packet);
-    let kept = Kept::new(alloc, packet, original, frame)?;
-    batch.push(kept)
-}
-
-/// The packets alone.
-pub(crate) fn packets_in(alloc: Global, batch: &Seq<Kept>) -> Result<Vec<Packet>, AllocError>
-    ensures { IfOk result (λ packets. packets.items ≡ map packet_of batch.now) }
-{
-    let mut packets = Vec::new(alloc);
-    for k in 0..batch.len() {
-        let Packet { id, time, fields } = *batch.item(k).packet();
-        packets.push(Packet { id, time, fields })?;
-    }
-    Ok(packets)
+    batch.push(alloc, packet, original, frame)
 }

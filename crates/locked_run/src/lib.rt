@@ -3,8 +3,10 @@
 #![tactic(auto)]
 
 mod came;
+mod chunk;
 mod kept;
 pub mod laws;
+mod pieces;
 mod reading;
 mod running;
 mod writing;

@@ -5,8 +5,7 @@ ghost use Rattle.packet_feed.specs.Sources.{files_in};
 ghost use Rattle.stream_run.specs.Writing.{KeepsBut, IsStopCause, StopsAmong};
 ghost use Rattle.locked_run.specs.Reading.{ReadsAll};
 
-use crate::kept::{Kept, keep};
-use nf_base::seq::Seq;
+use crate::kept::{Batch, keep};
 use nf_files::Files;
 use packet_feed::{Fed, Feed};
 use std::alloc::Global;
@@ -18,7 +17,7 @@ pub(crate) fn read_all<F: Files>(
     files: &mut F,
     feed: &mut Feed,
     captures: &[u32],
-    batch: &mut Seq<Kept>,
+    batch: &mut Batch,
 ) -> Result<Ending, Stop>
     requires captures { files_in feed.old.sources ≡ captures.now }
     requires opened { EachFile (F.is_read files.old) captures.now }

@@ -15,15 +15,15 @@ ghost use Rattle.locked_run.specs.Going.{mode_of, Writes, Settles};
 ghost use Rattle.locked_run.specs.Lawful.{Runs};
 
 use crate::came::{Came, Settled};
-use crate::kept::{Kept, packets_in};
+use crate::chunk::idle_chunks;
+use crate::kept::Batch;
 use crate::reading::read_all;
-use crate::writing::write_all;
+use crate::writing::{chunk_count, chunk_size, write_all};
 use capture_format::CaptureFormat;
 use lock_mode::Gate;
 use lock_workers::{Turns, Worked};
 use nf_base::card::Card;
 use nf_base::func::Func;
-use nf_base::seq::Seq;
 use nf_base::workers::Workers;
 use nf_files::Files;
 use packet_feed::Feed;
@@ -50,7 +50,7 @@ fn work<R: Threads + Wait + Sync, T: Turns + Sync, G: Gate + Drop + Send>(
     alloc: Global,
     func: &Func,
     workers: Workers,
-    batch: &Seq<Kept>,
+    batch: &Batch,
     turns: &T,
     gate: &mut G,
 ) -> Result<Worked, AllocError>
@@ -59,25 +59,16 @@ fn work<R: Threads + Wait + Sync, T: Turns + Sync, G: Gate + Drop + Send>(
         All (λ p. p.id.port < ports) (map packet_of batch.now) }
     requires served { All (IsServed (function_of func.now)) (map packet_of batch.now) }
     ensures handled { IfOk result (λ all. AreHandled (function_of func.now) all.workers
-        (map packet_of batch.now) all.order.items all.places.items all.state) }
+        (map packet_of batch.now) all.order all.places.items all.state) }
     ensures as_many { IfOk result (λ all. (all.workers ≡ workers)
         ⊎ ((all.workers ≡ 1) × Rose (G.refused gate.old) (G.refused gate.new))) }
     ensures rises { G.refused gate.old ≤ G.refused gate.new }
 {
-    let packets = packets_in(alloc, batch)?;
-    lock_workers::run(
-        rt,
-        alloc,
-        func,
-        workers.get(),
-        packets.as_slice(),
-        turns,
-        gate,
-    )
+    lock_workers::run(rt, alloc, func, workers.get(), batch.packets(), turns, gate)
 }
 
-// Writes what packets leave, from what files begin with on.
-fn write<F: Files>(
+// Writes what files begin with.
+fn write_heads<F: Files>(
     alloc: Global,
     files: &mut F,
     mode: Mode,
@@ -85,30 +76,73 @@ fn write<F: Files>(
     card: Card,
     format: CaptureFormat,
     ports: u32,
-    batch: &Seq<Kept>,
-    worked: &Worked,
     targets: &[u32],
 ) -> Result<(), Stop>
     requires heading { IsHeading (record { mode = mode; workers = workers; card = card }) }
-    requires at { AreAt (map packet_of batch.now) worked.now.order.items worked.now.places.items }
     requires created { EachFile (F.is_written files.old) targets.now }
     requires apart { IsApart targets.now }
     requires few { length targets.now ≤ 2 ^ 32 }
     requires empty { (k : ℕ) → (file : ℕ) → slice_get targets.now k ≡ Some file →
         IsEmptyIfTold ((F.told files.old).given file) }
-    ensures written { let hs = joined batch.now worked.now.order.items worked.now.places.items in
+    ensures written { Writes mode workers card format ports [] (F.told files.new) targets.now result }
+    ensures kept { KeepsBut targets.now (F.told files.old) (F.told files.new) }
+    ensures cause { IsStopCause (F.counted files.old) (F.counted files.new) result }
+    ensures among { StopsAmong [] targets.now result }
+    ensures writes { (g : ℕ) → F.is_written files.old g → F.is_written files.new g }
+{
+    match begin_sinks(alloc, mode, workers, card, format, ports, targets) {
+        Ok(sinks) => {
+            let mut sinks = sinks;
+            flush_all(&mut sinks, files)
+        }
+        Err(_) => Err(Stop::Memory),
+    }
+}
+
+// Writes what packets leave, from what files begin with on.
+fn write<R: Threads + Sync, F: Files>(
+    rt: &R,
+    alloc: Global,
+    files: &mut F,
+    mode: Mode,
+    workers: Workers,
+    card: Card,
+    format: CaptureFormat,
+    ports: u32,
+    batch: &Batch,
+    worked: &Worked,
+    targets: &[u32],
+) -> Result<(), Stop>
+    requires heading { IsHeading (record { mode = mode; workers = workers; card = card }) }
+    requires at { AreAt (map packet_of batch.now) worked.now.order worked.now.places.items }
+    requires created { EachFile (F.is_written files.old) targets.now }
+    requires apart { IsApart targets.now }
+    requires few { length targets.now ≤ 2 ^ 32 }
+    requires empty { (k : ℕ) → (file : ℕ) → slice_get targets.now k ≡ Some file →
+        IsEmptyIfTold ((F.told files.old).given file) }
+    ensures written { let hs = joined batch.now worked.now.order worked.now.places.items in
         Writes mode workers card format ports hs (F.told files.new) targets.now result }
     ensures kept { KeepsBut targets.now (F.told files.old) (F.told files.new) }
     ensures cause { IsStopCause (F.counted files.old) (F.counted files.new) result }
     ensures among { StopsAmong [] targets.now result }
 {
-    let mut sinks = match begin_sinks(alloc, mode, workers, card, format, ports, targets) {
-        Ok(sinks) => sinks,
+    let size = chunk_size(batch, workers.get());
+    let count = chunk_count(batch, workers.get(), size);
+    let mut chunks = match idle_chunks(alloc, count, format, targets) {
+        Ok(chunks) => chunks,
         Err(_) => return Err(Stop::Memory),
     };
-    let (order, places) = (worked.order.as_slice(), worked.places.as_slice());
-    match write_all(files, &mut sinks, ports, batch, order, places) {
-        Ok(()) => flush_all(&mut sinks, files),
+    match write_heads(alloc, files, mode, workers, card, format, ports, targets) {
+        Ok(()) => write_all(
+            rt,
+            files,
+            chunks.as_mut_slice(),
+            size,
+            ports,
+            batch,
+            worked,
+            targets,
+        ),
         Err(stop) => Err(stop),
     }
 }
@@ -122,7 +156,7 @@ fn settle<R: Threads + Wait + Sync, F: Files, T: Turns + Sync, G: Gate + Drop + 
     workers: Workers,
     card: Card,
     format: CaptureFormat,
-    batch: &Seq<Kept>,
+    batch: &Batch,
     targets: &[u32],
     turns: &T,
     gate: &mut G,
@@ -152,7 +186,7 @@ fn settle<R: Threads + Wait + Sync, F: Files, T: Turns + Sync, G: Gate + Drop + 
     let mode = mode_of(worked.workers, workers.get());
     let ports = func.handlers.len();
     match write(
-        alloc, files, mode, workers, card, format, ports, batch, &worked, targets,
+        rt, alloc, files, mode, workers, card, format, ports, batch, &worked, targets,
     ) {
         Ok(()) => Ok(Settled {
             mode,
@@ -168,8 +202,11 @@ fn settle<R: Threads + Wait + Sync, F: Files, T: Turns + Sync, G: Gate + Drop + 
 /// A worker has the packets whose port is its number modulo theirs, and handles them in capture order,
 /// in a thread of its own; `turns` is told when a worker comes to a packet and when it has handled it,
 /// and nothing depends on it. All packets and their frames are held in memory until the end, beside
-/// three copies of the tables and what each packet came to. Where the gate refuses a reader one worker
-/// handles them in capture order, in mode `one`.
+/// three copies of the tables and what each packet came to. What they leave is made by chunks of up to
+/// 16,384 packets, as many side by side as there are workers, and written one chunk after another. So
+/// beside them stands what is made and not written yet: of each worker what the packets of one chunk
+/// leave, whose frames come to at most 8 MiB, or which are 1,024. Where the gate refuses a reader one
+/// worker handles them in capture order, in mode `one`.
 ///
 /// The captures are those of the feed, which gave no packet yet, and was started for the function's
 /// ports. The targets are the outputs in the order of their ports, and the journal behind them; nothing
@@ -213,7 +250,7 @@ pub fn run<R: Threads + Wait + Sync, F: Files, T: Turns + Sync, G: Gate + Drop +
     // The file that failed is one of the captures or of the targets.
     ensures among { StopsAmong captures.now targets.now result }
 {
-    let mut batch = Seq::new(alloc);
+    let mut batch = Batch::new(alloc);
     let ending = match read_all(alloc, files, feed, captures, &mut batch) {
         Ok(ending) => ending,
         Err(stop) => return Err(stop),

@@ -1,5 +1,5 @@
 //! Made captures beside the files outside.
-ghost use Rattle.std.specs.Prelude.{◌≡◌, ◌≤◌};
+ghost use Rattle.std.specs.Prelude.{◌≡◌, ◌≤◌, []};
 ghost use Rattle.made_captures.specs.Captures.{IsMade};
 ghost use Rattle.made_captures.specs.Told.{standard_named};
 ghost use Rattle.made_captures.specs.Outputs.{told_beside, counts_right, is_known, journal_of, mark_of, told_if, standard_if};
@@ -66,6 +66,8 @@ impl<'a, F: Files> Files for MadeCaptures<'a, F> {
 
     ghost will_fail = { λ _. ⊥ };
 
+    ghost ready = { λ _ _. [] };
+
     fn open_in(&mut self, _name: &str) -> Result<u32, FilesFault> {
         Err(FilesFault::Memory(AllocError))
     }
@@ -92,6 +94,13 @@ impl<'a, F: Files> Files for MadeCaptures<'a, F> {
             Err(fault) => Err(fault),
         }
     }
+
+    // Bytes are made as they are read, and none ahead.
+    fn ahead(&self, _file: u32) -> &[u8] {
+        &[]
+    }
+
+    fn take(&mut self, _file: u32, _count: usize) {}
 
     ghost counts = { λ m. F.counts m.files.now };
 

@@ -16,7 +16,7 @@ use maestro_cli::{Idle, PackGate, Status, maestro};
 use nf_files::{Files, RealFiles};
 use std::alloc::Global;
 use std::process::ExitCode;
-use std::sync::Wait;
+use std::sync::{Arc, Wait};
 use std::thread::Threads;
 use std::{env, io};
 
@@ -29,11 +29,16 @@ fn words(rt: &HostRuntime) -> io::Result<Vec<String>> {
 }
 
 // Does what the words ask for, and gives what the process ends with: the number of the call's status.
-fn exit_code<R: Threads + Wait + Sync, F: Files, L: Gate + Drop + Send>(
+fn exit_code<
+    R: Threads + Wait + Clone + Send + Sync + Drop + 'static,
+    F: Files,
+    L: Gate + Drop + Send,
+>(
     rt: &R,
     alloc: Global,
     words: &[String],
     files: &mut F,
+    turns: &Arc<Idle>,
     gate: &mut L,
 ) -> ExitCode
     ensures { let before = seen (F.told files.old) (F.counted files.old) in
@@ -41,7 +46,7 @@ fn exit_code<R: Threads + Wait + Sync, F: Files, L: Gate + Drop + Send>(
         (command_of (map string_bytes words.now)) before
         (seen (F.told files.new) (F.counted files.new)) result }
 {
-    let status = maestro(rt, alloc, words, files, &Idle, gate);
+    let status = maestro(rt, alloc, words, files, turns, gate);
     ExitCode::from(status.number())
 }
 
@@ -49,7 +54,17 @@ fn main(rt: HostRuntime) -> ExitCode {
     let Ok(words) = words(&rt) else {
         return ExitCode::from(Status::Memory.number());
     };
+    let Ok(turns) = Arc::new(rt.alloc(), Idle) else {
+        return ExitCode::from(Status::Memory.number());
+    };
     let mut files = RealFiles::new(rt.alloc(), &rt, rt.stdout(), rt.stderr());
     let mut gate = PackGate::new();
-    exit_code(&rt, rt.alloc(), words.as_slice(), &mut files, &mut gate)
+    exit_code(
+        &rt,
+        rt.alloc(),
+        words.as_slice(),
+        &mut files,
+        &turns,
+        &mut gate,
+    )
 }

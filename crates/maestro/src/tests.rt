@@ -2,6 +2,7 @@
 mod calls;
 mod captures;
 mod cards;
+mod certificates;
 mod checks;
 mod commands;
 mod ends;

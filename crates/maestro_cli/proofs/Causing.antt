@@ -1,13 +1,13 @@
 -- Which calls on files failed follows from what the program answers.
-use Rattle.std.proofs.Common.{◌≡◌, inl, inr, ℕ, ◌≤◌, List, length, Option, Some, None, Err, refl, sym, subst, ◌∙◌, arith}
+use Rattle.std.proofs.Common.{◌≡◌, ◌⊎◌, inl, inr, ℕ, ◌+◌, ◌≤◌, List, [], ◌∷◌, length, Option, Some, None, Err, refl, sym, subst, ◌∙◌, arith}
 use Rattle.nf_files.specs.Told.{Told}
 use Rattle.nf_files.specs.Causes.{Counted, Faulted, FaultedAsking, Asked, asking, Rose, FirstAfter}
 use Rattle.stream_run.specs.declared.stop.Stop.{Stop as NumberStop}
 use Rattle.stream_run.specs.declared.stop.Stop.TheVariants as numbered
 use Rattle.stream_run.specs.Writing.{IsStopCause, StopsAt}
-use Rattle.command_words.specs.Commands.{Run as RunAsked, Replay, Gen, Hash, Describe, Command, RunCommand, ReplayCommand, GenCommand, HashCommand, DescribeCommand}
+use Rattle.command_words.specs.Commands.{Run as RunAsked, Replay, Gen, Hash, Describe, Certify, Prove, Command, RunCommand, ReplayCommand, GenCommand, HashCommand, DescribeCommand, CertifyCommand, ProveCommand}
 use Rattle.call_base.specs.declared.status.RunFile.{RunFile}
-use Rattle.call_base.specs.declared.status.RunFile.TheVariants.{Nf, Capture, Journal, Output, OutJournal, State, Stdout, Stderr}
+use Rattle.call_base.specs.declared.status.RunFile.TheVariants.{Nf, Capture, Journal, Output, OutJournal, State, Proof, Stdout, Stderr}
 use Rattle.call_base.specs.declared.status.End.{End}
 use Rattle.call_base.specs.declared.status.End.TheVariants as ends
 use Rattle.call_base.specs.declared.status.Refusal.{Refusal}
@@ -15,7 +15,7 @@ use Rattle.call_base.specs.declared.status.Refusal.TheVariants as refusals
 use Rattle.call_base.specs.declared.status.Stop.{Stop}
 use Rattle.call_base.specs.declared.status.Stop.TheVariants as stops
 use Rattle.call_base.specs.declared.status.Status.{Status}
-use Rattle.call_base.specs.declared.status.Status.TheVariants.{Done, Usage, Refused, FileFault, NotCapture, Torn, ShareFull, TooMany, NoKeys, Memory, Differs}
+use Rattle.call_base.specs.declared.status.Status.TheVariants.{Done, Usage, Refused, FileFault, NotCapture, Torn, ShareFull, TooMany, NoKeys, Memory, Differs, ProofFails}
 use Rattle.replay_call.specs.declared.checked.Checked.{Checked}
 use Rattle.replay_call.specs.declared.checked.Checked.TheVariants as checks
 use Rattle.replay_call.specs.Checked.{checked_status, IsRefused as IsUnjudged}
@@ -28,10 +28,17 @@ use Rattle.run_call.specs.Ending.{IsRefused, IsStopped}
 use Rattle.gen_call.specs.Numbers.{made_numbering}
 use Rattle.gen_call.specs.Ending.{IsRefused as IsUnmade, IsStopped as IsBrokenOff}
 use Rattle.describe_call.specs.Described.{IsUndescribed}
+use Rattle.certify_call.specs.declared.judged.Judged.{Judged}
+use Rattle.certify_call.specs.declared.judged.Judged.TheVariants as judgements
+use Rattle.certify_call.specs.Judgements.{judged_status}
+use Rattle.certify_call.specs.Certifying.{asked_by, IsProofCause, IsUnjudged as IsStoppedJudging}
+use Rattle.prove_call.specs.Leaving.{IsCreateCause, IsWriteCause, IsHalfWritten, IsHalfPrinted}
+use Rattle.prove_call.specs.Proving.{asked_by as proof_asked_by, IsUnproved}
 use Rattle.call_base.specs.PrintedOut.{IsPrintCause}
 use Rattle.call_base.specs.Loading.{IsTextCause}
+use Rattle.call_base.specs.Names.{reading, writing}
 use Rattle.call_base.specs.Printed.{Tells, after_stop, stopped_at}
-use Rattle.maestro_cli.specs.Answer.{Runs, Replays, Gens, Hashes, Describes, Comes, ComesTo, Answers}
+use Rattle.maestro_cli.specs.Answer.{Runs, Replays, Gens, Hashes, Describes, Certifies, Proves, Comes, ComesTo, Answers}
 use Rattle.maestro_cli.specs.Causes.{CountsNone, CountsSome, numbering_of, HasStatusCause, HasSoManyPorts, KnowsPorts, KnowsPortsAt, ArePortsOf, HasCallCause}
 
 -- ---- counts
@@ -149,6 +156,70 @@ of_describe c before now status (inr (inl h)) =
 of_describe c before now status (inr (inr h)) =
     subst (causes (Some (DescribeCommand c)) before now) (sym h.status_is) (at_undescribed c before.told.next 0 before now h.how refl h.ends)
 
+-- the certificate could not be read, behind a function's text
+proof_counted : (name : List ℕ) (names : List Asked) (number : ℕ) (old new : Counted) → FaultedAsking (asking names old) new (reading name ∷ []) number → CountsSome old new number
+proof_counted name names number old new (inl f) = record { later = f.later; rose = f.rose; first = f.first }
+proof_counted name names number old new (inr f) = record { later = f.later; rose = f.rose; first = f.first }
+
+at_proof : (first ports : ℕ) (name : List ℕ) (names : List Asked) (number : ℕ) (old new : Counted) (stop : Stop) → number ≡ (run_numbering first ports).number_of Proof → IsProofCause name number (asking names old) new stop → HasStatusCause (run_numbering first ports) old new (stop_status stop)
+at_proof first ports name names number old new (stops.File file) is h =
+    subst (λ (f : RunFile). CountsSome old new ((run_numbering first ports).number_of f)) (sym h.0) (subst (CountsSome old new) is (proof_counted name names number old new h.1))
+at_proof first ports name names number old new stops.Memory is (inl same) = asked_none names old new same
+at_proof first ports name names number old new stops.Memory is (inr more) = subst (CountsNone old) (sym more) (record { faults = refl; first = refl; missing = refl })
+
+at_judged : (numbering : Numbering) (old new : Counted) (how : Judged) → CountsNone old new → HasStatusCause numbering old new (judged_status how)
+at_judged numbering old new judgements.Right h = h
+at_judged numbering old new (judgements.Fails line) h = h
+
+at_unjudged : (c : Certify) (before now : Outside) (stop : Stop) → IsStoppedJudging c before now stop → HasStatusCause (run_numbering before.told.next 0) before.counted now.counted (stop_status stop)
+at_unjudged c before now stop (inl h) = at_text c.function before.told.next 0 before.counted now.counted stop h.cause
+at_unjudged c before now stop (inr (inl h)) = at_proof before.told.next 0 c.proof (reading c.function ∷ []) (before.told.next + 1) before.counted now.counted stop (omega arith) h.cause
+at_unjudged c before now stop (inr (inr h)) = at_print before.told.next 0 (asked_by c) before.counted now.counted stop h.cause
+
+of_certify : (c : Certify) (before now : Outside) (status : Status) → Certifies c before now status → causes (Some (CertifyCommand c)) before now status
+of_certify c before now status (inl h) =
+    subst (causes (Some (CertifyCommand c)) before now) (sym h.status_is) (at_judged (run_numbering before.told.next 0) before.counted now.counted h.how (asked_none _ before.counted now.counted h.ends.counted))
+of_certify c before now status (inr (inl h)) =
+    subst (causes (Some (CertifyCommand c)) before now) (sym h.status_is) (at_refusal (run_numbering before.told.next 0) before.counted now.counted (refusals.Text h.how) (asked_none _ before.counted now.counted h.ends.1.asked))
+of_certify c before now status (inr (inr h)) =
+    subst (causes (Some (CertifyCommand c)) before now) (sym h.status_is) (at_unjudged c before now h.how h.ends)
+
+-- the certificate's file could not be created, behind a function's text
+created_counted : (name : List ℕ) (names : List Asked) (number : ℕ) (old new : Counted) → FaultedAsking (asking names old) new (writing name ∷ []) number → CountsSome old new number
+created_counted name names number old new (inl f) = record { later = f.later; rose = f.rose; first = f.first }
+created_counted name names number old new (inr f) = record { later = f.later; rose = f.rose; first = f.first }
+
+at_created : (first ports : ℕ) (name : List ℕ) (names : List Asked) (number : ℕ) (old new : Counted) (stop : Stop) → number ≡ (run_numbering first ports).number_of Proof → IsCreateCause name number (asking names old) new stop → HasStatusCause (run_numbering first ports) old new (stop_status stop)
+at_created first ports name names number old new (stops.File file) is h =
+    subst (λ (f : RunFile). CountsSome old new ((run_numbering first ports).number_of f)) (sym h.0) (subst (CountsSome old new) is (created_counted name names number old new h.1))
+at_created first ports name names number old new stops.Memory is (inl same) = asked_none names old new same
+at_created first ports name names number old new stops.Memory is (inr more) = subst (CountsNone old) (sym more) (record { faults = refl; first = refl; missing = refl })
+
+-- it could not be written
+at_written : (first ports : ℕ) (names : List Asked) (number : ℕ) (old new : Counted) (stop : Stop) → number ≡ (run_numbering first ports).number_of Proof → IsWriteCause number (asking names old) new stop → HasStatusCause (run_numbering first ports) old new (stop_status stop)
+at_written first ports names number old new (stops.File file) is h =
+    subst (λ (f : RunFile). CountsSome old new ((run_numbering first ports).number_of f)) (sym h.0) (subst (CountsSome old new) is (some_faulted names old new number (inl h.1)))
+at_written first ports names number old new stops.Memory is h = asked_none names old new h
+
+at_far : (first ports : ℕ) (c : Prove) (number : ℕ) (certificate printed : List ℕ) (before now : Outside) (stop : Stop) → number ≡ (run_numbering first ports).number_of Proof
+    → IsHalfWritten c.proof number (asking (proof_asked_by c) before.counted) certificate before now stop ⊎ IsHalfPrinted c.proof number (asking (proof_asked_by c) before.counted) certificate printed before now stop
+    → HasStatusCause (run_numbering first ports) before.counted now.counted (stop_status stop)
+at_far first ports c number certificate printed before now stop is (inl h) = at_written first ports (proof_asked_by c) number before.counted now.counted stop is h.cause
+at_far first ports c number certificate printed before now stop is (inr h) = at_print first ports (proof_asked_by c) before.counted now.counted stop h.cause
+
+at_unproved : (c : Prove) (before now : Outside) (stop : Stop) → IsUnproved c before now stop → HasStatusCause (run_numbering before.told.next 0) before.counted now.counted (stop_status stop)
+at_unproved c before now stop (inl h) = at_text c.function before.told.next 0 before.counted now.counted stop h.cause
+at_unproved c before now stop (inr (inl h)) = at_created before.told.next 0 c.proof (reading c.function ∷ []) (before.told.next + 1) before.counted now.counted stop (omega arith) h.uncreated.cause
+at_unproved c before now stop (inr (inr h)) = at_far before.told.next 0 c (before.told.next + 1) h.half.certificate h.half.printed before now stop (omega arith) h.half.far
+
+of_prove : (c : Prove) (before now : Outside) (status : Status) → Proves c before now status → causes (Some (ProveCommand c)) before now status
+of_prove c before now status (inl h) =
+    subst (causes (Some (ProveCommand c)) before now) (sym h.0) (asked_none _ before.counted now.counted h.1.proved.left.counted)
+of_prove c before now status (inr (inl h)) =
+    subst (causes (Some (ProveCommand c)) before now) (sym h.status_is) (at_refusal (run_numbering before.told.next 0) before.counted now.counted (refusals.Text h.how) (asked_none _ before.counted now.counted h.ends.1.asked))
+of_prove c before now status (inr (inr h)) =
+    subst (causes (Some (ProveCommand c)) before now) (sym h.status_is) (at_unproved c before now h.how h.ends)
+
 unmade_none : (c : Gen) (before now : Outside) (how : Refusal) → IsUnmade c before now how → CountsNone before.counted now.counted
 unmade_none c before now refusals.Usage h = absurd h
 unmade_none c before now (refusals.Text fault) h = asked_none _ before.counted now.counted h.1.asked
@@ -165,6 +236,7 @@ knows_file told name ports State h = h
 knows_file told name ports Nf h = tt
 knows_file told name ports (Capture port) h = tt
 knows_file told name ports Journal h = tt
+knows_file told name ports Proof h = tt
 knows_file told name ports Stdout h = tt
 knows_file told name ports Stderr h = tt
 
@@ -229,6 +301,8 @@ of_comes R (Some (ReplayCommand c)) before now status h = whole (Some (ReplayCom
 of_comes R (Some (GenCommand c)) before now status h = of_gen R c before now status h
 of_comes R (Some (HashCommand c)) before now status h = whole (Some (HashCommand c)) before now status tt (of_hash c before now status h)
 of_comes R (Some (DescribeCommand c)) before now status h = whole (Some (DescribeCommand c)) before now status tt (of_describe c before now status h)
+of_comes R (Some (CertifyCommand c)) before now status h = whole (Some (CertifyCommand c)) before now status tt (of_certify c before now status h)
+of_comes R (Some (ProveCommand c)) before now status h = whole (Some (ProveCommand c)) before now status tt (of_prove c before now status h)
 
 -- want of memory tells no file
 memory_tells_none : (told : Told) (command : Option Command) → ArePortsOf told command 0 Memory
@@ -238,6 +312,8 @@ memory_tells_none told (Some (ReplayCommand c)) = tt
 memory_tells_none told (Some (GenCommand c)) = tt
 memory_tells_none told (Some (HashCommand c)) = tt
 memory_tells_none told (Some (DescribeCommand c)) = tt
+memory_tells_none told (Some (CertifyCommand c)) = tt
+memory_tells_none told (Some (ProveCommand c)) = tt
 
 of_end : (R : Type 0) (command : Option Command) (before now : Outside) (status : Status) → ComesTo R command before now status → own_causes command before now status
 of_end R command before now status (inl h) = of_comes R command before now status h
@@ -289,6 +365,7 @@ told_half numbering stderr old mid new (NoKeys why) stop at cause h = told_none 
 told_half numbering stderr old mid new (TooMany most) stop at cause h = told_none numbering stderr old mid new stop at cause h
 told_half numbering stderr old mid new Memory stop at cause h = told_none numbering stderr old mid new stop at cause h
 told_half numbering stderr old mid new (Differs place) stop at cause h = told_none numbering stderr old mid new stop at cause h
+told_half numbering stderr old mid new (ProofFails line) stop at cause h = told_none numbering stderr old mid new stop at cause h
 
 of_telling : (numbering : Numbering) (stderr : numbering.number_of Stderr ≡ 1) (old : Counted) (ended after : Outside) (due status : Status) → HasStatusCause numbering old ended.counted due → Tells ended after due status → HasStatusCause numbering old after.counted status
 of_telling numbering stderr old ended after due status h (inl said) =
@@ -313,6 +390,7 @@ knows_half told name ports (NoKeys why) stop h = knows_none told name ports stop
 knows_half told name ports (TooMany most) stop h = knows_none told name ports stop
 knows_half told name ports Memory stop h = knows_none told name ports stop
 knows_half told name ports (Differs place) stop h = knows_none told name ports stop
+knows_half told name ports (ProofFails line) stop h = knows_none told name ports stop
 
 knows_told : (told : Told) (name : List ℕ) (ports : ℕ) (ended after : Outside) (due status : Status) → KnowsPortsAt told name ports due → Tells ended after due status → KnowsPortsAt told name ports status
 knows_told told name ports ended after due status h (inl said) = subst (KnowsPortsAt told name ports) (sym said.status_is) h
@@ -325,6 +403,8 @@ ports_told told (Some (RunCommand c)) ports ended after due status h t = tt
 ports_told told (Some (ReplayCommand c)) ports ended after due status h t = tt
 ports_told told (Some (HashCommand c)) ports ended after due status h t = tt
 ports_told told (Some (DescribeCommand c)) ports ended after due status h t = tt
+ports_told told (Some (CertifyCommand c)) ports ended after due status h t = tt
+ports_told told (Some (ProveCommand c)) ports ended after due status h t = tt
 
 -- standard error has number 1, whatever is asked for
 stderr_is : (first ports : ℕ) (command : Option Command) → (numbering_of first ports command).number_of Stderr ≡ 1
@@ -334,6 +414,8 @@ stderr_is first ports (Some (ReplayCommand c)) = refl
 stderr_is first ports (Some (GenCommand c)) = refl
 stderr_is first ports (Some (HashCommand c)) = refl
 stderr_is first ports (Some (DescribeCommand c)) = refl
+stderr_is first ports (Some (CertifyCommand c)) = refl
+stderr_is first ports (Some (ProveCommand c)) = refl
 
 -- from what the program answers
 pub cause_of : (R : Type 0) (command : Option Command) (before after : Outside) (status : Status) → Answers R command before after status → HasCallCause before.told command before.counted after.counted status

@@ -25,7 +25,7 @@ use Rattle.call_base.specs.declared.status.Refusal.TheVariants as refusals
 use Rattle.call_base.specs.declared.status.Stop.{Stop}
 use Rattle.call_base.specs.declared.status.Stop.TheVariants as stops
 use Rattle.call_base.specs.declared.status.Status.{Status}
-use Rattle.call_base.specs.declared.status.Status.TheVariants.{Done, Usage, Refused as Rejected, FileFault, NotCapture, Torn, ShareFull, TooMany, NoKeys, Memory, Differs}
+use Rattle.call_base.specs.declared.status.Status.TheVariants.{Done, Usage, Refused as Rejected, FileFault, NotCapture, Torn, ShareFull, TooMany, NoKeys, Memory, Differs, ProofFails}
 use Rattle.call_base.specs.Captures.{packets_under}
 use Rattle.call_base.specs.Created.{Left, bytes_at, state_bytes, text_of}
 use Rattle.call_base.specs.Names.{name_at, output_name, journal_name, state_name}
@@ -59,6 +59,7 @@ not_half (TooMany most) stop some h = not_stopped stop h
 not_half (NoKeys why) stop some h = not_stopped stop h
 not_half Memory stop some h = not_stopped stop h
 not_half (Differs at) stop some h = not_stopped stop h
+not_half (ProofFails line) stop some h = not_stopped stop h
 
 -- the line on it was told whole, of this status
 said_so : (ended after : Outside) (due status : Status) → Tells ended after due status → IsDone status → (due ≡ status) × IsSaid ended after status status
@@ -247,6 +248,7 @@ IsKeyless (ShareFull full) = ⊥
 IsKeyless (TooMany most) = ⊥
 IsKeyless Memory = ⊥
 IsKeyless (Differs at) = ⊥
+IsKeyless (ProofFails line) = ⊥
 
 stopped_with_keys : (stop : NumberStop) → IsKeyless (stopped_at stop) → ⊥
 stopped_with_keys (numbered.File file) h = absurd h
@@ -264,6 +266,7 @@ half_with_keys (TooMany most) stop some h = stopped_with_keys stop h
 half_with_keys (NoKeys why) stop some h = stopped_with_keys stop h
 half_with_keys Memory stop some h = stopped_with_keys stop h
 half_with_keys (Differs at) stop some h = stopped_with_keys stop h
+half_with_keys (ProofFails line) stop some h = stopped_with_keys stop h
 
 keyless_due : (ended after : Outside) (due status : Status) → Tells ended after due status → IsKeyless status → IsKeyless due
 keyless_due ended after due status (inl said) h = subst IsKeyless said.status_is h

@@ -1,6 +1,6 @@
 -- What the program answers: a relation of its words, of the files outside before and after, and of the status.
 use Rattle.std.specs.Prelude.{◌≡◌, ◌⊎◌, [], Option, Some, None}
-use Rattle.command_words.specs.Commands.{Run as RunAsked, Replay, Gen, Hash, Describe, Command, RunCommand, ReplayCommand, GenCommand, HashCommand, DescribeCommand}
+use Rattle.command_words.specs.Commands.{Run as RunAsked, Replay, Gen, Hash, Describe, Certify, Prove, Command, RunCommand, ReplayCommand, GenCommand, HashCommand, DescribeCommand, CertifyCommand, ProveCommand}
 use Rattle.call_base.specs.declared.status.Refusal.TheVariants.{Text}
 use Rattle.call_base.specs.declared.status.Status.{Status}
 use Rattle.call_base.specs.declared.status.Status.TheVariants.{Done, Usage, Memory}
@@ -10,6 +10,9 @@ use Rattle.run_call.specs.Ending.{IsFinished, IsRefused, IsStopped}
 use Rattle.replay_call.specs.Checked.{IsChecked, checked_status, IsRefused as IsUnjudged, IsStopped as IsCutOff}
 use Rattle.gen_call.specs.Ending.{IsFinished as IsMade, IsRefused as IsUnmade, IsStopped as IsBrokenOff}
 use Rattle.describe_call.specs.Described.{IsHashed, IsUnhashed, IsDescribed, IsNotDescribed, IsUndescribed}
+use Rattle.certify_call.specs.Judgements.{judged_status}
+use Rattle.certify_call.specs.Certifying.{IsJudged, IsNotJudged, IsUnjudged as IsStoppedJudging}
+use Rattle.prove_call.specs.Proving.{IsProved, IsNotProved, IsUnproved}
 use Rattle.call_base.specs.Printed.{Tells}
 
 -- a way to end, which has this status
@@ -48,6 +51,22 @@ Describes c before now status =
     ⊎ (Ends (λ fault. refusal_status (Text fault)) (IsNotDescribed c before now) status
     ⊎ Ends stop_status (IsUndescribed c before now) status)
 
+-- what judging a certificate comes to: it is right, or wrong at a line, or there is no function, or the
+-- call was stopped
+abbrev pub Certifies : Certify → Outside → Outside → Status → Type 0
+Certifies c before now status =
+    Ends judged_status (IsJudged c before now) status
+    ⊎ (Ends (λ fault. refusal_status (Text fault)) (IsNotJudged c before now) status
+    ⊎ Ends stop_status (IsStoppedJudging c before now) status)
+
+-- what keys with a certificate come to: they were printed and the certificate written, or there is no
+-- function, or the call was stopped
+abbrev pub Proves : Prove → Outside → Outside → Status → Type 0
+Proves c before now status =
+    ((status ≡ Done) × IsProved c before now)
+    ⊎ (Ends (λ fault. refusal_status (Text fault)) (IsNotProved c before now) status
+    ⊎ Ends stop_status (IsUnproved c before now) status)
+
 -- Words that are no command, and words that there was no memory to read: nothing was done.
 abbrev pub Declines : Outside → Outside → Status → Status → Type 0
 Declines before now due status = (status ≡ due) × HasOnlyAsked [] before now
@@ -60,6 +79,8 @@ Comes Refused (Some (ReplayCommand c)) before now status = Replays c before now 
 Comes Refused (Some (GenCommand c)) before now status = Gens Refused c before now status
 Comes Refused (Some (HashCommand c)) before now status = Hashes c before now status
 Comes Refused (Some (DescribeCommand c)) before now status = Describes c before now status
+Comes Refused (Some (CertifyCommand c)) before now status = Certifies c before now status
+Comes Refused (Some (ProveCommand c)) before now status = Proves c before now status
 
 -- the call came to its end, or memory ran out before the words were read
 abbrev pub ComesTo : Type 0 → Option Command → Outside → Outside → Status → Type 0

@@ -3,11 +3,11 @@ use Rattle.std.specs.Prelude.{◌≡◌, ℕ, ◌≤◌, List, length, Option, S
 use Rattle.nf_base.specs.Text.{Function}
 use Rattle.nf_files.specs.Told.{Told}
 use Rattle.nf_files.specs.Causes.{Counted, Rose, FirstAfter}
-use Rattle.command_words.specs.Commands.{Command, RunCommand, ReplayCommand, GenCommand, HashCommand, DescribeCommand}
+use Rattle.command_words.specs.Commands.{Command, RunCommand, ReplayCommand, GenCommand, HashCommand, DescribeCommand, CertifyCommand, ProveCommand}
 use Rattle.call_base.specs.declared.status.RunFile.{RunFile}
-use Rattle.call_base.specs.declared.status.RunFile.TheVariants.{Nf, Capture, Journal, Output, OutJournal, State, Stdout, Stderr}
+use Rattle.call_base.specs.declared.status.RunFile.TheVariants.{Nf, Capture, Journal, Output, OutJournal, State, Proof, Stdout, Stderr}
 use Rattle.call_base.specs.declared.status.Status.{Status}
-use Rattle.call_base.specs.declared.status.Status.TheVariants.{Done, Usage, Refused, FileFault, NotCapture, Torn, ShareFull, TooMany, NoKeys, Memory, Differs}
+use Rattle.call_base.specs.declared.status.Status.TheVariants.{Done, Usage, Refused, FileFault, NotCapture, Torn, ShareFull, TooMany, NoKeys, Memory, Differs, ProofFails}
 use Rattle.call_base.specs.Layout.{run_numbering}
 use Rattle.call_base.specs.Numbers.{Numbering}
 use Rattle.call_base.specs.Source.{IsFunctionUnder}
@@ -35,6 +35,8 @@ numbering_of first ports (Some (ReplayCommand c)) = replay_numbering first (leng
 numbering_of first ports (Some (GenCommand c)) = made_numbering first ports
 numbering_of first ports (Some (HashCommand c)) = run_numbering first 0
 numbering_of first ports (Some (DescribeCommand c)) = run_numbering first 0
+numbering_of first ports (Some (CertifyCommand c)) = run_numbering first 0
+numbering_of first ports (Some (ProveCommand c)) = run_numbering first 0
 
 -- A file fault tells the file of the first fault, by its number; at no other status was a fault counted.
 abbrev pub HasStatusCause : Numbering → Counted → Counted → Status → Type 0
@@ -49,6 +51,7 @@ HasStatusCause numbering old new (TooMany most) = CountsNone old new
 HasStatusCause numbering old new (NoKeys why) = CountsNone old new
 HasStatusCause numbering old new Memory = CountsNone old new
 HasStatusCause numbering old new (Differs at) = CountsNone old new
+HasStatusCause numbering old new (ProofFails line) = CountsNone old new
 
 -- So many ports has a function that stands under a name.
 pub record HasSoManyPorts (told : Told) (name : List ℕ) (ports : ℕ) : Type 0 where
@@ -64,6 +67,7 @@ KnowsPorts told name ports State = HasSoManyPorts told name ports
 KnowsPorts told name ports Nf = Unit {0}
 KnowsPorts told name ports (Capture port) = Unit {0}
 KnowsPorts told name ports Journal = Unit {0}
+KnowsPorts told name ports Proof = Unit {0}
 KnowsPorts told name ports Stdout = Unit {0}
 KnowsPorts told name ports Stderr = Unit {0}
 
@@ -80,6 +84,7 @@ KnowsPortsAt told name ports (TooMany most) = Unit {0}
 KnowsPortsAt told name ports (NoKeys why) = Unit {0}
 KnowsPortsAt told name ports Memory = Unit {0}
 KnowsPortsAt told name ports (Differs at) = Unit {0}
+KnowsPortsAt told name ports (ProofFails line) = Unit {0}
 
 -- made-up traffic has the ports of its function; those of other commands are told by their captures
 abbrev pub ArePortsOf : Told → Option Command → ℕ → Status → Type 0
@@ -89,6 +94,8 @@ ArePortsOf told (Some (RunCommand c)) ports status = Unit {0}
 ArePortsOf told (Some (ReplayCommand c)) ports status = Unit {0}
 ArePortsOf told (Some (HashCommand c)) ports status = Unit {0}
 ArePortsOf told (Some (DescribeCommand c)) ports status = Unit {0}
+ArePortsOf told (Some (CertifyCommand c)) ports status = Unit {0}
+ArePortsOf told (Some (ProveCommand c)) ports status = Unit {0}
 
 -- So it is with the numbers of a command's files, as it was told before.
 pub record HasCallCause (told : Told) (command : Option Command) (old new : Counted) (status : Status) : Type 0 where

@@ -25,7 +25,7 @@ use Rattle.command_words.specs.declared.command.ModeChoice.{ModeChoice}
 use Rattle.command_words.specs.declared.command.ModeChoice.TheVariants.{Lock}
 use Rattle.call_base.specs.declared.status.NoKeys.{NoKeys as Why}
 use Rattle.call_base.specs.declared.status.Status.{Status}
-use Rattle.call_base.specs.declared.status.Status.TheVariants.{Done, Usage, Refused as Rejected, FileFault, NotCapture, Torn, ShareFull, TooMany, NoKeys, Memory, Differs}
+use Rattle.call_base.specs.declared.status.Status.TheVariants.{Done, Usage, Refused as Rejected, FileFault, NotCapture, Torn, ShareFull, TooMany, NoKeys, Memory, Differs, ProofFails}
 use Rattle.call_base.specs.Captures.{packets_under}
 use Rattle.call_base.specs.Created.{IsStanding}
 use Rattle.call_base.specs.Names.{output_name, journal_name, state_name}
@@ -48,6 +48,7 @@ IsDone (ShareFull full) = ⊥
 IsDone (NoKeys why) = ⊥
 IsDone Memory = ⊥
 IsDone (Differs at) = ⊥
+IsDone (ProofFails line) = ⊥
 
 -- ---- which packets
 
@@ -65,6 +66,7 @@ ArePackets (ShareFull full) most all packets = ⊥
 ArePackets (NoKeys why) most all packets = ⊥
 ArePackets Memory most all packets = ⊥
 ArePackets (Differs at) most all packets = ⊥
+ArePackets (ProofFails line) most all packets = ⊥
 
 -- ---- in which order, and by whom
 

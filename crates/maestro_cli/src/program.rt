@@ -3,7 +3,7 @@ ghost use Rattle.std.specs.Prelude.{◌≤◌, length, map, string_bytes, Some};
 ghost use Rattle.command_words.specs.Commands.{command_of};
 ghost use Rattle.command_words.specs.View as view;
 ghost use Rattle.call_base.specs.Outside.{seen};
-ghost use Rattle.maestro_cli.specs.Answer.{Answers, Comes, ComesTo, Runs, Replays, Gens, Hashes, Describes};
+ghost use Rattle.maestro_cli.specs.Answer.{Answers, Comes, ComesTo, Runs, Replays, Gens, Hashes, Describes, Certifies, Proves};
 ghost use Rattle.maestro_cli.specs.Causes.{HasCallCause};
 ghost use Rattle.describe_call.specs.Described.{HashesTo};
 ghost use Rattle.lock_mode.specs.Gates.{Rose};
@@ -11,27 +11,35 @@ ghost use Rattle.lock_mode.specs.Gates.{Rose};
 use call_base::loading::NoFunction;
 use call_base::say::{print_out, tell};
 use call_base::status::{Halt, Refusal, Status, Stop};
+use certify_call::judge;
 use command_words::{
-    Command, DescribeCommand, GenCommand, HashCommand, ReplayCommand, RunCommand, command_of,
+    CertifyCommand, Command, DescribeCommand, GenCommand, HashCommand, ProveCommand, ReplayCommand,
+    RunCommand, command_of,
 };
 use describe_call::{hash_line, print_description};
 use gen_call::generate;
 use lock_mode::Gate;
 use nf_files::Files;
+use prove_call::prove_keys;
 use replay_call::replay;
 use run_call::run;
 use std::alloc::Global;
-use std::sync::Wait;
+use std::sync::{Arc, Wait};
 use std::thread::Threads;
 use worker_turns::Turns;
 
 // Does a run.
-fn do_run<R: Threads + Wait + Sync, F: Files, G: Turns + Sync, L: Gate + Drop + Send>(
+fn do_run<
+    R: Threads + Wait + Clone + Send + Sync + Drop + 'static,
+    F: Files,
+    G: Turns + Send + Sync + Drop + 'static,
+    L: Gate + Drop + Send,
+>(
     rt: &R,
     alloc: Global,
     files: &mut F,
     command: &RunCommand,
-    turns: &G,
+    turns: &Arc<G>,
     gate: &mut L,
 ) -> Status
     requires some { 1 ≤ length command.now.captures.items }
@@ -62,12 +70,17 @@ fn do_replay<F: Files>(alloc: Global, files: &mut F, command: &ReplayCommand) ->
 }
 
 // Does a run over made-up traffic.
-fn do_gen<R: Threads + Wait + Sync, F: Files, G: Turns + Sync, L: Gate + Drop + Send>(
+fn do_gen<
+    R: Threads + Wait + Clone + Send + Sync + Drop + 'static,
+    F: Files,
+    G: Turns + Send + Sync + Drop + 'static,
+    L: Gate + Drop + Send,
+>(
     rt: &R,
     alloc: Global,
     files: &mut F,
     command: &GenCommand,
-    turns: &G,
+    turns: &Arc<G>,
     gate: &mut L,
 ) -> Status
     requires flows { 1 ≤ (view.gen command.now).flows }
@@ -116,15 +129,37 @@ fn do_describe<F: Files>(alloc: Global, files: &mut F, command: &DescribeCommand
     }
 }
 
+// Judges a certificate.
+fn do_certify<F: Files>(alloc: Global, files: &mut F, command: &CertifyCommand) -> Status
+    ensures { Certifies (view.certify command.now) (seen (F.told files.old) (F.counted files.old))
+        (seen (F.told files.new) (F.counted files.new)) result }
+{
+    match judge(alloc, files, command) {
+        Ok(judged) => judged.status(),
+        Err(NoFunction::Text(fault)) => Refusal::Text(fault).status(),
+        Err(NoFunction::Stop(stop)) => stop.status(),
+    }
+}
+
+// Prints keys, and writes their certificate.
+fn do_prove<F: Files>(alloc: Global, files: &mut F, command: &ProveCommand) -> Status
+    ensures { Proves (view.prove command.now) (seen (F.told files.old) (F.counted files.old))
+        (seen (F.told files.new) (F.counted files.new)) result }
+{
+    match prove_keys(alloc, files, command) {
+        Ok(()) => Status::Done,
+        Err(NoFunction::Text(fault)) => Refusal::Text(fault).status(),
+        Err(NoFunction::Stop(stop)) => stop.status(),
+    }
+}
+
 // Does what a command asks for.
-fn obey<R: Threads + Wait + Sync, F: Files, G: Turns + Sync, L: Gate + Drop + Send>(
-    rt: &R,
-    alloc: Global,
-    files: &mut F,
-    command: &Command,
-    turns: &G,
-    gate: &mut L,
-) -> Status
+fn obey<
+    R: Threads + Wait + Clone + Send + Sync + Drop + 'static,
+    F: Files,
+    G: Turns + Send + Sync + Drop + 'static,
+    L: Gate + Drop + Send,
+>(rt: &R, alloc: Global, files: &mut F, command: &Command, turns: &Arc<G>, gate: &mut L) -> Status
     requires few { view.HasFew command.now }
     ensures { let before = seen (F.told files.old) (F.counted files.old) in
         Comes (Rose (L.refused gate.old) (L.refused gate.new)) (Some (view.asked command.now)) before
@@ -136,18 +171,18 @@ fn obey<R: Threads + Wait + Sync, F: Files, G: Turns + Sync, L: Gate + Drop + Se
         Command::Gen(asked) => do_gen(rt, alloc, files, asked, turns, gate),
         Command::Hash(asked) => do_hash(alloc, files, asked),
         Command::Describe(asked) => do_describe(alloc, files, asked),
+        Command::Certify(asked) => do_certify(alloc, files, asked),
+        Command::Prove(asked) => do_prove(alloc, files, asked),
     }
 }
 
 // Does what words ask for.
-fn carry_out<R: Threads + Wait + Sync, F: Files, G: Turns + Sync, L: Gate + Drop + Send>(
-    rt: &R,
-    alloc: Global,
-    words: &[String],
-    files: &mut F,
-    turns: &G,
-    gate: &mut L,
-) -> Status
+fn carry_out<
+    R: Threads + Wait + Clone + Send + Sync + Drop + 'static,
+    F: Files,
+    G: Turns + Send + Sync + Drop + 'static,
+    L: Gate + Drop + Send,
+>(rt: &R, alloc: Global, words: &[String], files: &mut F, turns: &Arc<G>, gate: &mut L) -> Status
     ensures { let before = seen (F.told files.old) (F.counted files.old) in
         ComesTo (Rose (L.refused gate.old) (L.refused gate.new))
         (command_of (map string_bytes words.now)) before
@@ -173,19 +208,19 @@ fn carry_out<R: Threads + Wait + Sync, F: Files, G: Turns + Sync, L: Gate + Drop
 ///   how many flows, 1 to 65,536; with the options `--workers`, `--mode`, those of a network card, and `--pcapng`;
 /// - `hash`, a source and a destination as `ADDRESS:PORT`; with the options `--key`, 80 or 104 hexadecimal digits,
 ///   `--workers`, 1 to 16, and those of a network card;
-/// - `check`, `explain` or `keys`, a network function's file; the last two with the options of a network card.
+/// - `check`, `explain` or `keys`, a network function's file; the last two with the options of a network card, and
+///   `keys` with `--proof` and the name of a certificate's file, which is written;
+/// - `certify`, a network function's file and a certificate of its keys, or of there being none.
 ///
 /// Several workers of a run, over captures or made-up traffic, are threads of `rt`; where one can't be started,
 /// the caller does its work. What they come to is told to `turns`. Workers that share tables go in by `gate`;
 /// where it can't make the ways in, one worker does the run.
-pub fn maestro<R: Threads + Wait + Sync, F: Files, G: Turns + Sync, L: Gate + Drop + Send>(
-    rt: &R,
-    alloc: Global,
-    words: &[String],
-    files: &mut F,
-    turns: &G,
-    gate: &mut L,
-) -> Status
+pub fn maestro<
+    R: Threads + Wait + Clone + Send + Sync + Drop + 'static,
+    F: Files,
+    G: Turns + Send + Sync + Drop + 'static,
+    L: Gate + Drop + Send,
+>(rt: &R, alloc: Global, words: &[String], files: &mut F, turns: &Arc<G>, gate: &mut L) -> Status
     // What the call came to, what it asked for and which call failed; and what standard error holds of that.
     ensures answer { let before = seen (F.told files.old) (F.counted files.old) in
         Answers (Rose (L.refused gate.old) (L.refused gate.new))

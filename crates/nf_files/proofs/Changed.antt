@@ -1,12 +1,13 @@
 -- A list of opened files of which one was changed.
 use Rattle.std.proofs.Common.{◌≡◌, ◌≢◌, ℕ, zero, suc, ◌<◌, List, [], ◌∷◌, ◌++◌, length, take, drop, get_or, set, Option, Some, slice_get, refl, ap, sym, ◌∙◌, arith, true, false}
+use Rattle.std.specs.Prelude.{unwrap_or}
 use Rattle.std.proofs.lemmas.List.{length-set}
 use Rattle.nf_files.specs.declared.memory.opened.OpenFile.{OpenFile}
 use Rattle.nf_files.specs.declared.kind.Kind.{Kind}
 use Rattle.nf_files.specs.declared.kind.Kind.TheVariants.{Input, Output}
 use Rattle.nf_files.specs.Pieces.{Gains, Takes}
 use Rattle.nf_files.specs.Told.{IsEmptyIfTold}
-use Rattle.nf_files.specs.Opened.{rest_of, given_of, name_of, kind_of, if_input, if_output, stands_under, later, last_created, Changes}
+use Rattle.nf_files.specs.Opened.{rest_of, left_of, given_of, name_of, kind_of, if_input, if_output, stands_under, later, last_created, Changes}
 
 -- the changed one
 pub got_same : {A : Type 0} (xs : List A) (i : ℕ) (y : A) → i < length xs → slice_get (set xs i y) i ≡ Some y
@@ -111,3 +112,14 @@ pub last_before : (xs : List OpenFile) (k : ℕ) (x : OpenFile) (n : List ℕ) �
 last_before [] k x n lt at named = absurd (omega arith)
 last_before (z ∷ zs) zero x n lt at named = rw (sym at, named) refl
 last_before (z ∷ zs) (suc k) x n lt at named = ap (λ o. later o (stands_under z n)) (last_before zs k x n (omega arith) at named)
+
+-- what is left of a file that is read
+pub rest_here : (xs : List OpenFile) (k : ℕ) (x : OpenFile) → k < length xs → x ≡ get_or xs k x → kind_of (slice_get xs k) ≡ Some Input → rest_of (slice_get xs k) ≡ Some (drop x.at x.bytes.items)
+rest_here xs k x lt at kind =
+    let was = got_was xs k x lt at in
+    let of_x : Some x.kind ≡ Some Input = sym (ap kind_of was) ∙ kind in
+    let is : x.kind ≡ Input = cc in
+    ap rest_of was ∙ rw is refl
+
+pub left_here : (xs : List OpenFile) (k : ℕ) (x : OpenFile) → k < length xs → x ≡ get_or xs k x → kind_of (slice_get xs k) ≡ Some Input → left_of (slice_get xs k) ≡ drop x.at x.bytes.items
+left_here xs k x lt at kind = ap (λ (o : Option (List ℕ)). unwrap_or o []) (rest_here xs k x lt at kind)

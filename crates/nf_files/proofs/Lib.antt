@@ -1,3 +1,4 @@
+pub mod Ranges
 pub mod Given
 pub mod Changed
 pub mod Numbers

@@ -10,7 +10,7 @@ use Rattle.nf_files.specs.declared.memory.calls.Calls.{Calls}
 use Rattle.nf_files.specs.declared.memory.MemoryFiles.{MemoryFiles}
 use Rattle.nf_files.specs.Told.{Told}
 use Rattle.nf_files.specs.Causes.{Counted, counted_of}
-use Rattle.nf_files.specs.Opened.{rest_of, given_of, name_of, kind_of, last_created}
+use Rattle.nf_files.specs.Opened.{rest_of, left_of, given_of, name_of, kind_of, last_created}
 
 -- of standard output, of standard error, and of the opened files, whose numbers begin at 2
 abbrev pub numbered : {A : Type 0} → A → A → (ℕ → A) → ℕ → A
@@ -75,6 +75,14 @@ is_output files g = (2 ≤ g) × (kind_of (slice_get files (g - 2)) ≡ Some Out
 -- the next call stands in the list of those that fail
 abbrev pub is_listed : Calls → Bool
 is_listed c = list_any (λ call. nat_eq call c.made) c.fails.items
+
+-- no call is to fail
+abbrev pub is_sound : Calls → Bool
+is_sound c = nat_eq (length c.fails.items) 0
+
+-- the bytes of a number that stand ready: all that are left, where no call is to fail, and else none
+abbrev pub ready_at : MemoryFiles → ℕ → List ℕ
+ready_at m g = if is_sound m.calls then left_of (slice_get m.store.files.items (g - 2)) else []
 
 -- a file can still be opened: numbers have 32 bits
 abbrev pub HasNumber : MemoryFiles → Type 0

@@ -1,5 +1,5 @@
 -- The opened files of `MemoryFiles`, as a list in the order of opening.
-use Rattle.std.specs.Prelude.{◌≡◌, ◌≢◌, ℕ, suc, Bool, true, false, ◌&&◌, not, List, [], ◌∷◌, length, drop, Option, Some, None, slice_get}
+use Rattle.std.specs.Prelude.{◌≡◌, ◌≢◌, ℕ, suc, Bool, true, false, ◌&&◌, not, List, [], ◌∷◌, length, drop, Option, Some, None, unwrap_or, slice_get}
 use Rattle.std.specs.Str.{bytes_eq}
 use Rattle.nf_files.specs.declared.kind.Kind.{Kind}
 use Rattle.nf_files.specs.declared.kind.Kind.TheVariants.{Input, Output}
@@ -17,6 +17,10 @@ if_output Output x = Some x
 abbrev pub rest_of : Option OpenFile → Option (List ℕ)
 rest_of None = None
 rest_of (Some f) = if_input f.kind (drop f.at f.bytes.items)
+
+-- those, and none where there is nothing to be read
+abbrev pub left_of : Option OpenFile → List ℕ
+left_of f = unwrap_or (rest_of f) []
 
 -- the bytes that were given
 abbrev pub given_of : Option OpenFile → Option (List ℕ)

@@ -1,5 +1,5 @@
 -- Files of which nothing is told but the number that the next opening gives.
-use Rattle.std.specs.Prelude.{◌≡◌, ℕ, ◌+◌, ◌-◌, ◌≤◌, List, Option, Some, None, option_map, slice_get}
+use Rattle.std.specs.Prelude.{◌≡◌, ℕ, ◌+◌, ◌-◌, ◌≤◌, List, [], Option, Some, None, option_map, slice_get}
 use Rattle.std.specs.Io.KnownBytes.{prepend_known}
 use Rattle.nf_files.specs.declared.kind.Kind.{Kind}
 use Rattle.nf_files.specs.declared.kind.Kind.TheVariants as good
@@ -36,6 +36,16 @@ left_of remaining None = None
 -- the same of a number
 abbrev pub left_at : {F : Type 0} → (F → Option (List ℕ)) → List (SystemFile F) → ℕ → Option (List ℕ)
 left_at remaining files g = left_of remaining (slice_get files (g - 2))
+
+-- those of them that were read ahead, and stand ready
+abbrev pub ready_of : {F : Type 0} → Option (SystemFile F) → List ℕ
+ready_of (Some (Input origin ahead)) = ahead.buffer
+ready_of (Some (Output file)) = []
+ready_of None = []
+
+-- the same of a number
+abbrev pub ready_at : {F : Type 0} → List (SystemFile F) → ℕ → List ℕ
+ready_at files g = ready_of (slice_get files (g - 2))
 
 -- the bytes that an opened file holds, where those of the system's are known
 abbrev pub held_of : {F : Type 0} → (F → Option (List ℕ)) → Option (SystemFile F) → Option (List ℕ)

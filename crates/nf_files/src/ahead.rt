@@ -1,5 +1,5 @@
 // An input that is read ahead of its use.
-ghost use Rattle.std.specs.Prelude.{◌≡◌, [], IfOk};
+ghost use Rattle.std.specs.Prelude.{◌≡◌, ◌≤◌, [], IfOk, length, drop};
 
 use crate::buffer::{AHEAD, Buffer};
 use std::io::{self, Read};
@@ -18,6 +18,24 @@ impl<F> Ahead<F> {
         ensures { result ≡ record { file = file; buffer = buffer } }
     {
         Ahead { file, buffer }
+    }
+
+    /// The bytes that were read and not yet given.
+    #[inline]
+    pub(crate) fn ready(&self) -> &[u8]
+        ensures { result.now ≡ self.now.buffer }
+    {
+        self.buffer.as_slice()
+    }
+
+    /// Takes so many of them.
+    #[inline]
+    pub(crate) fn take(&mut self, count: usize)
+        requires { count ≤ length self.old.buffer }
+        ensures rest { self.new.buffer ≡ drop count self.old.buffer }
+        ensures same_file { self.new.file ≡ self.old.file }
+    {
+        self.buffer.advance(count);
     }
 }
 

@@ -66,6 +66,23 @@ impl Buffer {
         self.at == self.end
     }
 
+    /// The bytes.
+    #[inline]
+    pub(crate) fn as_slice(&self) -> &[u8]
+        ensures { result.now ≡ self.now }
+    {
+        &self.bytes[self.at..self.end]
+    }
+
+    /// Lets go so many of the bytes in front.
+    #[inline]
+    pub(crate) fn advance(&mut self, count: usize)
+        requires { count ≤ length self.old }
+        ensures { self.new ≡ drop count self.old }
+    {
+        self.at += count;
+    }
+
     /// Reads once, where no bytes are left.
     pub(crate) fn fill<F: Read>(&mut self, file: &mut F) -> io::Result<()>
         // No byte is lost, whatever the answer.

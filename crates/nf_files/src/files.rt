@@ -2,7 +2,8 @@
 ghost use Rattle.std.specs.Prelude.{◌≡◌, ◌<◌, ◌≤◌, ◌^◌, ◌⊎◌, ℕ, List, IfOk, OnErr, None, length, take};
 ghost use Rattle.nf_files.specs.Told.{Told, Same};
 ghost use Rattle.nf_files.specs.Openings.{Opens, Creates};
-ghost use Rattle.nf_files.specs.Reads.{Reads};
+ghost use Rattle.nf_files.specs.Pieces.{Takes};
+ghost use Rattle.nf_files.specs.Reads.{Keeps, Reads};
 ghost use Rattle.nf_files.specs.Writes.{Writes};
 ghost use Rattle.nf_files.specs.Causes.{Counted, HasCause, HasAsked, an_asking, IsCount};
 ghost use Rattle.nf_files.specs.declared.kind.Kind.TheVariants.{Input, Output};
@@ -37,6 +38,9 @@ pub trait Files {
     ghost will_pass: { Self → Type 0 };
 
     ghost will_fail: { Self → Type 0 };
+
+    // Of a number that is read: bytes of the front of what is left that stand ready to be taken.
+    ghost ready: { Self → ℕ → List ℕ };
 
     /// Opens a name to be read from its first byte, and gives the file's number.
     fn open_in(&mut self, name: &str) -> Result<u32, FilesFault>
@@ -91,6 +95,24 @@ pub trait Files {
         ensures cause { HasCause (counted self.old) (counted self.new) file result }
         ensures fails { will_fail self.old → IsFailed result }
         ensures passes { will_pass self.old → IsFailed result → ⊥ }
+        ensures reads { (g : ℕ) → is_read self.old g → is_read self.new g }
+        ensures writes { (g : ℕ) → is_written self.old g → is_written self.new g };
+
+    /// The bytes of a file that stand ready: some of the front of what is left, which were read ahead.
+    ///
+    /// There may be none, and there may be more of the file behind them.
+    fn ahead(&self, file: u32) -> &[u8]
+        requires opened { is_read self.now file }
+        ensures value { result.now ≡ ready self.now file };
+
+    /// Takes so many of the bytes that stand ready. This is none of the calls that can fail.
+    fn take(&mut self, file: u32, count: usize)
+        requires opened { is_read self.old file }
+        requires within { count ≤ length (ready self.old file) }
+        ensures taken { let front = take count (ready self.old file) in
+            Takes front ((told self.old).rest file) ((told self.new).rest file) }
+        ensures kept { Keeps (told self.old) (told self.new) file }
+        ensures same_count { counted self.new ≡ counted self.old }
         ensures reads { (g : ℕ) → is_read self.old g → is_read self.new g }
         ensures writes { (g : ℕ) → is_written self.old g → is_written self.new g };
 

@@ -1,6 +1,6 @@
 // Files in memory.
 ghost use Rattle.std.specs.Prelude.{◌≡◌, ℕ, [], option_map, unwrap_or, OnOk, OnErr, None, suc};
-ghost use Rattle.nf_files.specs.Memory.{memory_told, memory_counted, nothing, is_input, is_output, will_fail, will_pass, will_open, will_not_open};
+ghost use Rattle.nf_files.specs.Memory.{memory_told, memory_counted, nothing, is_input, is_output, will_fail, will_pass, will_open, will_not_open, ready_at};
 ghost use Rattle.nf_files.specs.Causes.{no_calls};
 ghost use Rattle.nf_files.specs.Standard.{of_standard};
 ghost use Rattle.nf_files.specs.Puts.{Puts};
@@ -22,7 +22,8 @@ use store::Store;
 ///
 /// The calls of `Files` are counted together, from 0, and each that is listed fails; one that answers
 /// `Memory` is not counted. Opening a name under which nothing stands fails too. Standard output and
-/// standard error are kept in memory.
+/// standard error are kept in memory. Where no call is listed all that is left of a file stands ready,
+/// and else nothing does.
 #[derive(Drop)]
 pub struct MemoryFiles {
     alloc: Global,
@@ -94,6 +95,8 @@ impl Files for MemoryFiles {
 
     ghost will_fail = { will_fail };
 
+    ghost ready = { ready_at };
+
     fn open_in(&mut self, name: &str) -> Result<u32, FilesFault> {
         let number = next_number(self.store.files.len())?;
         if self.calls.fails_next() {
@@ -136,6 +139,20 @@ impl Files for MemoryFiles {
         self.store.write(file, piece)?;
         self.calls.pass();
         Ok(piece.len())
+    }
+
+    fn ahead(&self, file: u32) -> &[u8] {
+        if self.calls.is_sound() {
+            self.store.left(file)
+        } else {
+            &[]
+        }
+    }
+
+    fn take(&mut self, file: u32, count: usize) {
+        if self.calls.is_sound() {
+            self.store.take(file, count);
+        }
     }
 
     ghost counts = { λ m. m.calls.count.agrees };

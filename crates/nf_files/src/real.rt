@@ -1,10 +1,10 @@
 // The files of the system.
-ghost use Rattle.std.specs.Prelude.{◌≡◌, ◌≢◌, ◌<◌, ◌≤◌, ◌+◌, ◌-◌, ◌⊎◌, ℕ, List, Option, Ok, IfOk, length, None};
+ghost use Rattle.std.specs.Prelude.{◌≡◌, ◌≢◌, ◌<◌, ◌≤◌, ◌+◌, ◌-◌, ◌⊎◌, ℕ, List, Option, Ok, IfOk, length, take, None};
 ghost use Rattle.std.specs.Io.{ReadsAtMost, WritesAtMost};
-ghost use Rattle.std.specs.Io.KnownBytes.{ReadConsumes, WriteAppends};
+ghost use Rattle.std.specs.Io.KnownBytes.{Consumes, ReadConsumes, WriteAppends};
 ghost use Rattle.nf_files.specs.Causes.{counted_of, HasCause};
 ghost use Rattle.nf_files.specs.Expected.{IsNotMemory};
-ghost use Rattle.nf_files.specs.Untold.{untold, left_at, held_at, IsOf};
+ghost use Rattle.nf_files.specs.Untold.{untold, left_at, ready_at, held_at, IsOf};
 ghost use Rattle.nf_files.specs.declared.kind.Kind.{Kind};
 ghost use Rattle.nf_files.specs.declared.kind.Kind.TheVariants.{Input, Output};
 
@@ -87,6 +87,37 @@ impl<'a, R: rt::Files, O: Write, E: Write> RealFiles<'a, R, O, E> {
         self.count.answer(file, answer)
     }
 
+    // The bytes of the input of this number that were read ahead.
+    #[inline]
+    fn ready_input(&self, file: u32) -> &[u8]
+        requires opened { IsOf Input self.now.opened.items file }
+        ensures { result.now ≡ ready_at self.now.opened.items file }
+    {
+        match &self.opened[file as usize - 2] {
+            SystemFile::Input { ahead, .. } => ahead.ready(),
+            SystemFile::Output(_) => unreachable!(),
+        }
+    }
+
+    // Takes so many of them: those, and no others.
+    #[inline]
+    fn take_input(&mut self, file: u32, count: usize)
+        requires opened { IsOf Input self.old.opened.items file }
+        requires within { count ≤ length (ready_at self.old.opened.items file) }
+        ensures bytes { let left = left_at R.File.remaining in
+            Consumes (left self.old.opened.items file) (left self.new.opened.items file)
+            (take count (ready_at self.old.opened.items file)) }
+        ensures as_many { length self.new.opened.items ≡ length self.old.opened.items }
+        ensures same { self.new.count ≡ self.old.count }
+        ensures kinds { (k : Kind) (g : ℕ) →
+            IsOf k self.old.opened.items g → IsOf k self.new.opened.items g }
+    {
+        match &mut self.opened[file as usize - 2] {
+            SystemFile::Input { ahead, .. } => ahead.take(count),
+            SystemFile::Output(_) => unreachable!(),
+        }
+    }
+
     // Writes once, to the file of this number.
     fn write_once(&mut self, file: u32, piece: &[u8]) -> io::Result<usize>
         requires opened { (file < 2) ⊎ IsOf Output self.old.opened.items file }
@@ -160,6 +191,8 @@ impl<'a, R: rt::Files, O: Write, E: Write> Files for RealFiles<'a, R, O, E> {
 
     ghost will_fail = { λ _. ⊥ };
 
+    ghost ready = { λ r. ready_at r.opened.items };
+
     fn open_in(&mut self, name: &str) -> Result<u32, FilesFault> {
         let number = next_number(self.opened.len())?;
         self.count.ask(self.alloc, name, Kind::Input)?;
@@ -193,6 +226,16 @@ impl<'a, R: rt::Files, O: Write, E: Write> Files for RealFiles<'a, R, O, E> {
 
     fn write(&mut self, file: u32, piece: &[u8]) -> Result<usize, FilesFault> {
         self.write_output(file, piece)
+    }
+
+    #[inline]
+    fn ahead(&self, file: u32) -> &[u8] {
+        self.ready_input(file)
+    }
+
+    #[inline]
+    fn take(&mut self, file: u32, count: usize) {
+        self.take_input(file, count);
     }
 
     ghost counts = { λ r. r.count.agrees };

@@ -1,7 +1,8 @@
 -- The next packet of captures, the end, and more packets than were asked for.
-use Rattle.std.proofs.Common.{◌≡◌, ℕ, zero, suc, ◌+◌, ◌≤◌, ◌<◌, Bool, List, [], ◌∷◌, ◌++◌, length, set, Option, Some, None, refl, sym, ap, ◌∙◌, subst, append-nil, arith}
+use Rattle.std.proofs.Common.{◌≡◌, ◌≢◌, inl, inr, ℕ, zero, suc, ◌+◌, ◌≤◌, ◌<◌, Bool, List, [], ◌∷◌, ◌++◌, length, set, Option, Some, None, refl, sym, ap, ◌∙◌, subst, append-nil, arith}
 use Rattle.std.specs.List.{All, slice_get}
 use Rattle.std.specs.Option.{option_map}
+use Rattle.std.proofs.lemmas.Bool.Decides.{eqb_tells}
 use Rattle.std.proofs.lemmas.List.{length-set, length-append, get_or-set_same, map-set}
 use Rattle.std.proofs.lemmas.List.Elements.{All-weaker, All-set}
 use Rattle.std.proofs.lemmas.List.Sorted.{length_permutation}
@@ -9,6 +10,7 @@ use Rattle.std.proofs.lemmas.Option.{slice_get-get_or, slice_get-map, slice_get_
 use Rattle.nf_base.specs.declared.packet.Packet.{Packet}
 use Rattle.nf_base.specs.Doors.{served_fields}
 use Rattle.nf_files.specs.Told.{Told}
+use Rattle.nf_files.proofs.Changed.{got_other}
 use Rattle.pcapng_file.specs.Heard.{Stream as Contents}
 use Rattle.packet_feed.specs.declared.ahead.Ahead.{Ahead}
 use Rattle.packet_feed.specs.declared.ahead.Ahead.TheVariants.{Unread, Held, Ended, Torn}
@@ -17,7 +19,7 @@ use Rattle.packet_feed.specs.Arrivals.{Arrival, arrival_of, fields_captured}
 use Rattle.packet_feed.specs.Order.{in_order}
 use Rattle.packet_feed.specs.Told.{packets_of, IsTear, IsApart}
 use Rattle.packet_feed.specs.Streams.{Stream, last_read, tear_in, time_in, IsSettled, unread}
-use Rattle.packet_feed.specs.Sources.{files_in, sixes_in, counts_in, all_left, Follows, SourcesStand, AreSettled, IsFirst, IsGiven, given_away}
+use Rattle.packet_feed.specs.Sources.{files_in, sixes_in, counts_in, all_left, Follows, SourcesStand, AreSettled, AreSettledBut, IsFirst, IsGiven, given_away}
 use Rattle.packet_feed.specs.Feeding.{IsFeeding, StandsFor, HasMore, AreAll, AreTorn, IsShown, shown, frame_in, original_in, is_ethernet_in}
 use Rattle.packet_feed.proofs.Ordering.{IsBehind, is_ordered}
 use Rattle.packet_feed.proofs.Gathering.{Picks, map_kept}
@@ -152,3 +154,21 @@ pub has_more_at : (start : Told) (given : List Arrival) (now : Told) (sources : 
 has_more_at start given now sources first settled is h =
     let found = stream_at sources first.port is.0 in
     has_more start given now sources first settled is found.0 found.1 h
+
+-- ---- what is known behind a packet
+
+-- of each capture but that of the packet it is known what comes next
+pub settled_but : (k : ℕ) (packet : Packet) (sources new : List Stream) → IsGiven k packet sources new → AreSettled sources → AreSettledBut k new
+settled_but k packet sources new h settled = λ p s e other.
+    let was : slice_get sources p ≡ Some s = sym (ap (λ (xs : List Stream). slice_get xs p) h.new_is ∙ got_other sources k p (given_away h.source) other) ∙ e in
+    settled p s was
+
+-- of one capture more it is known
+pub settled_all : (k : ℕ) (old new : List Stream) → AreSettledBut k old → ((p : ℕ) → p ≢ k → slice_get new p ≡ slice_get old p) → ((s : Stream) → slice_get new k ≡ Some s → IsSettled s.ahead) → AreSettled new
+settled_all k old new but others here = λ p s e. elim (eqb_tells p k) [
+  | inl is ↦ here s (sym (ap (slice_get new) is.1) ∙ e)
+  | inr is ↦ but p s (sym (others p is.1) ∙ e) is.1
+]
+
+pub still_but : (k : ℕ) (old new : List Stream) → AreSettledBut k old → ((p : ℕ) → p ≢ k → slice_get new p ≡ slice_get old p) → AreSettledBut k new
+still_but k old new but others = λ p s e other. but p s (sym (others p other) ∙ e) other

@@ -1,5 +1,5 @@
 -- Captures that are read side by side, of which the i-th is that of port i.
-use Rattle.std.specs.Prelude.{◌≡◌, ℕ, ◌+◌, ◌≤◌, ◌<◌, Bool, true, List, [], ◌++◌, length, map, slice_get, slice_set, Option, Some, None, option_and_then, nat_le, if◌then◌else◌, Result, Ok, Err}
+use Rattle.std.specs.Prelude.{◌≡◌, ◌≢◌, ℕ, ◌+◌, ◌≤◌, ◌<◌, Bool, true, List, [], ◌++◌, length, map, slice_get, slice_set, Option, Some, None, option_and_then, nat_le, if◌then◌else◌, Result, Ok, Err}
 use Rattle.nf_base.specs.declared.packet.Packet.{Packet}
 use Rattle.nf_files.specs.Told.{Told}
 use Rattle.pcap_file.specs.Record.{greatest_time}
@@ -81,6 +81,11 @@ pub record IsFilled (old new : Stream) (before now : Option (List ℕ)) : Type 0
 -- of each capture it is known what comes next
 abbrev pub AreSettled : List Stream → Type 0
 AreSettled sources = (port : ℕ) (s : Stream) → slice_get sources port ≡ Some s → IsSettled s.ahead
+
+-- of each capture but that of a port it is
+abbrev pub AreSettledBut : ℕ → List Stream → Type 0
+AreSettledBut port sources =
+    (p : ℕ) (s : Stream) → slice_get sources p ≡ Some s → p ≢ port → IsSettled s.ahead
 
 -- nothing that captures still give comes before a time
 abbrev pub AreFrom : ℕ → List Stream → Type 0

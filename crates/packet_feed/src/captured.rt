@@ -23,6 +23,7 @@ pub(crate) enum Captured {
 }
 
 // What the next record of a libpcap capture is.
+#[inline]
 fn next_of(next: pcap_file::Next) -> Next
     ensures { result ≡ next_of next }
 {
@@ -34,6 +35,7 @@ fn next_of(next: pcap_file::Next) -> Next
 }
 
 // The next record of a libpcap capture.
+#[inline]
 fn next_record<F: Files>(
     reader: &mut Reader,
     files: &mut F,
@@ -109,6 +111,7 @@ impl Captured {
     /// The next packet: its head, and its captured bytes in `frame`.
     ///
     /// After an `Err` this capture may have moved, and no call is to be made on it.
+    #[inline]
     pub(crate) fn next<F: Files>(
         &mut self,
         files: &mut F,

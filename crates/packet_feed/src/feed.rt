@@ -17,7 +17,7 @@ use crate::fault::FeedFault;
 use crate::fed::Fed;
 use crate::first::earliest;
 use crate::source::Source;
-use crate::sources::{fill_all, fill_at, give, give_at, open_all, torn};
+use crate::sources::{fill_at, fill_next, give, give_at, open_all, torn};
 use nf_base::func::Func;
 use nf_base::packet::Packet;
 use nf_base::seq::Seq;
@@ -39,10 +39,14 @@ pub struct Feed {
     shown: usize,
     given: u32,
     most: u32,
+    /// Whether it is known of each other capture what comes next.
+    settled: bool,
 }
 
 impl Model for Feed {
+    ghost use Rattle.std.specs.Prelude.{◌≡◌, true};
     ghost use Rattle.packet_feed.specs.Feeding.{Feeding, IsFeeding};
+    ghost use Rattle.packet_feed.specs.Sources.{AreSettledBut};
 
     ghost Value = { Feeding };
 
@@ -53,7 +57,8 @@ impl Model for Feed {
       most = f.most;
     } };
 
-    ghost invariant = { λ f. IsFeeding f.sources f.given f.most };
+    ghost invariant = { λ f.
+        IsFeeding f.sources f.given f.most × (f.settled ≡ true → AreSettledBut f.shown f.sources) };
 }
 
 impl Feed {
@@ -97,6 +102,7 @@ impl Feed {
             shown: 0,
             given: 0,
             most,
+            settled: false,
         })
     }
 
@@ -129,7 +135,7 @@ impl Feed {
         ensures reads { (g : ℕ) → F.is_read files.old g → F.is_read files.new g }
         ensures writes { (g : ℕ) → F.is_written files.old g → F.is_written files.new g }
     {
-        fill_all(&mut self.sources, files)?;
+        fill_next(&mut self.sources, files, self.settled, self.shown)?;
         match earliest(&self.sources) {
             None => Ok(Fed::End),
             Some(first) => {
@@ -138,6 +144,7 @@ impl Feed {
                 }
                 let packet = give(&mut self.sources, first);
                 self.shown = first.port;
+                self.settled = true;
                 self.given += 1;
                 Ok(Fed::Packet(packet))
             }
@@ -176,6 +183,7 @@ impl Feed {
         ensures writes { (g : ℕ) → F.is_written files.old g → F.is_written files.new g }
     {
         let place = port as usize;
+        self.settled = false;
         fill_at(&mut self.sources, files, place)?;
         match give_at(&mut self.sources, place) {
             None => Ok(None),

@@ -13,6 +13,7 @@ pub(crate) struct First {
 }
 
 // Of the first so far and a packet at a higher port, the one that comes first.
+#[inline]
 fn earlier(first: Option<First>, port: usize, time: Option<u64>) -> Option<First>
     ensures { result ≡ sooner first port time }
 {
@@ -26,6 +27,7 @@ fn earlier(first: Option<First>, port: usize, time: Option<u64>) -> Option<First
 }
 
 /// The port and the time of the packet that comes first, if one was read ahead.
+#[inline]
 pub(crate) fn earliest(sources: &Seq<Source>) -> Option<First>
     ensures { IsFirst sources.now (length sources.now) result }
 {

@@ -39,6 +39,7 @@ pub(crate) struct Source {
 }
 
 // The fields of a frame as its port's handlers see them.
+#[inline]
 fn served(six: bool, fields: Option<Fields>) -> Option<Fields>
     ensures { result ≡ served_fields six fields }
 {
@@ -115,6 +116,7 @@ impl Source {
     }
 
     /// The time of the packet that was read ahead, if one was.
+    #[inline]
     pub(crate) fn time(&self) -> Option<u64>
         ensures { result ≡ time_in self.now.ahead self.now.latest }
     {
@@ -149,6 +151,7 @@ impl Source {
     }
 
     // A packet was read, whose captured bytes are held.
+    #[inline]
     fn hold(&mut self, is_ethernet: bool, head: Head)
         requires time { head.time ≤ greatest_time }
         requires captured { length self.old.frame ≤ 262144 }
@@ -161,6 +164,7 @@ impl Source {
     }
 
     // Reads the next packet.
+    #[inline]
     fn read<F: Files>(&mut self, files: &mut F) -> Result<(), CapFault>
         requires opened { F.is_read files.old self.old.reading.file }
         requires unread { self.old.ahead ≡ Unread }
@@ -189,6 +193,7 @@ impl Source {
     }
 
     /// Reads the next packet, where it isn't known yet what comes next.
+    #[inline]
     pub(crate) fn fill<F: Files>(&mut self, files: &mut F) -> Result<(), CapFault>
         requires opened { F.is_read files.old self.old.reading.file }
         ensures filled { let file = self.old.reading.file in
@@ -213,6 +218,7 @@ impl Source {
     }
 
     // The fields of the frame that was read last; none where it is no Ethernet frame.
+    #[inline]
     fn fields(&self) -> Option<Fields>
         ensures { let s = self.now in result ≡ fields_captured s.is_ethernet s.frame s.original }
     {
@@ -224,6 +230,7 @@ impl Source {
     }
 
     /// Gives the packet that was read ahead, as one of a port.
+    #[inline]
     pub(crate) fn give(&mut self, port: u32) -> Packet
         requires held { self.old.ahead ≡ Held }
         requires room { self.old.seq < 2 ^ 32 - 1 }

@@ -1,5 +1,5 @@
 //! Captures that are read side by side.
-ghost use Rattle.std.specs.Prelude.{◌≡◌, ◌-◌, ◌^◌, ◌<◌, ◌≤◌, ℕ, List, length, OnOk, IfOk, Some, []};
+ghost use Rattle.std.specs.Prelude.{◌≡◌, ◌≢◌, ◌-◌, ◌^◌, ◌<◌, ◌≤◌, ℕ, List, length, slice_get, true, OnOk, IfOk, Some, []};
 ghost use Rattle.std.specs.List.{All};
 ghost use Rattle.nf_base.specs.Doors.{six_ports};
 ghost use Rattle.nf_base.specs.Functions.{function_of};
@@ -7,7 +7,7 @@ ghost use Rattle.nf_files.specs.Told.{Told};
 ghost use Rattle.packet_feed.specs.Arrivals.{Arrival};
 ghost use Rattle.packet_feed.specs.Faults.{IsCause, IsNoHeaderFault};
 ghost use Rattle.packet_feed.specs.Told.{EachFile, IsApart, KeepsOthers};
-ghost use Rattle.packet_feed.specs.Sources.{files_in, sixes_in, counts_in, SourcesStand, AreSettled, AreFrom, AreOpened, IsFirst, IsGiven};
+ghost use Rattle.packet_feed.specs.Sources.{files_in, sixes_in, counts_in, SourcesStand, AreSettled, AreSettledBut, AreFrom, AreOpened, IsFirst, IsGiven};
 ghost use Rattle.packet_feed.specs.Feeding.{first_tear, tears_in};
 ghost use Rattle.packet_feed.specs.Ports.{SourcesStandByPort, IsSettledAt, IsGivenAt};
 
@@ -83,6 +83,7 @@ pub(crate) fn fill_all<F: Files>(sources: &mut Seq<Source>, files: &mut F) -> Re
 }
 
 /// Gives the packet that comes first of those that were read ahead.
+#[inline]
 pub(crate) fn give(sources: &mut Seq<Source>, first: First) -> Packet
     requires first { IsFirst sources.old (length sources.old) (Some first) }
     requires room { All (λ count. count < 2 ^ 32 - 1) (counts_in sources.old) }
@@ -93,6 +94,7 @@ pub(crate) fn give(sources: &mut Seq<Source>, first: First) -> Packet
 }
 
 /// Reads the next record of a port's capture, where it isn't known yet what comes next.
+#[inline]
 pub(crate) fn fill_at<F: Files>(
     sources: &mut Seq<Source>,
     files: &mut F,
@@ -105,7 +107,12 @@ pub(crate) fn fill_at<F: Files>(
     ensures stand { (start : Told) → (given : List Arrival) →
         SourcesStandByPort start given sources.old (F.told files.old) →
         OnOk result (SourcesStandByPort start given sources.new (F.told files.new)) }
+    ensures all { (start : Told) → (given : List Arrival) →
+        SourcesStand start given sources.old (F.told files.old) →
+        OnOk result (SourcesStand start given sources.new (F.told files.new)) }
     ensures settled { OnOk result (IsSettledAt port sources.new) }
+    ensures others { (p : ℕ) → p ≢ port → slice_get sources.new p ≡ slice_get sources.old p }
+    ensures later { (time : ℕ) → AreFrom time sources.old → OnOk result (AreFrom time sources.new) }
     ensures same_files { files_in sources.new ≡ files_in sources.old }
     ensures same_six { sixes_in sources.new ≡ sixes_in sources.old }
     ensures same_counts { counts_in sources.new ≡ counts_in sources.old }
@@ -119,6 +126,45 @@ pub(crate) fn fill_at<F: Files>(
     match sources.item_mut(port).fill(files) {
         Ok(()) => Ok(()),
         Err(fault) => Err(FeedFault::at(port as u32, fault)),
+    }
+}
+
+/// Reads the next record of each capture of which it isn't known yet what comes next; where it is known
+/// of all but one, of that one alone.
+#[inline]
+pub(crate) fn fill_next<F: Files>(
+    sources: &mut Seq<Source>,
+    files: &mut F,
+    settled: bool,
+    last: usize,
+) -> Result<(), FeedFault>
+    requires opened { EachFile (F.is_read files.old) (files_in sources.old) }
+    requires apart { IsApart (files_in sources.old) }
+    requires ports { length sources.old ≤ 2 ^ 32 }
+    requires settled { settled ≡ true → AreSettledBut last sources.old }
+    ensures stand { (start : Told) → (given : List Arrival) →
+        SourcesStand start given sources.old (F.told files.old) →
+        OnOk result (SourcesStand start given sources.new (F.told files.new)) }
+    ensures settled { OnOk result (AreSettled sources.new) }
+    ensures but { settled ≡ true → AreSettledBut last sources.new }
+    ensures later { (time : ℕ) → AreFrom time sources.old → OnOk result (AreFrom time sources.new) }
+    ensures same_files { files_in sources.new ≡ files_in sources.old }
+    ensures same_six { sixes_in sources.new ≡ sixes_in sources.old }
+    ensures same_counts { counts_in sources.new ≡ counts_in sources.old }
+    ensures kept { KeepsOthers (files_in sources.old) (F.told files.old) (F.told files.new) }
+    ensures cause { let all = files_in sources.old in
+        IsCause (F.counted files.old) (F.counted files.new) all result }
+    ensures never { IsNoHeaderFault result }
+    ensures reads { (g : ℕ) → F.is_read files.old g → F.is_read files.new g }
+    ensures writes { (g : ℕ) → F.is_written files.old g → F.is_written files.new g }
+{
+    if !settled {
+        return fill_all(sources, files);
+    }
+    if last < sources.len() {
+        fill_at(sources, files, last)
+    } else {
+        Ok(())
     }
 }
 

@@ -7,3 +7,4 @@ pub mod Growing
 pub mod Skipping
 pub mod Heading
 pub mod Stepping
+pub mod Alone

@@ -24,11 +24,11 @@ number_front Little xs ys le = little_from-append 4 xs ys le
 pub number_behind : (order : Endian) (n : ℕ) (xs ys : List ℕ) → n + 4 ≤ length xs → number_in order (drop n (xs ++ ys)) ≡ number_in order (drop n xs)
 number_behind order n xs ys le = ap (number_in order) (drop-append-le n xs ys (omega arith)) ∙ number_front order (drop n xs) ys (omega (arith, length-drop n xs))
 
-sized_front : (order : Endian) (offset : ℕ) (xs ys : List ℕ) → 16 ≤ length xs → is_sized order offset (xs ++ ys) ≡ is_sized order offset xs
+pub sized_front : (order : Endian) (offset : ℕ) (xs ys : List ℕ) → 16 ≤ length xs → is_sized order offset (xs ++ ys) ≡ is_sized order offset xs
 sized_front order offset xs ys le = ap (λ (n : ℕ). leb n 262144 && ltb (offset + (16 + n)) (2 ^ 64)) (number_behind order 8 xs ys (omega arith))
 
 -- whether a whole record is there, by the three tests
-tests : (order : Endian) (offset : ℕ) (xs : List ℕ) (b d e : Bool) → leb 16 (length xs) ≡ b → is_sized order offset xs ≡ d → leb (16 + captured_in order xs) (length xs) ≡ e → is_whole order offset xs ≡ (b && (d && e))
+pub tests : (order : Endian) (offset : ℕ) (xs : List ℕ) (b d e : Bool) → leb 16 (length xs) ≡ b → is_sized order offset xs ≡ d → leb (16 + captured_in order xs) (length xs) ≡ e → is_whole order offset xs ≡ (b && (d && e))
 tests order offset xs b d e p q r = rw (p, q, r) refl
 
 -- the file ended
@@ -36,7 +36,7 @@ reached_at_end : (order : Endian) (offset : ℕ) (ahead : List ℕ) (o : Option 
 reached_at_end order offset ahead None e = tt
 reached_at_end order offset ahead (Some rest) e = (ap (is_whole order offset) (ap (λ (r : List ℕ). ahead ++ r) e ∙ append-nil ahead), λ h. e)
 
-some_nil : (xs : List ℕ) (n : ℕ) → suc n ≤ length xs → xs ≡ [] → ⊥
+pub some_nil : (xs : List ℕ) (n : ℕ) → suc n ≤ length xs → xs ≡ [] → ⊥
 some_nil [] n le e = omega arith
 some_nil (x ∷ xs) n le e = cc
 
@@ -66,7 +66,7 @@ reached_whole order offset size before ahead (Some more) (Some rest) le e same l
     let whole_here : is_whole order offset ahead ≡ true = tests order offset ahead true true true (le-leb _ _ far) here (le-leb _ _ (omega (arith, s.1))) in
     (whole_there ∙ sym whole_here, λ h. absurd (some_nil ahead 15 far h))
 
-record_front : (order : Endian) (offset : ℕ) (xs ys : List ℕ) → is_whole order offset xs ≡ true → record_in order (xs ++ ys) ≡ record_in order xs
+pub record_front : (order : Endian) (offset : ℕ) (xs ys : List ℕ) → is_whole order offset xs ≡ true → record_in order (xs ++ ys) ≡ record_in order xs
 record_front order offset xs ys e =
     let w = whole order offset xs e in
     let captured = number_behind order 8 xs ys (omega arith) in

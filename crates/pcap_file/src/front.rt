@@ -78,6 +78,14 @@ impl Front {
         })
     }
 
+    /// The number of the file.
+    #[inline]
+    pub fn file(&self) -> u32
+        ensures { result ≡ self.now.file }
+    {
+        self.file
+    }
+
     /// The bytes that are held.
     pub fn as_slice(&self) -> &[u8]
         ensures { result.now ≡ self.now.bytes }

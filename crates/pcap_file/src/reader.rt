@@ -1,5 +1,5 @@
 //! A capture from a file, one record after the other.
-ghost use Rattle.std.specs.Prelude.{◌≡◌, ◌≤◌, ◌+◌, ℕ, List, [], length, drop, Some, Ok, IfOk, IfErr, OnErr, OnOk};
+ghost use Rattle.std.specs.Prelude.{◌≡◌, ◌≤◌, ◌+◌, ℕ, List, [], length, drop, Some, Ok, IfOk, IfErr, IfSome, IfNone, OnErr, OnOk};
 ghost use Rattle.pcap_file.specs.declared.reader.Next.TheVariants.{End, Torn};
 ghost use Rattle.pcap_file.specs.declared.reader.State.TheVariants.{Going, Ended, Cut};
 ghost use Rattle.nf_files.specs.Causes.{HasCause};
@@ -138,6 +138,46 @@ impl Reader {
         }
     }
 
+    // The next record, where it stands ready as a whole; None, and nothing changed, where it doesn't.
+    #[inline]
+    fn take_ready<F: Files>(
+        &mut self,
+        files: &mut F,
+        frame: &mut Vec<u8>,
+    ) -> Option<Result<Next, CapFault>>
+        requires opened { F.is_read files.old self.old.file }
+        requires going { self.old.state ≡ Going }
+        ensures steps { let before = left self.old (F.told files.old) in
+            IfSome result (Steps before (left self.new (F.told files.new)) frame.new.items) }
+        ensures moves { IfSome result (Moves self.old self.new frame.old.items frame.new.items) }
+        // No byte behind the record is taken.
+        ensures takes { let file = self.old.file in
+            IfSome result (TakesRecord ((F.told files.old).rest file) ((F.told files.new).rest file)
+            frame.new.items) }
+        ensures none { IfNone result
+            ((self.new ≡ self.old) × (files.new ≡ files.old) × (frame.new ≡ frame.old)) }
+        ensures same_place { (self.new.file ≡ self.old.file) × (self.new.form ≡ self.old.form) }
+        ensures kept { Keeps (F.told files.old) (F.told files.new) self.old.file }
+        ensures cause { F.counted files.new ≡ F.counted files.old }
+        ensures err { IfSome result (λ answer. IfErr answer (λ fault. fault ≡ CapFault.Memory)) }
+        ensures reads { (g : ℕ) → F.is_read files.old g → F.is_read files.new g }
+        ensures writes { (g : ℕ) → F.is_written files.old g → F.is_written files.new g }
+    {
+        let ready = files.ahead(self.front.file());
+        let record = first(self.form.order, self.offset, ready)?;
+        let head = record.head(self.form.unit);
+        let size = record.size();
+        frame.clear();
+        match frame.extend_from_slice(record.frame) {
+            Err(_) => Some(Err(CapFault::Memory)),
+            Ok(()) => {
+                files.take(self.front.file(), size);
+                self.offset += size as u64;
+                Some(Ok(Next::Frame(head)))
+            }
+        }
+    }
+
     // The next record, where the end was not found yet.
     fn advance<F: Files>(&mut self, files: &mut F, frame: &mut Vec<u8>) -> Result<Next, CapFault>
         requires opened { F.is_read files.old self.old.file }
@@ -212,7 +252,10 @@ impl Reader {
         match self.state {
             State::Ended => Ok(Next::End),
             State::Cut => Ok(Next::Torn(self.offset)),
-            State::Going => self.advance(files, frame),
+            State::Going => match self.take_ready(files, frame) {
+                Some(answer) => answer,
+                None => self.advance(files, frame),
+            },
         }
     }
 }

@@ -10,3 +10,4 @@ pub mod Taking
 pub mod Hearing
 pub mod Stepping
 pub mod Heading
+pub mod Ready

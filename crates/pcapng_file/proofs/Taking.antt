@@ -177,7 +177,7 @@ refused_wrong order offset held more le begins none = record {
   some = λ ne. some_ahead held more ne;
 }
 
-sized_front : (order : Endian) (offset : ℕ) (xs ys : List ℕ) → 8 ≤ length xs → is_sized order offset (xs ++ ys) ≡ is_sized order offset xs
+pub sized_front : (order : Endian) (offset : ℕ) (xs ys : List ℕ) → 8 ≤ length xs → is_sized order offset (xs ++ ys) ≡ is_sized order offset xs
 sized_front order offset xs ys le =
     ap (λ (n : ℕ). leb 12 n && (eqb (n % 4) 0 && ltb (offset + n) (2 ^ 64))) (total_front order xs ys le)
 
@@ -272,7 +272,7 @@ closed_result (Err fault) order total bytes old new rest le there is c same = tt
 closed_result (Ok b) order total bytes old new rest le there is c same =
     closed_of order total bytes new.bytes rest b le there (ap (λ (h : Held). h.bytes) same ∙ is) c
 
-three_true : (a b d : Bool) → a ≡ true → b ≡ true → d ≡ true → (a && (b && d)) ≡ true
+pub three_true : (a b d : Bool) → a ≡ true → b ≡ true → d ≡ true → (a && (b && d)) ≡ true
 three_true a b d p q r = rw (p, q, r) refl
 
 -- a whole block

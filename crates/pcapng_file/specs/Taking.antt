@@ -47,6 +47,14 @@ pub record IsAccepted (order : Endian) (offset : ℕ) (bytes held : List ℕ) (r
   pub held_is : held ≡ take (held_of total) bytes
   pub rest_is : rest ≡ Some (drop total bytes)
 
+-- a whole block that stands alone, in the byte order of its section: no section's header, and no longer
+-- than what can be held of one
+pub record IsBlock (order : Endian) (offset : ℕ) (block : List ℕ) : Type 0 where
+  pub within : is_section block ≡ false
+  pub closed : is_closed order offset block ≡ true
+  pub total_is : length block ≡ total_in order block
+  pub few : length block ≤ 262176
+
 -- all of a block in front of its closing length was taken, or there is less of it
 abbrev pub IsBody : ℕ → List ℕ → List ℕ → Option (List ℕ) → Bool → Type 0
 IsBody total bytes held rest true = (total ≤ length bytes + 4) × (held ≡ take (held_of total) bytes) × (rest ≡ Some (drop (total - 4) bytes))

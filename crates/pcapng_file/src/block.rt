@@ -8,13 +8,13 @@
 //! | total length - 4 | 4 | total length again |
 //!
 //! All numbers stand in the section's byte order (pcapng, "General Block Structure").
-ghost use Rattle.std.specs.Prelude.{◌≡◌, ◌+◌, ◌<◌, ◌≤◌, ℕ, List, [], length, max, true, Some, None, IfOk, OnOk, OnErr, IfSome, IfNone, if◌then◌else◌, ◌&&◌, nat_le, nat_eq};
+ghost use Rattle.std.specs.Prelude.{◌≡◌, ◌+◌, ◌<◌, ◌≤◌, ℕ, List, [], length, take, max, true, Some, None, IfOk, OnOk, OnErr, IfSome, IfNone, if◌then◌else◌, ◌&&◌, nat_le, nat_eq};
 ghost use Rattle.nf_files.specs.Causes.{HasCause};
 ghost use Rattle.nf_files.specs.Reads.{Keeps};
 ghost use Rattle.pcap_file.specs.Form.{number_in};
 ghost use Rattle.pcap_file.specs.Held.{Grows, Filled, to_come};
 ghost use Rattle.pcapng_file.specs.Blocks.{is_sized, total_in};
-ghost use Rattle.pcapng_file.specs.Taking.{IsReady, IsOrdered, IsRefused, IsSized, held_of, IsBody, IsClosing, IsClosed, IsReached, IsTaken, IsHeld};
+ghost use Rattle.pcapng_file.specs.Taking.{IsReady, IsOrdered, IsRefused, IsSized, held_of, IsBody, IsClosing, IsClosed, IsReached, IsTaken, IsHeld, IsBlock};
 
 use crate::header::{HEADER, header_in, is_pcapng};
 use crate::number::number;
@@ -147,6 +147,26 @@ fn says(order: Endian, wanted: u32, bytes: &[u8]) -> bool
         (nat_le 4 (length bytes.now) && nat_eq (number_in order bytes.now) wanted) }
 {
     bytes.len() >= 4 && number(order, bytes) == wanted
+}
+
+/// How many bytes the block has that stands in front of bytes; None where no whole one does, and where a
+/// section begins or the block has more bytes than are held of one.
+pub(crate) fn block_ahead(order: Endian, offset: u64, bytes: &[u8]) -> Option<u32>
+    ensures within { IfSome result (λ total. total ≤ length bytes.now) }
+    ensures block { IfSome result (λ total. IsBlock order offset (take total bytes.now)) }
+{
+    if bytes.len() < START || is_pcapng(bytes) {
+        return None;
+    }
+    let total = total_of(order, offset, bytes)?;
+    if total > MOST_HELD + CLOSING || bytes.len() < total as usize {
+        return None;
+    }
+    if says(order, total, &bytes[(total - CLOSING) as usize..]) {
+        Some(total)
+    } else {
+        None
+    }
 }
 
 // Takes the closing length of a block whose front is held, and tells whether it is the one in front.

@@ -1,5 +1,5 @@
 //! A pcapng capture from a file, one packet after the other.
-ghost use Rattle.std.specs.Prelude.{◌≡◌, ℕ, List, Some, Ok, IfOk, IfErr};
+ghost use Rattle.std.specs.Prelude.{◌≡◌, ℕ, List, Some, Ok, IfOk, IfErr, IfSome, IfNone};
 ghost use Rattle.pcap_file.specs.declared.reader.State.TheVariants.{Going};
 ghost use Rattle.nf_files.specs.Reads.{Keeps};
 ghost use Rattle.nf_files.specs.Told.{Told};
@@ -9,7 +9,7 @@ ghost use Rattle.pcap_file.specs.Taken.{TakesHeader};
 ghost use Rattle.pcapng_file.specs.Heard.{Stream};
 ghost use Rattle.pcapng_file.specs.Reading.{left, end_of, Steps, Moves, Heads, IsOpened, Stepped, StepMoves};
 
-use crate::block::{Taken, take};
+use crate::block::{Taken, block_ahead, take};
 use crate::header::{HEADER, header_in, is_pcapng};
 use crate::place::Place;
 use crate::step::Step;
@@ -111,8 +111,8 @@ impl NgReader {
         }
     }
 
-    // Takes one block: what comes next, and None where it was no packet.
-    fn step<F: Files>(
+    // Takes one block by reads: what comes next, and None where it was no packet.
+    fn read_step<F: Files>(
         &mut self,
         files: &mut F,
         frame: &mut Vec<u8>,
@@ -162,6 +162,80 @@ impl NgReader {
                     }
                 }
             }
+        }
+    }
+
+    // Takes one block that stands ready as a whole: what comes next, and None where it was no packet. Where
+    // none stands ready nothing changes.
+    #[inline]
+    fn take_ready<F: Files>(
+        &mut self,
+        files: &mut F,
+        frame: &mut Vec<u8>,
+    ) -> Option<Result<Option<Next>, CapFault>>
+        requires opened { F.is_read files.old self.old.file }
+        requires going { self.old.state ≡ Going }
+        ensures stepped { (before : Stream) → left self.old (F.told files.old) ≡ Some before →
+            IfSome result (λ answer. IfOk answer
+            (Stepped before (left self.new (F.told files.new)) frame.new.items)) }
+        ensures moved { IfSome result (λ answer. IfOk answer
+            (StepMoves self.old self.new frame.old.items frame.new.items)) }
+        ensures none { IfNone result
+            ((self.new ≡ self.old) × (files.new ≡ files.old) × (frame.new ≡ frame.old)) }
+        ensures same_file { self.new.file ≡ self.old.file }
+        ensures kept { Keeps (F.told files.old) (F.told files.new) self.old.file }
+        ensures count { F.counted files.new ≡ F.counted files.old }
+        ensures err { IfSome result (λ answer. IfErr answer (λ fault. fault ≡ CapFault.Memory)) }
+        ensures reads { (g : ℕ) → F.is_read files.old g → F.is_read files.new g }
+        ensures writes { (g : ℕ) → F.is_written files.old g → F.is_written files.new g }
+    {
+        if !self.front.is_empty() {
+            return None;
+        }
+        let file = self.front.file();
+        let order = self.place.order();
+        let ready = files.ahead(file);
+        let total = block_ahead(order, self.place.offset(), ready)?;
+        let held = &ready[..total as usize - 4];
+        let heard = self.place.hear(order, held, total, frame);
+        files.take(file, total as usize);
+        let step = match heard {
+            Err(_) => return Some(Err(CapFault::Memory)),
+            Ok(step) => step,
+        };
+        match step {
+            Step::Quiet => Some(Ok(None)),
+            Step::Frame(head) => Some(Ok(Some(Next::Frame(head)))),
+            Step::Other(head) => Some(Ok(Some(Next::Other(head)))),
+            Step::Stopped => {
+                self.state = State::Cut;
+                Some(Ok(Some(Next::Torn(self.place.offset()))))
+            }
+        }
+    }
+
+    // Takes one block: what comes next, and None where it was no packet.
+    fn step<F: Files>(
+        &mut self,
+        files: &mut F,
+        frame: &mut Vec<u8>,
+    ) -> Result<Option<Next>, CapFault>
+        requires opened { F.is_read files.old self.old.file }
+        requires going { self.old.state ≡ Going }
+        ensures stepped { (before : Stream) → left self.old (F.told files.old) ≡ Some before →
+            IfOk result (Stepped before (left self.new (F.told files.new)) frame.new.items) }
+        ensures moved { IfOk result
+            (StepMoves self.old self.new frame.old.items frame.new.items) }
+        ensures same_file { self.new.file ≡ self.old.file }
+        ensures kept { Keeps (F.told files.old) (F.told files.new) self.old.file }
+        ensures cause { IsCause (F.counted files.old) (F.counted files.new) self.old.file result }
+        ensures never { IsNoHeaderFault result }
+        ensures reads { (g : ℕ) → F.is_read files.old g → F.is_read files.new g }
+        ensures writes { (g : ℕ) → F.is_written files.old g → F.is_written files.new g }
+    {
+        match self.take_ready(files, frame) {
+            Some(answer) => answer,
+            None => self.read_step(files, frame),
         }
     }
 

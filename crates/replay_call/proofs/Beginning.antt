@@ -15,7 +15,7 @@ use Rattle.call_base.specs.declared.layout.Behind.TheVariants.{Read}
 use Rattle.call_base.specs.declared.loading.NoFunction.{NoFunction}
 use Rattle.call_base.specs.declared.loading.NoFunction.TheVariants as none
 use Rattle.call_base.specs.declared.status.RunFile.{RunFile}
-use Rattle.call_base.specs.declared.status.RunFile.TheVariants.{Nf, Capture, Journal, Output, OutJournal, State, Stdout, Stderr}
+use Rattle.call_base.specs.declared.status.RunFile.TheVariants.{Nf, Capture, Journal, Output, OutJournal, State, Proof, Stdout, Stderr}
 use Rattle.call_base.specs.declared.status.Refusal.TheVariants as refusals
 use Rattle.call_base.specs.declared.status.Stop.{Stop}
 use Rattle.call_base.specs.declared.status.Stop.TheVariants as stops
@@ -81,6 +81,7 @@ unread_known c before now old new (stops.File Journal) ports h = absurd h
 unread_known c before now old new (stops.File (Output port)) ports h = absurd h
 unread_known c before now old new (stops.File OutJournal) ports h = absurd h
 unread_known c before now old new (stops.File State) ports h = absurd h
+unread_known c before now old new (stops.File Proof) ports h = absurd h
 unread_known c before now old new (stops.File Stdout) ports h = absurd h
 unread_known c before now old new (stops.File Stderr) ports h = absurd h
 unread_known c before now old new stops.Memory ports h = tt

@@ -15,7 +15,7 @@ use Rattle.call_base.specs.declared.status.Refusal.TheVariants.{Usage, Text, NoK
 use Rattle.call_base.specs.declared.status.Status.{Status}
 use Rattle.call_base.specs.declared.status.Status.TheVariants.{Done, TooMany, Differs}
 use Rattle.call_base.specs.declared.status.RunFile.{RunFile}
-use Rattle.call_base.specs.declared.status.RunFile.TheVariants.{Nf, Capture, Journal, Output, OutJournal, State as LastState, Stdout, Stderr}
+use Rattle.call_base.specs.declared.status.RunFile.TheVariants.{Nf, Capture, Journal, Output, OutJournal, State as LastState, Proof, Stdout, Stderr}
 use Rattle.call_base.specs.declared.status.Stop.{Stop}
 use Rattle.call_base.specs.declared.status.Stop.TheVariants.{File, Memory}
 use Rattle.call_base.specs.declared.status.Halt.{Halt}
@@ -110,6 +110,7 @@ KnownAt c told now Journal = KnowsHeaders c told
 KnownAt c told now (Output port) = KnowsHeaders c told
 KnownAt c told now OutJournal = ⊥
 KnownAt c told now LastState = ⊥
+KnownAt c told now Proof = ⊥
 KnownAt c told now Stdout = KnowsSame c told
 KnownAt c told now Stderr = ⊥
 

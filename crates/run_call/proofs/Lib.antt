@@ -2,3 +2,4 @@ mod Beginning
 mod Ends
 mod Finishing
 mod Workers
+mod Last

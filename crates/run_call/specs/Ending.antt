@@ -6,7 +6,7 @@ use Rattle.nf_files.specs.Causes.{asking}
 use Rattle.stream_run.specs.Runs.{Run}
 use Rattle.command_words.specs.Commands.{Run as RunAsked}
 use Rattle.call_base.specs.declared.status.RunFile.{RunFile}
-use Rattle.call_base.specs.declared.status.RunFile.TheVariants.{Nf, Capture, Journal, Output, OutJournal, State, Stdout, Stderr}
+use Rattle.call_base.specs.declared.status.RunFile.TheVariants.{Nf, Capture, Journal, Output, OutJournal, State, Proof, Stdout, Stderr}
 use Rattle.call_base.specs.declared.status.End.{End}
 use Rattle.call_base.specs.declared.status.Refusal.{Refusal}
 use Rattle.call_base.specs.declared.status.Refusal.TheVariants.{Usage, Text, NoKeys, NotCapture}
@@ -71,6 +71,7 @@ KnownAt c told now Journal = ⊥
 KnownAt c told now (Output port) = ⊥
 KnownAt c told now OutJournal = ⊥
 KnownAt c told now State = ⊥
+KnownAt c told now Proof = ⊥
 KnownAt c told now Stdout = ⊥
 KnownAt c told now Stderr = ⊥
 

@@ -31,7 +31,7 @@ use packet_feed::Feed;
 use run_history::line::Mode;
 use sharded_run::{Came, run as run_sharded};
 use std::alloc::Global;
-use std::sync::Wait;
+use std::sync::{Arc, Wait};
 use std::thread::Threads;
 use stream_run::run as run_stream;
 use worker_turns::Turns;
@@ -68,7 +68,11 @@ fn run_one<F: Files>(
 }
 
 // The same by several workers, under these keys.
-fn run_shards<R: Threads + Sync, F: Files, G: Turns + Sync>(
+fn run_shards<
+    R: Threads + Wait + Clone + Send + Sync + Drop + 'static,
+    F: Files,
+    G: Turns + Send + Sync + Drop + 'static,
+>(
     rt: &R,
     alloc: Global,
     files: &mut F,
@@ -77,7 +81,7 @@ fn run_shards<R: Threads + Sync, F: Files, G: Turns + Sync>(
     feed: &mut Feed,
     captures: &[u32],
     targets: &[u32],
-    turns: &G,
+    turns: &Arc<G>,
 ) -> Result<End, Halt>
     ghost before: { Outside }
     requires job { IsJob before.told job.now }
@@ -142,7 +146,12 @@ fn run_tables<R: Threads + Wait + Sync, F: Files, G: Turns + Sync, L: Gate + Dro
 }
 
 // Handles all packets, and leaves what comes of them in the files that were created.
-fn run_ready<R: Threads + Wait + Sync, F: Files, G: Turns + Sync, L: Gate + Drop + Send>(
+fn run_ready<
+    R: Threads + Wait + Clone + Send + Sync + Drop + 'static,
+    F: Files,
+    G: Turns + Send + Sync + Drop + 'static,
+    L: Gate + Drop + Send,
+>(
     rt: &R,
     alloc: Global,
     files: &mut F,
@@ -150,7 +159,7 @@ fn run_ready<R: Threads + Wait + Sync, F: Files, G: Turns + Sync, L: Gate + Drop
     feed: &mut Feed,
     captures: &[u32],
     targets: &[u32],
-    turns: &G,
+    turns: &Arc<G>,
     gate: &mut L,
 ) -> Result<End, Halt>
     ghost before: { Outside }
@@ -167,19 +176,26 @@ fn run_ready<R: Threads + Wait + Sync, F: Files, G: Turns + Sync, L: Gate + Drop
         Course::Shards(keys) => run_shards(
             rt, alloc, files, job, keys, feed, captures, targets, turns,
         ),
-        Course::Tables => run_tables(rt, alloc, files, job, feed, captures, targets, turns, gate),
+        Course::Tables => run_tables(
+            rt, alloc, files, job, feed, captures, targets, &**turns, gate,
+        ),
     }
 }
 
 // Creates the outputs and the journal, and runs.
-fn run_fed<R: Threads + Wait + Sync, F: Files, G: Turns + Sync, L: Gate + Drop + Send>(
+fn run_fed<
+    R: Threads + Wait + Clone + Send + Sync + Drop + 'static,
+    F: Files,
+    G: Turns + Send + Sync + Drop + 'static,
+    L: Gate + Drop + Send,
+>(
     rt: &R,
     alloc: Global,
     files: &mut F,
     job: &Job,
     feed: &mut Feed,
     captures: &[u32],
-    turns: &G,
+    turns: &Arc<G>,
     gate: &mut L,
 ) -> Result<End, Halt>
     ghost before: { Outside }
@@ -203,12 +219,17 @@ fn run_fed<R: Threads + Wait + Sync, F: Files, G: Turns + Sync, L: Gate + Drop +
 }
 
 // Opens the captures, and runs.
-fn run_job<R: Threads + Wait + Sync, F: Files, G: Turns + Sync, L: Gate + Drop + Send>(
+fn run_job<
+    R: Threads + Wait + Clone + Send + Sync + Drop + 'static,
+    F: Files,
+    G: Turns + Send + Sync + Drop + 'static,
+    L: Gate + Drop + Send,
+>(
     rt: &R,
     alloc: Global,
     files: &mut F,
     job: &Job,
-    turns: &G,
+    turns: &Arc<G>,
     gate: &mut L,
 ) -> Result<End, Halt>
     ghost before: { Outside }
@@ -230,14 +251,19 @@ fn run_job<R: Threads + Wait + Sync, F: Files, G: Turns + Sync, L: Gate + Drop +
 }
 
 // Runs, where it is known who handles the packets.
-fn run_served<R: Threads + Wait + Sync, F: Files, G: Turns + Sync, L: Gate + Drop + Send>(
+fn run_served<
+    R: Threads + Wait + Clone + Send + Sync + Drop + 'static,
+    F: Files,
+    G: Turns + Send + Sync + Drop + 'static,
+    L: Gate + Drop + Send,
+>(
     rt: &R,
     alloc: Global,
     files: &mut F,
     command: &RunCommand,
     found: &Found,
     course: &Course,
-    turns: &G,
+    turns: &Arc<G>,
     gate: &mut L,
 ) -> Result<End, Halt>
     ghost before: { Outside }
@@ -268,13 +294,18 @@ fn run_served<R: Threads + Wait + Sync, F: Files, G: Turns + Sync, L: Gate + Dro
 }
 
 // Runs, where the captures are as many as the function's ports, and it has keys where they are needed.
-fn run_found<R: Threads + Wait + Sync, F: Files, G: Turns + Sync, L: Gate + Drop + Send>(
+fn run_found<
+    R: Threads + Wait + Clone + Send + Sync + Drop + 'static,
+    F: Files,
+    G: Turns + Send + Sync + Drop + 'static,
+    L: Gate + Drop + Send,
+>(
     rt: &R,
     alloc: Global,
     files: &mut F,
     command: &RunCommand,
     found: &Found,
-    turns: &G,
+    turns: &Arc<G>,
     gate: &mut L,
 ) -> Result<End, Halt>
     ghost before: { Outside }
@@ -296,12 +327,17 @@ fn run_found<R: Threads + Wait + Sync, F: Files, G: Turns + Sync, L: Gate + Drop
 }
 
 /// Does the run that is asked for.
-pub fn run<R: Threads + Wait + Sync, F: Files, G: Turns + Sync, L: Gate + Drop + Send>(
+pub fn run<
+    R: Threads + Wait + Clone + Send + Sync + Drop + 'static,
+    F: Files,
+    G: Turns + Send + Sync + Drop + 'static,
+    L: Gate + Drop + Send,
+>(
     rt: &R,
     alloc: Global,
     files: &mut F,
     command: &RunCommand,
-    turns: &G,
+    turns: &Arc<G>,
     gate: &mut L,
 ) -> Result<End, Halt>
     ghost before: { Outside }

@@ -1,6 +1,6 @@
 -- Packets with what they came to.
-use Rattle.std.proofs.Common.{◌≡◌, ◌+◌, ℕ, zero, suc, List, [], ◌∷◌, ◌++◌, length, map, take, Some, refl, ap, sym, ◌∙◌, arith}
-use Rattle.std.specs.List.{AllByRecursion, slice_get}
+use Rattle.std.proofs.Common.{◌≡◌, ℕ, List, [], ◌∷◌, ◌++◌, length, map, refl, ap, sym, ◌∙◌, arith}
+use Rattle.std.specs.List.{AllByRecursion}
 use Rattle.nf_base.specs.declared.packet.Packet.{Packet}
 use Rattle.packet_feed.specs.Arrivals.{Arrival, packet_of}
 use Rattle.shard_machine.specs.declared.event.Answer.{Answer}
@@ -9,7 +9,7 @@ use Rattle.shard_core.specs.Sharded.{answer_of}
 use Rattle.stream_run.specs.Runs.{Handled}
 use Rattle.stream_run.specs.Streaming.{arrival_of}
 use Rattle.sharded_run.specs.Going.{answer_in}
-use Rattle.sharded_run.specs.Rounds.{answered}
+use Rattle.sharded_run.specs.Answered.{answered}
 
 -- the packets of what was collected
 abbrev pub packets_got : List Collected → List Packet
@@ -85,16 +85,3 @@ arrivals_front (a ∷ batch) [] left e = record { later = a ∷ batch; whole = r
 arrivals_front (a ∷ batch) (c ∷ cs) left e =
     let more = arrivals_front batch cs left (rest_is c.packet a.packet (packets_got cs ++ left) (map packet_of batch) e) in
     record { later = more.later; whole = ap (λ (t : List Arrival). a ∷ t) more.whole }
-
--- one by one
-pub answered_more : (batch : List Arrival) (cs : List Collected) (k : ℕ) (a : Arrival) (c : Collected) → slice_get batch k ≡ Some a → slice_get cs k ≡ Some c
-    → take (k + 1) (answered batch cs) ≡ take k (answered batch cs) ++ record { arrival = a; worker = c.queue; done = c.done } ∷ []
-answered_more [] cs k a c e q = absurd cc
-answered_more (b ∷ batch) [] k a c e q = absurd cc
-answered_more (b ∷ batch) (d ∷ cs) zero a c e q =
-    let x : b ≡ a = cc in
-    let y : d ≡ c = cc in
-    rw (x, y) refl
-answered_more (b ∷ batch) (d ∷ cs) (suc k) a c e q =
-    let one : suc k + 1 ≡ suc (k + 1) = omega arith in
-    rw one (ap (λ (t : List Handled). record { arrival = b; worker = d.queue; done = d.done } ∷ t) (answered_more batch cs k a c e q))

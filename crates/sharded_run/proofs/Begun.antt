@@ -1,12 +1,14 @@
 -- Runs at their beginning, and how they end.
-use Rattle.std.proofs.Common.{◌≡◌, ◌<◌, ◌≤◌, ◌%◌, ℕ, List, [], Option, Some, None, refl, ap₂, sym, subst, arith}
+use Rattle.std.proofs.Common.{◌≡◌, ◌<◌, ◌≤◌, ◌%◌, ◌∙◌, ℕ, List, [], length, Option, Some, None, refl, ap, ap₂, sym, subst, arith}
 use Rattle.std.specs.List.{slice_get}
 use Rattle.std.proofs.lemmas.Nat.{mod_below}
 use Rattle.std.proofs.Math.Nat.{mod-eq_of_lt}
 use Rattle.nf_base.specs.declared.card.TableSize.{TableSize}
 use Rattle.nf_base.specs.declared.card.Card.{Card}
 use Rattle.capture_format.specs.declared.format.CaptureFormat.{CaptureFormat}
+use Rattle.nf_base.specs.declared.func.Func.{Func}
 use Rattle.nf_base.specs.declared.keys.Keys.{Keys}
+use Rattle.nf_base.specs.Doors.{six_ports}
 use Rattle.nf_base.specs.declared.packet.Packet.{Packet}
 use Rattle.nf_base.specs.declared.share.Share.{Share}
 use Rattle.nf_base.specs.Text.{Function}
@@ -17,16 +19,15 @@ use Rattle.toeplitz_hash.specs.Meeting.{HashAlikeWhereTheyMeet}
 use Rattle.packet_feed.specs.Told.{packets_of}
 use Rattle.packet_feed.specs.Sources.{files_in, sixes_in}
 use Rattle.packet_feed.specs.Feeding.{Feeding}
-use Rattle.packet_feed.proofs.Times.{from_zero}
 use Rattle.run_history.specs.declared.line.Mode.TheVariants.{Shard}
-use Rattle.rss_table.specs.Tables.{even_table, table_index, queue_at, queue_of}
+use Rattle.rss_table.specs.Tables.{even_table, table_index, queue_at}
 use Rattle.rss_table.proofs.Entries.{entries_go_round}
 use Rattle.toeplitz_hash.specs.Packets.{hash_of}
-use Rattle.shard_machine.specs.Machine.{Setup, new_machine}
 use Rattle.shard_machine.specs.Moments.{IsSetup}
-use Rattle.shard_core.specs.Sharded as shards
-use Rattle.shard_core.specs.Sharded.{Sharded, IsSetupOf, IsNewSharded}
-use Rattle.stream_run.specs.Runs.{Handled}
+use Rattle.vig_tables.specs.TablesState.{TablesState}
+use Rattle.vig_tables.specs.Union.{owner_among, state_in, HasNamesApart, IsUnion}
+use Rattle.shard_core.specs.Finished.{tables_in, IsMergeOf}
+use Rattle.shard_core.specs.Sharded.{Sharded}
 use Rattle.stream_run.specs.Texts.{bytes_of}
 use Rattle.stream_run.specs.Writing.{Holding, IsFrontIfTold, files_of, AreHeld}
 use Rattle.stream_run.proofs.Held.{front_all, stays_in}
@@ -34,11 +35,12 @@ use Rattle.stream_run.proofs.Complete.{first_none, empty_front, whole_front}
 use Rattle.stream_run.specs.declared.ending.Ending.{Ending}
 use Rattle.stream_run.specs.Rules.{queue_by, shard_rule, AreBy}
 use Rattle.sharded_run.specs.Setups.{setup_of}
-use Rattle.sharded_run.specs.Rounds.{AreIdle}
-use Rattle.sharded_run.specs.Going.{HaveWorked, Reaches, Halts, EndsWith, AreWhole}
+use Rattle.sharded_run.specs.declared.crew.Crew.{Crew}
+use Rattle.sharded_run.specs.Passing.{Passing, Suits, IsNewCrew}
+use Rattle.sharded_run.specs.Going.{Halts, EndsWith, AreWhole, IsMadeOf}
 use Rattle.sharded_run.proofs.Lined.{ran_of, worked_stand}
 
--- ---- new shards
+-- ---- queues and shares
 
 pub by_hash : (size : TableSize) (workers : ℕ) (hash : Option ℕ) → 0 < workers → queue_at (even_table size workers) hash < workers
 by_hash size workers None lt = omega (arith, lt)
@@ -58,41 +60,6 @@ is_setup f keys workers some most = record {
   shares = record { queue = λ w lt. mod-eq_of_lt lt; of = λ w lt. refl };
   below = λ p. by_hash keys.table workers (hash_of keys p) some;
 }
-
-pub is_setup_of : (f : Function) (keys : Keys) (workers : ℕ) (v : Sharded) (some : 0 < workers) (most : workers ≤ 16) → IsNewSharded f keys workers v → IsSetupOf (setup_of f keys workers (share_by workers some most)) v
-is_setup_of f keys workers v some most n = record {
-  is = is_setup f keys workers some most;
-  function = sym n.function;
-  workers = sym n.count;
-  queue = λ p. ap₂ (λ (m : ℕ) (k : Keys). queue_of (even_table k.table m) k p) (sym n.count) (sym n.keys_are);
-}
-
-pub reached_none : (f : Function) (keys : Keys) (workers : ℕ) (card : Card) (format : CaptureFormat) (ports : ℕ) (share : ℕ → Share) (begun : Feeding) (start : Told) (sinks : List Holding) (v : Sharded) → shards.StandsFor (setup_of f keys workers share) (new_machine f) v → begun.given ≡ 0 → AreHeld Shard workers card format ports [] start sinks
-    → Reaches f keys workers card format ports begun start begun start sinks v
-reached_none f keys workers card format ports share begun start sinks v h none heads = record {
-  hs = [];
-  worked = record { share = share; at = new_machine f; stands = h; collected = refl; sent = refl; queues = tt; last = 0; rises = omega arith; inputs = tt };
-  from = from_zero begun.sources;
-  given = λ before b. b;
-  held = heads;
-  count = sym none;
-  same_files = refl;
-  same_six = refl;
-  same_most = refl;
-  within = omega (arith, none);
-}
-
--- the same, of the function that the shards hold
-pub reached_new : (f : Function) (keys : Keys) (workers : ℕ) (card : Card) (format : CaptureFormat) (ports : ℕ) (begun : Feeding) (start : Told) (sinks : List Holding) (v : Sharded) → 0 < workers → workers ≤ 16 → IsNewSharded f keys workers v
-    → ((x : Setup) → IsSetupOf x v → shards.StandsFor x (new_machine x.function) v) → begun.given ≡ 0 → AreHeld Shard workers card format ports [] start sinks → Reaches (function_of v.func) keys workers card format ports begun start begun start sinks v
-reached_new f keys workers card format ports begun start sinks v some most n stands none heads =
-    let share = share_by workers some most in
-    let mine : IsNewSharded (function_of v.func) keys workers v = subst (λ (h : Function). IsNewSharded h keys workers v) (sym n.function) n in
-    reached_none (function_of v.func) keys workers card format ports share begun start sinks v
-    (stands (setup_of (function_of v.func) keys workers share) (is_setup_of (function_of v.func) keys workers v some most mine)) none heads
-
-pub idle_of : (f : Function) (keys : Keys) (workers : ℕ) (hs : List Handled) (v : Sharded) → HaveWorked f keys workers hs v → AreIdle v
-idle_of f keys workers hs v w = record { setup = setup_of f keys workers w.share; at = w.at; stands = w.stands; sent = w.sent }
 
 -- nothing was handled
 sharded_none : (f : Function) (keys : Keys) (workers : ℕ) → AreBy (shard_rule keys workers) f [] (opening f)
@@ -118,6 +85,39 @@ halts_none f keys workers card format ports begun start files empty = record {
   first = λ before b. first_none (packets_of (sixes_in begun.sources) (files_in begun.sources) before);
   within = omega arith;
   fronts = λ k file e. empty_front (bytes_of Shard workers card format ports k []) (start.given file) (empty k file e);
+}
+
+-- ---- the workers
+
+pub new_suits : {G : Type 0} (func : Func) (keys : Keys) (workers n : ℕ) (share : ℕ → Share) (crew : Crew G) (feed : Feeding) → IsNewCrew crew func keys workers → sixes_in feed.sources ≡ six_ports (function_of func) → n ≡ length (function_of func).handlers → Suits (setup_of (function_of func) keys workers share) n crew feed
+new_suits func keys workers n share crew feed new six ports = record {
+  queue = λ p. ap₂ (λ (k : Keys) (w : ℕ). queue_by k w p) (sym new.keys_are) (sym new.workers_are);
+  six = six;
+  ports_are = ports;
+}
+
+pub new_passing : {G : Type 0} (func : Func) (keys : Keys) (workers n : ℕ) (card : Card) (format : CaptureFormat) (some : 0 < workers) (most : workers ≤ 16) (crew : Crew G) (start : Told) (sinks : List Holding) → IsNewCrew crew func keys workers → length func.handlers ≡ n → AreHeld Shard workers card format n [] start sinks
+    → Passing (setup_of (function_of func) keys workers (share_by workers some most)) card format start crew sinks []
+new_passing func keys workers n card format some most crew start sinks new ports held = record {
+  got = [];
+  done = [];
+  parts = sym new.frames;
+  long = refl;
+  stands = new.stands (setup_of (function_of func) keys workers (share_by workers some most)) (is_setup (function_of func) keys workers some most) refl refl;
+  held = subst (λ (m : ℕ). AreHeld Shard workers card format m [] start sinks) (sym ports ∙ sym new.ports_are) held;
+}
+
+-- ---- the tables
+
+abbrev pub MergesTo : Func → List TablesState → ℕ → TablesState → Type 0
+MergesTo func parts time tables = HasNamesApart (owner_among (length parts)) (function_of func) time (state_in parts) → IsUnion (owner_among (length parts)) (function_of func) time (length parts) (state_in parts) tables.state
+
+pub is_merge : (v : Sharded) (func : Func) (parts : List TablesState) (time : ℕ) (tables : TablesState) → IsMadeOf v func parts time → tables.decls ≡ func.chains → tables.share.of ≡ 1 → MergesTo func parts time tables → IsMergeOf v tables
+is_merge v func parts time tables made decls share union = record {
+  decls = decls ∙ ap (λ (f : Func). f.chains) (sym made.func_is);
+  share = share;
+  union = subst (λ (f : Func). MergesTo f (tables_in v.workers) v.time tables) (sym made.func_is)
+      (subst (λ (ps : List TablesState). MergesTo func ps v.time tables) (sym made.tables_are) (subst (λ (t : ℕ). MergesTo func parts t tables) (sym made.time_is) union));
 }
 
 -- ---- the state

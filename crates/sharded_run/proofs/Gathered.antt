@@ -15,7 +15,10 @@ use Rattle.packet_feed.specs.Feeding.{Feeding, StandsFor, AreAll, AreTorn, HasMo
 use Rattle.stream_run.specs.declared.ending.Ending.TheVariants.{All, TooMany}
 use Rattle.sharded_run.specs.Reading.{Rises, Fits, Gathers, IsOver}
 use Rattle.sharded_run.proofs.Rising.{rises_both}
-use Rattle.sharded_run.proofs.Reached.{all_both}
+
+pub all_both : {A : Type 0} (P : A → Type 0) (xs ys : List A) → AllByRecursion P xs → AllByRecursion P ys → AllByRecursion P (xs ++ ys)
+all_both P [] ys h k = k
+all_both P (x ∷ xs) ys h k = (h.0, all_both P xs ys h.1 k)
 
 pub gathers_none : (ports : ℕ) (begun : Feeding) (start : Told) → Gathers ports begun begun start start []
 gathers_none ports begun start = record {

@@ -1,7 +1,8 @@
 pub mod Setups
 pub mod Sharded
 pub mod Reading
-pub mod Rounds
+pub mod Answered
 pub mod Going
+pub mod Passing
 pub mod Lawful
 pub mod Laws

@@ -1,5 +1,5 @@
 -- Packets that are read from captures before any of them is worked.
-use Rattle.std.specs.Prelude.{◌≡◌, ◌+◌, ◌<◌, ◌≤◌, ℕ, Bool, List, [], ◌∷◌, ◌++◌, length, map, Option, Some, None, Result, Ok, Err}
+use Rattle.std.specs.Prelude.{◌≡◌, ◌+◌, ◌<◌, ◌≤◌, ℕ, Bool, List, [], ◌∷◌, ◌++◌, length, map, Option}
 use Rattle.std.specs.List.{AllByRecursion}
 use Rattle.nf_base.specs.declared.packet.Fields.{Fields}
 use Rattle.nf_base.specs.declared.packet.Packet.{Packet}
@@ -11,7 +11,6 @@ use Rattle.packet_feed.specs.Arrivals.{Arrival, packet_of}
 use Rattle.packet_feed.specs.Told.{packets_of}
 use Rattle.packet_feed.specs.Sources.{files_in, sixes_in, AreFrom}
 use Rattle.packet_feed.specs.Feeding.{Feeding, StandsFor, AreAll, AreTorn, HasMore}
-use Rattle.stream_run.specs.Writing.{KeepsBut}
 use Rattle.stream_run.specs.declared.ending.Ending.{Ending}
 use Rattle.stream_run.specs.declared.ending.Ending.TheVariants.{All, TooMany}
 
@@ -19,10 +18,6 @@ use Rattle.stream_run.specs.declared.ending.Ending.TheVariants.{All, TooMany}
 abbrev pub Rises : ℕ → List Packet → ℕ → Type 0
 Rises time [] last = time ≤ last
 Rises time (p ∷ ps) last = (time ≤ p.time) × Rises p.time ps last
-
--- nothing changed that is told of files, but how much of captures is read
-pub record OnlyRead (old new : Told) : Type 0 where
-  pub but : (targets : List ℕ) → KeepsBut targets old new
 
 -- A packet of one of so many ports, with fields within their widths: those of a frame as the handlers
 -- of its port see them, where it is told which ports have one for IPv6.
@@ -56,9 +51,3 @@ IsOver TooMany begun start feed batch =
     (feed.given ≡ feed.most)
     × ((before : Told) (given : List Arrival) → StandsFor before given begun start →
     HasMore (packets_of (sixes_in feed.sources) (files_in feed.sources) before) (length (given ++ batch)))
-
--- what reading at most so many packets comes to: as many, or fewer and an end
-abbrev pub Reads : {E : Type 0} → ℕ → ℕ → Feeding → Told → Feeding → Told → List Arrival → Result (Option Ending) E → Type 0
-Reads most ports begun start feed now batch (Ok None) = Gathers ports begun feed start now batch × (length batch ≡ most)
-Reads most ports begun start feed now batch (Ok (Some ending)) = Gathers ports begun feed start now batch × IsOver ending begun start feed batch
-Reads most ports begun start feed now batch (Err stop) = Unit {0}

@@ -1,7 +1,6 @@
 //! What a run in mode `shard` came to.
 
-use nf_base::seq::Seq;
-use shard_core::{Collected, Stop};
+use shard_core::Stop;
 use stream_run::{Ending, Ran};
 
 /// The share stop at which a run ends.
@@ -12,7 +11,7 @@ pub struct ShareFull {
     pub packets: u32,
 }
 
-/// How the rounds of a run end.
+/// How the packets of a run end.
 #[derive(Clone, Copy, Debug, PartialEq, Eq)]
 pub enum Ended {
     /// All packets were handled, or as many as were asked for.
@@ -21,13 +20,14 @@ pub enum Ended {
     Full(ShareFull),
 }
 
-/// What a round came to behind which packets are left.
-#[derive(Drop)]
-pub(crate) enum Went {
-    /// All its packets were handled, and this is to be written. Those of the next round were read, and so
-    /// the captures end behind them, if they do.
-    On(Option<Ending>, Seq<Collected>),
-    /// A share has no index left at a packet, and those before it were handled.
+/// What reading a packet came to.
+#[derive(Clone, Copy, Debug, PartialEq, Eq)]
+pub enum Passed {
+    /// It was handed to the worker of its queue.
+    On,
+    /// None is left, or as many were given as may be.
+    End(Ending),
+    /// A share has no index left at a packet before it, and those before that were handled.
     Met(ShareFull),
 }
 

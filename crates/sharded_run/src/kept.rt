@@ -1,15 +1,16 @@
 //! Packets that were read, with their frames.
-ghost use Rattle.std.specs.Prelude.{◌≡◌, ◌≤◌, ◌<◌, ◌∷◌, ◌++◌, [], length, map, IfOk, OnOk, OnErr, slice_index_or};
+ghost use Rattle.std.specs.Prelude.{◌≡◌, ◌≤◌, ◌<◌, ◌+◌, ◌∷◌, ◌++◌, [], length, IfOk, OnOk, OnErr};
 ghost use Rattle.hash_fields.specs.Hashed.{HasInput};
 ghost use Rattle.pcap_file.specs.Record.{greatest_time};
-ghost use Rattle.packet_feed.specs.Arrivals.{Arrival, packet_of};
+ghost use Rattle.packet_feed.specs.Arrivals.{Arrival};
 
 use nf_base::packet::Packet;
 use std::alloc::{AllocError, Global};
+use std::collections::VecDeque;
 use std::marker::Model;
 
-/// A packet that was read and is not handled yet, with the captured bytes of its frame and the length
-/// of that on the wire.
+/// A packet that was read and whose answer is not written yet, with the captured bytes of its frame and
+/// the length of that on the wire.
 #[derive(Drop)]
 pub(crate) struct Kept {
     packet: Packet,
@@ -83,58 +84,91 @@ impl Kept {
     }
 }
 
-/// Packets with their frames, in order. The room that they take is kept for others.
+/// Packets with their frames, in the order in which they were read. The room that they take is kept for
+/// others.
 #[derive(Drop)]
-pub(crate) struct Batch {
-    /// Those of the batch, and behind them those whose room is free.
-    kept: Vec<Kept>,
-    len: usize,
+pub(crate) struct Frames {
+    kept: VecDeque<Kept>,
+    /// Those whose room is free.
+    spares: Vec<Kept>,
 }
 
-impl Model for Batch {
-    ghost use Rattle.std.specs.Prelude.{List, take, ◌≤◌, length};
+impl Model for Frames {
+    ghost use Rattle.std.specs.Prelude.{List};
     ghost use Rattle.packet_feed.specs.Arrivals.{Arrival};
 
     ghost Value = { List Arrival };
 
-    ghost view = { λ b. take b.len b.kept.items };
-
-    ghost invariant = { λ b. b.len ≤ length b.kept.items };
+    ghost view = { λ f. f.kept.items };
 }
 
-impl Batch {
+impl Frames {
     /// No packet.
-    pub(crate) fn new(alloc: Global) -> Batch
+    pub(crate) fn new(alloc: Global) -> Frames
         ensures { result ≡ [] }
     {
-        Batch {
-            kept: Vec::new(alloc),
-            len: 0,
+        Frames {
+            kept: VecDeque::new(alloc),
+            spares: Vec::new(alloc),
         }
     }
 
     pub(crate) fn len(&self) -> usize
         ensures { result ≡ length self.now }
     {
-        self.len
+        self.kept.len()
     }
 
-    pub(crate) fn item(&self, i: usize) -> &Kept
-        requires { i < length self.now }
-        ensures { result.now ≡ slice_index_or self.now i result.now }
+    /// Takes the first packet out.
+    pub(crate) fn pop(&mut self) -> Kept
+        requires { 0 < length self.old }
+        ensures { self.old ≡ result ∷ self.new }
     {
-        &self.kept[i]
+        match self.kept.pop_front() {
+            Some(kept) => kept,
+            None => unreachable!(),
+        }
     }
 
-    /// Gives all packets up, and keeps their room.
-    pub(crate) fn clear(&mut self)
-        ensures { self.new ≡ [] }
+    /// Keeps the room of a packet whose answer is written.
+    pub(crate) fn give_back(&mut self, kept: Kept)
+        ensures { self.new ≡ self.old }
     {
-        self.len = 0;
+        // Where there is no memory its room is given up.
+        match self.spares.push(kept) {
+            Ok(()) => {}
+            Err(_) => {}
+        }
+    }
+
+    /// A packet in free room, or in room of its own.
+    fn fill(
+        &mut self,
+        alloc: Global,
+        packet: &Packet,
+        original: u32,
+        frame: &[u8],
+    ) -> Result<Kept, AllocError>
+        requires time { packet.now.time ≤ greatest_time }
+        requires captured { length frame.now ≤ 262144 }
+        ensures kept { IfOk result (λ kept. kept
+            ≡ record { packet = packet.now; original = original; frame = frame.now }) }
+        ensures same { self.new ≡ self.old }
+    {
+        match self.spares.pop() {
+            Some(spare) => {
+                let mut kept = spare;
+                match kept.refill(packet, original, frame) {
+                    Ok(()) => Ok(kept),
+                    Err(fault) => Err(fault),
+                }
+            }
+            None => Kept::new(alloc, packet, original, frame),
+        }
     }
 
     /// Puts a packet with its frame behind the others.
-    fn push(
+    pub(crate) fn push(
         &mut self,
         alloc: Global,
         packet: &Packet,
@@ -148,49 +182,13 @@ impl Batch {
             OnOk result (self.new ≡ self.old ++ one ∷ []) }
         ensures err { OnErr result (self.new ≡ self.old) }
     {
-        if self.len < self.kept.len() {
-            self.kept[self.len].refill(packet, original, frame)?;
-        } else {
-            self.kept.push(Kept::new(alloc, packet, original, frame)?)?;
-        }
-        self.len += 1;
+        let kept = self.fill(alloc, packet, original, frame)?;
+        self.kept.push_back(kept)?;
         Ok(())
     }
 }
 
-// The fields of any packet are within their widths.
-fn fits(packet: Packet)
+/// The fields of any packet are within their widths.
+pub(crate) fn fits(packet: Packet)
     ensures { HasInput packet }
 {}
-
-/// Puts a packet with its frame behind others.
-pub(crate) fn keep(
-    alloc: Global,
-    batch: &mut Batch,
-    packet: &Packet,
-    original: u32,
-    frame: &[u8],
-) -> Result<(), AllocError>
-    requires time { packet.now.time ≤ greatest_time }
-    requires captured { length frame.now ≤ 262144 }
-    ensures ok { let one : Arrival
-        = record { packet = packet.now; original = original; frame = frame.now } in
-        OnOk result (batch.new ≡ batch.old ++ one ∷ []) }
-    ensures err { OnErr result (batch.new ≡ batch.old) }
-    ensures input { HasInput packet.now }
-{
-    fits(*packet);
-    batch.push(alloc, packet, original, frame)
-}
-
-/// The packets alone.
-pub(crate) fn packets_in(alloc: Global, batch: &Batch) -> Result<Vec<Packet>, AllocError>
-    ensures { IfOk result (λ packets. packets.items ≡ map packet_of batch.now) }
-{
-    let mut packets = Vec::with_capacity(alloc, batch.len())?;
-    for k in 0..batch.len() {
-        let Packet { id, time, fields } = *batch.item(k).packet();
-        packets.push_reserved(Packet { id, time, fields });
-    }
-    Ok(packets)
-}

@@ -1,15 +1,15 @@
-//! A run in mode `shard` as a stream: packets are read in rounds, each is worked by the worker of its
-//! queue, and what they leave is written round by round.
+//! A run in mode `shard` as a stream: each packet is handed to the lasting worker of its queue, and what
+//! it leaves is written behind, in capture order, as its answer comes.
 #![tactic(auto)]
 
-mod beside;
 mod came;
+mod crew;
 mod kept;
 pub mod laws;
-mod reading;
-mod rounds;
+mod passing;
+mod router;
 mod running;
-mod work;
+mod streaming;
 mod writing;
 
 pub use came::{Came, Ended, ShareFull};

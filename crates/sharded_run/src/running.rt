@@ -1,26 +1,26 @@
 //! A whole run in mode `shard`.
-ghost use Rattle.std.specs.Prelude.{◌≡◌, ◌^◌, ◌+◌, ◌<◌, ◌≤◌, ℕ, List, [], Some, length, slice_get, IfOk};
+ghost use Rattle.std.specs.Prelude.{◌≡◌, ◌^◌, ◌+◌, ◌<◌, ◌≤◌, ℕ, List, [], length, slice_get, IfOk};
+ghost use Rattle.nf_base.specs.declared.card.Card.{Card};
 ghost use Rattle.nf_base.specs.declared.keys.Keys as keys;
 ghost use Rattle.nf_base.specs.Doors.{six_ports};
 ghost use Rattle.nf_base.specs.Functions.{function_of};
+ghost use Rattle.capture_format.specs.declared.format.CaptureFormat.{CaptureFormat};
 ghost use Rattle.toeplitz_hash.specs.Meeting.{HashAlikeWhereTheyMeet};
-ghost use Rattle.nf_files.specs.Told.{Told, IsEmptyIfTold};
+ghost use Rattle.nf_files.specs.Told.{IsEmptyIfTold};
 ghost use Rattle.packet_feed.specs.Told.{EachFile, IsApart};
 ghost use Rattle.packet_feed.specs.Sources.{files_in, sixes_in};
-ghost use Rattle.packet_feed.specs.Feeding.{Feeding};
 ghost use Rattle.run_history.specs.declared.line.Mode.TheVariants as mode;
-ghost use Rattle.shard_machine.specs.Machine.{Setup, new_machine};
-ghost use Rattle.shard_core.specs.Sharded.{IsNewSharded, IsSetupOf, StandsFor};
-ghost use Rattle.shard_core.specs.Plays.{SameSize};
+ghost use Rattle.vig_tables.specs.Union.{AreOf};
+ghost use Rattle.shard_core.specs.Sharded.{Sharded};
 ghost use Rattle.stream_run.specs.Runs.{Handled};
 ghost use Rattle.stream_run.specs.Writing.{files_of, AreHeld, KeepsBut, IsStopCause, StopsAmong};
-ghost use Rattle.sharded_run.specs.Rounds.{AreIdle};
-ghost use Rattle.sharded_run.specs.Going.{Reaches, HaveWorked, IsLast, Flows};
+ghost use Rattle.sharded_run.specs.Going.{HaveWorked, IsLast, IsMadeOf};
+ghost use Rattle.sharded_run.specs.Passing.{WentOn};
 ghost use Rattle.sharded_run.specs.Lawful.{Runs};
-ghost use Rattle.capture_format.specs.declared.format.CaptureFormat.{CaptureFormat};
 
 use crate::came::{Came, Ended};
-use crate::rounds::all_rounds;
+use crate::crew::Crew;
+use crate::streaming::flow;
 use capture_format::CaptureFormat;
 use nf_base::card::Card;
 use nf_base::func::Func;
@@ -29,65 +29,32 @@ use nf_base::seq::Seq;
 use nf_base::workers::Workers;
 use nf_files::Files;
 use packet_feed::Feed;
+use ring_line::Turns;
 use run_history::line::Mode;
-use shard_core::Shards;
-use shard_rounds::Turns;
 use std::alloc::{AllocError, Global};
+use std::sync::{Arc, Wait};
 use std::thread::Threads;
-use stream_run::{Ending, Ran, Sink, Stop, begin_sinks, flush_all};
-
-// All rounds, and what is held is given to the files.
-fn flow<R: Threads + Sync, F: Files, G: Turns + Sync>(
-    rt: &R,
-    alloc: Global,
-    files: &mut F,
-    shards: &mut Shards,
-    feed: &mut Feed,
-    captures: &[u32],
-    sinks: &mut Seq<Sink>,
-    turns: &G,
-) -> Result<Ended, Stop>
-    requires idle { AreIdle shards.old }
-    requires within { feed.old.given ≤ feed.old.most }
-    requires captures { files_in feed.old.sources ≡ captures.now }
-    requires six { sixes_in feed.old.sources ≡ six_ports (function_of shards.old.func) }
-    requires ports { length captures.now ≡ length shards.old.func.handlers }
-    requires opened { EachFile (F.is_read files.old) captures.now }
-    requires created { EachFile (F.is_written files.old) (files_of sinks.old) }
-    requires apart { IsApart (files_of sinks.old) }
-    requires few { length sinks.old ≤ 2 ^ 32 }
-    ensures flows { let f = function_of shards.old.func in let ports = length captures.now in
-        (keys : keys.Keys) → (workers : ℕ) → (card : Card) →
-        (format : CaptureFormat) → (begun : Feeding) → (start : Told) →
-        1 < workers → HashAlikeWhereTheyMeet f keys →
-        Reaches f keys workers card format ports begun start
-        feed.old (F.told files.old) sinks.old shards.old →
-        Flows f keys workers card format ports begun start
-        feed.new (F.told files.new) (files_of sinks.old) shards.new result }
-    ensures same { SameSize shards.old shards.new }
-    ensures kept { KeepsBut (files_of sinks.old) (F.told files.old) (F.told files.new) }
-    ensures cause { IsStopCause (F.counted files.old) (F.counted files.new) result }
-    ensures among { StopsAmong captures.now (files_of sinks.old) result }
-{
-    let ended = match all_rounds(rt, alloc, files, shards, feed, captures, sinks, turns) {
-        Ok(ended) => ended,
-        Err(stop) => return Err(stop),
-    };
-    match flush_all(sinks, files) {
-        Ok(()) => Ok(ended),
-        Err(stop) => Err(stop),
-    }
-}
+use stream_run::{Ending, Ran, Sink, Stop, begin_sinks};
+use vig_tables::Tables;
 
 // The last state, from the workers' tables, where all packets were collected.
-fn finish(alloc: Global, shards: Shards, ending: Ending, packets: u32) -> Result<Ran, AllocError>
-    requires { AreIdle shards }
-    ensures { let f = function_of shards.func in
-        (keys : keys.Keys) → (workers : ℕ) → (hs : List Handled) →
-        1 < workers → HashAlikeWhereTheyMeet f keys → HaveWorked f keys workers hs shards →
+fn conclude(
+    alloc: Global,
+    func: &Func,
+    parts: &[Tables],
+    time: u64,
+    ending: Ending,
+    packets: u32,
+) -> Result<Ran, AllocError>
+    requires some { 1 ≤ length parts.now }
+    requires of_one { AreOf func.now.chains parts.now }
+    ensures { let f = function_of func.now in
+        (keys : keys.Keys) → (workers : ℕ) → (hs : List Handled) → (v : Sharded) →
+        1 < workers → HashAlikeWhereTheyMeet f keys → HaveWorked f keys workers hs v →
+        IsMadeOf v func.now parts.now time →
         IfOk result (IsLast f keys workers hs ending packets) }
 {
-    let tables = shards.finish()?;
+    let tables = Tables::merge(alloc, func, parts, time)?;
     let state = tables.state(alloc)?;
     Ok(Ran {
         ending,
@@ -96,24 +63,12 @@ fn finish(alloc: Global, shards: Shards, ending: Ending, packets: u32) -> Result
     })
 }
 
-// New shards, with a copy of the keys.
-fn shards_of(
-    alloc: Global,
-    func: &Func,
-    keys: &Keys,
-    workers: Workers,
-) -> Result<Shards, AllocError>
-    requires { length func.now.handlers ≤ length keys.now.ports }
-    ensures new { IfOk result (IsNewSharded (function_of func.now) keys.now workers) }
-    ensures stands { IfOk result (λ shards. (x : Setup) → IsSetupOf x shards →
-        StandsFor x (new_machine x.function) shards) }
-{
-    let keys = keys.copy(alloc)?;
-    Shards::new(alloc, func, keys, workers)
-}
-
-// The same from new shards, and the state that is left.
-fn stream<R: Threads + Sync, F: Files, G: Turns + Sync>(
+// The same from new workers, and the state that is left.
+fn stream<
+    R: Threads + Wait + Clone + Send + Drop + 'static,
+    F: Files,
+    G: Turns + Send + Sync + Drop + 'static,
+>(
     rt: &R,
     alloc: Global,
     files: &mut F,
@@ -123,7 +78,7 @@ fn stream<R: Threads + Sync, F: Files, G: Turns + Sync>(
     feed: &mut Feed,
     captures: &[u32],
     sinks: &mut Seq<Sink>,
-    turns: &G,
+    turns: &Arc<G>,
 ) -> Result<Came, Stop>
     requires several { 1 < workers }
     requires most { workers ≤ 16 }
@@ -146,37 +101,44 @@ fn stream<R: Threads + Sync, F: Files, G: Turns + Sync>(
         AreHeld mode.Shard workers card format ports [] (F.told files.old) sinks.old →
         Runs (function_of func.now) keys.now workers card format feed.old (F.told files.old)
         feed.new (F.told files.new) (files_of sinks.old) result }
-    ensures kept { KeepsBut (files_of sinks.old) (F.told files.old) (F.told files.new) }
-    ensures cause { IsStopCause (F.counted files.old) (F.counted files.new) result }
-    ensures among { StopsAmong captures.now (files_of sinks.old) result }
+    ensures went { WentOn captures.now (files_of sinks.old) (F.told files.old)
+        (F.told files.new) (F.counted files.old) (F.counted files.new) result }
 {
-    let mut shards = match shards_of(alloc, func, keys, workers) {
-        Ok(shards) => shards,
+    let mut crew = match Crew::start(rt, alloc, func, keys, workers, turns) {
+        Ok(crew) => crew,
         Err(_) => return Err(Stop::Memory),
     };
-    let ending = match flow(rt, alloc, files, &mut shards, feed, captures, sinks, turns) {
-        Ok(Ended::Full(full)) => return Ok(Came::Full(full)),
-        Ok(Ended::Over(ending)) => ending,
-        Err(stop) => return Err(stop),
-    };
-    match finish(alloc, shards, ending, feed.given()) {
-        Ok(ran) => Ok(Came::Ran(ran)),
-        Err(_) => Err(Stop::Memory),
+    let ended = flow(rt, alloc, files, &mut crew, feed, captures, sinks);
+    let (parts, time) = crew.finish(rt);
+    match ended {
+        Ok(Ended::Full(full)) => Ok(Came::Full(full)),
+        Ok(Ended::Over(ending)) => {
+            match conclude(alloc, func, parts.as_slice(), time, ending, feed.given()) {
+                Ok(ran) => Ok(Came::Ran(ran)),
+                Err(_) => Err(Stop::Memory),
+            }
+        }
+        Err(stop) => Err(stop),
     }
 }
 
 /// Handles the packets of captures in capture order, each by the worker of its queue, and writes the
 /// outputs, in this format, and the journal as the run goes.
 ///
-/// The workers of a round run in threads of their own; `turns` is told when a worker comes to a packet and
-/// when it has handled it, and nothing depends on it. The keys are one for each port, by which packets
+/// Each worker runs in a thread of its own from the first packet to the last; where one can't be started,
+/// the caller does its work. `turns` is told when a worker comes to a packet and when it has handled it, and
+/// nothing depends on it. The keys are one for each port, by which packets
 /// that meet have equal hashes. The captures are those of the feed, which gave no packet yet, and was
 /// started for the function's ports. The targets are the outputs in the order of their ports, and the
 /// journal behind them; nothing was given to them yet.
 /// Where a share has no index left at a packet, the run ends before it, and the files of the packets before
 /// it are whole. After an `Err` each of them holds a front of what a run over some first packets leaves
 /// there.
-pub fn run<R: Threads + Sync, F: Files, G: Turns + Sync>(
+pub fn run<
+    R: Threads + Wait + Clone + Send + Drop + 'static,
+    F: Files,
+    G: Turns + Send + Sync + Drop + 'static,
+>(
     rt: &R,
     alloc: Global,
     files: &mut F,
@@ -188,7 +150,7 @@ pub fn run<R: Threads + Sync, F: Files, G: Turns + Sync>(
     feed: &mut Feed,
     captures: &[u32],
     targets: &[u32],
-    turns: &G,
+    turns: &Arc<G>,
 ) -> Result<Came, Stop>
     requires several { 1 < workers }
     requires keyed { length func.now.handlers ≤ length keys.now.ports }

@@ -1,21 +1,20 @@
-//! What the packets of a round leave is written.
+//! What a packet leaves is written.
 ghost use Rattle.std.specs.Prelude.{◌≡◌, ◌^◌, ◌≤◌, ◌∷◌, ◌++◌, [], ℕ, List, length};
 ghost use Rattle.nf_base.specs.declared.card.Card.{Card};
 ghost use Rattle.capture_format.specs.declared.format.CaptureFormat.{CaptureFormat};
 ghost use Rattle.packet_feed.specs.Told.{EachFile, IsApart};
 ghost use Rattle.run_history.specs.declared.line.Mode.{Mode};
 ghost use Rattle.stream_run.specs.Runs.{Handled};
-ghost use Rattle.stream_run.specs.Writing.{files_of, AreHeld, AllGoOn, KeepsBut, KeepsAllBut, IsStopCause, StopsAmong};
-ghost use Rattle.sharded_run.specs.Rounds.{answered};
+ghost use Rattle.stream_run.specs.Writing.{files_of, AreHeld, AllGoOn, KeepsAllBut, IsStopCause, StopsAmong};
 
-use crate::kept::{Batch, Kept};
+use crate::kept::Kept;
 use nf_base::seq::Seq;
 use nf_files::Files;
 use shard_core::Collected;
 use stream_run::{HandledPacket, Sink, Stop, put_all};
 
-// Puts what one packet leaves into all files.
-fn write_one<F: Files>(
+/// Puts what one packet leaves into all files.
+pub(crate) fn write_one<F: Files>(
     files: &mut F,
     sinks: &mut Seq<Sink>,
     ports: u32,
@@ -46,38 +45,4 @@ fn write_one<F: Files>(
         done: &collected.done,
     };
     put_all(sinks, files, ports, &handled)
-}
-
-/// Puts what the packets of a round leave into all files, those of them that were handled.
-pub(crate) fn write_round<F: Files>(
-    files: &mut F,
-    sinks: &mut Seq<Sink>,
-    ports: u32,
-    batch: &Batch,
-    handled: &Seq<Collected>,
-) -> Result<(), Stop>
-    requires handled { length handled.now ≤ length batch.now }
-    requires created { EachFile (F.is_written files.old) (files_of sinks.old) }
-    requires apart { IsApart (files_of sinks.old) }
-    requires few { length sinks.old ≤ 2 ^ 32 }
-    ensures goes_on { let more = answered batch.now handled.now in
-        (mode : Mode) → (workers : ℕ) → (card : Card) → (format : CaptureFormat) →
-        (hs : List Handled) →
-        AreHeld mode workers card format ports hs (F.told files.old) sinks.old →
-        AllGoOn mode workers card format ports (hs ++ more) (F.told files.new) sinks.new result }
-    ensures same_files { files_of sinks.new ≡ files_of sinks.old }
-    ensures kept { KeepsBut (files_of sinks.old) (F.told files.old) (F.told files.new) }
-    ensures rests { (g : ℕ) → (F.told files.new).rest g ≡ (F.told files.old).rest g }
-    ensures cause { IsStopCause (F.counted files.old) (F.counted files.new) result }
-    ensures among { StopsAmong [] (files_of sinks.old) result }
-    ensures reads { (g : ℕ) → F.is_read files.old g → F.is_read files.new g }
-    ensures writes { (g : ℕ) → F.is_written files.old g → F.is_written files.new g }
-{
-    for k in 0..handled.len() {
-        match write_one(files, sinks, ports, batch.item(k), handled.item(k)) {
-            Ok(()) => {}
-            Err(stop) => return Err(stop),
-        }
-    }
-    Ok(())
 }

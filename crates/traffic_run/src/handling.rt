@@ -24,7 +24,7 @@ use packet_feed::Feed;
 use run_history::line::Mode;
 use sharded_run::Came;
 use std::alloc::Global;
-use std::sync::Wait;
+use std::sync::{Arc, Wait};
 use std::thread::Threads;
 use stream_run::{Stop, stop_in};
 use worker_turns::Turns;
@@ -69,7 +69,11 @@ fn run_one<F: Files>(
 }
 
 // By several that share nothing.
-fn run_shards<R: Threads + Sync, F: Files, T: Turns + Sync>(
+fn run_shards<
+    R: Threads + Wait + Clone + Send + Sync + Drop + 'static,
+    F: Files,
+    T: Turns + Send + Sync + Drop + 'static,
+>(
     rt: &R,
     alloc: Global,
     files: &mut F,
@@ -80,7 +84,7 @@ fn run_shards<R: Threads + Sync, F: Files, T: Turns + Sync>(
     feed: &mut Feed,
     captures: &[u32],
     targets: &[u32],
-    turns: &T,
+    turns: &Arc<T>,
 ) -> Result<Left, Stop>
     requires started { let all = asked_for asked.now (length func.now.handlers) in
         let six = six_ports (function_of func.now) in
@@ -186,7 +190,12 @@ fn run_sharing<R: Threads + Wait + Sync, F: Files, T: Turns + Sync, G: Gate + Dr
 }
 
 // By who is to.
-fn run_by<R: Threads + Wait + Sync, F: Files, T: Turns + Sync, G: Gate + Drop + Send>(
+fn run_by<
+    R: Threads + Wait + Clone + Send + Sync + Drop + 'static,
+    F: Files,
+    T: Turns + Send + Sync + Drop + 'static,
+    G: Gate + Drop + Send,
+>(
     rt: &R,
     alloc: Global,
     files: &mut F,
@@ -196,7 +205,7 @@ fn run_by<R: Threads + Wait + Sync, F: Files, T: Turns + Sync, G: Gate + Drop + 
     feed: &mut Feed,
     captures: &[u32],
     targets: &[u32],
-    turns: &T,
+    turns: &Arc<T>,
     gate: &mut G,
 ) -> Result<Left, Stop>
     requires started { let all = asked_for asked.now (length func.now.handlers) in
@@ -226,13 +235,18 @@ fn run_by<R: Threads + Wait + Sync, F: Files, T: Turns + Sync, G: Gate + Drop + 
             rt, alloc, files, func, keys, *workers, asked, feed, captures, targets, turns,
         ),
         Who::Sharing(workers) => run_sharing(
-            rt, alloc, files, func, *workers, asked, feed, captures, targets, turns, gate,
+            rt, alloc, files, func, *workers, asked, feed, captures, targets, &**turns, gate,
         ),
     }
 }
 
 /// Reads captures that are made of the traffic, and handles their packets.
-pub(crate) fn run_over<R: Threads + Wait + Sync, F: Files, T: Turns + Sync, G: Gate + Drop + Send>(
+pub(crate) fn run_over<
+    R: Threads + Wait + Clone + Send + Sync + Drop + 'static,
+    F: Files,
+    T: Turns + Send + Sync + Drop + 'static,
+    G: Gate + Drop + Send,
+>(
     rt: &R,
     alloc: Global,
     files: &mut F,
@@ -241,7 +255,7 @@ pub(crate) fn run_over<R: Threads + Wait + Sync, F: Files, T: Turns + Sync, G: G
     asked: &Asked,
     captures: &[u32],
     targets: &[u32],
-    turns: &T,
+    turns: &Arc<T>,
     gate: &mut G,
 ) -> Result<Left, Stop>
     requires serves { Serves (function_of func.now) who.now }

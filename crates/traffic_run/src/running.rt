@@ -25,13 +25,19 @@ use made_captures::{Captures, MadeCaptures, Outputs};
 use nf_base::func::Func;
 use nf_files::Files;
 use std::alloc::Global;
-use std::sync::Wait;
+use std::sync::{Arc, Wait};
 use std::thread::Threads;
 use stream_run::Stop;
 use worker_turns::Turns;
 
 // Packets are handled of captures that stand beside the files.
-fn run_beside<'a, R: Threads + Wait + Sync, F: Files, T: Turns + Sync, G: Gate + Drop + Send>(
+fn run_beside<
+    'a,
+    R: Threads + Wait + Clone + Send + Sync + Drop + 'static,
+    F: Files,
+    T: Turns + Send + Sync + Drop + 'static,
+    G: Gate + Drop + Send,
+>(
     rt: &R,
     alloc: Global,
     beside: &mut MadeCaptures<'a, F>,
@@ -40,7 +46,7 @@ fn run_beside<'a, R: Threads + Wait + Sync, F: Files, T: Turns + Sync, G: Gate +
     asked: &Asked,
     captures: &[u32],
     targets: &[u32],
-    turns: &T,
+    turns: &Arc<T>,
     gate: &mut G,
 ) -> Result<Left, Stop>
     requires serves { Serves (function_of func.now) who.now }
@@ -88,7 +94,12 @@ struct Handled {
 }
 
 // The same where they are put there.
-fn run_made<R: Threads + Wait + Sync, F: Files, T: Turns + Sync, G: Gate + Drop + Send>(
+fn run_made<
+    R: Threads + Wait + Clone + Send + Sync + Drop + 'static,
+    F: Files,
+    T: Turns + Send + Sync + Drop + 'static,
+    G: Gate + Drop + Send,
+>(
     rt: &R,
     alloc: Global,
     files: &mut F,
@@ -99,7 +110,7 @@ fn run_made<R: Threads + Wait + Sync, F: Files, T: Turns + Sync, G: Gate + Drop 
     captures: &[u32],
     first: u32,
     targets: &[u32],
-    turns: &T,
+    turns: &Arc<T>,
     gate: &mut G,
 ) -> Handled
     requires serves { Serves (function_of func.now) who.now }
@@ -197,9 +208,14 @@ fn is_low(first: u32, ports: u32) -> bool
 /// them yet. After an `Err` each of them holds a front of what one run leaves there. Where so many files
 /// were opened before that their numbers run out, that is want of memory.
 ///
-/// One worker, or several that share nothing, hold one packet of each capture, or those of one round;
+/// One worker, or several that share nothing, hold one packet of each capture, and those that are in flight;
 /// several that share all tables hold all packets.
-pub fn run<R: Threads + Wait + Sync, F: Files, T: Turns + Sync, G: Gate + Drop + Send>(
+pub fn run<
+    R: Threads + Wait + Clone + Send + Sync + Drop + 'static,
+    F: Files,
+    T: Turns + Send + Sync + Drop + 'static,
+    G: Gate + Drop + Send,
+>(
     rt: &R,
     alloc: Global,
     files: &mut F,
@@ -208,7 +224,7 @@ pub fn run<R: Threads + Wait + Sync, F: Files, T: Turns + Sync, G: Gate + Drop +
     asked: Asked,
     first: u32,
     targets: &[u32],
-    turns: &T,
+    turns: &Arc<T>,
     gate: &mut G,
 ) -> Result<Came, Stop>
     requires flows { 1 ≤ asked.flows }

@@ -2,7 +2,7 @@
 use maestro_cli::{Gate, Idle, PackGate, Status, Turns, maestro};
 use nf_files::{Files, FilesFault, MemoryFiles};
 use std::alloc::{AllocError, Global};
-use std::sync::Wait;
+use std::sync::{Arc, Wait};
 use std::thread::Threads;
 
 /// What a call came to: how it ended, and what stands in the files then.
@@ -154,19 +154,22 @@ fn outcome_of(
     })
 }
 
-fn status_of<R: Threads + Wait + Sync>(
+fn status_of<R: Threads + Wait + Clone + Send + Sync + Drop + 'static>(
     rt: &R,
     alloc: Global,
     words: &[String],
     files: &mut MemoryFiles,
 ) -> Status {
-    maestro(rt, alloc, words, files, &Idle, &mut PackGate::new())
+    match Arc::new(alloc, Idle) {
+        Ok(turns) => maestro(rt, alloc, words, files, &turns, &mut PackGate::new()),
+        Err(_) => Status::Memory,
+    }
 }
 
 /// Calls the program with the words of a line, one space apart, over a function as `x.nf` and captures
 /// as `a.pcap` to `d.pcap`, in files whose calls of these numbers fail. `out` is the front of the names
 /// of what it leaves.
-pub fn call<R: Threads + Wait + Sync>(
+pub fn call<R: Threads + Wait + Clone + Send + Sync + Drop + 'static>(
     rt: &R,
     alloc: Global,
     line: &str,
@@ -183,7 +186,7 @@ pub fn call<R: Threads + Wait + Sync>(
 
 /// Calls the program with the words of a line over these files, with `out` as the front of the names of
 /// what it leaves.
-pub fn call_over<R: Threads + Wait + Sync>(
+pub fn call_over<R: Threads + Wait + Clone + Send + Sync + Drop + 'static>(
     rt: &R,
     alloc: Global,
     line: &str,
@@ -196,25 +199,32 @@ pub fn call_over<R: Threads + Wait + Sync>(
 
 /// Calls it over a function and captures with `out` as the front of the names, where no call fails, and with what is told as workers go
 /// on.
-pub fn call_with<R: Threads + Wait + Sync, G: Turns + Sync>(
+pub fn call_with<
+    R: Threads + Wait + Clone + Send + Sync + Drop + 'static,
+    G: Turns + Send + Sync + Drop + 'static,
+>(
     rt: &R,
     alloc: Global,
     line: &str,
     text: &[u8],
     captures: &[Vec<u8>],
-    turns: &G,
+    turns: &Arc<G>,
 ) -> Result<Outcome, AllocError> {
     call_gated(rt, alloc, line, text, captures, turns, &mut PackGate::new())
 }
 
 /// The same by a gate to shared tables.
-pub fn call_gated<R: Threads + Wait + Sync, G: Turns + Sync, L: Gate + Drop + Send>(
+pub fn call_gated<
+    R: Threads + Wait + Clone + Send + Sync + Drop + 'static,
+    G: Turns + Send + Sync + Drop + 'static,
+    L: Gate + Drop + Send,
+>(
     rt: &R,
     alloc: Global,
     line: &str,
     text: &[u8],
     captures: &[Vec<u8>],
-    turns: &G,
+    turns: &Arc<G>,
     gate: &mut L,
 ) -> Result<Outcome, AllocError> {
     let words = words_of(alloc, line)?;
@@ -224,7 +234,7 @@ pub fn call_gated<R: Threads + Wait + Sync, G: Turns + Sync, L: Gate + Drop + Se
 }
 
 /// Calls the program with no words at all.
-pub fn call_nothing<R: Threads + Wait + Sync>(
+pub fn call_nothing<R: Threads + Wait + Clone + Send + Sync + Drop + 'static>(
     rt: &R,
     alloc: Global,
 ) -> Result<Outcome, AllocError> {

@@ -244,7 +244,7 @@ fn journals() -> &'static [(&'static str, Status, &'static str)] {
 }
 
 // Replays a journal over the one packet, which was sent out at port 0.
-fn replay<R: Threads + Wait + Sync>(
+fn replay<R: Threads + Wait + Clone + Send + Sync + Drop + 'static>(
     rt: &R,
     alloc: Global,
     journal: &str,

@@ -144,7 +144,7 @@ fn prints(got: &Outcome, said: &str) -> bool {
         && got.left() == 0
 }
 
-fn is_checked<R: Threads + Wait + Sync>(
+fn is_checked<R: Threads + Wait + Clone + Send + Sync + Drop + 'static>(
     rt: &R,
     alloc: Global,
     checked: &Checked,
@@ -172,7 +172,7 @@ fn tests(alloc: Global, front: &str, count: u64, end: &str) -> Result<String, Al
     Ok(text)
 }
 
-fn checks_tests<R: Threads + Wait + Sync>(
+fn checks_tests<R: Threads + Wait + Clone + Send + Sync + Drop + 'static>(
     rt: &R,
     alloc: Global,
     count: u64,
@@ -240,7 +240,7 @@ fn around() -> &'static [(&'static str, &'static str, &'static str)] {
     &AROUND
 }
 
-fn is_refused_so<R: Threads + Wait + Sync>(
+fn is_refused_so<R: Threads + Wait + Clone + Send + Sync + Drop + 'static>(
     rt: &R,
     alloc: Global,
     front: &str,
@@ -262,7 +262,10 @@ fn too_many_paths_are_told_last_and_of_the_least_port(rt: HostRuntime) -> Result
 }
 
 // Both handlers have too many paths, and that of port 1 stands first.
-fn both_have_too_many<R: Threads + Wait + Sync>(rt: &R, alloc: Global) -> Result<bool, AllocError> {
+fn both_have_too_many<R: Threads + Wait + Clone + Send + Sync + Drop + 'static>(
+    rt: &R,
+    alloc: Global,
+) -> Result<bool, AllocError> {
     let first = tests(alloc, "nf p { ports 2;\non 1 { ", 13, "}\non 0 { ")?;
     let text = tests(alloc, first.as_str(), 13, "} }")?;
     let got = call(rt, alloc, CHECK, "out", text.as_str().as_bytes(), &[], &[])?;
@@ -270,7 +273,7 @@ fn both_have_too_many<R: Threads + Wait + Sync>(rt: &R, alloc: Global) -> Result
 }
 
 // A run is refused too, before its captures are counted or opened.
-fn a_run_is_refused<R: Threads + Wait + Sync>(
+fn a_run_is_refused<R: Threads + Wait + Clone + Send + Sync + Drop + 'static>(
     rt: &R,
     alloc: Global,
     line: &str,
@@ -308,7 +311,7 @@ fn both() -> &'static [(&'static str, &'static str, &'static str, &'static str)]
     &BOTH
 }
 
-fn are_refused_so<R: Threads + Wait + Sync>(
+fn are_refused_so<R: Threads + Wait + Clone + Send + Sync + Drop + 'static>(
     rt: &R,
     alloc: Global,
     front: &str,
@@ -341,7 +344,7 @@ fn too_many_paths_are_refused_by_each_command(rt: HostRuntime) -> Result<(), Fai
 }
 
 // The calls of a check: the text is opened and read in three, and the line is printed in one.
-fn stops_at<R: Threads + Wait + Sync>(
+fn stops_at<R: Threads + Wait + Clone + Send + Sync + Drop + 'static>(
     rt: &R,
     alloc: Global,
     call_number: u64,

@@ -39,7 +39,7 @@ fn run_line(alloc: Global, line: &str) -> Result<String, Fail> {
     Ok(said)
 }
 
-const NO_COMMANDS: [&str; 116] = [
+const NO_COMMANDS: [&str; 123] = [
     "",
     "maestro",
     "maestro run",
@@ -153,6 +153,13 @@ const NO_COMMANDS: [&str; 116] = [
     "maestro run x.nf out a --key-bytes 40 --key-bytes 40",
     "maestro gen x.nf out 0 4 1 --table 1024",
     "maestro keys x.nf --key-bytes 104",
+    "maestro keys x.nf --proof",
+    "maestro keys x.nf --proof x.proof --proof y.proof",
+    "maestro keys --proof x.proof",
+    "maestro keys x.nf y.nf --proof x.proof",
+    "maestro explain x.nf --proof x.proof",
+    "maestro check x.nf --proof x.proof",
+    "maestro certify x.nf --proof x.proof",
     "maestro explain x.nf --table one",
     "maestro check x.nf --table 128",
     "maestro check x.nf --key-bytes 40",
@@ -452,7 +459,8 @@ fn card_of(alloc: Global, line: &str) -> Result<Option<(u32, u32)>, AllocError> 
         Command::Gen(made) => Some(made.card),
         Command::Hash(hash) => Some(hash.card),
         Command::Describe(describe) => Some(describe.card),
-        Command::Replay(_) => None,
+        Command::Prove(prove) => Some(prove.card),
+        Command::Replay(_) | Command::Certify(_) => None,
     };
     match card {
         Some(card) => Ok(Some((card.table.entries(), card.key.bytes()))),
@@ -460,7 +468,7 @@ fn card_of(alloc: Global, line: &str) -> Result<Option<(u32, u32)>, AllocError> 
     }
 }
 
-const CARDS: [(&str, (u32, u32)); 14] = [
+const CARDS: [(&str, (u32, u32)); 16] = [
     ("maestro run x.nf out a", (128, 40)),
     ("maestro run x.nf out a --table 512", (512, 40)),
     ("maestro run x.nf out a --key-bytes=52", (128, 52)),
@@ -480,6 +488,8 @@ const CARDS: [(&str, (u32, u32)); 14] = [
     ("maestro keys x.nf", (128, 40)),
     ("maestro keys x.nf --table 512", (512, 40)),
     ("maestro keys --key-bytes 52 x.nf", (128, 52)),
+    ("maestro keys x.nf --proof x.proof", (128, 40)),
+    ("maestro keys --proof=x.proof x.nf --table 512", (512, 40)),
     ("maestro explain x.nf --table=512 --key-bytes=52", (512, 52)),
     ("maestro hash 1.2.3.4:1 5.6.7.8:2", (128, 40)),
     (

@@ -31,7 +31,7 @@ fn lengths() -> &'static [usize] {
     &LENGTHS
 }
 
-fn is_torn<R: Threads + Wait + Sync>(
+fn is_torn<R: Threads + Wait + Clone + Send + Sync + Drop + 'static>(
     rt: &R,
     alloc: Global,
     inside: usize,
@@ -74,7 +74,7 @@ fn tears() -> &'static [(usize, u8, u64, &'static str)] {
     &TEARS
 }
 
-fn is_torn_at<R: Threads + Wait + Sync>(
+fn is_torn_at<R: Threads + Wait + Clone + Send + Sync + Drop + 'static>(
     rt: &R,
     alloc: Global,
     at: usize,
@@ -96,7 +96,10 @@ fn a_record_that_reaches_too_far_is_torn(rt: HostRuntime) -> Result<(), Fail> {
     Ok(())
 }
 
-fn most_are_run<R: Threads + Wait + Sync>(rt: &R, alloc: Global) -> Result<bool, AllocError> {
+fn most_are_run<R: Threads + Wait + Clone + Send + Sync + Drop + 'static>(
+    rt: &R,
+    alloc: Global,
+) -> Result<bool, AllocError> {
     let captures = [capture(
         alloc,
         &[
@@ -119,7 +122,7 @@ fn most_are_run<R: Threads + Wait + Sync>(rt: &R, alloc: Global) -> Result<bool,
 }
 
 // A torn capture of just as many records as may be handled is torn, and one of more has too many.
-fn most_come_before_tears<R: Threads + Wait + Sync>(
+fn most_come_before_tears<R: Threads + Wait + Clone + Send + Sync + Drop + 'static>(
     rt: &R,
     alloc: Global,
     most: &str,
@@ -235,7 +238,7 @@ fn hashes() -> &'static [(&'static str, &'static str)] {
     &HASHES
 }
 
-fn is_printed<R: Threads + Wait + Sync>(
+fn is_printed<R: Threads + Wait + Clone + Send + Sync + Drop + 'static>(
     rt: &R,
     alloc: Global,
     line: &str,

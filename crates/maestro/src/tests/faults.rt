@@ -8,7 +8,7 @@ use std::test::Fail;
 use std::thread::Threads;
 
 // The firewall with a query and its reply, in files whose calls of these numbers fail.
-fn call_firewall<R: Threads + Wait + Sync>(
+fn call_firewall<R: Threads + Wait + Clone + Send + Sync + Drop + 'static>(
     rt: &R,
     alloc: Global,
     fails: &[u64],
@@ -67,6 +67,7 @@ fn said(file: RunFile) -> &'static str {
         RunFile::Output(_) => "maestro: file fault: output 1\n",
         RunFile::OutJournal => "maestro: file fault: out journal\n",
         RunFile::State => "maestro: file fault: state\n",
+        RunFile::Proof => "maestro: file fault: proof\n",
         RunFile::Stdout => "maestro: file fault: stdout\n",
         RunFile::Stderr => "",
     }
@@ -91,7 +92,7 @@ fn are_fronts(got: &Outcome, whole: &Outcome) -> bool {
 }
 
 // What was created are the files that a run leaves, after the three that it reads.
-fn is_named<R: Threads + Wait + Sync>(
+fn is_named<R: Threads + Wait + Clone + Send + Sync + Drop + 'static>(
     rt: &R,
     alloc: Global,
     whole: &Outcome,
@@ -118,7 +119,10 @@ fn every_call_that_fails_names_its_file(rt: HostRuntime) -> Result<(), Fail> {
 }
 
 // After the calls of the table there is no further one.
-fn is_all<R: Threads + Wait + Sync>(rt: &R, alloc: Global) -> Result<bool, AllocError> {
+fn is_all<R: Threads + Wait + Clone + Send + Sync + Drop + 'static>(
+    rt: &R,
+    alloc: Global,
+) -> Result<bool, AllocError> {
     let whole = call_firewall(rt, alloc, &[])?;
     let got = call_firewall(rt, alloc, &[22])?;
     Ok(got.status == Status::Done && are_fronts(&got, &whole) && are_fronts(&whole, &got))
@@ -131,7 +135,10 @@ fn a_run_makes_22_calls(rt: HostRuntime) -> Result<(), Fail> {
     Ok(())
 }
 
-fn is_empty_journal<R: Threads + Wait + Sync>(rt: &R, alloc: Global) -> Result<bool, AllocError> {
+fn is_empty_journal<R: Threads + Wait + Clone + Send + Sync + Drop + 'static>(
+    rt: &R,
+    alloc: Global,
+) -> Result<bool, AllocError> {
     let got = call_firewall(rt, alloc, &[18])?;
     let status = Status::FileFault(RunFile::OutJournal);
     Ok(got.status == status && has_bytes(&got.journal, b"") && got.state.is_none())
@@ -156,7 +163,7 @@ fn first() -> &'static [(u64, RunFile)] {
     &FIRST
 }
 
-fn is_first<R: Threads + Wait + Sync>(
+fn is_first<R: Threads + Wait + Clone + Send + Sync + Drop + 'static>(
     rt: &R,
     alloc: Global,
     number: u64,
@@ -175,7 +182,7 @@ fn the_first_fault_is_told(rt: HostRuntime) -> Result<(), Fail> {
     Ok(())
 }
 
-fn is_mute<R: Threads + Wait + Sync>(
+fn is_mute<R: Threads + Wait + Clone + Send + Sync + Drop + 'static>(
     rt: &R,
     alloc: Global,
     line: &str,

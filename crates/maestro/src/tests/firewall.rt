@@ -157,7 +157,10 @@ fn is_reply(content: Option<&Option<Vec<u8>>>) -> bool {
     }
 }
 
-fn reply_is_left<R: Threads + Wait + Sync>(rt: &R, alloc: Global) -> Result<bool, AllocError> {
+fn reply_is_left<R: Threads + Wait + Clone + Send + Sync + Drop + 'static>(
+    rt: &R,
+    alloc: Global,
+) -> Result<bool, AllocError> {
     let captures = query_and_reply(alloc)?;
     let got = call(
         rt,
@@ -220,7 +223,7 @@ fn journal_of(handled: bool) -> &'static [u8] {
     }
 }
 
-fn decides<R: Threads + Wait + Sync>(
+fn decides<R: Threads + Wait + Clone + Send + Sync + Drop + 'static>(
     rt: &R,
     alloc: Global,
     at: usize,

@@ -31,7 +31,7 @@ fn forms() -> &'static [(usize, u8, bool, &'static str)] {
 }
 
 // The text and the capture are read.
-fn is_told<R: Threads + Wait + Sync>(
+fn is_told<R: Threads + Wait + Clone + Send + Sync + Drop + 'static>(
     rt: &R,
     alloc: Global,
     at: usize,
@@ -77,7 +77,7 @@ fn said(port: u32) -> &'static str {
 }
 
 // The text and both captures are read.
-fn is_named<R: Threads + Wait + Sync>(
+fn is_named<R: Threads + Wait + Clone + Send + Sync + Drop + 'static>(
     rt: &R,
     alloc: Global,
     inside: usize,

@@ -216,7 +216,10 @@ fn falling() -> &'static Ran {
     &FALLING
 }
 
-fn one_is_right<R: Threads + Wait + Sync>(rt: &R, alloc: Global) -> Result<bool, AllocError> {
+fn one_is_right<R: Threads + Wait + Clone + Send + Sync + Drop + 'static>(
+    rt: &R,
+    alloc: Global,
+) -> Result<bool, AllocError> {
     let rising = wrong_part(rt, alloc, rising())?;
     let falling = wrong_part(rt, alloc, falling())?;
     Ok(rising.is_empty() || falling.is_empty())

@@ -51,7 +51,10 @@ fn is_somewhere(alloc: Global, got: &Outcome) -> Result<bool, AllocError> {
     Ok(found)
 }
 
-fn run_by_source<R: Threads + Wait + Sync>(rt: &R, alloc: Global) -> Result<bool, AllocError> {
+fn run_by_source<R: Threads + Wait + Clone + Send + Sync + Drop + 'static>(
+    rt: &R,
+    alloc: Global,
+) -> Result<bool, AllocError> {
     let captures = captures(alloc, &[&[(1, DATAGRAM)]])?;
     let got = call(
         rt,
@@ -264,7 +267,7 @@ fn is_same_again(alloc: Global, again: &Outcome, run: &Mixed) -> Result<bool, Al
 }
 
 // What is wrong with a run and the replay of what it left; empty where all is right.
-fn wrong_in<R: Threads + Wait + Sync>(
+fn wrong_in<R: Threads + Wait + Clone + Send + Sync + Drop + 'static>(
     rt: &R,
     alloc: Global,
     run: &Mixed,

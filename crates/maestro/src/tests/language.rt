@@ -297,7 +297,10 @@ fn policer() -> &'static [u8] {
     POLICER.as_bytes()
 }
 
-fn policer_fills<R: Threads + Wait + Sync>(rt: &R, alloc: Global) -> Result<bool, AllocError> {
+fn policer_fills<R: Threads + Wait + Clone + Send + Sync + Drop + 'static>(
+    rt: &R,
+    alloc: Global,
+) -> Result<bool, AllocError> {
     let captures = captures(alloc, six())?;
     let got = call(
         rt,
@@ -363,7 +366,10 @@ fn falling() -> &'static Ran {
     &FALLING
 }
 
-fn bridge_learns<R: Threads + Wait + Sync>(rt: &R, alloc: Global) -> Result<bool, AllocError> {
+fn bridge_learns<R: Threads + Wait + Clone + Send + Sync + Drop + 'static>(
+    rt: &R,
+    alloc: Global,
+) -> Result<bool, AllocError> {
     let rising = wrong_part(rt, alloc, rising())?;
     let falling = wrong_part(rt, alloc, falling())?;
     Ok(rising.is_empty() || falling.is_empty())

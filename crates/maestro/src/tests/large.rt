@@ -85,7 +85,7 @@ fn are_sent(got: &Outcome, captures: &[Vec<u8>]) -> bool {
 }
 
 // Whether a run sends out all packets and prints this, and a replay of what it left finds nothing wrong.
-fn is_right<R: Threads + Wait + Sync>(
+fn is_right<R: Threads + Wait + Clone + Send + Sync + Drop + 'static>(
     rt: &R,
     alloc: Global,
     run: &Run,
@@ -174,7 +174,7 @@ fn apart() -> &'static [Run] {
     &APART
 }
 
-fn is_made<R: Threads + Wait + Sync>(
+fn is_made<R: Threads + Wait + Clone + Send + Sync + Drop + 'static>(
     rt: &R,
     alloc: Global,
     run: &Run,

@@ -22,7 +22,7 @@ fn runs() -> &'static [(&'static str, &'static str)] {
 }
 
 // Whether all packets are sent back in their order, and none stands on standard error.
-fn all_come_back<R: Threads + Wait + Sync>(
+fn all_come_back<R: Threads + Wait + Clone + Send + Sync + Drop + 'static>(
     rt: &R,
     alloc: Global,
     line: &str,

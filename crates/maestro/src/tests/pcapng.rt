@@ -39,7 +39,7 @@ fn are_sent(alloc: Global, files: &MemoryFiles) -> Result<bool, AllocError> {
 }
 
 // Replays the journal beside outputs that stand under these names.
-fn replay<R: Threads + Wait + Sync>(
+fn replay<R: Threads + Wait + Clone + Send + Sync + Drop + 'static>(
     rt: &R,
     alloc: Global,
     line: &str,

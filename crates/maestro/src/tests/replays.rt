@@ -92,7 +92,7 @@ fn outputs(alloc: Global) -> Result<Vec<Vec<u8>>, AllocError> {
 }
 
 // Replays a journal beside outputs, in files whose calls of these numbers fail.
-fn replay<R: Threads + Wait + Sync>(
+fn replay<R: Threads + Wait + Clone + Send + Sync + Drop + 'static>(
     rt: &R,
     alloc: Global,
     line: &str,

@@ -75,7 +75,7 @@ fn counts_are(got: &Outcome, ports: usize) -> bool {
 }
 
 /// What is wrong with a run; empty where all is right.
-pub fn wrong_part<R: Threads + Wait + Sync>(
+pub fn wrong_part<R: Threads + Wait + Clone + Send + Sync + Drop + 'static>(
     rt: &R,
     alloc: Global,
     ran: &Ran,

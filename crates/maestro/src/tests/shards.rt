@@ -4,8 +4,8 @@ use super::captures::{Frame, Record, capture, captures};
 use maestro_cli::Turns;
 use nf_base::packet::PacketId;
 use std::alloc::{AllocError, Global};
-use std::sync::Wait;
 use std::sync::atomic::{AtomicU64, Ordering};
+use std::sync::{Arc, Wait};
 use std::test::Fail;
 use std::thread::Threads;
 
@@ -54,7 +54,7 @@ const TWO_WORKERS: &str = "maestro run x.nf out a.pcap b.pcap --workers 2";
 // From 9.9.9.9:1 to 10.0.0.1:2.
 const TO_TEN: Frame = Frame::Flow((151_587_081, 1), (167_772_161, 2), 0x5ebf);
 
-fn run_policer<R: Threads + Wait + Sync>(
+fn run_policer<R: Threads + Wait + Clone + Send + Sync + Drop + 'static>(
     rt: &R,
     alloc: Global,
     line: &str,
@@ -170,7 +170,7 @@ fn each_share_forgets_by_the_last_packet(rt: HostRuntime) -> Result<(), Fail> {
 }
 
 // A call that ends for want of keys, before any capture is opened.
-fn is_without_keys<R: Threads + Wait + Sync>(
+fn is_without_keys<R: Threads + Wait + Clone + Send + Sync + Drop + 'static>(
     rt: &R,
     alloc: Global,
     line: &str,
@@ -209,14 +209,102 @@ fn one_worker_shares_nothing(rt: HostRuntime) -> Result<(), Fail> {
     Ok(())
 }
 
+// As the policer with room for many hosts, of which each sends twice before it is stopped.
+const WIDE: &str = "nf wide { ports 2;
+    chain hosts 4096 lifetime 1000 { map by_dst(d: 32); free used: 64; }
+    on 0 { forward 1; }
+    on 1 { get e = hosts.by_dst(dst_ip) {
+            e.used = e.used + length; if e.used > 100 { drop; } forward 0;
+        } else { new f = hosts(d = dst_ip) { f.used = length; forward 0; } }
+        drop; } }";
+
+// Packets to 50 hosts in turn.
+fn many_hosts(alloc: Global, count: u64) -> Result<Vec<Record>, AllocError> {
+    let mut records = Vec::new(alloc);
+    for k in 0..count {
+        records.push((k, Frame::ToHost((k % 50) as u8)))?;
+    }
+    Ok(records)
+}
+
+// Whether a call ends so, with these outputs.
+fn sends_as<R: Threads + Wait + Clone + Send + Sync + Drop + 'static>(
+    rt: &R,
+    alloc: Global,
+    case: (&str, &str),
+    captures: &[Vec<u8>],
+    one: &Outcome,
+) -> Result<bool, AllocError> {
+    let (line, said) = case;
+    let got = call(rt, alloc, line, "out", WIDE.as_bytes(), captures, &[])?;
+    let mut same = got.outputs.len() == one.outputs.len();
+    for (output, other) in got.outputs.iter().zip(one.outputs.iter()) {
+        same = same
+            && match other {
+                Some(bytes) => has_bytes(output, bytes.as_slice()),
+                None => output.is_none(),
+            };
+    }
+    Ok(same && got.status.number() == 0 && is_text(got.stdout.as_slice(), said))
+}
+
+static BY_MANY: [(&str, &str); 4] = [
+    (
+        "maestro run x.nf out a.pcap b.pcap --workers 2",
+        "ran 300 shard 2\n",
+    ),
+    (
+        "maestro run x.nf out a.pcap b.pcap --workers 3",
+        "ran 300 shard 3\n",
+    ),
+    (
+        "maestro run x.nf out a.pcap b.pcap --workers 7",
+        "ran 300 shard 7\n",
+    ),
+    (
+        "maestro run x.nf out a.pcap b.pcap --workers 16",
+        "ran 300 shard 16\n",
+    ),
+];
+
+fn by_many() -> &'static [(&'static str, &'static str)] {
+    &BY_MANY
+}
+
+#[test]
+fn several_workers_send_what_one_sends(rt: HostRuntime) -> Result<(), Fail> {
+    let alloc = rt.alloc();
+    let records = many_hosts(alloc, 300)?;
+    let captures = captures(alloc, &[&[], records.as_slice()])?;
+    let files = captures.as_slice();
+    let line = "maestro run x.nf out a.pcap b.pcap --workers 1";
+    let one = call(&rt, alloc, line, "out", WIDE.as_bytes(), files, &[])?;
+    assert!(rt; is_text(one.stdout.as_slice(), "ran 300 one 1\n"));
+    for case in by_many() {
+        assert!(rt; sends_as(&rt, alloc, *case, files, &one)?);
+    }
+    Ok(())
+}
+
 /// Reads of a flag after which a worker gives up.
 const READS: u64 = 200_000_000;
 
-/// Holds worker 0 before its packet until worker 1 has handled one.
+/// Holds worker 0 before its packet until worker 1 has handled so many.
 #[derive(Drop)]
 struct Meeting {
-    left: AtomicU64,
+    wanted: u64,
+    handled: AtomicU64,
     gave_up: AtomicU64,
+}
+
+impl Meeting {
+    fn new(wanted: u64) -> Meeting {
+        Meeting {
+            wanted,
+            handled: AtomicU64::new(0),
+            gave_up: AtomicU64::new(0),
+        }
+    }
 }
 
 impl Turns for Meeting {
@@ -225,7 +313,7 @@ impl Turns for Meeting {
             return;
         }
         for _ in 0..READS {
-            if self.left.load(Ordering::SeqCst) > 0 {
+            if self.handled.load(Ordering::SeqCst) >= self.wanted {
                 return;
             }
         }
@@ -234,7 +322,7 @@ impl Turns for Meeting {
 
     fn after(&self, worker: u32, _packet: PacketId) {
         if worker == 1 {
-            self.left.store(1, Ordering::SeqCst);
+            self.handled.fetch_add(1, Ordering::SeqCst);
         }
     }
 }
@@ -246,23 +334,36 @@ fn two_queues() -> &'static [Record] {
     &TWO_QUEUES
 }
 
+// Whether worker 0 was held until worker 1 had handled so many packets, and all were handled.
+fn meet<R: Threads + Wait + Clone + Send + Sync + Drop + 'static>(
+    rt: &R,
+    alloc: Global,
+    wanted: u64,
+    records: &[Record],
+    said: &str,
+) -> Result<bool, AllocError> {
+    let turns = Arc::new(alloc, Meeting::new(wanted))?;
+    let captures = captures(alloc, &[&[], records])?;
+    let files = captures.as_slice();
+    let got = call_with(rt, alloc, TWO_WORKERS, policer(), files, &turns)?;
+    Ok(turns.gave_up.load(Ordering::SeqCst) == 0 && is_text(got.stdout.as_slice(), said))
+}
+
 #[test]
 fn two_workers_meet(rt: HostRuntime) -> Result<(), Fail> {
+    assert!(rt; meet(&rt, rt.alloc(), 1, two_queues(), "ran 2 shard 2\n")?);
+    Ok(())
+}
+
+// A host of queue 0, and then as many packets to one of queue 1 as can be in flight.
+#[test]
+fn a_worker_runs_ahead(rt: HostRuntime) -> Result<(), Fail> {
     let alloc = rt.alloc();
-    let turns = Meeting {
-        left: AtomicU64::new(0),
-        gave_up: AtomicU64::new(0),
-    };
-    let captures = captures(alloc, &[&[], two_queues()])?;
-    let got = call_with(
-        &rt,
-        alloc,
-        TWO_WORKERS,
-        policer(),
-        captures.as_slice(),
-        &turns,
-    )?;
-    assert_eq!(rt; turns.gave_up.load(Ordering::SeqCst), 0);
-    assert!(rt; is_text(got.stdout.as_slice(), "ran 2 shard 2\n"));
+    let mut records = Vec::new(alloc);
+    records.push((0, TO_TEN))?;
+    for k in 0..64 {
+        records.push((k, Frame::ToHost(1)))?;
+    }
+    assert!(rt; meet(&rt, alloc, 64, records.as_slice(), "ran 65 shard 2\n")?);
     Ok(())
 }

@@ -5,7 +5,7 @@ use super::gates::{Doors, Meeting, Shut};
 use super::shards::{bridge, policer};
 use maestro_cli::{Gate, Idle, PackGate, RunFile, Status, Turns};
 use std::alloc::{AllocError, Global};
-use std::sync::Wait;
+use std::sync::{Arc, Wait};
 use std::test::Fail;
 use std::thread::Threads;
 
@@ -51,7 +51,7 @@ const LOCK: &str = "maestro run x.nf out a.pcap b.pcap --workers 2 --mode lock";
 
 const AUTO: &str = "maestro run x.nf out a.pcap b.pcap --workers 2";
 
-fn run_bridge<R: Threads + Wait + Sync>(
+fn run_bridge<R: Threads + Wait + Clone + Send + Sync + Drop + 'static>(
     rt: &R,
     alloc: Global,
     line: &str,
@@ -61,12 +61,11 @@ fn run_bridge<R: Threads + Wait + Sync>(
     call(rt, alloc, line, "out", bridge(), captures.as_slice(), fails)
 }
 
-fn run_gated<R: Threads + Wait + Sync, G: Turns + Sync, L: Gate + Drop + Send>(
-    rt: &R,
-    alloc: Global,
-    turns: &G,
-    gate: &mut L,
-) -> Result<Outcome, AllocError> {
+fn run_gated<
+    R: Threads + Wait + Clone + Send + Sync + Drop + 'static,
+    G: Turns + Send + Sync + Drop + 'static,
+    L: Gate + Drop + Send,
+>(rt: &R, alloc: Global, turns: &Arc<G>, gate: &mut L) -> Result<Outcome, AllocError> {
     let captures = captures(alloc, talk())?;
     call_gated(rt, alloc, LOCK, bridge(), captures.as_slice(), turns, gate)
 }
@@ -80,6 +79,17 @@ fn is_sent(alloc: Global, got: &Outcome) -> Result<bool, AllocError> {
         }
     }
     Ok(true)
+}
+
+// Whether each output is a header alone.
+fn holds_no_records(alloc: Global, got: &Outcome) -> Result<bool, AllocError> {
+    let wanted = capture(alloc, &[])?;
+    for output in got.outputs.iter() {
+        if !has_bytes(output, wanted.as_slice()) {
+            return Ok(false);
+        }
+    }
+    Ok(!got.outputs.is_empty())
 }
 
 // Whether a run has one of the right journals with its state, and sent what is to be sent.
@@ -105,7 +115,8 @@ fn each_port_keeps_its_order(rt: HostRuntime) -> Result<(), Fail> {
 
 #[test]
 fn a_gate_that_makes_nothing_leaves_one_worker(rt: HostRuntime) -> Result<(), Fail> {
-    let got = run_gated(&rt, rt.alloc(), &Idle, &mut Shut::new())?;
+    let turns = Arc::new(rt.alloc(), Idle)?;
+    let got = run_gated(&rt, rt.alloc(), &turns, &mut Shut::new())?;
     assert!(rt; got.status == Status::Done);
     assert!(rt; is_text(got.stdout.as_slice(), "ran 2 one 2\n"));
     let journal = "maestro journal 1 one 2\n0 0 0 flood 0\n1 0 0 to:0 1\n";
@@ -118,12 +129,13 @@ fn a_gate_that_makes_nothing_leaves_one_worker(rt: HostRuntime) -> Result<(), Fa
 
 #[test]
 fn two_seats_meet(rt: HostRuntime) -> Result<(), Fail> {
-    let turns = Meeting::new();
+    let turns = Arc::new(rt.alloc(), Meeting::new())?;
     let met = run_gated(&rt, rt.alloc(), &turns, &mut PackGate::new())?;
     assert!(rt; turns.was_kept());
     assert!(rt; is_right(rt.alloc(), &met)?);
     let inside = Meeting::new();
-    let both = run_gated(&rt, rt.alloc(), &Idle, &mut Doors::new(&inside))?;
+    let idle = Arc::new(rt.alloc(), Idle)?;
+    let both = run_gated(&rt, rt.alloc(), &idle, &mut Doors::new(&inside))?;
     assert!(rt; inside.was_kept() && inside.has_come(2));
     assert!(rt; is_right(rt.alloc(), &both)?);
     Ok(())
@@ -166,16 +178,23 @@ fn the_first_packets_are_shared_out(rt: HostRuntime) -> Result<(), Fail> {
     Ok(())
 }
 
-// The 19th call on files writes the journal: the text is read in two calls behind its opening, both
-// captures are opened and their headers read, three files are created, both captures are read to their
-// ends in three calls each, and both outputs are written before it.
+// The 19th call on files writes the journal's heading: the text is read in two calls behind its opening,
+// both captures are opened and their headers read, three files are created, both captures are read to
+// their ends in three calls each, and the headers of both outputs are written before it. The 22nd writes
+// the journal's lines, behind both outputs' records.
 #[test]
 fn a_run_in_mode_lock_can_be_stopped(rt: HostRuntime) -> Result<(), Fail> {
-    let got = run_bridge(&rt, rt.alloc(), LOCK, &[18])?;
-    assert!(rt; got.status == Status::FileFault(RunFile::OutJournal));
-    assert!(rt; has_bytes(&got.journal, b""));
-    assert!(rt; got.state.is_none());
-    assert!(rt; got.stdout.is_empty());
-    assert!(rt; is_sent(rt.alloc(), &got)?);
+    let at_the_heading = run_bridge(&rt, rt.alloc(), LOCK, &[18])?;
+    assert!(rt; at_the_heading.status == Status::FileFault(RunFile::OutJournal));
+    assert!(rt; has_bytes(&at_the_heading.journal, b""));
+    assert!(rt; at_the_heading.state.is_none());
+    assert!(rt; at_the_heading.stdout.is_empty());
+    assert!(rt; holds_no_records(rt.alloc(), &at_the_heading)?);
+    let at_the_lines = run_bridge(&rt, rt.alloc(), LOCK, &[21])?;
+    assert!(rt; at_the_lines.status == Status::FileFault(RunFile::OutJournal));
+    assert!(rt; has_bytes(&at_the_lines.journal, b"maestro journal 1 lock 2\n"));
+    assert!(rt; at_the_lines.state.is_none());
+    assert!(rt; at_the_lines.stdout.is_empty());
+    assert!(rt; is_sent(rt.alloc(), &at_the_lines)?);
     Ok(())
 }

@@ -101,7 +101,7 @@ fn is_refusal(status: Status) -> bool {
 }
 
 // The text alone is read.
-fn is_refused<R: Threads + Wait + Sync>(
+fn is_refused<R: Threads + Wait + Clone + Send + Sync + Drop + 'static>(
     rt: &R,
     alloc: Global,
     text: &[u8],

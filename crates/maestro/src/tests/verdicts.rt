@@ -282,7 +282,7 @@ fn prints(alloc: Global, got: &Outcome, front: &str, end: &str) -> Result<bool, 
     )
 }
 
-fn explains<R: Threads + Wait + Sync>(
+fn explains<R: Threads + Wait + Clone + Send + Sync + Drop + 'static>(
     rt: &R,
     alloc: Global,
     told: &Told,
@@ -291,7 +291,7 @@ fn explains<R: Threads + Wait + Sync>(
     prints(alloc, &got, told.objects, told.verdict)
 }
 
-fn gives_keys<R: Threads + Wait + Sync>(
+fn gives_keys<R: Threads + Wait + Clone + Send + Sync + Drop + 'static>(
     rt: &R,
     alloc: Global,
     told: &Told,
@@ -319,7 +319,7 @@ fn keys_are_the_end_of_what_is_explained(rt: HostRuntime) -> Result<(), Fail> {
 }
 
 // A text that is no function, and one with too many paths, are refused as by `check`.
-fn is_refused_so<R: Threads + Wait + Sync>(
+fn is_refused_so<R: Threads + Wait + Clone + Send + Sync + Drop + 'static>(
     rt: &R,
     alloc: Global,
     text: &str,
@@ -376,7 +376,7 @@ fn no_function_is_told_nothing_of(rt: HostRuntime) -> Result<(), Fail> {
 }
 
 // The text is opened and read in three calls, and what is told is printed in one.
-fn stops_at<R: Threads + Wait + Sync>(
+fn stops_at<R: Threads + Wait + Clone + Send + Sync + Drop + 'static>(
     rt: &R,
     alloc: Global,
     line: &str,
@@ -389,7 +389,7 @@ fn stops_at<R: Threads + Wait + Sync>(
     Ok(got.is_stop(Status::FileFault(file), said, opened, 0))
 }
 
-fn stops_so<R: Threads + Wait + Sync>(
+fn stops_so<R: Threads + Wait + Clone + Send + Sync + Drop + 'static>(
     rt: &R,
     alloc: Global,
     line: &str,

@@ -65,7 +65,7 @@ fn bad_lines() -> &'static [&'static str] {
 }
 
 /// The firewall with a capture for each port, called with a line.
-fn call_firewall<R: Threads + Wait + Sync>(
+fn call_firewall<R: Threads + Wait + Clone + Send + Sync + Drop + 'static>(
     rt: &R,
     alloc: Global,
     line: &str,
@@ -158,7 +158,7 @@ fn missing_files() -> &'static [Missing] {
     &MISSING
 }
 
-fn is_named<R: Threads + Wait + Sync>(
+fn is_named<R: Threads + Wait + Clone + Send + Sync + Drop + 'static>(
     rt: &R,
     alloc: Global,
     case: &Missing,

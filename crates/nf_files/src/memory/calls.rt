@@ -1,7 +1,7 @@
 // Which calls on `MemoryFiles` fail.
 ghost use Rattle.std.specs.Prelude.{◌≡◌, ◌+◌, ◌-◌, ◌^◌, min, None, OnOk, OnErr};
 ghost use Rattle.nf_files.specs.Causes.{Faulted, FaultedAsking, an_asking, asking, no_calls};
-ghost use Rattle.nf_files.specs.Memory.{is_listed, calls_counted};
+ghost use Rattle.nf_files.specs.Memory.{is_listed, is_sound, calls_counted};
 
 use crate::kind::Kind;
 use crate::{FaultCount, FilesFault};
@@ -46,6 +46,13 @@ impl Calls {
         ensures value { result ≡ is_listed self.now }
     {
         self.fails.contains(&self.made)
+    }
+
+    // Whether no call is to fail.
+    pub fn is_sound(&self) -> bool
+        ensures value { result ≡ is_sound self.now }
+    {
+        self.fails.is_empty()
     }
 
     // The next call passed.

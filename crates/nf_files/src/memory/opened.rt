@@ -1,6 +1,6 @@
 // The opened files of `MemoryFiles`.
 ghost use Rattle.std.specs.Prelude.{◌≡◌, ◌<◌, ◌≤◌, ◌++◌, [], take, drop, length, slice_get, IfOk, OnOk, OnErr, Some, true, map, option_map};
-ghost use Rattle.nf_files.specs.Opened.{kind_of, rest_of, given_of, stands_under, last_created, displaced, Changes};
+ghost use Rattle.nf_files.specs.Opened.{kind_of, rest_of, left_of, given_of, stands_under, last_created, displaced, Changes};
 ghost use Rattle.nf_files.specs.Pieces.{Takes, Gains};
 ghost use Rattle.nf_files.specs.Told.{IsEmptyIfTold};
 
@@ -74,6 +74,44 @@ pub fn read_at(files: &mut Vec<OpenFile>, k: usize, out: &mut [u8]) -> usize
     ensures given { given_of (slice_get files.new.items k) ≡ given_of (slice_get files.old.items k) }
 {
     take_from(&mut files[k], out)
+}
+
+// What is left of a file.
+fn left(f: &OpenFile) -> &[u8]
+    ensures { result.now ≡ drop f.now.at f.now.bytes.items }
+{
+    let start = f.at.min(f.bytes.len());
+    &f.bytes[start..]
+}
+
+// What is left of the file at a place of the list.
+pub fn left_at(files: &[OpenFile], k: usize) -> &[u8]
+    requires input { kind_of (slice_get files.now k) ≡ Some Kind.Input }
+    ensures value { rest_of (slice_get files.now k) ≡ Some result.now }
+{
+    left(&files[k])
+}
+
+// Takes so many bytes from what is left of a file.
+fn skip(f: &mut OpenFile, count: usize)
+    requires { count ≤ length (drop f.old.at f.old.bytes.items) }
+    ensures taken { let left = drop f.old.at f.old.bytes.items in
+        left ≡ take count left ++ drop f.new.at f.new.bytes.items }
+    ensures same { (f.new.name ≡ f.old.name) × (f.new.kind ≡ f.old.kind) × (f.new.bytes ≡ f.old.bytes) × (f.new.stands ≡ f.old.stands) }
+{
+    f.at += count;
+}
+
+// Takes so many bytes from what is left of the file at a place of the list.
+pub fn skip_at(files: &mut Vec<OpenFile>, k: usize, count: usize)
+    requires input { kind_of (slice_get files.old.items k) ≡ Some Kind.Input }
+    requires within { count ≤ length (left_of (slice_get files.old.items k)) }
+    ensures changes { Changes files.old.items files.new.items k }
+    ensures taken { let front = take count (left_of (slice_get files.old.items k)) in
+        Takes front (rest_of (slice_get files.old.items k)) (rest_of (slice_get files.new.items k)) }
+    ensures given { given_of (slice_get files.new.items k) ≡ given_of (slice_get files.old.items k) }
+{
+    skip(&mut files[k], count);
 }
 
 // Writes a piece to the file at a place of the list.

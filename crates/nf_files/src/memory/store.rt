@@ -1,15 +1,18 @@
 // Names, what stands under them, and the files that were opened.
-ghost use Rattle.std.specs.Prelude.{◌≡◌, ◌<◌, ◌≤◌, ◌+◌, ◌⊎◌, ℕ, List, length, option_map, OnOk, OnErr, Some};
+ghost use Rattle.std.specs.Prelude.{◌≡◌, ◌<◌, ◌≤◌, ◌+◌, ◌-◌, ◌⊎◌, ℕ, List, length, take, slice_get, option_map, OnOk, OnErr, Some};
 ghost use Rattle.nf_files.specs.Memory.{store_told, nothing, is_input, is_output};
 ghost use Rattle.nf_files.specs.Openings.{Opens, Creates};
 ghost use Rattle.nf_files.specs.Puts.{Puts};
-ghost use Rattle.nf_files.specs.Reads.{Reads};
+ghost use Rattle.nf_files.specs.Opened.{left_of};
+ghost use Rattle.nf_files.specs.Pieces.{Takes};
+ghost use Rattle.nf_files.specs.Reads.{Keeps, Reads};
 ghost use Rattle.nf_files.specs.Told.{Same};
 ghost use Rattle.nf_files.specs.Writes.{Writes};
 
 use super::named::{Named, put_bytes};
 use super::opened::{
-    OpenFile, displace_all, given_at, input, last_under, output, read_at, write_at,
+    OpenFile, displace_all, given_at, input, last_under, left_at, output, read_at, skip_at,
+    write_at,
 };
 use std::alloc::{AllocError, Global};
 
@@ -108,6 +111,27 @@ impl Store {
         ensures writes { (g : ℕ) → is_output self.old.files.items g → is_output self.new.files.items g }
     {
         read_at(&mut self.files, file as usize - 2, out)
+    }
+
+    // What is left of a file.
+    pub fn left(&self, file: u32) -> &[u8]
+        requires input { is_input self.now.files.items file }
+        ensures { result.now ≡ left_of (slice_get self.now.files.items (file - 2)) }
+    {
+        left_at(self.files.as_slice(), file as usize - 2)
+    }
+
+    // Takes so many bytes from what is left of a file.
+    pub fn take(&mut self, file: u32, count: usize)
+        requires input { is_input self.old.files.items file }
+        requires within { count ≤ length (left_of (slice_get self.old.files.items (file - 2))) }
+        ensures taken { let front = take count (left_of (slice_get self.old.files.items (file - 2))) in
+            Takes front ((store_told self.old).rest file) ((store_told self.new).rest file) }
+        ensures kept { Keeps (store_told self.old) (store_told self.new) file }
+        ensures reads { (g : ℕ) → is_input self.old.files.items g → is_input self.new.files.items g }
+        ensures writes { (g : ℕ) → is_output self.old.files.items g → is_output self.new.files.items g }
+    {
+        skip_at(&mut self.files, file as usize - 2, count)
     }
 
     // Gives a piece to a file.

@@ -1,9 +1,11 @@
-use Rattle.std.proofs.Common.{◌∙◌, ap, ap₂}
 use Rattle.std.proofs.lemmas.Result.{IfOk-weaker}
-use Rattle.clap.specs.Words.{app_of, with_rule}
+use Rattle.command_words.specs.Grammar.{with_card}
+use Rattle.command_words.proofs.Making.{own, with_word}
 use Rattle.command_words.proofs.grammar.with_card.Goals as goal
 
-pub returns-clause-app : goal.returns-clause-app
-returns-clause-app c =
-    let first = c.in_ok-arg.ensures.shape c.option.ensures.local ∙ ap (with_rule (app_of c.args.command)) c.option.ensures.rule in
-    IfOk-weaker c.arg-2.result _ _ (λ r h. h.shape c.option-2.ensures.local ∙ ap₂ with_rule first c.option-2.ensures.rule) c.arg-2.ensures
+pub returns : goal.returns
+unfolding with_card
+returns c =
+    let start = own c.args.command c.requires.local in
+    let one = with_word c.args.command c.in_ok-arg.field-0 c.option.result _ _ start c.option.ensures c.in_ok-arg.ensures in
+    IfOk-weaker c.arg-2.result _ _ (λ r h. with_word c.in_ok-arg.field-0 r c.option-2.result _ _ one c.option-2.ensures h) c.arg-2.ensures

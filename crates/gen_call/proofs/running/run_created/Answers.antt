@@ -1,21 +1,30 @@
 use Rattle.std.proofs.Common.{refl}
 use Rattle.call_base.specs.Outside.{seen}
-use Rattle.call_base.proofs.Ending.{last_is}
+use Rattle.call_base.proofs.Ending.{last_is, targets_empty}
 use Rattle.gen_call.specs.Progress.{Since}
 use Rattle.gen_call.proofs.Finishing.{halted, finished, unfinished}
-use Rattle.gen_call.proofs.Workers.{first_is, done, share_full, cut}
+use Rattle.gen_call.proofs.Workers.{first_is, numbers_are, done, share_full, cut}
 use Rattle.gen_call.proofs.running.run_created.Goals as goal
+
+pub run-requires-clause-numbers : goal.run-requires-clause-numbers
+run-requires-clause-numbers g c κs lives k file e =
+    let now = seen (g.F.Files.told c.args.files.now) (g.F.Files.counted c.args.files.now) in
+    numbers_are g.before now c.args.job.now c.args.targets.now c.requires.1.1.1.1.1.1.1.1.1.1.1.1.1.1.1.1 k file e
+
+pub run-requires-clause-empty : goal.run-requires-clause-empty
+run-requires-clause-empty g c κs lives k file e =
+    targets_empty c.requires.1.1.1.1.1.1.1.1.1.1.1.1.1.1.1.1 k file e
 
 pub leave_run-requires-clause-last : goal.leave_run-requires-clause-last
 leave_run-requires-clause-last g c =
-    let requires = c.requires.1.1.1.1.1.1.1 in
+    let requires = c.requires.1.1.1.1.1.1.1.1.1.1.1 in
     last_is c.args.job.now.layout.ports requires.1.1.1.1.1 c.in-Ok-Whole.ensures.kept.next_same refl
 
 pub returns-in-Ok : goal.returns-in-Ok
 returns-in-Ok g c =
     let told = g.F.Files.told in
     let counted = g.F.Files.counted in
-    let requires = c.requires.1.1.1.1.1.1.1 in
+    let requires = c.requires.1.1.1.1.1.1.1.1.1.1.1 in
     let job = c.args.job.now in
     let since : Since = record { before = g.before; was = g.G.Gate.refused c.args.gate.now; is = g.G.Gate.refused c.run.new.gate } in
     let a = seen (told c.args.files.now) (counted c.args.files.now) in
@@ -30,7 +39,7 @@ pub returns-in-Ok-Whole : goal.returns-in-Ok-Whole
 returns-in-Ok-Whole g c =
     let told = g.F.Files.told in
     let counted = g.F.Files.counted in
-    let requires = c.requires.1.1.1.1.1.1.1 in
+    let requires = c.requires.1.1.1.1.1.1.1.1.1.1.1 in
     let job = c.args.job.now in
     let since : Since = record { before = g.before; was = g.G.Gate.refused c.args.gate.now; is = g.G.Gate.refused c.run.new.gate } in
     let a = seen (told c.args.files.now) (counted c.args.files.now) in
@@ -46,7 +55,7 @@ pub returns-in-Ok-Full : goal.returns-in-Ok-Full
 returns-in-Ok-Full g c =
     let told = g.F.Files.told in
     let counted = g.F.Files.counted in
-    let requires = c.requires.1.1.1.1.1.1.1 in
+    let requires = c.requires.1.1.1.1.1.1.1.1.1.1.1 in
     let job = c.args.job.now in
     let since : Since = record { before = g.before; was = g.G.Gate.refused c.args.gate.now; is = g.G.Gate.refused c.run.new.gate } in
     let a = seen (told c.args.files.now) (counted c.args.files.now) in
@@ -58,7 +67,7 @@ pub returns : goal.returns
 returns g c =
     let told = g.F.Files.told in
     let counted = g.F.Files.counted in
-    let requires = c.requires.1.1.1.1.1.1.1 in
+    let requires = c.requires.1.1.1.1.1.1.1.1.1.1.1 in
     let job = c.args.job.now in
     let since : Since = record { before = g.before; was = g.G.Gate.refused c.args.gate.now; is = g.G.Gate.refused c.run.new.gate } in
     let a = seen (told c.args.files.now) (counted c.args.files.now) in

@@ -13,11 +13,11 @@ pub returns-in-Err : goal.returns-in-Err
 returns-in-Err g c =
     let now = seen (g.F.Files.told c.args.files.now) (g.F.Files.counted c.args.files.now) in
     let count = g.G.Gate.refused c.args.gate.now in
-    record { gens = is_unserved (view.gen c.args.command.now) (Rose count count) g.before now c.args.found.now c.in-Err.halt c.requires.1.1.1.1.1.1.1.1 c.in-Err.ensures.serves }
+    record { gens = is_unserved (view.gen c.args.command.now) (Rose count count) g.before now c.args.found.now c.in-Err.halt c.requires.1.1.1.1.1.1.1.1.1.1.1.1 c.in-Err.ensures.serves }
 
 pub run_served-requires : goal.run_served-requires
 run_served-requires g c κs within =
-    let requires = c.requires.1.1.1.1.1.1.1 in
+    let requires = c.requires.1.1.1.1.1.1.1.1.1.1.1 in
     let asked = view.gen c.args.command.now in
     let found = requires.1 in
     let func = c.args.found.now.source.func in
@@ -37,17 +37,29 @@ run_served-requires g c κs within =
                 (
                   c.requires.1.1.1.1.1.1.0,
                   (
-                    record {
-                      is_function = found.is_function;
-                      handlers = sym c.len.ensures.value;
-                      first = found.number;
-                      captures = refl;
-                      behind = refl;
-                      from_two = found.from_two;
-                      some = omega (arith, c.len.ensures.value, ports.some, handlers);
-                      few = omega (arith, c.len.ensures.value, ports.few, handlers);
-                    },
-                    (requires.0, (c.in-Ok.ensures.serves.0, (c.in-Ok.ensures.serves.1, (found.next, found.only)))),
+                    c.requires.1.1.1.1.1.1.1.0,
+                    (
+                      c.requires.1.1.1.1.1.1.1.1.0,
+                      (
+                        c.requires.1.1.1.1.1.1.1.1.1.0,
+                        (
+                          c.requires.1.1.1.1.1.1.1.1.1.1.0,
+                          (
+                            record {
+                              is_function = found.is_function;
+                              handlers = sym c.len.ensures.value;
+                              first = found.number;
+                              captures = refl;
+                              behind = refl;
+                              from_two = found.from_two;
+                              some = omega (arith, c.len.ensures.value, ports.some, handlers);
+                              few = omega (arith, c.len.ensures.value, ports.few, handlers);
+                            },
+                            (requires.0, (c.in-Ok.ensures.serves.0, (c.in-Ok.ensures.serves.1, (found.next, found.only)))),
+                          ),
+                        ),
+                      ),
+                    ),
                   ),
                 ),
               ),

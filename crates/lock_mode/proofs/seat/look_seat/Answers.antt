@@ -1,7 +1,7 @@
-use Rattle.std.proofs.Common.{◌≡◌, ◌++◌, ◌∷◌, [], ℕ, length, Vec, Global, ap, sym, ◌∙◌, subst}
+use Rattle.std.proofs.Common.{◌≡◌, ◌++◌, ◌∷◌, [], ℕ, length, subst}
 use Rattle.nf_base.specs.declared.done.Done.{Done}
 use Rattle.lock_core.specs.declared.call.Way.TheVariants as way
-use Rattle.lock_core.specs.declared.call.Call.{Call}
+use Rattle.lock_log.specs.Notes.{LogState}
 use Rattle.lock_mode.specs.Looks.{IfDone}
 use Rattle.lock_mode.proofs.Making.{seat_looked, needs_ap, refused_ap}
 use Rattle.lock_mode.proofs.seat.look_seat.Goals as goal
@@ -10,11 +10,11 @@ pub invariant_of-result : goal.invariant_of-result
 invariant_of-result g c =
     let looked = c.look_by-viewer.result.1 in
     let front = c.look_by-viewer.result.0.front in
-    let calls = c.seat.inside.calls.items in
-    let put = c.add_look.new.calls.items in
+    let calls = c.seat.inside.calls.calls in
+    let put = c.add_look.new.calls.calls in
     let packet = c.args.packet.now in
     let done : IfDone looked (λ (d : Done). put ≡ calls ++ record { way = way.Look; place = length front; packet = packet; done = d } ∷ []) =
     subst (λ (k : ℕ). IfDone looked (λ (d : Done). put ≡ calls ++ record { way = way.Look; place = k; packet = packet; done = d } ∷ [])) c.len.ensures.length c.add_look.ensures.done in
     seat_looked looked g.J.Naming.function g.J.Naming.seats c.seat.inside.number c.seat.inside.viewer.front front packet calls put c.look_by-viewer.ensures.seen c.seat.invariant c.look_by-viewer.ensures.done done
-    (needs_ap looked (λ (v : Vec Call Global). v.items) c.add_look.new.calls c.seat.inside.calls c.add_look.ensures.needs)
-    (refused_ap looked (λ (v : Vec Call Global). v.items) c.add_look.new.calls c.seat.inside.calls c.add_look.ensures.refused)
+    (needs_ap looked (λ (v : LogState). v.calls) c.add_look.new.calls c.seat.inside.calls c.add_look.ensures.needs)
+    (refused_ap looked (λ (v : LogState). v.calls) c.add_look.new.calls c.seat.inside.calls c.add_look.ensures.refused)

@@ -1,8 +1,6 @@
 use Rattle.std.proofs.Common.{◌≡◌, ◌++◌, ◌∷◌, [], ℕ, List, ap, sym, ◌∙◌, subst}
-use Rattle.nf_base.specs.declared.done.Done.{Done}
 use Rattle.lock_core.specs.declared.call.Way.TheVariants as way
 use Rattle.lock_core.specs.declared.call.Entry.{Entry}
-use Rattle.lock_core.specs.declared.call.Call.{Call}
 use Rattle.lock_mode.specs.Alone.{IsAlone}
 use Rattle.lock_mode.specs.Seats.{SeatState, IsSeat}
 use Rattle.lock_mode.proofs.Making.{seat_stands}
@@ -14,7 +12,7 @@ invariant_of-result g c =
     let seats = g.J.Naming.seats in
     let seat = c.seat.inside.number in
     let seen = c.seat.inside.viewer.front in
-    let calls = c.seat.inside.calls.items in
+    let calls = c.seat.inside.calls.calls in
     let packet = c.args.packet.now in
     let placed = c.args.placed.now in
     let seen_is : seen ≡ c.args.seat.seen = ap (λ (s : SeatState). s.seen) c.seat.view_is in
@@ -22,7 +20,6 @@ invariant_of-result g c =
     let alone : IsAlone f seen seat packet placed c.args.front =
     subst (λ (es : List Entry). IsAlone f es seat packet placed c.args.front) (sym seen_is)
     (subst (λ (n : ℕ). IsAlone f c.args.seat.seen n packet placed c.args.front) (sym seat_is) c.requires.stands) in
-    let put : c.push.new.self.items ≡ calls ++ record { way = way.Alone; place = placed.place; packet = packet; done = placed.done } ∷ [] =
-    c.in-Ok.ensures.items ∙ ap (λ (d : Done). calls ++ record { way = way.Alone; place = placed.place; packet = packet; done = d } ∷ []) c.again.ensures in
-    subst (λ (es : List Entry). IsSeat f seats seat es c.push.new.self.items) (sym c.catch_up-viewer.ensures)
-    (seat_stands f seats seat seen c.args.front packet placed calls c.push.new.self.items alone c.seat.invariant put)
+    let put : c.push.new.self.calls ≡ calls ++ record { way = way.Alone; place = placed.place; packet = packet; done = placed.done } ∷ [] = c.push.ensures.put in
+    subst (λ (es : List Entry). IsSeat f seats seat es c.push.new.self.calls) (sym c.catch_up-viewer.ensures)
+    (seat_stands f seats seat seen c.args.front packet placed calls c.push.new.self.calls alone c.seat.invariant put)

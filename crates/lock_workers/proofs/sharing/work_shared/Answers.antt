@@ -16,4 +16,4 @@ returns-in-Ok g c =
     let own = c.args.own.now in
     let after = c.work_each.new.seats.items in
     let done : AreAllDone own after = subst (AreAllDone own) c.as_slice.ensures.value c.if-not-are_done.ensures in
-    shared_of g.J.Naming.function g.J.Naming.seats c.args.packets.now own c.args.seats.items after c.in-Ok.closed.order.items c.in-Ok.closed.tables c.requires.new c.requires.dealt.many c.work_each.ensures done c.in-Ok.ensures.closed
+    shared_of g.J.Naming.function g.J.Naming.seats c.args.packets.now own c.args.seats.items after c.in-Ok.closed.order c.in-Ok.closed.tables c.requires.new c.requires.dealt.many c.work_each.ensures done c.in-Ok.ensures.closed

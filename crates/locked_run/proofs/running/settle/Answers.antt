@@ -19,12 +19,12 @@ returns-in-Ok-write-clause-settles g c =
     let Refused = Rose (g.G.Gate.refused c.args.gate.now) (g.G.Gate.refused c.work.new.gate) in
     let batch = c.args.batch.now in
     let worked = c.in-Ok.worked in
-    let hs = joined batch worked.order.items worked.places.items in
+    let hs = joined batch worked.order worked.places.items in
     let mode : c.mode_of-mode.result ≡ mode_of worked.workers workers = c.mode_of-mode.ensures ∙ ap (mode_of worked.workers) c.get.ensures.value in
     record {
       hs = hs;
       are = subst (λ (m : Mode). AreSettled f m workers Refused batch hs worked.state) (sym mode)
-          (settled_of f workers Refused batch worked.order.items worked.places.items worked.state worked.workers c.requires.several c.in-Ok.ensures.handled c.in-Ok.ensures.as_many);
+          (settled_of f workers Refused batch worked.order worked.places.items worked.state worked.workers c.requires.several c.in-Ok.ensures.handled c.in-Ok.ensures.as_many);
       wholes = subst (λ (n : ℕ). AreWhole c.mode_of-mode.result workers c.args.card c.args.format n hs (g.F.Files.told c.write.new.files) c.args.targets.now) c.len-ports.ensures.value c.in-Ok-write.ensures.written;
     }
 
@@ -35,7 +35,7 @@ returns-in-Err-write-clause-settles g c =
     let Refused = Rose (g.G.Gate.refused c.args.gate.now) (g.G.Gate.refused c.work.new.gate) in
     let batch = c.args.batch.now in
     let worked = c.in-Ok.worked in
-    let hs = joined batch worked.order.items worked.places.items in
+    let hs = joined batch worked.order worked.places.items in
     let mode : c.mode_of-mode.result ≡ mode_of worked.workers workers = c.mode_of-mode.ensures ∙ ap (mode_of worked.workers) c.get.ensures.value in
     record {
       mode = c.mode_of-mode.result;
@@ -44,6 +44,6 @@ returns-in-Err-write-clause-settles g c =
       state = worked.state;
       some = inr refl;
       are = subst (λ (m : Mode). AreSettled f m workers Refused batch hs worked.state) (sym mode)
-          (settled_of f workers Refused batch worked.order.items worked.places.items worked.state worked.workers c.requires.several c.in-Ok.ensures.handled c.in-Ok.ensures.as_many);
+          (settled_of f workers Refused batch worked.order worked.places.items worked.state worked.workers c.requires.several c.in-Ok.ensures.handled c.in-Ok.ensures.as_many);
       fronts = subst (λ (n : ℕ). AreFronts c.mode_of-mode.result workers c.args.card c.args.format n hs (g.F.Files.told c.write.new.files) c.args.targets.now) c.len-ports.ensures.value c.in-Err-write.ensures.written;
     }

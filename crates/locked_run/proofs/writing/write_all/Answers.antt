@@ -1,68 +1,70 @@
-use Rattle.std.proofs.Common.{◌≤◌, ◌∙◌, ◌++◌, ◌+◌, List, length, map, take, subst, arith}
+use Rattle.std.proofs.Common.{◌≡◌, ◌≤◌, ◌+◌, ◌*◌, ◌∙◌, ℕ, List, length, map, take, ap, subst, arith}
 use Rattle.std.proofs.lemmas.List.{take_all}
 use Rattle.packet_feed.specs.Arrivals.{packet_of}
 use Rattle.stream_run.specs.Runs.{Handled}
-use Rattle.stream_run.specs.Writing.{files_of, AreHeld, AreFronts}
-use Rattle.stream_run.proofs.Held.{but_both, but_written}
-use Rattle.sharded_run.proofs.Written.{fronts_longer}
+use Rattle.stream_run.proofs.Held.{but_both}
 use Rattle.locked_run.specs.Handled.{joined}
-use Rattle.locked_run.proofs.Joining.{places_long, joined_long, place_within, so_far}
+use Rattle.locked_run.specs.Going.{AreWhole}
+use Rattle.locked_run.specs.Chunks.{AreFilled}
+use Rattle.locked_run.proofs.Joining.{places_long, joined_long}
+use Rattle.locked_run.proofs.Chunked.{filled_of, filled_all}
 use Rattle.locked_run.proofs.writing.write_all.Goals as goal
 
-pub bounds-places-k : goal.bounds-places-k
-bounds-places-k g c = let long = places_long (map packet_of c.args.batch.now) c.args.order.now c.args.places.now c.requires.at in omega (arith, long)
+pub write_each-requires-clause-files : goal.write_each-requires-clause-files
+write_each-requires-clause-files g c =
+    filled_of c.args.ports (joined c.args.batch.now c.args.worked.now.order c.as_slice-places.result.now) c.rounds.from c.args.size c.args.targets.now c.rounds.chunks c.fill_each.new.chunks c.fill_each.ensures c.rounds.invariant.same_files
 
-pub item-requires : goal.item-requires
-item-requires g c =
-    let long = places_long (map packet_of c.args.batch.now) c.args.order.now c.args.places.now c.requires.at in
-    place_within c.args.batch.now c.args.order.now c.args.places.now c.loop-k.k 0 c.requires.at (omega arith)
+pub rounds-preserved : goal.rounds-preserved
+rounds-preserved g c =
+    let told = g.F.Files.told in
+    let targets = c.args.targets.now in
+    let inv = c.rounds.invariant in
+    let from = c.rounds.from in
+    let size = c.args.size in
+    let order = c.args.worked.now.order in
+    let mine = joined c.args.batch.now order c.as_slice-places.result.now in
+    let all = joined c.args.batch.now order c.args.worked.now.places.items in
+    let same : mine ≡ all = ap (joined c.args.batch.now order) c.as_slice-places.ensures.value in
+    let filled = subst (λ (hs : List Handled). AreFilled c.args.ports hs from size c.rounds.chunks c.fill_each.new.chunks) same c.fill_each.ensures in
+    let step : from + length c.fill_each.new.chunks * size ≡ from + length c.args.chunks.now * size = ap (λ (n : ℕ). from + n * size) (c.fill_each.auto.chunks ∙ inv.as_many) in
+    record {
+      on = λ mode workers card format idle whole.
+          let before = inv.on mode workers card format idle whole in
+          let r = c.in-Ok.ensures.goes_on mode workers card format c.args.ports all from size (filled_all format c.args.ports all from size c.rounds.chunks c.fill_each.new.chunks filled before.1) before.0 in
+          (subst (λ (n : ℕ). AreWhole mode workers card format c.args.ports (take n all) (told c.write_each.new.files) targets) step r.0, r.1);
+      as_many = c.write_each.auto.chunks ∙ c.fill_each.auto.chunks ∙ inv.as_many;
+      same_files = c.write_each.ensures.same_files;
+      kept = but_both targets (told c.args.files.now) (told c.rounds.files) (told c.write_each.new.files) inv.kept c.write_each.ensures.kept;
+      writes = λ n r. c.write_each.ensures.writes n (inv.writes n r);
+      count = c.in-Ok.ensures.cause ∙ inv.count;
+    }
 
 pub returns-in-Err-clause-goes_on : goal.returns-in-Err-clause-goes_on
-returns-in-Err-clause-goes_on g c = λ mode workers card format hs held.
-    let told = g.F.Files.told in
-    let batch = c.args.batch.now in
-    let order = c.args.order.now in
-    let places = c.args.places.now in
-    let k = c.loop-k.k in
-    let all = joined batch order places in
-    let files = files_of c.write_one.new.sinks in
-    let now = told c.write_one.new.files in
-    fronts_longer mode workers card format c.args.ports hs all (k + 1) now files
-    (subst (λ (t : List Handled). AreFronts mode workers card format c.args.ports t now files) (so_far hs batch order places k c.item.result.now c.index-order-k.result 0 c.requires.at (omega arith) c.item.ensures c.index-order-k.is)
-    (c.in-Err.ensures.goes_on mode workers card format (hs ++ take k all) (c.loop-k.invariant.held mode workers card format hs held)))
+returns-in-Err-clause-goes_on g c = λ mode workers card format idle whole.
+    let inv = c.rounds.invariant in
+    let from = c.rounds.from in
+    let size = c.args.size in
+    let order = c.args.worked.now.order in
+    let mine = joined c.args.batch.now order c.as_slice-places.result.now in
+    let all = joined c.args.batch.now order c.args.worked.now.places.items in
+    let same : mine ≡ all = ap (joined c.args.batch.now order) c.as_slice-places.ensures.value in
+    let filled = subst (λ (hs : List Handled). AreFilled c.args.ports hs from size c.rounds.chunks c.fill_each.new.chunks) same c.fill_each.ensures in
+    let before = inv.on mode workers card format idle whole in
+    c.in-Err.ensures.goes_on mode workers card format c.args.ports all from size (filled_all format c.args.ports all from size c.rounds.chunks c.fill_each.new.chunks filled before.1) before.0
 
 pub returns-in-Err-clause-kept : goal.returns-in-Err-clause-kept
 returns-in-Err-clause-kept g c =
     let told = g.F.Files.told in
-    let inv = c.loop-k.invariant in
-    but_both (files_of c.args.sinks.now) (told c.args.files.now) (told c.loop-k.files) (told c.write_one.new.files) inv.kept
-    (but_written (files_of c.args.sinks.now) (files_of c.loop-k.sinks) (told c.loop-k.files) (told c.write_one.new.files) inv.same_files c.write_one.ensures.kept)
-
-pub loop-k-preserved : goal.loop-k-preserved
-loop-k-preserved g c =
-    let told = g.F.Files.told in
-    let inv = c.loop-k.invariant in
-    let batch = c.args.batch.now in
-    let order = c.args.order.now in
-    let places = c.args.places.now in
-    let k = c.loop-k.k in
-    let all = joined batch order places in
-    record {
-      held = λ mode workers card format hs held.
-          subst (λ (t : List Handled). AreHeld mode workers card format c.args.ports t (told c.write_one.new.files) c.write_one.new.sinks) (so_far hs batch order places k c.item.result.now c.index-order-k.result 0 c.requires.at (omega arith) c.item.ensures c.index-order-k.is)
-          (c.in-Ok.ensures.goes_on mode workers card format (hs ++ take k all) (inv.held mode workers card format hs held));
-      same_files = c.write_one.ensures.same_files ∙ inv.same_files;
-      kept = but_both (files_of c.args.sinks.now) (told c.args.files.now) (told c.loop-k.files) (told c.write_one.new.files) inv.kept
-          (but_written (files_of c.args.sinks.now) (files_of c.loop-k.sinks) (told c.loop-k.files) (told c.write_one.new.files) inv.same_files c.write_one.ensures.kept);
-      writes = λ n r. c.write_one.ensures.writes n (inv.writes n r);
-      count = c.in-Ok.ensures.cause ∙ inv.count;
-    }
+    but_both c.args.targets.now (told c.args.files.now) (told c.rounds.files) (told c.write_each.new.files) c.rounds.invariant.kept c.write_each.ensures.kept
 
 pub returns-clause-goes_on : goal.returns-clause-goes_on
-returns-clause-goes_on g c = λ mode workers card format hs held.
-    let told = g.F.Files.told in
-    let all = joined c.args.batch.now c.args.order.now c.args.places.now in
-    let k = c.loop-k.k in
-    let long = joined_long c.args.batch.now c.args.order.now c.args.places.now c.requires.at in
-    let past : length all ≤ k = omega (arith, long) in
-    subst (λ (t : List Handled). AreHeld mode workers card format c.args.ports (hs ++ t) (told c.loop-k.files) c.loop-k.sinks) (take_all k all past) (c.loop-k.invariant.held mode workers card format hs held)
+returns-clause-goes_on g c = λ mode workers card format idle whole.
+    let order = c.args.worked.now.order in
+    let places = c.args.worked.now.places.items in
+    let all = joined c.args.batch.now order places in
+    let r = c.rounds.invariant.on mode workers card format idle whole in
+    let long = joined_long c.args.batch.now order places c.requires.at in
+    let as_many = places_long (map packet_of c.args.batch.now) order places c.requires.at in
+    let value = ap (λ (t : List ℕ). length t) c.as_slice-places.ensures.value in
+    let past : length all ≤ c.rounds.from = omega (arith, long, as_many, value) in
+    subst (λ (hs : List Handled). AreWhole mode workers card format c.args.ports hs (g.F.Files.told c.rounds.files) c.args.targets.now) (take_all c.rounds.from all past) r.0

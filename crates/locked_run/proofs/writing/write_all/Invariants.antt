@@ -1,21 +1,27 @@
-use Rattle.std.proofs.Common.{◌≡◌, ◌++◌, ℕ, List, take}
+use Rattle.std.proofs.Common.{◌≡◌, ◌-◌, ℕ, [], length, take}
 use Rattle.nf_base.specs.declared.card.Card.{Card}
 use Rattle.capture_format.specs.declared.format.CaptureFormat.{CaptureFormat}
 use Rattle.run_history.specs.declared.line.Mode.{Mode}
-use Rattle.stream_run.specs.Runs.{Handled}
-use Rattle.stream_run.specs.Writing.{files_of, AreHeld, KeepsBut}
+use Rattle.stream_run.specs.Writing.{KeepsBut}
 use Rattle.locked_run.specs.Handled.{joined}
+use Rattle.locked_run.specs.Going.{AreWhole}
+use Rattle.locked_run.specs.Chunks.{AreOf, AreIdle}
 use Rattle.locked_run.proofs.writing.write_all.Given as goal
 
--- the packets so far are there
-abbrev pub invariant-loop-k : goal.invariant-loop-k
-invariant-loop-k g l =
+-- the packets so far are written, and nothing is held
+abbrev pub invariant-rounds : goal.invariant-rounds
+invariant-rounds g l =
     let told = g.F.Files.told in
+    let all = joined l.batch l.worked.order l.worked.places.items in
     record {
-      held : (mode : Mode) (workers : ℕ) (card : Card) (format : CaptureFormat) (hs : List Handled) → AreHeld mode workers card format l.ports hs (told l.fn.files) l.fn.sinks
-          → AreHeld mode workers card format l.ports (hs ++ take l.k (joined l.batch l.order l.places)) (told l.files) l.sinks;
-      same_files : files_of l.sinks ≡ files_of l.fn.sinks;
-      kept : KeepsBut (files_of l.fn.sinks) (told l.fn.files) (told l.files);
+      on : (mode : Mode) (workers : ℕ) (card : Card) (format : CaptureFormat) → AreIdle format l.fn.chunks → AreWhole mode workers card format l.ports [] (told l.fn.files) l.targets
+          → AreWhole mode workers card format l.ports (take l.from all) (told l.files) l.targets × AreIdle format l.chunks;
+      as_many : length l.chunks ≡ length l.fn.chunks;
+      same_files : AreOf l.targets l.chunks;
+      kept : KeepsBut l.targets (told l.fn.files) (told l.files);
       writes : (n : ℕ) → g.F.Files.is_written l.fn.files n → g.F.Files.is_written l.files n;
       count : g.F.Files.counted l.files ≡ g.F.Files.counted l.fn.files;
     }
+
+abbrev pub decreases-rounds : goal.decreases-rounds
+decreases-rounds g l = length l.worked.places.items - l.from

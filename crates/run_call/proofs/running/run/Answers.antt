@@ -11,7 +11,7 @@ pub run_found-requires : goal.run_found-requires
 run_found-requires g c κs within =
     let told = g.F.Files.told in
     let counted = g.F.Files.counted in
-    let requires = c.requires.1.1.1.1.1.1.1 in (
+    let requires = c.requires.1.1.1.1.1.1.1.1.1.1.1 in (
       within.0,
       (
         within.1.0,
@@ -26,13 +26,25 @@ run_found-requires g c κs within =
                 (
                   c.requires.1.1.1.1.1.1.0,
                   (
-                    requires.1.0,
+                    c.requires.1.1.1.1.1.1.1.0,
                     (
-                      requires.1.1,
-                      (let name = (view.run c.args.command.now).function in
-                          let a = seen (told c.args.files.now) (counted c.args.files.now) in
-                          let now = seen (told c.read_function.new.files) (counted c.read_function.new.files) in
-                          subst (λ (o : Outside). HasFound name o now c.in-Ok.found) requires.0 (has_found name a now c.in-Ok.found c.in-Ok.ensures.finds c.in-Ok.ensures.next c.read_function.ensures.untouched c.in-Ok.ensures.cause)),
+                      c.requires.1.1.1.1.1.1.1.1.0,
+                      (
+                        c.requires.1.1.1.1.1.1.1.1.1.0,
+                        (
+                          c.requires.1.1.1.1.1.1.1.1.1.1.0,
+                          (
+                            requires.1.0,
+                            (
+                              requires.1.1,
+                              (let name = (view.run c.args.command.now).function in
+                                  let a = seen (told c.args.files.now) (counted c.args.files.now) in
+                                  let now = seen (told c.read_function.new.files) (counted c.read_function.new.files) in
+                                  subst (λ (o : Outside). HasFound name o now c.in-Ok.found) requires.0 (has_found name a now c.in-Ok.found c.in-Ok.ensures.finds c.in-Ok.ensures.next c.read_function.ensures.untouched c.in-Ok.ensures.cause)),
+                            ),
+                          ),
+                        ),
+                      ),
                     ),
                   ),
                 ),
@@ -48,6 +60,6 @@ returns-in-Err g c =
     let told = g.F.Files.told in
     let counted = g.F.Files.counted in
     record {
-      runs = none_since (Rose (g.L.Gate.refused c.args.gate.now) (g.L.Gate.refused c.args.gate.now)) (view.run c.args.command.now) (seen (told c.args.files.now) (counted c.args.files.now)) g.before (seen (told c.read_function.new.files) (counted c.read_function.new.files)) c.in-Err.none c.halt.result c.requires.1.1.1.1.1.1.1.0 c.halt.ensures
+      runs = none_since (Rose (g.L.Gate.refused c.args.gate.now) (g.L.Gate.refused c.args.gate.now)) (view.run c.args.command.now) (seen (told c.args.files.now) (counted c.args.files.now)) g.before (seen (told c.read_function.new.files) (counted c.read_function.new.files)) c.in-Err.none c.halt.result c.requires.1.1.1.1.1.1.1.1.1.1.1.0 c.halt.ensures
           c.read_function.ensures.untouched c.in-Err.ensures.finds c.in-Err.ensures.cause;
     }

@@ -11,17 +11,17 @@ use Rattle.run_call.proofs.running.run_job.Goals as goal
 
 pub open_inputs-requires-clause-last : goal.open_inputs-requires-clause-last
 open_inputs-requires-clause-last g c =
-    let requires = c.requires.1.1.1.1.1.1.1 in omega (arith, requires.1.0, requires.0.first)
+    let requires = c.requires.1.1.1.1.1.1.1.1.1.1.1 in omega (arith, requires.1.0, requires.0.first)
 
 pub open_inputs-requires-clause-all : goal.open_inputs-requires-clause-all
 open_inputs-requires-clause-all g c =
     let job = c.args.job.now in
-    let is = c.requires.1.1.1.1.1.1.1.0 in
+    let is = c.requires.1.1.1.1.1.1.1.1.1.1.1.0 in
     ap (λ (xs : List (String Global)). length xs) c.as_slice-names.ensures.value ∙ sym (length-map job.command.now.captures.items string_bytes) ∙ sym (is.captures ∙ is.ports)
 
 pub returns-in-Err : goal.returns-in-Err
 returns-in-Err g c =
-    let requires = c.requires.1.1.1.1.1.1.1 in
+    let requires = c.requires.1.1.1.1.1.1.1.1.1.1.1 in
     let job = c.args.job.now in
     let f = function_of job.func.now in
     let count = g.L.Gate.refused c.args.gate.now in
@@ -34,7 +34,7 @@ returns-in-Err g c =
 
 pub run_fed-requires : goal.run_fed-requires
 run_fed-requires g c κs within =
-    let requires = c.requires.1.1.1.1.1.1.1 in
+    let requires = c.requires.1.1.1.1.1.1.1.1.1.1.1 in
     let job = c.args.job.now in
     let f = function_of job.func.now in
     let b = seen (g.F.Files.told c.open_inputs.new.files) (g.F.Files.counted c.open_inputs.new.files) in (
@@ -52,12 +52,24 @@ run_fed-requires g c κs within =
                 (
                   c.requires.1.1.1.1.1.1.0,
                   (
-                    requires.0,
+                    c.requires.1.1.1.1.1.1.1.0,
                     (
-                      λ p f e. c.in-Ok.ensures.readable p f (ap (λ (fs : List ℕ). slice_get fs p) (sym c.as_slice-captures.ensures.value) ∙ e),
-                      subst (λ (fs : List ℕ). HasFed g.before b job fs c.in-Ok.field-0.feed) (sym c.as_slice-captures.ensures.value)
-                          (subst (λ (ns : List (String Global)). ladder.HasFed (record { text = (asked job).function; captures = map string_bytes ns; most = (asked job).most }) f g.before b c.in-Ok.field-0.captures.items c.in-Ok.field-0.feed) c.as_slice-names.ensures.value
-                          (c.in-Ok.ensures.reads (asked job).function g.before (sym requires.0.first) requires.1.1)),
+                      c.requires.1.1.1.1.1.1.1.1.0,
+                      (
+                        c.requires.1.1.1.1.1.1.1.1.1.0,
+                        (
+                          c.requires.1.1.1.1.1.1.1.1.1.1.0,
+                          (
+                            requires.0,
+                            (
+                              λ p f e. c.in-Ok.ensures.readable p f (ap (λ (fs : List ℕ). slice_get fs p) (sym c.as_slice-captures.ensures.value) ∙ e),
+                              subst (λ (fs : List ℕ). HasFed g.before b job fs c.in-Ok.field-0.feed) (sym c.as_slice-captures.ensures.value)
+                                  (subst (λ (ns : List (String Global)). ladder.HasFed (record { text = (asked job).function; captures = map string_bytes ns; most = (asked job).most }) f g.before b c.in-Ok.field-0.captures.items c.in-Ok.field-0.feed) c.as_slice-names.ensures.value
+                                  (c.in-Ok.ensures.reads (asked job).function g.before (sym requires.0.first) requires.1.1)),
+                            ),
+                          ),
+                        ),
+                      ),
                     ),
                   ),
                 ),

@@ -12,8 +12,8 @@ use Rattle.run_history.specs.declared.line.Mode.TheVariants.{Shard}
 
 pub leave_ran-requires : goal.leave_ran-requires
 leave_ran-requires g c κs within =
-    let ready = c.requires.1.1.1.1.1.1.1.1.1 in
-    (within, (c.requires.1.1.1.1.1.0, last_is c.args.job.now.layout.ports ready.created c.run.ensures.kept.next_same c.requires.1.1.1.1.1.0.ports))
+    let ready = c.requires.1.1.1.1.1.1.1.1.1.1.1.1.1 in
+    (within, (c.requires.1.1.1.1.1.1.1.1.1.0, last_is c.args.job.now.layout.ports ready.created c.run.ensures.kept.next_same c.requires.1.1.1.1.1.1.1.1.1.0.ports))
 
 pub returns-in-Ok-Ran : goal.returns-in-Ok-Ran
 returns-in-Ok-Ran g c =
@@ -26,7 +26,7 @@ returns-in-Ok-Ran g c =
     record {
       runs = λ old new. c.leave_ran.ensures.runs old new
           (subst (λ (t : Option (ℕ × ℕ)). HasRun (Rose old new) g.before b job Shard ran.packets ran.state (end_of (asked job).most ran.ending t)) (sym c.torn.ensures)
-          (shards_finished _ g.before (seen (told c.args.files.now) (counted c.args.files.now)) b job c.args.captures.now c.args.targets.now c.args.feed.now c.run.new.feed c.args.keys.now ran c.requires.1.1.1.1.1.0 c.requires.1.1.1.1.1.1.0 c.requires.1.1.1.1.1.1.1.1.1 came c.run.ensures.kept c.in-Ok-Ran.ensures.cause));
+          (shards_finished _ g.before (seen (told c.args.files.now) (counted c.args.files.now)) b job c.args.captures.now c.args.targets.now c.args.feed.now c.run.new.feed c.args.keys.now ran c.requires.1.1.1.1.1.1.1.1.1.0 c.requires.1.1.1.1.1.1.1.1.1.1.0 c.requires.1.1.1.1.1.1.1.1.1.1.1.1.1 came c.run.ensures.kept c.in-Ok-Ran.ensures.cause));
     }
 
 pub returns-in-Ok-Full : goal.returns-in-Ok-Full
@@ -38,7 +38,7 @@ returns-in-Ok-Full g c =
     let came = rw c.in-Ok-Full.field-0-is at c.in-Ok-Full.ensures.runs in
     record {
       runs = λ old new. c.print_ran.ensures.runs old new came.stops.state
-          (shards_full _ g.before (seen (told c.args.files.now) (counted c.args.files.now)) b job c.args.captures.now c.args.targets.now c.args.feed.now c.args.keys.now c.in-Ok-Full.full c.full_share.result c.full_share.ensures c.requires.1.1.1.1.1.0 c.requires.1.1.1.1.1.1.0 c.requires.1.1.1.1.1.1.1.1.1 came c.run.ensures.kept c.in-Ok-Full.ensures.cause);
+          (shards_full _ g.before (seen (told c.args.files.now) (counted c.args.files.now)) b job c.args.captures.now c.args.targets.now c.args.feed.now c.args.keys.now c.in-Ok-Full.full c.full_share.result c.full_share.ensures c.requires.1.1.1.1.1.1.1.1.1.0 c.requires.1.1.1.1.1.1.1.1.1.1.0 c.requires.1.1.1.1.1.1.1.1.1.1.1.1.1 came c.run.ensures.kept c.in-Ok-Full.ensures.cause);
     }
 
 pub returns-in-Err : goal.returns-in-Err
@@ -48,10 +48,10 @@ returns-in-Err g c =
     let job = c.args.job.now in
     let b = seen (told c.run.new.files) (counted c.run.new.files) in
     record {
-      runs = λ old new. halted g.before b job c.in-Err.stop c.halt.result c.requires.1.1.1.1.1.0 c.halt.ensures
-          (shards_halted (Rose old new) g.before (seen (told c.args.files.now) (counted c.args.files.now)) b job c.args.captures.now c.args.targets.now c.args.feed.now c.args.keys.now c.in-Err.stop c.requires.1.1.1.1.1.0 c.requires.1.1.1.1.1.1.0 c.requires.1.1.1.1.1.1.1.1.1 c.in-Err.ensures.runs c.run.ensures.kept c.in-Err.ensures.cause c.in-Err.ensures.among);
+      runs = λ old new. halted g.before b job c.in-Err.stop c.halt.result c.requires.1.1.1.1.1.1.1.1.1.0 c.halt.ensures
+          (shards_halted (Rose old new) g.before (seen (told c.args.files.now) (counted c.args.files.now)) b job c.args.captures.now c.args.targets.now c.args.feed.now c.args.keys.now c.in-Err.stop c.requires.1.1.1.1.1.1.1.1.1.0 c.requires.1.1.1.1.1.1.1.1.1.1.0 c.requires.1.1.1.1.1.1.1.1.1.1.1.1.1 c.in-Err.ensures.runs c.run.ensures.kept c.in-Err.ensures.cause c.in-Err.ensures.among);
     }
 
 pub run-requires-clause-empty : goal.run-requires-clause-empty
 run-requires-clause-empty g c κs lives k file e =
-    targets_empty c.requires.1.1.1.1.1.1.1.1.1.created k file e
+    targets_empty c.requires.1.1.1.1.1.1.1.1.1.1.1.1.1.created k file e

@@ -1,14 +1,6 @@
-use Rattle.std.proofs.Common.{◌≡◌, ◌≤◌, ℕ, ◌+◌, ◌-◌, List, take, drop, slice_range, sym, ap, ◌∙◌, arith, drop-drop}
-use Rattle.std.proofs.lemmas.List.{drop-take}
+use Rattle.std.proofs.Common.{drop, ap, ◌∙◌, arith}
+use Rattle.nf_files.proofs.Ranges.{later_start}
 use Rattle.nf_files.proofs.buffer.Buffer.give.Goals as goal
-
--- a range whose start moved on
-later_start : (xs : List ℕ) (at end n : ℕ) → n ≤ end - at → slice_range xs (at + n) end ≡ drop n (slice_range xs at end)
-later_start xs at end n le =
-    let whole : n + (end - (at + n)) ≡ end - at = omega arith in
-    ap (take (end - (at + n))) (sym (drop-drop n at xs))
-    ∙ sym (drop-take n (end - (at + n)) (drop at xs))
-    ∙ ap (λ k. drop n (take k (drop at xs))) whole
 
 pub returns-clause-rest : goal.returns-clause-rest
 returns-clause-rest c =

@@ -13,7 +13,7 @@ pub invariant_of-self-in-Some : goal.invariant_of-self-in-Some
 invariant_of-self-in-Some g c =
     let given = ap (λ (v : Feeding). v.given) c.self.view_is in
     let most = ap (λ (v : Feeding). v.most) c.self.view_is in
-    next_feeding c.args.port c.in-Some.packet c.self.inside.sources c.fill_at.new.sources c.give_at.new.sources c.self.inside.given c.self.inside.most c.in-Some.ensures.0 (omega (arith, c.requires.room, given, most)) c.fill_at.ensures.same_files c.fill_at.ensures.same_counts c.self.invariant
+    (next_feeding c.args.port c.in-Some.packet c.self.inside.sources c.fill_at.new.sources c.give_at.new.sources c.self.inside.given c.self.inside.most c.in-Some.ensures.0 (omega (arith, c.requires.room, given, most)) c.fill_at.ensures.same_files c.fill_at.ensures.same_counts c.self.invariant.0, λ is. absurd cc)
 
 pub returns-in-None-clause-feeds : goal.returns-in-None-clause-feeds
 returns-in-None-clause-feeds g c = λ start given h.

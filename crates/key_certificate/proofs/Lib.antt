@@ -1,0 +1,10 @@
+pub mod Keying
+pub mod AllRows
+pub mod Numbered
+pub mod Fit
+pub mod Spread
+pub mod Listed
+pub mod Nots
+pub mod Assemble
+pub mod Saying
+pub mod Final

@@ -1,0 +1,4 @@
+pub mod Files
+pub mod Outcomes
+pub mod Declared
+pub mod Shown

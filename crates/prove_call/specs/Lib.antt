@@ -1,0 +1,4 @@
+pub mod Texts
+pub mod Written
+pub mod Leaving
+pub mod Proving
