@@ -81,15 +81,15 @@ fn is_sent(alloc: Global, got: &Outcome) -> Result<bool, AllocError> {
     Ok(true)
 }
 
-// Whether each output is a header alone.
+// Whether each port's output is a header alone.
 fn holds_no_records(alloc: Global, got: &Outcome) -> Result<bool, AllocError> {
     let wanted = capture(alloc, &[])?;
-    for output in got.outputs.iter() {
+    for (output, _) in got.outputs.iter().zip(sent()) {
         if !has_bytes(output, wanted.as_slice()) {
             return Ok(false);
         }
     }
-    Ok(!got.outputs.is_empty())
+    Ok(true)
 }
 
 // Whether a run has one of the right journals with its state, and sent what is to be sent.
