@@ -118,7 +118,8 @@ impl Chunk {
         Ok(Chunk { made: true, sinks })
     }
 
-    /// Makes what so many packets of an order leave, from one on, each of which stands at its place.
+    /// Makes what so many packets of an order leave, from one on, each of which stands at its
+    /// place.
     pub(crate) fn fill(
         &mut self,
         ports: u32,
