@@ -185,6 +185,7 @@ pub(crate) fn idle_chunks(
 
 /// Makes chunks of an order, one behind another from a packet on, side by side: each in a thread of
 /// its own where one can be made. The others are made by the caller's thread.
+#[tactic(auto, using(crate::proofs::Crossing::order_shared))]
 pub(crate) fn fill_each<R: Threads + Sync>(
     rt: &R,
     chunks: &mut [Chunk],

@@ -80,8 +80,7 @@ fn write_heads<F: Files>(
 ) -> Result<(), Stop>
     requires heading { IsHeading (record { mode = mode; workers = workers; card = card }) }
     requires fresh { AreFresh (F.is_written files.old) (F.told files.old) targets.now }
-    ensures written {
-        Writes mode workers card format ports [] (F.told files.new) targets.now result }
+    ensures written { Writes mode workers card format ports [] (F.told files.new) targets.now result }
     ensures kept { KeepsBut targets.now (F.told files.old) (F.told files.new) }
     ensures cause { IsStopCause (F.counted files.old) (F.counted files.new) result }
     ensures among { StopsAmong [] targets.now result }
