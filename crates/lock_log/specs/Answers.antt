@@ -13,7 +13,8 @@ use Rattle.lock_log.specs.declared.answer.Told.TheVariants as told
 abbrev pub plain : Action → Done
 plain action = record { action = action; edits = no_edits; picks = [] }
 
--- the answer that is kept so: an action alone, or the one at its place among those that are kept whole
+-- the answer that is kept so: an action alone, or the one at its place among those that are kept
+-- whole
 abbrev pub answer_in : List Done → Answer → Done
 answer_in whole (kept.Plain action) = plain action
 answer_in whole (kept.Whole place) = slice_index_or whole place (plain Skip)

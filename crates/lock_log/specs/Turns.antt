@@ -12,7 +12,8 @@ calls_of_each logs = map (λ (l : LogState). l.calls) logs
 
 -- the call whose turn it is
 abbrev pub call_of : List (List Call) → Turn → Option Call
-call_of each t = option_and_then (λ (calls : List Call). slice_get calls t.number) (slice_get each t.seat)
+call_of each t =
+    option_and_then (λ (calls : List Call). slice_get calls t.number) (slice_get each t.seat)
 
 -- a call of a seat, as it stands in an order
 abbrev pub ordered_by : ℕ → Call → Ordered

@@ -1,4 +1,4 @@
-// What calls came to: an action alone, or one of the answers that are kept whole.
+//! What calls came to: an action alone, or one of the answers that are kept whole.
 ghost use Rattle.std.specs.Prelude.{◌≡◌, ◌<◌, ◌≤◌, ◌+◌, ◌^◌, length, IsTrue, IfSome};
 ghost use Rattle.std.specs.Vec.{vec_len, vec_capacity};
 ghost use mathlib.Core.List.{IsPrefix};

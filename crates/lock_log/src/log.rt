@@ -1,4 +1,4 @@
-// The calls of a seat.
+//! The calls of a seat.
 ghost use Rattle.std.specs.Prelude.{◌≡◌, ◌<◌, ◌≤◌, ◌+◌, ◌^◌, ◌++◌, ◌∷◌, [], length, slice_get, option_map, Some, OnOk, IfSome};
 ghost use Rattle.lock_core.specs.declared.call.Call.{Call};
 ghost use Rattle.lock_log.specs.Answers.{done_told};
@@ -10,18 +10,23 @@ use nf_base::done::Done;
 use nf_base::packet::Packet;
 use std::alloc::{AllocError, Global};
 use std::marker::Model;
+use std::mem::size_of;
+use std::snapshot::Snapshot;
 
 /// How many calls a seat makes at most.
 const MOST: usize = 1 << 32;
 
-/// A call as it is kept.
+/// A call as it is kept, in 24 bytes. Nobody reads its packet here, which the caller has: contracts
+/// alone see it.
 #[derive(Drop)]
 struct Noted {
-    packet: Packet,
+    packet: Snapshot<Packet>,
     place: u64,
     answer: Answer,
     way: Way,
 }
+
+const _: () = prove!(size_of::<Noted>() == 24);
 
 impl Model for Noted {
     ghost use Rattle.lock_log.specs.Notes.{Note};
@@ -29,7 +34,7 @@ impl Model for Noted {
     ghost Value = { Note };
 
     ghost view = { λ n. record {
-      packet = n.packet;
+      packet = n.packet.value;
       place = n.place;
       answer = n.answer;
       way = n.way;
@@ -40,8 +45,8 @@ impl Model for Noted {
 #[derive(Clone, Copy, Debug, PartialEq, Eq)]
 pub struct Head {
     pub way: Way,
-    /// Of a look, how many entries the history had that it looked at; else the place of its entry in
-    /// the history, from 0.
+    /// Of a look, how many entries the history had that it looked at; else the place of its entry
+    /// in the history, from 0.
     pub place: u64,
 }
 
@@ -62,7 +67,8 @@ impl Model for CallLog {
 
     ghost view = { λ l. record {
       calls = calls_in l.whole.items l.notes.items;
-      room = room_of (vec_len l.notes) (vec_capacity l.notes) (vec_len l.whole) (vec_capacity l.whole);
+      room =
+          room_of (vec_len l.notes) (vec_capacity l.notes) (vec_len l.whole) (vec_capacity l.whole);
     } };
 
     ghost invariant = { λ l. IsLog l.whole.items l.notes.items };
@@ -102,7 +108,7 @@ impl CallLog {
         self.whole.reserve(count)
     }
 
-    /// Puts a call behind the others.
+    /// Puts a call behind the others. Its packet isn't kept: contracts alone see it here.
     pub fn push(&mut self, way: Way, place: u64, packet: &Packet, done: &Done)
         requires room { 0 < self.old.room }
         ensures put { self.new.calls ≡ self.old.calls
@@ -111,7 +117,7 @@ impl CallLog {
     {
         let answer = keep(&mut self.whole, done);
         self.notes.push_reserved(Noted {
-            packet: *packet,
+            packet: Snapshot::of(packet),
             place,
             answer,
             way,

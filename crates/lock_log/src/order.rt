@@ -1,4 +1,4 @@
-// One order of the calls of all seats.
+//! One order of the calls of all seats.
 ghost use Rattle.std.specs.Prelude.{◌≡◌, ◌<◌, ◌≤◌, ◌^◌, ◌∷◌, [], List, length, map, slice_get, Some, IfOk};
 ghost use Rattle.lock_core.specs.declared.call.Call.{Call};
 ghost use Rattle.lock_core.specs.declared.call.Ordered.{Ordered};
@@ -20,8 +20,8 @@ pub struct Turn {
     pub number: u32,
 }
 
-/// The calls of all seats, and the order in which they stand. Contracts see it as the packets of that
-/// order.
+/// The calls of all seats, and the order in which they stand. Contracts see it as the packets of
+/// that order.
 #[derive(Drop)]
 pub struct Order {
     logs: Vec<CallLog>,

@@ -35,7 +35,7 @@ use Rattle.nf_base.specs.contracts.packet.Packet as packet
 use Rattle.nf_base.proofs.packet.Packet.TheSendSync as packet_law
 use Rattle.vig_tables.proofs.tables.Tables.TheSendSync as tables_law
 use Rattle.lock_core.specs.declared.call.Entry.{Entry}
-use Rattle.lock_log.proofs.log.CallLog.TheSendSync as log_law
+use Rattle.lock_log.proofs.Crossing.{log_send}
 use Rattle.left_right.proofs.part.Part.TheSendSync as part
 use Rattle.left_right.proofs.writer.Writer.TheSendSync as writer_law
 use Rattle.atomic_table.proofs.shared.Seat.TheSendSync as place
@@ -179,7 +179,7 @@ module _ (J : RattleType) (n : naming.Ghosts J.Denot) where
       search (sendable, as_row_send, g) depth 40,
       (
         search (sendable, as_row_send, viewer_send) depth 40,
-        (search (sendable, as_row_send, log_law.the_send) depth 40, tt),
+        (search (sendable, as_row_send, log_send) depth 40, tt),
       ),
     ),
   ))

@@ -20,4 +20,5 @@ own_places workers w packets = places_from workers w 0 packets
 -- those of each worker's
 pub record AreDealt (workers : ℕ) (packets : List Packet) (own : List (List ℕ)) : Type 0 where
   pub many : length own ≡ workers
-  pub each : (w : ℕ) (places : List ℕ) → slice_get own w ≡ Some places → places ≡ own_places workers w packets
+  pub each : (w : ℕ) (places : List ℕ) → slice_get own w ≡ Some places →
+      places ≡ own_places workers w packets

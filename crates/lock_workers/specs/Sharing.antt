@@ -23,12 +23,13 @@ pub record HasCalled (packets : List Packet) (places : List ℕ) (w : ℕ) (orde
   pub at : AreAtPlaces packets places (packets_in (calls_of w order))
   pub all : length (calls_of w order) ≡ length places
 
--- An order is a run of the undivided function, which comes to where tables are. In it stand the calls
--- of workers, each of which called for all packets at its places, and no others.
+-- An order is a run of the undivided function, which comes to where tables are. In it stand the
+-- calls of workers, each of which called for all packets at its places, and no others.
 pub record IsShared (f : Function) (packets : List Packet) (own : List (List ℕ))
     (order : List Ordered) (t : TablesState) : Type 0 where
   pub runs : Runs f order t.state
-  pub each : (w : ℕ) (places : List ℕ) → slice_get own w ≡ Some places → HasCalled packets places w order
+  pub each : (w : ℕ) (places : List ℕ) → slice_get own w ≡ Some places →
+      HasCalled packets places w order
   pub others : (w : ℕ) → length own ≤ w → calls_of w order ≡ []
 
 -- where workers came to an order

@@ -22,9 +22,9 @@ places_by w (x ∷ xs) [] = []
 places_by w (x ∷ xs) (place ∷ places) =
     if x.seat == w then place ∷ places_by w xs places else places_by w xs places
 
--- So many workers handled packets, each those of its ports, each once, in their order, and no others.
--- What they came to is what the undivided function does with them in the order in which they stand,
--- and this state is left.
+-- So many workers handled packets, each those of its ports, each once, in their order, and no
+-- others. What they came to is what the undivided function does with them in the order in which
+-- they stand, and this state is left.
 pub record AreHandled (f : Function) (workers : ℕ) (packets : List Packet) (order : List Ordered)
     (places : List ℕ) (state : State) : Type 0 where
   pub runs : Runs f order state

@@ -28,22 +28,23 @@ pub record HasWorked (packets : List Packet) (places : List ℕ) (old new : Seat
   pub called : AreAtPlaces packets places (packets_in new.calls)
 
 -- Each seat did, for those at its places.
-pub record AllHaveWorked (packets : List Packet) (own : List (List ℕ)) (before after : List SeatState)
-    : Type 0 where
+pub record AllHaveWorked (packets : List Packet) (own : List (List ℕ))
+    (before after : List SeatState) : Type 0 where
   pub count : length after ≡ length before
   pub each : (w : ℕ) (places : List ℕ) (old new : SeatState) → slice_get own w ≡ Some places →
-      slice_get before w ≡ Some old → slice_get after w ≡ Some new → HasWorked packets places old new
+      slice_get before w ≡ Some old → slice_get after w ≡ Some new →
+      HasWorked packets places old new
 
 -- a seat that has not called yet, and its places
-pub record CanWork (f : Function) (packets : List Packet) (own : List (List ℕ)) (i : ℕ) (s : SeatState)
-    : Type 0 where
+pub record CanWork (f : Function) (packets : List Packet) (own : List (List ℕ)) (i : ℕ)
+    (s : SeatState) : Type 0 where
   pub within : i < length own
   pub of : (places : List ℕ) → slice_get own i ≡ Some places → AreOf f packets places
   pub none : s.calls ≡ []
 
 -- seats, each with its places
-pub record AreWorkers (f : Function) (packets : List Packet) (own : List (List ℕ)) (seats : List SeatState)
-    : Type 0 where
+pub record AreWorkers (f : Function) (packets : List Packet) (own : List (List ℕ))
+    (seats : List SeatState) : Type 0 where
   pub as_many : length own ≡ length seats
   pub of : (w : ℕ) (places : List ℕ) → slice_get own w ≡ Some places → AreOf f packets places
   pub none : (w : ℕ) (s : SeatState) → slice_get seats w ≡ Some s → s.calls ≡ []

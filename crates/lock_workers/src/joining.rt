@@ -13,8 +13,8 @@ fn zeros(alloc: Global, count: usize) -> Result<Vec<usize>, AllocError>
     Ok(vec![in alloc; 0; count]?)
 }
 
-/// The place of each packet of an order, where each worker handled the packets at its places, in their
-/// order.
+/// The place of each packet of an order, where each worker handled the packets at its places, in
+/// their order.
 ///
 /// `Err` is for want of memory.
 pub(crate) fn places_of(

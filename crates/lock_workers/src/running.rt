@@ -30,7 +30,8 @@ use worker_turns::Turns;
 pub struct Worked {
     /// How many handled the packets: as many as were asked for, or one, where the gate refused.
     pub workers: u32,
-    /// The packets in the order in which they were handled, with who handled each and what it came to.
+    /// The packets in the order in which they were handled, with who handled each and what it came
+    /// to.
     pub order: Order,
     /// The place of each of them among the packets.
     pub places: Vec<u32>,
@@ -116,13 +117,13 @@ fn work_alone(
     }
 }
 
-/// Handles packets by workers that share the tables of a function: a worker has the packets whose port
-/// is its number modulo theirs, and handles them in their order, in a thread of its own where one can
-/// be made. Where the gate refuses a reader one worker handles them all.
+/// Handles packets by workers that share the tables of a function: a worker has the packets whose
+/// port is its number modulo theirs, and handles them in their order, in a thread of its own where
+/// one can be made. Where the gate refuses a reader one worker handles them all.
 ///
-/// A worker looks at a packet in the published tables, without waiting, and where something would be
-/// written it handles it alone. `turns` is told when a worker comes to a packet and when it has handled
-/// it, and nothing depends on it. `Err` is for want of memory.
+/// A worker looks at a packet in the published tables, without waiting, and where something would
+/// be written it handles it alone. `turns` is told when a worker comes to a packet and when it has
+/// handled it, and nothing depends on it. `Err` is for want of memory.
 pub fn run<R: Threads + Wait + Sync, T: Turns + Sync, G: Gate + Drop + Send>(
     rt: &R,
     alloc: Global,

@@ -1,3 +1,4 @@
+pub mod Crossing
 pub mod Once
 pub mod Placing
 pub mod Batching

@@ -26,7 +26,8 @@ abbrev pub AreThere : List (List ℕ) → List Frame → Type 0
 AreThere pieces frames = AllByRecursion (λ (f : Frame). LiesIn pieces f.spot) frames
 
 -- each packet has one, which lies there, and they are no more than a capture can hold
-pub record AreKept (pieces : List (List ℕ)) (packets : List Packet) (frames : List Frame) : Type 0 where
+pub record AreKept (pieces : List (List ℕ)) (packets : List Packet) (frames : List Frame)
+    : Type 0 where
   pub as_many : length packets ≡ length frames
   pub there : AreThere pieces frames
   pub kept : All (λ (a : Arrival). IsKept a.packet.time a.frame) (arrivals pieces packets frames)

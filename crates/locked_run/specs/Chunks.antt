@@ -19,7 +19,8 @@ chunk_at all from size = take size (drop from all)
 -- for each file what these packets leave there is held, and no more; the outputs are of this format
 abbrev pub HoldPieces : CaptureFormat → ℕ → List Handled → List Holding → Type 0
 HoldPieces format ports hs sinks =
-    (k : ℕ) (s : Holding) → slice_get sinks k ≡ Some s → (s.format ≡ format) × (s.held ≡ flat_map (piece format ports k) hs)
+    (k : ℕ) (s : Holding) → slice_get sinks k ≡ Some s →
+    (s.format ≡ format) × (s.held ≡ flat_map (piece format ports k) hs)
 
 -- nothing is held
 abbrev pub AreBare : CaptureFormat → List Holding → Type 0
@@ -29,12 +30,16 @@ AreBare format sinks =
 -- what these packets leave was made, where there was memory for it and nothing was held before
 pub record IsFilled (ports : ℕ) (hs : List Handled) (old new : Chunk) : Type 0 where
   pub same_files : files_of new.sinks ≡ files_of old.sinks
-  pub holds : OnTrue new.made ((format : CaptureFormat) → AreBare format old.sinks → HoldPieces format ports hs new.sinks)
+  pub holds : OnTrue new.made ((format : CaptureFormat) →
+      AreBare format old.sinks → HoldPieces format ports hs new.sinks)
 
 -- so it is of each chunk, with the packets one chunk after another
-pub record AreFilled (ports : ℕ) (all : List Handled) (from size : ℕ) (old new : List Chunk) : Type 0 where
+pub record AreFilled (ports : ℕ) (all : List Handled) (from size : ℕ) (old new : List Chunk)
+    : Type 0 where
   pub count : length new ≡ length old
-  pub each : (i : ℕ) (before after : Chunk) → slice_get old i ≡ Some before → slice_get new i ≡ Some after → IsFilled ports (chunk_at all (from + i * size) size) before after
+  pub each : (i : ℕ) (before after : Chunk) →
+      slice_get old i ≡ Some before → slice_get new i ≡ Some after →
+      IsFilled ports (chunk_at all (from + i * size) size) before after
 
 -- chunks for these files
 abbrev pub AreOf : List ℕ → List Chunk → Type 0
@@ -47,12 +52,17 @@ AreIdle format chunks = (i : ℕ) (c : Chunk) → slice_get chunks i ≡ Some c 
 -- what the packets one chunk after another leave is held, where there was memory for it
 abbrev pub HoldAll : CaptureFormat → ℕ → List Handled → ℕ → ℕ → List Chunk → Type 0
 HoldAll format ports all from size chunks =
-    (i : ℕ) (c : Chunk) → slice_get chunks i ≡ Some c → OnTrue c.made (HoldPieces format ports (chunk_at all (from + i * size) size) c.sinks)
+    (i : ℕ) (c : Chunk) → slice_get chunks i ≡ Some c →
+    OnTrue c.made (HoldPieces format ports (chunk_at all (from + i * size) size) c.sinks)
 
--- what writing chunks comes to: so many packets are written then, and nothing is held; or fronts are
-abbrev pub GoOnTo : {T E : Type 0} → Mode → ℕ → Card → CaptureFormat → ℕ → List Handled → ℕ → Told → List ℕ → List Chunk → Result T E → Type 0
-GoOnTo mode workers card format ports all next now files chunks (Ok x) = AreWhole mode workers card format ports (take next all) now files × AreIdle format chunks
-GoOnTo mode workers card format ports all next now files chunks (Err e) = AreFronts mode workers card format ports all now files
+-- what writing chunks comes to: so many packets are written then, and nothing is held; or fronts
+-- are
+abbrev pub GoOnTo : {T E : Type 0} → Mode → ℕ → Card → CaptureFormat → ℕ → List Handled → ℕ →
+    Told → List ℕ → List Chunk → Result T E → Type 0
+GoOnTo mode workers card format ports all next now files chunks (Ok x) =
+    AreWhole mode workers card format ports (take next all) now files × AreIdle format chunks
+GoOnTo mode workers card format ports all next now files chunks (Err e) =
+    AreFronts mode workers card format ports all now files
 
 -- some chunks, of so many packets each, and not too many
 pub record HaveRoom (size : ℕ) (chunks : List Chunk) : Type 0 where

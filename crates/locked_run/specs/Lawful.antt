@@ -19,9 +19,11 @@ use Rattle.stream_run.specs.Lawful.{AreTheFirst, EndsSo}
 use Rattle.locked_run.specs.declared.came.Came.{Came}
 use Rattle.locked_run.specs.Locked.{IsDue}
 
--- The packets that were given are the first ones of the captures in capture order, at most so many, and
--- the run's are these. Its files are whole, its last state is told, and how it ended.
-pub record IsFinished (f : Function) (workers : ℕ) (card : Card) (format : CaptureFormat) (Refused : Type 0) (begun : Feeding) (start : Told) (feed : Feeding) (now : Told) (files : List ℕ) (came : Came) : Type 0 where
+-- The packets that were given are the first ones of the captures in capture order, at most so many,
+-- and the run's are these. Its files are whole, its last state is told, and how it ended.
+pub record IsFinished (f : Function) (workers : ℕ) (card : Card) (format : CaptureFormat)
+    (Refused : Type 0) (begun : Feeding) (start : Told) (feed : Feeding) (now : Told)
+    (files : List ℕ) (came : Came) : Type 0 where
   pub run : Run
   pub given : List Arrival
   pub rule : Rule
@@ -29,28 +31,38 @@ pub record IsFinished (f : Function) (workers : ℕ) (card : Card) (format : Cap
   pub is_run : IsRunBy rule f card given run
   pub mode_is : came.mode ≡ rule.mode
   pub within : length given ≤ begun.most
-  pub packets : (before : Told) → StandsFor before [] begun start → AreTheFirst begun.most (packets_of (sixes_in begun.sources) (files_in begun.sources) before) given
-  pub ending : (before : Told) → StandsFor before [] begun start → EndsSo came.ran.ending feed before given
+  pub packets : (before : Told) → StandsFor before [] begun start → AreTheFirst begun.most
+      (packets_of (sixes_in begun.sources) (files_in begun.sources) before) given
+  pub ending : (before : Told) → StandsFor before [] begun start →
+      EndsSo came.ran.ending feed before given
   pub same_files : files_in feed.sources ≡ files_in begun.sources
   pub same_six : sixes_in feed.sources ≡ sixes_in begun.sources
   pub same_most : feed.most ≡ begun.most
   pub count : length run.turns ≡ came.ran.packets
-  pub left : (answers : List Done) × (course_of run ≡ Some (record { state = came.ran.state; answers = answers }))
-  pub wholes : (k file : ℕ) → slice_get files k ≡ Some file → IsToldAs (file_bytes format run k) (now.given file)
+  pub left : (answers : List Done)
+      × (course_of run ≡ Some (record { state = came.ran.state; answers = answers }))
+  pub wholes : (k file : ℕ) → slice_get files k ≡ Some file →
+      IsToldAs (file_bytes format run k) (now.given file)
 
--- The run was stopped. Each file holds a front of what a run over some first packets of the captures
--- leaves there.
-pub record IsCutShort (f : Function) (workers : ℕ) (card : Card) (format : CaptureFormat) (Refused : Type 0) (begun : Feeding) (start now : Told) (files : List ℕ) : Type 0 where
+-- The run was stopped. Each file holds a front of what a run over some first packets of the
+-- captures leaves there.
+pub record IsCutShort (f : Function) (workers : ℕ) (card : Card) (format : CaptureFormat)
+    (Refused : Type 0) (begun : Feeding) (start now : Told) (files : List ℕ) : Type 0 where
   pub run : Run
   pub given : List Arrival
   pub rule : Rule
   pub due : IsDue workers Refused rule
   pub is_run : IsRunBy rule f card given run
   pub within : length given ≤ begun.most
-  pub packets : (before : Told) → StandsFor before [] begun start → AreFirst (packets_of (sixes_in begun.sources) (files_in begun.sources) before) given
-  pub fronts : (k file : ℕ) → slice_get files k ≡ Some file → IsFrontIfTold (file_bytes format run k) (now.given file)
+  pub packets : (before : Told) → StandsFor before [] begun start → AreFirst
+      (packets_of (sixes_in begun.sources) (files_in begun.sources) before) given
+  pub fronts : (k file : ℕ) → slice_get files k ≡ Some file →
+      IsFrontIfTold (file_bytes format run k) (now.given file)
 
 -- what a run comes to
-abbrev pub Runs : Function → ℕ → Card → CaptureFormat → Type 0 → Feeding → Told → Feeding → Told → List ℕ → Result Came Stop → Type 0
-Runs f workers card format Refused begun start feed now files (Ok came) = IsFinished f workers card format Refused begun start feed now files came
-Runs f workers card format Refused begun start feed now files (Err stop) = IsCutShort f workers card format Refused begun start now files
+abbrev pub Runs : Function → ℕ → Card → CaptureFormat → Type 0 → Feeding → Told → Feeding → Told →
+    List ℕ → Result Came Stop → Type 0
+Runs f workers card format Refused begun start feed now files (Ok came) =
+    IsFinished f workers card format Refused begun start feed now files came
+Runs f workers card format Refused begun start feed now files (Err stop) =
+    IsCutShort f workers card format Refused begun start now files

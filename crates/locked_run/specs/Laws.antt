@@ -3,11 +3,11 @@ use Rattle.std.specs.Prelude.{◌≡◌, ◌≢◌, Bool, List, [], ◌∷◌, l
 use Rattle.packet_feed.specs.Arrivals.{Arrival}
 use Rattle.stream_run.specs.Orders.{Order, ByPort, Keeps}
 
--- whichever order is kept, as many packets pass any test as did before: each stands there, once, and no
--- other
+-- whichever order is kept, as many packets pass any test as did before: each stands there, once,
+-- and no other
 abbrev pub EachStandsOnce : Type 0
-EachStandsOnce = (order : Order) (given handled : List Arrival) (test : Arrival → Bool) → Keeps order given handled →
-    length (filter test handled) ≡ length (filter test given)
+EachStandsOnce = (order : Order) (given handled : List Arrival) (test : Arrival → Bool) →
+    Keeps order given handled → length (filter test handled) ≡ length (filter test given)
 
 -- of two packets of different ports the second may come first
 abbrev pub OthersGoBetween : Type 0

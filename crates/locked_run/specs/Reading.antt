@@ -7,6 +7,8 @@ use Rattle.stream_run.specs.declared.ending.Ending.{Ending}
 use Rattle.sharded_run.specs.Reading.{Gathers, IsOver}
 
 -- what reading all packets comes to: none is left, or as many were read as may be and one is left
-abbrev pub ReadsAll : {E : Type 0} → ℕ → Feeding → Told → Feeding → Told → List Arrival → Result Ending E → Type 0
-ReadsAll ports begun start feed now batch (Ok ending) = Gathers ports begun feed start now batch × IsOver ending begun start feed batch
+abbrev pub ReadsAll : {E : Type 0} → ℕ → Feeding → Told → Feeding → Told → List Arrival →
+    Result Ending E → Type 0
+ReadsAll ports begun start feed now batch (Ok ending) =
+    Gathers ports begun feed start now batch × IsOver ending begun start feed batch
 ReadsAll ports begun start feed now batch (Err stop) = Unit {0}

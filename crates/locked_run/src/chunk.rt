@@ -118,7 +118,8 @@ impl Chunk {
         Ok(Chunk { made: true, sinks })
     }
 
-    /// Makes what so many packets of an order leave, from one on, each of which stands at its place.
+    /// Makes what so many packets of an order leave, from one on, each of which stands at its
+    /// place.
     pub(crate) fn fill(
         &mut self,
         ports: u32,
@@ -184,6 +185,7 @@ pub(crate) fn idle_chunks(
 
 /// Makes chunks of an order, one behind another from a packet on, side by side: each in a thread of
 /// its own where one can be made. The others are made by the caller's thread.
+#[tactic(auto, using(crate::proofs::Crossing::order_shared))]
 pub(crate) fn fill_each<R: Threads + Sync>(
     rt: &R,
     chunks: &mut [Chunk],

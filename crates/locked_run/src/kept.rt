@@ -21,8 +21,8 @@ struct Frame {
     spot: Spot,
 }
 
-/// Packets that were read and are not handled yet, which workers share, and beside them their frames,
-/// which lie one behind another in large pieces of memory.
+/// Packets that were read and are not handled yet, which workers share, and beside them their
+/// frames, which lie one behind another in large pieces of memory.
 ///
 /// Contracts see them as what came in.
 #[derive(Drop)]

@@ -11,7 +11,7 @@ ghost use Rattle.lock_mode.specs.Gates.{Rose};
 ghost use Rattle.run_history.specs.Headings.{IsHeading};
 ghost use Rattle.lock_workers.specs.Worked.{AreAt, AreHandled};
 ghost use Rattle.locked_run.specs.Handled.{joined};
-ghost use Rattle.locked_run.specs.Going.{mode_of, Writes, Settles};
+ghost use Rattle.locked_run.specs.Going.{mode_of, AreFresh, Writes, Settles};
 ghost use Rattle.locked_run.specs.Lawful.{Runs};
 
 use crate::came::{Came, Settled};
@@ -79,11 +79,7 @@ fn write_heads<F: Files>(
     targets: &[u32],
 ) -> Result<(), Stop>
     requires heading { IsHeading (record { mode = mode; workers = workers; card = card }) }
-    requires created { EachFile (F.is_written files.old) targets.now }
-    requires apart { IsApart targets.now }
-    requires few { length targets.now ≤ 2 ^ 32 }
-    requires empty { (k : ℕ) → (file : ℕ) → slice_get targets.now k ≡ Some file →
-        IsEmptyIfTold ((F.told files.old).given file) }
+    requires fresh { AreFresh (F.is_written files.old) (F.told files.old) targets.now }
     ensures written { Writes mode workers card format ports [] (F.told files.new) targets.now result }
     ensures kept { KeepsBut targets.now (F.told files.old) (F.told files.new) }
     ensures cause { IsStopCause (F.counted files.old) (F.counted files.new) result }
@@ -115,11 +111,7 @@ fn write<R: Threads + Sync, F: Files>(
 ) -> Result<(), Stop>
     requires heading { IsHeading (record { mode = mode; workers = workers; card = card }) }
     requires at { AreAt (map packet_of batch.now) worked.now.order worked.now.places.items }
-    requires created { EachFile (F.is_written files.old) targets.now }
-    requires apart { IsApart targets.now }
-    requires few { length targets.now ≤ 2 ^ 32 }
-    requires empty { (k : ℕ) → (file : ℕ) → slice_get targets.now k ≡ Some file →
-        IsEmptyIfTold ((F.told files.old).given file) }
+    requires fresh { AreFresh (F.is_written files.old) (F.told files.old) targets.now }
     ensures written { let hs = joined batch.now worked.now.order worked.now.places.items in
         Writes mode workers card format ports hs (F.told files.new) targets.now result }
     ensures kept { KeepsBut targets.now (F.told files.old) (F.told files.new) }
@@ -166,11 +158,7 @@ fn settle<R: Threads + Wait + Sync, F: Files, T: Turns + Sync, G: Gate + Drop + 
     requires ports { let ports = length func.now.handlers in
         All (λ p. p.id.port < ports) (map packet_of batch.now) }
     requires served { All (IsServed (function_of func.now)) (map packet_of batch.now) }
-    requires created { EachFile (F.is_written files.old) targets.now }
-    requires apart { IsApart targets.now }
-    requires few { length targets.now ≤ 2 ^ 32 }
-    requires empty { (k : ℕ) → (file : ℕ) → slice_get targets.now k ≡ Some file →
-        IsEmptyIfTold ((F.told files.old).given file) }
+    requires fresh { AreFresh (F.is_written files.old) (F.told files.old) targets.now }
     ensures settles { let Refused = Rose (G.refused gate.old) (G.refused gate.new) in
         Settles (function_of func.now) workers card format Refused (length func.now.handlers)
         batch.now (F.told files.new) targets.now result }
@@ -196,22 +184,22 @@ fn settle<R: Threads + Wait + Sync, F: Files, T: Turns + Sync, G: Gate + Drop + 
     }
 }
 
-/// Reads the packets of captures, handles them by workers that share the tables, and writes the outputs
-/// and the journal in the order in which they were handled.
+/// Reads the packets of captures, handles them by workers that share the tables, and writes the
+/// outputs and the journal in the order in which they were handled.
 ///
-/// A worker has the packets whose port is its number modulo theirs, and handles them in capture order,
-/// in a thread of its own; `turns` is told when a worker comes to a packet and when it has handled it,
-/// and nothing depends on it. All packets and their frames are held in memory until the end, beside
-/// three copies of the tables and what each packet came to. What they leave is made by chunks of up to
-/// 16,384 packets, as many side by side as there are workers, and written one chunk after another. So
-/// beside them stands what is made and not written yet: of each worker what the packets of one chunk
-/// leave, whose frames come to at most 8 MiB, or which are 1,024. Where the gate refuses a reader one
-/// worker handles them in capture order, in mode `one`.
+/// A worker has the packets whose port is its number modulo theirs, and handles them in capture
+/// order, in a thread of its own; `turns` is told when a worker comes to a packet and when it has
+/// handled it, and nothing depends on it. All packets and their frames are held in memory until the
+/// end, beside three copies of the tables and what each packet came to. What they leave is made by
+/// chunks of up to 16,384 packets, as many side by side as there are workers, and written one chunk
+/// after another. So beside them stands what is made and not written yet: of each worker what the
+/// packets of one chunk leave, whose frames come to at most 8 MiB, or which are 1,024. Where the
+/// gate refuses a reader one worker handles them in capture order, in mode `one`.
 ///
 /// The captures are those of the feed, which gave no packet yet, and was started for the function's
-/// ports. The targets are the outputs in the order of their ports, and the journal behind them; nothing
-/// was given to them yet. After an `Err` each of them holds a front of what a run over some first
-/// packets leaves there.
+/// ports. The targets are the outputs in the order of their ports, and the journal behind them;
+/// nothing was given to them yet. After an `Err` each of them holds a front of what a run over some
+/// first packets leaves there.
 pub fn run<R: Threads + Wait + Sync, F: Files, T: Turns + Sync, G: Gate + Drop + Send>(
     rt: &R,
     alloc: Global,
@@ -238,9 +226,9 @@ pub fn run<R: Threads + Wait + Sync, F: Files, T: Turns + Sync, G: Gate + Drop +
     requires few { length targets.now ≤ 2 ^ 32 }
     requires empty { (k : ℕ) → (file : ℕ) → slice_get targets.now k ≡ Some file →
         IsEmptyIfTold ((F.told files.old).given file) }
-    // One run's files are whole, and it handled the first packets of the captures, each port's in their
-    // order; or each file holds a front of what such a run leaves there. It is in mode `one`, and in
-    // capture order, only where the gate's count rose.
+    // One run's files are whole, and it handled the first packets of the captures, each port's in
+    // their order; or each file holds a front of what such a run leaves there. It is in mode `one`,
+    // and in capture order, only where the gate's count rose.
     ensures runs { let Refused = Rose (G.refused gate.old) (G.refused gate.new) in
         Runs (function_of func.now) workers card format Refused feed.old (F.told files.old)
         feed.new (F.told files.new) targets.now result }

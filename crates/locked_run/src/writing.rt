@@ -84,8 +84,8 @@ fn write_each<F: Files>(files: &mut F, chunks: &mut [Chunk], targets: &[u32]) ->
 /// Writes what packets leave, behind what the files begin with, in an order of them, each of which
 /// stands at its place.
 ///
-/// It is made by chunks of so many packets, as many side by side as there are here, and each is given
-/// to the files when those before it are. The room of the chunks is used again.
+/// It is made by chunks of so many packets, as many side by side as there are here, and each is
+/// given to the files when those before it are. The room of the chunks is used again.
 pub(crate) fn write_all<R: Threads + Sync, F: Files>(
     rt: &R,
     files: &mut F,

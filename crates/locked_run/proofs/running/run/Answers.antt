@@ -24,10 +24,15 @@ returns-in-Err-clause-kept g c = c.read_all.ensures.kept c.args.targets.now
 pub returns-in-Err-clause-among : goal.returns-in-Err-clause-among
 returns-in-Err-clause-among g c = stops_as Ending Came c.args.captures.now c.args.targets.now c.in-Err.stop (c.in-Err.ensures.among c.args.targets.now)
 
-pub settle-requires-clause-empty : goal.settle-requires-clause-empty
-settle-requires-clause-empty g c κs within =
+pub settle-requires-clause-fresh : goal.settle-requires-clause-fresh
+settle-requires-clause-fresh g c κs within =
     let told = g.F.Files.told in
-    still_empty (told c.args.files.now) (told c.read_all.new.files) c.args.targets.now (c.read_all.ensures.kept []) c.requires.empty
+    record {
+      created = λ k file e. c.read_all.ensures.writes file (c.requires.created k file e);
+      apart = c.requires.apart;
+      few = c.requires.few;
+      empty = still_empty (told c.args.files.now) (told c.read_all.new.files) c.args.targets.now (c.read_all.ensures.kept []) c.requires.empty;
+    }
 
 pub settle-requires-clause-few_packets : goal.settle-requires-clause-few_packets
 settle-requires-clause-few_packets g c κs within =

@@ -10,7 +10,7 @@ use Rattle.locked_run.proofs.running.settle.Goals as goal
 
 pub returns-in-Err-clause-settles : goal.returns-in-Err-clause-settles
 returns-in-Err-clause-settles g c =
-    halted_none (function_of c.args.func.now) c.args.workers c.args.card c.args.format (Rose (g.G.Gate.refused c.args.gate.now) (g.G.Gate.refused c.work.new.gate)) (length c.args.func.now.handlers) c.args.batch.now (g.F.Files.told c.args.files.now) c.args.targets.now c.requires.empty
+    halted_none (function_of c.args.func.now) c.args.workers c.args.card c.args.format (Rose (g.G.Gate.refused c.args.gate.now) (g.G.Gate.refused c.work.new.gate)) (length c.args.func.now.handlers) c.args.batch.now (g.F.Files.told c.args.files.now) c.args.targets.now c.requires.fresh.empty
 
 pub returns-in-Ok-write-clause-settles : goal.returns-in-Ok-write-clause-settles
 returns-in-Ok-write-clause-settles g c =

@@ -8,7 +8,7 @@ use Rattle.locked_run.proofs.running.write.Goals as goal
 pub returns-in-Err-clause-written : goal.returns-in-Err-clause-written
 returns-in-Err-clause-written g c = λ k file e.
     let hs = joined c.args.batch.now c.args.worked.now.order c.args.worked.now.places.items in
-    empty_front (bytes_of c.args.mode c.args.workers c.args.card c.args.format c.args.ports k hs) ((g.F.Files.told c.args.files.now).given file) (c.requires.empty k file e)
+    empty_front (bytes_of c.args.mode c.args.workers c.args.card c.args.format c.args.ports k hs) ((g.F.Files.told c.args.files.now).given file) (c.requires.fresh.empty k file e)
 
 pub returns-in-Ok-write_heads-clause-kept : goal.returns-in-Ok-write_heads-clause-kept
 returns-in-Ok-write_heads-clause-kept g c =

@@ -9,7 +9,7 @@ use Rattle.locked_run.proofs.running.write_heads.Goals as goal
 pub returns-in-Ok-clause-written : goal.returns-in-Ok-clause-written
 returns-in-Ok-clause-written g c =
     let told = g.F.Files.told in
-    let heads = heads_held c.args.mode c.args.workers c.args.card c.args.format c.args.ports (told c.args.files.now) c.in-Ok.sinks c.args.targets.now c.in-Ok.ensures.files c.in-Ok.ensures.heads c.requires.empty in
+    let heads = heads_held c.args.mode c.args.workers c.args.card c.args.format c.args.ports (told c.args.files.now) c.in-Ok.sinks c.args.targets.now c.in-Ok.ensures.files c.in-Ok.ensures.heads c.requires.fresh.empty in
     written_by _ _ c.args.mode c.args.workers c.args.card c.args.format c.args.ports [] (told c.flush_all.new.files) c.flush_all.new.sinks c.args.targets.now c.flush_all.result
     (c.flush_all.ensures.same_files ∙ c.in-Ok.ensures.files) (c.flush_all.ensures.goes_on c.args.mode c.args.workers c.args.card c.args.format c.args.ports [] heads) c.flush_all.ensures.empty
 
@@ -20,4 +20,4 @@ returns-in-Ok-clause-kept g c =
 
 pub returns-in-Err-clause-written : goal.returns-in-Err-clause-written
 returns-in-Err-clause-written g c = λ k file e.
-    empty_front (bytes_of c.args.mode c.args.workers c.args.card c.args.format c.args.ports k []) ((g.F.Files.told c.args.files.now).given file) (c.requires.empty k file e)
+    empty_front (bytes_of c.args.mode c.args.workers c.args.card c.args.format c.args.ports k []) ((g.F.Files.told c.args.files.now).given file) (c.requires.fresh.empty k file e)
