@@ -21,8 +21,14 @@ fn assigned(alloc: Global, tokens: &[Placed]) -> Result<(Expr, &[Placed]), Stop>
 {
     let rest = sign(tokens, Sign::Assign)?;
     let (value, rest) = value(alloc, rest)?;
-    let rest = sign(rest, Sign::Semicolon)?;
-    Ok((value, rest))
+    match sign(rest, Sign::Semicolon) {
+        Ok(rest) => Ok((value, rest)),
+        Err(stop) => {
+            // By a call, as in `expression`.
+            drop(value);
+            Err(stop)
+        }
+    }
 }
 
 /// The `;` of an action and the `}` behind it: an action ends its block.
@@ -86,7 +92,14 @@ fn store(alloc: Global, array: Name, tokens: &[Placed]) -> Result<(Statement, &[
         (λ x. statement_of x.0) (λ x. x.1.now) result tokens.now }
 {
     let (index, rest) = index(alloc, tokens)?;
-    let (value, rest) = assigned(alloc, rest)?;
+    let (value, rest) = match assigned(alloc, rest) {
+        Ok(read) => read,
+        Err(stop) => {
+            // By a call, as in `expression`.
+            drop(index);
+            return Err(stop);
+        }
+    };
     let operation = Operation::Store {
         array,
         index,
@@ -120,8 +133,14 @@ pub fn forward(alloc: Global, tokens: &[Placed]) -> Result<(Statement, &[Placed]
     ensures { Reads (λ k. forward_at k) (λ x. statement_of x.0) (λ x. x.1.now) result tokens.now }
 {
     let (port, rest) = value(alloc, tokens)?;
-    let rest = end(rest)?;
-    Ok((Statement::Ends(Ending::Forward(port)), rest))
+    match end(rest) {
+        Ok(rest) => Ok((Statement::Ends(Ending::Forward(port)), rest)),
+        Err(stop) => {
+            // By a call, as in `expression`.
+            drop(port);
+            Err(stop)
+        }
+    }
 }
 
 /// A `flood`, and the end of its block.

@@ -45,7 +45,8 @@ fn turned(before: Box<Block>, block: Box<Block>) -> Box<Block>
     }
 }
 
-/// The statements before, and a question with its two blocks.
+/// The statements before, and a question with its two blocks. The question is dropped by a call, as expressions
+/// are in `expression`.
 #[cycle(blocks)]
 fn ask(
     alloc: Global,
@@ -59,8 +60,20 @@ fn ask(
     ensures shallow { IfOk result
         (λ x. depth (block_of x.0.value) ≤ max (depth (block_of before.value)) (suc room)) }
 {
-    let (hit, rest) = block(alloc, tokens, room)?;
-    let (miss, rest) = optional(alloc, rest, Sign::Else, room)?;
+    let (hit, rest) = match block(alloc, tokens, room) {
+        Ok(read) => read,
+        Err(stop) => {
+            drop(question);
+            return Err(stop);
+        }
+    };
+    let (miss, rest) = match optional(alloc, rest, Sign::Else, room) {
+        Ok(read) => read,
+        Err(stop) => {
+            drop(question);
+            return Err(stop);
+        }
+    };
     let block = Block::Ask {
         question,
         hit,

@@ -1,16 +1,20 @@
 //! Expressions: sums of products of atoms. An operand is an atom that is no parenthesis; those of an array's
 //! index count in the expression round it.
+//!
+//! Where what stands behind an expression can't be read, a call of `drop` takes the expression: a `?` there would
+//! have the proof go through each shape that it may have, at each such place anew.
 
 ghost use Rattle.std.specs.Prelude.{◌≡◌, ◌≤◌, ◌<◌, IfOk};
 ghost use Rattle.nf_tree.specs.View.{expression_of};
-ghost use Rattle.nf_syntax.specs.Machine.{AtomAt, NamedAt, ColumnAt, product_at, sum_at, group_at, cell_at, value_at, index_at};
+ghost use Rattle.nf_syntax.specs.Items.{class_of, Plain};
+ghost use Rattle.nf_syntax.specs.Machine.{AtomAt, NamedAt, ColumnAt, SignAt, product_at, sum_at, group_at, cell_at, value_at, index_at};
 ghost use Rattle.nf_syntax.specs.Reads.{Reads, Counts};
 
 use crate::fault::{Stop, stuck};
 use crate::single::{close, factor, named, sign, term};
 use nf_tokens::{Placed, Sign, Token};
 use nf_tree::{Expr, Literal, Name};
-use std::alloc::Global;
+use std::alloc::{AllocError, Global};
 
 /// How many signs `(` and `[` may be open in an expression.
 const DEEPEST: u32 = 32;
@@ -23,6 +27,16 @@ const MOST: u32 = 64;
 struct Counted {
     pub tree: Expr,
     pub operands: u32,
+}
+
+/// Two operands in boxes.
+fn two(alloc: Global, left: Expr, right: Expr) -> Result<(Box<Expr>, Box<Expr>), AllocError>
+    ensures left { IfOk result (λ x. x.0.value ≡ left) }
+    ensures right { IfOk result (λ x. x.1.value ≡ right) }
+{
+    let left = Box::new(alloc, left)?;
+    let right = Box::new(alloc, right)?;
+    Ok((left, right))
 }
 
 /// What stands behind the `.` of a variable.
@@ -69,7 +83,13 @@ fn cell(
     ensures counts { IfOk result (λ x. Counts before (expression_of x.0.tree) x.0.operands) }
 {
     let (index, rest) = sum(alloc, tokens, room - 1, before + 1)?;
-    let rest = sign(rest, Sign::CloseBracket)?;
+    let rest = match sign(rest, Sign::CloseBracket) {
+        Ok(rest) => rest,
+        Err(stop) => {
+            drop(index);
+            return Err(stop);
+        }
+    };
     let Counted { tree, operands } = index;
     let tree = Expr::Cell {
         array,
@@ -92,7 +112,13 @@ fn group(
     ensures counts { IfOk result (λ x. Counts before (expression_of x.0.tree) x.0.operands) }
 {
     let (inner, rest) = sum(alloc, tokens, room - 1, before)?;
-    let (close, rest) = close(rest)?;
+    let (close, rest) = match close(rest) {
+        Ok(read) => read,
+        Err(stop) => {
+            drop(inner);
+            return Err(stop);
+        }
+    };
     let Counted { tree, operands } = inner;
     let tree = Expr::Group {
         inner: Box::new(alloc, tree)?,
@@ -201,13 +227,20 @@ fn product(
         mut operands,
     } = first;
     'factors: while let Some((operator, after)) = factor(rest) {
-        let (right, behind) = atom(alloc, after, room, operands)?;
-        left = Expr::Product {
-            operator,
-            left: Box::new(alloc, left)?,
-            right: Box::new(alloc, right.tree)?,
+        let (right, behind) = match atom(alloc, after, room, operands) {
+            Ok(read) => read,
+            Err(stop) => {
+                drop(left);
+                return Err(stop);
+            }
         };
         operands = right.operands;
+        let (one, other) = two(alloc, left, right.tree)?;
+        left = Expr::Product {
+            operator,
+            left: one,
+            right: other,
+        };
         rest = behind;
     }
     let tree = left;
@@ -231,13 +264,20 @@ fn sum(
         mut operands,
     } = first;
     'terms: while let Some((operator, after)) = term(rest) {
-        let (right, behind) = product(alloc, after, room, operands)?;
-        left = Expr::Sum {
-            operator,
-            left: Box::new(alloc, left)?,
-            right: Box::new(alloc, right.tree)?,
+        let (right, behind) = match product(alloc, after, room, operands) {
+            Ok(read) => read,
+            Err(stop) => {
+                drop(left);
+                return Err(stop);
+            }
         };
         operands = right.operands;
+        let (one, other) = two(alloc, left, right.tree)?;
+        left = Expr::Sum {
+            operator,
+            left: one,
+            right: other,
+        };
         rest = behind;
     }
     let tree = left;
@@ -252,11 +292,29 @@ pub fn value(alloc: Global, tokens: &[Placed]) -> Result<(Expr, &[Placed]), Stop
     Ok((all.tree, rest))
 }
 
+/// An outermost expression and the sign behind it.
+pub fn value_before(
+    alloc: Global,
+    tokens: &[Placed],
+    wanted: Sign,
+) -> Result<(Expr, &[Placed]), Stop>
+    requires { class_of wanted ≡ Plain }
+    ensures { Reads (λ k. value_at (λ v. SignAt wanted (k v)))
+        (λ x. expression_of x.0) (λ x. x.1.now) result tokens.now }
+{
+    let (value, rest) = value(alloc, tokens)?;
+    match sign(rest, wanted) {
+        Ok(rest) => Ok((value, rest)),
+        Err(stop) => {
+            drop(value);
+            Err(stop)
+        }
+    }
+}
+
 /// An outermost expression, up to the `]` behind it.
 pub fn index(alloc: Global, tokens: &[Placed]) -> Result<(Expr, &[Placed]), Stop>
     ensures { Reads index_at (λ x. expression_of x.0) (λ x. x.1.now) result tokens.now }
 {
-    let (index, rest) = value(alloc, tokens)?;
-    let rest = sign(rest, Sign::CloseBracket)?;
-    Ok((index, rest))
+    value_before(alloc, tokens, Sign::CloseBracket)
 }

@@ -1,4 +1,4 @@
-//! What a statement says, up to its blocks.
+//! What a statement says, up to its blocks. Expressions are dropped by calls, as in `expression`.
 
 ghost use Rattle.std.specs.Prelude.{◌≡◌};
 ghost use Rattle.nf_syntax.specs.Items.{class_of, Plain};
@@ -88,7 +88,13 @@ fn find(alloc: Global, place: Place, tokens: &[Placed]) -> Result<(Statement, &[
 {
     let (head, rest) = entry_head(alloc, tokens, Sign::OpenBracket)?;
     let (index, rest) = index(alloc, rest)?;
-    let (guards, rest) = guards(alloc, rest)?;
+    let (guards, rest) = match guards(alloc, rest) {
+        Ok(read) => read,
+        Err(stop) => {
+            drop(index);
+            return Err(stop);
+        }
+    };
     let EntryHead { variable, chain } = head;
     let question = Question::Find {
         place,
@@ -106,8 +112,20 @@ fn test(alloc: Global, tokens: &[Placed]) -> Result<(Statement, &[Placed]), Stop
     ensures { Reads (λ k. if_at k) (λ x. statement_of x.0) (λ x. x.1.now) result tokens.now }
 {
     let (left, rest) = value(alloc, tokens)?;
-    let (comparison, rest) = comparison(rest)?;
-    let (right, rest) = value(alloc, rest)?;
+    let (comparison, rest) = match comparison(rest) {
+        Ok(read) => read,
+        Err(stop) => {
+            drop(left);
+            return Err(stop);
+        }
+    };
+    let (right, rest) = match value(alloc, rest) {
+        Ok(read) => read,
+        Err(stop) => {
+            drop(left);
+            return Err(stop);
+        }
+    };
     let question = Question::Test {
         left,
         comparison,
