@@ -9,34 +9,88 @@ use std::thread::Threads;
 #[derive(Drop)]
 pub struct Outcome {
     pub status: Status,
-    pub stdout: Vec<u8>,
-    pub stderr: Vec<u8>,
-    /// The output captures of ports 0 to 3; `None` here and below: there is no such file.
-    pub outputs: Vec<Option<Vec<u8>>>,
-    pub journal: Option<Vec<u8>>,
-    pub state: Option<Vec<u8>>,
-    /// The function's text.
-    pub text: Option<Vec<u8>>,
     /// How many files were opened or created.
     pub opened: u32,
+    // What stands at each of the places below; `None`: there is no such file. It is one list, since each
+    // thing that has to be dropped makes the proof longer of whoever holds an outcome.
+    contents: Vec<Option<Vec<u8>>>,
 }
 
+// The places of what a call leaves, behind the output captures of ports 0 to 3.
+const JOURNAL: usize = 4;
+
+const STATE: usize = 5;
+
+const TEXT: usize = 6;
+
+const STDOUT: usize = 7;
+
+const STDERR: usize = 8;
+
+const PROOF: usize = 9;
+
 impl Outcome {
+    fn content(&self, place: usize) -> Option<&[u8]> {
+        match self.contents.as_slice().get(place) {
+            Some(content) => lent(content),
+            None => None,
+        }
+    }
+
+    /// What was printed on standard output.
+    pub fn stdout(&self) -> &[u8] {
+        self.content(STDOUT).unwrap_or(&[])
+    }
+
+    /// What was printed on standard error.
+    pub fn stderr(&self) -> &[u8] {
+        self.content(STDERR).unwrap_or(&[])
+    }
+
+    /// The output capture of a port; `None` here and below: there is no such file.
+    pub fn output(&self, port: usize) -> Option<&[u8]> {
+        if port < JOURNAL {
+            self.content(port)
+        } else {
+            None
+        }
+    }
+
+    /// The journal.
+    pub fn journal(&self) -> Option<&[u8]> {
+        self.content(JOURNAL)
+    }
+
+    /// The state.
+    pub fn state(&self) -> Option<&[u8]> {
+        self.content(STATE)
+    }
+
+    /// The certificate of a function's keys.
+    pub fn proof(&self) -> Option<&[u8]> {
+        self.content(PROOF)
+    }
+
+    /// The function's text.
+    pub fn text(&self) -> Option<&[u8]> {
+        self.content(TEXT)
+    }
+
     /// Whether a call ended so, with this line on standard error, none on standard output, and so many
     /// files opened or created, and left.
     pub fn is_stop(&self, status: Status, said: &str, opened: u32, left: u32) -> bool {
         self.status == status
-            && self.stdout.is_empty()
-            && is_text(self.stderr.as_slice(), said)
+            && self.stdout().is_empty()
+            && is_text(self.stderr(), said)
             && self.opened == opened
             && self.left() == left
     }
 
     /// How many outputs, journals and states there are.
     pub fn left(&self) -> u32 {
-        let mut count = one_if(self.journal.is_some()).saturating_add(one_if(self.state.is_some()));
-        for output in &self.outputs {
-            count = count.saturating_add(one_if(output.is_some()));
+        let mut count = 0_u32;
+        for place in 0..TEXT {
+            count = count.saturating_add(one_if(self.content(place).is_some()));
         }
         count
     }
@@ -51,10 +105,17 @@ pub fn is_text(bytes: &[u8], text: &str) -> bool {
     bytes == text.as_bytes()
 }
 
-/// Whether a file is there and has these bytes.
-pub fn has_bytes(content: &Option<Vec<u8>>, bytes: &[u8]) -> bool {
+fn lent(content: &Option<Vec<u8>>) -> Option<&[u8]> {
     match content {
-        Some(content) => content.as_slice() == bytes,
+        Some(bytes) => Some(bytes.as_slice()),
+        None => None,
+    }
+}
+
+/// Whether a file is there and has these bytes.
+pub fn has_bytes(content: Option<&[u8]>, bytes: &[u8]) -> bool {
+    match content {
+        Some(content) => content == bytes,
         None => false,
     }
 }
@@ -99,8 +160,8 @@ fn content(alloc: Global, files: &MemoryFiles, name: &str) -> Result<Option<Vec<
     }
 }
 
-fn given(alloc: Global, files: &MemoryFiles, file: u32) -> Result<Vec<u8>, AllocError> {
-    Vec::from_slice(alloc, files.given(file))
+fn given(alloc: Global, files: &MemoryFiles, file: u32) -> Result<Option<Vec<u8>>, AllocError> {
+    Ok(Some(Vec::from_slice(alloc, files.given(file))?))
 }
 
 // What stands under the front of a run's names with this ending.
@@ -115,16 +176,24 @@ fn ending(
     content(alloc, files, name.as_str())
 }
 
-fn outputs(
+// What stands at each place of an outcome.
+fn contents(
     alloc: Global,
     files: &MemoryFiles,
     out: &str,
 ) -> Result<Vec<Option<Vec<u8>>>, AllocError> {
-    let mut outputs = Vec::new(alloc);
-    for end in [".0.pcap", ".1.pcap", ".2.pcap", ".3.pcap"] {
-        outputs.push(ending(alloc, files, out, end)?)?;
+    let mut contents = Vec::new(alloc);
+    for end in [
+        ".0.pcap", ".1.pcap", ".2.pcap", ".3.pcap", ".journal", ".state",
+    ] {
+        contents.push(ending(alloc, files, out, end)?)?;
     }
-    Ok(outputs)
+    contents.push(content(alloc, files, "x.nf")?)?;
+    for file in [0, 1] {
+        contents.push(given(alloc, files, file)?)?;
+    }
+    contents.push(content(alloc, files, "x.proof")?)?;
+    Ok(contents)
 }
 
 // Numbers count from 2, in the order in which files are opened or created. No call fails any more.
@@ -142,15 +211,11 @@ fn outcome_of(
     out: &str,
     status: Status,
 ) -> Result<Outcome, AllocError> {
+    let contents = contents(alloc, files, out)?;
     Ok(Outcome {
         status,
-        stdout: given(alloc, files, 0)?,
-        stderr: given(alloc, files, 1)?,
-        outputs: outputs(alloc, files, out)?,
-        journal: ending(alloc, files, out, ".journal")?,
-        state: ending(alloc, files, out, ".state")?,
-        text: content(alloc, files, "x.nf")?,
         opened: opened(files)?,
+        contents,
     })
 }
 

@@ -45,7 +45,7 @@ fn keys_are_for_the_card(rt: HostRuntime) -> Result<(), Fail> {
     for (line, said) in all_told() {
         let got = call(&rt, rt.alloc(), line, "out", policer(), &[], &[])?;
         assert!(rt; got.status == Status::Done, "{line}");
-        assert!(rt; is_text(got.stdout.as_slice(), said), "{line}");
+        assert!(rt; is_text(got.stdout(), said), "{line}");
     }
     Ok(())
 }
@@ -102,9 +102,9 @@ fn runs() -> &'static [(&'static str, &'static str)] {
 }
 
 // Whether a journal is there and begins so.
-fn begins(journal: &Option<Vec<u8>>, front: &str) -> bool {
+fn begins(journal: Option<&[u8]>, front: &str) -> bool {
     match journal {
-        Some(bytes) => bytes.as_slice().starts_with(front.as_bytes()),
+        Some(bytes) => bytes.starts_with(front.as_bytes()),
         None => false,
     }
 }
@@ -123,7 +123,7 @@ fn a_journal_tells_the_card(rt: HostRuntime) -> Result<(), Fail> {
             &[],
         )?;
         assert!(rt; got.status == Status::Done, "{line}");
-        assert!(rt; begins(&got.journal, front), "{line}");
+        assert!(rt; begins(got.journal(), front), "{line}");
     }
     Ok(())
 }
@@ -167,7 +167,7 @@ fn shares_are_those_of_the_workers(rt: HostRuntime) -> Result<(), Fail> {
     assert!(rt; got.status == Status::Done);
     let mut found = false;
     for text in two_lines() {
-        found = has_bytes(&got.journal, text.as_bytes()) || found;
+        found = has_bytes(got.journal(), text.as_bytes()) || found;
     }
     assert!(rt; found);
     Ok(())
@@ -265,7 +265,7 @@ fn a_replay_takes_the_card_from_the_journal(rt: HostRuntime) -> Result<(), Fail>
     for (journal, status, state) in journals() {
         let got = replay(&rt, rt.alloc(), journal)?;
         assert!(rt; got.status == *status, "{journal}");
-        assert!(rt; is_text(got.stdout.as_slice(), state), "{journal}");
+        assert!(rt; is_text(got.stdout(), state), "{journal}");
     }
     Ok(())
 }

@@ -80,26 +80,12 @@ fn certify<R: Threads + Wait + Clone + Send + Sync + Drop + 'static>(
     certify_bytes(rt, alloc, text, proof.as_bytes(), fails)
 }
 
-// What a call came to that writes a certificate, and what stands under that one's name then.
-#[derive(Drop)]
-struct Proved {
-    outcome: Outcome,
-    proof: Option<Vec<u8>>,
-}
-
-impl Proved {
-    // Whether the call ended so, with nothing printed.
-    fn is_stop(&self, status: Status, said: &str, opened: u32) -> bool {
-        self.outcome.is_stop(status, said, opened, 0)
-    }
-
-    // Whether it ended well, and printed this and no more.
-    fn is_done(&self, printed: &[u8]) -> bool {
-        self.outcome.status == Status::Done
-            && self.outcome.stdout.as_slice() == printed
-            && self.outcome.stderr.is_empty()
-            && self.outcome.opened == 2
-    }
+// Whether a call ended well, and printed this and no more.
+fn is_done(got: &Outcome, printed: &[u8]) -> bool {
+    got.status == Status::Done
+        && got.stdout() == printed
+        && got.stderr().is_empty()
+        && got.opened == 2
 }
 
 // Calls the program with the words of a line over a function as `x.nf`, in files whose calls of these
@@ -110,22 +96,17 @@ fn prove<R: Threads + Wait + Clone + Send + Sync + Drop + 'static>(
     line: &str,
     text: &str,
     fails: &[u64],
-) -> Result<Proved, AllocError> {
+) -> Result<Outcome, AllocError> {
     let mut files = MemoryFiles::new(alloc, Vec::from_slice(alloc, fails)?);
     files.put("x.nf", text.as_bytes())?;
-    let outcome = call_over(rt, alloc, line, &mut files)?;
-    let proof = match files.content("x.proof") {
-        Some(bytes) => Some(Vec::from_slice(alloc, bytes)?),
-        None => None,
-    };
-    Ok(Proved { outcome, proof })
+    call_over(rt, alloc, line, &mut files)
 }
 
 #[test]
 fn a_certificate_is_right_or_wrong_at_a_line(rt: HostRuntime) -> Result<(), Fail> {
     let got = certify(&rt, rt.alloc(), HUB, RIGHT, &[])?;
-    assert!(rt; got.status == Status::Done && is_text(got.stdout.as_slice(), "certified\n"));
-    assert!(rt; got.stderr.is_empty() && got.opened == 2 && got.left() == 0);
+    assert!(rt; got.status == Status::Done && is_text(got.stdout(), "certified\n"));
+    assert!(rt; got.stderr().is_empty() && got.opened == 2 && got.left() == 0);
     for case in wrong_texts() {
         let got = certify(&rt, rt.alloc(), HUB, case.proof, &[])?;
         let status = Status::ProofFails { line: case.line };
@@ -226,15 +207,14 @@ fn is_certified<R: Threads + Wait + Clone + Send + Sync + Drop + 'static>(
     alloc: Global,
     text: &str,
     begins: &str,
-    proof: &Option<Vec<u8>>,
+    proof: Option<&[u8]>,
 ) -> Result<bool, AllocError> {
     let Some(bytes) = proof else {
         return Ok(false);
     };
-    let judged = certify_bytes(rt, alloc, text, bytes.as_slice(), &[])?;
-    let is_right = judged.status == Status::Done
-        && is_text(judged.stdout.as_slice(), "certified\n");
-    Ok(is_right && begins_so(bytes.as_slice(), begins))
+    let judged = certify_bytes(rt, alloc, text, bytes, &[])?;
+    let is_right = judged.status == Status::Done && is_text(judged.stdout(), "certified\n");
+    Ok(is_right && begins_so(bytes, begins))
 }
 
 #[test]
@@ -246,13 +226,9 @@ fn what_keys_write_is_certified(rt: HostRuntime) -> Result<(), Fail> {
         let line = format!(in alloc; "maestro keys x.nf --proof x.proof{}", case.options)?;
         let keys = prove(&rt, alloc, plain.as_str(), text, &[])?;
         let got = prove(&rt, alloc, line.as_str(), text, &[])?;
-        assert!(rt; keys.proof.is_none(), "{}", case.shows);
-        assert!(rt;
-            got.is_done(keys.outcome.stdout.as_slice()),
-            "{}",
-            case.shows
-        );
-        let right = is_certified(&rt, alloc, text, begins, &got.proof)?;
+        assert!(rt; keys.proof().is_none(), "{}", case.shows);
+        assert!(rt; is_done(&got, keys.stdout()), "{}", case.shows);
+        let right = is_certified(&rt, alloc, text, begins, got.proof())?;
         assert!(rt; right, "{}", case.shows);
     }
     Ok(())
@@ -270,13 +246,13 @@ fn a_certificate_is_written_before_keys_are_printed(rt: HostRuntime) -> Result<(
     let printing = prove(&rt, rt.alloc(), PROVE, HUB, &[5])?;
     let (nf, proof) = ("maestro: file fault: nf\n", "maestro: file fault: proof\n");
     let stdout = "maestro: file fault: stdout\n";
-    assert!(rt; reading.is_stop(Status::FileFault(RunFile::Nf), nf, 1));
-    assert!(rt; creating.is_stop(Status::FileFault(RunFile::Proof), proof, 1));
-    assert!(rt; writing.is_stop(Status::FileFault(RunFile::Proof), proof, 2));
-    assert!(rt; printing.is_stop(Status::FileFault(RunFile::Stdout), stdout, 2));
-    assert!(rt; reading.proof.is_none() && creating.proof.is_none());
-    assert!(rt; has_bytes(&writing.proof, b""));
-    assert!(rt; has_bytes(&printing.proof, RIGHT.as_bytes()));
+    assert!(rt; reading.is_stop(Status::FileFault(RunFile::Nf), nf, 1, 0));
+    assert!(rt; creating.is_stop(Status::FileFault(RunFile::Proof), proof, 1, 0));
+    assert!(rt; writing.is_stop(Status::FileFault(RunFile::Proof), proof, 2, 0));
+    assert!(rt; printing.is_stop(Status::FileFault(RunFile::Stdout), stdout, 2, 0));
+    assert!(rt; reading.proof().is_none() && creating.proof().is_none());
+    assert!(rt; has_bytes(writing.proof(), b""));
+    assert!(rt; has_bytes(printing.proof(), RIGHT.as_bytes()));
     Ok(())
 }
 
@@ -288,7 +264,7 @@ fn no_certificate_of_what_is_no_function(rt: HostRuntime) -> Result<(), Fail> {
         line: 1,
         column: 10,
     };
-    assert!(rt; got.is_stop(status, "maestro: refused S3 at 1:10\n", 1));
-    assert!(rt; got.proof.is_none());
+    assert!(rt; got.is_stop(status, "maestro: refused S3 at 1:10\n", 1, 0));
+    assert!(rt; got.proof().is_none());
     Ok(())
 }

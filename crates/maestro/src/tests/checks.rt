@@ -15,7 +15,8 @@ struct Checked {
     said: &'static str,
 }
 
-const CHECKED: [Checked; 15] = [
+// Functions with chains.
+static WITH_CHAINS: [Checked; 4] = [
     // A get hits, or misses, and then a `new` makes an entry, or its key is taken, or the chain is full.
     Checked {
         text: "nf fw { ports 2; chain flows 1 lifetime 60000000000 { map by_flow(a: 32, b: 32, c: 16, d: 16); }
@@ -56,6 +57,14 @@ const CHECKED: [Checked; 15] = [
                 drop; } }",
         said: "ok nat: ports 2, chains 1, arrays 0, paths 4 3\n",
     },
+];
+
+fn with_chains() -> &'static [Checked] {
+    &WITH_CHAINS
+}
+
+// More of them.
+static MORE_CHAINS: [Checked; 4] = [
     Checked {
         text: "nf nat { ports 2; chain conns 60000 lifetime 60000000000 {
                 map by_in(sip: 32, sp: 16, dip: 32, dp: 16); fixed rip: 32; fixed rp: 16; }
@@ -94,6 +103,14 @@ const CHECKED: [Checked; 15] = [
                 get g = d.m(dst_ip) { touch g; } else { new h = d(y = dst_ip) { } } forward 0; } }",
         said: "ok both: ports 1, chains 2, arrays 0, paths 16\n",
     },
+];
+
+fn more_chains() -> &'static [Checked] {
+    &MORE_CHAINS
+}
+
+// Functions without chains.
+static WITHOUT_CHAINS: [Checked; 5] = [
     Checked {
         text: "nf count { ports 1; array hits 65536 : 64;
             on 0 { hits[dst_port] = hits[dst_port] + 1; forward 0; } }",
@@ -118,6 +135,14 @@ const CHECKED: [Checked; 15] = [
         text: "nf nothing { ports 1; on 0 { } }",
         said: "ok nothing: ports 1, chains 0, arrays 0, paths 1\n",
     },
+];
+
+fn without_chains() -> &'static [Checked] {
+    &WITHOUT_CHAINS
+}
+
+// Handlers for IPv6.
+static OF_IPV6: [Checked; 2] = [
     Checked {
         text: "nf bysrc { ports 1; chain s 16 lifetime 1000 { map m(x: 128); } on 0 { forward 0; }
             on 0 six { get e = s.m(src_ip6) { touch e; } else { new f = s(x = src_ip6) { } } forward 0; } }",
@@ -131,15 +156,15 @@ const CHECKED: [Checked; 15] = [
     },
 ];
 
-fn all_checked() -> &'static [Checked] {
-    &CHECKED
+fn of_ipv6() -> &'static [Checked] {
+    &OF_IPV6
 }
 
 // Nothing but this was printed, and the text alone was opened.
 fn prints(got: &Outcome, said: &str) -> bool {
     got.status == Status::Done
-        && is_text(got.stdout.as_slice(), said)
-        && got.stderr.is_empty()
+        && is_text(got.stdout(), said)
+        && got.stderr().is_empty()
         && got.opened == 1
         && got.left() == 0
 }
@@ -153,11 +178,18 @@ fn is_checked<R: Threads + Wait + Clone + Send + Sync + Drop + 'static>(
     Ok(prints(&got, checked.said))
 }
 
+// The tables are several, since the proof of a long one takes more than its share.
+fn all_checked() -> [&'static [Checked]; 4] {
+    [with_chains(), more_chains(), without_chains(), of_ipv6()]
+}
+
 #[test]
 fn a_function_is_told_with_its_paths(rt: HostRuntime) -> Result<(), Fail> {
-    for checked in all_checked() {
-        let met = is_checked(&rt, rt.alloc(), checked)?;
-        assert!(rt; met, "{}", checked.said);
+    for table in all_checked() {
+        for checked in table {
+            let met = is_checked(&rt, rt.alloc(), checked)?;
+            assert!(rt; met, "{}", checked.said);
+        }
     }
     Ok(())
 }

@@ -1,15 +1,22 @@
 // The command that each line's words ask for, and lines that are none.
 use super::calls::words_of;
-use command_words::{Command, Description, Ends, ModeChoice, command_of};
+use command_words::{
+    Command, Description, Ends, GenCommand, ModeChoice, ReplayCommand, RunCommand, command_of,
+};
 use nf_base::card::Card;
 use nf_base::hash_key::HashKey;
 use nf_base::packet::Addresses;
 use std::alloc::{AllocError, Global};
 use std::test::Fail;
 
-fn asked(alloc: Global, line: &str) -> Result<Option<Command>, AllocError> {
+// The command that a line's words ask for, alone in a list, which is quickly dropped, or none.
+fn asked(alloc: Global, line: &str) -> Result<Vec<Command>, AllocError> {
     let words = words_of(alloc, line)?;
-    command_of(alloc, words.as_slice())
+    let mut asked = Vec::new(alloc);
+    if let Some(command) = command_of(alloc, words.as_slice())? {
+        asked.push(command)?;
+    }
+    Ok(asked)
 }
 
 fn mode_word(mode: ModeChoice) -> &'static str {
@@ -20,26 +27,37 @@ fn mode_word(mode: ModeChoice) -> &'static str {
     }
 }
 
-/// What a run is asked of, one space apart: its function, its front, its captures, its most packets, its
-/// workers and its mode.
-fn run_line(alloc: Global, line: &str) -> Result<String, Fail> {
+/// Names, each behind a space.
+fn spaced(alloc: Global, names: &[String]) -> Result<String, AllocError> {
     let mut said = String::new(alloc);
-    if let Some(Command::Run(run)) = asked(alloc, line)? {
-        said.push_str(run.function.as_str())?;
+    for name in names {
         said.push_str(" ")?;
-        said.push_str(run.out.as_str())?;
-        for capture in run.captures.as_slice() {
-            said.push_str(" ")?;
-            said.push_str(capture.as_str())?;
-        }
-        let workers = run.workers.get();
-        let mode = mode_word(run.mode);
-        said.push_str(format!(in alloc; " {} {workers} {mode}", run.most)?.as_str())?;
+        said.push_str(name.as_str())?;
     }
     Ok(said)
 }
 
-const NO_COMMANDS: [&str; 123] = [
+/// What a run is asked of, one space apart: its function, its front, its captures, its most packets, its
+/// workers and its mode.
+fn run_words(alloc: Global, run: &RunCommand) -> Result<String, AllocError> {
+    let captures = spaced(alloc, run.captures.as_slice())?;
+    let (function, out) = (run.function.as_str(), run.out.as_str());
+    let (most, workers, mode) = (run.most, run.workers.get(), mode_word(run.mode));
+    format!(in alloc;
+        "{function} {out}{} {most} {workers} {mode}",
+        captures.as_str()
+    )
+}
+
+fn run_line(alloc: Global, line: &str) -> Result<String, AllocError> {
+    let asked = asked(alloc, line)?;
+    match asked.as_slice().first() {
+        Some(Command::Run(run)) => run_words(alloc, run),
+        _ => Ok(String::new(alloc)),
+    }
+}
+
+static NO_COMMANDS: [&str; 123] = [
     "",
     "maestro",
     "maestro run",
@@ -171,17 +189,25 @@ fn no_commands() -> &'static [&'static str] {
     &NO_COMMANDS
 }
 
+// Whether no words, or those of a line, ask for no command.
+fn asks_for_none(alloc: Global, line: Option<&str>) -> Result<bool, AllocError> {
+    match line {
+        Some(line) => Ok(asked(alloc, line)?.is_empty()),
+        None => Ok(command_of(alloc, &[])?.is_none()),
+    }
+}
+
 #[test]
 fn lines_that_are_no_commands(rt: HostRuntime) -> Result<(), Fail> {
     let alloc = rt.alloc();
-    assert!(rt; command_of(alloc, &[])?.is_none());
+    assert!(rt; asks_for_none(alloc, None)?);
     for line in no_commands() {
-        assert!(rt; asked(alloc, line)?.is_none(), "{line}");
+        assert!(rt; asks_for_none(alloc, Some(line))?, "{line}");
     }
     Ok(())
 }
 
-const RUNS: [(&str, &str); 17] = [
+static RUNS: [(&str, &str); 17] = [
     ("maestro run x.nf out a", "x.nf out a 10000000 1 auto"),
     (
         "maestro run x.nf out a b c d",
@@ -261,55 +287,55 @@ fn lines_that_are_runs(rt: HostRuntime) -> Result<(), Fail> {
 
 /// What a replay is asked of, one space apart: its function, its journal, its front, its captures and
 /// its most packets.
-fn replay_line(alloc: Global, line: &str) -> Result<String, Fail> {
-    let mut said = String::new(alloc);
-    if let Some(Command::Replay(replay)) = asked(alloc, line)? {
-        said.push_str(replay.function.as_str())?;
-        said.push_str(" ")?;
-        said.push_str(replay.journal.as_str())?;
-        said.push_str(" ")?;
-        said.push_str(replay.out.as_str())?;
-        for capture in replay.captures.as_slice() {
-            said.push_str(" ")?;
-            said.push_str(capture.as_str())?;
-        }
-        said.push_str(format!(in alloc; " {}", replay.most)?.as_str())?;
-    }
-    Ok(said)
+fn replay_words(alloc: Global, replay: &ReplayCommand) -> Result<String, AllocError> {
+    let captures = spaced(alloc, replay.captures.as_slice())?;
+    let (function, journal) = (replay.function.as_str(), replay.journal.as_str());
+    let (out, most) = (replay.out.as_str(), replay.most);
+    format!(in alloc; "{function} {journal} {out}{} {most}", captures.as_str())
 }
 
 /// What made-up traffic is asked of, one space apart: its function, its front, its seed, how many packets
 /// and flows it has, its workers and its mode.
-fn gen_line(alloc: Global, line: &str) -> Result<String, Fail> {
-    let mut said = String::new(alloc);
-    if let Some(Command::Gen(made)) = asked(alloc, line)? {
-        said.push_str(made.function.as_str())?;
-        said.push_str(" ")?;
-        said.push_str(made.out.as_str())?;
-        let (seed, count, flows) = (made.seed, made.count, made.flows);
-        said.push_str(format!(in alloc; " {seed} {count} {flows}")?.as_str())?;
-        let workers = made.workers.get();
-        let mode = mode_word(made.mode);
-        said.push_str(format!(in alloc; " {workers} {mode}")?.as_str())?;
+fn gen_words(alloc: Global, made: &GenCommand) -> Result<String, AllocError> {
+    let (function, out) = (made.function.as_str(), made.out.as_str());
+    let (seed, count, flows) = (made.seed, made.count, made.flows);
+    let (workers, mode) = (made.workers.get(), mode_word(made.mode));
+    format!(in alloc; "{function} {out} {seed} {count} {flows} {workers} {mode}")
+}
+
+/// What a line asks of a replay, or of made-up traffic.
+fn other_line(alloc: Global, line: &str) -> Result<String, AllocError> {
+    let asked = asked(alloc, line)?;
+    match asked.as_slice().first() {
+        Some(Command::Replay(replay)) => replay_words(alloc, replay),
+        Some(Command::Gen(made)) => gen_words(alloc, made),
+        _ => Ok(String::new(alloc)),
     }
-    Ok(said)
+}
+
+static OTHERS: [(&str, &str); 4] = [
+    (
+        "maestro replay x.nf j out a b --max-packets 5",
+        "x.nf j out a b 5",
+    ),
+    ("maestro replay x.nf j out a", "x.nf j out a 10000000"),
+    (
+        "maestro gen x.nf out 4294967295 10000000 65536 --workers 16 --mode lock",
+        "x.nf out 4294967295 10000000 65536 16 lock",
+    ),
+    ("maestro gen x.nf out 0 0 1", "x.nf out 0 0 1 1 auto"),
+];
+
+fn others() -> &'static [(&'static str, &'static str)] {
+    &OTHERS
 }
 
 #[test]
 fn lines_that_are_replays_and_traffic(rt: HostRuntime) -> Result<(), Fail> {
     let alloc = rt.alloc();
-    let replay = replay_line(alloc, "maestro replay x.nf j out a b --max-packets 5")?;
-    assert_eq!(rt; replay.as_str(), "x.nf j out a b 5");
-    let all = replay_line(alloc, "maestro replay x.nf j out a")?;
-    assert_eq!(rt; all.as_str(), "x.nf j out a 10000000");
-    let most = "maestro gen x.nf out 4294967295 10000000 65536 --workers 16 --mode lock";
-    let traffic = gen_line(alloc, most)?;
-    assert_eq!(rt;
-        traffic.as_str(),
-        "x.nf out 4294967295 10000000 65536 16 lock"
-    );
-    let none = gen_line(alloc, "maestro gen x.nf out 0 0 1")?;
-    assert_eq!(rt; none.as_str(), "x.nf out 0 0 1 1 auto");
+    for (line, expected) in others() {
+        assert_eq!(rt; other_line(alloc, line)?.as_str(), *expected, "{line}");
+    }
     Ok(())
 }
 
@@ -324,18 +350,16 @@ fn ends_of(key: &Option<HashKey>) -> Option<(u8, u8, usize)> {
     }
 }
 
-/// The ends, the first and last bytes of the key, and the workers of a hash that is asked for.
-fn hash_of(
-    alloc: Global,
-    line: &str,
-) -> Result<Option<(Ends, Option<(u8, u8, usize)>, u32)>, AllocError> {
-    let Some(command) = asked(alloc, line)? else {
-        return Ok(None);
-    };
-    match &command {
-        Command::Hash(hash) => Ok(Some((hash.ends, ends_of(&hash.key), hash.workers.get()))),
-        _ => Ok(None),
-    }
+/// The ends, the first and last bytes of the key, and the workers of a hash.
+type Hash = (Ends, Option<(u8, u8, usize)>, u32);
+
+/// The hash that is asked for.
+fn hash_of(alloc: Global, line: &str) -> Result<Option<Hash>, AllocError> {
+    let asked = asked(alloc, line)?;
+    Ok(match asked.as_slice().first() {
+        Some(Command::Hash(hash)) => Some((hash.ends, ends_of(&hash.key), hash.workers.get())),
+        _ => None,
+    })
 }
 
 const ENDS: Ends = Ends {
@@ -356,75 +380,78 @@ const ENDS_SIX: Ends = Ends {
     destination_port: 1766,
 };
 
-#[test]
-fn lines_that_are_hashes(rt: HostRuntime) -> Result<(), Fail> {
-    let alloc = rt.alloc();
-    let plain = hash_of(alloc, "maestro hash 66.9.149.187:2794 161.142.100.80:1766")?;
-    assert!(rt; plain == Some((ENDS, None, 1)));
-    let workers = hash_of(
-        alloc,
+const WIDEST: Ends = Ends {
+    addresses: Addresses::Four {
+        src: 0,
+        dst: u32::MAX,
+    },
+    source_port: 0,
+    destination_port: u16::MAX,
+};
+
+static HASHES: [(&str, Option<Hash>); 8] = [
+    (
+        "maestro hash 66.9.149.187:2794 161.142.100.80:1766",
+        Some((ENDS, None, 1)),
+    ),
+    (
         "maestro hash --workers 16 66.9.149.187:2794 161.142.100.80:1766",
-    )?;
-    assert!(rt; workers == Some((ENDS, None, 16)));
-    let keyed = hash_of(
-        alloc,
+        Some((ENDS, None, 16)),
+    ),
+    (
         "maestro hash 66.9.149.187:2794 161.142.100.80:1766 --key \
          0f000000000000000000000000000000000000000000000000000000000000000000000000000a9",
-    )?;
-    assert!(rt; keyed.is_none());
-    let keyed = hash_of(
-        alloc,
+        None,
+    ),
+    (
         "maestro hash 66.9.149.187:2794 161.142.100.80:1766 --key \
          0f0000000000000000000000000000000000000000000000000000000000000000000000000000a9",
-    )?;
-    assert!(rt; keyed == Some((ENDS, Some((0x0f, 0xa9, 40)), 1)));
-    let longer = hash_of(
-        alloc,
+        Some((ENDS, Some((0x0f, 0xa9, 40)), 1)),
+    ),
+    (
         "maestro hash 66.9.149.187:2794 161.142.100.80:1766 --key \
          0f0000000000000000000000000000000000000000000000000000000000000000000000000000000000000000000000000000a9",
-    )?;
-    assert!(rt; longer == Some((ENDS, Some((0x0f, 0xa9, 52)), 1)));
-    let upper = hash_of(
-        alloc,
+        Some((ENDS, Some((0x0f, 0xa9, 52)), 1)),
+    ),
+    (
         "maestro hash 66.9.149.187:2794 161.142.100.80:1766 --key \
          0F0000000000000000000000000000000000000000000000000000000000000000000000000000A9",
-    )?;
-    assert!(rt; upper.is_none());
-    let least = hash_of(alloc, "maestro hash 0.0.0.0:0 255.255.255.255:65535")?;
-    let widest = Ends {
-        addresses: Addresses::Four {
-            src: 0,
-            dst: u32::MAX,
-        },
-        source_port: 0,
-        destination_port: u16::MAX,
-    };
-    assert!(rt; least == Some((widest, None, 1)));
-    Ok(())
+        None,
+    ),
+    (
+        "maestro hash 0.0.0.0:0 255.255.255.255:65535",
+        Some((WIDEST, None, 1)),
+    ),
+    (
+        "maestro hash 3ffe250102001fff0000000000000007:2794 \
+         ffffffffffffffffffffffffffffffff:1766 --workers 3",
+        Some((ENDS_SIX, None, 3)),
+    ),
+];
+
+fn hashes() -> &'static [(&'static str, Option<Hash>)] {
+    &HASHES
 }
 
 #[test]
-fn a_hash_of_ipv6_is_asked_for(rt: HostRuntime) -> Result<(), Fail> {
-    let found = hash_of(
-        rt.alloc(),
-        "maestro hash 3ffe250102001fff0000000000000007:2794 \
-         ffffffffffffffffffffffffffffffff:1766 --workers 3",
-    )?;
-    assert!(rt; found == Some((ENDS_SIX, None, 3)));
+fn lines_that_are_hashes(rt: HostRuntime) -> Result<(), Fail> {
+    let alloc = rt.alloc();
+    for (line, expected) in hashes() {
+        assert!(rt; hash_of(alloc, line)? == *expected, "{line}");
+    }
     Ok(())
 }
 
 /// The name of the function of which this text is asked for.
 fn described(alloc: Global, line: &str, what: Description) -> Result<String, AllocError> {
-    if let Some(Command::Describe(describe)) = asked(alloc, line)? {
-        if describe.what == what {
-            return describe.function.clone();
-        }
+    let asked = asked(alloc, line)?;
+    match asked.as_slice().first() {
+        Some(Command::Describe(describe)) if describe.what == what => describe.function.clone(),
+        _ => Ok(String::new(alloc)),
     }
-    Ok(String::new(alloc))
 }
 
-const DESCRIBED: [(&str, Description, &str); 8] = [
+static DESCRIBED: [(&str, Description, &str); 8] = [
     ("maestro check x.nf", Description::Check, "x.nf"),
     ("another check x.nf", Description::Check, "x.nf"),
     ("maestro check -- --help", Description::Check, "--help"),
@@ -449,26 +476,28 @@ fn lines_that_ask_for_a_text(rt: HostRuntime) -> Result<(), Fail> {
     Ok(())
 }
 
-/// How many entries the table has, and how many bytes a key, of the network card that is asked for.
-fn card_of(alloc: Global, line: &str) -> Result<Option<(u32, u32)>, AllocError> {
-    let Some(command) = asked(alloc, line)? else {
-        return Ok(None);
-    };
-    let card: Option<Card> = match &command {
+/// The network card that is asked for.
+fn card_in(command: &Command) -> Option<Card> {
+    match command {
         Command::Run(run) => Some(run.card),
         Command::Gen(made) => Some(made.card),
         Command::Hash(hash) => Some(hash.card),
         Command::Describe(describe) => Some(describe.card),
         Command::Prove(prove) => Some(prove.card),
         Command::Replay(_) | Command::Certify(_) => None,
-    };
-    match card {
-        Some(card) => Ok(Some((card.table.entries(), card.key.bytes()))),
-        None => Ok(None),
     }
 }
 
-const CARDS: [(&str, (u32, u32)); 16] = [
+/// How many entries its table has, and how many bytes a key.
+fn card_of(alloc: Global, line: &str) -> Result<Option<(u32, u32)>, AllocError> {
+    let asked = asked(alloc, line)?;
+    Ok(match asked.as_slice().first() {
+        Some(command) => card_in(command).map(|card| (card.table.entries(), card.key.bytes())),
+        None => None,
+    })
+}
+
+static CARDS: [(&str, (u32, u32)); 16] = [
     ("maestro run x.nf out a", (128, 40)),
     ("maestro run x.nf out a --table 512", (512, 40)),
     ("maestro run x.nf out a --key-bytes=52", (128, 52)),

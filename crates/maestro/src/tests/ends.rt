@@ -18,10 +18,10 @@ fn ends_so(
     state: &str,
 ) -> bool {
     got.status == status
-        && is_text(got.stdout.as_slice(), stdout)
-        && is_text(got.stderr.as_slice(), stderr)
-        && has_bytes(&got.journal, journal.as_bytes())
-        && has_bytes(&got.state, state.as_bytes())
+        && is_text(got.stdout(), stdout)
+        && is_text(got.stderr(), stderr)
+        && has_bytes(got.journal(), journal.as_bytes())
+        && has_bytes(got.state(), state.as_bytes())
 }
 
 // How many bytes of the query's capture of 82 stand at port 0: a torn record is not read.
@@ -84,7 +84,7 @@ fn is_torn_at<R: Threads + Wait + Clone + Send + Sync + Drop + 'static>(
 ) -> Result<bool, AllocError> {
     let captures = [changed_capture(alloc, at, byte)?];
     let got = call(rt, alloc, run_one(), "out", mirror(), &captures, &[])?;
-    Ok(got.status == Status::Torn { port: 0, offset } && is_text(got.stderr.as_slice(), said))
+    Ok(got.status == Status::Torn { port: 0, offset } && is_text(got.stderr(), said))
 }
 
 #[test]
@@ -247,8 +247,8 @@ fn is_printed<R: Threads + Wait + Clone + Send + Sync + Drop + 'static>(
     let got = call(rt, alloc, line, "out", b"", &[], &[])?;
     Ok(
         got.status == Status::Done
-            && is_text(got.stdout.as_slice(), said)
-            && got.stderr.is_empty()
+            && is_text(got.stdout(), said)
+            && got.stderr().is_empty()
             && got.opened == 0,
     )
 }

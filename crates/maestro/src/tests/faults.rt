@@ -74,19 +74,19 @@ fn said(file: RunFile) -> &'static str {
 }
 
 // Whether a file has the first bytes, or all, of another, where it is there.
-fn is_front(content: &Option<Vec<u8>>, whole: &Option<Vec<u8>>) -> bool {
+fn is_front(content: Option<&[u8]>, whole: Option<&[u8]>) -> bool {
     match (content, whole) {
         (None, _) => true,
-        (Some(bytes), Some(whole)) => whole.as_slice().starts_with(bytes.as_slice()),
+        (Some(bytes), Some(whole)) => whole.starts_with(bytes),
         (Some(_), None) => false,
     }
 }
 
 // Whether each file that a run leaves has the first bytes, or all, of what the other run left there.
 fn are_fronts(got: &Outcome, whole: &Outcome) -> bool {
-    let mut all = is_front(&got.journal, &whole.journal) && is_front(&got.state, &whole.state);
-    for (content, whole) in got.outputs.iter().zip(whole.outputs.iter()) {
-        all = is_front(content, whole) && all;
+    let mut all = is_front(got.journal(), whole.journal()) && is_front(got.state(), whole.state());
+    for port in 0..4 {
+        all = is_front(got.output(port), whole.output(port)) && all;
     }
     all
 }
@@ -141,7 +141,7 @@ fn is_empty_journal<R: Threads + Wait + Clone + Send + Sync + Drop + 'static>(
 ) -> Result<bool, AllocError> {
     let got = call_firewall(rt, alloc, &[18])?;
     let status = Status::FileFault(RunFile::OutJournal);
-    Ok(got.status == status && has_bytes(&got.journal, b"") && got.state.is_none())
+    Ok(got.status == status && has_bytes(got.journal(), b"") && got.state().is_none())
 }
 
 #[test]
@@ -170,7 +170,7 @@ fn is_first<R: Threads + Wait + Clone + Send + Sync + Drop + 'static>(
     file: RunFile,
 ) -> Result<bool, AllocError> {
     let got = call_firewall(rt, alloc, &[number, number.saturating_add(1)])?;
-    Ok(got.status == Status::FileFault(file) && got.stderr.is_empty())
+    Ok(got.status == Status::FileFault(file) && got.stderr().is_empty())
 }
 
 #[test]
@@ -190,7 +190,7 @@ fn is_mute<R: Threads + Wait + Clone + Send + Sync + Drop + 'static>(
     fails: u64,
 ) -> Result<bool, AllocError> {
     let got = call(rt, alloc, line, "out", text, &[], &[fails])?;
-    Ok(got.status == Status::FileFault(RunFile::Stderr) && got.stderr.is_empty())
+    Ok(got.status == Status::FileFault(RunFile::Stderr) && got.stderr().is_empty())
 }
 
 #[test]

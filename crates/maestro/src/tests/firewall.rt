@@ -150,13 +150,6 @@ fn reply_bytes() -> &'static [u8] {
 \x00\x50\x03\xe8\x00\x08\x00\x00"
 }
 
-fn is_reply(content: Option<&Option<Vec<u8>>>) -> bool {
-    match content {
-        Some(content) => has_bytes(content, reply_bytes()),
-        None => false,
-    }
-}
-
 fn reply_is_left<R: Threads + Wait + Clone + Send + Sync + Drop + 'static>(
     rt: &R,
     alloc: Global,
@@ -171,7 +164,7 @@ fn reply_is_left<R: Threads + Wait + Clone + Send + Sync + Drop + 'static>(
         captures.as_slice(),
         &[],
     )?;
-    Ok(is_reply(got.outputs.first()))
+    Ok(has_bytes(got.output(0), reply_bytes()))
 }
 
 #[test]
@@ -232,7 +225,7 @@ fn decides<R: Threads + Wait + Clone + Send + Sync + Drop + 'static>(
 ) -> Result<bool, AllocError> {
     let captures = [capture(alloc, &[(1, Frame::Changed(at, byte))])?];
     let got = call(rt, alloc, run_one(), "out", mirror(), &captures, &[])?;
-    Ok(got.status == Status::Done && has_bytes(&got.journal, journal_of(handled)))
+    Ok(got.status == Status::Done && has_bytes(got.journal(), journal_of(handled)))
 }
 
 #[test]

@@ -37,8 +37,8 @@ fn is_at(alloc: Global, got: &Outcome, index: u32) -> Result<bool, AllocError> {
     let journal = format!(in alloc; "maestro journal 1 one 1\n0 0 0 to:0 {index}\n")?;
     let state = format!(in alloc; "chain s greatest 1\n{index} 1 x=1\n")?;
     Ok(
-        has_bytes(&got.journal, journal.as_str().as_bytes())
-            && has_bytes(&got.state, state.as_str().as_bytes()),
+        has_bytes(got.journal(), journal.as_str().as_bytes())
+            && has_bytes(got.state(), state.as_str().as_bytes()),
     )
 }
 
@@ -66,11 +66,8 @@ fn run_by_source<R: Threads + Wait + Clone + Send + Sync + Drop + 'static>(
         &[],
     )?;
     let sent = capture(alloc, &[(1, DATAGRAM)])?;
-    let out = match got.outputs.as_slice().get(0) {
-        Some(output) => has_bytes(output, sent.as_slice()),
-        None => false,
-    };
-    let said = is_text(got.stdout.as_slice(), "ran 1 one 1\n");
+    let out = has_bytes(got.output(0), sent.as_slice());
+    let said = is_text(got.stdout(), "ran 1 one 1\n");
     Ok(got.status == Status::Done && said && out && is_somewhere(alloc, &got)?)
 }
 
@@ -250,20 +247,17 @@ fn files_of(alloc: Global, text: &str) -> Result<MemoryFiles, AllocError> {
 // Whether a run left this state and, where one is wanted, this journal, and what goes to port 0 in capture order.
 fn has_left(alloc: Global, got: &Outcome, run: &Mixed) -> Result<bool, AllocError> {
     let sent = capture(alloc, sent())?;
-    let out = match got.outputs.as_slice().get(0) {
-        Some(output) => has_bytes(output, sent.as_slice()),
-        None => false,
-    };
+    let out = has_bytes(got.output(0), sent.as_slice());
     let open = run.journal.is_empty();
-    let journal = open || (out && has_bytes(&got.journal, run.journal.as_bytes()));
-    Ok(got.status == Status::Done && journal && has_bytes(&got.state, run.state.as_bytes()))
+    let journal = open || (out && has_bytes(got.journal(), run.journal.as_bytes()));
+    Ok(got.status == Status::Done && journal && has_bytes(got.state(), run.state.as_bytes()))
 }
 
 // Standard output has the line on the run, and behind it the state that the replay prints.
 fn is_same_again(alloc: Global, again: &Outcome, run: &Mixed) -> Result<bool, AllocError> {
     let mut said = String::from_str(alloc, run.said)?;
     said.push_str(run.state)?;
-    Ok(again.status == Status::Done && is_text(again.stdout.as_slice(), said.as_str()))
+    Ok(again.status == Status::Done && is_text(again.stdout(), said.as_str()))
 }
 
 // What is wrong with a run and the replay of what it left; empty where all is right.

@@ -285,10 +285,11 @@ fn has_each_digit(choices: &[u8]) -> bool {
         && choices.contains(&b'4')
 }
 
-fn are_six_lines(alloc: Global, journal: Option<Vec<u8>>) -> Result<bool, AllocError> {
-    let Some(mut journal) = journal else {
+fn are_six_lines(alloc: Global, journal: Option<&[u8]>) -> Result<bool, AllocError> {
+    let Some(bytes) = journal else {
         return Ok(false);
     };
+    let mut journal = Vec::from_slice(alloc, bytes)?;
     let choices = taken_choices(alloc, &mut journal)?;
     Ok(has_each_digit(choices.as_slice()) && journal.as_slice() == six_lines())
 }
@@ -311,7 +312,7 @@ fn policer_fills<R: Threads + Wait + Clone + Send + Sync + Drop + 'static>(
         captures.as_slice(),
         &[],
     )?;
-    Ok(got.status == Status::Done && are_six_lines(alloc, got.journal)?)
+    Ok(got.status == Status::Done && are_six_lines(alloc, got.journal())?)
 }
 
 #[test]

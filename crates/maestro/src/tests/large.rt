@@ -78,8 +78,8 @@ fn files_of(alloc: Global, text: &[u8], captures: &[Vec<u8>]) -> Result<MemoryFi
 // Whether each port sent out what its capture holds.
 fn are_sent(got: &Outcome, captures: &[Vec<u8>]) -> bool {
     let mut sent = true;
-    for (output, capture) in got.outputs.iter().zip(captures) {
-        sent = has_bytes(output, capture.as_slice()) && sent;
+    for (port, capture) in captures.iter().enumerate() {
+        sent = has_bytes(got.output(port), capture.as_slice()) && sent;
     }
     sent
 }
@@ -96,10 +96,10 @@ fn is_right<R: Threads + Wait + Clone + Send + Sync + Drop + 'static>(
     let mut files = files_of(alloc, text, captures)?;
     let ran = call_over(rt, alloc, run.0, &mut files)?;
     let met = ran.status == Status::Done
-        && is_text(ran.stdout.as_slice(), run.1)
+        && is_text(ran.stdout(), run.1)
         && are_sent(&ran, captures);
     let judged = call_over(rt, alloc, replay, &mut files)?;
-    Ok(met && judged.status == Status::Done && judged.stderr.is_empty())
+    Ok(met && judged.status == Status::Done && judged.stderr().is_empty())
 }
 
 #[test]
@@ -181,7 +181,7 @@ fn is_made<R: Threads + Wait + Clone + Send + Sync + Drop + 'static>(
     text: &[u8],
 ) -> Result<bool, AllocError> {
     let got = call(rt, alloc, run.0, "out", text, &[], &[])?;
-    Ok(got.status == Status::Done && is_text(got.stdout.as_slice(), run.1))
+    Ok(got.status == Status::Done && is_text(got.stdout(), run.1))
 }
 
 #[test]

@@ -30,15 +30,11 @@ fn all_come_back<R: Threads + Wait + Clone + Send + Sync + Drop + 'static>(
     captures: &[Vec<u8>],
 ) -> Result<bool, AllocError> {
     let got = call(rt, alloc, line, "out", mirror(), captures, &[])?;
-    let sent = match (got.outputs.as_slice().get(0), captures.get(0)) {
-        (Some(output), Some(capture)) => has_bytes(output, capture.as_slice()),
-        _ => false,
+    let sent = match captures.get(0) {
+        Some(capture) => has_bytes(got.output(0), capture.as_slice()),
+        None => false,
     };
-    Ok(
-        sent && got.status == Status::Done
-            && is_text(got.stdout.as_slice(), said)
-            && got.stderr.is_empty(),
-    )
+    Ok(sent && got.status == Status::Done && is_text(got.stdout(), said) && got.stderr().is_empty())
 }
 
 #[test]

@@ -30,8 +30,8 @@ fn made_up_traffic_is_summed_up(rt: HostRuntime) -> Result<(), Fail> {
     for (line, summary) in cases() {
         let got = call(&rt, rt.alloc(), line, "out", firewall(), &[], &[])?;
         assert!(rt; got.status == Status::Done, "{line}");
-        assert!(rt; is_text(got.stdout.as_slice(), summary), "{line}");
-        assert!(rt; got.stderr.is_empty(), "{line}");
+        assert!(rt; is_text(got.stdout(), summary), "{line}");
+        assert!(rt; got.stderr().is_empty(), "{line}");
         assert!(rt; got.opened == 5, "{line}");
         assert!(rt; got.left() == 4, "{line}");
     }

@@ -63,8 +63,8 @@ fn outputs_are_in_pcapng_where_that_is_asked_for(rt: HostRuntime) -> Result<(), 
     assert!(rt; got.status == Status::Done);
     assert_eq!(rt; got.left(), 2);
     assert!(rt; are_sent(alloc, &files)?);
-    assert!(rt; has_bytes(&got.journal, JOURNAL.as_bytes()));
-    assert!(rt; has_bytes(&got.state, STATE.as_bytes()));
+    assert!(rt; has_bytes(got.journal(), JOURNAL.as_bytes()));
+    assert!(rt; has_bytes(got.state(), STATE.as_bytes()));
     Ok(())
 }
 
@@ -72,7 +72,7 @@ fn outputs_are_in_pcapng_where_that_is_asked_for(rt: HostRuntime) -> Result<(), 
 fn a_replay_compares_outputs_in_pcapng(rt: HostRuntime) -> Result<(), Fail> {
     let got = replay(&rt, rt.alloc(), REPLAY, ["old.0.pcapng", "old.1.pcapng"])?;
     assert!(rt; got.status == Status::Done);
-    assert!(rt; is_text(got.stdout.as_slice(), STATE));
+    assert!(rt; is_text(got.stdout(), STATE));
     Ok(())
 }
 
@@ -82,6 +82,6 @@ fn an_output_in_the_other_form_differs(rt: HostRuntime) -> Result<(), Fail> {
     let line = "maestro replay x.nf old.journal old a.pcap b.pcap";
     let got = replay(&rt, rt.alloc(), line, ["old.0.pcap", "old.1.pcap"])?;
     assert!(rt; got.status == Status::Differs(Difference::Output(0)));
-    assert!(rt; got.stdout.is_empty());
+    assert!(rt; got.stdout().is_empty());
     Ok(())
 }

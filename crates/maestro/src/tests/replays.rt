@@ -117,8 +117,8 @@ fn journals_are_judged(rt: HostRuntime) -> Result<(), Fail> {
     for (line, journal, status, stdout, stderr) in cases() {
         let got = replay(&rt, rt.alloc(), line, journal, outputs.as_slice(), &[])?;
         assert!(rt; got.status == *status, "{journal}");
-        assert!(rt; is_text(got.stdout.as_slice(), stdout), "{journal}");
-        assert!(rt; is_text(got.stderr.as_slice(), stderr), "{journal}");
+        assert!(rt; is_text(got.stdout(), stdout), "{journal}");
+        assert!(rt; is_text(got.stderr(), stderr), "{journal}");
     }
     Ok(())
 }
@@ -128,13 +128,8 @@ fn outputs_are_compared(rt: HostRuntime) -> Result<(), Fail> {
     let exchanged = captures(rt.alloc(), talk())?;
     let got = replay(&rt, rt.alloc(), REPLAY, RIGHT, exchanged.as_slice(), &[])?;
     assert!(rt; got.status == Status::Differs(Difference::Output(0)));
-    assert!(rt; got.stdout.is_empty());
-    assert!(rt;
-        is_text(
-            got.stderr.as_slice(),
-            "maestro: replay differs at output 0\n"
-        )
-    );
+    assert!(rt; got.stdout().is_empty());
+    assert!(rt; is_text(got.stderr(), "maestro: replay differs at output 0\n"));
     Ok(())
 }
 
@@ -149,8 +144,8 @@ fn a_replay_names_the_file_that_failed(rt: HostRuntime) -> Result<(), Fail> {
     ] {
         let got = replay(&rt, rt.alloc(), REPLAY, RIGHT, outputs.as_slice(), &[call])?;
         assert!(rt; got.status == Status::FileFault(file), "{call}");
-        assert!(rt; got.stdout.is_empty(), "{call}");
-        assert!(rt; is_text(got.stderr.as_slice(), said), "{call}");
+        assert!(rt; got.stdout().is_empty(), "{call}");
+        assert!(rt; is_text(got.stderr(), said), "{call}");
     }
     Ok(())
 }

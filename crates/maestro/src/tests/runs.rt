@@ -25,21 +25,17 @@ pub struct Ran {
 
 fn output_is(
     alloc: Global,
-    content: &Option<Vec<u8>>,
+    content: Option<&[u8]>,
     records: &[Record],
 ) -> Result<bool, AllocError> {
     let bytes = capture(alloc, records)?;
     Ok(has_bytes(content, bytes.as_slice()))
 }
 
-fn outputs_are(
-    alloc: Global,
-    outputs: &[Option<Vec<u8>>],
-    wanted: &[&[Record]],
-) -> Result<bool, AllocError> {
+fn outputs_are(alloc: Global, got: &Outcome, wanted: &[&[Record]]) -> Result<bool, AllocError> {
     let mut all = true;
-    for (content, records) in outputs.iter().zip(wanted) {
-        all = output_is(alloc, content, records)? && all;
+    for (port, records) in wanted.iter().enumerate() {
+        all = output_is(alloc, got.output(port), records)? && all;
     }
     Ok(all)
 }
@@ -49,19 +45,19 @@ fn wrong_text(got: &Outcome, ran: &Ran) -> &'static str {
     if got.status != Status::Done {
         return "status";
     }
-    if !is_text(got.stdout.as_slice(), ran.said) {
+    if !is_text(got.stdout(), ran.said) {
         return "standard output";
     }
-    if !got.stderr.is_empty() {
+    if !got.stderr().is_empty() {
         return "standard error";
     }
-    if !has_bytes(&got.journal, ran.journal.as_bytes()) {
+    if !has_bytes(got.journal(), ran.journal.as_bytes()) {
         return "journal";
     }
-    if !has_bytes(&got.state, ran.state.as_bytes()) {
+    if !has_bytes(got.state(), ran.state.as_bytes()) {
         return "state";
     }
-    if !has_bytes(&got.text, ran.text.as_bytes()) {
+    if !has_bytes(got.text(), ran.text.as_bytes()) {
         return "text";
     }
     ""
@@ -90,7 +86,7 @@ pub fn wrong_part<R: Threads + Wait + Clone + Send + Sync + Drop + 'static>(
         bytes.as_slice(),
         &[],
     )?;
-    let outputs = outputs_are(alloc, got.outputs.as_slice(), ran.outputs)?;
+    let outputs = outputs_are(alloc, &got, ran.outputs)?;
     let counts = counts_are(&got, ran.captures.len());
     let wrong = wrong_text(&got, ran);
     Ok(if !outputs {

@@ -64,7 +64,7 @@ fn run_policer<R: Threads + Wait + Clone + Send + Sync + Drop + 'static>(
     call(rt, alloc, line, "out", policer(), captures.as_slice(), &[])
 }
 
-fn is_one_of(content: &Option<Vec<u8>>, texts: &[&str]) -> bool {
+fn is_one_of(content: Option<&[u8]>, texts: &[&str]) -> bool {
     let mut found = false;
     for text in texts {
         found = has_bytes(content, text.as_bytes()) || found;
@@ -76,12 +76,7 @@ fn is_one_of(content: &Option<Vec<u8>>, texts: &[&str]) -> bool {
 fn is_sent_to_0(alloc: Global, got: &Outcome, records: &[Record]) -> Result<bool, AllocError> {
     let sent = capture(alloc, records)?;
     let none = capture(alloc, &[])?;
-    match (got.outputs.as_slice().get(0), got.outputs.as_slice().get(1)) {
-        (Some(first), Some(second)) => {
-            Ok(has_bytes(first, sent.as_slice()) && has_bytes(second, none.as_slice()))
-        }
-        _ => Ok(false),
-    }
+    Ok(has_bytes(got.output(0), sent.as_slice()) && has_bytes(got.output(1), none.as_slice()))
 }
 
 // Three hosts of one queue, whose share has two of five indices.
@@ -113,10 +108,10 @@ fn a_share_is_full(rt: HostRuntime) -> Result<(), Fail> {
     let got = run_policer(&rt, rt.alloc(), TWO_WORKERS, three_hosts())?;
     assert!(rt; got.status.number() == 6);
     let said = "maestro: share full: chain hosts, queue 1, packet 1 2\n";
-    assert!(rt; is_text(got.stderr.as_slice(), said));
-    assert!(rt; is_text(got.stdout.as_slice(), "ran 2 shard 2\n"));
-    assert!(rt; is_one_of(&got.journal, full_journals()));
-    assert!(rt; got.state.is_none());
+    assert!(rt; is_text(got.stderr(), said));
+    assert!(rt; is_text(got.stdout(), "ran 2 shard 2\n"));
+    assert!(rt; is_one_of(got.journal(), full_journals()));
+    assert!(rt; got.state().is_none());
     assert!(rt; is_sent_to_0(rt.alloc(), &got, two_hosts())?);
     Ok(())
 }
@@ -161,11 +156,11 @@ fn last_alone() -> &'static [&'static str] {
 fn each_share_forgets_by_the_last_packet(rt: HostRuntime) -> Result<(), Fail> {
     let kept = run_policer(&rt, rt.alloc(), TWO_WORKERS, later())?;
     assert!(rt; kept.status.number() == 0);
-    assert!(rt; is_text(kept.stdout.as_slice(), "ran 2 shard 2\n"));
-    assert!(rt; is_one_of(&kept.state, both()));
+    assert!(rt; is_text(kept.stdout(), "ran 2 shard 2\n"));
+    assert!(rt; is_one_of(kept.state(), both()));
     let forgotten = run_policer(&rt, rt.alloc(), TWO_WORKERS, too_late())?;
     assert!(rt; forgotten.status.number() == 0);
-    assert!(rt; is_one_of(&forgotten.state, last_alone()));
+    assert!(rt; is_one_of(forgotten.state(), last_alone()));
     Ok(())
 }
 
@@ -181,8 +176,8 @@ fn is_without_keys<R: Threads + Wait + Clone + Send + Sync + Drop + 'static>(
     let got = call(rt, alloc, line, "out", text, captures.as_slice(), &[])?;
     Ok(
         got.status.number() == 8
-            && is_text(got.stderr.as_slice(), said)
-            && got.stdout.is_empty()
+            && is_text(got.stderr(), said)
+            && got.stdout().is_empty()
             && got.opened == 1
             && got.left() == 0,
     )
@@ -205,7 +200,7 @@ fn one_worker_shares_nothing(rt: HostRuntime) -> Result<(), Fail> {
     let line = "maestro run x.nf out a.pcap b.pcap --mode shard --workers 1";
     let got = run_policer(&rt, rt.alloc(), line, three_hosts())?;
     assert!(rt; got.status.number() == 0);
-    assert!(rt; is_text(got.stdout.as_slice(), "ran 3 one 1\n"));
+    assert!(rt; is_text(got.stdout(), "ran 3 one 1\n"));
     Ok(())
 }
 
@@ -237,15 +232,15 @@ fn sends_as<R: Threads + Wait + Clone + Send + Sync + Drop + 'static>(
 ) -> Result<bool, AllocError> {
     let (line, said) = case;
     let got = call(rt, alloc, line, "out", WIDE.as_bytes(), captures, &[])?;
-    let mut same = got.outputs.len() == one.outputs.len();
-    for (output, other) in got.outputs.iter().zip(one.outputs.iter()) {
+    let mut same = true;
+    for port in 0..4 {
         same = same
-            && match other {
-                Some(bytes) => has_bytes(output, bytes.as_slice()),
-                None => output.is_none(),
+            && match one.output(port) {
+                Some(bytes) => has_bytes(got.output(port), bytes),
+                None => got.output(port).is_none(),
             };
     }
-    Ok(same && got.status.number() == 0 && is_text(got.stdout.as_slice(), said))
+    Ok(same && got.status.number() == 0 && is_text(got.stdout(), said))
 }
 
 static BY_MANY: [(&str, &str); 4] = [
@@ -279,7 +274,7 @@ fn several_workers_send_what_one_sends(rt: HostRuntime) -> Result<(), Fail> {
     let files = captures.as_slice();
     let line = "maestro run x.nf out a.pcap b.pcap --workers 1";
     let one = call(&rt, alloc, line, "out", WIDE.as_bytes(), files, &[])?;
-    assert!(rt; is_text(one.stdout.as_slice(), "ran 300 one 1\n"));
+    assert!(rt; is_text(one.stdout(), "ran 300 one 1\n"));
     for case in by_many() {
         assert!(rt; sends_as(&rt, alloc, *case, files, &one)?);
     }
@@ -346,7 +341,7 @@ fn meet<R: Threads + Wait + Clone + Send + Sync + Drop + 'static>(
     let captures = captures(alloc, &[&[], records])?;
     let files = captures.as_slice();
     let got = call_with(rt, alloc, TWO_WORKERS, policer(), files, &turns)?;
-    Ok(turns.gave_up.load(Ordering::SeqCst) == 0 && is_text(got.stdout.as_slice(), said))
+    Ok(turns.gave_up.load(Ordering::SeqCst) == 0 && is_text(got.stdout(), said))
 }
 
 #[test]
