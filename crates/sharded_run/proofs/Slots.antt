@@ -37,3 +37,12 @@ first_put (y ∷ row) more new at x none most no_more is = absurd (omega (arith,
 -- one in a slot of its own
 pub slot_added : {A : Type 0} (slots new : List A) (used n : ℕ) (x : A) → length slots ≤ used → new ≡ slots ++ x ∷ [] → n ≡ length new → take n new ≡ take used slots ++ x ∷ []
 slot_added slots new used n x all is long = take_all n new (omega (arith, long)) ∙ is ∙ ap (λ t. t ++ x ∷ []) (sym (take_all used slots all))
+
+-- where a packet is left, one of the first row is
+pub some_left : {A : Type 0} (row more : List A) (at : ℕ) → 0 < length (drop at row ++ more) → at ≤ length row → (length row ≤ at → length row + length more ≡ 0) → at < length row
+some_left [] more zero some most gone = absurd (omega (arith, some, gone (omega (arith, most))))
+some_left [] more (suc at) some most gone = absurd (omega (arith, most))
+some_left (y ∷ row) more zero some most gone = omega (arith, most)
+some_left (y ∷ row) more (suc at) some most gone =
+    let fewer : at < length row = some_left row more at some (omega (arith, most)) (λ past. absurd (omega (arith, gone (omega (arith, past))))) in
+    omega (arith, fewer)
