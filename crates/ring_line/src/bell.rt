@@ -5,10 +5,28 @@ ghost use Rattle.rtrb.specs.Ring.{sent, received, SameConsumer, SameProducer};
 use rtrb::{Consumer, Producer, PushError};
 use std::hint::spin_loop;
 use std::sync::Wait;
-use std::thread::Parker;
+use std::thread::{self, Parker, Threads};
 
-/// How often a thread looks again before it sleeps.
-const LOOKS: u32 = 300;
+/// How often a thread looks again before it sleeps, where each has a processor: for a part of a
+/// millisecond. To be woken costs the other side more than a packet does.
+const MANY_LOOKS: u32 = 20_000;
+
+/// The same where another thread may want the processor.
+const FEW_LOOKS: u32 = 50;
+
+/// How often each of so many threads looks again before it sleeps.
+pub fn looks_for<R: Threads>(rt: &R, threads: usize) -> u32 {
+    match thread::available_parallelism(rt) {
+        Ok(processors) => {
+            if threads <= processors.get() {
+                MANY_LOOKS
+            } else {
+                FEW_LOOKS
+            }
+        }
+        Err(_) => FEW_LOOKS,
+    }
+}
 
 /// The next item, if there is one.
 pub fn pop<T>(from: &mut Consumer<T>) -> Option<T>
@@ -23,12 +41,12 @@ pub fn pop<T>(from: &mut Consumer<T>) -> Option<T>
 }
 
 /// The next item, if it comes soon.
-fn look<T>(from: &mut Consumer<T>) -> Option<T>
+fn look<T>(from: &mut Consumer<T>, looks: u32) -> Option<T>
     ensures ring { SameConsumer from.old from.new }
     ensures some { IfSome result (λ item. received from.new ≡ received from.old ++ item ∷ []) }
     ensures none { IfNone result (received from.new ≡ received from.old) }
 {
-    for _ in 0..LOOKS {
+    for _ in 0..looks {
         if let Some(item) = pop(from) {
             return Some(item);
         }
@@ -51,12 +69,12 @@ fn sleep<T, R: Wait>(rt: &R, from: &mut Consumer<T>, bell: &Parker) -> T
     unreachable!()
 }
 
-/// Waits for the next item; the other side rings this bell after each one.
-pub fn take<T, R: Wait>(rt: &R, from: &mut Consumer<T>, bell: &Parker) -> T
+/// Waits for the next item, at first by so many looks; the other side rings this bell after each one.
+pub fn take<T, R: Wait>(rt: &R, from: &mut Consumer<T>, bell: &Parker, looks: u32) -> T
     ensures ring { SameConsumer from.old from.new }
     ensures received { received from.new ≡ received from.old ++ result ∷ [] }
 {
-    match look(from) {
+    match look(from, looks) {
         Some(item) => item,
         None => sleep(rt, from, bell),
     }

@@ -36,6 +36,8 @@ pub struct Lane {
     /// The worker's, and that of whoever collects.
     bell: Arc<Parker>,
     own_bell: Arc<Parker>,
+    /// How often whoever collects looks again before it sleeps.
+    looks: u32,
     /// Packets that were not pushed yet.
     filling: Pack,
     /// The last pack that came back, and how many of its answers are collected.

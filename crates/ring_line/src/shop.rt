@@ -22,6 +22,8 @@ pub struct Shop<G> {
     pub bell: Arc<Parker>,
     /// To be rung when something went back.
     pub other: Arc<Parker>,
+    /// How often it looks again before it sleeps.
+    pub looks: u32,
 }
 
 impl<G: Turns + Drop> Shop<G> {
@@ -49,7 +51,7 @@ impl<G: Turns + Drop> Shop<G> {
         ensures { (given : Given) → AtWork given self.old.ends self.old.desk →
             AtItem result given self.new.ends self.new.desk }
     {
-        match take(rt, &mut self.ends.from, &*self.bell) {
+        match take(rt, &mut self.ends.from, &*self.bell, self.looks) {
             Item::Work(pack) => {
                 self.serve(rt, pack);
                 true
@@ -66,6 +68,7 @@ impl<G: Turns + Drop> Shop<G> {
             desk,
             bell: _,
             other: _,
+            looks: _,
         } = self;
         let halt = desk.halt();
         Ended {

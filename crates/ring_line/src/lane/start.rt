@@ -8,6 +8,7 @@ ghost use Rattle.ring_line.specs.Lanes.{StandsFor, StartsWith};
 ghost use Rattle.ring_line.specs.Starts.{IsGiven, AreEnds};
 
 use super::Lane;
+use crate::bell::looks_for;
 use crate::desk::Desk;
 use crate::item::Item;
 use crate::keeps::{Ended, Ends, Keeps};
@@ -174,7 +175,9 @@ impl Lane {
         let desk = new_desk(alloc, func, share, turns)?;
         let stock = new_stock(alloc)?;
         let bells = new_bells(alloc, own_bell)?;
-        Lane::begin(rt, alloc, desk, stock, bells, size)
+        // The workers, and whoever collects.
+        let looks = looks_for(rt, share.of as usize + 1);
+        Lane::begin(rt, alloc, desk, stock, bells, looks, size)
     }
 
     /// Starts a worker's thread with its desk.
@@ -187,6 +190,7 @@ impl Lane {
         desk: Desk<G>,
         stock: Stock,
         bells: Bells,
+        looks: u32,
         size: usize,
     ) -> Result<Option<Lane>, AllocError>
         requires filling { stock.filling ≡ empty_pack }
@@ -207,6 +211,7 @@ impl Lane {
             desk,
             bell: bell_there,
             other: own_bell_there,
+            looks,
         };
         let Stock {
             filling,
@@ -220,6 +225,7 @@ impl Lane {
                 child,
                 bell,
                 own_bell,
+                looks,
                 filling,
                 current,
                 at: 0,

@@ -147,7 +147,7 @@ impl Lane {
             StandsFor self.new func share packets answers }
         ensures in_flight { self.new.in_flight ≡ self.old.in_flight }
     {
-        let pack = take(rt, &mut self.back, &*self.own_bell);
+        let pack = take(rt, &mut self.back, &*self.own_bell, self.looks);
         let used = mem::replace(&mut self.current, pack);
         self.at = 0;
         keep(&mut self.spares, used);
@@ -197,6 +197,7 @@ impl Lane {
             child,
             bell,
             own_bell: _,
+            looks: _,
             filling,
             current: _,
             at: _,
