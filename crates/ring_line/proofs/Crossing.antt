@@ -121,6 +121,12 @@ module _ (G : RattleType) (s : IsSend G) (y : IsSync G) where
     search (sendable, as_row_send, ends_law.the_send) depth 40,
     (
       search (sendable, as_row_send, desk_send) depth 40,
-      (search (sendable, crosses, as_row_send) depth 40, (search (sendable, crosses, as_row_send) depth 40, tt)),
+      (
+        search (sendable, crosses, as_row_send) depth 40,
+        (
+          search (sendable, crosses, as_row_send) depth 40,
+          (search (sendable, crosses, as_row_send) depth 40, tt),
+        ),
+      ),
     ),
   )
