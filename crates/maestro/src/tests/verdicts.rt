@@ -334,34 +334,52 @@ fn gives_keys<R: Threads + Wait + Clone + Send + Sync + Drop + 'static>(
 }
 
 // The tables are several, since the proof of a long one takes more than its share.
-fn all_told() -> [&'static [Told]; 5] {
-    [
-        by_addresses(),
-        by_ports(),
-        locked_by_a_rule(),
-        locked_by_the_hash(),
-        of_ipv6(),
-    ]
-}
-
 #[test]
 fn a_function_is_explained(rt: HostRuntime) -> Result<(), Fail> {
-    for table in all_told() {
-        for told in table {
-            let met = explains(&rt, rt.alloc(), told)?;
-            assert!(rt; met, "{}", told.shows);
-        }
+    for told in by_addresses() {
+        let met = explains(&rt, rt.alloc(), told)?;
+        assert!(rt; met, "{}", told.shows);
+    }
+    for told in by_ports() {
+        let met = explains(&rt, rt.alloc(), told)?;
+        assert!(rt; met, "{}", told.shows);
+    }
+    for told in locked_by_a_rule() {
+        let met = explains(&rt, rt.alloc(), told)?;
+        assert!(rt; met, "{}", told.shows);
+    }
+    for told in locked_by_the_hash() {
+        let met = explains(&rt, rt.alloc(), told)?;
+        assert!(rt; met, "{}", told.shows);
+    }
+    for told in of_ipv6() {
+        let met = explains(&rt, rt.alloc(), told)?;
+        assert!(rt; met, "{}", told.shows);
     }
     Ok(())
 }
 
 #[test]
 fn keys_are_the_end_of_what_is_explained(rt: HostRuntime) -> Result<(), Fail> {
-    for table in all_told() {
-        for told in table {
-            let met = gives_keys(&rt, rt.alloc(), told)?;
-            assert!(rt; met, "{}", told.shows);
-        }
+    for told in by_addresses() {
+        let met = gives_keys(&rt, rt.alloc(), told)?;
+        assert!(rt; met, "{}", told.shows);
+    }
+    for told in by_ports() {
+        let met = gives_keys(&rt, rt.alloc(), told)?;
+        assert!(rt; met, "{}", told.shows);
+    }
+    for told in locked_by_a_rule() {
+        let met = gives_keys(&rt, rt.alloc(), told)?;
+        assert!(rt; met, "{}", told.shows);
+    }
+    for told in locked_by_the_hash() {
+        let met = gives_keys(&rt, rt.alloc(), told)?;
+        assert!(rt; met, "{}", told.shows);
+    }
+    for told in of_ipv6() {
+        let met = gives_keys(&rt, rt.alloc(), told)?;
+        assert!(rt; met, "{}", told.shows);
     }
     Ok(())
 }
