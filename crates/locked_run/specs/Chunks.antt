@@ -63,8 +63,3 @@ GoOnTo mode workers card format ports all next now files chunks (Ok x) =
     AreWhole mode workers card format ports (take next all) now files × AreIdle format chunks
 GoOnTo mode workers card format ports all next now files chunks (Err e) =
     AreFronts mode workers card format ports all now files
-
--- some chunks, of so many packets each, and not too many
-pub record HaveRoom (size : ℕ) (chunks : List Chunk) : Type 0 where
-  pub some : 0 < length chunks * size
-  pub few : length chunks * size ≤ 2147483648

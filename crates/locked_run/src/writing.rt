@@ -1,22 +1,17 @@
-//! What packets leave is written, in the order in which they were handled, by chunks.
-ghost use Rattle.std.specs.Prelude.{◌≡◌, ◌^◌, ◌+◌, ◌*◌, ◌<◌, ◌≤◌, ◌∷◌, ◌++◌, [], ℕ, List, length, map, take, slice_get, Some};
+//! How many packets a chunk is of, and how chunks are written.
+ghost use Rattle.std.specs.Prelude.{◌+◌, ◌*◌, ◌<◌, ◌≤◌, [], ℕ, List, length, take};
 ghost use Rattle.nf_base.specs.declared.card.Card.{Card};
 ghost use Rattle.capture_format.specs.declared.format.CaptureFormat.{CaptureFormat};
-ghost use Rattle.packet_feed.specs.Arrivals.{packet_of};
 ghost use Rattle.packet_feed.specs.Told.{EachFile, IsApart};
 ghost use Rattle.run_history.specs.declared.line.Mode.{Mode};
 ghost use Rattle.stream_run.specs.Runs.{Handled};
 ghost use Rattle.stream_run.specs.Writing.{KeepsBut, IsStopCause, StopsAmong};
-ghost use Rattle.lock_workers.specs.Worked.{AreAt};
-ghost use Rattle.locked_run.specs.Handled.{joined};
-ghost use Rattle.locked_run.specs.Going.{AreWhole, Writes};
-ghost use Rattle.locked_run.specs.Chunks.{AreOf, AreIdle, HoldAll, GoOnTo, HaveRoom};
+ghost use Rattle.locked_run.specs.Going.{AreWhole};
+ghost use Rattle.locked_run.specs.Chunks.{AreOf, HoldAll, GoOnTo};
 
-use crate::chunk::{Chunk, fill_each};
+use crate::chunk::Chunk;
 use crate::kept::Batch;
-use lock_workers::Worked;
 use nf_files::Files;
-use std::thread::Threads;
 use stream_run::Stop;
 
 /// A chunk is of no more packets.
@@ -53,8 +48,12 @@ pub(crate) fn chunk_count(batch: &Batch, workers: u32, size: usize) -> usize
         .min(16)
 }
 
-// Gives chunks to the files, one after another.
-fn write_each<F: Files>(files: &mut F, chunks: &mut [Chunk], targets: &[u32]) -> Result<(), Stop>
+/// Gives chunks to the files, one after another.
+pub(crate) fn write_each<F: Files>(
+    files: &mut F,
+    chunks: &mut [Chunk],
+    targets: &[u32],
+) -> Result<(), Stop>
     requires files { AreOf targets.now chunks.old }
     requires created { EachFile (F.is_written files.old) targets.now }
     requires apart { IsApart targets.now }
@@ -77,49 +76,6 @@ fn write_each<F: Files>(files: &mut F, chunks: &mut [Chunk], targets: &[u32]) ->
             Ok(()) => {}
             Err(stop) => return Err(stop),
         }
-    }
-    Ok(())
-}
-
-/// Writes what packets leave, behind what the files begin with, in an order of them, each of which
-/// stands at its place.
-///
-/// It is made by chunks of so many packets, as many side by side as there are here, and each is
-/// given to the files when those before it are. The room of the chunks is used again.
-pub(crate) fn write_all<R: Threads + Sync, F: Files>(
-    rt: &R,
-    files: &mut F,
-    chunks: &mut [Chunk],
-    size: usize,
-    ports: u32,
-    batch: &Batch,
-    worked: &Worked,
-    targets: &[u32],
-) -> Result<(), Stop>
-    requires at { AreAt (map packet_of batch.now) worked.now.order worked.now.places.items }
-    requires room { HaveRoom size chunks.old }
-    requires files { AreOf targets.now chunks.old }
-    requires created { EachFile (F.is_written files.old) targets.now }
-    requires apart { IsApart targets.now }
-    ensures goes_on { let all = joined batch.now worked.now.order worked.now.places.items in
-        (mode : Mode) → (workers : ℕ) → (card : Card) → (format : CaptureFormat) →
-        AreIdle format chunks.old →
-        AreWhole mode workers card format ports [] (F.told files.old) targets.now →
-        Writes mode workers card format ports all (F.told files.new) targets.now result }
-    ensures kept { KeepsBut targets.now (F.told files.old) (F.told files.new) }
-    ensures cause { IsStopCause (F.counted files.old) (F.counted files.new) result }
-    ensures among { StopsAmong [] targets.now result }
-{
-    let places = worked.places.as_slice();
-    let step = chunks.len() * size;
-    let mut from = 0;
-    'rounds: while from < places.len() {
-        fill_each(rt, chunks, ports, batch, &worked.order, places, from, size);
-        match write_each(files, chunks, targets) {
-            Ok(()) => {}
-            Err(stop) => return Err(stop),
-        }
-        from += step;
     }
     Ok(())
 }
