@@ -11,3 +11,4 @@ pub mod Laning
 pub mod Nearing
 pub mod Placing
 pub mod Lining
+pub mod Lying

@@ -1,5 +1,5 @@
 -- What a lane stands for.
-use Rattle.std.specs.Prelude.{◌≡◌, ◌≤◌, List, [], ◌∷◌, ◌++◌, length, map, drop, Some, None, All}
+use Rattle.std.specs.Prelude.{◌≡◌, ◌≤◌, ◌<◌, List, [], ◌∷◌, ◌++◌, length, map, drop, Some, None, All}
 use Rattle.rtrb.specs.Ring as ring
 use Rattle.nf_base.specs.declared.func.Func.{Func}
 use Rattle.nf_base.specs.declared.packet.Packet.{Packet}
@@ -9,7 +9,7 @@ use Rattle.vig_tables.specs.TablesState.{opened_tables}
 use Rattle.shard_machine.specs.declared.event.Answer.{Answer}
 use Rattle.ring_line.specs.declared.halt.Halt.{Halt}
 use Rattle.ring_line.specs.declared.lane.Lane.{Lane}
-use Rattle.ring_line.specs.Packs.{Packed, packets_in, answers_in, answers_of}
+use Rattle.ring_line.specs.Packs.{Packed, IsAnswerAt, packets_in, answers_in, answers_of}
 use Rattle.ring_line.specs.Handled.{CanServe}
 use Rattle.ring_line.specs.Desks.{Seated}
 use Rattle.ring_line.specs.Shops.{Given, as_work, given_by}
@@ -38,6 +38,16 @@ pub record StandsFor (lane : Lane) (func : Func) (share : Share) (packets : List
   pub answers_are :
       answers_in (ring.received lane.back) ≡ answers ++ drop lane.at (answers_of lane.current)
   pub last : IsLast (ring.received lane.back) lane.current
+
+-- An answer of the last pack isn't collected. What is not pushed yet is in flight too, and isn't
+-- answered.
+pub record HasAnswer (lane : Lane) : Type 0 where
+  pub left : lane.at < length lane.current.answers
+  pub in_flight : length lane.filling.packets < lane.in_flight
+
+-- and this is the first of them
+abbrev pub FirstAnswer : Lane → Answer → Type 0
+FirstAnswer lane answer = IsAnswerAt lane.current lane.at answer
 
 -- the lane has come to the share's end
 abbrev pub HasHalted : Lane → Halt → Type 0

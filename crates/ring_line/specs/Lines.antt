@@ -15,8 +15,10 @@ use Rattle.ring_line.specs.declared.place.Place.{Place}
 use Rattle.ring_line.specs.declared.line.Line.{Line}
 use Rattle.ring_line.specs.declared.line.Answered as line_answer
 use Rattle.ring_line.specs.declared.line.Answered.TheVariants as answer
+use Rattle.ring_line.specs.declared.line.First.{First}
+use Rattle.ring_line.specs.declared.line.First.TheVariants as come
 use Rattle.ring_line.specs.Handed.{Finishes}
-use Rattle.ring_line.specs.Places.{in_flight_of, PlaceStands, PlaceHalted}
+use Rattle.ring_line.specs.Places.{in_flight_of, PlaceStands, PlaceHasAnswer, PlaceFirstAnswer, PlaceHalted}
 use Rattle.ring_line.specs.Plays.{LaneEnd, AllCame, collected_at}
 
 -- These packets were sent, each to the worker of its queue, and these answers were collected, in the
@@ -39,6 +41,21 @@ abbrev pub ComesFirst : ℕ → List ℕ → Type 0
 ComesFirst q [] = ⊥
 ComesFirst q (p ∷ ps) = p ≡ q
 
+-- the answer to the first packet that isn't collected lies ready with the worker of its queue
+pub record LineHasAnswer {G : Type 0} (line : Line G) : Type 0 where
+  pub queue : ℕ
+  pub first : ComesFirst queue line.order.items
+  pub place : Place G
+  pub there : slice_get line.places queue ≡ Some place
+  pub has : PlaceHasAnswer place
+
+-- and this is that answer
+pub record LineFirstAnswer {G : Type 0} (line : Line G) (c : Collected) : Type 0 where
+  pub first : ComesFirst c.queue line.order.items
+  pub place : Place G
+  pub there : slice_get line.places c.queue ≡ Some place
+  pub answer : PlaceFirstAnswer place (answer_of c)
+
 -- where a share ended
 abbrev pub halt_of : Stop → Halt
 halt_of stop = record { chain = stop.chain; packet = stop.packet }
@@ -48,6 +65,11 @@ pub record StandsAtStop {G : Type 0} (line : Line G) (stop : Stop) : Type 0 wher
   pub first : ComesFirst stop.queue line.order.items
   pub halted : (place : Place G) → slice_get line.places stop.queue ≡ Some place →
       PlaceHalted place (halt_of stop)
+
+-- what has come of the first packet that isn't collected
+abbrev pub IsFirst : {G : Type 0} → First → Line G → Type 0
+IsFirst come.Answer line = LineHasAnswer line
+IsFirst (come.Stop stop) line = StandsAtStop line stop
 
 -- the next answer is collected, or the line stands at a share's end
 abbrev pub Collects : {G : Type 0} →

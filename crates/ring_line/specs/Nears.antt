@@ -1,5 +1,5 @@
 -- What a worker without a thread stands for.
-use Rattle.std.specs.Prelude.{◌≡◌, ◌≤◌, List, ◌++◌, length, drop, Option, Some, All}
+use Rattle.std.specs.Prelude.{◌≡◌, ◌≤◌, ◌<◌, List, ◌++◌, length, drop, Option, Some, All}
 use Rattle.nf_base.specs.declared.func.Func.{Func}
 use Rattle.nf_base.specs.declared.packet.Packet.{Packet}
 use Rattle.nf_base.specs.declared.share.Share.{Share}
@@ -10,7 +10,7 @@ use Rattle.nf_base.specs.Text.{Function}
 use Rattle.shard_machine.specs.declared.event.Answer.{Answer}
 use Rattle.ring_line.specs.declared.halt.Halt.{Halt}
 use Rattle.ring_line.specs.declared.near.Near.{Near}
-use Rattle.ring_line.specs.Packs.{answers_of}
+use Rattle.ring_line.specs.Packs.{IsAnswerAt, answers_of}
 use Rattle.ring_line.specs.Handled.{CanServe, CameTo}
 
 -- It stands for these packets, which were sent, and for these answers, which were collected: of the
@@ -27,6 +27,16 @@ pub record NearStands {G : Type 0} (near : Near G) (func : Func) (share : Share)
       CameTo (function_of func) share (opening (function_of func)) worked
       (answers ++ drop near.at (answers_of near.current)) near.desk.halt near.desk.tables.state
   pub last : near.current.halt ≡ near.desk.halt
+
+-- An answer of the packets that were worked last isn't collected. What isn't worked yet is in flight
+-- too.
+pub record NearHasAnswer {G : Type 0} (near : Near G) : Type 0 where
+  pub left : near.at < length near.current.answers
+  pub in_flight : length near.filling.packets < near.in_flight
+
+-- and this is the first of them
+abbrev pub NearFirstAnswer : {G : Type 0} → Near G → Answer → Type 0
+NearFirstAnswer near answer = IsAnswerAt near.current near.at answer
 
 -- it has come to its share's end
 abbrev pub NearHalted : {G : Type 0} → Near G → Halt → Type 0

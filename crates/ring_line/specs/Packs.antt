@@ -1,5 +1,5 @@
 -- Packets that go to a worker together, and what comes back of them.
-use Rattle.std.specs.Prelude.{◌≡◌, List, [], ◌∷◌, ◌++◌, Option, None}
+use Rattle.std.specs.Prelude.{◌≡◌, ℕ, List, [], ◌∷◌, ◌++◌, Option, Some, None, slice_get}
 use Rattle.nf_base.specs.declared.packet.Packet.{Packet}
 use Rattle.nf_base.specs.declared.done.Done.{Done}
 use Rattle.shard_machine.specs.declared.event.Answer.{Answer}
@@ -24,6 +24,11 @@ answered (p ∷ ps) (d ∷ ds) = record { packet = p; done = d } ∷ answered ps
 -- what is answered in a pack
 abbrev pub answers_of : Packed → List Answer
 answers_of pack = answered pack.packets pack.answers
+
+-- the packet of this number in a pack, with its answer
+pub record IsAnswerAt (pack : Packed) (i : ℕ) (answer : Answer) : Type 0 where
+  pub packet : slice_get pack.packets i ≡ Some answer.packet
+  pub done : slice_get pack.answers i ≡ Some answer.done
 
 -- the packets of packs, one pack behind another
 abbrev pub packets_in : List Packed → List Packet

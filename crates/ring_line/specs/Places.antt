@@ -10,8 +10,8 @@ use Rattle.shard_machine.specs.declared.event.Answer.{Answer}
 use Rattle.ring_line.specs.declared.halt.Halt.{Halt}
 use Rattle.ring_line.specs.declared.place.Place.{Place}
 use Rattle.ring_line.specs.declared.place.Place.TheVariants as place
-use Rattle.ring_line.specs.Lanes.{StandsFor, HasHalted}
-use Rattle.ring_line.specs.Nears.{NearStands, NearHalted}
+use Rattle.ring_line.specs.Lanes.{StandsFor, HasAnswer, FirstAnswer, HasHalted}
+use Rattle.ring_line.specs.Nears.{NearStands, NearHasAnswer, NearFirstAnswer, NearHalted}
 
 -- a packet came in at a port of a function that has a handler for it
 pub record CanHandle (f : Function) (packet : Packet) : Type 0 where
@@ -34,6 +34,16 @@ pub record PlaceStands {G : Type 0} (at : Place G) (f : Function) (share : Share
   pub func : Func
   pub same : function_of func ≡ f
   pub stands : StandsAs at func share packets answers
+
+-- an answer lies ready that isn't collected
+abbrev pub PlaceHasAnswer : {G : Type 0} → Place G → Type 0
+PlaceHasAnswer (place.Far lane) = HasAnswer lane
+PlaceHasAnswer (place.Near near) = NearHasAnswer near
+
+-- and this is the first of them
+abbrev pub PlaceFirstAnswer : {G : Type 0} → Place G → Answer → Type 0
+PlaceFirstAnswer (place.Far lane) answer = FirstAnswer lane answer
+PlaceFirstAnswer (place.Near near) answer = NearFirstAnswer near answer
 
 -- it has come to its share's end
 abbrev pub PlaceHalted : {G : Type 0} → Place G → Halt → Type 0

@@ -7,7 +7,6 @@ use crate::item::Item;
 use crate::keeps::{Ended, Keeps};
 use crate::pack::Pack;
 use rtrb::{Consumer, Producer};
-use shard_machine::Answer;
 use std::sync::Arc;
 use std::thread::{Parker, PromisedHandle};
 
@@ -15,10 +14,10 @@ pub(crate) mod start;
 mod travel;
 
 /// What comes next of a lane.
-#[derive(Drop)]
+#[derive(Clone, Copy, Debug, PartialEq, Eq)]
 pub enum Next {
-    /// The answer to the first packet that was sent and not collected.
-    Answered(Answer),
+    /// The answer to the first packet that was sent and not collected lies ready.
+    Ready,
     /// The worker's share ended at it.
     Halted(Halt),
     /// It has not come yet.

@@ -4,6 +4,8 @@ ghost use Rattle.std.specs.Vec.{vec_capacity};
 ghost use Rattle.std.specs.VecDeque.{deque_capacity};
 
 use crate::place::Place;
+use nf_base::done::Done;
+use nf_base::packet::Packet;
 use nf_base::seq::Seq;
 use shard_core::{Collected, Stop};
 use std::collections::VecDeque;
@@ -23,6 +25,23 @@ pub enum Answered {
     Done(Collected),
     /// That packet's share has no index left.
     Stop(Stop),
+}
+
+/// What has come of the first packet that was sent and not collected.
+#[derive(Clone, Copy, Debug, PartialEq, Eq)]
+pub enum First {
+    /// Its answer lies ready.
+    Answer,
+    /// Its share has no index left.
+    Stop(Stop),
+}
+
+/// The answer to the first packet that was sent and not collected, where it lies.
+#[derive(Clone, Copy)]
+pub struct CollectedRef<'a> {
+    pub packet: &'a Packet,
+    pub queue: u32,
+    pub done: &'a Done,
 }
 
 /// A worker of each queue, and the queues of the packets that were sent and not collected, in order.

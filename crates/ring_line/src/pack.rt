@@ -1,13 +1,19 @@
 //! Packets of one queue that go to its worker together, and are answered in place.
 ghost use Rattle.std.specs.Prelude.{◌≡◌, ◌≤◌, ◌<◌, ◌+◌, [], ◌∷◌, ◌++◌, length, Some, None, IfOk, slice_get, slice_index_or, ◌==◌};
-ghost use Rattle.ring_line.specs.Packs.{Packed, empty_pack};
+ghost use Rattle.ring_line.specs.Packs.{Packed, IsAnswerAt, empty_pack};
 
 use crate::halt::Halt;
 use nf_base::done::Done;
 use nf_base::packet::Packet;
-use shard_machine::Answer;
 use std::alloc::{AllocError, Global};
 use std::marker::Model;
+
+/// A packet with what its handling came to, where both lie in a pack.
+#[derive(Clone, Copy)]
+pub struct AnswerRef<'a> {
+    pub packet: &'a Packet,
+    pub done: &'a Done,
+}
 
 /// How many packets of a queue are in flight at most, and so how many a pack has room for.
 pub const IN_FLIGHT: usize = 64;
@@ -89,20 +95,14 @@ impl Pack {
     }
 
     /// The packet of this number with its answer.
-    pub fn get(&self, i: usize) -> Answer
+    pub fn answer_at(&self, i: usize) -> AnswerRef<'_>
         requires { i < length self.now.answers }
-        ensures packet { slice_get self.now.packets i ≡ Some result.packet }
-        ensures done { slice_get self.now.answers i ≡ Some result.done }
-        ensures most { i < 64 }
+        ensures { IsAnswerAt self.now i
+            (record { packet = result.packet.now; done = result.done.now }) }
     {
-        let done = &self.answers[i];
-        Answer {
-            packet: self.packets[i],
-            done: Done {
-                action: done.action,
-                edits: done.edits,
-                picks: done.picks.again(),
-            },
+        AnswerRef {
+            packet: &self.packets[i],
+            done: &self.answers[i],
         }
     }
 

@@ -5,13 +5,13 @@ ghost use Rattle.nf_base.specs.declared.share.Share.{Share};
 ghost use Rattle.nf_base.specs.Functions.{function_of};
 ghost use Rattle.nf_base.specs.Text.{Function};
 ghost use Rattle.shard_machine.specs.declared.event.Answer as answer;
-ghost use Rattle.ring_line.specs.Handed.{Gives, Finishes, AfterNext};
-ghost use Rattle.ring_line.specs.Places.{PlaceStands, PlaceHalted, in_flight_of, CanHandle};
+ghost use Rattle.ring_line.specs.Handed.{IsNext, Finishes};
+ghost use Rattle.ring_line.specs.Places.{PlaceStands, PlaceHasAnswer, PlaceFirstAnswer, PlaceHalted, in_flight_of, CanHandle};
 
 use crate::lane::start::{new_desk, pack_pair};
 use crate::lane::{Lane, Next};
 use crate::near::Near;
-use crate::pack::Pack;
+use crate::pack::{AnswerRef, Pack};
 use nf_base::func::Func;
 use nf_base::packet::Packet;
 use nf_base::share::Share;
@@ -55,8 +55,8 @@ impl<G: Turns + Send + Sync + Drop + 'static> Place<G> {
         }
     }
 
-    /// A worker without a thread.
-    fn beside(
+    /// A worker without a thread, as where none can be started.
+    pub fn beside(
         alloc: Global,
         func: &Func,
         share: Share,
@@ -112,16 +112,40 @@ impl<G: Turns + Drop> Place<G> {
         }
     }
 
-    /// The next answer of those that came last, or the share's end behind all of them.
-    pub fn next(&mut self) -> Next
-        ensures gives { (f : Function) → (share : Share) → (packets : List arrival.Packet) →
-            (answers : List answer.Answer) → PlaceStands self.old f share packets answers →
-            Gives result (PlaceStands self.new f share packets) (PlaceHalted self.new) answers }
-        ensures in_flight { AfterNext result (in_flight_of self.old) (in_flight_of self.new) }
+    /// Whether an answer of those that came last lies ready, or the share ends behind all of them.
+    pub fn next(&self) -> Next
+        ensures { IsNext result (PlaceHasAnswer self.now) (PlaceHalted self.now) }
     {
         match self {
             Place::Far(lane) => lane.next(),
             Place::Near(near) => near.next(),
+        }
+    }
+
+    /// The answer that lies ready.
+    pub fn answer(&self) -> AnswerRef<'_>
+        requires { PlaceHasAnswer self.now }
+        ensures { PlaceFirstAnswer self.now
+            (record { packet = result.packet.now; done = result.done.now }) }
+    {
+        match self {
+            Place::Far(lane) => lane.answer(),
+            Place::Near(near) => near.answer(),
+        }
+    }
+
+    /// Goes on behind the answer that lies ready: it is collected.
+    pub fn pass(&mut self)
+        requires { PlaceHasAnswer self.old }
+        ensures stands { (f : Function) → (share : Share) → (packets : List arrival.Packet) →
+            (answers : List answer.Answer) → (one : answer.Answer) →
+            PlaceStands self.old f share packets answers → PlaceFirstAnswer self.old one →
+            PlaceStands self.new f share packets (answers ++ one ∷ []) }
+        ensures in_flight { in_flight_of self.old ≡ in_flight_of self.new + 1 }
+    {
+        match self {
+            Place::Far(lane) => lane.pass(),
+            Place::Near(near) => near.pass(),
         }
     }
 

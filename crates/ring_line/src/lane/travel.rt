@@ -6,16 +6,15 @@ ghost use Rattle.nf_base.specs.declared.share.Share.{Share};
 ghost use Rattle.nf_base.specs.Functions.{function_of};
 ghost use Rattle.shard_machine.specs.declared.event.Answer as answer;
 ghost use Rattle.ring_line.specs.Handled.{CanServe};
-ghost use Rattle.ring_line.specs.Handed.{Gives, Finishes, AfterNext};
-ghost use Rattle.ring_line.specs.Lanes.{StandsFor, HasHalted};
+ghost use Rattle.ring_line.specs.Handed.{IsNext, Finishes};
+ghost use Rattle.ring_line.specs.Lanes.{StandsFor, HasAnswer, FirstAnswer, HasHalted};
 
 use super::{Lane, Next};
 use crate::bell::{give, pop, take};
 use crate::item::Item;
 use crate::keeps::{Ended, Ends};
-use crate::pack::{IN_FLIGHT, Pack};
+use crate::pack::{AnswerRef, IN_FLIGHT, Pack};
 use nf_base::packet::Packet;
-use shard_machine::Answer;
 use std::mem;
 use std::sync::Wait;
 use std::thread::Threads;
@@ -86,17 +85,13 @@ impl Lane {
         give(rt, &mut self.to, Item::Work(full), &*self.bell);
     }
 
-    /// The next answer of the last pack that came, or the share's end behind all of them.
-    pub fn next(&mut self) -> Next
-        ensures gives { (func : Func) → (share : Share) → (packets : List arrival.Packet) →
-            (answers : List answer.Answer) → StandsFor self.old func share packets answers →
-            Gives result (StandsFor self.new func share packets) (HasHalted self.new) answers }
-        ensures in_flight { AfterNext result self.old.in_flight self.new.in_flight }
+    /// Whether an answer of the last pack that came lies ready, or the share ends behind all of them.
+    pub fn next(&self) -> Next
+        ensures { IsNext result (HasAnswer self.now) (HasHalted self.now) }
     {
         if self.at < self.current.answered() {
-            // What is not pushed yet is in flight too, and not answered.
             if self.filling.len() < self.in_flight {
-                Next::Answered(self.take_next())
+                Next::Ready
             } else {
                 Next::Nothing
             }
@@ -108,18 +103,27 @@ impl Lane {
         }
     }
 
-    fn take_next(&mut self) -> Answer
-        requires left { self.old.at < length self.old.current.answers }
-        requires in_flight { length self.old.filling.packets < self.old.in_flight }
+    /// The answer that lies ready.
+    pub fn answer(&self) -> AnswerRef<'_>
+        requires { HasAnswer self.now }
+        ensures { FirstAnswer self.now
+            (record { packet = result.packet.now; done = result.done.now }) }
+    {
+        self.current.answer_at(self.at)
+    }
+
+    /// Goes on behind the answer that lies ready: it is collected.
+    pub fn pass(&mut self)
+        requires { HasAnswer self.old }
         ensures stands { (func : Func) → (share : Share) → (packets : List arrival.Packet) →
-            (answers : List answer.Answer) → StandsFor self.old func share packets answers →
-            StandsFor self.new func share packets (answers ++ result ∷ []) }
+            (answers : List answer.Answer) → (one : answer.Answer) →
+            StandsFor self.old func share packets answers → FirstAnswer self.old one →
+            StandsFor self.new func share packets (answers ++ one ∷ []) }
         ensures in_flight { self.old.in_flight ≡ self.new.in_flight + 1 }
     {
-        let answer = self.current.get(self.at);
+        prove!(self.at < self.current.answered());
         self.at += 1;
         self.in_flight -= 1;
-        answer
     }
 
     /// Waits for the next pack, where all answers of the last one are collected and the share goes

@@ -1,18 +1,18 @@
 //! Packets out to the workers of their queues, and answers back.
-ghost use Rattle.std.specs.Prelude.{◌≡◌, ◌≤◌, ◌<◌, ◌+◌, true, List, [], ◌∷◌, ◌++◌, length, IfSome, IfNone};
+ghost use Rattle.std.specs.Prelude.{◌≡◌, ◌≤◌, ◌<◌, ◌+◌, true, List, [], ◌∷◌, ◌++◌, length, IfSome};
 ghost use Rattle.nf_base.specs.declared.packet.Packet as arrival;
 ghost use Rattle.shard_laws.specs.Queues.{time_after};
 ghost use Rattle.shard_machine.specs.Machine.{Setup};
 ghost use Rattle.shard_core.specs.declared.collected.Collected as got;
 ghost use Rattle.ring_line.specs.Places.{CanHandle};
-ghost use Rattle.ring_line.specs.Lines.{LineStands, HasRoom, ComesFirst, Collects, IsCollected};
+ghost use Rattle.ring_line.specs.Lines.{LineStands, HasRoom, ComesFirst, LineHasAnswer, LineFirstAnswer, IsFirst, Collects, IsCollected};
 
-use super::{ALL_IN_FLIGHT, Answered, Line};
+use super::{ALL_IN_FLIGHT, Answered, CollectedRef, First, Line};
 use crate::halt::Halt;
 use crate::lane::Next;
+use nf_base::done::Done;
 use nf_base::packet::Packet;
 use shard_core::{Collected, Stop};
-use shard_machine::Answer;
 use std::sync::Wait;
 use worker_turns::Turns;
 
@@ -65,35 +65,17 @@ impl<G: Turns + Drop> Line<G> {
         self.order[0]
     }
 
-    /// What comes next of the queue of the first packet, where it has come.
-    fn next_of(&mut self, queue: u32) -> Option<Answered>
-        requires first { ComesFirst queue self.old.order.items }
-        requires there { queue < length self.old.places }
-        ensures collects { IfSome result (λ answered. (x : Setup) →
-            (packets : List arrival.Packet) → (got : List got.Collected) →
-            LineStands self.old x packets got →
-            Collects answered self.new x packets got) }
-        ensures left { IfSome result (λ answered. IsCollected answered self.old self.new) }
-        ensures stands { IfNone result ((x : Setup) → (packets : List arrival.Packet) →
-            (got : List got.Collected) → LineStands self.old x packets got →
-            LineStands self.new x packets got) }
-        ensures order { IfNone result (self.new.order ≡ self.old.order) }
-        ensures queues { length self.new.places ≡ length self.old.places }
+    /// What has come of the first packet, which is of this queue.
+    fn come_of(&self, queue: u32) -> Option<First>
+        requires first { ComesFirst queue self.now.order.items }
+        requires there { queue < length self.now.places }
+        ensures { IfSome result (λ first. IsFirst first self.now) }
     {
-        match self.places.item_mut(queue as usize).next() {
-            Next::Answered(answer) => {
-                self.order.pop_front();
-                let Answer { packet, done } = answer;
-                self.time = time_after(self.time, &packet);
-                Some(Answered::Done(Collected {
-                    packet,
-                    queue,
-                    done,
-                }))
-            }
+        match self.places.item(queue as usize).next() {
+            Next::Ready => Some(First::Answer),
             Next::Halted(halt) => {
                 let Halt { chain, packet } = halt;
-                Some(Answered::Stop(Stop {
+                Some(First::Stop(Stop {
                     chain,
                     queue,
                     packet,
@@ -101,6 +83,74 @@ impl<G: Turns + Drop> Line<G> {
             }
             Next::Nothing => None,
         }
+    }
+
+    /// Waits until something has come of the first packet that was sent and not collected: its answer, which
+    /// `answer` lends and `pass` goes on behind; or its share's end, which is told again each time.
+    pub fn await_first<R: Wait>(&mut self, rt: &R) -> First
+        requires { 0 < length self.old.order.items }
+        ensures first { IsFirst result self.new }
+        ensures stands { (x : Setup) → (packets : List arrival.Packet) →
+            (got : List got.Collected) → LineStands self.old x packets got →
+            LineStands self.new x packets got }
+        ensures order { self.new.order ≡ self.old.order }
+        ensures queues { length self.new.places ≡ length self.old.places }
+    {
+        let queue = self.first();
+        for _ in rt.forever() {
+            match self.come_of(queue) {
+                Some(first) => return first,
+                None => self.wait(rt, queue),
+            }
+        }
+        unreachable!()
+    }
+
+    /// The answer to the first packet that was sent and not collected, where it lies.
+    pub fn answer(&self) -> CollectedRef<'_>
+        requires { LineHasAnswer self.now }
+        ensures { LineFirstAnswer self.now
+            (record { packet = result.packet.now; queue = result.queue; done = result.done.now }) }
+    {
+        let queue = self.first();
+        let answer = self.places.item(queue as usize).answer();
+        CollectedRef {
+            packet: answer.packet,
+            queue,
+            done: answer.done,
+        }
+    }
+
+    /// Goes on behind the answer to the first packet that was sent and not collected: it is collected.
+    pub fn pass(&mut self)
+        requires { LineHasAnswer self.old }
+        ensures stands { (x : Setup) → (packets : List arrival.Packet) →
+            (one : got.Collected) → (got : List got.Collected) →
+            LineStands self.old x packets got → LineFirstAnswer self.old one →
+            LineStands self.new x packets (got ++ one ∷ []) }
+        ensures left { length self.old.order.items ≡ length self.new.order.items + 1 }
+        ensures queues { length self.new.places ≡ length self.old.places }
+    {
+        let answer = self.answer();
+        let queue = answer.queue;
+        let time = time_after(self.time, answer.packet);
+        self.places.item_mut(queue as usize).pass();
+        self.order.pop_front();
+        self.time = time;
+    }
+
+    /// Collects the answer that lies ready.
+    fn take(&mut self) -> Collected
+        requires { LineHasAnswer self.old }
+        ensures stands { (x : Setup) → (packets : List arrival.Packet) →
+            (got : List got.Collected) → LineStands self.old x packets got →
+            LineStands self.new x packets (got ++ result ∷ []) }
+        ensures left { length self.old.order.items ≡ length self.new.order.items + 1 }
+        ensures queues { length self.new.places ≡ length self.old.places }
+    {
+        let collected = copy_of(self.answer());
+        self.pass();
+        collected
     }
 
     /// The answer to the first packet that was sent and not collected; or its share's end, which is told
@@ -113,14 +163,10 @@ impl<G: Turns + Drop> Line<G> {
         ensures left { IsCollected result self.old self.new }
         ensures queues { length self.new.places ≡ length self.old.places }
     {
-        let queue = self.first();
-        for _ in rt.forever() {
-            match self.next_of(queue) {
-                Some(answered) => return answered,
-                None => self.wait(rt, queue),
-            }
+        match self.await_first(rt) {
+            First::Answer => Answered::Done(self.take()),
+            First::Stop(stop) => Answered::Stop(stop),
         }
-        unreachable!()
     }
 
     /// Takes more answers of a queue. Before it waits all packets go out: a worker may be held up by
@@ -174,6 +220,26 @@ impl<G: Turns + Drop> Line<G> {
         for queue in 0..self.places.len() {
             self.places.item_mut(queue).flush(rt);
         }
+    }
+}
+
+/// An answer of its own.
+fn copy_of(answer: CollectedRef<'_>) -> Collected
+    ensures { result ≡ record {
+      packet = answer.entry.packet.now;
+      queue = answer.entry.queue;
+      done = answer.entry.done.now;
+    } }
+{
+    let done = answer.done;
+    Collected {
+        packet: *answer.packet,
+        queue: answer.queue,
+        done: Done {
+            action: done.action,
+            edits: done.edits,
+            picks: done.picks.again(),
+        },
     }
 }
 

@@ -9,15 +9,14 @@ ghost use Rattle.vig_tables.specs.TablesState.{opened_tables};
 ghost use Rattle.shard_machine.specs.declared.event.Answer as answer;
 ghost use Rattle.ring_line.specs.Packs.{empty_pack};
 ghost use Rattle.ring_line.specs.Handled.{CanServe, CameTo};
-ghost use Rattle.ring_line.specs.Handed.{Gives, Finishes, AfterNext};
-ghost use Rattle.ring_line.specs.Nears.{NearStands, NearHalted, CameOn};
+ghost use Rattle.ring_line.specs.Handed.{IsNext, Finishes};
+ghost use Rattle.ring_line.specs.Nears.{NearStands, NearHasAnswer, NearFirstAnswer, NearHalted, CameOn};
 
 use super::Near;
 use crate::desk::Desk;
 use crate::lane::Next;
-use crate::pack::{IN_FLIGHT, Pack};
+use crate::pack::{AnswerRef, IN_FLIGHT, Pack};
 use nf_base::packet::Packet;
-use shard_machine::Answer;
 use std::mem;
 use vig_tables::Tables;
 use worker_turns::Turns;
@@ -61,17 +60,14 @@ impl<G: Turns + Drop> Near<G> {
         self.filling.push(packet);
     }
 
-    /// The next answer of the packets that were worked last, or the share's end behind all of them.
-    pub(crate) fn next(&mut self) -> Next
-        ensures gives { (func : Func) → (share : Share) → (packets : List arrival.Packet) →
-            (answers : List answer.Answer) → NearStands self.old func share packets answers →
-            Gives result (NearStands self.new func share packets) (NearHalted self.new) answers }
-        ensures in_flight { AfterNext result self.old.in_flight self.new.in_flight }
+    /// Whether an answer of the packets that were worked last lies ready, or the share ends behind all of
+    /// them.
+    pub(crate) fn next(&self) -> Next
+        ensures { IsNext result (NearHasAnswer self.now) (NearHalted self.now) }
     {
         if self.at < self.current.answered() {
-            // What is not worked yet is in flight too.
             if self.filling.len() < self.in_flight {
-                Next::Answered(self.take_next())
+                Next::Ready
             } else {
                 Next::Nothing
             }
@@ -83,18 +79,27 @@ impl<G: Turns + Drop> Near<G> {
         }
     }
 
-    fn take_next(&mut self) -> Answer
-        requires left { self.old.at < length self.old.current.answers }
-        requires in_flight { length self.old.filling.packets < self.old.in_flight }
+    /// The answer that lies ready.
+    pub(crate) fn answer(&self) -> AnswerRef<'_>
+        requires { NearHasAnswer self.now }
+        ensures { NearFirstAnswer self.now
+            (record { packet = result.packet.now; done = result.done.now }) }
+    {
+        self.current.answer_at(self.at)
+    }
+
+    /// Goes on behind the answer that lies ready: it is collected.
+    pub(crate) fn pass(&mut self)
+        requires { NearHasAnswer self.old }
         ensures stands { (func : Func) → (share : Share) → (packets : List arrival.Packet) →
-            (answers : List answer.Answer) → NearStands self.old func share packets answers →
-            NearStands self.new func share packets (answers ++ result ∷ []) }
+            (answers : List answer.Answer) → (one : answer.Answer) →
+            NearStands self.old func share packets answers → NearFirstAnswer self.old one →
+            NearStands self.new func share packets (answers ++ one ∷ []) }
         ensures in_flight { self.old.in_flight ≡ self.new.in_flight + 1 }
     {
-        let answer = self.current.get(self.at);
+        prove!(self.at < self.current.answered());
         self.at += 1;
         self.in_flight -= 1;
-        answer
     }
 
     /// Works the packets that wait, where all answers of the last ones are collected and the share goes

@@ -3,7 +3,7 @@ use Rattle.nf_base.specs.declared.packet.Packet.{Packet}
 use Rattle.shard_machine.specs.Machine.{Setup}
 use Rattle.shard_core.specs.declared.collected.Collected.{Collected}
 use Rattle.ring_line.specs.Lines.{LineStands}
-use Rattle.ring_line.proofs.line.Line.collect.Given as goal
+use Rattle.ring_line.proofs.line.Line.await_first.Given as goal
 
 -- it stands for the same
 abbrev pub invariant-loop : goal.invariant-loop

@@ -6,18 +6,17 @@ use Rattle.shard_machine.proofs.Sent.{append_twice}
 use Rattle.ring_line.specs.Packs.{answers_of}
 use Rattle.ring_line.specs.Handled.{CameTo}
 use Rattle.ring_line.proofs.Packing.{answered_next}
-use Rattle.ring_line.proofs.near.Near.take_next.Goals as goal
+use Rattle.ring_line.proofs.near.Near.pass.Goals as goal
 
 pub returns-clause-stands : goal.returns-clause-stands
-returns-clause-stands g c = λ func share packets answers st.
+returns-clause-stands g c = λ func share packets answers one st is.
     let old = c.args.self.now in
     let f = function_of func in
-    let a : Answer = c.get-answer.result in
-    let one : suc old.at ≡ old.at + 1 = omega arith in
-    let next = answered_next old.current.packets old.current.answers old.at a.packet a.done c.get-answer.ensures.packet c.get-answer.ensures.done in
-    let told : answers ++ drop old.at (answers_of old.current) ≡ (answers ++ a ∷ []) ++ drop (old.at + 1) (answers_of old.current) =
-    ap (λ (as_ : List Answer). answers ++ as_) next ∙ sym (append_twice answers (a ∷ []) (drop (suc old.at) (answers_of old.current)))
-    ∙ ap (λ (n : ℕ). (answers ++ a ∷ []) ++ drop n (answers_of old.current)) one in
+    let up : suc old.at ≡ old.at + 1 = omega arith in
+    let next = answered_next old.current.packets old.current.answers old.at one.packet one.done is.packet is.done in
+    let told : answers ++ drop old.at (answers_of old.current) ≡ (answers ++ one ∷ []) ++ drop (old.at + 1) (answers_of old.current) =
+    ap (λ (as_ : List Answer). answers ++ as_) next ∙ sym (append_twice answers (one ∷ []) (drop (suc old.at) (answers_of old.current)))
+    ∙ ap (λ (m : ℕ). (answers ++ one ∷ []) ++ drop m (answers_of old.current)) up in
     record {
       func_is = st.func_is;
       share_is = st.share_is;
