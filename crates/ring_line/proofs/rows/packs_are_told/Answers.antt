@@ -1,5 +1,4 @@
-use Rattle.std.proofs.Common.{◌≡◌, Option, Some, None, refl, ap}
-use Rattle.ring_line.specs.declared.halt.Halt.{Halt}
+use Rattle.std.proofs.Common.{◌≡◌, Some, None, refl, ap}
 use Rattle.ring_line.specs.Packs.{Packed}
 use Rattle.ring_line.specs.Rows.{ended}
 use Rattle.ring_line.proofs.rows.packs_are_told.Goals as goal

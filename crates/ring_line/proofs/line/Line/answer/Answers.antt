@@ -1,4 +1,4 @@
-use Rattle.std.proofs.Common.{◌≡◌, Some, slice_get, length, refl, sym, subst}
+use Rattle.std.proofs.Common.{◌≡◌, Some, slice_get, length, refl, subst}
 use Rattle.std.proofs.lemmas.Option.{slice_get_read}
 use Rattle.ring_line.specs.Places.{PlaceHasAnswer}
 use Rattle.ring_line.proofs.Lying.{one_first, one_place}

@@ -1,4 +1,4 @@
-use Rattle.std.proofs.Common.{◌≡◌, ◌++◌, ◌∷◌, [], length, refl, sym, ap, ◌∙◌, subst, append_assoc, arith}
+use Rattle.std.proofs.Common.{◌++◌, ◌∷◌, [], length, refl, sym, ap, ◌∙◌, subst, append_assoc, arith}
 use Rattle.ring_line.specs.Lines.{AreFinished}
 use Rattle.ring_line.proofs.Lining.{finished_none, all_finished}
 use Rattle.ring_line.proofs.line.finish.finish_all.Goals as goal

@@ -1,4 +1,4 @@
-use Rattle.std.proofs.Common.{◌≡◌, ◌≤◌, ◌+◌, ◌++◌, List, length}
+use Rattle.std.proofs.Common.{◌≡◌, ◌+◌, ◌++◌, List, length}
 use Rattle.std.specs.Vec.{vec_capacity}
 use Rattle.ring_line.specs.Lines.{AreFinished}
 use Rattle.ring_line.proofs.line.finish.finish_all.Given as goal

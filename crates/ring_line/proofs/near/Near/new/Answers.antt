@@ -1,11 +1,8 @@
-use Rattle.std.proofs.Common.{◌≡◌, List, [], Option, None, refl, ap, sym, ◌∙◌, subst, arith}
-use Rattle.nf_base.specs.declared.share.Share.{Share}
-use Rattle.nf_base.specs.declared.state.State.{State}
+use Rattle.std.proofs.Common.{[], Option, None, refl, ap, sym, ◌∙◌, subst, arith}
 use Rattle.nf_base.specs.Functions.{function_of}
 use Rattle.nf_base.specs.Step.{opening}
 use Rattle.vig_tables.specs.TablesState.{TablesState}
 use Rattle.ring_line.specs.declared.halt.Halt.{Halt}
-use Rattle.shard_machine.specs.declared.event.Answer.{Answer}
 use Rattle.ring_line.specs.Packs.{Packed, answers_of}
 use Rattle.ring_line.specs.Handled.{CameTo, none_yet}
 use Rattle.ring_line.proofs.near.Near.new.Goals as goal
