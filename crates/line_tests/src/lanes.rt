@@ -1,4 +1,6 @@
-//! Workers of the policer's queues, each in a thread of its own.
+//! Workers of the policer's queues, each in a thread of its own or without one.
+ghost use Rattle.ring_line.specs.Handed.{IsNext};
+ghost use Rattle.ring_line.specs.Places.{PlaceHasAnswer, PlaceHalted};
 
 use crate::policer::policer;
 use nf_base::packet::Packet;
@@ -27,6 +29,15 @@ pub fn open<
     Place::start(rt, alloc, &func, share, size, turns, bell)
 }
 
+/// A worker of queue 1 without a thread.
+pub fn open_beside<G: Turns + Send + Sync + Drop + 'static>(
+    alloc: Global,
+    turns: &Arc<G>,
+) -> Result<Place<G>, AllocError> {
+    let func = policer(alloc)?;
+    Place::beside(alloc, &func, share(1, Workers::new(2)), turns)
+}
+
 /// Sends packets while there is room, and tells how many were sent.
 pub fn send<R: Wait, G: Turns + Drop>(rt: &R, place: &mut Place<G>, packets: &[Packet]) -> usize {
     let mut sent = 0usize;
@@ -39,8 +50,10 @@ pub fn send<R: Wait, G: Turns + Drop>(rt: &R, place: &mut Place<G>, packets: &[P
     sent
 }
 
-/// Waits for what comes next: a packet is in flight.
-pub fn await_next<R: Wait, G: Turns + Drop>(rt: &R, place: &mut Place<G>) -> Next {
+/// Waits until something has come of the first packet that is in flight.
+pub fn await_next<R: Wait, G: Turns + Drop>(rt: &R, place: &mut Place<G>) -> Next
+    ensures { IsNext result (PlaceHasAnswer place.new) (PlaceHalted place.new) }
+{
     for _ in rt.forever() {
         match place.next() {
             Next::Nothing => {}

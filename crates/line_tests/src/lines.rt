@@ -1,10 +1,11 @@
 //! A worker of each of the policer's two queues, whose answers are collected in the order sent.
 ghost use Rattle.std.specs.Prelude.{◌≡◌, ◌<◌, length, IfOk};
 
-use crate::policer::policer;
+use crate::policer::{packet, policer};
+use nf_base::done::Done;
 use nf_base::packet::Packet;
 use nf_base::workers::Workers;
-use ring_line::{Answered, Line, Turns};
+use ring_line::{Answered, CollectedRef, First, Line, Turns};
 use std::alloc::{AllocError, Global};
 use std::sync::{Arc, Wait};
 use std::thread::Threads;
@@ -38,6 +39,60 @@ pub fn send<R: Wait, G: Turns + Drop>(
         }
     }
     sent
+}
+
+/// Sends seven packets to both queues; the sixth finds no index left.
+pub fn send_seven<R: Wait, G: Turns + Drop>(rt: &R, line: &mut Line<G>)
+    requires { length line.old.places ≡ 2 }
+{
+    send(rt, line, 1, &packet(0, 0, 0x8000_0001), 1);
+    send(rt, line, 0, &packet(1, 1, 0x0a00_0001), 1);
+    send(rt, line, 1, &packet(2, 2, 0x8000_0002), 1);
+    send(rt, line, 0, &packet(3, 3, 0x0a00_0002), 1);
+    send(rt, line, 1, &packet(4, 4, 0x8000_0001), 1);
+    send(rt, line, 1, &packet(5, 5, 0x8000_0003), 1);
+    send(rt, line, 0, &packet(6, 6, 0x0a00_0001), 1);
+}
+
+/// Whether an answer that was collected is one that lies ready.
+fn is_same(packet: &Packet, queue: u32, done: &Done, answer: CollectedRef<'_>) -> bool {
+    *packet == *answer.packet
+        && queue == answer.queue
+        && done.action == answer.done.action
+        && done.edits == answer.done.edits
+        && done.picks.as_slice() == answer.done.picks.as_slice()
+}
+
+/// Whether what one line collects next lies ready in another, which goes on behind it.
+fn is_next_alike<R: Wait, G: Turns + Drop>(rt: &R, one: &mut Line<G>, other: &mut Line<G>) -> bool
+    requires one { 0 < length one.old.order.items }
+    requires other { 0 < length other.old.order.items }
+{
+    match (one.collect(rt), other.await_first(rt)) {
+        (Answered::Done(here), First::Answer) => {
+            let same = is_same(&here.packet, here.queue, &here.done, other.answer());
+            other.pass();
+            same
+        }
+        (Answered::Stop(here), First::Stop(there)) => here == there,
+        _ => false,
+    }
+}
+
+/// How often what one line collects lies ready in another.
+pub fn alike<R: Wait, G: Turns + Drop>(
+    rt: &R,
+    one: &mut Line<G>,
+    other: &mut Line<G>,
+    times: u32,
+) -> u32 {
+    let mut count = 0u32;
+    for _ in 0..times {
+        if one.left() > 0 && other.left() > 0 && is_next_alike(rt, one, other) {
+            count = count.wrapping_add(1);
+        }
+    }
+    count
 }
 
 /// Collects what is left, and tells how many answers there were of each queue, and whether they came in

@@ -7,10 +7,10 @@ mod lines;
 mod meeting;
 mod policer;
 
-use lanes::{await_next, open, send};
+use lanes::{await_next, open, open_beside, send};
 use meeting::Meeting;
 use policer::packet;
-use ring_line::{Idle, Next, Place, Turns};
+use ring_line::{AnswerRef, Idle, Next, Place, Turns};
 use std::io;
 use std::sync::{Arc, Wait};
 use std::thread::{Parker, Threads};
@@ -20,14 +20,27 @@ const NEAR: u32 = 0x0a00_0001;
 
 const FAR: u32 = 0x8000_0001;
 
-fn tell(rt: &HostRuntime, next: &Next) -> io::Result<()> {
-    match next {
-        Next::Answered(answer) => println!(rt;
-            "packet {}: {:?}, entries {:?}",
-            answer.packet.id.seq,
-            answer.done.action,
-            answer.done.picks.as_slice()
-        ),
+fn tell_answer(rt: &HostRuntime, answer: AnswerRef<'_>) -> io::Result<()> {
+    println!(rt;
+        "packet {}: {:?}, entries {:?}",
+        answer.packet.id.seq,
+        answer.done.action,
+        answer.done.picks.as_slice()
+    )
+}
+
+/// Prints what comes next, and goes on behind it.
+fn tell_next<R: Wait, G: Turns + Drop>(
+    rt: &HostRuntime,
+    waits: &R,
+    lane: &mut Place<G>,
+) -> io::Result<()> {
+    match await_next(waits, lane) {
+        Next::Ready => {
+            let told = tell_answer(rt, lane.answer());
+            lane.pass();
+            told
+        }
         Next::Halted(halt) => println!(rt;
             "the share ends: chain {}, packet {}",
             halt.chain, halt.packet.id.seq
@@ -43,13 +56,33 @@ fn tell_some<R: Wait, G: Turns + Drop>(
     n: u32,
 ) -> io::Result<()> {
     for _ in 0..n {
-        let next = await_next(waits, lane);
-        tell(rt, &next)?;
+        tell_next(rt, waits, lane)?;
     }
     Ok(())
 }
 
-/// Four packets of queue 1, of which the third finds no index left; asked again, the same is told.
+/// Five packets of queue 1, of which the fourth finds no index left; asked again, the same is told.
+fn tell_five<R: Threads + Wait, G: Turns + Drop>(
+    rt: &HostRuntime,
+    threads: &R,
+    lane: Place<G>,
+) -> io::Result<()> {
+    let mut lane = lane;
+    let packets = [
+        packet(0, 0, FAR),
+        packet(1, 1, FAR + 1),
+        packet(2, 2, FAR),
+        packet(3, 3, FAR + 2),
+        packet(4, 4, FAR),
+    ];
+    let sent = println!(rt; "{} sent", send(threads, &mut lane, &packets));
+    let told = tell_some(rt, threads, &mut lane, 5);
+    drop(lane.finish(threads));
+    sent?;
+    told
+}
+
+/// By a worker in a thread.
 fn tell_end<R: Threads + Wait + Clone + Send + Drop + 'static>(
     rt: &HostRuntime,
     threads: &R,
@@ -58,21 +91,18 @@ fn tell_end<R: Threads + Wait + Clone + Send + Drop + 'static>(
     let alloc = rt.alloc();
     let turns = Arc::new(alloc, Idle)?;
     let bell = Arc::new(alloc, Parker::new())?;
-    let mut lane = open(threads, alloc, true, size, &turns, &bell)?;
-    let packets = [
-        packet(0, 0, FAR),
-        packet(1, 1, FAR + 1),
-        packet(2, 2, FAR),
-        packet(3, 3, FAR + 2),
-        packet(4, 4, FAR),
-    ];
-    println!(rt;
-        "{} sent in packs of {size}",
-        send(threads, &mut lane, &packets)
-    )?;
-    let told = tell_some(rt, threads, &mut lane, 5);
-    drop(lane.finish(threads));
-    told
+    let lane = open(threads, alloc, true, size, &turns, &bell)?;
+    println!(rt; "packs of {size}")?;
+    tell_five(rt, threads, lane)
+}
+
+/// By one without.
+fn tell_beside<R: Threads + Wait>(rt: &HostRuntime, threads: &R) -> io::Result<()> {
+    let alloc = rt.alloc();
+    let turns = Arc::new(alloc, Idle)?;
+    let lane = open_beside(alloc, &turns)?;
+    println!(rt; "without a thread")?;
+    tell_five(rt, threads, lane)
 }
 
 /// As many packets as there is room for, and one answer.
@@ -152,9 +182,39 @@ fn tell_line<R: Threads + Wait + Clone + Send + Drop + 'static>(
     println!(rt; "the workers met: {}", turns.was_kept())
 }
 
+/// Two lines that are sent the same: what one collects lies ready in the other.
+fn tell_alike<R: Threads + Wait + Clone + Send + Drop + 'static>(
+    rt: &HostRuntime,
+    threads: &R,
+    size: usize,
+) -> io::Result<()> {
+    let alloc = rt.alloc();
+    let turns = Arc::new(alloc, Idle)?;
+    let mut one = lines::open(threads, alloc, size, &turns)?;
+    match lines::open(threads, alloc, size, &turns) {
+        Ok(other) => {
+            let mut other = other;
+            lines::send_seven(threads, &mut one);
+            lines::send_seven(threads, &mut other);
+            let alike = lines::alike(threads, &mut one, &mut other, 7);
+            drop(one.finish(threads));
+            drop(other.finish(threads));
+            println!(rt; "packs of {size}: {alike} of 7 alike")
+        }
+        Err(_) => {
+            drop(one.finish(threads));
+            println!(rt; "no memory")
+        }
+    }
+}
+
 fn main(rt: HostRuntime) -> io::Result<()> {
     for size in [1, 2, 64] {
         tell_end(&rt, &rt, size)?;
+    }
+    tell_beside(&rt, &rt)?;
+    for size in [1, 2, 64] {
+        tell_alike(&rt, &rt, size)?;
     }
     for size in [1, 16, 64] {
         tell_room(&rt, &rt, size)?;

@@ -14,3 +14,4 @@ pub mod Gathered
 pub mod Owned
 pub mod Queued
 pub mod Written
+pub mod Slots

@@ -1,13 +1,14 @@
 //! Packets that were read, with their frames.
-ghost use Rattle.std.specs.Prelude.{◌≡◌, ◌≤◌, ◌<◌, ◌+◌, ◌∷◌, ◌++◌, [], length, IfOk, OnOk, OnErr};
+ghost use Rattle.std.specs.Prelude.{◌≡◌, ◌≤◌, ◌<◌, ◌+◌, ◌∷◌, ◌++◌, [], length, drop, slice_index_or, IfOk, OnOk, OnErr};
 ghost use Rattle.hash_fields.specs.Hashed.{HasInput};
 ghost use Rattle.pcap_file.specs.Record.{greatest_time};
 ghost use Rattle.packet_feed.specs.Arrivals.{Arrival};
 
 use nf_base::packet::Packet;
+use nf_base::seq::Seq;
 use std::alloc::{AllocError, Global};
-use std::collections::VecDeque;
 use std::marker::Model;
+use std::mem;
 
 /// A packet that was read and whose answer is not written yet, with the captured bytes of its frame and
 /// the length of that on the wire.
@@ -84,22 +85,108 @@ impl Kept {
     }
 }
 
-/// Packets with their frames, in the order in which they were read. The room that they take is kept for
-/// others.
+/// Packets with their frames, in the first of some slots. The others have room for more, which are put
+/// there without being moved.
 #[derive(Drop)]
-pub(crate) struct Frames {
-    kept: VecDeque<Kept>,
-    /// Those whose room is free.
-    spares: Vec<Kept>,
+struct Slots {
+    slots: Seq<Kept>,
+    used: usize,
 }
 
-impl Model for Frames {
-    ghost use Rattle.std.specs.Prelude.{List};
+impl Model for Slots {
+    ghost use Rattle.std.specs.Prelude.{◌≤◌, List, length, take};
     ghost use Rattle.packet_feed.specs.Arrivals.{Arrival};
 
     ghost Value = { List Arrival };
 
-    ghost view = { λ f. f.kept.items };
+    ghost view = { λ s. take s.used s.slots };
+
+    ghost invariant = { λ s. s.used ≤ length s.slots };
+}
+
+impl Slots {
+    /// No packet.
+    fn new(alloc: Global) -> Slots
+        ensures { result ≡ [] }
+    {
+        Slots {
+            slots: Seq::new(alloc),
+            used: 0,
+        }
+    }
+
+    fn len(&self) -> usize
+        ensures { result ≡ length self.now }
+    {
+        self.used
+    }
+
+    /// The packet of this number.
+    fn item(&self, i: usize) -> &Kept
+        requires { i < length self.now }
+        ensures { result.now ≡ slice_index_or self.now i result.now }
+    {
+        self.slots.item(i)
+    }
+
+    /// Puts a packet behind the others: into the next slot, or a new one.
+    #[tactic(auto, using(crate::proofs::Slots::slot_added))]
+    fn push(
+        &mut self,
+        alloc: Global,
+        packet: &Packet,
+        original: u32,
+        frame: &[u8],
+    ) -> Result<(), AllocError>
+        requires time { packet.now.time ≤ greatest_time }
+        requires captured { length frame.now ≤ 262144 }
+        ensures ok { let one : Arrival
+            = record { packet = packet.now; original = original; frame = frame.now } in
+            OnOk result (self.new ≡ self.old ++ one ∷ []) }
+        ensures err { OnErr result (self.new ≡ self.old) }
+    {
+        if self.used < self.slots.len() {
+            let slot = self.slots.item_mut(self.used);
+            slot.refill(packet, original, frame)?;
+            self.used += 1;
+            return Ok(());
+        }
+        let kept = Kept::new(alloc, packet, original, frame)?;
+        self.slots.push(kept)?;
+        self.used = self.slots.len();
+        Ok(())
+    }
+
+    /// All slots have room for others.
+    fn clear(&mut self)
+        ensures { self.new ≡ [] }
+    {
+        self.used = 0;
+    }
+}
+
+/// Packets with their frames, in the order in which they were read. None is moved while it is kept, and
+/// the room that they take is kept for others.
+#[derive(Drop)]
+pub(crate) struct Frames {
+    /// The first packets, of which so many are gone.
+    current: Slots,
+    at: usize,
+    /// Those behind them.
+    filling: Slots,
+}
+
+impl Model for Frames {
+    ghost use Rattle.std.specs.Prelude.{◌≡◌, ◌≤◌, ◌+◌, ◌++◌, List, length, drop};
+    ghost use Rattle.packet_feed.specs.Arrivals.{Arrival};
+
+    ghost Value = { List Arrival };
+
+    ghost view = { λ f. drop f.at f.current ++ f.filling };
+
+    // Where all of the first ones are gone, there is none.
+    ghost invariant = { λ f. (f.at ≤ length f.current)
+        × (length f.current ≤ f.at → length f.current + length f.filling ≡ 0) };
 }
 
 impl Frames {
@@ -108,66 +195,40 @@ impl Frames {
         ensures { result ≡ [] }
     {
         Frames {
-            kept: VecDeque::new(alloc),
-            spares: Vec::new(alloc),
+            current: Slots::new(alloc),
+            at: 0,
+            filling: Slots::new(alloc),
         }
     }
 
-    pub(crate) fn len(&self) -> usize
-        ensures { result ≡ length self.now }
+    /// The first packet.
+    #[tactic(auto, using(crate::proofs::Slots::first_is))]
+    pub(crate) fn first(&self) -> &Kept
+        requires { 0 < length self.now }
+        ensures { self.now ≡ result.now ∷ drop 1 self.now }
     {
-        self.kept.len()
+        self.current.item(self.at)
     }
 
-    /// Takes the first packet out.
-    pub(crate) fn pop(&mut self) -> Kept
+    /// Lets the first packet go, whose answer is written, and keeps its room.
+    #[tactic(auto, using(crate::proofs::Slots::one_gone, crate::proofs::Slots::row_gone))]
+    pub(crate) fn drop_first(&mut self)
         requires { 0 < length self.old }
-        ensures { self.old ≡ result ∷ self.new }
+        ensures rest { self.new ≡ drop 1 self.old }
+        ensures fewer { length self.old ≡ length self.new + 1 }
     {
-        match self.kept.pop_front() {
-            Some(kept) => kept,
-            None => unreachable!(),
+        let end = self.current.len();
+        self.at += 1;
+        if self.at < end {
+            return;
         }
-    }
-
-    /// Keeps the room of a packet whose answer is written.
-    pub(crate) fn give_back(&mut self, kept: Kept)
-        ensures { self.new ≡ self.old }
-    {
-        // Where there is no memory its room is given up.
-        match self.spares.push(kept) {
-            Ok(()) => {}
-            Err(_) => {}
-        }
-    }
-
-    /// A packet in free room, or in room of its own.
-    fn fill(
-        &mut self,
-        alloc: Global,
-        packet: &Packet,
-        original: u32,
-        frame: &[u8],
-    ) -> Result<Kept, AllocError>
-        requires time { packet.now.time ≤ greatest_time }
-        requires captured { length frame.now ≤ 262144 }
-        ensures kept { IfOk result (λ kept. kept
-            ≡ record { packet = packet.now; original = original; frame = frame.now }) }
-        ensures same { self.new ≡ self.old }
-    {
-        match self.spares.pop() {
-            Some(spare) => {
-                let mut kept = spare;
-                match kept.refill(packet, original, frame) {
-                    Ok(()) => Ok(kept),
-                    Err(fault) => Err(fault),
-                }
-            }
-            None => Kept::new(alloc, packet, original, frame),
-        }
+        mem::swap(&mut self.filling, &mut self.current);
+        self.filling.clear();
+        self.at = 0;
     }
 
     /// Puts a packet with its frame behind the others.
+    #[tactic(auto, using(crate::proofs::Slots::first_put))]
     pub(crate) fn push(
         &mut self,
         alloc: Global,
@@ -182,8 +243,11 @@ impl Frames {
             OnOk result (self.new ≡ self.old ++ one ∷ []) }
         ensures err { OnErr result (self.new ≡ self.old) }
     {
-        let kept = self.fill(alloc, packet, original, frame)?;
-        self.kept.push_back(kept)?;
+        if self.current.len() == 0 {
+            self.current.push(alloc, packet, original, frame)?;
+            return Ok(());
+        }
+        self.filling.push(alloc, packet, original, frame)?;
         Ok(())
     }
 }

@@ -25,7 +25,7 @@ use nf_base::packet::Packet;
 use nf_base::seq::Seq;
 use nf_files::Files;
 use packet_feed::{Fed, Feed};
-use ring_line::{Answered, Turns};
+use ring_line::{First, Turns};
 use std::alloc::Global;
 use std::sync::Wait;
 use stream_run::{Ending, Sink, Stop, stop_in};
@@ -53,17 +53,19 @@ pub(crate) fn write_next<R: Wait, F: Files, G: Turns + Drop>(
     ensures reads { (g : ℕ) → F.is_read files.old g → F.is_read files.new g }
     ensures writes { (g : ℕ) → F.is_written files.old g → F.is_written files.new g }
 {
-    match crew.line.collect(rt) {
-        Answered::Done(collected) => {
-            let kept = crew.frames.pop();
-            let written = write_one(files, sinks, crew.ports, &kept, &collected);
-            crew.frames.give_back(kept);
+    match crew.line.await_first(rt) {
+        First::Answer => {
+            let answer = crew.line.answer();
+            let kept = crew.frames.first();
+            let written = write_one(files, sinks, crew.ports, kept, answer.queue, answer.done);
+            crew.line.pass();
+            crew.frames.drop_first();
             match written {
                 Ok(()) => Ok(None),
                 Err(stop) => Err(stop),
             }
         }
-        Answered::Stop(stop) => Ok(Some(stop)),
+        First::Stop(stop) => Ok(Some(stop)),
     }
 }
 
@@ -95,7 +97,7 @@ fn make_room<R: Wait, F: Files, G: Turns + Drop>(
         if crew.line.has_room(queue) {
             return Ok(None);
         }
-        if crew.frames.len() > 0 {
+        if crew.line.left() > 0 {
             match write_next(rt, files, crew, sinks) {
                 Ok(None) => {}
                 Ok(Some(stop)) => return Ok(Some(stop)),
@@ -176,7 +178,7 @@ fn hand_out<R: Wait, F: Files, G: Turns + Drop>(
             Err(stop) => Err(stop),
         },
         Ok(Some(stop)) => {
-            let packets = feed.given() - 1 - crew.frames.len() as u32;
+            let packets = feed.given() - 1 - crew.line.left() as u32;
             Ok(Passed::Met(ShareFull { stop, packets }))
         }
         Err(stop) => Err(stop),

@@ -57,13 +57,13 @@ fn drain<R: Wait, F: Files, G: Turns + Drop>(
     ensures writes { (g : ℕ) → F.is_written files.old g → F.is_written files.new g }
 {
     for _ in rt.forever() {
-        if crew.frames.len() == 0 {
+        if crew.line.left() == 0 {
             return Ok(Ended::Over(ending));
         }
         match write_next(rt, files, crew, sinks) {
             Ok(None) => {}
             Ok(Some(stop)) => {
-                let packets = feed.given() - crew.frames.len() as u32;
+                let packets = feed.given() - crew.line.left() as u32;
                 return Ok(Ended::Full(ShareFull { stop, packets }));
             }
             Err(stop) => return Err(stop),

@@ -8,24 +8,24 @@ ghost use Rattle.stream_run.specs.Runs.{Handled};
 ghost use Rattle.stream_run.specs.Writing.{files_of, AreHeld, AllGoOn, KeepsAllBut, IsStopCause, StopsAmong};
 
 use crate::kept::Kept;
+use nf_base::done::Done;
 use nf_base::seq::Seq;
 use nf_files::Files;
-use shard_core::Collected;
 use stream_run::{HandledPacket, Sink, Stop, put_all};
 
-/// Puts what one packet leaves into all files.
+/// Puts what one packet of a queue leaves into all files.
 pub(crate) fn write_one<F: Files>(
     files: &mut F,
     sinks: &mut Seq<Sink>,
     ports: u32,
     kept: &Kept,
-    collected: &Collected,
+    queue: u32,
+    done: &Done,
 ) -> Result<(), Stop>
     requires created { EachFile (F.is_written files.old) (files_of sinks.old) }
     requires apart { IsApart (files_of sinks.old) }
     requires few { length sinks.old ≤ 2 ^ 32 }
-    ensures goes_on { let c = collected.now in
-        let h : Handled = record { arrival = kept.now; worker = c.queue; done = c.done } in
+    ensures goes_on { let h : Handled = record { arrival = kept.now; worker = queue; done = done.now } in
         (mode : Mode) → (workers : ℕ) → (card : Card) → (format : CaptureFormat) →
         (hs : List Handled) →
         AreHeld mode workers card format ports hs (F.told files.old) sinks.old →
@@ -38,11 +38,11 @@ pub(crate) fn write_one<F: Files>(
     ensures writes { (g : ℕ) → F.is_written files.old g → F.is_written files.new g }
 {
     let handled = HandledPacket {
-        worker: collected.queue,
+        worker: queue,
         packet: kept.packet(),
         original: kept.original(),
         frame: kept.frame(),
-        done: &collected.done,
+        done,
     };
     put_all(sinks, files, ports, &handled)
 }

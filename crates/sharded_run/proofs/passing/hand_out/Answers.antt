@@ -20,7 +20,7 @@ returns-in-Err-send-clause-handed g c = λ x card format all st can home.
 pub returns-in-Ok-Some-clause-handed : goal.returns-in-Ok-Some-clause-handed
 returns-in-Ok-Some-clause-handed g c = λ x card format all st can home.
     let h = (rw c.in-Ok-Some.field-0-is at c.in-Ok-Some.ensures.wrote) x card format all st in
-    (h.0, h.1, omega (arith, c.given.ensures, c.len.ensures, c.requires.fewer, c.make_room.ensures.same.fewer))
+    (h.0, h.1, omega (arith, c.given.ensures, c.left.ensures, c.requires.fewer, c.make_room.ensures.same.fewer, c.make_room.new.crew.as_many))
 
 pub returns-in-Err-clause-handed : goal.returns-in-Err-clause-handed
 returns-in-Err-clause-handed g c = λ x card format all st can home. c.in-Err.ensures.wrote x card format all st

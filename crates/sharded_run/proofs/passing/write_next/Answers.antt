@@ -11,26 +11,28 @@ use Rattle.sharded_run.proofs.passing.write_next.Goals as goal
 pub returns-in-Ok-clause-wrote : goal.returns-in-Ok-clause-wrote
 returns-in-Ok-clause-wrote g c = λ x card format all st.
     let told = g.F.Files.told in
-    let one : Collected = c.in-Done.collected in
-    let a : Arrival = c.pop-kept.result in
-    let stands = (rw c.in-Done.is at c.collect.ensures.collects) x (map packet_of all) st.got st.stands in
-    wrote_on x card format all (told c.args.files.now) (told c.write_one-written.new.files) c.args.crew.now _ c.args.sinks.now c.write_one-written.new.sinks a one st (c.pop-kept.ensures ∙ ap (λ (t : List Arrival). a ∷ t) (sym c.give_back.ensures)) refl stands
+    let r = c.answer-answer.result in
+    let one : Collected = record { packet = r.packet.now; queue = r.queue; done = r.done.now } in
+    let a : Arrival = c.first-kept.result.now in
+    let stands = c.pass.ensures.stands x (map packet_of all) one st.got (c.await_first.ensures.stands x (map packet_of all) st.got st.stands) c.answer-answer.ensures in
+    wrote_on x card format all (told c.args.files.now) (told c.write_one-written.new.files) c.args.crew.now _ c.args.sinks.now c.write_one-written.new.sinks a one st (c.first-kept.ensures ∙ ap (λ (t : List Arrival). a ∷ t) (sym c.drop_first.ensures.rest)) refl stands
     ((rw c.in-Ok.is at c.write_one-written.ensures.goes_on) Shard x.workers card format (answered all st.got) st.held)
 
 pub returns-in-Err-clause-wrote : goal.returns-in-Err-clause-wrote
 returns-in-Err-clause-wrote g c = λ x card format all st.
     let told = g.F.Files.told in
-    let one : Collected = c.in-Done.collected in
-    let a : Arrival = c.pop-kept.result in
-    let stands = (rw c.in-Done.is at c.collect.ensures.collects) x (map packet_of all) st.got st.stands in
-    wrote_cut x card format all (told c.args.files.now) (told c.write_one-written.new.files) c.args.crew.now _ c.args.sinks.now (files_of c.write_one-written.new.sinks) a one st (c.pop-kept.ensures ∙ ap (λ (t : List Arrival). a ∷ t) (sym c.give_back.ensures)) refl stands
+    let r = c.answer-answer.result in
+    let one : Collected = record { packet = r.packet.now; queue = r.queue; done = r.done.now } in
+    let a : Arrival = c.first-kept.result.now in
+    let stands = c.pass.ensures.stands x (map packet_of all) one st.got (c.await_first.ensures.stands x (map packet_of all) st.got st.stands) c.answer-answer.ensures in
+    wrote_cut x card format all (told c.args.files.now) (told c.write_one-written.new.files) c.args.crew.now _ c.args.sinks.now (files_of c.write_one-written.new.sinks) a one st (c.first-kept.ensures ∙ ap (λ (t : List Arrival). a ∷ t) (sym c.drop_first.ensures.rest)) refl stands
     ((rw c.in-Err.is at c.write_one-written.ensures.goes_on) Shard x.workers card format (answered all st.got) st.held)
 
 pub returns-in-Stop-clause-wrote : goal.returns-in-Stop-clause-wrote
 returns-in-Stop-clause-wrote g c = λ x card format all st.
     let told = g.F.Files.told in
-    let h = (rw c.in-Stop.is at c.collect.ensures.collects) x (map packet_of all) st.got st.stands in
-    (passing_still x card format all (told c.args.files.now) c.args.crew.now _ c.args.sinks.now st refl refl h.0, h.1)
+    let stands = c.await_first.ensures.stands x (map packet_of all) st.got st.stands in
+    (passing_still x card format all (told c.args.files.now) c.args.crew.now _ c.args.sinks.now st refl refl stands, rw c.in-Stop.is at c.await_first.ensures.first)
 
 pub returns-in-Ok-clause-went : goal.returns-in-Ok-clause-went
 returns-in-Ok-clause-went g c = λ captures.

@@ -18,17 +18,17 @@ loop-init g c =
       writes = λ n r. r;
     }
 
-pub returns-then-len-eq0-clause-flows : goal.returns-then-len-eq0-clause-flows
-returns-then-len-eq0-clause-flows g c = λ x card format ports begun start all st h over.
+pub returns-then-left-eq0-clause-flows : goal.returns-then-left-eq0-clause-flows
+returns-then-left-eq0-clause-flows g c = λ x card format ports begun start all st h over.
     let told = g.F.Files.told in
     let inv = c.loop.invariant in
     let now = told c.loop.files in
     let passing = inv.passing x card format all st in
-    let none = none_in_flight x card format now c.loop.crew c.loop.sinks all passing c.loop.crew.as_many (omega arith) in
+    let none = none_in_flight x card format now c.loop.crew c.loop.sinks all passing c.loop.crew.as_many (omega (arith, c.loop.crew.as_many)) in
     all_over x card format ports begun c.args.feed.now start now c.loop.crew c.loop.sinks all c.args.ending passing none (gathers_rest ports begun c.args.feed.now start (told c.args.files.now) now all inv.rests h) over
 
-pub returns-then-len-eq0-clause-went : goal.returns-then-len-eq0-clause-went
-returns-then-len-eq0-clause-went g c = λ captures. went_ok captures _ _ _ _ _ (tt {0}) _ (c.loop.invariant.went captures)
+pub returns-then-left-eq0-clause-went : goal.returns-then-left-eq0-clause-went
+returns-then-left-eq0-clause-went g c = λ captures. went_ok captures _ _ _ _ _ (tt {0}) _ (c.loop.invariant.went captures)
 
 pub returns-in-Ok-Some-clause-flows : goal.returns-in-Ok-Some-clause-flows
 returns-in-Ok-Some-clause-flows g c = λ x card format ports begun start all st h over.
@@ -36,7 +36,7 @@ returns-in-Ok-Some-clause-flows g c = λ x card format ports begun start all st 
     let inv = c.loop.invariant in
     let now = told c.write_next.new.files in
     let wrote = (rw c.in-Ok-Some.field-0-is at c.in-Ok-Some.ensures.wrote) x card format all (inv.passing x card format all st) in
-    let met = met_behind x card format ports begun c.args.feed.now start (told c.args.files.now) now c.write_next.new.crew c.write_next.new.sinks all _ wrote.0 h wrote.1 (omega arith) in
+    let met = met_behind x card format ports begun c.args.feed.now start (told c.args.files.now) now c.write_next.new.crew c.write_next.new.sinks all _ wrote.0 h wrote.1 (omega (arith, c.write_next.new.crew.as_many)) in
     some_met x card format ports begun start now c.write_next.new.crew c.write_next.new.sinks all _ met
 
 pub returns-in-Ok-Some-clause-same : goal.returns-in-Ok-Some-clause-same
