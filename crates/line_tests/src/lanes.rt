@@ -10,6 +10,7 @@ use rss_table::share;
 use std::alloc::{AllocError, Global};
 use std::sync::{Arc, Wait};
 use std::thread::{Parker, Threads};
+use vig_tables::Tables;
 
 /// A worker of queue 0 or 1, whose packs have so many packets.
 pub fn open<
@@ -26,7 +27,8 @@ pub fn open<
     let func = policer(alloc)?;
     let queue = if second { 1 } else { 0 };
     let share = share(queue, Workers::new(2));
-    Place::start(rt, alloc, &func, share, size, turns, bell)
+    let tables = Tables::new(alloc, &func, share)?;
+    Place::start(rt, alloc, &func, tables, share, size, turns, bell)
 }
 
 /// A worker of queue 1 without a thread.

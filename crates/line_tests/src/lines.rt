@@ -6,12 +6,13 @@ use nf_base::done::Done;
 use nf_base::packet::Packet;
 use nf_base::workers::Workers;
 use ring_line::{Answered, CollectedRef, First, Line, Turns};
+use short_answers::{Told, plain};
 use std::alloc::{AllocError, Global};
 use std::sync::{Arc, Wait};
 use std::thread::Threads;
 
 pub fn open<
-    R: Threads + Wait + Clone + Send + Drop + 'static,
+    R: Threads + Wait + Clone + Send + Sync + Drop + 'static,
     G: Turns + Send + Sync + Drop + 'static,
 >(rt: &R, alloc: Global, size: usize, turns: &Arc<G>) -> Result<Line<G>, AllocError>
     ensures { IfOk result (λ line. length line.places ≡ 2) }
@@ -56,11 +57,21 @@ pub fn send_seven<R: Wait, G: Turns + Drop>(rt: &R, line: &mut Line<G>)
 
 /// Whether an answer that was collected is one that lies ready.
 fn is_same(packet: &Packet, queue: u32, done: &Done, answer: CollectedRef<'_>) -> bool {
-    *packet == *answer.packet
-        && queue == answer.queue
-        && done.action == answer.done.action
-        && done.edits == answer.done.edits
-        && done.picks.as_slice() == answer.done.picks.as_slice()
+    *packet == *answer.packet && queue == answer.queue && is_told(done, answer.told)
+}
+
+/// Whether this was told.
+fn is_told(done: &Done, told: Told<'_>) -> bool {
+    match told {
+        Told::Plain(action) => are_alike(done, &plain(action)),
+        Told::Whole(whole) => are_alike(done, whole),
+    }
+}
+
+fn are_alike(one: &Done, other: &Done) -> bool {
+    one.action == other.action
+        && one.edits == other.edits
+        && one.picks.as_slice() == other.picks.as_slice()
 }
 
 /// Whether what one line collects next lies ready in another, which goes on behind it.

@@ -9,8 +9,10 @@ mod policer;
 
 use lanes::{await_next, open, open_beside, send};
 use meeting::Meeting;
+use nf_base::done::Done;
 use policer::packet;
 use ring_line::{AnswerRef, Idle, Next, Place, Turns};
+use short_answers::{Told, plain};
 use std::io;
 use std::sync::{Arc, Wait};
 use std::thread::{Parker, Threads};
@@ -20,13 +22,21 @@ const NEAR: u32 = 0x0a00_0001;
 
 const FAR: u32 = 0x8000_0001;
 
-fn tell_answer(rt: &HostRuntime, answer: AnswerRef<'_>) -> io::Result<()> {
+fn tell_done(rt: &HostRuntime, seq: u32, done: &Done) -> io::Result<()> {
     println!(rt;
         "packet {}: {:?}, entries {:?}",
-        answer.packet.id.seq,
-        answer.done.action,
-        answer.done.picks.as_slice()
+        seq,
+        done.action,
+        done.picks.as_slice()
     )
+}
+
+fn tell_answer(rt: &HostRuntime, answer: AnswerRef<'_>) -> io::Result<()> {
+    let seq = answer.packet.id.seq;
+    match answer.told {
+        Told::Plain(action) => tell_done(rt, seq, &plain(action)),
+        Told::Whole(done) => tell_done(rt, seq, done),
+    }
 }
 
 /// Prints what comes next, and goes on behind it.
@@ -158,7 +168,7 @@ fn tell_meeting<R: Threads + Wait + Clone + Send + Drop + 'static>(
 }
 
 /// Worker 0 waits in its packet until worker 1 has handled 64, as many as can be in flight.
-fn tell_line<R: Threads + Wait + Clone + Send + Drop + 'static>(
+fn tell_line<R: Threads + Wait + Clone + Send + Sync + Drop + 'static>(
     rt: &HostRuntime,
     threads: &R,
     size: usize,
@@ -183,7 +193,7 @@ fn tell_line<R: Threads + Wait + Clone + Send + Drop + 'static>(
 }
 
 /// Two lines that are sent the same: what one collects lies ready in the other.
-fn tell_alike<R: Threads + Wait + Clone + Send + Drop + 'static>(
+fn tell_alike<R: Threads + Wait + Clone + Send + Sync + Drop + 'static>(
     rt: &HostRuntime,
     threads: &R,
     size: usize,

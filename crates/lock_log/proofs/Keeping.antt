@@ -8,10 +8,10 @@ use mathlib.Core.List.{IsPrefix}
 use Rattle.nf_base.specs.declared.done.Action.TheVariants.{Skip}
 use Rattle.nf_base.specs.declared.done.Done.{Done}
 use Rattle.lock_core.specs.declared.call.Call.{Call}
-use Rattle.lock_log.specs.declared.answer.Answer.{Answer}
-use Rattle.lock_log.specs.declared.answer.Answer.TheVariants.{Plain, Whole}
+use Rattle.short_answers.specs.declared.answer.Answer.{Answer}
+use Rattle.short_answers.specs.declared.answer.Answer.TheVariants.{Plain, Whole}
 use Rattle.lock_log.specs.declared.log.Head.{Head}
-use Rattle.lock_log.specs.Answers.{plain, answer_in, IsThere}
+use Rattle.short_answers.specs.Answers.{plain, answer_in, IsThere}
 use Rattle.lock_log.specs.Heads.{head_of}
 use Rattle.lock_log.specs.Notes.{Note, call_in, calls_in, IsLog}
 

@@ -1,4 +1,3 @@
-pub mod Answers
 pub mod Heads
 pub mod Notes
 pub mod Turns

@@ -4,8 +4,8 @@ use Rattle.nf_base.specs.declared.packet.Packet.{Packet}
 use Rattle.nf_base.specs.declared.done.Done.{Done}
 use Rattle.lock_core.specs.declared.call.Way.{Way}
 use Rattle.lock_core.specs.declared.call.Call.{Call}
-use Rattle.lock_log.specs.declared.answer.Answer.{Answer}
-use Rattle.lock_log.specs.Answers.{answer_in, IsThere}
+use Rattle.short_answers.specs.declared.answer.Answer.{Answer}
+use Rattle.short_answers.specs.Answers.{answer_in, IsThere}
 
 -- a call as it is kept
 pub record Note : Type 0 where

@@ -5,10 +5,9 @@
 //! call is next, and which. Contracts see the calls, with their packets, and the order.
 #![tactic(auto)]
 
-mod answer;
 mod log;
 mod order;
 
-pub use answer::{Told, plain};
 pub use log::{CallLog, Head};
 pub use order::{Order, Turn};
+pub use short_answers::{Told, plain};

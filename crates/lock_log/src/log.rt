@@ -1,13 +1,13 @@
 //! The calls of a seat.
 ghost use Rattle.std.specs.Prelude.{◌≡◌, ◌<◌, ◌≤◌, ◌+◌, ◌^◌, ◌++◌, ◌∷◌, [], length, slice_get, option_map, Some, OnOk, IfSome};
 ghost use Rattle.lock_core.specs.declared.call.Call.{Call};
-ghost use Rattle.lock_log.specs.Answers.{done_told};
+ghost use Rattle.short_answers.specs.Answers.{done_told};
 ghost use Rattle.lock_log.specs.Heads.{head_of};
 
-use crate::answer::{Answer, Told, keep};
 use lock_core::Way;
 use nf_base::done::Done;
 use nf_base::packet::Packet;
+use short_answers::{Answer, Told, keep};
 use std::alloc::{AllocError, Global};
 use std::marker::Model;
 use std::mem::size_of;
@@ -115,7 +115,7 @@ impl CallLog {
             ++ (record { way = way; place = place; packet = packet.now; done = done.now }) ∷ [] }
         ensures room { self.old.room ≤ self.new.room + 1 }
     {
-        let answer = keep(&mut self.whole, done);
+        let answer = keep(&mut self.whole, done.action, &done.edits, &done.picks);
         self.notes.push_reserved(Noted {
             packet: Snapshot::of(packet),
             place,

@@ -2,13 +2,13 @@
 ghost use Rattle.std.specs.Prelude.{◌≡◌, ◌<◌, ◌≤◌, ◌^◌, ◌∷◌, [], List, length, map, slice_get, Some, IfOk};
 ghost use Rattle.lock_core.specs.declared.call.Call.{Call};
 ghost use Rattle.lock_core.specs.declared.call.Ordered.{Ordered};
-ghost use Rattle.lock_log.specs.Answers.{done_told};
+ghost use Rattle.short_answers.specs.Answers.{done_told};
 ghost use Rattle.lock_log.specs.Notes.{LogState};
 ghost use Rattle.lock_log.specs.Turns.{in_turn, ordered_by, calls_of_each, AreThere};
 
-use crate::answer::Told;
 use crate::log::CallLog;
 use lock_core::Way;
+use short_answers::Told;
 use std::alloc::{AllocError, Global};
 use std::marker::Model;
 

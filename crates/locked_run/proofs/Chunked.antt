@@ -20,9 +20,9 @@ use Rattle.packet_feed.specs.Arrivals.{Arrival}
 use Rattle.nf_base.specs.declared.done.Done.{Done}
 use Rattle.nf_base.specs.declared.done.Action.{Action}
 use Rattle.nf_base.specs.declared.done.Action.TheVariants.{Skip}
-use Rattle.lock_log.specs.declared.answer.Told.{Told as Answer}
-use Rattle.lock_log.specs.declared.answer.Told.TheVariants as answer
-use Rattle.lock_log.specs.Answers.{plain, done_told}
+use Rattle.short_answers.specs.declared.answer.Told.{Told as Answer}
+use Rattle.short_answers.specs.declared.answer.Told.TheVariants as answer
+use Rattle.short_answers.specs.Answers.{plain, done_told}
 use Rattle.sharded_run.proofs.Written.{fronts_longer}
 use Rattle.locked_run.specs.declared.chunk.Chunk.{Chunk}
 use Rattle.locked_run.specs.Going.{AreWhole}

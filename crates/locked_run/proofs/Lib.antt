@@ -4,4 +4,5 @@ pub mod Placing
 pub mod Batching
 pub mod Joining
 pub mod Chunked
+pub mod Rounding
 pub mod Finishing

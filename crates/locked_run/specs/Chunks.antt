@@ -1,14 +1,16 @@
 -- What packets leave, made by chunks of them, and then written one chunk after another.
-use Rattle.std.specs.Prelude.{◌≡◌, ◌+◌, ◌*◌, ◌<◌, ◌≤◌, ℕ, List, [], length, take, drop, slice_get, Some, Result, Ok, Err}
+use Rattle.std.specs.Prelude.{◌≡◌, ◌+◌, ◌*◌, ℕ, List, [], length, take, drop, slice_get, Some, Result, Ok, Err}
 use Rattle.std.specs.List.{flat_map}
 use Rattle.std.specs.Bool.{OnTrue}
 use Rattle.nf_base.specs.declared.card.Card.{Card}
 use Rattle.capture_format.specs.declared.format.CaptureFormat.{CaptureFormat}
 use Rattle.nf_files.specs.Told.{Told}
+use Rattle.nf_files.specs.Causes.{Counted}
 use Rattle.run_history.specs.declared.line.Mode.{Mode}
 use Rattle.stream_run.specs.Runs.{Handled}
 use Rattle.stream_run.specs.Texts.{piece}
-use Rattle.stream_run.specs.Writing.{Holding, files_of, AreFronts}
+use Rattle.stream_run.specs.declared.stop.Stop.{Stop}
+use Rattle.stream_run.specs.Writing.{Holding, files_of, AreFronts, KeepsBut, IsStopCause, StopsAmong}
 use Rattle.locked_run.specs.declared.chunk.Chunk.{Chunk}
 use Rattle.locked_run.specs.Going.{AreWhole}
 
@@ -64,7 +66,18 @@ GoOnTo mode workers card format ports all next now files chunks (Ok x) =
 GoOnTo mode workers card format ports all next now files chunks (Err e) =
     AreFronts mode workers card format ports all now files
 
--- some chunks, of so many packets each, and not too many
-pub record HaveRoom (size : ℕ) (chunks : List Chunk) : Type 0 where
-  pub some : 0 < length chunks * size
-  pub few : length chunks * size ≤ 2147483648
+-- Chunks were given to these files, one after another: what was created, counted and told before
+-- and after it, and what is held then.
+pub record AreGiven {T : Type 0} (was_created is_created : ℕ → Type 0) (counted counts : Counted)
+    (was now : Told) (files : List ℕ) (before after : List Chunk) (result : Result T Stop)
+    : Type 0 where
+  pub goes_on : (mode : Mode) (workers : ℕ) (card : Card) (format : CaptureFormat) (ports : ℕ)
+      (all : List Handled) (from size : ℕ) → HoldAll format ports all from size before →
+      AreWhole mode workers card format ports (take from all) was files →
+      GoOnTo mode workers card format ports all (from + length before * size) now files after result
+  pub as_many : length after ≡ length before
+  pub same_files : AreOf files after
+  pub kept : KeepsBut files was now
+  pub cause : IsStopCause counted counts result
+  pub among : StopsAmong [] files result
+  pub created : (g : ℕ) → was_created g → is_created g

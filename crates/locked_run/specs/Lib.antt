@@ -5,5 +5,6 @@ pub mod Reading
 pub mod Handled
 pub mod Going
 pub mod Chunks
+pub mod Rounds
 pub mod Lawful
 pub mod Laws

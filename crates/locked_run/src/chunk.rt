@@ -10,7 +10,7 @@ ghost use Rattle.run_history.specs.declared.line.Mode.{Mode};
 ghost use Rattle.stream_run.specs.Runs.{Handled};
 ghost use Rattle.stream_run.specs.Texts.{piece};
 ghost use Rattle.stream_run.specs.Writing.{files_of, AreGrown, KeepsAllBut, IsStopCause, StopsAmong};
-ghost use Rattle.lock_log.specs.Answers as answers;
+ghost use Rattle.short_answers.specs.Answers as answers;
 ghost use Rattle.lock_workers.specs.Worked.{AreAt};
 ghost use Rattle.locked_run.specs.Handled.{joined};
 ghost use Rattle.locked_run.specs.Going.{AreWhole, Writes};
@@ -188,7 +188,7 @@ pub(crate) fn idle_chunks(
 #[tactic(auto, using(crate::proofs::Crossing::order_shared))]
 pub(crate) fn fill_each<R: Threads + Sync>(
     rt: &R,
-    chunks: &mut [Chunk],
+    chunks: &mut Vec<Chunk>,
     ports: u32,
     batch: &Batch,
     order: &Order,
@@ -197,9 +197,9 @@ pub(crate) fn fill_each<R: Threads + Sync>(
     size: usize,
 )
     requires at { AreAt (map packet_of batch.now) order.now places.now }
-    requires room { from + length chunks.old * size < 2 ^ 64 }
+    requires room { from + length chunks.old.items * size < 2 ^ 64 }
     ensures { let all = joined batch.now order.now places.now in
-        AreFilled ports all from size chunks.old chunks.new }
+        AreFilled ports all from size chunks.old.items chunks.new.items }
 {
     let fill = |i: usize, chunk: &mut Chunk|
         requires { (from + i * size < 2 ^ 64)
@@ -207,5 +207,5 @@ pub(crate) fn fill_each<R: Threads + Sync>(
         ensures { let all = joined batch.entry.now order.entry.now places.entry.now in
             IsFilled ports (chunk_at all (from + i * size) size) chunk.entry.now chunk.exit.now }
     { chunk.fill(ports, batch, order, places, from + i * size, size) };
-    thread::for_each_mut(rt, chunks, 16, &fill);
+    thread::for_each_mut(rt, chunks.as_mut_slice(), 16, &fill);
 }

@@ -12,7 +12,7 @@ use nf_base::packet::Packet;
 use nf_base::picks::Picks;
 use std::alloc::{AllocError, Global};
 use std::marker::Model;
-use stream_run::HandledParts;
+use stream_run::{HandledParts, ToldFields};
 
 /// The length of a frame on the wire, and where its captured bytes lie.
 #[derive(Clone, Copy, Debug, PartialEq, Eq)]
@@ -119,7 +119,9 @@ impl Batch {
         let bytes = self.pieces.at(frame.spot);
         HandledParts {
             worker,
-            packet,
+            id: packet.id,
+            time: packet.time,
+            fields: ToldFields::of_packet(packet),
             original: frame.original,
             frame: bytes,
             action,

@@ -8,6 +8,7 @@ mod kept;
 pub mod laws;
 mod pieces;
 mod reading;
+mod rounds;
 mod running;
 mod writing;
 

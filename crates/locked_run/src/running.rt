@@ -15,10 +15,10 @@ ghost use Rattle.locked_run.specs.Going.{mode_of, AreFresh, Writes, Settles};
 ghost use Rattle.locked_run.specs.Lawful.{Runs};
 
 use crate::came::{Came, Settled};
-use crate::chunk::idle_chunks;
 use crate::kept::Batch;
 use crate::reading::read_all;
-use crate::writing::{chunk_count, chunk_size, write_all};
+use crate::rounds::Rounds;
+use crate::writing::{chunk_count, chunk_size};
 use capture_format::CaptureFormat;
 use lock_mode::Gate;
 use lock_workers::{Turns, Worked};
@@ -120,21 +120,12 @@ fn write<R: Threads + Sync, F: Files>(
 {
     let size = chunk_size(batch, workers.get());
     let count = chunk_count(batch, workers.get(), size);
-    let mut chunks = match idle_chunks(alloc, count, format, targets) {
-        Ok(chunks) => chunks,
+    let mut rounds = match Rounds::new(alloc, count, size, format, targets) {
+        Ok(rounds) => rounds,
         Err(_) => return Err(Stop::Memory),
     };
     match write_heads(alloc, files, mode, workers, card, format, ports, targets) {
-        Ok(()) => write_all(
-            rt,
-            files,
-            chunks.as_mut_slice(),
-            size,
-            ports,
-            batch,
-            worked,
-            targets,
-        ),
+        Ok(()) => rounds.write_all(rt, files, ports, batch, worked, targets),
         Err(stop) => Err(stop),
     }
 }
@@ -191,10 +182,11 @@ fn settle<R: Threads + Wait + Sync, F: Files, T: Turns + Sync, G: Gate + Drop + 
 /// order, in a thread of its own; `turns` is told when a worker comes to a packet and when it has
 /// handled it, and nothing depends on it. All packets and their frames are held in memory until the
 /// end, beside three copies of the tables and what each packet came to. What they leave is made by
-/// chunks of up to 16,384 packets, as many side by side as there are workers, and written one chunk
-/// after another. So beside them stands what is made and not written yet: of each worker what the
-/// packets of one chunk leave, whose frames come to at most 8 MiB, or which are 1,024. Where the
-/// gate refuses a reader one worker handles them in capture order, in mode `one`.
+/// chunks of up to 8,192 packets, as many side by side as there are workers, while the chunks
+/// before them are written, one after another. So beside them stands what is made and not written
+/// yet: of each worker what the packets of two chunks leave, whose frames come to at most 4 MiB a
+/// chunk, or which are 1,024. Where the gate refuses a reader one worker handles them in capture
+/// order, in mode `one`.
 ///
 /// The captures are those of the feed, which gave no packet yet, and was started for the function's
 /// ports. The targets are the outputs in the order of their ports, and the journal behind them;

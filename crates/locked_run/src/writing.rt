@@ -1,38 +1,33 @@
-//! What packets leave is written, in the order in which they were handled, by chunks.
-ghost use Rattle.std.specs.Prelude.{◌≡◌, ◌^◌, ◌+◌, ◌*◌, ◌<◌, ◌≤◌, ◌∷◌, ◌++◌, [], ℕ, List, length, map, take, slice_get, Some};
+//! How many packets a chunk is of, and how chunks are written.
+ghost use Rattle.std.specs.Prelude.{◌+◌, ◌*◌, ◌<◌, ◌≤◌, [], ℕ, List, length, take};
 ghost use Rattle.nf_base.specs.declared.card.Card.{Card};
 ghost use Rattle.capture_format.specs.declared.format.CaptureFormat.{CaptureFormat};
-ghost use Rattle.packet_feed.specs.Arrivals.{packet_of};
 ghost use Rattle.packet_feed.specs.Told.{EachFile, IsApart};
 ghost use Rattle.run_history.specs.declared.line.Mode.{Mode};
 ghost use Rattle.stream_run.specs.Runs.{Handled};
 ghost use Rattle.stream_run.specs.Writing.{KeepsBut, IsStopCause, StopsAmong};
-ghost use Rattle.lock_workers.specs.Worked.{AreAt};
-ghost use Rattle.locked_run.specs.Handled.{joined};
-ghost use Rattle.locked_run.specs.Going.{AreWhole, Writes};
-ghost use Rattle.locked_run.specs.Chunks.{AreOf, AreIdle, HoldAll, GoOnTo, HaveRoom};
+ghost use Rattle.locked_run.specs.Going.{AreWhole};
+ghost use Rattle.locked_run.specs.Chunks.{AreOf, HoldAll, GoOnTo, AreGiven};
 
-use crate::chunk::{Chunk, fill_each};
+use crate::chunk::Chunk;
 use crate::kept::Batch;
-use lock_workers::Worked;
 use nf_files::Files;
-use std::thread::Threads;
 use stream_run::Stop;
 
 /// A chunk is of no more packets.
-const MOST_PACKETS: usize = 16_384;
+const MOST_PACKETS: usize = 8_192;
 
 /// A chunk is of so many packets at least, as far as there are some: fewer are made sooner than a
 /// thread is started for them, and would be written in small pieces.
 const LEAST_PACKETS: usize = 1_024;
 
 /// The frames of a chunk come to no more bytes, but for those of 1,024 packets.
-const MOST_BYTES: usize = 8_388_608;
+const MOST_BYTES: usize = 4_194_304;
 
 /// How many packets a chunk is of, where so many can be made side by side.
 pub(crate) fn chunk_size(batch: &Batch, workers: u32) -> usize
     ensures some { 0 < result }
-    ensures most { result ≤ 16384 }
+    ensures most { result ≤ 8192 }
 {
     let in_room = MOST_BYTES / batch.longest().max(1);
     let each = batch.len().div_ceil(workers.max(1) as usize);
@@ -81,45 +76,18 @@ fn write_each<F: Files>(files: &mut F, chunks: &mut [Chunk], targets: &[u32]) ->
     Ok(())
 }
 
-/// Writes what packets leave, behind what the files begin with, in an order of them, each of which
-/// stands at its place.
-///
-/// It is made by chunks of so many packets, as many side by side as there are here, and each is
-/// given to the files when those before it are. The room of the chunks is used again.
-pub(crate) fn write_all<R: Threads + Sync, F: Files>(
-    rt: &R,
+/// The same of all that a round has.
+pub(crate) fn write_made<F: Files>(
     files: &mut F,
-    chunks: &mut [Chunk],
-    size: usize,
-    ports: u32,
-    batch: &Batch,
-    worked: &Worked,
+    chunks: &mut Vec<Chunk>,
     targets: &[u32],
 ) -> Result<(), Stop>
-    requires at { AreAt (map packet_of batch.now) worked.now.order worked.now.places.items }
-    requires room { HaveRoom size chunks.old }
-    requires files { AreOf targets.now chunks.old }
+    requires files { AreOf targets.now chunks.old.items }
     requires created { EachFile (F.is_written files.old) targets.now }
     requires apart { IsApart targets.now }
-    ensures goes_on { let all = joined batch.now worked.now.order worked.now.places.items in
-        (mode : Mode) → (workers : ℕ) → (card : Card) → (format : CaptureFormat) →
-        AreIdle format chunks.old →
-        AreWhole mode workers card format ports [] (F.told files.old) targets.now →
-        Writes mode workers card format ports all (F.told files.new) targets.now result }
-    ensures kept { KeepsBut targets.now (F.told files.old) (F.told files.new) }
-    ensures cause { IsStopCause (F.counted files.old) (F.counted files.new) result }
-    ensures among { StopsAmong [] targets.now result }
+    ensures { AreGiven (F.is_written files.old) (F.is_written files.new) (F.counted files.old)
+        (F.counted files.new) (F.told files.old) (F.told files.new) targets.now chunks.old.items
+        chunks.new.items result }
 {
-    let places = worked.places.as_slice();
-    let step = chunks.len() * size;
-    let mut from = 0;
-    'rounds: while from < places.len() {
-        fill_each(rt, chunks, ports, batch, &worked.order, places, from, size);
-        match write_each(files, chunks, targets) {
-            Ok(()) => {}
-            Err(stop) => return Err(stop),
-        }
-        from += step;
-    }
-    Ok(())
+    write_each(files, chunks.as_mut_slice(), targets)
 }

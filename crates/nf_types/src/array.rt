@@ -10,7 +10,7 @@ ghost use Rattle.nf_types.specs.Faults.{first, fault_in};
 use crate::chain::size;
 use crate::column::width;
 use crate::fault::{Fault, Stop, TypingKind, refuse_if};
-use crate::name::declared;
+use crate::name::{copied, short};
 use crate::objects::{Objects, is_object};
 use nf_base::decl::ArrayDecl;
 use nf_base::indexed::Indexed;
@@ -74,10 +74,16 @@ pub fn array(alloc: Global, objects: &Objects, tree: &ArrayTree) -> Result<Array
     refuse_if(is_many, TypingKind::Limit, tree.place)?;
     let is_taken = is_object(objects, tree.name.bytes.as_slice());
     refuse_if(is_taken, TypingKind::Twice, tree.name.place)?;
-    let name = declared(alloc, &tree.name)?;
+    short(&tree.name)?;
     let size = size(&tree.size)?.get();
     let width = width(&tree.width)?;
     contents(size, tree.contents.as_slice())?;
-    let cells = cells(alloc, width, size, tree.contents.as_slice())?;
-    Ok(ArrayDecl { name, width, cells })
+    let name = copied(alloc, &tree.name)?;
+    match cells(alloc, width, size, tree.contents.as_slice()) {
+        Ok(cells) => Ok(ArrayDecl { name, width, cells }),
+        Err(_) => {
+            drop(name);
+            Err(Stop::Memory)
+        }
+    }
 }

@@ -1,4 +1,5 @@
-//! The checked block that a block of the text stands for.
+//! The checked block that a block of the text stands for. Questions and creations are dropped by
+//! calls, as values are in `value`.
 
 ghost use Rattle.std.specs.Prelude.{◌≡◌, ◌+◌, ◌<◌, ◌≤◌, ◌^◌, length, IfOk};
 ghost use Rattle.nf_base.specs.View as checked;
@@ -119,8 +120,13 @@ fn statement(
             let inner = bound_by(&*objects, &*scope, &*asked);
             let at = place + question_places(asked);
             let made = question(alloc, place, objects, scope, asked)?;
-            let (hit, miss, at) = two(alloc, at, objects, &inner, scope, hit, miss)?;
-            Ok((Part::Ask(made, hit, miss), at))
+            match two(alloc, at, objects, &inner, scope, hit, miss) {
+                Ok((hit, miss, at)) => Ok((Part::Ask(made, hit, miss), at)),
+                Err(stop) => {
+                    drop(made);
+                    Err(stop)
+                }
+            }
         }
         Block::Make {
             creation: one,
@@ -132,9 +138,20 @@ fn statement(
             let inner = bound(&*objects, &*scope, &one.variable, &one.chain);
             let at = place + creation_places(one);
             let head = creation(alloc, place, objects, scope, one)?;
-            let (made, taken, at) = two(alloc, at, objects, &inner, scope, made, taken)?;
-            let (full, at) = boxed(alloc, at, objects, scope, full)?;
-            Ok((Part::Make(head, made, taken, full), at))
+            let (made, taken, at) = match two(alloc, at, objects, &inner, scope, made, taken) {
+                Ok(both) => both,
+                Err(stop) => {
+                    drop(head);
+                    return Err(stop);
+                }
+            };
+            match boxed(alloc, at, objects, scope, full) {
+                Ok((full, at)) => Ok((Part::Make(head, made, taken, full), at)),
+                Err(stop) => {
+                    drop(head);
+                    Err(stop)
+                }
+            }
         }
     }
 }

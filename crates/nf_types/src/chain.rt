@@ -1,15 +1,15 @@
 //! Chains, part by part.
 
-ghost use Rattle.std.specs.Prelude.{◌≡◌, ◌+◌, ◌≤◌, length, fold, IfOk};
+ghost use Rattle.std.specs.Prelude.{◌≡◌, ◌+◌, ◌≤◌, length, fold, IfOk, OnOk};
 ghost use Rattle.nf_types.specs.Answers.{Finds};
 ghost use Rattle.nf_types.specs.Declarations.{with_part, with_no_parts, chain_of};
 ghost use Rattle.nf_types.specs.DeclarationFaults.{size_faults, part_faults, parts_faults, fixed_with, chain_faults};
 ghost use Rattle.nf_types.specs.Roomy.{IsRoomy};
 ghost use Rattle.nf_base.specs.Limits.{maps_in};
 
-use crate::column::{column, map, with_column};
+use crate::column::{column, map, put_column};
 use crate::fault::{Stop, TypingKind, refuse_if};
-use crate::name::declared;
+use crate::name::{copied, short};
 use crate::objects::{Objects, is_object};
 use nf_base::decl::ChainDecl;
 use nf_base::limited::Limited;
@@ -36,30 +36,30 @@ pub fn size(size: &Literal) -> Result<Size, Stop>
     Ok(Size::new(number as u32))
 }
 
-/// A chain with one part more, behind so many maps of other chains and so many fixed columns of its
-/// own.
+/// One part more, behind so many maps of other chains and so many fixed columns of the chain's own.
 fn part(
     alloc: Global,
     maps: u32,
     fixed: u32,
-    chain: ChainDecl,
+    chain: &mut ChainDecl,
     part: &Part,
-) -> Result<ChainDecl, Stop>
+) -> Result<(), Stop>
     requires maps { maps ≤ 16 }
     requires fixed { fixed ≤ 8 }
-    requires roomy { IsRoomy fixed chain }
-    ensures found { Finds (λ d. d) (part_faults maps fixed chain part.now)
-        (with_part chain part.now) result }
-    ensures maps { maps + length chain.maps ≤ 16 → IfOk result (λ d. maps + length d.maps ≤ 16) }
-    ensures fixed { IfOk result (λ d. fixed_with fixed part.now ≤ 8) }
-    ensures roomy { IfOk result (λ d. IsRoomy (fixed_with fixed part.now) d) }
+    requires roomy { IsRoomy fixed chain.old }
+    ensures found { Finds (λ _. chain.new) (part_faults maps fixed chain.old part.now)
+        (with_part chain.old part.now) result }
+    ensures maps { maps + length chain.old.maps ≤ 16
+        → OnOk result (maps + length chain.new.maps ≤ 16) }
+    ensures fixed { OnOk result (fixed_with fixed part.now ≤ 8) }
+    ensures roomy { OnOk result (IsRoomy (fixed_with fixed part.now) chain.new) }
 {
     match part {
         Part::Map(tree) => map(alloc, maps, fixed, chain, tree),
         Part::Column(tree) => {
-            let one = column(alloc, fixed, &chain, tree)?;
-            let made = with_column(fixed, chain, tree.kind, one)?;
-            Ok(made)
+            let one = column(alloc, fixed, &*chain, tree)?;
+            put_column(fixed, chain, tree.kind, one)?;
+            Ok(())
         }
     }
 }
@@ -78,21 +78,21 @@ fn fixed_with(fixed: u32, part: &Part) -> u32
     }
 }
 
-/// A chain with its parts, behind so many maps of other chains.
+/// The parts of a chain, behind so many maps of other chains.
 #[tactic(auto, using(crate::proofs::First::first_append))]
-fn parts(alloc: Global, maps: u32, mut chain: ChainDecl, parts: &[Part]) -> Result<ChainDecl, Stop>
-    requires maps { maps + length chain.maps ≤ 16 }
-    requires roomy { IsRoomy 0 chain }
-    ensures found { Finds (λ d. d) (parts_faults maps 0 chain parts.now)
-        (fold with_part chain parts.now) result }
-    ensures maps { IfOk result (λ d. maps + length d.maps ≤ 16) }
+fn parts(alloc: Global, maps: u32, chain: &mut ChainDecl, parts: &[Part]) -> Result<(), Stop>
+    requires maps { maps + length chain.old.maps ≤ 16 }
+    requires roomy { IsRoomy 0 chain.old }
+    ensures found { Finds (λ _. chain.new) (parts_faults maps 0 chain.old parts.now)
+        (fold with_part chain.old parts.now) result }
+    ensures maps { OnOk result (maps + length chain.new.maps ≤ 16) }
 {
     let mut fixed = 0;
     for one in parts {
-        chain = part(alloc, maps, fixed, chain, one)?;
+        part(alloc, maps, fixed, chain, one)?;
         fixed = fixed_with(fixed, one);
     }
-    Ok(chain)
+    Ok(())
 }
 
 /// How many maps some chains have together.
@@ -119,10 +119,11 @@ pub fn chain(alloc: Global, objects: &Objects, tree: &ChainTree) -> Result<Chain
     refuse_if(is_many, TypingKind::Limit, tree.place)?;
     let is_taken = is_object(objects, tree.name.bytes.as_slice());
     refuse_if(is_taken, TypingKind::Twice, tree.name.place)?;
-    let name = declared(alloc, &tree.name)?;
+    short(&tree.name)?;
     let size = size(&tree.size)?;
-    let opening = ChainDecl {
-        name,
+    let maps = maps_in(objects.chains.as_slice());
+    let mut chain = ChainDecl {
+        name: copied(alloc, &tree.name)?,
         size,
         lifetime: tree.lifetime.value,
         labels: Limited::new(alloc),
@@ -130,10 +131,11 @@ pub fn chain(alloc: Global, objects: &Objects, tree: &ChainTree) -> Result<Chain
         order: Limited::new(alloc),
         columns: Limited::new(alloc),
     };
-    parts(
-        alloc,
-        maps_in(objects.chains.as_slice()),
-        opening,
-        tree.parts.as_slice(),
-    )
+    match parts(alloc, maps, &mut chain, tree.parts.as_slice()) {
+        Ok(()) => Ok(chain),
+        Err(stop) => {
+            drop(chain);
+            Err(stop)
+        }
+    }
 }

@@ -1,15 +1,16 @@
 //! The labels, maps and columns of a chain.
 
-ghost use Rattle.std.specs.Prelude.{◌≡◌, ◌+◌, ◌<◌, ◌≤◌, [], ◌∷◌, ◌++◌, length, map, fold, IfOk};
+ghost use Rattle.std.specs.Prelude.{◌≡◌, ◌+◌, ◌<◌, ◌≤◌, [], ◌∷◌, ◌++◌, length, map, fold, IfOk, OnOk};
 ghost use Rattle.nf_tree.specs.declared.tree.ColumnKind.TheVariants as kinds;
 ghost use Rattle.nf_tree.specs.declared.tree.Part.TheVariants as parts;
 ghost use Rattle.nf_types.specs.Answers.{Finds};
 ghost use Rattle.nf_types.specs.Declarations.{width_of, column_of, with_label, with_label_of, with_map, with_column, with_part};
 ghost use Rattle.nf_types.specs.DeclarationFaults.{width_faults, names_column, names_map, label_faults, labels_faults, map_name_faults, map_faults, columns_before, one_if_fixed, column_faults};
+ghost use Rattle.nf_types.specs.Faults.{first, fault_in};
 ghost use Rattle.nf_types.specs.Roomy.{IsRoomy};
 
 use crate::fault::{Fault, Stop, TypingKind, refuse_if};
-use crate::name::{declared, is_among};
+use crate::name::{copied, is_among, short};
 use nf_base::decl::{ChainDecl, ColumnDecl, ColumnId, MapDecl, Name};
 use nf_base::width::Width;
 use nf_tree::{ColumnKind, ColumnTree, Label, Literal, MapTree};
@@ -59,53 +60,52 @@ fn label(alloc: Global, chain: &ChainDecl, number: usize, label: &Label) -> Resu
     let is_taken = names_column(chain, label.name.bytes.as_slice());
     refuse_if(is_taken, TypingKind::Twice, place)?;
     refuse_if(number >= MOST_PARTS, TypingKind::Limit, place)?;
-    let name = declared(alloc, &label.name)?;
+    short(&label.name)?;
     let width = width(&label.width)?;
+    let name = copied(alloc, &label.name)?;
     Ok(ColumnDecl { name, width })
 }
 
-/// A chain with one label more.
-fn with_label(mut chain: ChainDecl, label: ColumnDecl) -> Result<ChainDecl, AllocError>
-    requires labels { length chain.labels < 136 }
-    requires order { length chain.order < 144 }
-    ensures { IfOk result (λ d. d ≡ with_label chain label) }
+/// One label more. A chain for which memory runs out is given up by who holds it, here and below.
+fn put_label(chain: &mut ChainDecl, label: ColumnDecl) -> Result<(), AllocError>
+    requires labels { length chain.old.labels < 136 }
+    requires order { length chain.old.order < 144 }
+    ensures { OnOk result (chain.new ≡ with_label chain.old label) }
 {
-    chain.order.push(ColumnId::Label(chain.labels.len()))?;
+    let number = chain.labels.len();
     chain.labels.push(label)?;
-    Ok(chain)
+    chain.order.push(ColumnId::Label(number))?;
+    Ok(())
 }
 
-/// A chain with the labels of a map.
-fn labels(alloc: Global, mut chain: ChainDecl, labels: &[Label]) -> Result<ChainDecl, Stop>
-    requires labels { length chain.labels ≤ 128 }
-    requires order { length chain.order ≤ 136 }
-    ensures found { Finds (λ d. d) (labels_faults chain 0 labels.now)
-        (fold with_label_of chain labels.now) result }
-    ensures few { IfOk result (λ d. length labels.now ≤ 8) }
-    ensures labels { IfOk result (λ d. length d.labels ≡ length chain.labels + length labels.now) }
-    ensures order { IfOk result (λ d. length d.order ≡ length chain.order + length labels.now) }
-    ensures columns { IfOk result (λ d. d.columns ≡ chain.columns) }
-    ensures maps { IfOk result (λ d. d.maps ≡ chain.maps) }
+/// The labels of a map.
+fn labels(alloc: Global, chain: &mut ChainDecl, labels: &[Label]) -> Result<(), Stop>
+    requires labels { length chain.old.labels ≤ 128 }
+    requires order { length chain.old.order ≤ 136 }
+    ensures found { Finds (λ _. chain.new) (labels_faults chain.old 0 labels.now)
+        (fold with_label_of chain.old labels.now) result }
+    ensures few { OnOk result (length labels.now ≤ 8) }
+    ensures labels { OnOk result (length chain.new.labels
+        ≡ length chain.old.labels + length labels.now) }
+    ensures order { OnOk result (length chain.new.order
+        ≡ length chain.old.order + length labels.now) }
+    ensures columns { OnOk result (chain.new.columns ≡ chain.old.columns) }
+    ensures maps { OnOk result (chain.new.maps ≡ chain.old.maps) }
 {
     for (i, one) in labels.iter().enumerate() {
-        let column = label(alloc, &chain, i, one)?;
-        chain = with_label(chain, column)?;
+        let column = label(alloc, &*chain, i, one)?;
+        put_label(chain, column)?;
     }
-    Ok(chain)
+    Ok(())
 }
 
-/// A chain with one map more, whose key is so many labels from a first one on.
-fn with_map(
-    mut chain: ChainDecl,
-    name: Name,
-    first: u32,
-    parts: u32,
-) -> Result<ChainDecl, AllocError>
-    requires maps { length chain.maps < 16 }
-    ensures { IfOk result (λ d. d ≡ with_map chain name first parts) }
+/// One map more, whose key is so many labels from a first one on.
+fn put_map(chain: &mut ChainDecl, name: Name, first: u32, parts: u32) -> Result<(), AllocError>
+    requires maps { length chain.old.maps < 16 }
+    ensures { OnOk result (chain.new ≡ with_map chain.old name first parts) }
 {
     chain.maps.push(MapDecl { name, first, parts })?;
-    Ok(chain)
+    Ok(())
 }
 
 fn names_map(chain: &ChainDecl, name: &[u8]) -> bool
@@ -114,76 +114,75 @@ fn names_map(chain: &ChainDecl, name: &[u8]) -> bool
     is_among(name, chain.maps.as_slice())
 }
 
-/// The name of a map, behind so many maps of other chains.
+/// The first fault of a map's name, behind so many maps of other chains.
 #[tactic(auto, using(crate::proofs::First::first_append), unfolding(crate::specs::DeclarationFaults::map_name_faults))]
-fn map_name(alloc: Global, maps: u32, chain: &ChainDecl, tree: &MapTree) -> Result<Name, Stop>
+fn map_name(maps: u32, chain: &ChainDecl, tree: &MapTree) -> Result<(), Fault>
     requires maps { maps ≤ 16 }
-    ensures found { Finds (λ x. x) (map_name_faults maps chain.now tree.now) tree.now.name.bytes
-        result }
-    ensures few { IfOk result (λ x. maps + length chain.now.maps ≤ 15) }
+    ensures fault { first (map_name_faults maps chain.now tree.now) ≡ fault_in result }
+    ensures few { OnOk result (maps + length chain.now.maps ≤ 15) }
+    ensures short { OnOk result (length tree.now.name.bytes ≤ 32) }
 {
     let is_many = maps + chain.maps.len() >= MOST_MAPS;
     refuse_if(is_many, TypingKind::Limit, tree.place)?;
     let is_taken = names_map(chain, tree.name.bytes.as_slice());
     refuse_if(is_taken, TypingKind::Twice, tree.name.place)?;
-    declared(alloc, &tree.name)
+    short(&tree.name)
 }
 
-/// A chain with one map more, behind so many maps of other chains.
+/// One map more, behind so many maps of other chains.
 #[tactic(auto, using(crate::proofs::First::first_append), unfolding(crate::specs::DeclarationFaults::map_faults))]
 pub fn map(
     alloc: Global,
     maps: u32,
     fixed: u32,
-    chain: ChainDecl,
+    chain: &mut ChainDecl,
     tree: &MapTree,
-) -> Result<ChainDecl, Stop>
+) -> Result<(), Stop>
     requires maps { maps ≤ 16 }
     requires fixed { fixed ≤ 8 }
-    requires columns { length chain.columns ≤ 8 }
-    requires roomy { IsRoomy fixed chain }
-    ensures found { Finds (λ d. d) (map_faults maps chain tree.now)
-        (with_part chain (parts.Map tree.now)) result }
-    ensures few { IfOk result (λ d. maps + length d.maps ≤ 16) }
-    ensures roomy { IfOk result (λ d. IsRoomy fixed d) }
+    requires roomy { IsRoomy fixed chain.old }
+    ensures found { Finds (λ _. chain.new) (map_faults maps chain.old tree.now)
+        (with_part chain.old (parts.Map tree.now)) result }
+    ensures few { OnOk result (maps + length chain.new.maps ≤ 16) }
+    ensures roomy { OnOk result (IsRoomy fixed chain.new) }
 {
-    let name = map_name(alloc, maps, &chain, tree)?;
+    map_name(maps, &*chain, tree)?;
     let first = chain.labels.len();
-    let chain = labels(alloc, chain, tree.labels.as_slice())?;
+    labels(alloc, chain, tree.labels.as_slice())?;
     let parts = tree.labels.len() as u32;
-    let made = with_map(chain, name, first, parts)?;
-    Ok(made)
+    let name = copied(alloc, &tree.name)?;
+    put_map(chain, name, first, parts)?;
+    Ok(())
 }
 
-/// A chain with one free column more.
-fn with_free(mut chain: ChainDecl, column: ColumnDecl) -> Result<ChainDecl, AllocError>
-    requires columns { length chain.columns < 8 }
-    requires order { length chain.order < 144 }
-    ensures { IfOk result (λ d. d ≡ with_column kinds.Free chain column) }
+/// One free column more.
+fn put_free(chain: &mut ChainDecl, column: ColumnDecl) -> Result<(), AllocError>
+    requires columns { length chain.old.columns < 8 }
+    requires order { length chain.old.order < 144 }
+    ensures { OnOk result (chain.new ≡ with_column kinds.Free chain.old column) }
 {
-    chain.order.push(ColumnId::Column(chain.columns.len()))?;
+    let number = chain.columns.len();
     chain.columns.push(column)?;
-    Ok(chain)
+    chain.order.push(ColumnId::Column(number))?;
+    Ok(())
 }
 
-/// A chain of so many fixed columns with one column more.
-pub fn with_column(
+/// One column more, behind so many fixed ones.
+pub fn put_column(
     fixed: u32,
-    chain: ChainDecl,
+    chain: &mut ChainDecl,
     kind: ColumnKind,
     column: ColumnDecl,
-) -> Result<ChainDecl, AllocError>
-    requires few { columns_before kind fixed chain ≤ 7 }
+) -> Result<(), AllocError>
+    requires few { columns_before kind fixed chain.old ≤ 7 }
     requires fixed { fixed ≤ 8 }
-    requires roomy { IsRoomy fixed chain }
-    requires maps { length chain.maps ≤ 16 }
-    requires columns { length chain.columns ≤ 8 }
-    ensures found { IfOk result (λ d. d ≡ with_column kind chain column) }
-    ensures roomy { IfOk result (λ d. IsRoomy (fixed + one_if_fixed kind) d) }
+    requires roomy { IsRoomy fixed chain.old }
+    ensures found { OnOk result (chain.new ≡ with_column kind chain.old column) }
+    ensures roomy { OnOk result (IsRoomy (fixed + one_if_fixed kind) chain.new) }
 {
     match kind {
-        ColumnKind::Fixed => with_label(chain, column),
-        ColumnKind::Free => with_free(chain, column),
+        ColumnKind::Fixed => put_label(chain, column),
+        ColumnKind::Free => put_free(chain, column),
     }
 }
 
@@ -213,7 +212,8 @@ pub fn column(
     refuse_if(before >= MOST_COLUMNS, TypingKind::Limit, tree.place)?;
     let is_taken = names_column(chain, tree.name.bytes.as_slice());
     refuse_if(is_taken, TypingKind::Twice, tree.name.place)?;
-    let name = declared(alloc, &tree.name)?;
+    short(&tree.name)?;
     let width = width(&tree.width)?;
+    let name = copied(alloc, &tree.name)?;
     Ok(ColumnDecl { name, width })
 }

@@ -1,15 +1,15 @@
 //! Names, and look-ups by name.
 
-ghost use Rattle.std.specs.Prelude.{◌≡◌, ◌≤◌, length, map};
+ghost use Rattle.std.specs.Prelude.{◌≡◌, ◌≤◌, length, map, IfOk};
 ghost use Rattle.std.specs.Option.{option_map};
 ghost use Rattle.nf_types.specs.Names.{is_among, named};
-ghost use Rattle.nf_types.specs.Faults.{length_faults};
+ghost use Rattle.nf_types.specs.Faults.{length_faults, first, fault_in};
 ghost use Rattle.nf_types.specs.Answers.{Finds};
 
-use crate::fault::{Stop, TypingKind, refuse_if};
+use crate::fault::{Fault, Stop, TypingKind, refuse_if};
 use nf_base::decl::{ArrayDecl, ChainDecl, ColumnDecl, MapDecl, Name as Declared};
 use nf_tree::{Label, Name};
-use std::alloc::Global;
+use std::alloc::{AllocError, Global};
 
 /// The longest name, in bytes.
 const LONGEST: usize = 32;
@@ -64,13 +64,31 @@ impl Named for ArrayDecl {
     }
 }
 
-/// A name that is declared, of at most 32 bytes.
+/// A name that is declared has at most 32 bytes.
+pub fn short(name: &Name) -> Result<(), Fault>
+    ensures fault { first (length_faults name.now) ≡ fault_in result }
+    ensures short { IfOk result (λ _. length name.now.bytes ≤ 32) }
+{
+    refuse_if(name.bytes.len() > LONGEST, TypingKind::Limit, name.place)
+}
+
+/// A short name, for a declaration. What else may be wrong with that is looked at before, while there
+/// is nothing to be dropped.
+pub fn copied(alloc: Global, name: &Name) -> Result<Declared, AllocError>
+    requires { length name.now.bytes ≤ 32 }
+    ensures { IfOk result (λ x. x ≡ name.now.bytes) }
+{
+    let bytes = name.bytes.as_slice().to_vec(alloc)?;
+    Ok(Declared::from_vec(bytes))
+}
+
+/// A name that is declared.
 pub fn declared(alloc: Global, name: &Name) -> Result<Declared, Stop>
     ensures { Finds (λ x. x) (length_faults name.now) name.now.bytes result }
 {
-    refuse_if(name.bytes.len() > LONGEST, TypingKind::Limit, name.place)?;
-    let bytes = name.bytes.as_slice().to_vec(alloc)?;
-    Ok(Declared::from_vec(bytes))
+    short(name)?;
+    let name = copied(alloc, name)?;
+    Ok(name)
 }
 
 pub fn is_among<T: Named>(name: &[u8], items: &[T]) -> bool

@@ -1,4 +1,4 @@
-//! Statements with no block of their own.
+//! Statements with no block of their own. Values are dropped by calls, as in `value`.
 
 ghost use Rattle.std.specs.Prelude.{◌≡◌, ◌+◌, ◌<◌, ◌^◌, length, IfOk};
 ghost use Rattle.std.specs.Option.{option_map};
@@ -93,13 +93,18 @@ fn store(
     };
     let behind = place + 1 + cells(index);
     let at = value(alloc, place + 1, objects, scope, index)?;
-    let given = given_to(alloc, behind, objects, scope, width, given)?;
-    Ok(Checked::Store {
-        place,
-        array,
-        at,
-        given,
-    })
+    match given_to(alloc, behind, objects, scope, width, given) {
+        Ok(given) => Ok(Checked::Store {
+            place,
+            array,
+            at,
+            given,
+        }),
+        Err(stop) => {
+            drop(at);
+            Err(stop)
+        }
+    }
 }
 
 /// The checked statement that a statement of the text stands for.

@@ -1,4 +1,5 @@
-//! Finished statements of a checked block.
+//! Finished statements of a checked block. What a statement holds is dropped by calls, as values are
+//! in `value`.
 
 ghost use Rattle.std.specs.Prelude.{◌≡◌, IfOk};
 ghost use Rattle.nf_base.specs.Text as text;
@@ -17,29 +18,52 @@ pub enum Part {
     Make(Creation, Box<Block>, Box<Block>, Box<Block>),
 }
 
+/// A block in a box.
+fn boxed(alloc: Global, block: Block) -> Result<Box<Block>, AllocError>
+    ensures { IfOk result (λ b. b.value ≡ block) }
+{
+    let made = Box::new(alloc, block)?;
+    Ok(made)
+}
+
 /// A statement in front of a block; nothing stands behind an end.
 fn in_front(alloc: Global, part: Part, next: Block) -> Result<Block, AllocError>
     ensures { IfOk result (λ b. block_of b ≡ in_front part (block_of next)) }
 {
     match part {
         Part::End(ending) => Ok(Block::End(ending)),
-        Part::Do(operation) => Ok(Block::Do {
-            operation,
-            next: Box::new(alloc, next)?,
-        }),
-        Part::Ask(question, hit, miss) => Ok(Block::Ask {
-            question,
-            hit,
-            miss,
-            next: Box::new(alloc, next)?,
-        }),
-        Part::Make(creation, made, taken, full) => Ok(Block::Make {
-            creation,
-            made,
-            taken,
-            full,
-            next: Box::new(alloc, next)?,
-        }),
+        Part::Do(operation) => match boxed(alloc, next) {
+            Ok(next) => Ok(Block::Do { operation, next }),
+            Err(stop) => {
+                drop(operation);
+                Err(stop)
+            }
+        },
+        Part::Ask(question, hit, miss) => match boxed(alloc, next) {
+            Ok(next) => Ok(Block::Ask {
+                question,
+                hit,
+                miss,
+                next,
+            }),
+            Err(stop) => {
+                drop(question);
+                Err(stop)
+            }
+        },
+        Part::Make(creation, made, taken, full) => match boxed(alloc, next) {
+            Ok(next) => Ok(Block::Make {
+                creation,
+                made,
+                taken,
+                full,
+                next,
+            }),
+            Err(stop) => {
+                drop(creation);
+                Err(stop)
+            }
+        },
     }
 }
 

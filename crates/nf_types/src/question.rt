@@ -1,7 +1,9 @@
-//! Statements with two blocks, without the blocks: where they look, and for what.
+//! Statements with two blocks, without the blocks: where they look, and for what. Values are dropped
+//! by calls, as in `value`.
 
 ghost use Rattle.std.specs.Prelude.{◌≡◌, ◌+◌, ◌<◌, ◌^◌, length, map, IfOk};
 ghost use Rattle.nf_base.specs.View as checked;
+ghost use Rattle.nf_tree.specs.Tree.{Test};
 ghost use Rattle.nf_tree.specs.View as syntax;
 ghost use Rattle.nf_types.specs.Blocks.{checked_get_in, checked_get, checked_find, checked_question};
 ghost use Rattle.nf_types.specs.Expressions.{cells};
@@ -16,7 +18,7 @@ use crate::value::{given_to, value};
 use crate::variables::{Variables, count};
 use nf_base::block::Question as Checked;
 use nf_base::decl::{ChainDecl, ColumnDecl, MapDecl};
-use nf_base::expr::{Given, Guard};
+use nf_base::expr::{Comparison, Given, Guard};
 use nf_base::seq::Seq;
 use nf_base::width::Width;
 use nf_tree::{Expr as Value, Given as Assigned, Guards, Name, Question};
@@ -209,10 +211,13 @@ fn find(
     let (chain, guards) = match chain_named(objects, chain) {
         Some((number, found)) => {
             let labels = found.labels.as_slice();
-            (
-                number,
-                guards(alloc, behind, objects, scope, labels, wanted)?,
-            )
+            match guards(alloc, behind, objects, scope, labels, wanted) {
+                Ok(guards) => (number, guards),
+                Err(stop) => {
+                    drop(at);
+                    return Err(stop);
+                }
+            }
         }
         None => (0, Seq::new(alloc)),
     };
@@ -223,6 +228,40 @@ fn find(
         guards,
         var: count(scope),
     })
+}
+
+/// A test of two values.
+fn test(
+    alloc: Global,
+    place: u32,
+    objects: &Objects,
+    scope: &Variables,
+    left: &Value,
+    comparison: Comparison,
+    right: &Value,
+) -> Result<Checked, AllocError>
+    requires places { place + 1 + cells (syntax.expression_of left.now) + cells
+        (syntax.expression_of right.now)
+        < 2 ^ 32 }
+    requires in_scope { length (variables_of scope.now) < 2 ^ 32 }
+    ensures { IfOk result (λ q. checked.question_of q
+        ≡ checked_question place objects.now (variables_of scope.now)
+        (Test (syntax.expression_of left.now) comparison (syntax.expression_of right.now))) }
+{
+    let behind = place + 1 + cells(left);
+    let left = value(alloc, place + 1, objects, scope, left)?;
+    match value(alloc, behind, objects, scope, right) {
+        Ok(right) => Ok(Checked::Test {
+            place,
+            comparison,
+            left,
+            right,
+        }),
+        Err(stop) => {
+            drop(left);
+            Err(stop)
+        }
+    }
 }
 
 /// The checked question that a question of the text stands for.
@@ -256,11 +295,6 @@ pub fn question(
             left,
             comparison,
             right,
-        } => Ok(Checked::Test {
-            place,
-            comparison: *comparison,
-            left: value(alloc, place + 1, objects, scope, left)?,
-            right: value(alloc, place + 1 + cells(left), objects, scope, right)?,
-        }),
+        } => test(alloc, place, objects, scope, left, *comparison, right),
     }
 }

@@ -1,4 +1,7 @@
 //! Values of a handler's text: what they stand for.
+//!
+//! Where memory runs out while a value is held, a call of `drop` takes the value: a `?` there would
+//! have the proof go through each shape that it may have, at each such place anew.
 
 ghost use Rattle.std.specs.Prelude.{◌≡◌, ◌+◌, ◌<◌, ◌^◌, length, IfOk};
 ghost use Rattle.nf_base.specs.Text as text;
@@ -83,15 +86,26 @@ fn array_number(objects: &Objects, name: &Name) -> u32
     }
 }
 
+/// Two values in boxes.
+fn two(alloc: Global, left: Expr, right: Expr) -> Result<(Box<Expr>, Box<Expr>), AllocError>
+    ensures left { IfOk result (λ x. x.0.value ≡ left) }
+    ensures right { IfOk result (λ x. x.1.value ≡ right) }
+{
+    let left = Box::new(alloc, left)?;
+    let right = Box::new(alloc, right)?;
+    Ok((left, right))
+}
+
 fn both(alloc: Global, operator: Operator, left: Expr, right: Expr) -> Result<Expr, AllocError>
     ensures { IfOk result
         (λ e. checked.expression_of e ≡ text.Both operator (checked.expression_of left)
         (checked.expression_of right)) }
 {
+    let (left, right) = two(alloc, left, right)?;
     Ok(Expr::Both {
         operator,
-        left: Box::new(alloc, left)?,
-        right: Box::new(alloc, right)?,
+        left,
+        right,
     })
 }
 
@@ -133,8 +147,13 @@ pub fn value(
             right,
         } => {
             let first = self::value(alloc, place, objects, scope, left)?;
-            let second = self::value(alloc, place + cells(left), objects, scope, right)?;
-            both(alloc, sum_operator(*operator), first, second)
+            match self::value(alloc, place + cells(left), objects, scope, right) {
+                Ok(second) => both(alloc, sum_operator(*operator), first, second),
+                Err(stop) => {
+                    drop(first);
+                    Err(stop)
+                }
+            }
         }
         Value::Product {
             operator,
@@ -142,8 +161,13 @@ pub fn value(
             right,
         } => {
             let first = self::value(alloc, place, objects, scope, left)?;
-            let second = self::value(alloc, place + cells(left), objects, scope, right)?;
-            both(alloc, product_operator(*operator), first, second)
+            match self::value(alloc, place + cells(left), objects, scope, right) {
+                Ok(second) => both(alloc, product_operator(*operator), first, second),
+                Err(stop) => {
+                    drop(first);
+                    Err(stop)
+                }
+            }
         }
     }
 }

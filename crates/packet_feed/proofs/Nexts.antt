@@ -1,5 +1,5 @@
 -- The next packet of captures, the end, and more packets than were asked for.
-use Rattle.std.proofs.Common.{◌≡◌, ◌≢◌, inl, inr, ℕ, zero, suc, ◌+◌, ◌≤◌, ◌<◌, Bool, List, [], ◌∷◌, ◌++◌, length, set, Option, Some, None, refl, sym, ap, ◌∙◌, subst, append-nil, arith}
+use Rattle.std.proofs.Common.{◌≡◌, ◌≢◌, inl, inr, ℕ, zero, suc, ◌+◌, ◌-◌, ◌≤◌, ◌<◌, Bool, List, [], ◌∷◌, ◌++◌, length, set, Option, Some, None, refl, sym, ap, ◌∙◌, subst, append-nil, arith}
 use Rattle.std.specs.List.{All, slice_get}
 use Rattle.std.specs.Option.{option_map}
 use Rattle.std.proofs.lemmas.Bool.Decides.{eqb_tells}
@@ -10,6 +10,7 @@ use Rattle.std.proofs.lemmas.Option.{slice_get-get_or, slice_get-map, slice_get_
 use Rattle.nf_base.specs.declared.packet.Packet.{Packet}
 use Rattle.nf_base.specs.Doors.{served_fields}
 use Rattle.nf_files.specs.Told.{Told}
+use Rattle.pcap_file.specs.Record.{greatest_time}
 use Rattle.nf_files.proofs.Changed.{got_other}
 use Rattle.pcapng_file.specs.Heard.{Stream as Contents}
 use Rattle.packet_feed.specs.declared.ahead.Ahead.{Ahead}
@@ -18,17 +19,17 @@ use Rattle.packet_feed.specs.declared.first.First.{First}
 use Rattle.packet_feed.specs.Arrivals.{Arrival, arrival_of, fields_captured}
 use Rattle.packet_feed.specs.Order.{in_order}
 use Rattle.packet_feed.specs.Told.{packets_of, IsTear, IsApart}
-use Rattle.packet_feed.specs.Streams.{Stream, last_read, tear_in, time_in, IsSettled, unread}
+use Rattle.packet_feed.specs.Streams.{Stream, last_given, last_read, tear_in, time_in, IsSettled, unread}
 use Rattle.packet_feed.specs.Sources.{files_in, sixes_in, counts_in, all_left, Follows, SourcesStand, AreSettled, AreSettledBut, IsFirst, IsGiven, given_away}
-use Rattle.packet_feed.specs.Feeding.{IsFeeding, StandsFor, HasMore, AreAll, AreTorn, IsShown, shown, frame_in, original_in, is_ethernet_in}
+use Rattle.packet_feed.specs.Feeding.{IsFeeding, last_at, StandsFor, HasMore, AreAll, AreTorn, IsShown, shown, frame_in, original_in, is_ethernet_in}
 use Rattle.packet_feed.proofs.Ordering.{IsBehind, is_ordered}
 use Rattle.packet_feed.proofs.Gathering.{Picks, map_kept}
-use Rattle.packet_feed.proofs.Streaming.{came_in}
+use Rattle.packet_feed.proofs.Streaming.{came_at, came_in}
 use Rattle.packet_feed.proofs.Standing.{given_stands, first_picked, all_given, at_file, same_length, none_left_at, six_is}
 
 -- ---- a packet
 
-came_from : (six : Bool) (port seq time : ℕ) (is_ethernet : Bool) (original : ℕ) (frame : List ℕ) → (arrival_of six port seq time is_ethernet original frame).packet.fields ≡ served_fields six (fields_captured is_ethernet frame original)
+pub came_from : (six : Bool) (port seq time : ℕ) (is_ethernet : Bool) (original : ℕ) (frame : List ℕ) → (arrival_of six port seq time is_ethernet original frame).packet.fields ≡ served_fields six (fields_captured is_ethernet frame original)
 unfolding arrival_of
 came_from six port seq time is_ethernet original frame = refl
 
@@ -38,6 +39,26 @@ arrival_is packet six port seq time is_ethernet original frame e = ap (λ (p : P
 
 got_same : (sources : List Stream) (k : ℕ) (s : Stream) → k < length sources → slice_get (set sources k s) k ≡ Some s
 got_same sources k s lt = slice_get-get_or (set sources k s) k s (omega (arith, length-set sources k s)) ∙ ap (λ (x : Stream). Some x) (get_or-set_same sources k s s lt)
+
+-- the packet that was given last is the one that was read
+pub last_was_read : (k : ℕ) (s : Stream) → last_given k (given_away s) ≡ (last_read k s).packet
+last_was_read k s =
+    let seq : s.seq + 1 - 1 ≡ s.seq = omega arith in
+    ap (λ (n : ℕ). (arrival_of s.six k n s.latest s.is_ethernet s.original s.frame).packet) seq
+
+-- the packet that was read ahead was given, and is the one that is told of as the last
+pub passed : (k : ℕ) (s : Stream) (sources new : List Stream) → slice_get sources k ≡ Some s → new ≡ set sources k (given_away s) → s.latest ≤ greatest_time → length s.frame ≤ 262144 → IsGiven k (last_at k (slice_get new k)) sources new
+passed k s sources new at is time captured =
+    let here : slice_get new k ≡ Some (given_away s) = ap (λ (xs : List Stream). slice_get xs k) is ∙ got_same sources k (given_away s) (slice_get_within sources k s at) in
+    let packet : last_at k (slice_get new k) ≡ (last_read k s).packet = ap (last_at k) here ∙ last_was_read k s in
+    record {
+      source = s;
+      at = at;
+      packet_is = packet;
+      new_is = is;
+      time = omega (arith, ap (λ (p : Packet). p.time) packet, came_at s.six k s.seq s.latest s.is_ethernet s.original s.frame, time);
+      captured = captured;
+    }
 
 -- what is shown of the packet that was given
 record IsSeen (k : ℕ) (packet : Packet) (s : Stream) (new : List Stream) : Type 0 where

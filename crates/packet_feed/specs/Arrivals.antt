@@ -3,7 +3,7 @@ use Rattle.std.specs.Prelude.{ℕ, ◌+◌, max, Bool, List, [], ◌∷◌, if�
 use Rattle.nf_base.specs.declared.packet.Fields.{Fields}
 use Rattle.nf_base.specs.declared.packet.Packet.{Packet}
 use Rattle.nf_base.specs.Doors.{served_fields}
-use Rattle.frame_ip.specs.Frame.{fields_in}
+use Rattle.frame_ip.specs.Frame.{Seen, fields_at, fields_in}
 use Rattle.pcapng_file.specs.Heard.{Heard, Stream as Contents}
 
 -- a packet that came in, how many bytes its frame had, and those of them that were captured
@@ -18,6 +18,10 @@ packet_of arrival = arrival.packet
 -- the fields of captured bytes: none where these are no Ethernet frame
 abbrev pub fields_captured : Bool → List ℕ → ℕ → Option Fields
 fields_captured is_ethernet frame original = if is_ethernet then fields_in frame original else None
+
+-- the fields of a handled frame as it is seen
+abbrev pub fields_seen : Seen → Fields
+fields_seen seen = fields_at seen.frame seen.original
 
 -- the packet of captured bytes that came in at a port, which has a handler for IPv6 or has none: its
 -- number there, its time, and the fields of the frame, which are none where it is skipped, where it is

@@ -7,12 +7,14 @@ use Rattle.nf_files.specs.Told.{Told}
 use Rattle.pcap_file.specs.Record.{greatest_time}
 use Rattle.packet_feed.specs.declared.fed.Fed.{Fed}
 use Rattle.packet_feed.specs.declared.fed.Fed.TheVariants as next
+use Rattle.packet_feed.specs.declared.moved.Moved.{Moved}
+use Rattle.packet_feed.specs.declared.moved.Moved.TheVariants as moved
 use Rattle.packet_feed.specs.declared.fault.FeedFault.{FeedFault}
 use Rattle.packet_feed.specs.declared.fault.FeedFault.TheVariants.{NotCapture, File, Memory}
 use Rattle.packet_feed.specs.Arrivals.{Arrival, fields_captured}
 use Rattle.packet_feed.specs.Order.{in_order}
 use Rattle.packet_feed.specs.Told.{IsTear, IsApart, packets_of}
-use Rattle.packet_feed.specs.Streams.{Stream, tear_in}
+use Rattle.packet_feed.specs.Streams.{Stream, last_given, tear_in}
 use Rattle.packet_feed.specs.Sources.{files_in, sixes_in, counts_in, SourcesStand, AreFrom, AreLesserCaptures, IsLeastBad}
 
 -- The captures, the port of the packet that was given last, how many were given, and how many are
@@ -56,6 +58,26 @@ is_ethernet_in (Some s) = s.is_ethernet
 -- whether the packet that was given last is one
 abbrev pub is_ethernet_of : Feeding → Bool
 is_ethernet_of v = is_ethernet_in (slice_get v.sources v.shown)
+
+-- the packet that a port's capture gave last; where the port has none, one that stands for no packet
+abbrev pub last_at : ℕ → Option Stream → Packet
+last_at port None = record { id = record { port = 0; seq = 0 }; time = 0; fields = None }
+last_at port (Some s) = last_given port s
+
+-- the packet that was given last
+abbrev pub last_packet : Feeding → Packet
+last_packet v = last_at v.shown (slice_get v.sources v.shown)
+
+-- what comes next, where the packet is the one that was given last
+abbrev pub fed_by : Feeding → Moved → Fed
+fed_by v moved.Packet = next.Packet (last_packet v)
+fed_by v moved.End = next.End
+fed_by v moved.TooMany = next.TooMany
+
+-- the same of an answer
+abbrev pub fed : Feeding → Result Moved FeedFault → Result Fed FeedFault
+fed v (Ok to) = Ok (fed_by v to)
+fed v (Err fault) = Err fault
 
 -- a packet with what is shown beside it
 abbrev pub shown : Packet → Feeding → Arrival

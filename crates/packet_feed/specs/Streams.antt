@@ -1,5 +1,6 @@
 -- A capture that is read as a stream: what was given of it, what was read ahead, and what is left.
-use Rattle.std.specs.Prelude.{ℕ, ◌+◌, ◌≤◌, max, Bool, true, false, List, [], ◌∷◌, Option, Some, None, option_map}
+use Rattle.std.specs.Prelude.{ℕ, ◌+◌, ◌-◌, ◌≤◌, max, Bool, true, false, List, [], ◌∷◌, Option, Some, None, option_map}
+use Rattle.nf_base.specs.declared.packet.Packet.{Packet}
 use Rattle.pcap_file.specs.declared.head.Head.{Head}
 use Rattle.packet_feed.specs.declared.ahead.Ahead.{Ahead}
 use Rattle.packet_feed.specs.declared.ahead.Ahead.TheVariants.{Unread, Held, Ended, Torn}
@@ -40,6 +41,10 @@ unread (Torn offset) r rest = Some (none_left (Some offset))
 -- the packet that was read last, had it come in at a port
 abbrev pub last_read : ℕ → Stream → Arrival
 last_read port s = arrival_of s.six port s.seq s.latest s.is_ethernet s.original s.frame
+
+-- the packet that was given last, had it come in at a port, while nothing was read behind it
+abbrev pub last_given : ℕ → Stream → Packet
+last_given port s = (arrival_of s.six port (s.seq - 1) s.latest s.is_ethernet s.original s.frame).packet
 
 -- a stream of which one more packet was read, whose captured bytes it holds
 abbrev pub held : Bool → Head → Stream → Stream

@@ -1,25 +1,27 @@
 //! The packets of captures in capture order.
-ghost use Rattle.std.specs.Prelude.{◌≡◌, ◌^◌, ◌<◌, ◌≤◌, ◌+◌, ℕ, List, [], length, IfOk, IfErr, OnErr};
+ghost use Rattle.std.specs.Prelude.{◌≡◌, ◌^◌, ◌<◌, ◌≤◌, ◌+◌, ℕ, List, [], length, IfOk, IfErr, IfSome, OnErr, option_map};
 ghost use Rattle.nf_base.specs.Doors.{six_ports};
 ghost use Rattle.nf_base.specs.Functions.{function_of};
 ghost use Rattle.nf_files.specs.Told.{Told};
 ghost use Rattle.pcap_file.specs.Record.{greatest_time};
-ghost use Rattle.packet_feed.specs.Arrivals.{Arrival};
+ghost use Rattle.packet_feed.specs.Arrivals.{Arrival, fields_seen};
 ghost use Rattle.packet_feed.specs.Order.{in_order, IsOrdered};
 ghost use Rattle.packet_feed.specs.Faults.{IsCause, IsNoHeaderFault, IsOneOf};
 ghost use Rattle.packet_feed.specs.Told.{EachFile, IsApart, KeepsOthers};
 ghost use Rattle.packet_feed.specs.Streams.{last_read};
 ghost use Rattle.packet_feed.specs.Sources.{files_in, sixes_in, AreFrom};
-ghost use Rattle.packet_feed.specs.Feeding.{StandsFor, Starts, Feeds, GoesFrom, Counts, frame_of, original_of, first_tear, tears_in};
+ghost use Rattle.packet_feed.specs.Feeding.{StandsFor, Starts, Feeds, GoesFrom, Counts, fed, last_packet, frame_of, original_of, first_tear, tears_in};
 ghost use Rattle.packet_feed.specs.Ports.{StandsByPort, FeedsAt, CountsAt};
 
 use crate::fault::FeedFault;
 use crate::fed::Fed;
 use crate::first::earliest;
+use crate::moved::Moved;
 use crate::source::Source;
-use crate::sources::{fill_at, fill_next, give, give_at, open_all, torn};
+use crate::sources::{fill_at, fill_next, give_at, open_all, pass, torn};
+use frame_ip::View;
 use nf_base::func::Func;
-use nf_base::packet::Packet;
+use nf_base::packet::{Packet, PacketId};
 use nf_base::seq::Seq;
 use nf_files::Files;
 use std::alloc::Global;
@@ -106,6 +108,66 @@ impl Feed {
         })
     }
 
+    /// Moves on to the next packet in capture order, which `next` gives. It is told of from then on,
+    /// where it lies: by `id`, `time`, `view`, `frame` and `original`.
+    ///
+    /// `End` comes exactly where no whole record is left in any capture, and `TooMany` exactly where
+    /// one is and as many packets were given as were asked for. After an `Err` this feed may have
+    /// moved, and no call is to be made on it.
+    pub fn advance<F: Files>(&mut self, files: &mut F) -> Result<Moved, FeedFault>
+        requires opened { EachFile (F.is_read files.old) (files_in self.old.sources) }
+        // Whatever bytes and packets the feed stood for, it stands for the same bytes, and for the
+        // packet that it tells of behind them; or they are all, in capture order, and captures are
+        // torn as it tells; or there are more.
+        ensures feeds { (start : Told) → (given : List Arrival) →
+            StandsFor start given self.old (F.told files.old) →
+            Feeds start given self.new (F.told files.new) (fed self.new result) }
+        ensures counts { Counts self.old self.new (fed self.new result) }
+        // Times never fall.
+        ensures times { (time : ℕ) → AreFrom time self.old.sources →
+            GoesFrom time self.new.sources (fed self.new result) }
+        ensures same_files { files_in self.new.sources ≡ files_in self.old.sources }
+        ensures same_six { sixes_in self.new.sources ≡ sixes_in self.old.sources }
+        ensures same_most { self.new.most ≡ self.old.most }
+        ensures kept { let all = files_in self.old.sources in
+            KeepsOthers all (F.told files.old) (F.told files.new) }
+        ensures cause { let all = files_in self.old.sources in
+            IsCause (F.counted files.old) (F.counted files.new) all result }
+        ensures never { IsNoHeaderFault result }
+        ensures one { IfErr result (λ fault. IsOneOf (files_in self.old.sources) fault) }
+        ensures reads { (g : ℕ) → F.is_read files.old g → F.is_read files.new g }
+        ensures writes { (g : ℕ) → F.is_written files.old g → F.is_written files.new g }
+    {
+        fill_next(&mut self.sources, files, self.settled, self.shown)?;
+        match earliest(&self.sources) {
+            None => Ok(Moved::End),
+            Some(first) => {
+                if self.given >= self.most {
+                    return Ok(Moved::TooMany);
+                }
+                pass(&mut self.sources, first);
+                self.shown = first.port;
+                self.settled = true;
+                self.given += 1;
+                Ok(Moved::Packet)
+            }
+        }
+    }
+
+    // The packet that was given last.
+    fn last(&self) -> Packet
+        ensures { result ≡ last_packet self.now }
+    {
+        match self.sources.as_slice().get(self.shown) {
+            Some(source) => source.last(self.shown as u32),
+            None => Packet {
+                id: PacketId { port: 0, seq: 0 },
+                time: 0,
+                fields: None,
+            },
+        }
+    }
+
     /// The next packet in capture order.
     ///
     /// `End` comes exactly where no whole record is left in any capture, and `TooMany` exactly where
@@ -135,19 +197,11 @@ impl Feed {
         ensures reads { (g : ℕ) → F.is_read files.old g → F.is_read files.new g }
         ensures writes { (g : ℕ) → F.is_written files.old g → F.is_written files.new g }
     {
-        fill_next(&mut self.sources, files, self.settled, self.shown)?;
-        match earliest(&self.sources) {
-            None => Ok(Fed::End),
-            Some(first) => {
-                if self.given >= self.most {
-                    return Ok(Fed::TooMany);
-                }
-                let packet = give(&mut self.sources, first);
-                self.shown = first.port;
-                self.settled = true;
-                self.given += 1;
-                Ok(Fed::Packet(packet))
-            }
+        match self.advance(files) {
+            Err(fault) => Err(fault),
+            Ok(Moved::End) => Ok(Fed::End),
+            Ok(Moved::TooMany) => Ok(Fed::TooMany),
+            Ok(Moved::Packet) => Ok(Fed::Packet(self.last())),
         }
     }
 
@@ -202,7 +256,47 @@ impl Feed {
         self.given
     }
 
+    /// Which packet was given last: the port that it came in at, and its number there, from 0.
+    #[inline]
+    pub fn id(&self) -> PacketId
+        ensures { result ≡ (last_packet self.now).id }
+    {
+        match self.sources.as_slice().get(self.shown) {
+            Some(source) => source.id(self.shown as u32),
+            None => PacketId { port: 0, seq: 0 },
+        }
+    }
+
+    /// When it came, in nanoseconds: the latest time of its capture's packets up to it.
+    #[inline]
+    pub fn time(&self) -> u64
+        ensures value { result ≡ (last_packet self.now).time }
+        ensures within { result ≤ greatest_time }
+    {
+        match self.sources.as_slice().get(self.shown) {
+            Some(source) => source.latest(),
+            None => 0,
+        }
+    }
+
+    /// Its frame, in which a handler reads the fields that it needs; None where it is skipped: where
+    /// it is no Ethernet frame, none that is handled, and where it is an IPv6 frame and its port has
+    /// no handler for these.
+    #[inline]
+    pub fn view(&self) -> Option<View<'_>>
+        ensures seen { let v = self.now in
+            IfSome result (λ s. s ≡ record { frame = frame_of v; original = original_of v }) }
+        // Its fields are the packet's, and it is None exactly where the packet has none.
+        ensures fields { option_map fields_seen result ≡ (last_packet self.now).fields }
+    {
+        match self.sources.as_slice().get(self.shown) {
+            Some(source) => source.view(),
+            None => None,
+        }
+    }
+
     /// The captured bytes of the packet that was given last.
+    #[inline]
     pub fn frame(&self) -> &[u8]
         ensures { result.now ≡ frame_of self.now }
     {
@@ -213,6 +307,7 @@ impl Feed {
     }
 
     /// The length of its frame on the wire, in bytes.
+    #[inline]
     pub fn original(&self) -> u32
         ensures { result ≡ original_of self.now }
     {

@@ -8,6 +8,7 @@ mod fed;
 mod feed;
 mod first;
 pub mod laws;
+mod moved;
 mod source;
 mod sources;
 
@@ -15,3 +16,4 @@ pub use ahead::Ahead;
 pub use fault::FeedFault;
 pub use fed::Fed;
 pub use feed::Feed;
+pub use moved::Moved;

@@ -1,19 +1,18 @@
 //! One capture that is read as a stream.
-ghost use Rattle.std.specs.Prelude.{◌≡◌, ◌+◌, ◌-◌, ◌^◌, ◌<◌, ◌≤◌, ℕ, length, OnOk};
+ghost use Rattle.std.specs.Prelude.{◌≡◌, ◌+◌, ◌-◌, ◌^◌, ◌<◌, ◌≤◌, ℕ, length, Some, OnOk, IfSome, option_map};
 ghost use Rattle.nf_base.specs.Doors.{served_fields};
 ghost use Rattle.nf_files.specs.Reads.{Keeps};
 ghost use Rattle.pcap_file.specs.Causes.{IsCause, IsNoHeaderFault};
 ghost use Rattle.pcap_file.specs.Record.{greatest_time};
 ghost use Rattle.packet_feed.specs.declared.ahead.Ahead.TheVariants.{Unread, Held};
-ghost use Rattle.packet_feed.specs.Arrivals.{arrival_of, fields_captured};
-ghost use Rattle.packet_feed.specs.Streams.{tear_in, time_in, is_held, last_read, held, IsFrom};
+ghost use Rattle.packet_feed.specs.Arrivals.{fields_captured, fields_seen};
+ghost use Rattle.packet_feed.specs.Streams.{tear_in, time_in, is_held, last_given, last_read, held, IsFrom};
 ghost use Rattle.packet_feed.specs.Sources.{Opens, IsFilled};
 
 use crate::ahead::Ahead;
 use crate::captured::Captured;
-use frame_ip::fields_of;
+use frame_ip::{View, family_of, fields, view};
 use nf_base::packet::{Family, Fields, Packet, PacketId};
-use nf_base::value::family_of;
 use nf_files::Files;
 use pcap_file::{CapFault, Head};
 use pcapng_file::Next;
@@ -38,17 +37,16 @@ pub(crate) struct Source {
     frame: Vec<u8>,
 }
 
-// The fields of a frame as its port's handlers see them.
+// A handled frame as its port's handlers see it.
 #[inline]
-fn served(six: bool, fields: Option<Fields>) -> Option<Fields>
-    ensures { result ≡ served_fields six fields }
+fn served(six: bool, seen: View<'_>) -> Option<View<'_>>
+    ensures fields { option_map fields_seen result
+        ≡ served_fields six (Some (fields_seen seen.entry)) }
+    ensures same { IfSome result (λ v. v ≡ seen.entry) }
 {
-    match fields {
-        None => None,
-        Some(fields) => match family_of(&fields) {
-            Family::Six if !six => None,
-            _ => Some(fields),
-        },
+    match family_of(&seen) {
+        Family::Six if !six => None,
+        _ => Some(seen),
     }
 }
 
@@ -217,19 +215,84 @@ impl Source {
         }
     }
 
-    // The fields of the frame that was read last; none where it is no Ethernet frame.
+    /// The frame that was read last, as its port's handlers see it; None where it is skipped.
     #[inline]
-    fn fields(&self) -> Option<Fields>
-        ensures { let s = self.now in result ≡ fields_captured s.is_ethernet s.frame s.original }
+    pub(crate) fn view(&self) -> Option<View<'_>>
+        ensures seen { let s = self.now in
+            IfSome result (λ v. v ≡ record { frame = s.frame; original = s.original }) }
+        ensures fields { let s = self.now in option_map fields_seen result
+            ≡ served_fields s.six (fields_captured s.is_ethernet s.frame s.original) }
     {
-        if self.is_ethernet {
-            fields_of(self.frame.as_slice(), self.original)
-        } else {
-            None
+        if !self.is_ethernet {
+            return None;
+        }
+        match view(self.frame.as_slice(), self.original) {
+            Some(seen) => served(self.six, seen),
+            None => None,
         }
     }
 
-    /// Gives the packet that was read ahead, as one of a port.
+    // Its fields.
+    #[inline]
+    fn fields(&self) -> Option<Fields>
+        ensures { let s = self.now in
+            result ≡ served_fields s.six (fields_captured s.is_ethernet s.frame s.original) }
+    {
+        match self.view() {
+            Some(seen) => Some(fields(&seen)),
+            None => None,
+        }
+    }
+
+    /// Which packet was given last, of a port.
+    #[inline]
+    #[tactic(auto, unfolding(crate::specs::Arrivals::arrival_of))]
+    pub(crate) fn id(&self, port: u32) -> PacketId
+        ensures { result ≡ (last_given port self.now).id }
+    {
+        PacketId {
+            port,
+            seq: self.seq.saturating_sub(1),
+        }
+    }
+
+    /// When it came, in nanoseconds.
+    #[inline]
+    #[tactic(auto, unfolding(crate::specs::Arrivals::arrival_of))]
+    pub(crate) fn latest(&self) -> u64
+        ensures value { (port : ℕ) → result ≡ (last_given port self.now).time }
+        ensures within { result ≤ greatest_time }
+    {
+        self.latest
+    }
+
+    /// The packet that was given last, as one of a port.
+    #[inline]
+    #[tactic(auto, unfolding(crate::specs::Arrivals::arrival_of))]
+    pub(crate) fn last(&self, port: u32) -> Packet
+        ensures { result ≡ last_given port self.now }
+    {
+        Packet {
+            id: self.id(port),
+            time: self.latest,
+            fields: self.fields(),
+        }
+    }
+
+    /// Gives the packet that was read ahead.
+    #[inline]
+    pub(crate) fn pass(&mut self)
+        requires held { self.old.ahead ≡ Held }
+        requires room { self.old.seq < 2 ^ 32 - 1 }
+        ensures given { self.new ≡ record self.old { ahead = Unread; seq = self.old.seq + 1 } }
+        ensures time { self.old.latest ≤ greatest_time }
+        ensures captured { length self.old.frame ≤ 262144 }
+    {
+        self.ahead = Ahead::Unread;
+        self.seq += 1;
+    }
+
+    /// The same, and which it is, as one of a port.
     #[inline]
     pub(crate) fn give(&mut self, port: u32) -> Packet
         requires held { self.old.ahead ≡ Held }
@@ -239,16 +302,7 @@ impl Source {
         ensures time { result.time ≤ greatest_time }
         ensures captured { length self.old.frame ≤ 262144 }
     {
-        let packet = Packet {
-            id: PacketId {
-                port,
-                seq: self.seq,
-            },
-            time: self.latest,
-            fields: served(self.six, self.fields()),
-        };
-        self.ahead = Ahead::Unread;
-        self.seq += 1;
-        packet
+        self.pass();
+        self.last(port)
     }
 }

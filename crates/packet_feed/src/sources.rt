@@ -8,7 +8,7 @@ ghost use Rattle.packet_feed.specs.Arrivals.{Arrival};
 ghost use Rattle.packet_feed.specs.Faults.{IsCause, IsNoHeaderFault};
 ghost use Rattle.packet_feed.specs.Told.{EachFile, IsApart, KeepsOthers};
 ghost use Rattle.packet_feed.specs.Sources.{files_in, sixes_in, counts_in, SourcesStand, AreSettled, AreSettledBut, AreFrom, AreOpened, IsFirst, IsGiven};
-ghost use Rattle.packet_feed.specs.Feeding.{first_tear, tears_in};
+ghost use Rattle.packet_feed.specs.Feeding.{last_at, first_tear, tears_in};
 ghost use Rattle.packet_feed.specs.Ports.{SourcesStandByPort, IsSettledAt, IsGivenAt};
 
 use crate::fault::FeedFault;
@@ -84,13 +84,14 @@ pub(crate) fn fill_all<F: Files>(sources: &mut Seq<Source>, files: &mut F) -> Re
 
 /// Gives the packet that comes first of those that were read ahead.
 #[inline]
-pub(crate) fn give(sources: &mut Seq<Source>, first: First) -> Packet
+pub(crate) fn pass(sources: &mut Seq<Source>, first: First)
     requires first { IsFirst sources.old (length sources.old) (Some first) }
     requires room { All (λ count. count < 2 ^ 32 - 1) (counts_in sources.old) }
     requires ports { length sources.old ≤ 2 ^ 32 }
-    ensures { IsGiven first.port result sources.old sources.new }
+    ensures { let port = first.port in
+        IsGiven port (last_at port (slice_get sources.new port)) sources.old sources.new }
 {
-    sources.item_mut(first.port).give(first.port as u32)
+    sources.item_mut(first.port).pass();
 }
 
 /// Reads the next record of a port's capture, where it isn't known yet what comes next.

@@ -25,6 +25,7 @@ use Rattle.nf_base.specs.contracts.port_handlers.PortHandlers as port_handlers
 use Rattle.nf_base.specs.contracts.func.Func as func
 use Rattle.ring_line.proofs.halt.Halt.TheSendSync as halt_law
 use Rattle.ring_line.proofs.keeps.Ends.TheSendSync as ends_law
+use Rattle.ring_line.proofs.bell.Looks.TheSendSync as looks_law
 use Rattle.vig_tables.proofs.tables.Tables.TheSendSync as tables_law
 use Rattle.ring_line.specs.contracts.desk.Desk as desk
 use Rattle.ring_line.specs.contracts.desk.Desk.TheInside as desk_inside
@@ -125,7 +126,10 @@ module _ (G : RattleType) (s : IsSend G) (y : IsSync G) where
         search (sendable, crosses, as_row_send) depth 40,
         (
           search (sendable, crosses, as_row_send) depth 40,
-          (search (sendable, crosses, as_row_send) depth 40, tt),
+          (
+            search (sendable, as_row_send, looks_law.the_send) depth 40,
+            (search (sendable, crosses, as_row_send) depth 40, tt),
+          ),
         ),
       ),
     ),

@@ -6,6 +6,8 @@ pub mod Playing
 pub mod Lined
 pub mod Answering
 pub mod Crossing
+pub mod Flights
+pub mod Shares
 pub mod Telling
 pub mod Laning
 pub mod Nearing

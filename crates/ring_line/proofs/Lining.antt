@@ -1,6 +1,5 @@
 -- What the workers of all queues stand for, call by call.
-use Rattle.std.proofs.Common.{◌≡◌, ◌<◌, ◌≤◌, ◌+◌, ℕ, zero, suc, List, [], ◌∷◌, ◌++◌, length, map, ◌⊎◌, Option, Some, None, slice_get, slice_set, drop, refl, ap, ap₂, sym, ◌∙◌, subst, arith, inl, inr}
-use Rattle.std.proofs.lemmas.Bool.{cases_eq, cases_lt}
+use Rattle.std.proofs.Common.{◌≡◌, ◌<◌, ◌+◌, ℕ, zero, suc, List, [], ◌∷◌, ◌++◌, length, map, ◌⊎◌, Option, Some, None, slice_get, slice_set, drop, refl, ap, ap₂, sym, ◌∙◌, subst, arith, inl, inr}
 use Rattle.std.proofs.lemmas.List.{length-append}
 use Rattle.std.proofs.lemmas.Option.{same_Some, slice_get_within}
 use Rattle.nf_base.specs.declared.packet.Packet.{Packet}
@@ -23,7 +22,7 @@ use Rattle.ring_line.specs.declared.line.Line.{Line}
 use Rattle.ring_line.specs.Handled.{CameTo}
 use Rattle.ring_line.specs.Handed.{Finishes}
 use Rattle.ring_line.specs.Places.{PlaceStands, PlaceHalted}
-use Rattle.ring_line.specs.Plays.{LaneEnd, AllCame, collected_at}
+use Rattle.ring_line.specs.Plays.{LaneEnd, collected_at}
 use Rattle.ring_line.specs.Lines.{LineStands, LineFinishes, AreFinished, AreStarted, EndsAs, ComesFirst}
 use Rattle.ring_line.proofs.InOrder.{one_here, none_here, collected_append}
 

@@ -1,12 +1,11 @@
 -- What a worker without a thread stands for, call by call.
-use Rattle.std.proofs.Common.{◌≡◌, ◌≤◌, List, [], ◌∷◌, ◌++◌, length, drop, Option, Some, None, All, ap, sym, ◌∙◌, subst}
+use Rattle.std.proofs.Common.{◌≡◌, ◌≤◌, List, ◌++◌, length, drop, Option, Some, None, All, ap, sym, ◌∙◌, subst}
 use Rattle.nf_base.specs.declared.func.Func.{Func}
 use Rattle.nf_base.specs.declared.packet.Packet.{Packet}
 use Rattle.nf_base.specs.declared.share.Share.{Share}
 use Rattle.nf_base.specs.declared.state.State.{State}
 use Rattle.nf_base.specs.Functions.{function_of}
 use Rattle.nf_base.specs.Step.{opening}
-use Rattle.nf_base.specs.Text.{Function}
 use Rattle.vig_tables.specs.TablesState.{TablesState}
 use Rattle.shard_machine.specs.declared.event.Answer.{Answer}
 use Rattle.shard_machine.proofs.Sent.{append_nil, append_twice}

@@ -1,9 +1,11 @@
 pub mod Packs
 pub mod Handled
+pub mod Hands
 pub mod Desks
 pub mod Shops
 pub mod Handed
 pub mod Lanes
+pub mod Openings
 pub mod Starts
 pub mod Plays
 pub mod Nears

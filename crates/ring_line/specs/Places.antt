@@ -1,5 +1,5 @@
 -- What a worker stands for, whether it has a thread or not.
-use Rattle.std.specs.Prelude.{◌≡◌, ◌<◌, ℕ, List, length}
+use Rattle.std.specs.Prelude.{◌≡◌, ◌<◌, ◌+◌, ℕ, List, [], ◌∷◌, length}
 use Rattle.nf_base.specs.declared.func.Func.{Func}
 use Rattle.nf_base.specs.declared.packet.Packet.{Packet}
 use Rattle.nf_base.specs.declared.share.Share.{Share}
@@ -22,6 +22,11 @@ pub record CanHandle (f : Function) (packet : Packet) : Type 0 where
 abbrev pub in_flight_of : {G : Type 0} → Place G → ℕ
 in_flight_of (place.Far lane) = lane.in_flight
 in_flight_of (place.Near near) = near.in_flight
+
+-- the same of all of some
+abbrev pub all_in_flight : {G : Type 0} → List (Place G) → ℕ
+all_in_flight [] = 0
+all_in_flight (place ∷ places) = in_flight_of place + all_in_flight places
 
 -- it stands for these packets and these answers, with its own text of a function
 abbrev pub StandsAs : {G : Type 0} → Place G → Func → Share → List Packet → List Answer → Type 0

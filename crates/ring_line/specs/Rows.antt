@@ -7,7 +7,7 @@ use Rattle.shard_machine.specs.declared.event.Answer.{Answer}
 use Rattle.shard_machine.specs.Rows.{two, answer}
 use Rattle.shard_core.specs.declared.collected.Collected.{Collected}
 use Rattle.ring_line.specs.declared.halt.Halt.{Halt}
-use Rattle.ring_line.specs.Packs.{Packed, empty_pack, answered, answers_in, packets_in, TellsAtLast}
+use Rattle.ring_line.specs.Packs.{Packed, answered, answers_in, packets_in, TellsAtLast}
 use Rattle.ring_line.specs.Lanes.{IsLast}
 use Rattle.ring_line.specs.Plays.{collected_at, line_events}
 

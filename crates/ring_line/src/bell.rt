@@ -7,15 +7,48 @@ use std::hint::spin_loop;
 use std::sync::Wait;
 use std::thread::{self, Parker, Threads};
 
-/// How often a thread looks again before it sleeps, where each has a processor: for a part of a
-/// millisecond. To be woken costs the other side more than a packet does.
-const MANY_LOOKS: u32 = 20_000;
+/// How often a thread looks again at most before it sleeps, where each may have a processor: for a tenth
+/// of a millisecond. To be woken costs the other side more than a packet does.
+const MANY_LOOKS: u32 = 2_000;
 
-/// The same where another thread may want the processor.
+/// The same where another thread is known to want the processor.
 const FEW_LOOKS: u32 = 50;
 
-/// How often each of so many threads looks again before it sleeps.
-pub fn looks_for<R: Threads>(rt: &R, threads: usize) -> u32 {
+/// How often a thread looks again before it sleeps: more often the longer that has helped, and seldom once
+/// it hasn't, for then who is waited for may want this very processor.
+#[derive(Clone, Copy, Debug, PartialEq, Eq)]
+pub struct Looks {
+    now: u32,
+    most: u32,
+}
+
+impl Looks {
+    /// How often each of so many threads looks again.
+    pub fn of<R: Threads>(rt: &R, threads: usize) -> Looks {
+        Looks {
+            now: FEW_LOOKS,
+            most: most_for(rt, threads),
+        }
+    }
+
+    /// An item came while it looked.
+    fn helped(&mut self) {
+        let more = self.now / 8;
+        self.now = self
+            .now
+            .saturating_add(more)
+            .saturating_add(1)
+            .min(self.most);
+    }
+
+    /// None did.
+    fn failed(&mut self) {
+        self.now = FEW_LOOKS;
+    }
+}
+
+/// How often each of so many threads looks again at most.
+fn most_for<R: Threads>(rt: &R, threads: usize) -> u32 {
     match thread::available_parallelism(rt) {
         Ok(processors) => {
             if threads <= processors.get() {
@@ -40,17 +73,17 @@ pub fn pop<T>(from: &mut Consumer<T>) -> Option<T>
     }
 }
 
-/// The next item, if it comes soon.
+/// The next item, if it comes while it is looked for again so often.
 fn look<T>(from: &mut Consumer<T>, looks: u32) -> Option<T>
     ensures ring { SameConsumer from.old from.new }
     ensures some { IfSome result (λ item. received from.new ≡ received from.old ++ item ∷ []) }
     ensures none { IfNone result (received from.new ≡ received from.old) }
 {
     for _ in 0..looks {
+        spin_loop();
         if let Some(item) = pop(from) {
             return Some(item);
         }
-        spin_loop();
     }
     None
 }
@@ -69,12 +102,33 @@ fn sleep<T, R: Wait>(rt: &R, from: &mut Consumer<T>, bell: &Parker) -> T
     unreachable!()
 }
 
-/// Waits for the next item, at first by so many looks; the other side rings this bell after each one.
-pub fn take<T, R: Wait>(rt: &R, from: &mut Consumer<T>, bell: &Parker, looks: u32) -> T
+/// The next item, if it is there or comes soon.
+fn spot<T>(from: &mut Consumer<T>, looks: &mut Looks) -> Option<T>
+    ensures ring { SameConsumer from.old from.new }
+    ensures some { IfSome result (λ item. received from.new ≡ received from.old ++ item ∷ []) }
+    ensures none { IfNone result (received from.new ≡ received from.old) }
+{
+    if let Some(item) = pop(from) {
+        return Some(item);
+    }
+    match look(from, looks.now) {
+        Some(item) => {
+            looks.helped();
+            Some(item)
+        }
+        None => {
+            looks.failed();
+            None
+        }
+    }
+}
+
+/// Waits for the next item, at first by looking again; the other side rings this bell after each one.
+pub fn take<T, R: Wait>(rt: &R, from: &mut Consumer<T>, bell: &Parker, looks: &mut Looks) -> T
     ensures ring { SameConsumer from.old from.new }
     ensures received { received from.new ≡ received from.old ++ result ∷ [] }
 {
-    match look(from, looks) {
+    match spot(from, looks) {
         Some(item) => item,
         None => sleep(rt, from, bell),
     }

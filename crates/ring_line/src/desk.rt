@@ -8,15 +8,15 @@ ghost use Rattle.shard_machine.specs.declared.event.Answer.{Answer};
 ghost use Rattle.ring_line.specs.Packs.{Packed, answers_of};
 ghost use Rattle.ring_line.specs.Handled.{CanServe, HandledBy, Handles, CameTo};
 ghost use Rattle.ring_line.specs.Desks.{Seated, WentOn};
+ghost use Rattle.ring_line.specs.Hands.{IsHandOf, come_to};
 
 use crate::halt::Halt;
+use crate::hand::Hand;
 use crate::pack::Pack;
-use nf_base::done::{Action, Done, Edits};
+use nf_base::done::Action;
 use nf_base::func::Func;
 use nf_base::packet::Packet;
-use nf_base::picks::Picks;
 use nf_base::value::door_of;
-use nf_engine::{Handled, handle};
 use std::marker::Model;
 use std::sync::Arc;
 use vig_tables::Tables;
@@ -113,45 +113,49 @@ impl<G: Turns + Drop> Desk<G> {
         }
     }
 
-    /// Handles a packet. One without a handler is skipped: none such is sent.
-    fn handle(&mut self, packet: &Packet) -> Handled
+    /// Handles a packet: what the hand's context has then, with this action; or the chain whose share has
+    /// no index left. A packet without a handler is skipped: none such is sent.
+    fn handle(&mut self, hand: &mut Hand, packet: &Packet) -> Result<Action, u32>
+        requires { IsHandOf hand.old self.old.func }
         ensures handles { CanServe self.old.func packet.now →
             let share = self.old.tables.share in let state = self.old.tables.state in
-            HandledBy (function_of self.old.func) share state packet.now result
-            self.new.tables.state }
+            HandledBy (function_of self.old.func) share state packet.now
+            (come_to hand.new.context result) self.new.tables.state }
+        ensures hand { hand.new.ready ≡ hand.old.ready }
         ensures func { self.new.func ≡ self.old.func }
         ensures fixed { fixed_of self.new.tables ≡ fixed_of self.old.tables }
         ensures halt { self.new.halt ≡ self.old.halt }
     {
         if self.serves(packet) {
-            handle(&mut self.tables, &self.func, packet)
+            hand.handle(&mut self.tables, &self.func, packet)
         } else {
-            Handled::Done(Done {
-                action: Action::Skip,
-                edits: Edits::none(),
-                picks: Picks::new(),
-            })
+            hand.skip();
+            Ok(Action::Skip)
         }
     }
 
     /// Answers the first packet of a pack that has no answer, and tells whether the share goes on.
-    fn answer_next(&mut self, pack: &mut Pack) -> bool
+    fn answer_next(&mut self, hand: &mut Hand, pack: &mut Pack) -> bool
+        requires hand { IsHandOf hand.old self.old.func }
         requires left { length pack.old.answers < length pack.old.packets }
         requires none { pack.old.halt ≡ None }
         requires running { self.old.halt ≡ None }
         ensures went { WentOn result self.old pack.old self.new pack.new }
+        ensures hand { hand.new.ready ≡ hand.old.ready }
         ensures func { self.new.func ≡ self.old.func }
         ensures fixed { fixed_of self.new.tables ≡ fixed_of self.old.tables }
     {
         let packet = pack.next();
-        self.turns.before(self.number, packet.id);
-        match self.handle(&packet) {
-            Handled::Done(done) => {
-                self.turns.after(self.number, packet.id);
-                pack.answer(done);
+        let id = packet.id;
+        self.turns.before(self.number, id);
+        match self.handle(hand, packet) {
+            Ok(action) => {
+                self.turns.after(self.number, id);
+                pack.answer(action, hand.edits(), hand.picks());
                 true
             }
-            Handled::ShareFull(chain) => {
+            Err(chain) => {
+                let packet = *pack.next();
                 pack.end_at(chain, &packet);
                 self.halt = pack.halt();
                 false
@@ -160,8 +164,10 @@ impl<G: Turns + Drop> Desk<G> {
     }
 
     /// Answers the packets of a pack in order, all of them or those before the share's end.
-    pub fn answer(&mut self, pack: &mut Pack)
-        requires { self.old.halt ≡ None }
+    pub fn answer(&mut self, hand: &mut Hand, pack: &mut Pack)
+        requires hand { IsHandOf hand.old self.old.func }
+        requires running { self.old.halt ≡ None }
+        ensures hand { hand.new.ready ≡ hand.old.ready }
         ensures packets { pack.new.packets ≡ pack.old.packets }
         ensures halt { pack.new.halt ≡ self.new.halt }
         ensures func { self.new.func ≡ self.old.func }
@@ -176,7 +182,7 @@ impl<G: Turns + Drop> Desk<G> {
     {
         pack.forget_answers();
         while pack.answered() < pack.len() {
-            if !self.answer_next(pack) {
+            if !self.answer_next(hand, pack) {
                 return;
             }
         }

@@ -2,6 +2,7 @@
 ghost use Rattle.std.specs.Prelude.{◌≡◌, ◌≤◌, length};
 ghost use Rattle.rtrb.specs.Ring.{IsPair};
 
+use crate::bell::Looks;
 use crate::halt::Halt;
 use crate::item::Item;
 use crate::keeps::{Ended, Keeps};
@@ -37,7 +38,7 @@ pub struct Lane {
     bell: Arc<Parker>,
     own_bell: Arc<Parker>,
     /// How often whoever collects looks again before it sleeps.
-    looks: u32,
+    looks: Looks,
     /// Packets that were not pushed yet.
     filling: Pack,
     /// The last pack that came back, and how many of its answers are collected.

@@ -5,12 +5,14 @@
 mod bell;
 mod desk;
 mod halt;
+mod hand;
 mod item;
 mod keeps;
 mod lane;
 pub mod laws;
 mod line;
 mod near;
+mod opening;
 mod pack;
 mod place;
 pub mod rows;

@@ -2,12 +2,13 @@
 ghost use Rattle.std.specs.Prelude.{◌≡◌, ◌≤◌, ◌<◌, [], length, All};
 ghost use Rattle.std.specs.Vec.{vec_capacity};
 ghost use Rattle.std.specs.VecDeque.{deque_capacity};
+ghost use Rattle.ring_line.specs.Places.{all_in_flight};
 
 use crate::place::Place;
-use nf_base::done::Done;
 use nf_base::packet::Packet;
 use nf_base::seq::Seq;
 use shard_core::{Collected, Stop};
+use short_answers::Told;
 use std::collections::VecDeque;
 use vig_tables::Tables;
 
@@ -41,7 +42,7 @@ pub enum First {
 pub struct CollectedRef<'a> {
     pub packet: &'a Packet,
     pub queue: u32,
-    pub done: &'a Done,
+    pub told: Told<'a>,
 }
 
 /// A worker of each queue, and the queues of the packets that were sent and not collected, in order.
@@ -54,6 +55,7 @@ pub struct Line<G> {
     parts: Vec<Tables>,
     /// That of the last handled packet that was collected, in nanoseconds: 0 before the first.
     time: u64,
+    ghost flights: { all_in_flight places ≡ length order.items },
     ghost below: { All (λ q. q < length places) order.items },
     ghost room: { 1024 ≤ deque_capacity order },
     ghost none: { parts.items ≡ [] },

@@ -1,10 +1,13 @@
 //! Packets of one queue that go to its worker together, and are answered in place.
 ghost use Rattle.std.specs.Prelude.{◌≡◌, ◌≤◌, ◌<◌, ◌+◌, [], ◌∷◌, ◌++◌, length, Some, None, IfOk, slice_get, slice_index_or, ◌==◌};
+ghost use Rattle.short_answers.specs.Answers.{done_told};
 ghost use Rattle.ring_line.specs.Packs.{Packed, IsAnswerAt, empty_pack};
 
 use crate::halt::Halt;
-use nf_base::done::Done;
+use nf_base::done::{Action, Edits};
 use nf_base::packet::Packet;
+use nf_base::picks::Picks;
+use short_answers::{Answers, Told};
 use std::alloc::{AllocError, Global};
 use std::marker::Model;
 
@@ -12,7 +15,7 @@ use std::marker::Model;
 #[derive(Clone, Copy)]
 pub struct AnswerRef<'a> {
     pub packet: &'a Packet,
-    pub done: &'a Done,
+    pub told: Told<'a>,
 }
 
 /// How many packets of a queue are in flight at most, and so how many a pack has room for.
@@ -20,11 +23,11 @@ pub const IN_FLIGHT: usize = 64;
 
 /// Packets in the order in which they were sent, the answers to the first of them, and the packet
 /// behind these at which the share ended, if it did. There is room for 64, so nothing that is done
-/// with a pack takes memory.
+/// with a pack takes memory. Answers are kept short: what a pack has goes from one processor to another.
 #[derive(Drop)]
 pub struct Pack {
     packets: Vec<Packet>,
-    answers: Vec<Done>,
+    answers: Answers,
     halt: Option<Halt>,
 }
 
@@ -37,13 +40,13 @@ impl Model for Pack {
 
     ghost view = { λ p. record {
       packets = p.packets.items;
-      answers = p.answers.items;
+      answers = p.answers.answers;
       halt = p.halt;
     } };
 
-    ghost invariant = { λ p. (length p.answers.items ≤ length p.packets.items)
+    ghost invariant = { λ p. (length p.answers.answers ≤ length p.packets.items)
         × (length p.packets.items ≤ 64)
-        × (64 ≤ vec_capacity p.packets) × (64 ≤ vec_capacity p.answers) };
+        × (64 ≤ vec_capacity p.packets) × (64 ≤ p.answers.room) };
 }
 
 impl Pack {
@@ -52,7 +55,7 @@ impl Pack {
     {
         Ok(Pack {
             packets: Vec::with_capacity(alloc, IN_FLIGHT)?,
-            answers: Vec::with_capacity(alloc, IN_FLIGHT)?,
+            answers: Answers::new(alloc, IN_FLIGHT as u32)?,
             halt: None,
         })
     }
@@ -87,22 +90,22 @@ impl Pack {
     }
 
     /// The first packet without an answer.
-    pub fn next(&self) -> Packet
+    pub fn next(&self) -> &Packet
         requires { length self.now.answers < length self.now.packets }
-        ensures { slice_get self.now.packets (length self.now.answers) ≡ Some result }
+        ensures { slice_get self.now.packets (length self.now.answers) ≡ Some result.now }
     {
-        self.packets[self.answers.len()]
+        &self.packets[self.answers.len()]
     }
 
     /// The packet of this number with its answer.
     pub fn answer_at(&self, i: usize) -> AnswerRef<'_>
         requires { i < length self.now.answers }
         ensures { IsAnswerAt self.now i
-            (record { packet = result.packet.now; done = result.done.now }) }
+            (record { packet = result.packet.now; done = done_told result.told }) }
     {
         AnswerRef {
             packet: &self.packets[i],
-            done: &self.answers[i],
+            told: self.answers.at(i),
         }
     }
 
@@ -118,13 +121,14 @@ impl Pack {
     }
 
     /// The answer to the first packet that has none.
-    pub fn answer(&mut self, done: Done)
+    pub fn answer(&mut self, action: Action, edits: &Edits, picks: &Picks)
         requires { length self.old.answers < length self.old.packets }
-        ensures answers { self.new.answers ≡ self.old.answers ++ done ∷ [] }
+        ensures answers { self.new.answers ≡ self.old.answers
+            ++ (record { action = action; edits = edits.now; picks = picks.now }) ∷ [] }
         ensures rest { let answers = self.new.answers in
             self.new ≡ record self.old { answers = answers } }
     {
-        self.answers.push_reserved(done);
+        self.answers.push(action, edits, picks);
     }
 
     /// The share ended at a packet.

@@ -4,7 +4,9 @@ ghost use Rattle.nf_base.specs.declared.packet.Packet as arrival;
 ghost use Rattle.nf_base.specs.declared.share.Share.{Share};
 ghost use Rattle.nf_base.specs.Functions.{function_of};
 ghost use Rattle.nf_base.specs.Text.{Function};
+ghost use Rattle.vig_tables.specs.TablesState.{opened_tables};
 ghost use Rattle.shard_machine.specs.declared.event.Answer as answer;
+ghost use Rattle.short_answers.specs.Answers.{done_told};
 ghost use Rattle.ring_line.specs.Handed.{IsNext, Finishes};
 ghost use Rattle.ring_line.specs.Places.{PlaceStands, PlaceHasAnswer, PlaceFirstAnswer, PlaceHalted, in_flight_of, CanHandle};
 
@@ -31,24 +33,26 @@ pub enum Place<G> {
 }
 
 impl<G: Turns + Send + Sync + Drop + 'static> Place<G> {
-    /// Starts a worker of a share of a function, whose tables are opened here. A pack goes out to it once
-    /// it has so many packets, 64 at most, or when it is flushed.
+    /// Starts a worker of a share of a function, with its opened tables. A pack goes out to it once it has
+    /// so many packets, 64 at most, or when it is flushed.
     ///
     /// The bell is rung whenever a pack comes back. `turns` is told of each packet.
     pub fn start<R: Threads + Wait + Clone + Send + Drop + 'static>(
         rt: &R,
         alloc: Global,
         func: &Func,
+        tables: Tables,
         share: Share,
         size: usize,
         turns: &Arc<G>,
         own_bell: &Arc<Parker>,
     ) -> Result<Place<G>, AllocError>
+        requires { tables ≡ opened_tables (function_of func.now) share }
         ensures stands { IfOk result (λ place. PlaceStands place (function_of func.now) share [] []) }
         ensures none { IfOk result (λ place. in_flight_of place ≡ 0) }
     {
         let text = func.copy(alloc)?;
-        let started = Lane::start(rt, alloc, text, share, size, turns, own_bell)?;
+        let started = Lane::start(rt, alloc, text, tables, share, size, turns, own_bell)?;
         match started {
             Some(lane) => Ok(Place::Far(lane)),
             None => Place::beside(alloc, func, share, turns),
@@ -67,7 +71,8 @@ impl<G: Turns + Send + Sync + Drop + 'static> Place<G> {
     {
         let text = func.copy(alloc)?;
         let (filling, current) = pack_pair(alloc)?;
-        let desk = new_desk(alloc, text, share, turns)?;
+        let tables = Tables::new(alloc, func, share)?;
+        let desk = new_desk(text, tables, turns)?;
         Ok(Place::Near(Near::new(desk, filling, current)))
     }
 }
@@ -126,7 +131,7 @@ impl<G: Turns + Drop> Place<G> {
     pub fn answer(&self) -> AnswerRef<'_>
         requires { PlaceHasAnswer self.now }
         ensures { PlaceFirstAnswer self.now
-            (record { packet = result.packet.now; done = result.done.now }) }
+            (record { packet = result.packet.now; done = done_told result.told }) }
     {
         match self {
             Place::Far(lane) => lane.answer(),

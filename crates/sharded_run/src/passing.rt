@@ -20,7 +20,7 @@ ghost use Rattle.sharded_run.specs.Passing.{WentOn, Passing, Wrote, SameCrew, Sa
 use crate::came::{Passed, ShareFull};
 use crate::crew::Crew;
 use crate::kept::fits;
-use crate::writing::write_one;
+use crate::writing::write_told;
 use nf_base::packet::Packet;
 use nf_base::seq::Seq;
 use nf_files::Files;
@@ -57,7 +57,7 @@ pub(crate) fn write_next<R: Wait, F: Files, G: Turns + Drop>(
         First::Answer => {
             let answer = crew.line.answer();
             let kept = crew.frames.first();
-            let written = write_one(files, sinks, crew.ports, kept, answer.queue, answer.done);
+            let written = write_told(files, sinks, crew.ports, kept, answer.queue, answer.told);
             crew.line.pass();
             crew.frames.drop_first();
             match written {
@@ -97,12 +97,10 @@ fn make_room<R: Wait, F: Files, G: Turns + Drop>(
         if crew.line.has_room(queue) {
             return Ok(None);
         }
-        if crew.line.left() > 0 {
-            match write_next(rt, files, crew, sinks) {
-                Ok(None) => {}
-                Ok(Some(stop)) => return Ok(Some(stop)),
-                Err(stop) => return Err(stop),
-            }
+        match write_next(rt, files, crew, sinks) {
+            Ok(None) => {}
+            Ok(Some(stop)) => return Ok(Some(stop)),
+            Err(stop) => return Err(stop),
         }
     }
     unreachable!()

@@ -65,7 +65,7 @@ fn conclude(
 
 // The same from new workers, and the state that is left.
 fn stream<
-    R: Threads + Wait + Clone + Send + Drop + 'static,
+    R: Threads + Wait + Clone + Send + Sync + Drop + 'static,
     F: Files,
     G: Turns + Send + Sync + Drop + 'static,
 >(
@@ -135,7 +135,7 @@ fn stream<
 /// it are whole. After an `Err` each of them holds a front of what a run over some first packets leaves
 /// there.
 pub fn run<
-    R: Threads + Wait + Clone + Send + Drop + 'static,
+    R: Threads + Wait + Clone + Send + Sync + Drop + 'static,
     F: Files,
     G: Turns + Send + Sync + Drop + 'static,
 >(

@@ -1,3 +1,4 @@
+pub mod Seen
 pub mod Runs
 pub mod Texts
 pub mod Laws

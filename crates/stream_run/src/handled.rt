@@ -1,19 +1,22 @@
 //! A packet that was handled, beside its frame.
 ghost use Rattle.std.specs.Prelude.{◌≡◌};
 
+use crate::told::ToldFields;
 use nf_base::done::{Action, Done, Edits};
-use nf_base::packet::Packet;
+use nf_base::packet::{Packet, PacketId};
 use nf_base::picks::Picks;
 use std::marker::Model;
 
 /// A packet that was handled: what the outputs and the journal are told of it. What it came to stands
-/// in parts, as a context has it.
+/// in parts, as a context has it, and of its fields nothing is read.
 ///
-/// The original length is in bytes, the frame is the captured bytes.
+/// The time is in nanoseconds, the original length in bytes, the frame is the captured bytes.
 #[derive(Drop)]
 pub struct HandledParts<'a> {
     pub worker: u32,
-    pub packet: &'a Packet,
+    pub id: PacketId,
+    pub time: u64,
+    pub fields: ToldFields<'a>,
     pub original: u32,
     pub frame: &'a [u8],
     pub action: Action,
@@ -29,10 +32,11 @@ impl<'a> Model for HandledParts<'a> {
 
     ghost Value = { Handled };
 
-    ghost view = { λ h. came_to h.worker h.packet.now h.original h.frame.now
+    ghost view = { λ h. came_to h.worker
+        (record { id = h.id; time = h.time; fields = h.fields }) h.original h.frame.now
         (record { action = h.action; edits = h.edits.now; picks = h.picks.now }) };
 
-    ghost invariant = { λ h. (h.packet.now.time ≤ greatest_time) × (length h.frame.now ≤ 262144) };
+    ghost invariant = { λ h. (h.time ≤ greatest_time) × (length h.frame.now ≤ 262144) };
 }
 
 /// The same, beside what it came to in one piece.
@@ -66,7 +70,9 @@ impl<'a> HandledPacket<'a> {
     {
         HandledParts {
             worker: self.worker,
-            packet: self.packet,
+            id: self.packet.id,
+            time: self.packet.time,
+            fields: ToldFields::of_packet(self.packet),
             original: self.original,
             frame: self.frame,
             action: self.done.action,

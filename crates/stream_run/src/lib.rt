@@ -15,6 +15,7 @@ mod sink;
 mod sinks;
 mod stop;
 mod streaming;
+mod told;
 
 pub use ending::Ending;
 pub use handled::{HandledPacket, HandledParts};
@@ -26,3 +27,4 @@ pub use sink::Sink;
 pub use sinks::{flush_all, flush_full, hold_all, put_all};
 pub use stop::Stop;
 pub use streaming::run;
+pub use told::ToldFields;

@@ -104,14 +104,16 @@ pub(crate) fn push_sent_packet(
 {
     let HandledParts {
         worker: _,
-        packet,
+        id: _,
+        time,
+        fields: _,
         original,
         frame,
         action: _,
         edits,
         picks: _,
     } = handled;
-    push_edited(buffer, format, packet.time, *original, frame, edits)
+    push_edited(buffer, format, *time, *original, frame, edits)
 }
 
 // Puts a packet into some room, from a place on: where it ends. Its frame is edited where it was put.
@@ -151,14 +153,16 @@ pub(crate) fn put_sent(
 {
     let HandledParts {
         worker: _,
-        packet,
+        id: _,
+        time,
+        fields: _,
         original,
         frame,
         action: _,
         edits,
         picks: _,
     } = handled;
-    put_edited(room, at, format, packet.time, *original, frame, edits)
+    put_edited(room, at, format, *time, *original, frame, edits)
 }
 
 /// Puts a packet's line in the journal into some room, from a place on: where it ends.
@@ -170,14 +174,16 @@ pub(crate) fn put_handled_line(room: &mut [u8], at: usize, handled: &HandledPart
 {
     let HandledParts {
         worker,
-        packet,
+        id,
+        time: _,
+        fields: _,
         original: _,
         frame: _,
         action,
         edits: _,
         picks,
     } = handled;
-    put_packet_line(room, at, packet.id, *worker, *action, picks)
+    put_packet_line(room, at, *id, *worker, *action, picks)
 }
 
 /// How many bytes the frame of a packet has.
@@ -192,16 +198,7 @@ pub(crate) fn frame_length(handled: &HandledParts) -> usize
 pub(crate) fn is_sent(port: u32, handled: &HandledParts) -> bool
     ensures { result ≡ is_sent port handled.now }
 {
-    let HandledParts {
-        worker: _,
-        packet,
-        original: _,
-        frame: _,
-        action,
-        edits: _,
-        picks: _,
-    } = handled;
-    sends(*action, packet.id.port, port)
+    sends(handled.action, handled.id.port, port)
 }
 
 /// Where a packet goes.

@@ -7,12 +7,13 @@ ghost use Rattle.nf_base.specs.Functions.{function_of};
 ghost use Rattle.nf_base.specs.Step.{step, opening};
 ghost use Rattle.nf_engine.specs.Handlings.{done_of};
 ghost use Rattle.nf_engine.specs.View.{fixed_of};
-ghost use Rattle.pcap_file.specs.Record.{greatest_time};
 ghost use Rattle.packet_feed.specs.Faults.{IsReadFault, IsOneOf};
 ghost use Rattle.packet_feed.specs.Told.{EachFile, IsApart};
 ghost use Rattle.packet_feed.specs.Sources.{files_in, sixes_in};
+ghost use Rattle.packet_feed.specs.Feeding.{last_packet, frame_of, original_of};
 ghost use Rattle.run_history.specs.declared.line.Mode.TheVariants.{One};
 ghost use Rattle.stream_run.specs.Writing.{files_of, AreHeld, KeepsAllBut, KeepsBut, IsStopCause, StopsAmong};
+ghost use Rattle.stream_run.specs.Seen.{packet_seen};
 ghost use Rattle.stream_run.specs.Streaming.{HandlesOne, Comes, stop_in};
 
 use crate::ending::Ending;
@@ -20,59 +21,70 @@ use crate::handled::HandledParts;
 use crate::sink::Sink;
 use crate::sinks::put_parts;
 use crate::stop::Stop;
+use crate::told::ToldFields;
+use frame_ip::View;
+use frame_reads::FrameFields;
 use nf_base::done::Action;
-use nf_base::packet::Packet;
+use nf_base::packet::PacketId;
 use nf_base::seq::Seq;
 use nf_code::ready::Ready;
-use nf_engine::{Context, PacketFields, handle_whole_ready};
+use nf_engine::{Context, handle_whole_ready};
 use nf_files::Files;
-use packet_feed::{Fed, Feed, FeedFault};
+use packet_feed::{Feed, FeedFault, Moved};
 use vig_tables::Tables;
 
-// Handles a packet in a context that is kept from packet to packet.
-fn handle_kept(tables: &mut Tables, func: &Ready, packet: &Packet, context: &mut Context) -> Action
+// Handles a packet that came at a time, in nanoseconds, by its frame where that lies, in a context that
+// is kept from packet to packet; where none is seen, the packet is skipped.
+#[inline]
+fn handle_kept(
+    tables: &mut Tables,
+    func: &Ready,
+    id: PacketId,
+    time: u64,
+    seen: Option<View<'_>>,
+    context: &mut Context,
+) -> Action
     requires of_func { tables.old.decls ≡ func.now.chains }
     requires whole { tables.old.share.of ≡ 1 }
-    requires port { packet.now.id.port < length func.now.handlers }
-    requires served { IsServed (function_of func.now) packet.now }
-    ensures steps { step (function_of func.now) tables.old.state packet.now context.new.picks
+    requires port { id.port < length func.now.handlers }
+    requires served { IsServed (function_of func.now) (packet_seen id time seen) }
+    ensures steps { let p = packet_seen id time seen.entry in
+        step (function_of func.now) tables.old.state p context.new.picks
         ≡ Some (record { state = tables.new.state; done = done_of result context.new }) }
     ensures same { fixed_of tables.new ≡ fixed_of tables.old }
 {
-    let Some(fields) = &packet.fields else {
-        *context = Context::new();
-        return Action::Skip;
-    };
-    let seen = PacketFields {
-        id: packet.id,
-        time: packet.time,
-        fields,
-    };
-    handle_whole_ready(tables, func, &seen, context)
+    match seen {
+        Some(view) => {
+            let packet = FrameFields { id, time, view };
+            handle_whole_ready(tables, func, &packet, context)
+        }
+        None => {
+            *context = Context::new();
+            Action::Skip
+        }
+    }
 }
 
-// Handles a packet, and puts what it leaves into all files.
+// Handles the packet that a feed gave last, and puts what it leaves into all files.
 fn handle_one<F: Files>(
     files: &mut F,
     func: &Ready,
     tables: &mut Tables,
     context: &mut Context,
     sinks: &mut Seq<Sink>,
-    packet: &Packet,
-    original: u32,
-    frame: &[u8],
+    feed: &Feed,
 ) -> Result<(), Stop>
     requires of_func { tables.old.decls ≡ func.now.chains }
     requires whole { tables.old.share.of ≡ 1 }
-    requires port { packet.now.id.port < length func.now.handlers }
-    requires served { IsServed (function_of func.now) packet.now }
+    requires port { (last_packet feed.now).id.port < length func.now.handlers }
+    requires served { IsServed (function_of func.now) (last_packet feed.now) }
     requires created { EachFile (F.is_written files.old) (files_of sinks.old) }
     requires apart { IsApart (files_of sinks.old) }
     requires few { length sinks.old ≤ 2 ^ 32 }
-    requires time { packet.now.time ≤ greatest_time }
-    requires captured { length frame.now ≤ 262144 }
-    ensures handles { HandlesOne (function_of func.now) (length func.now.handlers)
-        packet.now original frame.now tables.old.state tables.new.state
+    requires captured { length (frame_of feed.now) ≤ 262144 }
+    ensures handles { let v = feed.now in
+        HandlesOne (function_of func.now) (length func.now.handlers)
+        (last_packet v) (original_of v) (frame_of v) tables.old.state tables.new.state
         (F.told files.old) (F.told files.new) sinks.old sinks.new result }
     ensures same { fixed_of tables.new ≡ fixed_of tables.old }
     ensures same_files { files_of sinks.new ≡ files_of sinks.old }
@@ -82,12 +94,18 @@ fn handle_one<F: Files>(
     ensures reads { (g : ℕ) → F.is_read files.old g → F.is_read files.new g }
     ensures writes { (g : ℕ) → F.is_written files.old g → F.is_written files.new g }
 {
-    let action = handle_kept(tables, func, packet, context);
+    let id = feed.id();
+    let time = feed.time();
+    let seen = feed.view();
+    let fields = ToldFields::of_frame(&seen);
+    let action = handle_kept(tables, func, id, time, seen, context);
     let handled = HandledParts {
         worker: 0,
-        packet,
-        original,
-        frame,
+        id,
+        time,
+        fields,
+        original: feed.original(),
+        frame: feed.frame(),
         action,
         edits: context.edits(),
         picks: context.picks(),
@@ -154,23 +172,12 @@ pub fn handle_all<F: Files>(
 {
     let mut context = Context::new();
     'packets: loop {
-        match feed.next(files) {
-            Ok(Fed::End) => return Ok(Ending::All),
-            Ok(Fed::TooMany) => return Ok(Ending::TooMany),
+        match feed.advance(files) {
+            Ok(Moved::End) => return Ok(Ending::All),
+            Ok(Moved::TooMany) => return Ok(Ending::TooMany),
             Err(fault) => return Err(stop_in(captures, fault)),
-            Ok(Fed::Packet(packet)) => {
-                let original = feed.original();
-                let frame = feed.frame();
-                match handle_one(
-                    files,
-                    func,
-                    tables,
-                    &mut context,
-                    sinks,
-                    &packet,
-                    original,
-                    frame,
-                ) {
+            Ok(Moved::Packet) => {
+                match handle_one(files, func, tables, &mut context, sinks, feed) {
                     Ok(()) => {}
                     Err(stop) => return Err(stop),
                 }

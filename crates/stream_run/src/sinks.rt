@@ -176,7 +176,8 @@ pub fn put_all<F: Files>(
     ensures reads { (g : ℕ) → F.is_read files.old g → F.is_read files.new g }
     ensures writes { (g : ℕ) → F.is_written files.old g → F.is_written files.new g }
 {
-    put_parts(sinks, files, ports, &handled.parts())
+    let told = handled.parts();
+    put_parts(sinks, files, ports, &told)
 }
 
 /// Gives to all files what is held for them.

@@ -8,7 +8,7 @@ ghost use Rattle.ring_line.specs.Lanes.{StandsFor, StartsWith};
 ghost use Rattle.ring_line.specs.Starts.{IsGiven, AreEnds};
 
 use super::Lane;
-use crate::bell::looks_for;
+use crate::bell::Looks;
 use crate::desk::Desk;
 use crate::item::Item;
 use crate::keeps::{Ended, Ends, Keeps};
@@ -136,25 +136,25 @@ fn new_bells(alloc: Global, own_bell: &Arc<Parker>) -> Result<Bells, AllocError>
     })
 }
 
-/// A desk of a function, with opened tables.
+/// A desk of a function and tables of a share of it.
 pub(crate) fn new_desk<G: Turns + Drop>(
-    alloc: Global,
     func: Func,
-    share: Share,
+    tables: Tables,
     turns: &Arc<G>,
 ) -> Result<Desk<G>, AllocError>
+    requires { tables.decls ≡ func.chains }
     ensures func { IfOk result (λ desk. desk.func ≡ func) }
-    ensures tables { IfOk result (λ desk. desk.tables ≡ opened_tables (function_of func) share) }
+    ensures tables { IfOk result (λ desk. desk.tables ≡ tables) }
     ensures halt { IfOk result (λ desk. desk.halt ≡ None) }
 {
-    let tables = Tables::new(alloc, &func, share)?;
     let turns = Arc::try_clone(turns)?;
-    Ok(Desk::new(func, tables, share.queue, turns))
+    let number = tables.share().queue;
+    Ok(Desk::new(func, tables, number, turns))
 }
 
 impl Lane {
-    /// Starts a worker of a share, whose tables are opened here: None where no thread can be started.
-    /// A pack is pushed once it has so many packets, 64 at most, or when it is flushed.
+    /// Starts a worker of a share, with its opened tables: None where no thread can be started. A pack is
+    /// pushed once it has so many packets, 64 at most, or when it is flushed.
     ///
     /// The bell is rung whenever a pack comes back.
     pub(crate) fn start<
@@ -164,19 +164,21 @@ impl Lane {
         rt: &R,
         alloc: Global,
         func: Func,
+        tables: Tables,
         share: Share,
         size: usize,
         turns: &Arc<G>,
         own_bell: &Arc<Parker>,
     ) -> Result<Option<Lane>, AllocError>
+        requires { tables ≡ opened_tables (function_of func) share }
         ensures stands { IfOk result (λ o. IfSome o (λ lane. StandsFor lane func share [] [])) }
         ensures none { IfOk result (λ o. IfSome o (λ lane. lane.in_flight ≡ 0)) }
     {
-        let desk = new_desk(alloc, func, share, turns)?;
+        let desk = new_desk(func, tables, turns)?;
         let stock = new_stock(alloc)?;
         let bells = new_bells(alloc, own_bell)?;
         // The workers, and whoever collects.
-        let looks = looks_for(rt, share.of as usize + 1);
+        let looks = Looks::of(rt, share.of as usize + 1);
         Lane::begin(rt, alloc, desk, stock, bells, looks, size)
     }
 
@@ -190,7 +192,7 @@ impl Lane {
         desk: Desk<G>,
         stock: Stock,
         bells: Bells,
-        looks: u32,
+        looks: Looks,
         size: usize,
     ) -> Result<Option<Lane>, AllocError>
         requires filling { stock.filling ≡ empty_pack }
@@ -212,6 +214,7 @@ impl Lane {
             bell: bell_there,
             other: own_bell_there,
             looks,
+            alloc,
         };
         let Stock {
             filling,

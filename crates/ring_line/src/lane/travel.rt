@@ -5,6 +5,7 @@ ghost use Rattle.nf_base.specs.declared.packet.Packet as arrival;
 ghost use Rattle.nf_base.specs.declared.share.Share.{Share};
 ghost use Rattle.nf_base.specs.Functions.{function_of};
 ghost use Rattle.shard_machine.specs.declared.event.Answer as answer;
+ghost use Rattle.short_answers.specs.Answers.{done_told};
 ghost use Rattle.ring_line.specs.Handled.{CanServe};
 ghost use Rattle.ring_line.specs.Handed.{IsNext, Finishes};
 ghost use Rattle.ring_line.specs.Lanes.{StandsFor, HasAnswer, FirstAnswer, HasHalted};
@@ -107,7 +108,7 @@ impl Lane {
     pub fn answer(&self) -> AnswerRef<'_>
         requires { HasAnswer self.now }
         ensures { FirstAnswer self.now
-            (record { packet = result.packet.now; done = result.done.now }) }
+            (record { packet = result.packet.now; done = done_told result.told }) }
     {
         self.current.answer_at(self.at)
     }
@@ -147,7 +148,7 @@ impl Lane {
             StandsFor self.new func share packets answers }
         ensures in_flight { self.new.in_flight ≡ self.old.in_flight }
     {
-        let pack = take(rt, &mut self.back, &*self.own_bell, self.looks);
+        let pack = take(rt, &mut self.back, &*self.own_bell, &mut self.looks);
         let used = mem::replace(&mut self.current, pack);
         self.at = 0;
         keep(&mut self.spares, used);

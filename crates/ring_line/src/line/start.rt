@@ -4,15 +4,17 @@ ghost use Rattle.std.specs.Vec.{vec_capacity};
 ghost use Rattle.nf_base.specs.Functions.{function_of};
 ghost use Rattle.shard_machine.specs.Machine.{Setup};
 ghost use Rattle.shard_machine.specs.Moments.{IsSetup};
+ghost use Rattle.ring_line.specs.Places.{all_in_flight};
+ghost use Rattle.ring_line.specs.Openings.{AreOpenedFrom};
 ghost use Rattle.ring_line.specs.Lines.{LineStands, AreStarted};
 
 use super::finish::finish_all;
 use super::{ALL_IN_FLIGHT, Line};
+use crate::opening::{Opened, open_each};
 use crate::place::Place;
 use nf_base::func::Func;
 use nf_base::seq::Seq;
 use nf_base::workers::Workers;
-use rss_table::share;
 use std::alloc::{AllocError, Global};
 use std::collections::VecDeque;
 use std::sync::{Arc, Wait};
@@ -23,8 +25,9 @@ impl<G: Turns + Send + Sync + Drop + 'static> Line<G> {
     /// Starts a worker of each queue, in a thread of its own where one can be started. A pack goes out once
     /// it has so many packets, 64 at most, or when an answer is waited for.
     ///
-    /// `turns` is told of each packet that a worker comes to. At an `Err` no worker is left running.
-    pub fn start<R: Threads + Wait + Clone + Send + Drop + 'static>(
+    /// Tables are opened side by side. `turns` is told of each packet that a worker comes to. At an `Err` no
+    /// worker is left running.
+    pub fn start<R: Threads + Wait + Clone + Send + Sync + Drop + 'static>(
         rt: &R,
         alloc: Global,
         func: &Func,
@@ -38,10 +41,11 @@ impl<G: Turns + Send + Sync + Drop + 'static> Line<G> {
         ensures queues { IfOk result (λ line. length line.places ≡ workers) }
         ensures none { IfOk result (λ line. line.order.items ≡ []) }
     {
+        let opened = open_each(rt, alloc, func, workers)?;
         let order = VecDeque::with_capacity(alloc, ALL_IN_FLIGHT)?;
         let parts = Vec::with_capacity(alloc, 16)?;
         let mut places = Vec::with_capacity(alloc, 16)?;
-        match start_all(rt, alloc, func, workers, size, turns, &mut places) {
+        match start_all(rt, alloc, func, opened, workers, size, turns, &mut places) {
             Ok(()) => Ok(Line {
                 places: Seq::from_vec(places),
                 order,
@@ -56,7 +60,7 @@ impl<G: Turns + Send + Sync + Drop + 'static> Line<G> {
     }
 }
 
-/// Starts workers, of one queue after another. There is room for them.
+/// Starts workers, of one queue after another, each with its tables. There is room for them.
 fn start_all<
     R: Threads + Wait + Clone + Send + Drop + 'static,
     G: Turns + Send + Sync + Drop + 'static,
@@ -64,20 +68,28 @@ fn start_all<
     rt: &R,
     alloc: Global,
     func: &Func,
+    opened: Seq<Opened>,
     workers: Workers,
     size: usize,
     turns: &Arc<G>,
     places: &mut Vec<Place<G>>,
 ) -> Result<(), AllocError>
-    requires none { places.old.items ≡ [] }
+    requires opened { AreOpenedFrom (function_of func.now) workers 0 opened }
+    requires new { places.old.items ≡ [] }
     requires room { 16 ≤ vec_capacity places.old }
     ensures started { OnOk result (AreStarted (function_of func.now) workers places.new.items) }
     ensures all { OnOk result (length places.new.items ≡ workers) }
     ensures most { length places.new.items ≤ 16 }
+    ensures none { OnOk result (all_in_flight places.new.items ≡ 0) }
 {
     let bell = Arc::new(alloc, Parker::new())?;
+    let mut opened = opened;
     for queue in 0..workers.get() {
-        match Place::start(rt, alloc, func, share(queue, workers), size, turns, &bell) {
+        let Ok(tables) = opened.remove_first() else {
+            return Err(AllocError);
+        };
+        let share = tables.share();
+        match Place::start(rt, alloc, func, tables, share, size, turns, &bell) {
             Ok(place) => places.push_reserved(place),
             Err(fault) => return Err(fault),
         }

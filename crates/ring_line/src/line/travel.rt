@@ -4,6 +4,7 @@ ghost use Rattle.nf_base.specs.declared.packet.Packet as arrival;
 ghost use Rattle.shard_laws.specs.Queues.{time_after};
 ghost use Rattle.shard_machine.specs.Machine.{Setup};
 ghost use Rattle.shard_core.specs.declared.collected.Collected as got;
+ghost use Rattle.short_answers.specs.Answers.{done_told};
 ghost use Rattle.ring_line.specs.Places.{CanHandle};
 ghost use Rattle.ring_line.specs.Lines.{LineStands, HasRoom, ComesFirst, LineHasAnswer, LineFirstAnswer, IsFirst, Collects, IsCollected};
 
@@ -13,6 +14,7 @@ use crate::lane::Next;
 use nf_base::done::Done;
 use nf_base::packet::Packet;
 use shard_core::{Collected, Stop};
+use short_answers::{Told, plain};
 use std::sync::Wait;
 use worker_turns::Turns;
 
@@ -32,11 +34,12 @@ impl<G: Turns + Drop> Line<G> {
     }
 
     /// Whether a packet can be sent to a queue: fewer than 64 of it are in flight, and fewer than 1,024 of
-    /// all.
+    /// all. So it can where none is.
     pub fn has_room(&self, queue: u32) -> bool
         requires { queue < length self.now.places }
         ensures yes { result ≡ true → HasRoom self.now queue }
         ensures all { HasRoom self.now queue → result ≡ true }
+        ensures none { length self.now.order.items ≡ 0 → result ≡ true }
     {
         self.order.len() < ALL_IN_FLIGHT && self.places.item(queue as usize).has_room()
     }
@@ -110,14 +113,18 @@ impl<G: Turns + Drop> Line<G> {
     pub fn answer(&self) -> CollectedRef<'_>
         requires { LineHasAnswer self.now }
         ensures { LineFirstAnswer self.now
-            (record { packet = result.packet.now; queue = result.queue; done = result.done.now }) }
+            (record {
+              packet = result.packet.now;
+              queue = result.queue;
+              done = done_told result.told;
+            }) }
     {
         let queue = self.first();
         let answer = self.places.item(queue as usize).answer();
         CollectedRef {
             packet: answer.packet,
             queue,
-            done: answer.done,
+            told: answer.told,
         }
     }
 
@@ -223,23 +230,32 @@ impl<G: Turns + Drop> Line<G> {
     }
 }
 
+/// All that a packet came to.
+fn whole_of(told: Told<'_>) -> Done
+    ensures { result ≡ done_told told.entry }
+{
+    match told {
+        Told::Plain(action) => plain(action),
+        Told::Whole(done) => Done {
+            action: done.action,
+            edits: done.edits,
+            picks: done.picks.again(),
+        },
+    }
+}
+
 /// An answer of its own.
 fn copy_of(answer: CollectedRef<'_>) -> Collected
     ensures { result ≡ record {
       packet = answer.entry.packet.now;
       queue = answer.entry.queue;
-      done = answer.entry.done.now;
+      done = done_told answer.entry.told;
     } }
 {
-    let done = answer.done;
     Collected {
         packet: *answer.packet,
         queue: answer.queue,
-        done: Done {
-            action: done.action,
-            edits: done.edits,
-            picks: done.picks.again(),
-        },
+        done: whole_of(answer.told),
     }
 }
 

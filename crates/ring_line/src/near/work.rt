@@ -7,6 +7,7 @@ ghost use Rattle.nf_base.specs.declared.state.State.{State};
 ghost use Rattle.nf_base.specs.Functions.{function_of};
 ghost use Rattle.vig_tables.specs.TablesState.{opened_tables};
 ghost use Rattle.shard_machine.specs.declared.event.Answer as answer;
+ghost use Rattle.short_answers.specs.Answers.{done_told};
 ghost use Rattle.ring_line.specs.Packs.{empty_pack};
 ghost use Rattle.ring_line.specs.Handled.{CanServe, CameTo};
 ghost use Rattle.ring_line.specs.Handed.{IsNext, Finishes};
@@ -14,6 +15,7 @@ ghost use Rattle.ring_line.specs.Nears.{NearStands, NearHasAnswer, NearFirstAnsw
 
 use super::Near;
 use crate::desk::Desk;
+use crate::hand::Hand;
 use crate::lane::Next;
 use crate::pack::{AnswerRef, IN_FLIGHT, Pack};
 use nf_base::packet::Packet;
@@ -83,7 +85,7 @@ impl<G: Turns + Drop> Near<G> {
     pub(crate) fn answer(&self) -> AnswerRef<'_>
         requires { NearHasAnswer self.now }
         ensures { NearFirstAnswer self.now
-            (record { packet = result.packet.now; done = result.done.now }) }
+            (record { packet = result.packet.now; done = done_told result.told }) }
     {
         self.current.answer_at(self.at)
     }
@@ -130,7 +132,7 @@ impl<G: Turns + Drop> Near<G> {
         mem::swap(&mut self.filling, &mut self.current);
         self.filling.clear();
         self.at = 0;
-        self.desk.answer(&mut self.current);
+        self.desk.answer(&mut Hand::by_text(), &mut self.current);
     }
 
     /// Works the packets that wait, and hands the tables out.
@@ -166,6 +168,6 @@ fn work_rest<G: Turns + Drop>(desk: Desk<G>, pack: Pack) -> Tables
 {
     let mut desk = desk;
     let mut pack = pack;
-    desk.answer(&mut pack);
+    desk.answer(&mut Hand::by_text(), &mut pack);
     desk.into_tables()
 }

@@ -33,7 +33,7 @@ fn pack_size(workers: Workers) -> usize {
 
 impl<G: Turns + Send + Sync + Drop + 'static> Crew<G> {
     /// Workers of a function, before the first packet, with a key for each of its ports.
-    pub(crate) fn start<R: Threads + Wait + Clone + Send + Drop + 'static>(
+    pub(crate) fn start<R: Threads + Wait + Clone + Send + Sync + Drop + 'static>(
         rt: &R,
         alloc: Global,
         func: &Func,

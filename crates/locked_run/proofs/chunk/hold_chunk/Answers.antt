@@ -1,6 +1,6 @@
 use Rattle.std.proofs.Common.{◌≡◌, ◌+◌, ◌∙◌, List, map, subst, arith}
 use Rattle.packet_feed.specs.Arrivals.{packet_of}
-use Rattle.lock_log.specs.Answers.{done_told}
+use Rattle.short_answers.specs.Answers.{done_told}
 use Rattle.stream_run.specs.Runs.{Handled}
 use Rattle.locked_run.specs.Handled.{joined}
 use Rattle.locked_run.specs.Chunks.{HoldPieces}

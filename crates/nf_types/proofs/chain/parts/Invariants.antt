@@ -8,8 +8,8 @@ use Rattle.nf_types.proofs.chain.parts.Given as goal
 
 abbrev pub invariant-loop-one : goal.invariant-loop-one
 invariant-loop-one l = record {
-  so_far : fold with_part l.chain (drop l.one-index l.parts) ≡ fold with_part l.initial.chain l.parts;
-  good : first (parts_faults l.maps l.fixed l.chain (drop l.one-index l.parts)) ≡ first (parts_faults l.maps 0 l.initial.chain l.parts);
+  so_far : fold with_part l.chain (drop l.one-index l.parts) ≡ fold with_part l.fn.chain l.parts;
+  good : first (parts_faults l.maps l.fixed l.chain (drop l.one-index l.parts)) ≡ first (parts_faults l.maps 0 l.fn.chain l.parts);
   maps : l.maps + length l.chain.maps ≤ 16;
   fixed : l.fixed ≤ 8;
   roomy : IsRoomy l.fixed l.chain;

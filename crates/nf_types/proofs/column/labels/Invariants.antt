@@ -7,11 +7,11 @@ use Rattle.nf_types.proofs.column.labels.Given as goal
 
 abbrev pub invariant-loop-i : goal.invariant-loop-i
 invariant-loop-i l = record {
-  so_far : fold with_label_of l.chain (drop l.i l.labels) ≡ fold with_label_of l.initial.chain l.labels;
-  good : first (labels_faults l.chain l.i (drop l.i l.labels)) ≡ first (labels_faults l.initial.chain 0 l.labels);
+  so_far : fold with_label_of l.chain (drop l.i l.labels) ≡ fold with_label_of l.fn.chain l.labels;
+  good : first (labels_faults l.chain l.i (drop l.i l.labels)) ≡ first (labels_faults l.fn.chain 0 l.labels);
   few : l.i ≤ 8;
-  labels : length l.chain.labels ≡ length l.initial.chain.labels + l.i;
-  order : length l.chain.order ≡ length l.initial.chain.order + l.i;
-  columns : l.chain.columns ≡ l.initial.chain.columns;
-  maps : l.chain.maps ≡ l.initial.chain.maps;
+  labels : length l.chain.labels ≡ length l.fn.chain.labels + l.i;
+  order : length l.chain.order ≡ length l.fn.chain.order + l.i;
+  columns : l.chain.columns ≡ l.fn.chain.columns;
+  maps : l.chain.maps ≡ l.fn.chain.maps;
 }

@@ -40,8 +40,8 @@ pub returns-in-Err-clause-went : goal.returns-in-Err-clause-went
 returns-in-Err-clause-went g c = λ captures.
     went_then captures _ _ _ _ _ _ _ _ (tt {0}) _ c.loop.invariant.same_files (c.loop.invariant.went captures) (c.in-Err.ensures.went captures)
 
-pub loop-preserved-in-Ok-None : goal.loop-preserved-in-Ok-None
-loop-preserved-in-Ok-None g c =
+pub loop-preserved : goal.loop-preserved
+loop-preserved g c =
     let inv = c.loop.invariant in
     record {
       passing = λ x card format all st. (rw c.in-Ok-None.field-0-is at c.in-Ok-None.ensures.wrote) x card format all (inv.passing x card format all st);

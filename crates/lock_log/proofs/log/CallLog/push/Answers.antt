@@ -2,7 +2,7 @@ use Rattle.std.proofs.Common.{◌≡◌, ◌++◌, ◌∷◌, [], List, ap, ◌�
 use Rattle.nf_base.specs.declared.done.Done.{Done}
 use Rattle.nf_base.specs.declared.packet.Packet.{Packet}
 use Rattle.lock_core.specs.declared.call.Call.{Call}
-use Rattle.lock_log.specs.Answers.{answer_in}
+use Rattle.short_answers.specs.Answers.{answer_in}
 use Rattle.lock_log.specs.Notes.{Note, LogState, calls_in}
 use Rattle.lock_log.proofs.Keeping.{calls_pushed}
 use Rattle.lock_log.proofs.log.CallLog.push.Goals as goal

@@ -1,5 +1,6 @@
-use Rattle.std.proofs.Common.{◌≡◌, ◌≤◌, ℕ, List, slice_get, length, ap, sym, subst, refl, ◌∙◌, arith}
+use Rattle.std.proofs.Common.{◌≡◌, ◌≤◌, ℕ, List, Option, slice_get, length, ap, sym, subst, refl, ◌∙◌, arith}
 use Rattle.std.proofs.lemmas.Option.{slice_get_read, same_Some}
+use Rattle.nf_base.specs.declared.packet.Fields.{Fields}
 use Rattle.packet_feed.specs.Arrivals.{Arrival}
 use Rattle.stream_run.specs.Writing.{came_to}
 use Rattle.locked_run.specs.Batches.{arrival_of}
@@ -63,5 +64,6 @@ returns c = λ a at.
     let e = slice_get_read ps (length ps) k p refl (omega (arith, c.requires, long, same)) c.index-packet.ensures in
     let q = slice_get_read fs (length fs) k f refl (omega (arith, c.requires, long, same, many)) c.index-frame.ensures in
     let here : arrival_of b.pieces p f ≡ a = same_Some _ _ (sym (arrival_at b.pieces ps fs k p f e q) ∙ (ap (λ (as_list : List Arrival). slice_get as_list k) c.self.view_is ∙ at)) in
-    ap (λ (bs : List ℕ). came_to c.args.worker p f.original bs (record { action = c.args.action; edits = c.args.edits.now; picks = c.args.picks.now })) c.at-bytes.ensures
+    ap (λ (fields : Option Fields). came_to c.args.worker (record { id = p.id; time = p.time; fields = fields }) f.original c.at-bytes.result.now (record { action = c.args.action; edits = c.args.edits.now; picks = c.args.picks.now })) c.of_packet.ensures
+    ∙ ap (λ (bs : List ℕ). came_to c.args.worker p f.original bs (record { action = c.args.action; edits = c.args.edits.now; picks = c.args.picks.now })) c.at-bytes.ensures
     ∙ ap (λ (z : Arrival). record { arrival = z; worker = c.args.worker; done = record { action = c.args.action; edits = c.args.edits.now; picks = c.args.picks.now } }) here

@@ -15,9 +15,10 @@ loop-self-init g c =
     let begin : Packed = c.args.pack.now in
     let none : (told : List Answer) → told ++ answers_of c.forget_answers.new.self ≡ told = λ told. ap (λ (p : Packed). told ++ answers_of p) c.forget_answers.ensures ∙ ap (λ (as_ : List Answer). told ++ as_) (answered_none begin.packets) ∙ append_nil told in
     record {
+      hand = refl;
       packets = ap (λ (p : Packed). p.packets) c.forget_answers.ensures;
       none = ap (λ (p : Packed). p.halt) c.forget_answers.ensures;
-      running = c.requires;
+      running = c.requires.running;
       func = refl;
       fixed = refl;
       came = λ first told all h. subst (λ (as_ : List Answer). Handles (function_of desk.func) desk.tables.share first as_ desk.tables.state) (sym (none told)) h;
@@ -34,6 +35,7 @@ loop-self-preserved g c =
     let inv = c.loop-self.invariant in
     let a = subst (λ (b : Bool). WentOn b c.loop-self.self c.loop-self.pack c.answer_next.new.self c.answer_next.new.pack) c.if-not-answer_next.false c.answer_next.ensures.went in
     record {
+      hand = c.answer_next.ensures.hand ∙ inv.hand;
       packets = ap (λ (p : Packed). p.packets) a.pack ∙ inv.packets;
       none = ap (λ (p : Packed). p.halt) a.pack ∙ inv.none;
       running = a.running;

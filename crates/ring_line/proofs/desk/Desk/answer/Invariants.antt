@@ -10,6 +10,7 @@ use Rattle.ring_line.proofs.desk.Desk.answer.Given as goal
 -- the packets so far are handled, behind whatever was before
 abbrev pub invariant-loop-self : goal.invariant-loop-self
 invariant-loop-self g l = record {
+  hand : l.hand.ready ≡ l.fn.hand.ready;
   packets : l.pack.packets ≡ l.fn.pack.packets;
   none : l.pack.halt ≡ None;
   running : l.self.halt ≡ None;

@@ -1,9 +1,11 @@
-use Rattle.std.proofs.Common.{◌≡◌, ◌<◌, Some, slice_get, length, refl, ◌∙◌, arith}
+use Rattle.std.proofs.Common.{◌≡◌, ◌<◌, Some, slice_get, length, refl, ◌∙◌, arith, ◌≤◌, ℕ, All, sym, subst}
 use Rattle.std.proofs.lemmas.Option.{slice_get_read}
+use Rattle.std.specs.Vec.{vec_capacity}
 use Rattle.std.proofs.lemmas.List.{length-set}
 use Rattle.shard_machine.specs.Machine.{packets_at}
 use Rattle.ring_line.specs.Plays.{collected_at}
 use Rattle.ring_line.proofs.Lining.{StandAt, each_set}
+use Rattle.ring_line.proofs.Flights.{flights_set}
 use Rattle.ring_line.proofs.line.Line.flush.Goals as goal
 
 pub loop-queue-preserved : goal.loop-queue-preserved
@@ -28,3 +30,24 @@ loop-queue-preserved g c =
       order = inv.order;
       queues = length-set here.places q c.flush.new.self ∙ inv.queues;
     }
+
+pub invariant_of-self-clause-flights : goal.invariant_of-self-clause-flights
+invariant_of-self-clause-flights g c =
+    let here = c.loop-queue.self in
+    let q = c.loop-queue.queue in
+    let place = c.item_mut.result.now in
+    let test = c.loop-queue-test.true in
+    let lt : q < length here.places = omega (arith, test, c.loop-queue.invariant.queues, c.len-queue-end.ensures) in
+    let at : slice_get here.places q ≡ Some place = slice_get_read here.places (length here.places) q place refl lt c.item_mut.ensures.value in
+    let set = flights_set here.places q place c.flush.new.self at in
+    omega (arith, set, c.flush.ensures.in_flight, here.flights)
+
+pub invariant_of-self-clause-below : goal.invariant_of-self-clause-below
+invariant_of-self-clause-below g c =
+    let here = c.loop-queue.self in
+    subst (λ (n : ℕ). All (λ (q : ℕ). q < n) here.order.items) (sym (length-set here.places c.loop-queue.queue c.flush.new.self)) here.below
+
+pub invariant_of-self-clause-enough : goal.invariant_of-self-clause-enough
+invariant_of-self-clause-enough g c =
+    let here = c.loop-queue.self in
+    subst (λ (n : ℕ). n ≤ vec_capacity here.parts) (sym (length-set here.places c.loop-queue.queue c.flush.new.self)) here.enough

@@ -1,15 +1,19 @@
-use Rattle.std.proofs.Common.{◌≡◌, ℕ, ◌∷◌, ◌++◌, [], map, Some, slice_get, slice_set, length, refl, ap, ◌∙◌, subst}
+use Rattle.std.proofs.Common.{◌≡◌, ℕ, ◌∷◌, ◌++◌, [], map, Some, slice_get, slice_set, length, refl, ap, ◌∙◌, subst, arith, ◌<◌, ◌≤◌, All, sym}
 use Rattle.std.proofs.lemmas.Option.{slice_get_read, slice_get_within}
+use Rattle.std.specs.Vec.{vec_capacity}
+use Rattle.std.proofs.lemmas.List.Elements.{All-rest}
 use Rattle.std.proofs.lemmas.List.{length-set}
 use Rattle.shard_core.specs.declared.collected.Collected.{Collected}
 use Rattle.shard_core.specs.Sharded.{answer_of}
 use Rattle.shard_machine.specs.Machine.{packets_at}
 use Rattle.shard_laws.specs.Queues.{time_after}
+use Rattle.short_answers.specs.Answers.{done_told}
 use Rattle.ring_line.specs.Places.{PlaceHasAnswer, PlaceFirstAnswer, PlaceStands}
 use Rattle.ring_line.specs.Plays.{collected_at}
 use Rattle.ring_line.specs.Lines.{LineFirstAnswer}
 use Rattle.ring_line.proofs.Lining.{got_places, got_order, got_time, popped}
 use Rattle.ring_line.proofs.Lying.{one_first, one_place, one_answer}
+use Rattle.ring_line.proofs.Flights.{flights_set}
 use Rattle.ring_line.proofs.line.Line.pass.Goals as goal
 
 pub item_mut-requires : goal.item_mut-requires
@@ -31,7 +35,7 @@ returns-clause-stands g c = λ x packets other got st other_is.
     let r = c.answer-answer.result in
     let q = r.queue in
     let place = c.item_mut.result.now in
-    let one : Collected = record { packet = r.packet.now; queue = q; done = r.done.now } in
+    let one : Collected = record { packet = r.packet.now; queue = q; done = done_told r.told } in
     let is : LineFirstAnswer old one = c.answer-answer.ensures in
     let at : slice_get old.places q ≡ Some place = slice_get_read old.places (length old.places) q place refl (slice_get_within old.places q is.place is.there) c.item_mut.ensures.value in
     let lies : PlaceFirstAnswer place (answer_of one) = subst (λ p. PlaceFirstAnswer p (answer_of one)) (one_place old.places q q is.place place refl is.there at) is.answer in
@@ -47,3 +51,27 @@ returns-clause-stands g c = λ x packets other got st other_is.
       time = c.time_after-time.ensures ∙ ap (λ (d : Collected). time_after old.time d.packet) same ∙ got_time old.time got other st.time;
       places = λ w p e. got_places x packets got old.places other after st.places there w p (subst (λ (n : ℕ). slice_get (slice_set old.places n after) w ≡ Some p) queue e);
     }
+
+pub invariant_of-self-clause-flights : goal.invariant_of-self-clause-flights
+invariant_of-self-clause-flights g c =
+    let old = c.args.self.now in
+    let q = c.answer-answer.result.queue in
+    let place = c.item_mut.result.now in
+    let is = c.answer-answer.ensures in
+    let at : slice_get old.places q ≡ Some place = slice_get_read old.places (length old.places) q place refl (slice_get_within old.places q is.place is.there) c.item_mut.ensures.value in
+    let set = flights_set old.places q place c.pass.new.self at in
+    let long = ap length (popped q old.order.items c.pop_front.new.self.items is.first c.pop_front.ensures.rest) in
+    omega (arith, set, c.pass.ensures.in_flight, long, old.flights)
+
+pub invariant_of-self-clause-below : goal.invariant_of-self-clause-below
+invariant_of-self-clause-below g c =
+    let old = c.args.self.now in
+    let q = c.answer-answer.result.queue in
+    let rest = c.pop_front.new.self.items in
+    subst (λ (n : ℕ). All (λ (w : ℕ). w < n) rest) (sym (length-set old.places q c.pass.new.self))
+    (All-rest (λ (w : ℕ). w < length old.places) q rest old.order.items (popped q old.order.items rest c.answer-answer.ensures.first c.pop_front.ensures.rest) old.below)
+
+pub invariant_of-self-clause-enough : goal.invariant_of-self-clause-enough
+invariant_of-self-clause-enough g c =
+    let old = c.args.self.now in
+    subst (λ (n : ℕ). n ≤ vec_capacity old.parts) (sym (length-set old.places c.answer-answer.result.queue c.pass.new.self)) old.enough

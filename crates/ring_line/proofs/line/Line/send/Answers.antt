@@ -1,10 +1,13 @@
-use Rattle.std.proofs.Common.{◌≡◌, ◌++◌, map, Some, slice_get, length, refl, ap, ◌∙◌}
+use Rattle.std.proofs.Common.{◌≡◌, ◌++◌, map, Some, slice_get, length, refl, ap, ◌∙◌, arith, ◌<◌, ◌≤◌, ℕ, All, sym, subst, ◌∷◌, []}
 use Rattle.std.proofs.lemmas.Option.{slice_get_read}
-use Rattle.std.proofs.lemmas.List.{length-set}
+use Rattle.std.specs.Vec.{vec_capacity}
+use Rattle.std.proofs.lemmas.List.Elements.{All-push, All-same}
+use Rattle.std.proofs.lemmas.List.{length-set, length_push}
 use Rattle.shard_core.specs.declared.collected.Collected.{Collected}
 use Rattle.shard_machine.specs.Machine.{packets_at}
 use Rattle.ring_line.specs.Plays.{collected_at}
 use Rattle.ring_line.proofs.Lining.{sent_places, sent_order}
+use Rattle.ring_line.proofs.Flights.{flights_set}
 use Rattle.ring_line.proofs.line.Line.send.Goals as goal
 
 pub returns-clause-stands : goal.returns-clause-stands
@@ -21,3 +24,26 @@ returns-clause-stands g c = λ x packets got st can home.
       places = sent_places x packets got old.places q p c.send.new.self home st.places
           (c.send.ensures.stands x.function (x.share q) (packets_at x.queue q packets) (collected_at q got) (st.places q place at) can);
     }
+
+pub invariant_of-self-clause-flights : goal.invariant_of-self-clause-flights
+invariant_of-self-clause-flights g c =
+    let old = c.args.self.now in
+    let q = c.args.queue in
+    let place = c.item_mut.result.now in
+    let at : slice_get old.places q ≡ Some place = slice_get_read old.places (length old.places) q place refl c.requires.queue c.item_mut.ensures.value in
+    let set = flights_set old.places q place c.send.new.self at in
+    let long = ap length c.push_back_reserved.ensures.items in
+    omega (arith, set, c.send.ensures.in_flight, long, length_push old.order.items q, old.flights)
+
+pub invariant_of-self-clause-below : goal.invariant_of-self-clause-below
+invariant_of-self-clause-below g c =
+    let old = c.args.self.now in
+    let q = c.args.queue in
+    subst (λ (n : ℕ). All (λ (w : ℕ). w < n) c.push_back_reserved.new.self.items) (sym (length-set old.places q c.send.new.self))
+    (All-same (λ (w : ℕ). w < length old.places) c.push_back_reserved.new.self.items (old.order.items ++ q ∷ []) c.push_back_reserved.ensures.items
+    (All-push (λ (w : ℕ). w < length old.places) old.order.items q old.below c.requires.queue))
+
+pub invariant_of-self-clause-enough : goal.invariant_of-self-clause-enough
+invariant_of-self-clause-enough g c =
+    let old = c.args.self.now in
+    subst (λ (n : ℕ). n ≤ vec_capacity old.parts) (sym (length-set old.places c.args.queue c.send.new.self)) old.enough

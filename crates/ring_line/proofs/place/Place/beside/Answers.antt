@@ -1,6 +1,7 @@
 use Rattle.std.proofs.Common.{[], ap, sym, ◌∙◌, subst}
 use Rattle.nf_base.specs.declared.func.Func.{Func}
 use Rattle.nf_base.specs.Functions.{function_of}
+use Rattle.nf_base.specs.Text.{Function}
 use Rattle.vig_tables.specs.TablesState.{opened_tables}
 use Rattle.ring_line.specs.Nears.{NearStands}
 use Rattle.ring_line.proofs.place.Place.beside.Goals as goal
@@ -9,6 +10,6 @@ pub returns-clause-stands : goal.returns-clause-stands
 returns-clause-stands g c = record {
   func = c.in_ok-text.text;
   same = c.in_ok-text.ensures;
-  stands = subst (λ (h : Func). NearStands c.new.result h c.args.share [] []) c.in_ok-desk.ensures.func
-      (c.new.ensures.stands c.args.share (c.in_ok-desk.ensures.tables ∙ ap (λ (h : Func). opened_tables (function_of h) c.args.share) (sym c.in_ok-desk.ensures.func)));
+  stands = subst (λ (h : Func). NearStands c.new-2.result h c.args.share [] []) c.in_ok-desk.ensures.func
+      (c.new-2.ensures.stands c.args.share (c.in_ok-desk.ensures.tables ∙ c.in_ok-tables.ensures ∙ ap (λ (f : Function). opened_tables f c.args.share) (sym c.in_ok-text.ensures ∙ ap function_of (sym c.in_ok-desk.ensures.func))));
 }

@@ -3,7 +3,10 @@ use Rattle.ring_line.specs.Shops.{AtItem}
 use Rattle.ring_line.proofs.shop.Shop.work.Goals as goal
 
 pub loop-preserved : goal.loop-preserved
-loop-preserved g c = λ given at. subst (λ (b : Bool). AtItem b given c.step.new.self.ends c.step.new.self.desk) c.if-not-step.false (c.step.ensures given (c.loop.invariant given at))
+loop-preserved g c = record {
+  hand = c.step.ensures.hand;
+  works = λ given at. subst (λ (b : Bool). AtItem b given c.step.new.self.ends c.step.new.self.desk) c.if-not-step.false (c.step.ensures.came given (c.loop.invariant.works given at));
+}
 
 pub returns-then-not-step : goal.returns-then-not-step
-returns-then-not-step g c = λ given at. c.close.ensures given (subst (λ (b : Bool). AtItem b given c.step.new.self.ends c.step.new.self.desk) c.if-not-step.true (c.step.ensures given (c.loop.invariant given at)))
+returns-then-not-step g c = λ given at. c.close.ensures given (subst (λ (b : Bool). AtItem b given c.step.new.self.ends c.step.new.self.desk) c.if-not-step.true (c.step.ensures.came given (c.loop.invariant.works given at)))

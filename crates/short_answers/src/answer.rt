@@ -1,24 +1,23 @@
-//! What calls came to: an action alone, or one of the answers that are kept whole.
-ghost use Rattle.std.specs.Prelude.{◌≡◌, ◌<◌, ◌≤◌, ◌+◌, ◌^◌, length, IsTrue, IfSome};
+//! What packets came to: an action alone, or one of the answers that are kept whole.
+ghost use Rattle.std.specs.Prelude.{◌≡◌, ◌<◌, ◌≤◌, ◌+◌, ◌^◌, [], length, IsTrue};
 ghost use Rattle.std.specs.Vec.{vec_len, vec_capacity};
 ghost use mathlib.Core.List.{IsPrefix};
 ghost use Rattle.nf_base.specs.Step.{no_edits};
-ghost use Rattle.lock_log.specs.Answers.{plain, answer_in, IsThere};
+ghost use Rattle.short_answers.specs.Answers.{plain, answer_in, IsThere};
 
-use lock_core::again;
 use nf_base::done::{Action, Done, Edits};
 use nf_base::picks::Picks;
 
-/// What a call came to, as it is kept.
+/// What a packet came to, as it is kept.
 #[derive(Clone, Copy, Debug, PartialEq, Eq)]
-pub(crate) enum Answer {
+pub enum Answer {
     /// An action alone.
     Plain(Action),
     /// The answer at this place among those that are kept whole.
     Whole(u32),
 }
 
-/// What a packet of an order came to.
+/// What a packet came to, as it is told.
 #[derive(Clone, Copy, Debug)]
 pub enum Told<'a> {
     /// An action alone: no field is edited, and no entry is made.
@@ -58,33 +57,34 @@ fn are_none(edits: &Edits) -> bool
     }
 }
 
-// The action, where an answer is no more than that.
-fn action_alone(done: &Done) -> Option<Action>
-    ensures { IfSome result (λ action. done.now ≡ plain action) }
+// Whether an answer with these is no more than its action.
+fn is_alone(edits: &Edits, picks: &Picks) -> bool
+    ensures edits { IsTrue result → edits.now ≡ no_edits }
+    ensures picks { IsTrue result → picks.now ≡ [] }
 {
-    if are_none(&done.edits) && done.picks.len() == 0 {
-        Some(done.action)
-    } else {
-        None
-    }
+    picks.len() == 0 && are_none(edits)
 }
 
-/// Keeps an answer, which is put behind those that are kept whole where it is more than an action.
-pub(crate) fn keep(whole: &mut Vec<Done>, done: &Done) -> Answer
+/// Keeps what a packet came to, which is put behind the answers that are kept whole where it is more
+/// than an action.
+pub fn keep(whole: &mut Vec<Done>, action: Action, edits: &Edits, picks: &Picks) -> Answer
     requires room { vec_len whole.old < vec_capacity whole.old }
     requires few { vec_len whole.old < 2 ^ 32 }
     ensures there { IsThere (length whole.new.items) result }
-    ensures is { answer_in whole.new.items result ≡ done.now }
+    ensures is { answer_in whole.new.items result
+        ≡ record { action = action; edits = edits.now; picks = picks.now } }
     ensures begins { IsPrefix whole.old.items whole.new.items }
     ensures len { vec_len whole.new ≤ vec_len whole.old + 1 }
     ensures capacity { vec_capacity whole.new ≡ vec_capacity whole.old }
 {
-    match action_alone(done) {
-        Some(action) => Answer::Plain(action),
-        None => {
-            let place = whole.len() as u32;
-            whole.push_reserved(again(done));
-            Answer::Whole(place)
-        }
+    if is_alone(edits, picks) {
+        return Answer::Plain(action);
     }
+    let place = whole.len() as u32;
+    whole.push_reserved(Done {
+        action,
+        edits: *edits,
+        picks: picks.again(),
+    });
+    Answer::Whole(place)
 }

@@ -4,10 +4,11 @@ use Rattle.std.specs.Option.{option_map}
 use Rattle.packet_feed.specs.Streams.{Stream}
 use Rattle.packet_feed.specs.Sources.{counts_in}
 use Rattle.packet_feed.proofs.Standing.{at_file}
-use Rattle.packet_feed.proofs.sources.give.Goals as goal
+use Rattle.packet_feed.proofs.Nexts.{passed}
+use Rattle.packet_feed.proofs.sources.pass.Goals as goal
 
-pub give-requires-clause-room : goal.give-requires-clause-room
-give-requires-clause-room c =
+pub pass-requires-clause-room : goal.pass-requires-clause-room
+pass-requires-clause-room c =
     let all = c.args.sources.now in
     let port = c.args.first.port in
     let s = c.item_mut.result.now in
@@ -19,11 +20,5 @@ returns c =
     let all = c.args.sources.now in
     let port = c.args.first.port in
     let s = c.item_mut.result.now in
-    record {
-      source = s;
-      at = slice_get_read all (length all) port s refl c.requires.first.0 c.item_mut.ensures.value;
-      packet_is = c.give.ensures.packet;
-      new_is = ap (slice_set all port) c.give.ensures.given;
-      time = c.give.ensures.time;
-      captured = c.give.ensures.captured;
-    }
+    let at = slice_get_read all (length all) port s refl c.requires.first.0 c.item_mut.ensures.value in
+    passed port s all (slice_set all port c.pass.new.self) at (ap (slice_set all port) c.pass.ensures.given) c.pass.ensures.time c.pass.ensures.captured

@@ -1,13 +1,13 @@
--- What calls came to, as it is kept and as it is told.
+-- What packets came to, as it is kept and as it is told.
 use Rattle.std.specs.Prelude.{ℕ, ◌<◌, List, [], slice_index_or}
 use Rattle.nf_base.specs.declared.done.Action.{Action}
 use Rattle.nf_base.specs.declared.done.Action.TheVariants.{Skip}
 use Rattle.nf_base.specs.declared.done.Done.{Done}
 use Rattle.nf_base.specs.Step.{no_edits}
-use Rattle.lock_log.specs.declared.answer.Answer.{Answer}
-use Rattle.lock_log.specs.declared.answer.Answer.TheVariants as kept
-use Rattle.lock_log.specs.declared.answer.Told.{Told}
-use Rattle.lock_log.specs.declared.answer.Told.TheVariants as told
+use Rattle.short_answers.specs.declared.answer.Answer.{Answer}
+use Rattle.short_answers.specs.declared.answer.Answer.TheVariants as kept
+use Rattle.short_answers.specs.declared.answer.Told.{Told}
+use Rattle.short_answers.specs.declared.answer.Told.TheVariants as told
 
 -- an answer that is an action alone
 abbrev pub plain : Action → Done

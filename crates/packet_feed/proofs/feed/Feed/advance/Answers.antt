@@ -1,9 +1,10 @@
 use Rattle.std.proofs.Common.{◌∙◌, ◌+◌, sym, ap, subst, arith}
-use Rattle.packet_feed.specs.Feeding.{Feeding}
+use Rattle.std.specs.List.{slice_get}
+use Rattle.packet_feed.specs.Feeding.{Feeding, last_at}
 use Rattle.packet_feed.specs.Sources.{SourcesStand, files_in, sixes_in, AreFrom}
 use Rattle.packet_feed.proofs.Nexts.{settled_but, next_stands, next_shown, next_files, next_sixes, next_feeding, has_more_at, are_all, are_torn}
 use Rattle.packet_feed.proofs.Times.{gives_from}
-use Rattle.packet_feed.proofs.feed.Feed.next.Goals as goal
+use Rattle.packet_feed.proofs.feed.Feed.advance.Goals as goal
 
 pub returns-then-self-clause-feeds : goal.returns-then-self-clause-feeds
 returns-then-self-clause-feeds g c = λ start given h.
@@ -17,8 +18,8 @@ returns-then-self-clause-feeds g c = λ start given h.
 
 pub invariant_of-self-in-Some : goal.invariant_of-self-in-Some
 invariant_of-self-in-Some g c = (
-  next_feeding c.in-Some.first.port c.give-packet.result c.self.inside.sources c.fill_next.new.sources c.give-packet.new.sources c.self.inside.given c.self.inside.most c.give-packet.ensures (omega (arith, c.if-self.false)) c.fill_next.ensures.same_files c.fill_next.ensures.same_counts c.self.invariant.0,
-  λ is. settled_but c.in-Some.first.port c.give-packet.result c.fill_next.new.sources c.give-packet.new.sources c.give-packet.ensures c.in_ok-fill_next.ensures.settled,
+  next_feeding c.in-Some.first.port (last_at c.in-Some.first.port (slice_get c.pass.new.sources c.in-Some.first.port)) c.self.inside.sources c.fill_next.new.sources c.pass.new.sources c.self.inside.given c.self.inside.most c.pass.ensures (omega (arith, c.if-self.false)) c.fill_next.ensures.same_files c.fill_next.ensures.same_counts c.self.invariant.0,
+  λ is. settled_but c.in-Some.first.port (last_at c.in-Some.first.port (slice_get c.pass.new.sources c.in-Some.first.port)) c.fill_next.new.sources c.pass.new.sources c.pass.ensures c.in_ok-fill_next.ensures.settled,
 )
 
 pub returns-in-None-clause-feeds : goal.returns-in-None-clause-feeds
@@ -37,22 +38,22 @@ returns-else-self-clause-feeds g c = λ start given h.
     let told = g.F.Files.told in
     let ok = c.in_ok-fill_next.ensures in
     let before : SourcesStand start given c.self.inside.sources (told c.args.files.now) = subst (λ (v : Feeding). SourcesStand start given v.sources (told c.args.files.now)) (sym c.self.view_is) h.sources in
-    next_stands start given (told c.fill_next.new.files) c.in-Some.first.port c.in-Some.first.time c.self.inside.given c.self.inside.most c.give-packet.result c.fill_next.new.sources c.give-packet.new.sources c.give-packet.ensures ok.settled c.in-Some.ensures
+    next_stands start given (told c.fill_next.new.files) c.in-Some.first.port c.in-Some.first.time c.self.inside.given c.self.inside.most (last_at c.in-Some.first.port (slice_get c.pass.new.sources c.in-Some.first.port)) c.fill_next.new.sources c.pass.new.sources c.pass.ensures ok.settled c.in-Some.ensures
     (h.count ∙ ap (λ (v : Feeding). v.given) (sym c.self.view_is)) (ok.stand start given before)
 
 pub returns-else-self-clause-counts : goal.returns-else-self-clause-counts
 returns-else-self-clause-counts g c =
     let given = ap (λ (v : Feeding). v.given) c.self.view_is in
     let most = ap (λ (v : Feeding). v.most) c.self.view_is in
-    (omega arith, omega (arith, c.if-self.false), next_shown c.in-Some.first.port (c.self.inside.given + 1) c.self.inside.most c.give-packet.result c.fill_next.new.sources c.give-packet.new.sources c.give-packet.ensures)
+    (omega arith, omega (arith, c.if-self.false), next_shown c.in-Some.first.port (c.self.inside.given + 1) c.self.inside.most (last_at c.in-Some.first.port (slice_get c.pass.new.sources c.in-Some.first.port)) c.fill_next.new.sources c.pass.new.sources c.pass.ensures)
 
 pub returns-else-self-clause-same_files : goal.returns-else-self-clause-same_files
 returns-else-self-clause-same_files g c =
-    next_files c.in-Some.first.port c.give-packet.result c.fill_next.new.sources c.give-packet.new.sources c.give-packet.ensures ∙ c.fill_next.ensures.same_files ∙ ap (λ (v : Feeding). files_in v.sources) c.self.view_is
+    next_files c.in-Some.first.port (last_at c.in-Some.first.port (slice_get c.pass.new.sources c.in-Some.first.port)) c.fill_next.new.sources c.pass.new.sources c.pass.ensures ∙ c.fill_next.ensures.same_files ∙ ap (λ (v : Feeding). files_in v.sources) c.self.view_is
 
 pub returns-else-self-clause-same_six : goal.returns-else-self-clause-same_six
 returns-else-self-clause-same_six g c =
-    next_sixes c.in-Some.first.port c.give-packet.result c.fill_next.new.sources c.give-packet.new.sources c.give-packet.ensures ∙ c.fill_next.ensures.same_six ∙ ap (λ (v : Feeding). sixes_in v.sources) c.self.view_is
+    next_sixes c.in-Some.first.port (last_at c.in-Some.first.port (slice_get c.pass.new.sources c.in-Some.first.port)) c.fill_next.new.sources c.pass.new.sources c.pass.ensures ∙ c.fill_next.ensures.same_six ∙ ap (λ (v : Feeding). sixes_in v.sources) c.self.view_is
 
 pub returns-then-self-clause-times : goal.returns-then-self-clause-times
 returns-then-self-clause-times g c = λ time h. c.in_ok-fill_next.ensures.later time (subst (λ (v : Feeding). AreFrom time v.sources) (sym c.self.view_is) h)
@@ -62,5 +63,5 @@ returns-in-None-clause-times g c = λ time h. c.in_ok-fill_next.ensures.later ti
 
 pub returns-else-self-clause-times : goal.returns-else-self-clause-times
 returns-else-self-clause-times g c = λ time h.
-    gives_from time c.in-Some.first.port c.in-Some.first.time c.give-packet.result c.fill_next.new.sources c.give-packet.new.sources c.give-packet.ensures c.in_ok-fill_next.ensures.settled c.in-Some.ensures
+    gives_from time c.in-Some.first.port c.in-Some.first.time (last_at c.in-Some.first.port (slice_get c.pass.new.sources c.in-Some.first.port)) c.fill_next.new.sources c.pass.new.sources c.pass.ensures c.in_ok-fill_next.ensures.settled c.in-Some.ensures
     (c.in_ok-fill_next.ensures.later time (subst (λ (v : Feeding). AreFrom time v.sources) (sym c.self.view_is) h))
