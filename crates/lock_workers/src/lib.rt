@@ -4,6 +4,7 @@
 
 mod alone;
 mod dealing;
+mod hint;
 mod joining;
 mod running;
 mod sharing;

@@ -1,9 +1,10 @@
 // Each worker handles its packets, in a thread of its own.
-ghost use Rattle.std.specs.Prelude.{◌≡◌, ◌<◌, ◌≤◌, ◌++◌, ◌∷◌, [], length, OnOk, OnErr, slice_index_or};
+ghost use Rattle.std.specs.Prelude.{◌≡◌, ◌<◌, ◌≤◌, ◌++◌, ◌∷◌, [], length, MatchBool, OnOk, OnErr, slice_index_or};
 ghost use Rattle.nf_base.specs.Doors.{IsServed};
 ghost use Rattle.lock_mode.specs.Seats.{SeatState};
 ghost use Rattle.lock_workers.specs.Working.{packets_in, AreAtPlaces, AreOf, HasWorked, AllHaveWorked, CanWork, AreWorkers};
 
+use crate::hint::Hint;
 use lock_mode::{Gate, Looked, Naming, Seat, Shared};
 use nf_base::packet::Packet;
 use nf_base::seq::Seq;
@@ -13,12 +14,39 @@ use std::thread;
 use std::thread::Threads;
 use worker_turns::Turns;
 
-// Looks at a packet, and handles it alone where something would be written or the gate refused.
+// Looks at a packet, unless that is hardly worth it, and says whether it is done.
+fn look<J: Naming, G: Gate + Drop>(seat: &mut Seat<J, G>, packet: &Packet, hint: &mut Hint) -> bool
+    requires port { packet.now.id.port < length J.function.handlers }
+    requires served { IsServed J.function packet.now }
+    requires room { 0 < seat.old.room }
+    ensures looked { MatchBool result
+        (packets_in seat.new.calls ≡ packets_in seat.old.calls ++ packet.now ∷ [])
+        (seat.new.calls ≡ seat.old.calls) }
+    ensures number { seat.new.number ≡ seat.old.number }
+{
+    if hint.passes() {
+        return false;
+    }
+    match seat.look(packet) {
+        Looked::Done(_) => {
+            hint.done();
+            true
+        }
+        Looked::NeedsWrite | Looked::Refused => {
+            hint.gave_up();
+            false
+        }
+    }
+}
+
+// Looks at a packet, and handles it alone where something would be written, where the gate refused,
+// or where the looks before gave up.
 fn handle<J: Naming, R: Wait, G: Gate + Drop>(
     rt: &R,
     shared: &Shared<J>,
     seat: &mut Seat<J, G>,
     packet: &Packet,
+    hint: &mut Hint,
 ) -> Result<(), AllocError>
     requires port { packet.now.id.port < length J.function.handlers }
     requires served { IsServed J.function packet.now }
@@ -28,12 +56,12 @@ fn handle<J: Naming, R: Wait, G: Gate + Drop>(
     ensures err { OnErr result (seat.new.calls ≡ seat.old.calls) }
     ensures number { seat.new.number ≡ seat.old.number }
 {
-    match seat.look(packet) {
-        Looked::Done(_) => Ok(()),
-        Looked::NeedsWrite | Looked::Refused => match shared.alone(rt, seat, packet) {
-            Ok(_) => Ok(()),
-            Err(refused) => Err(refused),
-        },
+    if look(seat, packet, hint) {
+        return Ok(());
+    }
+    match shared.alone(rt, seat, packet) {
+        Ok(_) => Ok(()),
+        Err(refused) => Err(refused),
     }
 }
 
@@ -44,6 +72,7 @@ fn work_one<J: Naming, R: Wait, G: Gate + Drop, T: Turns>(
     seat: &mut Seat<J, G>,
     packet: &Packet,
     turns: &T,
+    hint: &mut Hint,
 ) -> Result<(), AllocError>
     requires port { packet.now.id.port < length J.function.handlers }
     requires served { IsServed J.function packet.now }
@@ -55,7 +84,7 @@ fn work_one<J: Naming, R: Wait, G: Gate + Drop, T: Turns>(
     let number = seat.number();
     turns.before(number, packet.id);
     seat.reserve(1)?;
-    handle(rt, shared, seat, packet)?;
+    handle(rt, shared, seat, packet, hint)?;
     turns.after(number, packet.id);
     Ok(())
 }
@@ -77,9 +106,10 @@ fn work_own<J: Naming, R: Wait, G: Gate + Drop, T: Turns>(
         Ok(()) => {}
         Err(_) => return,
     }
+    let mut hint = Hint::new();
     for k in 0..places.len() {
         let packet = &packets[*places.item(k) as usize];
-        match work_one(rt, shared, seat, packet, turns) {
+        match work_one(rt, shared, seat, packet, turns, &mut hint) {
             Ok(()) => {}
             Err(_) => return,
         }
