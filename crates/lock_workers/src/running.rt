@@ -122,8 +122,9 @@ fn work_alone(
 /// one can be made. Where the gate refuses a reader one worker handles them all.
 ///
 /// A worker looks at a packet in the published tables, without waiting, and where something would
-/// be written it handles it alone. `turns` is told when a worker comes to a packet and when it has
-/// handled it, and nothing depends on it. `Err` is for want of memory.
+/// be written it handles it alone; where its last looks gave up it mostly does so at once. `turns`
+/// is told when a worker comes to a packet and when it has handled it, and nothing depends on it.
+/// `Err` is for want of memory.
 pub fn run<R: Threads + Wait + Sync, T: Turns + Sync, G: Gate + Drop + Send>(
     rt: &R,
     alloc: Global,
