@@ -1,4 +1,4 @@
-// Whether a worker's next packet is looked at first, as its last looks went. No clause speaks of it.
+// Whether a worker's next packet is looked at first, by how its last looks went: only a hint.
 
 /// So many looks in a row that gave up make the next packets go to the lock at once.
 const FEW: u32 = 4;
