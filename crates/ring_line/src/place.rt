@@ -127,7 +127,20 @@ impl<G: Turns + Drop> Place<G> {
         }
     }
 
+    /// Whether an answer of those that came last lies ready.
+    #[inline]
+    pub fn is_ready(&self) -> bool
+        ensures yes { result ≡ true → PlaceHasAnswer self.now }
+        ensures all { PlaceHasAnswer self.now → result ≡ true }
+    {
+        match self {
+            Place::Far(lane) => lane.is_ready(),
+            Place::Near(near) => near.is_ready(),
+        }
+    }
+
     /// The answer that lies ready.
+    #[inline]
     pub fn answer(&self) -> AnswerRef<'_>
         requires { PlaceHasAnswer self.now }
         ensures { PlaceFirstAnswer self.now

@@ -104,7 +104,21 @@ impl Lane {
         }
     }
 
+    /// Whether an answer of the last pack that came lies ready.
+    #[inline]
+    pub fn is_ready(&self) -> bool
+        ensures yes { result ≡ true → HasAnswer self.now }
+        ensures all { HasAnswer self.now → result ≡ true }
+    {
+        if self.at < self.current.answered() {
+            self.filling.len() < self.in_flight
+        } else {
+            false
+        }
+    }
+
     /// The answer that lies ready.
+    #[inline]
     pub fn answer(&self) -> AnswerRef<'_>
         requires { HasAnswer self.now }
         ensures { FirstAnswer self.now

@@ -68,6 +68,19 @@ impl<G: Turns + Drop> Line<G> {
         self.order[0]
     }
 
+    /// Whether the answer to the first packet that was sent and not collected lies ready. It doesn't wait.
+    #[inline(always)]
+    pub fn is_ready(&self) -> bool
+        ensures yes { result ≡ true → LineHasAnswer self.now }
+        ensures all { LineHasAnswer self.now → result ≡ true }
+    {
+        if self.order.is_empty() {
+            return false;
+        }
+        let queue = self.first();
+        self.places.item(queue as usize).is_ready()
+    }
+
     /// What has come of the first packet, which is of this queue.
     fn come_of(&self, queue: u32) -> Option<First>
         requires first { ComesFirst queue self.now.order.items }
@@ -110,6 +123,7 @@ impl<G: Turns + Drop> Line<G> {
     }
 
     /// The answer to the first packet that was sent and not collected, where it lies.
+    #[inline(always)]
     pub fn answer(&self) -> CollectedRef<'_>
         requires { LineHasAnswer self.now }
         ensures { LineFirstAnswer self.now
@@ -129,6 +143,7 @@ impl<G: Turns + Drop> Line<G> {
     }
 
     /// Goes on behind the answer to the first packet that was sent and not collected: it is collected.
+    #[inline(always)]
     pub fn pass(&mut self)
         requires { LineHasAnswer self.old }
         ensures stands { (x : Setup) → (packets : List arrival.Packet) →

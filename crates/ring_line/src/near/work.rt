@@ -81,7 +81,21 @@ impl<G: Turns + Drop> Near<G> {
         }
     }
 
+    /// Whether an answer of the packets that were worked last lies ready.
+    #[inline]
+    pub(crate) fn is_ready(&self) -> bool
+        ensures yes { result ≡ true → NearHasAnswer self.now }
+        ensures all { NearHasAnswer self.now → result ≡ true }
+    {
+        if self.at < self.current.answered() {
+            self.filling.len() < self.in_flight
+        } else {
+            false
+        }
+    }
+
     /// The answer that lies ready.
+    #[inline]
     pub(crate) fn answer(&self) -> AnswerRef<'_>
         requires { NearHasAnswer self.now }
         ensures { NearFirstAnswer self.now
