@@ -40,12 +40,16 @@ pub passed_by : {G : Type 0} (x : Setup) (card : Card) (format : CaptureFormat) 
     → ((g : ℕ) → now.rest g ≡ mid.rest g) → PassedSo x card format ports begun start next now crew sinks all r
 passed_by x card format ports begun feed next start old mid now crew sinks all one (Ok pass.On) h g k more rests = (one, h, gathers_rest ports begun next start mid now (all ++ one ∷ []) rests k)
 passed_by x card format ports begun feed next start old mid now crew sinks all one (Ok (pass.End ending)) h g k more rests = absurd h
-passed_by x card format ports begun feed next start old mid now crew sinks all one (Ok (pass.Met full)) h g k more rests = record {
-  passing = h.0;
-  stop = h.1;
-  count = met_count x card format ports begun feed next start old now crew sinks all full.packets h.0 g more h.2;
-  read = record { feed = feed; now = old; gathers = g };
-}
+passed_by x card format ports begun feed next start old mid now crew sinks all one (Ok (pass.Met packets)) h g k more rests = (
+  h.1.stop,
+  h.1.is,
+  record {
+    passing = h.0;
+    stop = h.1.stands;
+    count = met_count x card format ports begun feed next start old now crew sinks all packets h.0 g more h.2;
+    read = record { feed = feed; now = old; gathers = g };
+  },
+)
 passed_by x card format ports begun feed next start old mid now crew sinks all one (Err e) h g k more rests = (h, record { feed = feed; now = old; gathers = g })
 
 -- ---- all packets are passed

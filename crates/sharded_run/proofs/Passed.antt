@@ -1,5 +1,5 @@
 -- Packets that are handed to workers one by one, and what is written of them.
-use Rattle.std.proofs.Common.{◌≡◌, ℕ, Bool, List, [], ◌∷◌, ◌++◌, length, map, Option, refl, ap, sym, ◌∙◌, subst, append_assoc, arith}
+use Rattle.std.proofs.Common.{◌≡◌, ◌<◌, ℕ, Bool, List, [], ◌∷◌, ◌++◌, length, map, Option, refl, ap, sym, ◌∙◌, subst, append_assoc, arith}
 use Rattle.std.specs.List.{AllByRecursion}
 use Rattle.std.proofs.lemmas.List.{length-append, map-append}
 use Rattle.nf_base.specs.declared.card.Card.{Card}
@@ -15,7 +15,7 @@ use Rattle.packet_feed.proofs.Standing.{stands_kept}
 use Rattle.run_history.specs.declared.line.Mode.TheVariants.{Shard}
 use Rattle.shard_machine.specs.Machine.{Setup}
 use Rattle.shard_core.specs.declared.collected.Collected.{Collected}
-use Rattle.ring_line.specs.Lines.{LineStands}
+use Rattle.ring_line.specs.Lines.{LineStands, ComesFirst}
 use Rattle.ring_line.specs.Places.{CanHandle}
 use Rattle.stream_run.specs.Runs.{Handled}
 use Rattle.stream_run.specs.Texts.{bytes_of}
@@ -174,6 +174,11 @@ passing_read x card format all old new crew sinks same st = record {
 }
 
 -- ---- the workers, step by step
+
+-- where a queue comes first, there is one
+pub some_first : (q : ℕ) (qs : List ℕ) → ComesFirst q qs → 0 < length qs
+some_first q [] h = absurd h
+some_first q (p ∷ qs) h = omega arith
 
 pub same_both : {G : Type 0} (a b c : Crew G) → SameCrew a b → SameCrew b c → SameCrew a c
 same_both a b c h k = record { router = k.router ∙ h.router; ports = k.ports ∙ h.ports; fewer = omega (arith, h.fewer, k.fewer) }

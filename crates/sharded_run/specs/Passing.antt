@@ -1,5 +1,5 @@
 -- Packets that are handed to workers one by one, and what is written of them as answers come.
-use Rattle.std.specs.Prelude.{◌≡◌, ◌≤◌, ◌+◌, ℕ, List, [], ◌∷◌, ◌++◌, length, map, Option, Some, None, Result, Ok, Err}
+use Rattle.std.specs.Prelude.{◌≡◌, ◌≤◌, ◌+◌, ℕ, List, [], ◌∷◌, ◌++◌, length, map, Option, Some, None, is_some, true, Result, Ok, Err}
 use Rattle.nf_base.specs.declared.card.Card.{Card}
 use Rattle.nf_base.specs.declared.func.Func.{Func}
 use Rattle.nf_base.specs.declared.keys.Keys.{Keys}
@@ -85,6 +85,14 @@ Wrote x card format now crew sinks all (Ok (Some stop)) =
 Wrote x card format now crew sinks all (Err e) =
     CutsShort x card format now crew (files_of sinks) all
 
+-- the same where no share stop is told
+abbrev pub WroteOne : {G T E : Type 0} →
+    Setup → Card → CaptureFormat → Told → Crew G → List Holding → List Arrival → Result T E →
+    Type 0
+WroteOne x card format now crew sinks all (Ok t) = Passing x card format now crew sinks all
+WroteOne x card format now crew sinks all (Err e) =
+    CutsShort x card format now crew (files_of sinks) all
+
 -- they route packets as before, and keep no more frames
 pub record SameCrew {G : Type 0} (old new : Crew G) : Type 0 where
   pub router : new.router ≡ old.router
@@ -112,6 +120,19 @@ SentSo x card format now crew sinks all one (Ok t) =
 SentSo x card format now crew sinks all one (Err e) =
     Passing x card format now crew sinks all
 
+-- the share stop that was met, at which the line stands
+pub record MetStop {G : Type 0} (crew : Crew G) : Type 0 where
+  pub stop : share.Stop
+  pub is : crew.met ≡ Some stop
+  pub stands : StandsAtStop crew.line stop
+
+-- where a share stop was met, the crew tells it
+abbrev pub HasMet : {G E : Type 0} → Crew G → Result passed.Passed E → Type 0
+HasMet crew (Ok pass.On) = Unit {0}
+HasMet crew (Ok (pass.End ending)) = Unit {0}
+HasMet crew (Ok (pass.Met packets)) = is_some crew.met ≡ true
+HasMet crew (Err e) = Unit {0}
+
 -- What handing a packet to its queue comes to: it was sent; or a share stop was met before it, and so
 -- many packets were handled as were given, without it and those whose frames are kept.
 abbrev pub HandedOut : {G E : Type 0} →
@@ -120,10 +141,10 @@ abbrev pub HandedOut : {G E : Type 0} →
 HandedOut x card format now crew sinks all one given (Ok pass.On) =
     Passing x card format now crew sinks (all ++ one ∷ [])
 HandedOut x card format now crew sinks all one given (Ok (pass.End ending)) = ⊥
-HandedOut x card format now crew sinks all one given (Ok (pass.Met full)) =
+HandedOut x card format now crew sinks all one given (Ok (pass.Met packets)) =
     Passing x card format now crew sinks all
-    × StandsAtStop crew.line full.stop
-    × (full.packets + (length crew.frames + 1) ≡ given)
+    × MetStop crew
+    × (packets + (length crew.frames + 1) ≡ given)
 HandedOut x card format now crew sinks all one given (Err e) =
     CutsShort x card format now crew (files_of sinks) all
 
@@ -164,8 +185,11 @@ PassedSo x card format ports begun start feed now crew sinks all (Ok (pass.End e
     Passing x card format now crew sinks all
     × Gathers ports begun feed start now all
     × IsOver ending begun start feed all
-PassedSo x card format ports begun start feed now crew sinks all (Ok (pass.Met full)) =
-    MeetsStop x card format ports begun start now crew sinks all full
+PassedSo x card format ports begun start feed now crew sinks all (Ok (pass.Met packets)) =
+    (stop : share.Stop)
+    × (crew.met ≡ Some stop)
+    × MeetsStop x card format ports begun start now crew sinks all
+    (record { stop = stop; packets = packets })
 PassedSo x card format ports begun start feed now crew sinks all (Err e) =
     CutsShort x card format now crew (files_of sinks) all × WereRead ports begun start all
 

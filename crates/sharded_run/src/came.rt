@@ -27,8 +27,9 @@ pub enum Passed {
     On,
     /// None is left, or as many were given as may be.
     End(Ending),
-    /// A share has no index left at a packet before it, and those before that were handled.
-    Met(ShareFull),
+    /// A share has no index left at a packet before it, and so many before that were handled. Where, the
+    /// crew tells.
+    Met(u32),
 }
 
 /// What a run came to that no fault stopped.

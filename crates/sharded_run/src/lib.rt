@@ -7,6 +7,7 @@ mod crew;
 mod kept;
 pub mod laws;
 mod passing;
+mod plain_answer;
 mod router;
 mod running;
 mod streaming;

@@ -9,15 +9,15 @@ ghost use Rattle.packet_feed.specs.Told.{EachFile, IsApart};
 ghost use Rattle.packet_feed.specs.Sources.{files_in, sixes_in};
 ghost use Rattle.packet_feed.specs.Feeding.{Feeding, frame_of, shown};
 ghost use Rattle.shard_machine.specs.Machine.{Setup};
-ghost use Rattle.ring_line.specs.Lines.{HasRoom};
+ghost use Rattle.ring_line.specs.Lines.{HasRoom, LineHasAnswer};
 ghost use Rattle.ring_line.specs.Places.{CanHandle};
 ghost use Rattle.stream_run.specs.declared.stop.Stop.TheVariants as stops;
 ghost use Rattle.stream_run.specs.Writing.{Holding, files_of};
 ghost use Rattle.stream_run.specs.Rules.{queue_by};
 ghost use Rattle.sharded_run.specs.Reading.{Gathers};
-ghost use Rattle.sharded_run.specs.Passing.{WentOn, Passing, Wrote, SameCrew, SameButOne, HasMade, SentSo, HandedOut, Suits, PassedSo};
+ghost use Rattle.sharded_run.specs.Passing.{WentOn, Passing, Wrote, WroteOne, SameCrew, SameButOne, HasMade, SentSo, HandedOut, HasMet, Suits, PassedSo};
 
-use crate::came::{Passed, ShareFull};
+use crate::came::Passed;
 use crate::crew::Crew;
 use crate::kept::fits;
 use crate::writing::write_told;
@@ -30,8 +30,85 @@ use std::alloc::Global;
 use std::sync::Wait;
 use stream_run::{Ending, Sink, Stop, stop_in};
 
-// Waits for the next answer in the order sent, and writes what its packet leaves: the share stop at
-// that packet, if it is one.
+/// How many packets are in flight at most, of all queues.
+const ALL_IN_FLIGHT: usize = 1_024;
+
+// Writes what the first packet leaves, whose answer lies ready.
+fn write_ready<F: Files, G: Turns + Drop>(
+    files: &mut F,
+    crew: &mut Crew<G>,
+    sinks: &mut Seq<Sink>,
+) -> Result<(), Stop>
+    requires ready { LineHasAnswer crew.old.line }
+    requires some { 0 < length crew.old.frames }
+    requires created { EachFile (F.is_written files.old) (files_of sinks.old) }
+    requires apart { IsApart (files_of sinks.old) }
+    requires few { length sinks.old ≤ 2 ^ 32 }
+    ensures wrote { (x : Setup) → (card : Card) → (format : CaptureFormat) → (all : List Arrival) →
+        Passing x card format (F.told files.old) crew.old sinks.old all →
+        WroteOne x card format (F.told files.new) crew.new sinks.new all result }
+    ensures same { SameCrew crew.old crew.new }
+    ensures same_files { files_of sinks.new ≡ files_of sinks.old }
+    ensures went { (captures : List ℕ) → WentOn captures (files_of sinks.old) (F.told files.old)
+        (F.told files.new) (F.counted files.old) (F.counted files.new) result }
+    ensures rests { (g : ℕ) → (F.told files.new).rest g ≡ (F.told files.old).rest g }
+    ensures reads { (g : ℕ) → F.is_read files.old g → F.is_read files.new g }
+    ensures writes { (g : ℕ) → F.is_written files.old g → F.is_written files.new g }
+{
+    let answer = crew.line.answer();
+    let kept = crew.frames.first();
+    let plain = &mut crew.plain;
+    let written = write_told(
+        files,
+        sinks,
+        crew.ports,
+        kept,
+        answer.queue,
+        answer.told,
+        plain,
+    );
+    crew.line.pass();
+    crew.frames.drop_first();
+    match written {
+        Ok(()) => Ok(()),
+        Err(stop) => Err(stop),
+    }
+}
+
+// Writes what packets leave, in the order sent, as long as their answers lie ready.
+fn write_come<F: Files, G: Turns + Drop>(
+    files: &mut F,
+    crew: &mut Crew<G>,
+    sinks: &mut Seq<Sink>,
+) -> Result<(), Stop>
+    requires created { EachFile (F.is_written files.old) (files_of sinks.old) }
+    requires apart { IsApart (files_of sinks.old) }
+    requires few { length sinks.old ≤ 2 ^ 32 }
+    ensures wrote { (x : Setup) → (card : Card) → (format : CaptureFormat) → (all : List Arrival) →
+        Passing x card format (F.told files.old) crew.old sinks.old all →
+        WroteOne x card format (F.told files.new) crew.new sinks.new all result }
+    ensures same { SameCrew crew.old crew.new }
+    ensures same_files { files_of sinks.new ≡ files_of sinks.old }
+    ensures went { (captures : List ℕ) → WentOn captures (files_of sinks.old) (F.told files.old)
+        (F.told files.new) (F.counted files.old) (F.counted files.new) result }
+    ensures rests { (g : ℕ) → (F.told files.new).rest g ≡ (F.told files.old).rest g }
+    ensures reads { (g : ℕ) → F.is_read files.old g → F.is_read files.new g }
+    ensures writes { (g : ℕ) → F.is_written files.old g → F.is_written files.new g }
+{
+    for _ in 0..ALL_IN_FLIGHT {
+        if !crew.line.is_ready() {
+            return Ok(());
+        }
+        match write_ready(files, crew, sinks) {
+            Ok(()) => {}
+            Err(stop) => return Err(stop),
+        }
+    }
+    Ok(())
+}
+
+// Waits for the next answer in the order sent, and writes what its packet leaves, and those behind it
+// whose answers lie ready: the share stop at that packet, if it is one.
 pub(crate) fn write_next<R: Wait, F: Files, G: Turns + Drop>(
     rt: &R,
     files: &mut F,
@@ -54,17 +131,10 @@ pub(crate) fn write_next<R: Wait, F: Files, G: Turns + Drop>(
     ensures writes { (g : ℕ) → F.is_written files.old g → F.is_written files.new g }
 {
     match crew.line.await_first(rt) {
-        First::Answer => {
-            let answer = crew.line.answer();
-            let kept = crew.frames.first();
-            let written = write_told(files, sinks, crew.ports, kept, answer.queue, answer.told);
-            crew.line.pass();
-            crew.frames.drop_first();
-            match written {
-                Ok(()) => Ok(None),
-                Err(stop) => Err(stop),
-            }
-        }
+        First::Answer => match write_come(files, crew, sinks) {
+            Ok(()) => Ok(None),
+            Err(stop) => Err(stop),
+        },
         First::Stop(stop) => Ok(Some(stop)),
     }
 }
@@ -161,6 +231,7 @@ fn hand_out<R: Wait, F: Files, G: Turns + Drop>(
         CanHandle x.function packet.now → x.queue packet.now ≡ queue →
         HandedOut x card format (F.told files.new) crew.new sinks.new all
         (shown packet.now feed.now) feed.now.given result }
+    ensures met { HasMet crew.new result }
     ensures same { SameButOne crew.old crew.new }
     ensures same_files { files_of sinks.new ≡ files_of sinks.old }
     ensures went { (captures : List ℕ) → WentOn captures (files_of sinks.old) (F.told files.old)
@@ -177,7 +248,8 @@ fn hand_out<R: Wait, F: Files, G: Turns + Drop>(
         },
         Ok(Some(stop)) => {
             let packets = feed.given() - 1 - crew.line.left() as u32;
-            Ok(Passed::Met(ShareFull { stop, packets }))
+            crew.met = Some(stop);
+            Ok(Passed::Met(packets))
         }
         Err(stop) => Err(stop),
     }
@@ -208,6 +280,7 @@ pub(crate) fn pass_one<R: Wait, F: Files, G: Turns + Drop>(
         Gathers ports begun feed.old start (F.told files.old) all →
         PassedSo x card format ports begun start feed.new (F.told files.new) crew.new
         sinks.new all result }
+    ensures met { HasMet crew.new result }
     ensures same_files { files_of sinks.new ≡ files_of sinks.old }
     ensures same { SameButOne crew.old crew.new }
     ensures fed { (files_in feed.new.sources ≡ files_in feed.old.sources)

@@ -110,7 +110,7 @@ fn pass_all<R: Wait, F: Files, G: Turns + Drop>(
         match pass_one(rt, alloc, files, crew, feed, captures, sinks) {
             Ok(Passed::On) => {}
             Ok(Passed::End(ending)) => return drain(rt, files, crew, feed, sinks, ending),
-            Ok(Passed::Met(full)) => return Ok(Ended::Full(full)),
+            Ok(Passed::Met(packets)) => return Ok(Ended::Full(crew.share_full(packets))),
             Err(stop) => return Err(stop),
         }
     }

@@ -9,10 +9,11 @@ ghost use Rattle.stream_run.specs.Runs.{Handled};
 ghost use Rattle.stream_run.specs.Writing.{files_of, AreHeld, AllGoOn, KeepsAllBut, IsStopCause, StopsAmong};
 
 use crate::kept::Kept;
+use crate::plain_answer::PlainAnswer;
 use nf_base::done::Done;
 use nf_base::seq::Seq;
 use nf_files::Files;
-use short_answers::{Told, plain};
+use short_answers::Told;
 use stream_run::{HandledPacket, Sink, Stop, put_all};
 
 // Puts what one packet of a queue leaves into all files, where its answer stands whole.
@@ -57,6 +58,7 @@ pub(crate) fn write_told<F: Files>(
     kept: &Kept,
     queue: u32,
     told: Told<'_>,
+    plain: &mut PlainAnswer,
 ) -> Result<(), Stop>
     requires created { EachFile (F.is_written files.old) (files_of sinks.old) }
     requires apart { IsApart (files_of sinks.old) }
@@ -74,7 +76,10 @@ pub(crate) fn write_told<F: Files>(
     ensures writes { (g : ℕ) → F.is_written files.old g → F.is_written files.new g }
 {
     match told {
-        Told::Plain(action) => write_one(files, sinks, ports, kept, queue, &plain(action)),
+        Told::Plain(action) => {
+            plain.set(action);
+            write_one(files, sinks, ports, kept, queue, plain.done())
+        }
         Told::Whole(done) => write_one(files, sinks, ports, kept, queue, done),
     }
 }

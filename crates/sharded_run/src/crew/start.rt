@@ -9,6 +9,7 @@ ghost use Rattle.sharded_run.specs.Passing.{IsNewCrew};
 
 use super::Crew;
 use crate::kept::Frames;
+use crate::plain_answer::PlainAnswer;
 use crate::router::Router;
 use nf_base::func::Func;
 use nf_base::keys::Keys;
@@ -50,6 +51,8 @@ impl<G: Turns + Send + Sync + Drop + 'static> Crew<G> {
             frames: Frames::new(alloc),
             router,
             ports: func.handlers.len(),
+            plain: PlainAnswer::new(),
+            met: None,
         })
     }
 }
@@ -68,6 +71,8 @@ impl<G: Turns + Drop> Crew<G> {
             frames: _,
             router: _,
             ports: _,
+            plain: _,
+            met: _,
         } = self;
         let time = line.time();
         (line.finish(rt), time)

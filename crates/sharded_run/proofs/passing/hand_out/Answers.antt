@@ -1,6 +1,6 @@
 use Rattle.std.proofs.Common.{◌∙◌, refl, sym, arith}
 use Rattle.sharded_run.proofs.Went.{went_ok, went_err, went_memory}
-use Rattle.sharded_run.proofs.Passed.{passing_cut}
+use Rattle.sharded_run.proofs.Passed.{passing_cut, passing_still}
 use Rattle.sharded_run.proofs.passing.hand_out.Goals as goal
 
 pub returns-in-Ok-clause-handed : goal.returns-in-Ok-clause-handed
@@ -19,8 +19,10 @@ returns-in-Err-send-clause-handed g c = λ x card format all st can home.
 
 pub returns-in-Ok-Some-clause-handed : goal.returns-in-Ok-Some-clause-handed
 returns-in-Ok-Some-clause-handed g c = λ x card format all st can home.
+    let told = g.F.Files.told in
     let h = (rw c.in-Ok-Some.field-0-is at c.in-Ok-Some.ensures.wrote) x card format all st in
-    (h.0, h.1, omega (arith, c.given.ensures, c.left.ensures, c.requires.fewer, c.make_room.ensures.same.fewer, c.make_room.new.crew.as_many))
+    let here = passing_still x card format all (told c.make_room.new.files) c.make_room.new.crew _ c.make_room.new.sinks h.0 refl refl h.0.stands in
+    (here, record { stop = c.in-Ok-Some.stop; is = refl; stands = h.1 }, omega (arith, c.given.ensures, c.left.ensures, c.requires.fewer, c.make_room.ensures.same.fewer, c.make_room.new.crew.as_many))
 
 pub returns-in-Err-clause-handed : goal.returns-in-Err-clause-handed
 returns-in-Err-clause-handed g c = λ x card format all st can home. c.in-Err.ensures.wrote x card format all st

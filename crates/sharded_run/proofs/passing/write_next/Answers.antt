@@ -1,33 +1,21 @@
-use Rattle.std.proofs.Common.{◌∙◌, ◌∷◌, List, None, map, refl, sym, ap}
-use Rattle.packet_feed.specs.Arrivals.{Arrival, packet_of}
-use Rattle.run_history.specs.declared.line.Mode.TheVariants.{Shard}
-use Rattle.shard_core.specs.declared.collected.Collected.{Collected}
-use Rattle.short_answers.specs.Answers.{done_told}
+use Rattle.std.proofs.Common.{None, map, refl}
+use Rattle.packet_feed.specs.Arrivals.{packet_of}
 use Rattle.stream_run.specs.Writing.{files_of}
-use Rattle.sharded_run.specs.Answered.{answered}
-use Rattle.sharded_run.proofs.Went.{went_none, went_written, unwritten}
-use Rattle.sharded_run.proofs.Passed.{wrote_on, wrote_cut, passing_still}
+use Rattle.sharded_run.proofs.Went.{went_none, went_ok, went_err}
+use Rattle.sharded_run.proofs.Passed.{passing_still}
 use Rattle.sharded_run.proofs.passing.write_next.Goals as goal
 
 pub returns-in-Ok-clause-wrote : goal.returns-in-Ok-clause-wrote
 returns-in-Ok-clause-wrote g c = λ x card format all st.
     let told = g.F.Files.told in
-    let r = c.answer-answer.result in
-    let one : Collected = record { packet = r.packet.now; queue = r.queue; done = done_told r.told } in
-    let a : Arrival = c.first-kept.result.now in
-    let stands = c.pass.ensures.stands x (map packet_of all) one st.got (c.await_first.ensures.stands x (map packet_of all) st.got st.stands) c.answer-answer.ensures in
-    wrote_on x card format all (told c.args.files.now) (told c.write_told-written.new.files) c.args.crew.now _ c.args.sinks.now c.write_told-written.new.sinks a one st (c.first-kept.ensures ∙ ap (λ (t : List Arrival). a ∷ t) (sym c.drop_first.ensures.rest)) refl stands
-    ((rw c.in-Ok.is at c.write_told-written.ensures.goes_on) Shard x.workers card format (answered all st.got) st.held)
+    let stands = c.await_first.ensures.stands x (map packet_of all) st.got st.stands in
+    c.in-Ok.ensures.wrote x card format all (passing_still x card format all (told c.args.files.now) c.args.crew.now _ c.args.sinks.now st refl refl stands)
 
 pub returns-in-Err-clause-wrote : goal.returns-in-Err-clause-wrote
 returns-in-Err-clause-wrote g c = λ x card format all st.
     let told = g.F.Files.told in
-    let r = c.answer-answer.result in
-    let one : Collected = record { packet = r.packet.now; queue = r.queue; done = done_told r.told } in
-    let a : Arrival = c.first-kept.result.now in
-    let stands = c.pass.ensures.stands x (map packet_of all) one st.got (c.await_first.ensures.stands x (map packet_of all) st.got st.stands) c.answer-answer.ensures in
-    wrote_cut x card format all (told c.args.files.now) (told c.write_told-written.new.files) c.args.crew.now _ c.args.sinks.now (files_of c.write_told-written.new.sinks) a one st (c.first-kept.ensures ∙ ap (λ (t : List Arrival). a ∷ t) (sym c.drop_first.ensures.rest)) refl stands
-    ((rw c.in-Err.is at c.write_told-written.ensures.goes_on) Shard x.workers card format (answered all st.got) st.held)
+    let stands = c.await_first.ensures.stands x (map packet_of all) st.got st.stands in
+    c.in-Err.ensures.wrote x card format all (passing_still x card format all (told c.args.files.now) c.args.crew.now _ c.args.sinks.now st refl refl stands)
 
 pub returns-in-Stop-clause-wrote : goal.returns-in-Stop-clause-wrote
 returns-in-Stop-clause-wrote g c = λ x card format all st.
@@ -36,14 +24,10 @@ returns-in-Stop-clause-wrote g c = λ x card format all st.
     (passing_still x card format all (told c.args.files.now) c.args.crew.now _ c.args.sinks.now st refl refl stands, rw c.in-Stop.is at c.await_first.ensures.first)
 
 pub returns-in-Ok-clause-went : goal.returns-in-Ok-clause-went
-returns-in-Ok-clause-went g c = λ captures.
-    let files = files_of c.args.sinks.now in
-    went_written captures files files _ _ _ _ None refl c.write_told-written.ensures.kept (rw c.in-Ok.is at c.write_told-written.ensures.cause)
+returns-in-Ok-clause-went g c = λ captures. went_ok captures _ _ _ _ _ (tt {0}) None (c.in-Ok.ensures.went captures)
 
 pub returns-in-Err-clause-went : goal.returns-in-Err-clause-went
-returns-in-Err-clause-went g c = λ captures.
-    let files = files_of c.args.sinks.now in
-    unwritten (Unit {0}) captures files files _ _ _ _ c.in-Err.stop refl c.write_told-written.ensures.kept (rw c.in-Err.is at c.write_told-written.ensures.cause) (rw c.in-Err.is at c.write_told-written.ensures.among)
+returns-in-Err-clause-went g c = λ captures. went_err captures _ _ _ _ _ c.in-Err.stop (c.in-Err.ensures.went captures)
 
 pub returns-in-Stop-clause-went : goal.returns-in-Stop-clause-went
 returns-in-Stop-clause-went g c = λ captures. went_none captures (files_of c.args.sinks.now) (g.F.Files.told c.args.files.now) (g.F.Files.counted c.args.files.now) _

@@ -1,5 +1,7 @@
-use Rattle.std.proofs.Common.{◌≡◌, ◌∙◌, ◌++◌, ◌∷◌, [], length, refl}
+use Rattle.std.proofs.Common.{◌≡◌, ◌∙◌, ◌++◌, ◌∷◌, [], length, refl, sym, subst}
 use Rattle.stream_run.specs.Writing.{files_of}
+use Rattle.sharded_run.specs.declared.came.ShareFull.{ShareFull}
+use Rattle.sharded_run.specs.Passing.{MeetsStop}
 use Rattle.sharded_run.proofs.Went.{went_none, went_ok, went_err, went_then}
 use Rattle.sharded_run.proofs.Flowed.{suits_on, flows_as, stops_in, held_at, fronts_at, some_met, cut_short}
 use Rattle.sharded_run.proofs.streaming.pass_all.Goals as goal
@@ -75,7 +77,9 @@ returns-in-Ok-Met-clause-flows g c = λ x card format begun start all suits port
     let now = told c.pass_one.new.files in
     let crew = c.pass_one.new.crew in
     let as_many : crew.ports ≡ c.args.crew.now.ports = c.pass_one.ensures.same.ports ∙ inv.ports_same in
-    stops_in x n begun start crew c.in-Ok-Met.full _ _ (held_at x card format crew.ports c.args.crew.now.ports now c.pass_one.new.sinks as_many) (some_met x card format n begun start now crew c.pass_one.new.sinks p.0 c.in-Ok-Met.full met)
+    let full = c.share_full.result in
+    let meets = subst (λ (f : ShareFull). MeetsStop x card format n begun start now crew c.pass_one.new.sinks p.0 f) (sym (c.share_full.ensures met.0 met.1)) met.2 in
+    stops_in x n begun start crew full _ _ (held_at x card format crew.ports c.args.crew.now.ports now c.pass_one.new.sinks as_many) (some_met x card format n begun start now crew c.pass_one.new.sinks p.0 full meets)
 
 pub returns-in-Ok-Met-clause-went : goal.returns-in-Ok-Met-clause-went
 returns-in-Ok-Met-clause-went g c =
