@@ -13,7 +13,7 @@ import re
 import subprocess
 import sys
 
-from renames import STEPS, moved_crates
+from renames import STEPS
 
 # ---- words of Rust and of definitions
 
@@ -58,6 +58,8 @@ class Names:
         self.word = {}  # a part of a word without
         self.prose = {}  # a word of comments
         self.keep = set()  # words that stay
+        self.stay_after = {}  # a word that stays behind one of these, as a field of a type from outside
+        self.outside = {}  # a field that other crates name: what stands there, and a word of the path before it
 
     def part(self, part):
         """One part of a compound word, which has no `-`, `+` or `'`."""
@@ -576,6 +578,19 @@ class File:
 
     def word(self, i):
         word = self.tokens[i][1]
+        if self.prior_text(i) == ".":
+            path = self.path_before(i)
+            if path and path[-1] in self.names(self.crate).stay_after.get(word, ()):
+                return word
+            for crate in self.work.below(self.crate):
+                new, near = self.names(crate).outside.get(word, (None, None))
+                if new and near in path:
+                    return new
+        new = self.plain_word(i)
+        return self.goal(new) if "-" in new else new
+
+    def plain_word(self, i):
+        word = self.tokens[i][1]
         path = self.path_before(i)
         kind = self.kind_at(i, path)
         own = self.names(self.crate)
@@ -662,14 +677,11 @@ class File:
         def span(m):
             return "`" + re.sub(r"[A-Za-z_][A-Za-z0-9_]*", self.in_span, m.group(1)) + "`"
 
+        for old, new in own.prose.items():
+            text = re.sub(r"(?<![\w`])%s(?![\w`])" % old, new, text)
         parts = re.split(r"(`[^`\n]*`)", text)
-        for n, part in enumerate(parts):
-            if n % 2:
-                parts[n] = re.sub(r"`([^`]*)`", span, part)
-            else:
-                for old, new in own.prose.items():
-                    part = re.sub(r"(?<![\w`])%s(?![\w`])" % old, new, part)
-                parts[n] = part
+        for n in range(1, len(parts), 2):
+            parts[n] = re.sub(r"`([^`]*)`", span, parts[n])
         return "".join(parts)
 
     def in_span(self, m):
@@ -680,6 +692,68 @@ class File:
         if at:
             return word
         return self.names(self.crate).get(word, "type" if word[:1].isupper() else "other")
+
+
+# ---- lines that have become long
+
+WIDEST = 100
+
+
+def wrapped(old, new, rust):
+    """Breaks lines of definitions, clauses and comments that were within the width and are no longer; code is for rt fmt."""
+    before, lines = old.split("\n"), new.split("\n")
+    if len(before) != len(lines):
+        return new
+    out = []
+    clause = False
+    for was, line in zip(before, lines):
+        if rust:
+            clause = bool(re.match(r"\s*(requires|ensures|ghost) ", line)) or clause and not re.match(r"\s*(\{|//|pub |fn )", line)
+        grown = len(line) > WIDEST and len(was) <= WIDEST and not re.match(r"\s*(pub )?(ghost )?use ", line)
+        if grown and re.match(r"\s*(///|//!|//|-- )", line):
+            out += broken_comment(line)
+        elif grown and (clause or not rust):
+            out += broken(line, rust)
+        else:
+            out.append(line)
+        if rust and line.rstrip().endswith("}") and clause and line.count("{") == line.count("}") and re.match(r"\s*(requires|ensures)", line):
+            clause = False
+    return "\n".join(out)
+
+
+def broken_comment(line):
+    mark = re.match(r"\s*(///|//!|//|--) ?", line).group()
+    at = line.rfind(" ", 0, WIDEST + 1)
+    return [line[:at], mark + line[at + 1:]]
+
+
+def broken(line, rust):
+    indent = len(line) - len(line.lstrip())
+    starts = re.match(r"\s*(requires|ensures|ghost|pub|abbrev|record|[A-Za-z_'-]+ .*( =|: ))", line)
+    first = indent + 4 if (starts and (rust or indent <= 2)) else indent
+    out = []
+    while len(line) > WIDEST:
+        best = None
+        depth = 0
+        for n, sign in enumerate(line[:WIDEST]):
+            if sign in "([{":
+                depth += 1
+            elif sign in ")]}":
+                depth -= 1
+            if n > indent + 8 and sign == " ":
+                left = line[:n]
+                if re.search(r"λ [^.]*$", left):
+                    continue
+                grade = 0 if left.endswith(("→", "×", "⊎")) else 1 if left.endswith((" =", " :", ".")) else 2 if line[n + 1] in "(" or line[n + 1:n + 2] in "≡" else 3
+                key = (3 * depth + grade, -n)
+                if best is None or key < best[0]:
+                    best = (key, n)
+        if best is None:
+            break
+        out.append(line[:best[1]])
+        line = " " * first + line[best[1] + 1:]
+        indent = first
+    return out + [line]
 
 
 RESERVED = {"Answers", "Invariants", "Proof", "Lib"}
@@ -693,7 +767,7 @@ class Work:
         for step in steps:
             for crate, table in STEPS[step]["names"].items():
                 names = self.names.setdefault(crate, Names())
-                for kind in ("types", "variants", "modules", "exact", "camel", "word", "prose"):
+                for kind in ("types", "variants", "modules", "exact", "camel", "word", "prose", "stay_after", "outside"):
                     getattr(names, kind).update(table.get(kind, {}))
                 names.keep.update(table.get("keep", ()))
         self.seen = {}
@@ -705,6 +779,18 @@ class Work:
         if path not in self.files:
             self.files[path] = File(self, crate, path, self.tree.text[path], path.endswith(".rt"))
         return self.files[path]
+
+    def below(self, crate):
+        """The crates with fields that are named outside, of those that this one's files name."""
+        key = "below", crate
+        if key not in self.seen:
+            found = []
+            for other, names in self.names.items():
+                if names.outside and other != crate:
+                    if any(other in t for p, t in self.tree.text.items() if p.startswith("crates/%s/" % crate)):
+                        found.append(other)
+            self.seen[key] = found
+        return self.seen[key]
 
     def seen_by(self, path):
         """Variants of other crates that the source of a proof names: old -> new."""
@@ -797,6 +883,11 @@ class Work:
                 self.new_text[path] = self.file(at.group(1), path).renamed()
             self.new_path[path] = self.path_of(path)
 
+    def wrap(self):
+        for path, text in self.tree.text.items():
+            if re.match(r"crates/[^/]+/(src|specs)/", path):
+                self.new_text[path] = wrapped(text, self.new_text[path], path.endswith(".rt"))
+
     def write(self):
         top = self.tree.top
         for path, new in self.new_text.items():
@@ -810,6 +901,59 @@ class Work:
         for folder, _dirs, _files in sorted(os.walk(os.path.join(top, "crates")), reverse=True):
             if "/out" not in folder and not os.listdir(folder):
                 os.rmdir(folder)
+
+    # ---- documents
+
+    def documents(self, steps):
+        """Words in code spans, by the crates that a line or its section names; and phrases."""
+        phrases = [it for step in steps for it in STEPS[step].get("documents", ())]
+        for path in self.tree.paths:
+            if path not in ("README.md", "CONTRIBUTING.md") and not re.match(r"docs/[^/]*\.md$", path):
+                continue
+            with open(os.path.join(self.tree.top, path), encoding="utf-8") as f:
+                text = f.read()
+            out, section = [], None
+            for line in text.split("\n"):
+                if line.startswith("#"):
+                    section = None
+                at = re.search(r"`crates/(\w+)/specs/`", line)
+                if at:
+                    section = at.group(1)
+                about = [c for c in self.names if re.search(r"`(?:[^`]*[ /:])?%s\b" % c, line) or c == section]
+                out.append(self.document_line(line, about, section))
+            new = "\n".join(out)
+            for where, old, said in phrases:
+                if where == path:
+                    if old in new:
+                        new = new.replace(old, said)
+                    elif said not in new:
+                        print("not found in %s: %s" % (path, old[:70]))
+            if new != text:
+                with open(os.path.join(self.tree.top, path), "w", encoding="utf-8") as f:
+                    f.write(new)
+
+    def document_line(self, line, about, section):
+        if section in self.names:
+            for old, new in self.names[section].prose.items():
+                line = re.sub(r"(?<![\w`])%s(?![\w`])" % old, new, line)
+
+        def word(m):
+            old = m.group()
+            if old.islower() and not any(old in self.names[c].exact for c in about):
+                return old
+            found = set()
+            for crate in about:
+                if old in self.words_of(crate):
+                    found.add(self.names[crate].get(old, "type" if old[:1].isupper() else "other"))
+            found.discard(old)
+            return found.pop() if len(found) == 1 else old
+
+        return re.sub(r"`[^`]*`", lambda m: m.group() if "/" in m.group() else re.sub(r"[A-Za-z_]\w*", word, m.group()), line)
+
+    def words_of(self, crate):
+        if crate not in self.seen:
+            self.seen[crate] = set(self.words_before(crate))
+        return self.seen[crate]
 
     # ---- reports
 
@@ -850,6 +994,140 @@ class Work:
                 print("   %-28s %-34s %3d files%s" % (a, b, n, "" if not m else "   MEETS in %d files, %d of these" % (m, both)))
 
 
+# ---- a crate that becomes a module
+
+
+def changes_of(step):
+    """What stands in each file for a crate that has become a module of another: patterns and what replaces them."""
+    old, into, module = step["moved"], step["into"], step["module"]
+    inner = step["source"] == "lib" and "" or step["source"] + "."
+    root = "Rattle.%s." % old
+    new = "Rattle.%s." % into
+    return [
+        (re.escape(root) + r"(specs\.(?:declared|contracts)\.)" + re.escape(inner), new + r"\1" + module + "."),
+        (re.escape(root) + r"proofs\." + (re.escape(inner) if inner else r"(?=[a-z]\w*\.)"), new + "proofs." + module + "."),
+        (re.escape(root), new),
+        (r"(?<![\w:.])%s::" % old, "%s::%s::" % (into, module)),
+        (r"%s\+\+%s" % (old, re.escape(inner.replace(".", "++"))), "%s++%s++" % (into, module)),
+    ]
+
+
+def move_crate(top, step):
+    old, into, module = step["moved"], step["into"], step["module"]
+    at = os.path.join(top, "crates", old)
+    to = os.path.join(top, "crates", into)
+    if not os.path.isdir(at):
+        print("no crate", old)
+        return
+
+    def git(*words):
+        subprocess.run(["git", "-C", top, *words], check=True)
+
+    def read(path):
+        with open(path, encoding="utf-8") as f:
+            return f.read()
+
+    def write(path, text):
+        with open(path, "w", encoding="utf-8") as f:
+            f.write(text)
+
+    git("add", "-A")
+    source = "crates/%s/src/%s.rt" % (old, step["source"])
+    target = "crates/%s/src/%s.rt" % (into, module)
+    if os.path.exists(os.path.join(top, target)):
+        raise SystemExit("%s is there" % target)
+    head = read(os.path.join(at, "src/lib.rt"))
+    lines = read(os.path.join(top, source)).split("\n")
+    git("mv", source, target)
+    text = "\n".join(line for line in lines if not line.startswith("#![tactic"))
+    about = "\n".join(line for line in head.split("\n") if line.startswith("//!"))
+    text = text.lstrip("\n")
+    if not text.startswith("//!"):
+        text = about + "\n" + text
+    text = re.sub(r"\n\n+(?=\n)", "\n", text)
+    write(os.path.join(top, target), re.sub(r"(?<![\w:.])%s::" % into, "crate::", text))
+    lib = os.path.join(to, "src/lib.rt")
+    mods = read(lib).split("\n")
+    places = [n for n, line in enumerate(mods) if re.match(r"(pub )?mod (\w+);", line)]
+    later = [n for n in places if re.match(r"(?:pub )?mod (\w+);", mods[n]).group(1) > module]
+    mods.insert(later[0] if later else places[-1] + 1, "pub mod %s;" % module)
+    write(lib, "\n".join(mods))
+    for kind in ("specs", "proofs"):
+        folder = os.path.join(at, kind)
+        if not os.path.isdir(folder):
+            continue
+        listed = read(os.path.join(folder, "Lib.antt")).rstrip("\n").split("\n")
+        for path, _dirs, names in sorted(os.walk(folder)):
+            for name in sorted(names):
+                inside = os.path.relpath(os.path.join(path, name), folder)
+                if inside == "Lib.antt":
+                    continue
+                parts = inside.split("/")
+                if len(parts) > 1:
+                    parts = [module] + parts[1 if step["source"] != "lib" else 0:]
+                where = "crates/%s/%s/%s" % (into, kind, "/".join(parts))
+                if os.path.exists(os.path.join(top, where)):
+                    raise SystemExit("%s is there" % where)
+                os.makedirs(os.path.dirname(os.path.join(top, where)), exist_ok=True)
+                git("mv", os.path.relpath(os.path.join(path, name), top), where)
+        lib = os.path.join(to, kind, "Lib.antt")
+        have = read(lib).rstrip("\n") if os.path.exists(lib) else ""
+        write(lib, (have + "\n" if have else "") + "\n".join(listed) + "\n")
+    for folder in ("crates/%s/must-fail" % old, "wrong-bodies/%s" % old):
+        if os.path.isdir(os.path.join(top, folder)):
+            for name in sorted(os.listdir(os.path.join(top, folder))):
+                os.makedirs(os.path.join(top, "wrong-bodies", into), exist_ok=True)
+                where = "wrong-bodies/%s/%s" % (into, name)
+                if os.path.exists(os.path.join(top, where)):
+                    raise SystemExit("%s is there" % where)
+                git("mv", "%s/%s" % (folder, name), where)
+                held = read(os.path.join(top, where))
+                held = held.replace("file: src/%s.rt" % step["source"], "file: src/%s.rt" % module)
+                write(os.path.join(top, where), held)
+    git("rm", "-q", "-r", "crates/%s" % old)
+    changes = changes_of(step)
+    tree = Tree(top)
+    for path, text in tree.text.items():
+        new = text
+        for pattern, said in changes:
+            if path.startswith(("crates/%s/" % into, "wrong-bodies/%s/" % into)) and "::" in said:
+                said = "crate::%s::" % module
+            new = re.sub(pattern, said, new)
+        if new != text:
+            write(os.path.join(top, path), new)
+    edges = os.path.join(top, "crates.txt")
+    out = []
+    for line in read(edges).split("\n"):
+        name, colon, needs = line.partition(":")
+        if colon and name == old:
+            continue
+        if colon and not line.startswith("#") and old in needs.split():
+            words = [w for w in needs.split() if w != old]
+            if into not in words:
+                words.insert(0, into)
+            line = name + ": " + " ".join(words)
+        out.append(line)
+    write(edges, "\n".join(out))
+    for path, was, said in step["documents"]:
+        # A path may name the row of a table behind a #.
+        path, _, row = path.partition("#")
+        lines = read(os.path.join(top, path)).split("\n")
+        found = [n for n, line in enumerate(lines) if was in line and line.startswith("| `%s` |" % row if row else "")]
+        if not found:
+            print("not found in %s: %s" % (path, was[:70]))
+        for n in found:
+            lines[n] = lines[n].replace(was, said)
+        write(os.path.join(top, path), "\n".join(lines))
+    rows = os.path.join(top, "docs/ARCHITECTURE.md"), os.path.join(top, "docs/PROVED.md")
+    for path in rows:
+        kept = [line for line in read(path).split("\n") if not line.startswith("| `%s` |" % old)]
+        write(path, "\n".join(kept))
+    for folder, _dirs, _files in sorted(os.walk(at), reverse=True):
+        if not os.listdir(folder):
+            os.rmdir(folder)
+    git("add", "-A")
+
+
 def main():
     words = sys.argv[1:]
     if not words:
@@ -867,12 +1145,18 @@ def main():
             print(step, "-", STEPS[step]["why"])
         return 0
     plain = [s for s in chosen if "names" in STEPS[s]]
-    work = Work(top, plain)
-    work.run()
-    if "--check" in words:
-        work.report()
-        return 0
-    work.write()
+    if plain:
+        work = Work(top, plain)
+        work.run()
+        if "--check" in words:
+            work.report()
+            return 0
+        work.wrap()
+        work.write()
+        work.documents(plain)
+    for step in chosen:
+        if "moved" in STEPS[step]:
+            move_crate(top, STEPS[step])
     return 0
 
 
