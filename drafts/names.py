@@ -202,6 +202,8 @@ def use_tree(tokens, i, prefix, public, out, marks):
             while tokens[j][0] == "space":
                 j += 1
             alias = tokens[j][1]
+            if marks is not None:
+                marks.append((j, "alias"))
             i = j + 1
         elif kind == "word":
             if marks is not None:
@@ -311,7 +313,11 @@ class File:
                 start = i
                 i = use_tree(tokens, i + 1, [], False, out, marks)
                 for at, path in marks:
-                    self.fix_use(at, path)
+                    if path == "alias":
+                        local = self.tokens[at][1]
+                        self.fixed[at] = self.names(self.crate).exact.get(local, local)
+                    else:
+                        self.fix_use(at, path)
                 for path, alias, _public in out:
                     if path:
                         self.tell_use(path, alias, start)
@@ -439,7 +445,7 @@ class File:
                     local = self.tokens[renamed][1]
                     self.tell(local, first, (owner, kind, True))
                     if owner != self.crate:
-                        self.fixed[renamed] = local
+                        self.fixed[renamed] = self.names(self.crate).exact.get(local, local)
                 else:
                     self.tell(word, first, (owner, kind, False))
             if alias is not None:
@@ -607,7 +613,7 @@ class File:
                 return self.goal(own.get(word, kind if not self.binding_of(i) else "other"))
             owner, from_kind, aliased = at[:3]
             if aliased:
-                return own.get(word) if owner == self.crate else word
+                return own.get(word) if owner == self.crate else own.exact.get(word, word)
             return self.names(owner).get(word, from_kind.replace("alias:", "")) if owner else word
         if head == "Rattle" and len(path) > 1:
             owner = path[1] if path[1] in self.work.tree.crates else None
@@ -883,6 +889,20 @@ class Work:
                 self.new_text[path] = self.file(at.group(1), path).renamed()
             self.new_path[path] = self.path_of(path)
 
+    def plain_aliases(self):
+        """A name that is brought in under its own name needs no other."""
+        for path, new in self.new_text.items():
+            if new == self.tree.text[path] or path.endswith(".edit"):
+                continue
+            lines = new.split("\n")
+            for n, line in enumerate(lines):
+                if re.match(r"\s*(pub )?use .*::", line) and path.endswith(".rt"):
+                    lines[n] = re.sub(r"\b(\w+) as \1\b", r"\1", line)
+                elif re.match(r"\s*(pub )?(ghost )?use .*\{", line):
+                    head, brace, names = line.partition("{")
+                    lines[n] = head + brace + re.sub(r"(?<![\w-])(\w+) as \1(?![\w-])", r"\1", names)
+            self.new_text[path] = "\n".join(lines)
+
     def wrap(self):
         for path, text in self.tree.text.items():
             if re.match(r"crates/[^/]+/(src|specs)/", path):
@@ -1151,6 +1171,7 @@ def main():
         if "--check" in words:
             work.report()
             return 0
+        work.plain_aliases()
         work.wrap()
         work.write()
         work.documents(plain)

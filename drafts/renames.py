@@ -108,7 +108,6 @@ STEPS = {
         "names": {
             "sharded_run": {
                 "types": {"Came": "ShardedResult", "Ended": "RunEnd", "Passed": "ReadResult", "Kept": "HeldPacket"},
-                "variants": {"Ran": "Whole", "Met": "Full"},
                 "modules": {"came": "result", "kept": "frames"},
             },
             "locked_run": {"types": {"Came": "LockedResult"}, "modules": {"came": "result"}},
@@ -145,7 +144,13 @@ STEPS = {
         "why": "four types had the name Stop: why something can't go on is a fault",
         "names": {
             "stream_run": {"types": {"Stop": "RunFault"}, "modules": {"stop": "fault"}},
-            "call_base": {"types": {"Stop": "CallFault", "Behind": "FileOrder"}},
+            "call_base": {"types": {"Stop": "CallFault", "Behind": "FileOrder"}, "exact": {"NumberStop": "RunFault"}},
+            "describe_call": {"exact": {"NumberStop": "RunFault"}},
+            "gen_call": {"exact": {"NumberStop": "RunFault"}},
+            "maestro_cli": {"exact": {"NumberStop": "RunFault"}},
+            "prove_call": {"exact": {"NumberStop": "RunFault"}},
+            "replay_call": {"exact": {"NumberStop": "RunFault"}},
+            "run_call": {"exact": {"NumberStop": "RunFault"}},
             "nf_syntax": {"types": {"Stop": "TokenFault"}},
             "nf_types": {"types": {"Stop": "TypingFault"}},
         },
