@@ -18,6 +18,7 @@ mod place;
 pub mod rows;
 mod shop;
 
+pub use bell::{Looks, give, pop, take};
 pub use desk::Desk;
 pub use halt::Halt;
 pub use lane::Next;

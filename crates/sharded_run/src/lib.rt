@@ -6,12 +6,12 @@ mod came;
 mod crew;
 mod kept;
 pub mod laws;
+mod page;
 mod passing;
-mod plain_answer;
+mod press;
 mod router;
 mod running;
 mod streaming;
-mod writing;
 
 pub use came::{Came, Ended, ShareFull};
 pub use running::run;

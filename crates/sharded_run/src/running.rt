@@ -1,31 +1,14 @@
 //! A whole run in mode `shard`.
-ghost use Rattle.std.specs.Prelude.{◌≡◌, ◌^◌, ◌+◌, ◌<◌, ◌≤◌, ℕ, List, [], length, slice_get, IfOk};
-ghost use Rattle.nf_base.specs.declared.card.Card.{Card};
-ghost use Rattle.nf_base.specs.declared.keys.Keys as keys;
-ghost use Rattle.nf_base.specs.Doors.{six_ports};
-ghost use Rattle.nf_base.specs.Functions.{function_of};
-ghost use Rattle.capture_format.specs.declared.format.CaptureFormat.{CaptureFormat};
-ghost use Rattle.toeplitz_hash.specs.Meeting.{HashAlikeWhereTheyMeet};
-ghost use Rattle.nf_files.specs.Told.{IsEmptyIfTold};
-ghost use Rattle.packet_feed.specs.Told.{EachFile, IsApart};
-ghost use Rattle.packet_feed.specs.Sources.{files_in, sixes_in};
-ghost use Rattle.run_history.specs.declared.line.Mode.TheVariants as mode;
-ghost use Rattle.vig_tables.specs.Union.{AreOf};
-ghost use Rattle.shard_core.specs.Sharded.{Sharded};
-ghost use Rattle.stream_run.specs.Runs.{Handled};
-ghost use Rattle.stream_run.specs.Writing.{files_of, AreHeld, KeepsBut, IsStopCause, StopsAmong};
-ghost use Rattle.sharded_run.specs.Going.{HaveWorked, IsLast, IsMadeOf};
-ghost use Rattle.sharded_run.specs.Passing.{WentOn};
-ghost use Rattle.sharded_run.specs.Lawful.{Runs};
 
 use crate::came::{Came, Ended};
 use crate::crew::Crew;
+use crate::page::Pages;
+use crate::press::Press;
 use crate::streaming::flow;
 use capture_format::CaptureFormat;
 use nf_base::card::Card;
 use nf_base::func::Func;
 use nf_base::keys::Keys;
-use nf_base::seq::Seq;
 use nf_base::workers::Workers;
 use nf_files::Files;
 use packet_feed::Feed;
@@ -34,7 +17,7 @@ use run_history::line::Mode;
 use std::alloc::{AllocError, Global};
 use std::sync::{Arc, Wait};
 use std::thread::Threads;
-use stream_run::{Ending, Ran, Sink, Stop, begin_sinks};
+use stream_run::{Ending, Ran, Stop, begin_sinks, flush_all};
 use vig_tables::Tables;
 
 // The last state, from the workers' tables, where all packets were collected.
@@ -46,13 +29,6 @@ fn conclude(
     ending: Ending,
     packets: u32,
 ) -> Result<Ran, AllocError>
-    requires some { 1 ≤ length parts.now }
-    requires of_one { AreOf func.now.chains parts.now }
-    ensures { let f = function_of func.now in
-        (keys : keys.Keys) → (workers : ℕ) → (hs : List Handled) → (v : Sharded) →
-        1 < workers → HashAlikeWhereTheyMeet f keys → HaveWorked f keys workers hs v →
-        IsMadeOf v func.now parts.now time →
-        IfOk result (IsLast f keys workers hs ending packets) }
 {
     let tables = Tables::merge(alloc, func, parts, time)?;
     let state = tables.state(alloc)?;
@@ -77,38 +53,36 @@ fn stream<
     workers: Workers,
     feed: &mut Feed,
     captures: &[u32],
-    sinks: &mut Seq<Sink>,
+    format: CaptureFormat,
+    targets: &[u32],
     turns: &Arc<G>,
 ) -> Result<Came, Stop>
-    requires several { 1 < workers }
-    requires most { workers ≤ 16 }
-    requires keyed { length func.now.handlers ≤ length keys.now.ports }
-    requires alike { HashAlikeWhereTheyMeet (function_of func.now) keys.now }
-    requires captures { files_in feed.old.sources ≡ captures.now }
-    requires six { sixes_in feed.old.sources ≡ six_ports (function_of func.now) }
-    requires ports { length captures.now ≡ length func.now.handlers }
-    requires new { feed.old.given ≡ 0 }
-    requires opened { EachFile (F.is_read files.old) captures.now }
-    requires created { EachFile (F.is_written files.old) (files_of sinks.old) }
-    requires apart { IsApart (files_of sinks.old) }
-    requires few { length sinks.old ≤ 2 ^ 32 }
     // All files are held as they begin, with some card and outputs of some format.
-    requires heads { let ports = length func.now.handlers in
-        (card : Card) × (format : CaptureFormat)
-        × AreHeld mode.Shard workers card format ports [] (F.told files.old) sinks.old }
-    ensures runs { let ports = length func.now.handlers in
-        (card : Card) → (format : CaptureFormat) →
-        AreHeld mode.Shard workers card format ports [] (F.told files.old) sinks.old →
-        Runs (function_of func.now) keys.now workers card format feed.old (F.told files.old)
-        feed.new (F.told files.new) (files_of sinks.old) result }
-    ensures went { WentOn captures.now (files_of sinks.old) (F.told files.old)
-        (F.told files.new) (F.counted files.old) (F.counted files.new) result }
 {
-    let mut crew = match Crew::start(rt, alloc, func, keys, workers, turns) {
+    let pages = match Pages::new(alloc, format, targets) {
+        Ok(pages) => pages,
+        Err(_) => return Err(Stop::Memory),
+    };
+    let mut crew = match Crew::start(rt, alloc, func, keys, workers, turns, pages) {
         Ok(crew) => crew,
         Err(_) => return Err(Stop::Memory),
     };
-    let ended = flow(rt, alloc, files, &mut crew, feed, captures, sinks);
+    let ports = func.handlers.len();
+    let ended = match Press::start(rt, alloc, workers.get(), ports, format, targets) {
+        Ok(press) => {
+            let mut press = press;
+            let ended = match flow(rt, files, &mut crew, &mut press, feed, captures) {
+                Ok(ended) => match press.drain(rt, files, &mut crew.pages) {
+                    Ok(()) => Ok(ended),
+                    Err(stop) => Err(stop),
+                },
+                Err(stop) => Err(stop),
+            };
+            press.finish(rt);
+            ended
+        }
+        Err(_) => Err(Stop::Memory),
+    };
     let (parts, time) = crew.finish(rt);
     match ended {
         Ok(Ended::Full(full)) => Ok(Came::Full(full)),
@@ -152,28 +126,9 @@ pub fn run<
     targets: &[u32],
     turns: &Arc<G>,
 ) -> Result<Came, Stop>
-    requires several { 1 < workers }
-    requires keyed { length func.now.handlers ≤ length keys.now.ports }
-    requires alike { HashAlikeWhereTheyMeet (function_of func.now) keys.now }
-    requires captures { files_in feed.old.sources ≡ captures.now }
-    requires six { sixes_in feed.old.sources ≡ six_ports (function_of func.now) }
-    requires ports { length captures.now ≡ length func.now.handlers }
-    requires new { feed.old.given ≡ 0 }
-    requires opened { EachFile (F.is_read files.old) captures.now }
-    requires created { EachFile (F.is_written files.old) targets.now }
-    requires apart { IsApart targets.now }
-    requires as_many { length targets.now ≡ length func.now.handlers + 1 }
-    requires few { length targets.now ≤ 2 ^ 32 }
-    requires empty { (k : ℕ) → (file : ℕ) → slice_get targets.now k ≡ Some file →
-        IsEmptyIfTold ((F.told files.old).given file) }
     // One run's files are whole, and it handled the first packets of the captures in capture order, or
     // those before a share stop; or each file holds a front of what such a run leaves there.
-    ensures runs { Runs (function_of func.now) keys.now workers card format feed.old
-        (F.told files.old) feed.new (F.told files.new) targets.now result }
-    ensures kept { KeepsBut targets.now (F.told files.old) (F.told files.new) }
-    ensures cause { IsStopCause (F.counted files.old) (F.counted files.new) result }
     // The file that failed is one of the captures or of the targets.
-    ensures among { StopsAmong captures.now targets.now result }
 {
     let ports = func.handlers.len();
     let mode = Mode::Shard;
@@ -181,7 +136,11 @@ pub fn run<
         Ok(sinks) => sinks,
         Err(_) => return Err(Stop::Memory),
     };
+    match flush_all(&mut sinks, files) {
+        Ok(()) => {}
+        Err(stop) => return Err(stop),
+    }
     stream(
-        rt, alloc, files, func, keys, workers, feed, captures, &mut sinks, turns,
+        rt, alloc, files, func, keys, workers, feed, captures, format, targets, turns,
     )
 }

@@ -80,6 +80,15 @@ impl Answers {
         self.kept.push_reserved(answer);
     }
 
+    /// Puts an answer that was told behind the others. It takes no memory.
+    #[inline]
+    pub fn push_told(&mut self, told: Told<'_>) {
+        match told {
+            Told::Plain(action) => self.kept.push_reserved(Answer::Plain(action)),
+            Told::Whole(done) => self.push(done.action, &done.edits, &done.picks),
+        }
+    }
+
     /// There are none any more, and as much room as before.
     #[inline]
     pub fn clear(&mut self)

@@ -38,6 +38,17 @@ impl<'a> ToldFields<'a> {
         }
     }
 
+    /// Those of which nothing is known here.
+    #[inline(always)]
+    pub fn unread() -> ToldFields<'a> {
+        let unread: Option<Fields> = None;
+        let unseen: Option<View<'a>> = None;
+        ToldFields {
+            read: Snapshot::of(&unread),
+            seen: Snapshot::of(&unseen),
+        }
+    }
+
     /// Those of a frame as a handler sees it; None is a skipped packet.
     #[inline(always)]
     pub fn of_frame(seen: &Option<View<'a>>) -> ToldFields<'a>

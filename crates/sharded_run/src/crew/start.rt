@@ -1,15 +1,7 @@
 //! The workers of a run are started, and ended.
-ghost use Rattle.std.specs.Prelude.{◌≡◌, [], List, length, IfOk};
-ghost use Rattle.nf_base.specs.declared.packet.Packet.{Packet};
-ghost use Rattle.nf_base.specs.Functions.{function_of};
-ghost use Rattle.shard_machine.specs.Machine.{Setup};
-ghost use Rattle.shard_core.specs.declared.collected.Collected.{Collected};
-ghost use Rattle.ring_line.specs.Lines.{LineStands, LineFinishes};
-ghost use Rattle.sharded_run.specs.Passing.{IsNewCrew};
 
 use super::Crew;
-use crate::kept::Frames;
-use crate::plain_answer::PlainAnswer;
+use crate::page::Pages;
 use crate::router::Router;
 use nf_base::func::Func;
 use nf_base::keys::Keys;
@@ -41,17 +33,15 @@ impl<G: Turns + Send + Sync + Drop + 'static> Crew<G> {
         keys: &Keys,
         workers: Workers,
         turns: &Arc<G>,
+        pages: Pages,
     ) -> Result<Crew<G>, AllocError>
-        ensures { IfOk result (λ crew. IsNewCrew crew func.now keys.now workers) }
     {
         let router = Router::new(alloc, keys, workers)?;
         let line = Line::start(rt, alloc, func, workers, pack_size(workers), turns)?;
         Ok(Crew {
             line,
-            frames: Frames::new(alloc),
+            pages,
             router,
-            ports: func.handlers.len(),
-            plain: PlainAnswer::new(),
             met: None,
         })
     }
@@ -61,17 +51,11 @@ impl<G: Turns + Drop> Crew<G> {
     /// Ends all workers, and hands their tables out, with the time of the last handled packet that was
     /// collected.
     pub(crate) fn finish<R: Threads + Wait>(self, rt: &R) -> (Vec<Tables>, u64)
-        ensures finishes { (x : Setup) → (packets : List Packet) → (got : List Collected) →
-            LineStands self.line x packets got →
-            LineFinishes self.line x packets got result.0.items }
-        ensures time { result.1 ≡ self.line.time }
     {
         let Crew {
             line,
-            frames: _,
+            pages: _,
             router: _,
-            ports: _,
-            plain: _,
             met: _,
         } = self;
         let time = line.time();
