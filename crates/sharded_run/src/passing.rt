@@ -1,26 +1,9 @@
 //! Packets are read, handed to their workers, and what they leave is written as their answers come.
-ghost use Rattle.std.specs.Prelude.{◌≡◌, ◌^◌, ◌<◌, ◌≤◌, ℕ, List, length, IfErr};
-ghost use Rattle.nf_base.specs.declared.card.Card.{Card};
-ghost use Rattle.capture_format.specs.declared.format.CaptureFormat.{CaptureFormat};
-ghost use Rattle.nf_files.specs.Told.{Told};
-ghost use Rattle.pcap_file.specs.Record.{greatest_time};
-ghost use Rattle.packet_feed.specs.Arrivals.{Arrival};
-ghost use Rattle.packet_feed.specs.Told.{EachFile, IsApart};
-ghost use Rattle.packet_feed.specs.Sources.{files_in, sixes_in};
-ghost use Rattle.packet_feed.specs.Feeding.{Feeding, frame_of, shown};
-ghost use Rattle.shard_machine.specs.Machine.{Setup};
-ghost use Rattle.ring_line.specs.Lines.{HasRoom, LineHasAnswer};
-ghost use Rattle.ring_line.specs.Places.{CanHandle};
-ghost use Rattle.stream_run.specs.declared.stop.Stop.TheVariants as stops;
-ghost use Rattle.stream_run.specs.Writing.{Holding, files_of};
-ghost use Rattle.stream_run.specs.Rules.{queue_by};
-ghost use Rattle.sharded_run.specs.Reading.{Gathers};
-ghost use Rattle.sharded_run.specs.Passing.{WentOn, Passing, Wrote, WroteOne, SameCrew, SameButOne, HasMade, SentSo, HandedOut, HasMet, Suits, PassedSo};
 
 use crate::came::Passed;
 use crate::crew::Crew;
 use crate::kept::fits;
-use crate::writing::write_told;
+use crate::writing::hold_told;
 use nf_base::packet::Packet;
 use nf_base::seq::Seq;
 use nf_files::Files;
@@ -28,83 +11,53 @@ use packet_feed::{Fed, Feed};
 use ring_line::{First, Turns};
 use std::alloc::Global;
 use std::sync::Wait;
-use stream_run::{Ending, Sink, Stop, stop_in};
+use stream_run::{Ending, Sink, Stop, flush_full, stop_in};
 
 /// How many packets are in flight at most, of all queues.
 const ALL_IN_FLIGHT: usize = 1_024;
 
-// Writes what the first packet leaves, whose answer lies ready.
-fn write_ready<F: Files, G: Turns + Drop>(
-    files: &mut F,
-    crew: &mut Crew<G>,
-    sinks: &mut Seq<Sink>,
-) -> Result<(), Stop>
-    requires ready { LineHasAnswer crew.old.line }
-    requires some { 0 < length crew.old.frames }
-    requires created { EachFile (F.is_written files.old) (files_of sinks.old) }
-    requires apart { IsApart (files_of sinks.old) }
-    requires few { length sinks.old ≤ 2 ^ 32 }
-    ensures wrote { (x : Setup) → (card : Card) → (format : CaptureFormat) → (all : List Arrival) →
-        Passing x card format (F.told files.old) crew.old sinks.old all →
-        WroteOne x card format (F.told files.new) crew.new sinks.new all result }
-    ensures same { SameCrew crew.old crew.new }
-    ensures same_files { files_of sinks.new ≡ files_of sinks.old }
-    ensures went { (captures : List ℕ) → WentOn captures (files_of sinks.old) (F.told files.old)
-        (F.told files.new) (F.counted files.old) (F.counted files.new) result }
-    ensures rests { (g : ℕ) → (F.told files.new).rest g ≡ (F.told files.old).rest g }
-    ensures reads { (g : ℕ) → F.is_read files.old g → F.is_read files.new g }
-    ensures writes { (g : ℕ) → F.is_written files.old g → F.is_written files.new g }
+// Holds what the first packet leaves, whose answer lies ready.
+#[inline]
+fn hold_ready<G: Turns + Drop>(crew: &mut Crew<G>, sinks: &mut Seq<Sink>) -> Result<(), Stop>
 {
     let answer = crew.line.answer();
     let kept = crew.frames.first();
     let plain = &mut crew.plain;
-    let written = write_told(
-        files,
-        sinks,
-        crew.ports,
-        kept,
-        answer.queue,
-        answer.told,
-        plain,
-    );
+    let held = hold_told(sinks, crew.ports, kept, answer.queue, answer.told, plain);
     crew.line.pass();
     crew.frames.drop_first();
-    match written {
+    match held {
         Ok(()) => Ok(()),
-        Err(stop) => Err(stop),
+        Err(_) => Err(Stop::Memory),
     }
 }
 
-// Writes what packets leave, in the order sent, as long as their answers lie ready.
-fn write_come<F: Files, G: Turns + Drop>(
-    files: &mut F,
-    crew: &mut Crew<G>,
-    sinks: &mut Seq<Sink>,
-) -> Result<(), Stop>
-    requires created { EachFile (F.is_written files.old) (files_of sinks.old) }
-    requires apart { IsApart (files_of sinks.old) }
-    requires few { length sinks.old ≤ 2 ^ 32 }
-    ensures wrote { (x : Setup) → (card : Card) → (format : CaptureFormat) → (all : List Arrival) →
-        Passing x card format (F.told files.old) crew.old sinks.old all →
-        WroteOne x card format (F.told files.new) crew.new sinks.new all result }
-    ensures same { SameCrew crew.old crew.new }
-    ensures same_files { files_of sinks.new ≡ files_of sinks.old }
-    ensures went { (captures : List ℕ) → WentOn captures (files_of sinks.old) (F.told files.old)
-        (F.told files.new) (F.counted files.old) (F.counted files.new) result }
-    ensures rests { (g : ℕ) → (F.told files.new).rest g ≡ (F.told files.old).rest g }
-    ensures reads { (g : ℕ) → F.is_read files.old g → F.is_read files.new g }
-    ensures writes { (g : ℕ) → F.is_written files.old g → F.is_written files.new g }
+// Holds what packets leave, in the order sent, as long as their answers lie ready.
+fn hold_come<G: Turns + Drop>(crew: &mut Crew<G>, sinks: &mut Seq<Sink>) -> Result<(), Stop>
 {
     for _ in 0..ALL_IN_FLIGHT {
         if !crew.line.is_ready() {
             return Ok(());
         }
-        match write_ready(files, crew, sinks) {
+        match hold_ready(crew, sinks) {
             Ok(()) => {}
             Err(stop) => return Err(stop),
         }
     }
     Ok(())
+}
+
+// The same, and gives to the files what is held for them where it is much.
+fn write_come<F: Files, G: Turns + Drop>(
+    files: &mut F,
+    crew: &mut Crew<G>,
+    sinks: &mut Seq<Sink>,
+) -> Result<(), Stop>
+{
+    match hold_come(crew, sinks) {
+        Ok(()) => flush_full(sinks, files),
+        Err(stop) => Err(stop),
+    }
 }
 
 // Waits for the next answer in the order sent, and writes what its packet leaves, and those behind it
@@ -115,20 +68,6 @@ pub(crate) fn write_next<R: Wait, F: Files, G: Turns + Drop>(
     crew: &mut Crew<G>,
     sinks: &mut Seq<Sink>,
 ) -> Result<Option<shard_core::Stop>, Stop>
-    requires some { 0 < length crew.old.frames }
-    requires created { EachFile (F.is_written files.old) (files_of sinks.old) }
-    requires apart { IsApart (files_of sinks.old) }
-    requires few { length sinks.old ≤ 2 ^ 32 }
-    ensures wrote { (x : Setup) → (card : Card) → (format : CaptureFormat) → (all : List Arrival) →
-        Passing x card format (F.told files.old) crew.old sinks.old all →
-        Wrote x card format (F.told files.new) crew.new sinks.new all result }
-    ensures same { SameCrew crew.old crew.new }
-    ensures same_files { files_of sinks.new ≡ files_of sinks.old }
-    ensures went { (captures : List ℕ) → WentOn captures (files_of sinks.old) (F.told files.old)
-        (F.told files.new) (F.counted files.old) (F.counted files.new) result }
-    ensures rests { (g : ℕ) → (F.told files.new).rest g ≡ (F.told files.old).rest g }
-    ensures reads { (g : ℕ) → F.is_read files.old g → F.is_read files.new g }
-    ensures writes { (g : ℕ) → F.is_written files.old g → F.is_written files.new g }
 {
     match crew.line.await_first(rt) {
         First::Answer => match write_come(files, crew, sinks) {
@@ -147,21 +86,6 @@ fn make_room<R: Wait, F: Files, G: Turns + Drop>(
     sinks: &mut Seq<Sink>,
     queue: u32,
 ) -> Result<Option<shard_core::Stop>, Stop>
-    requires queue { queue < crew.old.router.workers }
-    requires created { EachFile (F.is_written files.old) (files_of sinks.old) }
-    requires apart { IsApart (files_of sinks.old) }
-    requires few { length sinks.old ≤ 2 ^ 32 }
-    ensures wrote { (x : Setup) → (card : Card) → (format : CaptureFormat) → (all : List Arrival) →
-        Passing x card format (F.told files.old) crew.old sinks.old all →
-        Wrote x card format (F.told files.new) crew.new sinks.new all result }
-    ensures room { HasMade crew.new queue result }
-    ensures same { SameCrew crew.old crew.new }
-    ensures same_files { files_of sinks.new ≡ files_of sinks.old }
-    ensures went { (captures : List ℕ) → WentOn captures (files_of sinks.old) (F.told files.old)
-        (F.told files.new) (F.counted files.old) (F.counted files.new) result }
-    ensures rests { (g : ℕ) → (F.told files.new).rest g ≡ (F.told files.old).rest g }
-    ensures reads { (g : ℕ) → F.is_read files.old g → F.is_read files.new g }
-    ensures writes { (g : ℕ) → F.is_written files.old g → F.is_written files.new g }
 {
     for _ in rt.forever() {
         if crew.line.has_room(queue) {
@@ -185,17 +109,6 @@ fn send<R: Wait, G: Turns + Drop>(
     queue: u32,
     packet: &Packet,
 ) -> Result<(), Stop>
-    requires queue { queue < crew.old.router.workers }
-    requires room { HasRoom crew.old.line queue }
-    requires time { packet.now.time ≤ greatest_time }
-    requires captured { length (frame_of feed.now) ≤ 262144 }
-    ensures sent { (x : Setup) → (card : Card) → (format : CaptureFormat) → (now : Told) →
-        (sinks : List Holding) → (all : List Arrival) →
-        Passing x card format now crew.old sinks all →
-        CanHandle x.function packet.now → x.queue packet.now ≡ queue →
-        SentSo x card format now crew.new sinks all (shown packet.now feed.now) result }
-    ensures same { SameButOne crew.old crew.new }
-    ensures memory { IfErr result (λ stop. stop ≡ stops.Memory) }
 {
     match crew
         .frames
@@ -218,27 +131,6 @@ fn hand_out<R: Wait, F: Files, G: Turns + Drop>(
     packet: &Packet,
     sinks: &mut Seq<Sink>,
 ) -> Result<Passed, Stop>
-    requires port { packet.now.id.port < length crew.old.router.keys.ports }
-    requires time { packet.now.time ≤ greatest_time }
-    requires captured { length (frame_of feed.now) ≤ 262144 }
-    requires fewer { length crew.old.frames < feed.now.given }
-    requires created { EachFile (F.is_written files.old) (files_of sinks.old) }
-    requires apart { IsApart (files_of sinks.old) }
-    requires few { length sinks.old ≤ 2 ^ 32 }
-    ensures handed { let queue = queue_by crew.old.router.keys crew.old.router.workers packet.now in
-        (x : Setup) → (card : Card) → (format : CaptureFormat) → (all : List Arrival) →
-        Passing x card format (F.told files.old) crew.old sinks.old all →
-        CanHandle x.function packet.now → x.queue packet.now ≡ queue →
-        HandedOut x card format (F.told files.new) crew.new sinks.new all
-        (shown packet.now feed.now) feed.now.given result }
-    ensures met { HasMet crew.new result }
-    ensures same { SameButOne crew.old crew.new }
-    ensures same_files { files_of sinks.new ≡ files_of sinks.old }
-    ensures went { (captures : List ℕ) → WentOn captures (files_of sinks.old) (F.told files.old)
-        (F.told files.new) (F.counted files.old) (F.counted files.new) result }
-    ensures rests { (g : ℕ) → (F.told files.new).rest g ≡ (F.told files.old).rest g }
-    ensures reads { (g : ℕ) → F.is_read files.old g → F.is_read files.new g }
-    ensures writes { (g : ℕ) → F.is_written files.old g → F.is_written files.new g }
 {
     let queue = crew.router.queue(packet);
     match make_room(rt, files, crew, sinks, queue) {
@@ -265,31 +157,6 @@ pub(crate) fn pass_one<R: Wait, F: Files, G: Turns + Drop>(
     captures: &[u32],
     sinks: &mut Seq<Sink>,
 ) -> Result<Passed, Stop>
-    requires captures { files_in feed.old.sources ≡ captures.now }
-    requires keyed { length captures.now ≤ length crew.old.router.keys.ports }
-    requires fewer { length crew.old.frames ≤ feed.old.given }
-    requires opened { EachFile (F.is_read files.old) captures.now }
-    requires created { EachFile (F.is_written files.old) (files_of sinks.old) }
-    requires apart { IsApart (files_of sinks.old) }
-    requires few { length sinks.old ≤ 2 ^ 32 }
-    ensures passed { let ports = length captures.now in
-        (x : Setup) → (card : Card) → (format : CaptureFormat) → (begun : Feeding) →
-        (start : Told) → (all : List Arrival) → Suits x ports crew.old feed.old →
-        length (files_in begun.sources) ≡ ports →
-        Passing x card format (F.told files.old) crew.old sinks.old all →
-        Gathers ports begun feed.old start (F.told files.old) all →
-        PassedSo x card format ports begun start feed.new (F.told files.new) crew.new
-        sinks.new all result }
-    ensures met { HasMet crew.new result }
-    ensures same_files { files_of sinks.new ≡ files_of sinks.old }
-    ensures same { SameButOne crew.old crew.new }
-    ensures fed { (files_in feed.new.sources ≡ files_in feed.old.sources)
-        × (sixes_in feed.new.sources ≡ sixes_in feed.old.sources) }
-    ensures fewer { length crew.new.frames ≤ feed.new.given }
-    ensures went { WentOn captures.now (files_of sinks.old) (F.told files.old)
-        (F.told files.new) (F.counted files.old) (F.counted files.new) result }
-    ensures reads { (g : ℕ) → F.is_read files.old g → F.is_read files.new g }
-    ensures writes { (g : ℕ) → F.is_written files.old g → F.is_written files.new g }
 {
     match feed.next(files) {
         Ok(Fed::Packet(packet)) => {

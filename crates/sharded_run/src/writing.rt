@@ -1,85 +1,54 @@
-//! What a packet leaves is written.
-ghost use Rattle.std.specs.Prelude.{◌≡◌, ◌^◌, ◌≤◌, ◌∷◌, ◌++◌, [], ℕ, List, length};
-ghost use Rattle.nf_base.specs.declared.card.Card.{Card};
-ghost use Rattle.capture_format.specs.declared.format.CaptureFormat.{CaptureFormat};
-ghost use Rattle.packet_feed.specs.Told.{EachFile, IsApart};
-ghost use Rattle.run_history.specs.declared.line.Mode.{Mode};
-ghost use Rattle.short_answers.specs.Answers.{done_told};
-ghost use Rattle.stream_run.specs.Runs.{Handled};
-ghost use Rattle.stream_run.specs.Writing.{files_of, AreHeld, AllGoOn, KeepsAllBut, IsStopCause, StopsAmong};
+//! What a packet leaves is held.
 
 use crate::kept::Kept;
 use crate::plain_answer::PlainAnswer;
 use nf_base::done::Done;
 use nf_base::seq::Seq;
-use nf_files::Files;
 use short_answers::Told;
-use stream_run::{HandledPacket, Sink, Stop, put_all};
+use std::alloc::AllocError;
+use stream_run::{HandledParts, Sink, ToldFields, hold_all};
 
-// Puts what one packet of a queue leaves into all files, where its answer stands whole.
-fn write_one<F: Files>(
-    files: &mut F,
+// Puts what one packet of a queue leaves behind what is held, where its answer stands whole.
+#[inline]
+fn hold_one(
     sinks: &mut Seq<Sink>,
     ports: u32,
     kept: &Kept,
     queue: u32,
     done: &Done,
-) -> Result<(), Stop>
-    requires created { EachFile (F.is_written files.old) (files_of sinks.old) }
-    requires apart { IsApart (files_of sinks.old) }
-    requires few { length sinks.old ≤ 2 ^ 32 }
-    ensures goes_on { let h : Handled = record { arrival = kept.now; worker = queue; done = done.now } in
-        (mode : Mode) → (workers : ℕ) → (card : Card) → (format : CaptureFormat) →
-        (hs : List Handled) →
-        AreHeld mode workers card format ports hs (F.told files.old) sinks.old →
-        AllGoOn mode workers card format ports (hs ++ h ∷ []) (F.told files.new) sinks.new result }
-    ensures same_files { files_of sinks.new ≡ files_of sinks.old }
-    ensures kept { KeepsAllBut (files_of sinks.old) (F.told files.old) (F.told files.new) }
-    ensures cause { IsStopCause (F.counted files.old) (F.counted files.new) result }
-    ensures among { StopsAmong [] (files_of sinks.old) result }
-    ensures reads { (g : ℕ) → F.is_read files.old g → F.is_read files.new g }
-    ensures writes { (g : ℕ) → F.is_written files.old g → F.is_written files.new g }
+) -> Result<(), AllocError>
 {
-    let handled = HandledPacket {
+    let packet = kept.packet();
+    let handled = HandledParts {
         worker: queue,
-        packet: kept.packet(),
+        id: packet.id,
+        time: packet.time,
+        fields: ToldFields::of_packet(packet),
         original: kept.original(),
         frame: kept.frame(),
-        done,
+        action: done.action,
+        edits: &done.edits,
+        picks: &done.picks,
     };
-    put_all(sinks, files, ports, &handled)
+    hold_all(sinks, ports, &handled)
 }
 
-/// Puts what one packet of a queue leaves into all files.
-pub(crate) fn write_told<F: Files>(
-    files: &mut F,
+/// Puts what one packet of a queue leaves behind what is held.
+#[inline]
+pub(crate) fn hold_told(
     sinks: &mut Seq<Sink>,
     ports: u32,
     kept: &Kept,
     queue: u32,
     told: Told<'_>,
     plain: &mut PlainAnswer,
-) -> Result<(), Stop>
-    requires created { EachFile (F.is_written files.old) (files_of sinks.old) }
-    requires apart { IsApart (files_of sinks.old) }
-    requires few { length sinks.old ≤ 2 ^ 32 }
-    ensures goes_on { let h : Handled = record { arrival = kept.now; worker = queue; done = done_told told.entry } in
-        (mode : Mode) → (workers : ℕ) → (card : Card) → (format : CaptureFormat) →
-        (hs : List Handled) →
-        AreHeld mode workers card format ports hs (F.told files.old) sinks.old →
-        AllGoOn mode workers card format ports (hs ++ h ∷ []) (F.told files.new) sinks.new result }
-    ensures same_files { files_of sinks.new ≡ files_of sinks.old }
-    ensures kept { KeepsAllBut (files_of sinks.old) (F.told files.old) (F.told files.new) }
-    ensures cause { IsStopCause (F.counted files.old) (F.counted files.new) result }
-    ensures among { StopsAmong [] (files_of sinks.old) result }
-    ensures reads { (g : ℕ) → F.is_read files.old g → F.is_read files.new g }
-    ensures writes { (g : ℕ) → F.is_written files.old g → F.is_written files.new g }
+) -> Result<(), AllocError>
 {
     match told {
         Told::Plain(action) => {
             plain.set(action);
-            write_one(files, sinks, ports, kept, queue, plain.done())
+            hold_one(sinks, ports, kept, queue, plain.done())
         }
-        Told::Whole(done) => write_one(files, sinks, ports, kept, queue, done),
+        Told::Whole(done) => hold_one(sinks, ports, kept, queue, done),
     }
 }
