@@ -14,12 +14,17 @@ const MANY_LOOKS: u32 = 2_000;
 /// The same where another thread is known to want the processor.
 const FEW_LOOKS: u32 = 50;
 
+/// After so many waits in a row that looking didn't end, one looks as long as any may.
+const SOMETIMES: u32 = 16;
+
 /// How often a thread looks again before it sleeps: more often the longer that has helped, and seldom once
 /// it hasn't, for then who is waited for may want this very processor.
 #[derive(Clone, Copy, Debug, PartialEq, Eq)]
 pub struct Looks {
     now: u32,
     most: u32,
+    // How many waits in a row looking didn't end.
+    failed: u32,
 }
 
 impl Looks {
@@ -28,11 +33,13 @@ impl Looks {
         Looks {
             now: FEW_LOOKS,
             most: most_for(rt, threads),
+            failed: 0,
         }
     }
 
     /// An item came while it looked.
     fn helped(&mut self) {
+        self.failed = 0;
         let more = self.now / 8;
         self.now = self
             .now
@@ -43,7 +50,13 @@ impl Looks {
 
     /// None did.
     fn failed(&mut self) {
-        self.now = FEW_LOOKS;
+        self.failed = self.failed.saturating_add(1);
+        if self.failed < SOMETIMES {
+            self.now = FEW_LOOKS;
+            return;
+        }
+        self.failed = 0;
+        self.now = self.most;
     }
 }
 
