@@ -1,6 +1,6 @@
 -- Entries that are renewed, given up or written.
 use Rattle.std.proofs.Common.{◌≡◌, ◌∙◌, ap, sym, refl, subst, arith, ℕ, ◌<◌, ◌↔◌, Bool, true, false, List, inl, inr}
-use Rattle.std.specs.Prelude.{Option, Some, None, slice_set, IsTrue, IsSome}
+use Rattle.std.specs.Prelude.{Option, Some, None, slice_set, IsTrue, IsSome, MatchBool}
 use Rattle.std.specs.List.{AllZip}
 use Rattle.std.proofs.lemmas.List.{length-set}
 use Rattle.std.proofs.lemmas.Bool.{cases_eq, both_ways, false≢true}
@@ -9,7 +9,7 @@ use Rattle.nf_base.specs.declared.state.Entry.{Entry}
 use Rattle.nf_base.specs.Chains.{entry_at, touched, written}
 use Rattle.nf_base.specs.Chains as chains
 use Rattle.nf_base.specs.Shares.{owns}
-use Rattle.vig_chain.specs.Stamps.{Stamps, stamp_of, raised, stamped, freed, next_stamp, is_due_at, NoIndexHas}
+use Rattle.vig_chain.specs.Stamps.{Stamps, stamp_of, raised, stamped, freed, next_stamp, is_due_at, SomeIndexHas, NoIndexHas}
 use Rattle.vig_tables.specs.Grid.{Grid, row_at, with_row}
 use Rattle.vig_tables.specs.Keyed.{Keyed, IsUnbound}
 use Rattle.vig_tables.specs.Slots.{live}
@@ -204,3 +204,12 @@ pub none_gone :
 none_gone decl s maps labels columns time j none =
     ap (λ (slots : List (Option Entry)). with_chain (record { slots = slots; greatest = s.greatest }) (table_of decl s labels columns))
     (sym (kept_all time decl.lifetime (entries s labels columns) (past_match decl s maps labels columns time decl.lifetime j false none)))
+
+pub none_gone_if :
+    (decl : ChainDecl) (s : Stamps) (maps : List Keyed) (labels columns : Grid) (time : ℕ) (due : Bool)
+    → AreJoined decl s maps labels columns
+    → MatchBool due (SomeIndexHas (is_due_at time decl.lifetime s)) (NoIndexHas (is_due_at time decl.lifetime s))
+    → due ≡ false
+    → table_of decl s labels columns ≡ without_past time (table_of decl s labels columns)
+none_gone_if decl s maps labels columns time true j none e = absurd (false≢true (sym e))
+none_gone_if decl s maps labels columns time false j none e = none_gone decl s maps labels columns time j none

@@ -88,8 +88,16 @@ impl ChainTables {
     pub fn lookup(&self, map: u32, key: &Key) -> Option<u32>
         ensures { result ≡ index_under self.now.decl.maps map key.now self.now.chain.slots }
     {
+        self.lookup_parts(map, key.as_slice())
+    }
+
+    /// The same for a key by its parts.
+    #[inline]
+    pub fn lookup_parts(&self, map: u32, key: &[u128]) -> Option<u32>
+        ensures { result ≡ index_under self.now.decl.maps map key.now self.now.chain.slots }
+    {
         match self.maps.get(map as usize) {
-            Some(map) => map.get(&self.labels, key.as_slice()),
+            Some(map) => map.get(&self.labels, key),
             None => None,
         }
     }
@@ -319,11 +327,23 @@ impl ChainTables {
         true
     }
 
-    /// Gives up each entry that is past its lifetime at a time.
-    pub fn expire(&mut self, time: u64)
+    /// Gives up each entry that is past its lifetime at a time, of which there is one.
+    #[inline(never)]
+    fn expire_past(&mut self, time: u64)
         ensures { self.new ≡ without_past time self.old }
     {
         'past: while self.expire_one(time) {}
+    }
+
+    /// Gives up each entry that is past its lifetime at a time. Mostly there is none, which a look
+    /// at the oldest tells.
+    #[inline]
+    pub fn expire(&mut self, time: u64)
+        ensures { self.new ≡ without_past time self.old }
+    {
+        if self.chain.due(time, self.decl.lifetime) {
+            self.expire_past(time);
+        }
     }
 
     /// The entry at an index.

@@ -108,8 +108,17 @@ impl Tables {
         ensures { let maps = maps_of self.now.decls chain in
             result ≡ index_under maps map key.now (slots_at self.now chain) }
     {
+        self.lookup_parts(chain, map, key.as_slice())
+    }
+
+    /// The same for a key by its parts.
+    #[inline]
+    pub fn lookup_parts(&self, chain: u32, map: u32, key: &[u128]) -> Option<u32>
+        ensures { let maps = maps_of self.now.decls chain in
+            result ≡ index_under maps map key.now (slots_at self.now chain) }
+    {
         match self.table(chain) {
-            Some(tables) => tables.lookup(map, key),
+            Some(tables) => tables.lookup_parts(map, key),
             None => None,
         }
     }

@@ -2,7 +2,7 @@
 use Rattle.std.proofs.Common.{◌≡◌}
 use Rattle.vig_tables.specs.Slots.{live}
 use Rattle.vig_tables.specs.Table.{without_past}
-use Rattle.vig_tables.proofs.chain_tables.ChainTables.expire.Given as goal
+use Rattle.vig_tables.proofs.chain_tables.ChainTables.expire_past.Given as goal
 
 abbrev pub invariant-past : goal.invariant-past
 invariant-past l = without_past l.time l.self ≡ without_past l.time l.initial.self
