@@ -65,6 +65,14 @@ impl<'a, R: Reads> Input<'a, R> {
         self.packet.field(field)
     }
 
+    /// The same, read at the place of the call.
+    #[inline(always)]
+    pub fn field_here(&self, field: Field) -> u128
+        ensures { result ≡ field_of self.now.time self.now.fields field }
+    {
+        self.packet.field(field)
+    }
+
     #[inline]
     pub fn share(&self) -> Share
         ensures { result ≡ self.now.share }

@@ -15,10 +15,9 @@ use crate::context::Context;
 use crate::entry_ref::EntryRef;
 use crate::input::Input;
 use crate::reads::Reads;
-use crate::values::{fill_key, given, value};
+use crate::values::{fill_parts, given, value};
 use nf_base::block::Question;
 use nf_base::expr::{Given, Guard};
-use nf_base::key::Key;
 use nf_base::value::compares;
 use vig_tables::Tables;
 
@@ -37,9 +36,9 @@ fn look_up<R: Reads>(
         let k = all_given p.now tables.now context.now (map given_of key.now) in
         result ≡ key_found (input_of p.now) c chain m k }
 {
-    let mut parts = Key::new();
-    fill_key(&mut parts, tables, context, p, key);
-    tables.lookup_in(chain, m, &parts)
+    let mut parts = [0; 8];
+    fill_parts(&mut parts, tables, context, p, key);
+    tables.lookup_parts(chain, m, &parts[..key.len()])
 }
 
 /// The index that a `find` finds in a chain.

@@ -90,6 +90,18 @@ pub fn given<R: Reads>(tables: &Tables, context: &Context, p: &Input<R>, g: &Giv
     narrowed(g.width, value(tables, context, p, &g.value))
 }
 
+/// The same, where a field is read at the place of the call.
+#[inline(always)]
+fn given_here<R: Reads>(tables: &Tables, context: &Context, p: &Input<R>, g: &Given) -> u128
+    ensures { let c = context_of tables.now [] context.now in
+        result ≡ given (input_of p.now) c (given_of g.now) }
+{
+    match &g.value {
+        Expr::Read(field) => narrowed(g.width, p.field_here(*field)),
+        _ => given(tables, context, p, g),
+    }
+}
+
 /// Fills an empty key with the values that its parts are given.
 pub fn fill_key<R: Reads>(
     key: &mut Key,
@@ -104,6 +116,24 @@ pub fn fill_key<R: Reads>(
 {
     for g in gs {
         key.push(given(tables, context, p, g));
+    }
+}
+
+/// Writes the values that parts are given, in turn, over the first of eight numbers.
+#[inline]
+pub fn fill_parts<R: Reads>(
+    parts: &mut [u128; 8],
+    tables: &Tables,
+    context: &Context,
+    p: &Input<R>,
+    gs: &[Given],
+)
+    requires { length gs.now ≤ 8 }
+    ensures { take (length gs.now) parts.new
+        ≡ all_given p.now tables.now context.now (map given_of gs.now) }
+{
+    for i in 0..gs.len() {
+        parts[i] = given_here(tables, context, p, &gs[i]);
     }
 }
 
