@@ -4,6 +4,7 @@ ghost use Rattle.frame_ip.specs.Bytes.{number_at};
 
 use nf_base::mac::Mac;
 
+#[inline]
 pub(crate) fn u16_at(frame: &[u8], at: usize) -> u16
     requires { at + 2 ≤ length frame.now }
     ensures { result ≡ number_at frame.now at 2 }
@@ -11,6 +12,7 @@ pub(crate) fn u16_at(frame: &[u8], at: usize) -> u16
     u16::from_be_bytes([frame[at], frame[at + 1]])
 }
 
+#[inline]
 pub(crate) fn u32_at(frame: &[u8], at: usize) -> u32
     requires { at + 4 ≤ length frame.now }
     ensures { result ≡ number_at frame.now at 4 }

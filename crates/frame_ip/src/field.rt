@@ -12,7 +12,7 @@ use crate::handled::View;
 use nf_base::packet::{Family, Field};
 
 /// A field of an IPv4 frame.
-#[inline]
+#[inline(always)]
 fn four_field(frame: &[u8], original: u32, time: u64, field: Field) -> u128
     requires { IsTrue (four.is_four frame.now) }
     ensures { result ≡ field_of time (four.fields_at frame.now original) field }
@@ -32,7 +32,7 @@ fn four_field(frame: &[u8], original: u32, time: u64, field: Field) -> u128
 }
 
 /// A field of an IPv6 frame.
-#[inline]
+#[inline(never)]
 fn six_field(frame: &[u8], original: u32, time: u64, field: Field) -> u128
     requires { IsTrue (six.is_six frame.now) }
     ensures { result ≡ field_of time (six.fields_at frame.now original) field }
@@ -64,7 +64,7 @@ pub fn family_of(view: &View) -> Family
 
 /// The value of a field of a handled frame that came at a time, in nanoseconds; of the others no
 /// byte is read.
-#[inline]
+#[inline(always)]
 pub fn field_of(view: &View, time: u64, field: Field) -> u128
     ensures { result ≡ field_of time (fields_at view.now.frame view.now.original) field }
 {

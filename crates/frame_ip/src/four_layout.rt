@@ -31,6 +31,7 @@ const UDP: u8 = 17;
 const SHORTEST: usize = 42;
 
 /// The IP header's words of 4 bytes.
+#[inline]
 fn words(frame: &[u8]) -> usize
     requires { 15 ≤ length frame.now }
     ensures { result ≡ header_words frame.now }
@@ -39,6 +40,7 @@ fn words(frame: &[u8]) -> usize
 }
 
 /// Where the TCP or UDP header begins.
+#[inline]
 pub(crate) fn transport(frame: &[u8]) -> usize
     requires { 15 ≤ length frame.now }
     ensures { result ≡ transport_at frame.now }

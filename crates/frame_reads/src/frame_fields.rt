@@ -50,7 +50,7 @@ impl<'a> Reads for FrameFields<'a> {
         family_of(&self.view)
     }
 
-    #[inline]
+    #[inline(always)]
     fn field(&self, field: Field) -> u128 {
         field_of(&self.view, self.time, field)
     }
