@@ -1,6 +1,7 @@
 //! The memory: eight bytes a slot.
-ghost use Rattle.std.specs.Prelude.{◌≡◌, ℕ, ◌<◌, ◌≤◌, ◌+◌, ◌^◌, length, None, Some, IfOk, OnSome, replicate, slice_set};
-ghost use Rattle.hash_slots.specs.Cells.{pair_in, IsNarrow};
+ghost use Rattle.std.specs.Prelude.{◌≡◌, ℕ, ◌<◌, ◌≤◌, ◌+◌, ◌^◌, ◌++◌, max, length, None, Some, IfOk, OnSome, replicate, slice_set};
+ghost use Rattle.std.specs.Vec.{vec_capacity};
+ghost use Rattle.hash_slots.specs.Cells.{pair_in, empty_slot, IsNarrow};
 ghost use Rattle.hash_slots.specs.Places.{slot_at};
 
 use std::alloc::{AllocError, Global};
@@ -22,19 +23,27 @@ struct Slot {
 }
 
 /// Slots, each with a pair or empty.
+///
+/// The memory is taken at once, but touched only up to the last slot that was set.
 #[derive(Drop)]
 pub struct Cells {
+    /// How many slots there are.
+    count: usize,
+    /// The first of them: those behind them are empty.
     slots: Vec<Slot>,
 }
 
 impl Model for Cells {
-    ghost use Rattle.std.specs.Prelude.{List, Option, map};
+    ghost use Rattle.std.specs.Prelude.{List, Option, map, length};
+    ghost use Rattle.std.specs.Vec.{vec_capacity};
     ghost use Rattle.hash_slots.specs.declared.cells.Pair.{Pair};
-    ghost use Rattle.hash_slots.specs.Cells.{pair_in};
+    ghost use Rattle.hash_slots.specs.Cells.{pair_in, filled, HasSlots};
 
     ghost Value = { List (Option Pair) };
 
-    ghost view = { λ a. map pair_in a.slots.items };
+    ghost view = { λ a. filled a.count (map pair_in a.slots.items) };
+
+    ghost invariant = { λ a. HasSlots a.count (length a.slots.items) (vec_capacity a.slots) };
 }
 
 /// The pair in a slot, by the slot's fields.
@@ -67,20 +76,48 @@ fn slot_of(pair: Option<Pair>) -> Slot
     }
 }
 
+/// Lets a slot stand, and those before it, for which there is room.
+#[inline]
+fn reach(slots: &mut Vec<Slot>, i: usize)
+    requires { i < vec_capacity slots.old }
+    ensures empty { (k : ℕ) × (slots.new.items ≡ slots.old.items ++ replicate k empty_slot) }
+    ensures within { i < length slots.new.items }
+    ensures least { length slots.new.items ≤ max (length slots.old.items) (i + 1) }
+    ensures room { vec_capacity slots.new ≡ vec_capacity slots.old }
+{
+    if i >= slots.len() {
+        push_empty(slots, i + 1);
+    }
+}
+
+/// Pushes empty slots up to a length, for which there is room.
+#[inline(never)]
+fn push_empty(slots: &mut Vec<Slot>, end: usize)
+    requires within { length slots.old.items ≤ end }
+    requires room { end ≤ vec_capacity slots.old }
+    ensures items { (k : ℕ) × (slots.new.items ≡ slots.old.items ++ replicate k empty_slot) }
+    ensures len { length slots.new.items ≡ end }
+    ensures room { vec_capacity slots.new ≡ vec_capacity slots.old }
+{
+    for _at in slots.len()..end {
+        slots.push_reserved(Slot { tag: 0, link: 0 });
+    }
+}
+
 impl Cells {
     /// So many empty slots.
     pub fn new(alloc: Global, count: usize) -> Result<Cells, AllocError>
         ensures { IfOk result (λ cells. cells ≡ replicate count None) }
     {
-        let slots = vec![in alloc; Slot { tag: 0, link: 0 }; count]?;
-        Ok(Cells { slots })
+        let slots = Vec::with_capacity(alloc, count)?;
+        Ok(Cells { count, slots })
     }
 
     #[inline]
     pub fn len(&self) -> usize
         ensures { result ≡ length self.now }
     {
-        self.slots.len()
+        self.count
     }
 
     /// What stands in a slot.
@@ -90,6 +127,9 @@ impl Cells {
         ensures value { result ≡ slot_at self.now i }
         ensures narrow { IsNarrow result }
     {
+        if i >= self.slots.len() {
+            return None;
+        }
         let slot = self.slots[i];
         pair_in(slot.tag, slot.link)
     }
@@ -100,6 +140,7 @@ impl Cells {
         requires narrow { IsNarrow pair }
         ensures { self.new ≡ slice_set self.old i pair }
     {
+        reach(&mut self.slots, i);
         self.slots[i] = slot_of(pair);
     }
 
@@ -108,8 +149,9 @@ impl Cells {
         requires { length self.old ≡ length other.now }
         ensures { self.new ≡ other.now }
     {
-        self.slots
-            .as_mut_slice()
-            .copy_from_slice(other.slots.as_slice());
+        self.slots.clear();
+        for slot in other.slots.as_slice() {
+            self.slots.push_reserved(*slot);
+        }
     }
 }
