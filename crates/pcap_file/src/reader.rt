@@ -16,7 +16,7 @@ use crate::front::Front;
 use crate::head::Head;
 use crate::record::{RECORD_HEADER, first, size};
 use nf_files::{Files, FilesFault};
-use std::alloc::Global;
+use std::alloc::{AllocError, Global};
 use std::marker::Model;
 
 /// What comes next in a capture.
@@ -89,6 +89,22 @@ fn reach<F: Files>(
             Ok(())
         }
         None => Ok(()),
+    }
+}
+
+// Puts bytes where others stood, mostly as many.
+#[inline(always)]
+fn replace(held: &mut Vec<u8>, bytes: &[u8]) -> Result<(), AllocError>
+    ensures { OnOk result (held.new.items ≡ bytes.now) }
+{
+    let count = bytes.len();
+    if count <= held.len() {
+        held.truncate(count);
+        held.as_mut_slice().copy_from_slice(bytes);
+        Ok(())
+    } else {
+        held.clear();
+        held.extend_from_slice(bytes)
     }
 }
 
@@ -167,8 +183,7 @@ impl Reader {
         let record = first(self.form.order, self.offset, ready)?;
         let head = record.head(self.form.unit);
         let size = record.size();
-        frame.clear();
-        match frame.extend_from_slice(record.frame) {
+        match replace(frame, record.frame) {
             Err(_) => Some(Err(CapFault::Memory)),
             Ok(()) => {
                 files.take(self.front.file(), size);
@@ -178,7 +193,8 @@ impl Reader {
         }
     }
 
-    // The next record, where the end was not found yet.
+    // The next record, where the end was not found yet: a call, since most records stand ready.
+    #[inline(never)]
     fn advance<F: Files>(&mut self, files: &mut F, frame: &mut Vec<u8>) -> Result<Next, CapFault>
         requires opened { F.is_read files.old self.old.file }
         requires going { self.old.state ≡ Going }

@@ -1,4 +1,4 @@
-use Rattle.std.proofs.Common.{ℕ, ◌≡◌, ◌+◌, ◌∙◌, ◌++◌, List, [], length, take, Some, None, Ok, cond, subst, sym, ap, refl}
+use Rattle.std.proofs.Common.{ℕ, ◌≡◌, ◌+◌, ◌∙◌, List, length, take, Some, None, Ok, cond, subst, sym, ap, refl}
 use Rattle.nf_files.specs.Pieces.{Takes}
 use Rattle.nf_files.specs.Reads.{Keeps}
 use Rattle.pcap_file.specs.declared.reader.Next.TheVariants.{Frame}
@@ -31,9 +31,9 @@ returns-in-Ok-clause-steps g c =
     let kept = subst (λ (f : ℕ). Keeps (told c.args.files.now) (told c.take.new.self) f) c.file-in-Ok.ensures c.take.ensures.kept in
     let grown : Held = record { file = file; bytes = take size bytes } in
     let grows = grows_once (held_of now) grown (take size bytes) (told c.args.files.now) (told c.take.new.self) refl refl these kept in
-    let items : c.extend_from_slice.new.self.items ≡ q.frame = c.in-Ok.ensures.items ∙ ap (λ (xs : List ℕ). xs ++ c.record.inside.frame.now) c.clear.ensures.items ∙ ap (λ (r : Record). r.frame) c.record.view_is in
-    subst (λ (r : Reading). Steps (left r (told c.args.files.now)) (left (record { form = i.form; offset = i.offset + size; file = file; state = i.state }) (told c.take.new.self)) c.extend_from_slice.new.self.items (Ok (Frame c.head-head.result))) c.self.view_is
-    (frame_steps now grown (told c.args.files.now) (told c.take.new.self) q size c.extend_from_slice.new.self.items c.head-head.result going grows (one.1.reached ((told c.take.new.self).rest file)) one.1.there one.1.long c.size-size.ensures items c.head-head.ensures)
+    let items : c.replace.new.held.items ≡ q.frame = c.in-Ok.ensures ∙ ap (λ (r : Record). r.frame) c.record.view_is in
+    subst (λ (r : Reading). Steps (left r (told c.args.files.now)) (left (record { form = i.form; offset = i.offset + size; file = file; state = i.state }) (told c.take.new.self)) c.replace.new.held.items (Ok (Frame c.head-head.result))) c.self.view_is
+    (frame_steps now grown (told c.args.files.now) (told c.take.new.self) q size c.replace.new.held.items c.head-head.result going grows (one.1.reached ((told c.take.new.self).rest file)) one.1.there one.1.long c.size-size.ensures items c.head-head.ensures)
 
 pub returns-in-Ok-clause-takes : goal.returns-in-Ok-clause-takes
 returns-in-Ok-clause-takes g c =
@@ -52,6 +52,6 @@ returns-in-Ok-clause-takes g c =
     let kept = subst (λ (f : ℕ). Keeps (told c.args.files.now) (told c.take.new.self) f) c.file-in-Ok.ensures c.take.ensures.kept in
     let grown : Held = record { file = file; bytes = take size bytes } in
     let grows = grows_once (held_of now) grown (take size bytes) (told c.args.files.now) (told c.take.new.self) refl refl these kept in
-    let items : c.extend_from_slice.new.self.items ≡ q.frame = c.in-Ok.ensures.items ∙ ap (λ (xs : List ℕ). xs ++ c.record.inside.frame.now) c.clear.ensures.items ∙ ap (λ (r : Record). r.frame) c.record.view_is in
-    subst (λ (r : Reading). AreTaken (16 + length c.extend_from_slice.new.self.items) ((told c.args.files.now).rest r.file) ((told c.take.new.self).rest r.file)) c.self.view_is
-    (exactly_taken (16 + length c.extend_from_slice.new.self.items) (take size bytes) ((told c.args.files.now).rest file) ((told c.take.new.self).rest file) (one.1.long ∙ c.size-size.ensures ∙ ap (λ (xs : List ℕ). 16 + length xs) (sym items)) grows.same_bytes)
+    let items : c.replace.new.held.items ≡ q.frame = c.in-Ok.ensures ∙ ap (λ (r : Record). r.frame) c.record.view_is in
+    subst (λ (r : Reading). AreTaken (16 + length c.replace.new.held.items) ((told c.args.files.now).rest r.file) ((told c.take.new.self).rest r.file)) c.self.view_is
+    (exactly_taken (16 + length c.replace.new.held.items) (take size bytes) ((told c.args.files.now).rest file) ((told c.take.new.self).rest file) (one.1.long ∙ c.size-size.ensures ∙ ap (λ (xs : List ℕ). 16 + length xs) (sym items)) grows.same_bytes)
