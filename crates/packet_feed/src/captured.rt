@@ -6,6 +6,7 @@ ghost use Rattle.pcap_file.specs.Held.{IsBegun};
 ghost use Rattle.pcap_file.specs.Causes.{IsCause, IsNoHeaderFault};
 ghost use Rattle.pcap_file.specs.Reading.{left_in};
 ghost use Rattle.pcapng_file.specs.Heard.{stream_of};
+ghost use Rattle.pcapng_file.specs.Reading as blocks;
 ghost use Rattle.packet_feed.specs.Captures.{next_of, file_in, is_pcap, left_of, records_left, Heads, IsHeaded, IsKind, Moves, Steps, TakesRecord};
 
 use nf_files::Files;
@@ -61,6 +62,30 @@ fn next_record<F: Files>(
 {
     let next = reader.next(files, frame)?;
     Ok(next_of(next))
+}
+
+// The next packet of a pcapng capture: a call, so that what it takes isn't kept beside records.
+#[inline(never)]
+fn next_block<F: Files>(
+    reader: &mut NgReader,
+    files: &mut F,
+    frame: &mut Vec<u8>,
+) -> Result<Next, CapFault>
+    requires opened { F.is_read files.old reader.old.file }
+    ensures steps { let file = reader.old.file in
+        let before = blocks.left_of reader.old ((F.told files.old).rest file) in
+        let after = blocks.left_of reader.new ((F.told files.new).rest file) in
+        Steps before after frame.new.items result }
+    ensures moves { Moves frame.old.items frame.new.items result }
+    ensures same_file { reader.new.file ≡ reader.old.file }
+    ensures kept { Keeps (F.told files.old) (F.told files.new) reader.old.file }
+    ensures cause { let file = reader.old.file in
+        IsCause (F.counted files.old) (F.counted files.new) file result }
+    ensures never { IsNoHeaderFault result }
+    ensures reads { (g : ℕ) → F.is_read files.old g → F.is_read files.new g }
+    ensures writes { (g : ℕ) → F.is_written files.old g → F.is_written files.new g }
+{
+    reader.next(files, frame)
 }
 
 impl Captured {
@@ -137,7 +162,7 @@ impl Captured {
     {
         match self {
             Captured::Pcap(reader) => next_record(reader, files, frame),
-            Captured::Pcapng(reader) => reader.next(files, frame),
+            Captured::Pcapng(reader) => next_block(reader, files, frame),
         }
     }
 }

@@ -1,5 +1,6 @@
 //! One capture that is read as a stream.
-ghost use Rattle.std.specs.Prelude.{◌≡◌, ◌+◌, ◌-◌, ◌^◌, ◌<◌, ◌≤◌, ℕ, length, Some, OnOk, IfSome, option_map};
+ghost use Rattle.std.specs.Prelude.{◌≡◌, ◌+◌, ◌-◌, ◌^◌, ◌<◌, ◌≤◌, ℕ, length, if◌then◌else◌, Some, None, OnOk, IfSome, option_map};
+ghost use Rattle.frame_ip.specs.Frame.{fields_in};
 ghost use Rattle.nf_base.specs.Doors.{served_fields};
 ghost use Rattle.nf_files.specs.Reads.{Keeps};
 ghost use Rattle.pcap_file.specs.Causes.{IsCause, IsNoHeaderFault};
@@ -37,16 +38,29 @@ pub(crate) struct Source {
     frame: Vec<u8>,
 }
 
-// A handled frame as its port's handlers see it.
-#[inline]
-fn served(six: bool, seen: View<'_>) -> Option<View<'_>>
-    ensures fields { option_map fields_seen result
-        ≡ served_fields six (Some (fields_seen seen.entry)) }
-    ensures same { IfSome result (λ v. v ≡ seen.entry) }
+// Whether a port's handlers see a handled frame.
+#[inline(always)]
+fn is_served(six: bool, seen: &View<'_>) -> bool
+    ensures { served_fields six (Some (fields_seen seen.now))
+        ≡ (if result then Some (fields_seen seen.now) else None) }
 {
-    match family_of(&seen) {
-        Family::Six if !six => None,
-        _ => Some(seen),
+    match family_of(seen) {
+        Family::Six => six,
+        Family::Four => true,
+    }
+}
+
+// A frame as its port's handlers see it. It is moved nowhere on its way.
+#[inline(always)]
+fn served<'a>(six: bool, frame: &'a [u8], original: u32) -> Option<View<'a>>
+    ensures seen { IfSome result (λ v. v ≡ record { frame = frame.now; original = original }) }
+    ensures fields { option_map fields_seen result
+        ≡ served_fields six (fields_in frame.now original) }
+{
+    let seen = view(frame, original);
+    match &seen {
+        None => None,
+        Some(found) => { if is_served(six, found) { seen } else { None } }
     }
 }
 
@@ -162,7 +176,7 @@ impl Source {
     }
 
     // Reads the next packet.
-    #[inline]
+    #[inline(always)]
     fn read<F: Files>(&mut self, files: &mut F) -> Result<(), CapFault>
         requires opened { F.is_read files.old self.old.reading.file }
         requires unread { self.old.ahead ≡ Unread }
@@ -191,7 +205,7 @@ impl Source {
     }
 
     /// Reads the next packet, where it isn't known yet what comes next.
-    #[inline]
+    #[inline(always)]
     pub(crate) fn fill<F: Files>(&mut self, files: &mut F) -> Result<(), CapFault>
         requires opened { F.is_read files.old self.old.reading.file }
         ensures filled { let file = self.old.reading.file in
@@ -226,10 +240,7 @@ impl Source {
         if !self.is_ethernet {
             return None;
         }
-        match view(self.frame.as_slice(), self.original) {
-            Some(seen) => served(self.six, seen),
-            None => None,
-        }
+        served(self.six, self.frame.as_slice(), self.original)
     }
 
     // Its fields.

@@ -54,6 +54,7 @@ pub(crate) fn open_all<F: Files>(
 }
 
 /// Reads the next record of each capture of which it isn't known yet what comes next.
+#[inline(never)]
 pub(crate) fn fill_all<F: Files>(sources: &mut Seq<Source>, files: &mut F) -> Result<(), FeedFault>
     requires opened { EachFile (F.is_read files.old) (files_in sources.old) }
     requires apart { IsApart (files_in sources.old) }
@@ -95,7 +96,7 @@ pub(crate) fn pass(sources: &mut Seq<Source>, first: First)
 }
 
 /// Reads the next record of a port's capture, where it isn't known yet what comes next.
-#[inline]
+#[inline(always)]
 pub(crate) fn fill_at<F: Files>(
     sources: &mut Seq<Source>,
     files: &mut F,
