@@ -1,5 +1,6 @@
 //! Bytes that are still to be given to a file.
-ghost use Rattle.std.specs.Prelude.{◌≡◌, ◌+◌, ◌≤◌, ◌++◌, [], length, take, OnOk, OnErr, vec_len};
+ghost use Rattle.std.specs.Prelude.{◌≡◌, ◌+◌, ◌≤◌, ◌++◌, [], false, length, take, OnOk, OnErr, vec_len};
+ghost use Rattle.frame_ip.specs.Edit.{IsUnedited};
 ghost use Rattle.stream_run.specs.Texts.{written_of, line_of};
 
 use crate::handled::HandledParts;
@@ -55,13 +56,15 @@ impl Buffer {
         self.len = 0;
     }
 
-    /// Puts a packet that is sent out behind them.
+    /// Puts a packet that is sent out behind them; it may be said that its frame is not edited.
     #[inline(always)]
     pub(crate) fn hold_record(
         &mut self,
         format: CaptureFormat,
         handled: &HandledParts,
+        edited: bool,
     ) -> Result<(), AllocError>
+        requires edited { edited ≡ false → IsUnedited handled.now.done.edits }
         ensures ok { OnOk result (self.new ≡ self.old ++ written_of format handled.now) }
         ensures err { OnErr result (self.new ≡ self.old) }
     {
@@ -69,7 +72,7 @@ impl Buffer {
         match make_room(&mut self.bytes, self.len, count) {
             Err(fault) => Err(fault),
             Ok(()) => {
-                self.len = put_sent(self.bytes.as_mut_slice(), self.len, format, handled);
+                self.len = put_sent(self.bytes.as_mut_slice(), self.len, format, handled, edited);
                 Ok(())
             }
         }

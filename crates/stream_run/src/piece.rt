@@ -1,5 +1,5 @@
 //! What one packet leaves in a file.
-ghost use Rattle.std.specs.Prelude.{◌≡◌, ◌≤◌, ◌+◌, ◌++◌, true, length, take, drop, OnOk};
+ghost use Rattle.std.specs.Prelude.{◌≡◌, ◌≤◌, ◌+◌, ◌++◌, true, false, length, take, drop, OnOk};
 ghost use Rattle.frame_ip.specs.Edit.{IsUnedited};
 ghost use Rattle.capture_format.specs.Written.{packet_bytes, packet_length};
 ghost use Rattle.pcap_file.specs.Record.{greatest_time};
@@ -117,6 +117,7 @@ pub(crate) fn push_sent_packet(
 }
 
 // Puts a packet into some room, from a place on: where it ends. Its frame is edited where it was put.
+// Where it is known that nothing is, its edits are not looked at.
 #[inline(always)]
 fn put_edited(
     room: &mut [u8],
@@ -126,28 +127,37 @@ fn put_edited(
     original: u32,
     frame: &[u8],
     edits: &Edits,
+    edited: bool,
 ) -> usize
     requires time { time ≤ greatest_time }
     requires captured { length frame.now ≤ 262144 }
     requires room { at + packet_length format (length frame.now) ≤ length room.old }
+    requires edited { edited ≡ false → IsUnedited edits.now }
     ensures end { result ≡ at + packet_length format (length frame.now) }
     ensures put { take result room.new ≡ take at room.old
         ++ packet_bytes format time original (with_edits edits.now frame.now) }
 {
     let end = put_packet(room, at, format, time, original, frame);
+    if !edited {
+        return end;
+    }
     edit_within(room, at + lead_length(format), frame.len(), edits);
     end
 }
 
 /// Puts a packet that is sent out into some room, from a place on: where it ends.
+///
+/// It may be said that its frame is not edited.
 #[inline(always)]
 pub(crate) fn put_sent(
     room: &mut [u8],
     at: usize,
     format: CaptureFormat,
     handled: &HandledParts,
+    edited: bool,
 ) -> usize
-    requires { at + packet_length format (length handled.now.arrival.frame) ≤ length room.old }
+    requires room { at + packet_length format (length handled.now.arrival.frame) ≤ length room.old }
+    requires edited { edited ≡ false → IsUnedited handled.now.done.edits }
     ensures end { result ≡ at + packet_length format (length handled.now.arrival.frame) }
     ensures put { take result room.new ≡ take at room.old ++ written_of format handled.now }
 {
@@ -162,7 +172,7 @@ pub(crate) fn put_sent(
         edits,
         picks: _,
     } = handled;
-    put_edited(room, at, format, *time, *original, frame, edits)
+    put_edited(room, at, format, *time, *original, frame, edits, edited)
 }
 
 /// Puts a packet's line in the journal into some room, from a place on: where it ends.

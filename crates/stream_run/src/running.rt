@@ -99,6 +99,7 @@ fn handle_one<F: Files>(
     let seen = feed.view();
     let fields = ToldFields::of_frame(&seen);
     let action = handle_kept(tables, func, id, time, seen, context);
+    let edited = context.is_edited();
     let handled = HandledParts {
         worker: 0,
         id,
@@ -110,7 +111,7 @@ fn handle_one<F: Files>(
         edits: context.edits(),
         picks: context.picks(),
     };
-    put_parts(sinks, files, func.func().handlers.len(), &handled)
+    put_parts(sinks, files, func.func().handlers.len(), &handled, edited)
 }
 
 /// What a fault of the captures in these files is for a run whose headers were read: it is of one of

@@ -1,5 +1,6 @@
 //! A file that is written in large pieces.
-ghost use Rattle.std.specs.Prelude.{◌≡◌, ◌<◌, ◌++◌, ◌⊎◌, ℕ, List, length, OnOk, vec_len};
+ghost use Rattle.std.specs.Prelude.{◌≡◌, ◌<◌, ◌++◌, ◌⊎◌, ℕ, List, false, length, OnOk, vec_len};
+ghost use Rattle.frame_ip.specs.Edit.{IsUnedited};
 ghost use Rattle.stream_run.specs.Texts.{written_of, sent_bytes, line_of};
 ghost use Rattle.stream_run.specs.Writing.{Holds, GoesOn, IsLittle, KeepsOther, IsStopCause, StopsAt};
 
@@ -93,26 +94,37 @@ impl Sink {
         }
     }
 
-    /// Puts a packet behind what is held.
+    /// Puts a packet behind what is held; it may be said that its frame is not edited.
     #[inline(always)]
-    pub(crate) fn hold_record(&mut self, handled: &HandledParts) -> Result<(), AllocError>
+    pub(crate) fn hold_record(
+        &mut self,
+        handled: &HandledParts,
+        edited: bool,
+    ) -> Result<(), AllocError>
+        requires edited { edited ≡ false → IsUnedited handled.now.done.edits }
         ensures held { OnOk result
             (self.new.held ≡ self.old.held ++ written_of self.old.format handled.now) }
         ensures same_file { self.new.file ≡ self.old.file }
         ensures same_format { self.new.format ≡ self.old.format }
     {
-        self.held.hold_record(self.format, handled)
+        self.held.hold_record(self.format, handled, edited)
     }
 
     /// The same where the packet is sent out at a port.
-    pub(crate) fn hold_sent(&mut self, port: u32, handled: &HandledParts) -> Result<(), AllocError>
+    pub(crate) fn hold_sent(
+        &mut self,
+        port: u32,
+        handled: &HandledParts,
+        edited: bool,
+    ) -> Result<(), AllocError>
+        requires edited { edited ≡ false → IsUnedited handled.now.done.edits }
         ensures held { OnOk result
             (self.new.held ≡ self.old.held ++ sent_bytes self.old.format port handled.now) }
         ensures same_file { self.new.file ≡ self.old.file }
         ensures same_format { self.new.format ≡ self.old.format }
     {
         if is_sent(port, handled) {
-            self.hold_record(handled)
+            self.hold_record(handled, edited)
         } else {
             Ok(())
         }

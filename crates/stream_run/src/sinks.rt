@@ -1,9 +1,10 @@
 //! Files that are written side by side, by number: the outputs in the order of their ports, and the
 //! journal behind them.
-ghost use Rattle.std.specs.Prelude.{◌≡◌, ◌^◌, ◌≤◌, ◌∷◌, ◌++◌, [], ℕ, List, length, OnOk};
+ghost use Rattle.std.specs.Prelude.{◌≡◌, ◌^◌, ◌≤◌, ◌∷◌, ◌++◌, [], ℕ, List, false, length, OnOk};
 ghost use Rattle.nf_base.specs.declared.card.Card.{Card};
 ghost use Rattle.capture_format.specs.declared.format.CaptureFormat.{CaptureFormat};
 ghost use Rattle.nf_base.specs.declared.done.Action.TheVariants.{To};
+ghost use Rattle.frame_ip.specs.Edit.{IsUnedited};
 ghost use Rattle.packet_feed.specs.Told.{EachFile, IsApart};
 ghost use Rattle.run_history.specs.declared.line.Mode.{Mode};
 ghost use Rattle.stream_run.specs.Runs.{Handled};
@@ -21,14 +22,20 @@ use std::alloc::AllocError;
 
 // Puts a packet's record into each output where it is sent out.
 #[inline(never)]
-fn hold_each(sinks: &mut Seq<Sink>, ports: u32, handled: &HandledParts) -> Result<(), AllocError>
+fn hold_each(
+    sinks: &mut Seq<Sink>,
+    ports: u32,
+    handled: &HandledParts,
+    edited: bool,
+) -> Result<(), AllocError>
+    requires edited { edited ≡ false → IsUnedited handled.now.done.edits }
     ensures ok { OnOk result (AreGrown (sent_in ports handled.now) sinks.old sinks.new) }
     ensures same_files { files_of sinks.new ≡ files_of sinks.old }
 {
     let count = sinks.len().min(ports as usize);
     for k in 0..count {
         let sink = sinks.item_mut(k);
-        match sink.hold_sent(k as u32, handled) {
+        match sink.hold_sent(k as u32, handled, edited) {
             Ok(()) => {}
             Err(fault) => return Err(fault),
         }
@@ -42,29 +49,37 @@ fn hold_at(
     ports: u32,
     port: u32,
     handled: &HandledParts,
+    edited: bool,
 ) -> Result<(), AllocError>
-    requires { handled.now.done.action ≡ To port }
+    requires out { handled.now.done.action ≡ To port }
+    requires edited { edited ≡ false → IsUnedited handled.now.done.edits }
     ensures ok { OnOk result (AreGrown (sent_in ports handled.now) sinks.old sinks.new) }
     ensures same_files { files_of sinks.new ≡ files_of sinks.old }
 {
     let k = port as usize;
     if port < ports && k < sinks.len() {
         let sink = sinks.item_mut(k);
-        sink.hold_record(handled)
+        sink.hold_record(handled, edited)
     } else {
         Ok(())
     }
 }
 
-fn hold_sent(sinks: &mut Seq<Sink>, ports: u32, handled: &HandledParts) -> Result<(), AllocError>
+fn hold_sent(
+    sinks: &mut Seq<Sink>,
+    ports: u32,
+    handled: &HandledParts,
+    edited: bool,
+) -> Result<(), AllocError>
+    requires edited { edited ≡ false → IsUnedited handled.now.done.edits }
     ensures ok { OnOk result (AreGrown (sent_in ports handled.now) sinks.old sinks.new) }
     ensures same_files { files_of sinks.new ≡ files_of sinks.old }
 {
     match action_of(handled) {
         Action::Skip => Ok(()),
         Action::Drop => Ok(()),
-        Action::To(port) => hold_at(sinks, ports, port, handled),
-        Action::Flood => hold_each(sinks, ports, handled),
+        Action::To(port) => hold_at(sinks, ports, port, handled, edited),
+        Action::Flood => hold_each(sinks, ports, handled, edited),
     }
 }
 
@@ -89,7 +104,22 @@ pub fn hold_all(sinks: &mut Seq<Sink>, ports: u32, handled: &HandledParts) -> Re
         (AreGrown (λ k format. piece format ports k handled.now) sinks.old sinks.new) }
     ensures same_files { files_of sinks.new ≡ files_of sinks.old }
 {
-    match hold_sent(sinks, ports, handled) {
+    hold_parts(sinks, ports, handled, true)
+}
+
+// The same; it may be said that the packet's frame is not edited.
+fn hold_parts(
+    sinks: &mut Seq<Sink>,
+    ports: u32,
+    handled: &HandledParts,
+    edited: bool,
+) -> Result<(), AllocError>
+    requires edited { edited ≡ false → IsUnedited handled.now.done.edits }
+    ensures ok { OnOk result
+        (AreGrown (λ k format. piece format ports k handled.now) sinks.old sinks.new) }
+    ensures same_files { files_of sinks.new ≡ files_of sinks.old }
+{
+    match hold_sent(sinks, ports, handled, edited) {
         Ok(()) => hold_line(sinks, ports, handled),
         Err(fault) => Err(fault),
     }
@@ -122,13 +152,16 @@ pub fn flush_full<F: Files>(sinks: &mut Seq<Sink>, files: &mut F) -> Result<(), 
     Ok(())
 }
 
-/// Puts what a packet leaves in each file there, where it came to it in parts.
+/// Puts what a packet leaves in each file there, where it came to it in parts; it may be said that its
+/// frame is not edited.
 pub(crate) fn put_parts<F: Files>(
     sinks: &mut Seq<Sink>,
     files: &mut F,
     ports: u32,
     handled: &HandledParts,
+    edited: bool,
 ) -> Result<(), Stop>
+    requires edited { edited ≡ false → IsUnedited handled.now.done.edits }
     requires created { EachFile (F.is_written files.old) (files_of sinks.old) }
     requires apart { IsApart (files_of sinks.old) }
     requires few { length sinks.old ≤ 2 ^ 32 }
@@ -146,7 +179,7 @@ pub(crate) fn put_parts<F: Files>(
     ensures reads { (g : ℕ) → F.is_read files.old g → F.is_read files.new g }
     ensures writes { (g : ℕ) → F.is_written files.old g → F.is_written files.new g }
 {
-    match hold_all(sinks, ports, handled) {
+    match hold_parts(sinks, ports, handled, edited) {
         Ok(()) => flush_full(sinks, files),
         Err(_) => Err(Stop::Memory),
     }
@@ -177,7 +210,7 @@ pub fn put_all<F: Files>(
     ensures writes { (g : ℕ) → F.is_written files.old g → F.is_written files.new g }
 {
     let told = handled.parts();
-    put_parts(sinks, files, ports, &told)
+    put_parts(sinks, files, ports, &told, true)
 }
 
 /// Gives to all files what is held for them.

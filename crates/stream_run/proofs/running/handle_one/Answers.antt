@@ -2,7 +2,7 @@ use Rattle.std.proofs.Common.{◌≡◌, ◌∙◌, ◌∷◌, ◌++◌, [], ℕ
 use Rattle.nf_base.specs.declared.func.Func.{Func}
 use Rattle.nf_base.specs.Doors.{IsServed}
 use Rattle.nf_base.specs.Functions.{function_of}
-use Rattle.nf_base.specs.Step.{step}
+use Rattle.nf_base.specs.Step.{step, no_edits}
 use Rattle.nf_base.specs.Text.{Function}
 use Rattle.nf_base.specs.declared.done.Action.{Action}
 use Rattle.nf_base.specs.declared.done.Done.{Done}
@@ -11,6 +11,7 @@ use Rattle.nf_base.specs.declared.packet.Fields.{Fields}
 use Rattle.nf_base.specs.declared.packet.Packet.{Packet}
 use Rattle.nf_base.specs.declared.packet.PacketId.{PacketId}
 use Rattle.nf_base.specs.declared.state.State.{State}
+use Rattle.frame_ip.specs.Edit.{IsUnedited}
 use Rattle.packet_feed.specs.Feeding.{last_packet, original_of, frame_of}
 use Rattle.run_history.specs.declared.line.Mode.TheVariants.{One}
 use Rattle.stream_run.specs.Runs.{Handled}
@@ -31,6 +32,23 @@ told_packet p id time fields i t f = rw (i, t, f) refl
 
 same_handled : (p told : Packet) (original same_original : ℕ) (frame same_frame : List ℕ) (done : Done) → told ≡ p → same_original ≡ original → same_frame ≡ frame → came_to 0 told same_original same_frame done ≡ came_to 0 p original frame done
 same_handled p told original same_original frame same_frame done t o f = rw (t, o, f) refl
+
+-- no field is given a value where none was
+none_edited : IsUnedited no_edits
+none_edited = record {
+  src_mac = refl;
+  dst_mac = refl;
+  src_ip = refl;
+  dst_ip = refl;
+  src_ip6 = refl;
+  dst_ip6 = refl;
+  ttl = refl;
+  src_port = refl;
+  dst_port = refl;
+}
+
+pub put_parts-requires-clause-edited : goal.put_parts-requires-clause-edited
+put_parts-requires-clause-edited g c = λ e. subst IsUnedited (sym (c.edits.ensures ∙ c.is_edited-edited.ensures e)) none_edited
 
 pub handle_kept-action-requires-clause-port : goal.handle_kept-action-requires-clause-port
 handle_kept-action-requires-clause-port g c =

@@ -25,8 +25,8 @@ returns-else-port-ports-clause-ok c =
     elim c.else-port-ports.branch [
       | else-port-ports-via-then-port-ports+else-k-len w ↦
           let past : length old ≤ port = omega (arith, w.if-k-len.false, w.len.ensures) in
-          grown_none (sent_in ports h) old (sent_astray ports h port (length old) c.requires (inr past))
+          grown_none (sent_in ports h) old (sent_astray ports h port (length old) c.requires.out (inr past))
       | else-port-ports-via-else-port-ports w ↦
           let past : ports ≤ port = w.if-port-ports.false in
-          grown_none (sent_in ports h) old (sent_astray ports h port (length old) c.requires (inl past))
+          grown_none (sent_in ports h) old (sent_astray ports h port (length old) c.requires.out (inl past))
     ]

@@ -1,6 +1,6 @@
 use Rattle.stream_run.specs.Texts.{piece, sent_in, told_in}
 use Rattle.stream_run.proofs.Grown.{grown_on, pieces_both}
-use Rattle.stream_run.proofs.sinks.hold_all.Goals as goal
+use Rattle.stream_run.proofs.sinks.hold_parts.Goals as goal
 
 pub returns-in-Ok-clause-ok : goal.returns-in-Ok-clause-ok
 returns-in-Ok-clause-ok c =
