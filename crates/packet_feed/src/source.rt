@@ -176,7 +176,7 @@ impl Source {
     }
 
     // Reads the next packet.
-    #[inline(always)]
+    #[inline]
     fn read<F: Files>(&mut self, files: &mut F) -> Result<(), CapFault>
         requires opened { F.is_read files.old self.old.reading.file }
         requires unread { self.old.ahead ≡ Unread }
@@ -205,7 +205,7 @@ impl Source {
     }
 
     /// Reads the next packet, where it isn't known yet what comes next.
-    #[inline(always)]
+    #[inline]
     pub(crate) fn fill<F: Files>(&mut self, files: &mut F) -> Result<(), CapFault>
         requires opened { F.is_read files.old self.old.reading.file }
         ensures filled { let file = self.old.reading.file in

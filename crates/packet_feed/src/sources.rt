@@ -54,7 +54,6 @@ pub(crate) fn open_all<F: Files>(
 }
 
 /// Reads the next record of each capture of which it isn't known yet what comes next.
-#[inline(never)]
 pub(crate) fn fill_all<F: Files>(sources: &mut Seq<Source>, files: &mut F) -> Result<(), FeedFault>
     requires opened { EachFile (F.is_read files.old) (files_in sources.old) }
     requires apart { IsApart (files_in sources.old) }
@@ -96,7 +95,7 @@ pub(crate) fn pass(sources: &mut Seq<Source>, first: First)
 }
 
 /// Reads the next record of a port's capture, where it isn't known yet what comes next.
-#[inline(always)]
+#[inline]
 pub(crate) fn fill_at<F: Files>(
     sources: &mut Seq<Source>,
     files: &mut F,
