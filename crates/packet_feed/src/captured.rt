@@ -1,5 +1,5 @@
 //! A capture that is read from its file, one packet after the other, whatever its format.
-ghost use Rattle.std.specs.Prelude.{◌≡◌, ◌≤◌, ℕ, true, Some, IfOk, IfErr, option_map};
+ghost use Rattle.std.specs.Prelude.{◌≡◌, ◌≤◌, ℕ, true, Some, IfOk, IfErr, IfSome, IfNone, option_map};
 ghost use Rattle.nf_files.specs.Told.{Told};
 ghost use Rattle.nf_files.specs.Reads.{Keeps};
 ghost use Rattle.pcap_file.specs.Held.{IsBegun};
@@ -62,6 +62,39 @@ fn next_record<F: Files>(
 {
     let next = reader.next(files, frame)?;
     Ok(next_of(next))
+}
+
+// The same where it stands ready as a whole; None, and nothing changed, where it doesn't.
+#[inline(always)]
+fn ready_record<F: Files>(
+    reader: &mut Reader,
+    files: &mut F,
+    frame: &mut Vec<u8>,
+) -> Option<Result<Next, CapFault>>
+    requires opened { F.is_read files.old reader.old.file }
+    ensures steps { let file = reader.old.file in
+        let before = records_left reader.old ((F.told files.old).rest file) in
+        let after = records_left reader.new ((F.told files.new).rest file) in
+        IfSome result (Steps before after frame.new.items) }
+    ensures moves { IfSome result (Moves frame.old.items frame.new.items) }
+    // No byte behind the record is taken.
+    ensures takes { let file = reader.old.file in
+        IfSome result (TakesRecord ((F.told files.old).rest file) ((F.told files.new).rest file)
+        frame.new.items) }
+    ensures none { IfNone result
+        ((reader.new ≡ reader.old) × (files.new ≡ files.old) × (frame.new ≡ frame.old)) }
+    ensures same_file { reader.new.file ≡ reader.old.file }
+    ensures kept { Keeps (F.told files.old) (F.told files.new) reader.old.file }
+    ensures cause { F.counted files.new ≡ F.counted files.old }
+    ensures err { IfSome result (λ answer. IfErr answer (λ fault. fault ≡ CapFault.Memory)) }
+    ensures reads { (g : ℕ) → F.is_read files.old g → F.is_read files.new g }
+    ensures writes { (g : ℕ) → F.is_written files.old g → F.is_written files.new g }
+{
+    match reader.next_ready(files, frame) {
+        Some(Ok(next)) => Some(Ok(next_of(next))),
+        Some(Err(fault)) => Some(Err(fault)),
+        None => None,
+    }
 }
 
 // The next packet of a pcapng capture: a call, so that what it takes isn't kept beside records.
@@ -130,6 +163,39 @@ impl Captured {
                 Err(fault) => Err(fault),
                 Ok(reader) => Ok(Captured::Pcap(reader)),
             }
+        }
+    }
+
+    /// The next packet, where it stands ready as a whole record of a libpcap capture, as `next` gives
+    /// it; None, and nothing changed, where it doesn't.
+    #[inline(always)]
+    pub(crate) fn next_ready<F: Files>(
+        &mut self,
+        files: &mut F,
+        frame: &mut Vec<u8>,
+    ) -> Option<Result<Next, CapFault>>
+        requires opened { F.is_read files.old (file_in self.old) }
+        ensures steps { let file = file_in self.old in
+            let before = left_of self.old ((F.told files.old).rest file) in
+            let after = left_of self.new ((F.told files.new).rest file) in
+            IfSome result (Steps before after frame.new.items) }
+        ensures moves { IfSome result (Moves frame.old.items frame.new.items) }
+        // No byte behind the record is taken.
+        ensures takes { let file = file_in self.old in
+            IfSome result (TakesRecord ((F.told files.old).rest file) ((F.told files.new).rest file)
+            frame.new.items) }
+        ensures none { IfNone result
+            ((self.new ≡ self.old) × (files.new ≡ files.old) × (frame.new ≡ frame.old)) }
+        ensures same { (file_in self.new ≡ file_in self.old) × (is_pcap self.new ≡ is_pcap self.old) }
+        ensures kept { Keeps (F.told files.old) (F.told files.new) (file_in self.old) }
+        ensures cause { F.counted files.new ≡ F.counted files.old }
+        ensures err { IfSome result (λ answer. IfErr answer (λ fault. fault ≡ CapFault.Memory)) }
+        ensures reads { (g : ℕ) → F.is_read files.old g → F.is_read files.new g }
+        ensures writes { (g : ℕ) → F.is_written files.old g → F.is_written files.new g }
+    {
+        match self {
+            Captured::Pcap(reader) => ready_record(reader, files, frame),
+            Captured::Pcapng(_) => None,
         }
     }
 

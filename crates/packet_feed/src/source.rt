@@ -175,9 +175,9 @@ impl Source {
         self.ahead = Ahead::Held;
     }
 
-    // Reads the next packet.
-    #[inline]
-    fn read<F: Files>(&mut self, files: &mut F) -> Result<(), CapFault>
+    // Reads the next packet, which may have to be read from its file.
+    #[inline(never)]
+    fn read_on<F: Files>(&mut self, files: &mut F) -> Result<(), CapFault>
         requires opened { F.is_read files.old self.old.reading.file }
         requires unread { self.old.ahead ≡ Unread }
         ensures filled { let file = self.old.reading.file in
@@ -202,6 +202,48 @@ impl Source {
             Next::Torn(offset) => self.ahead = Ahead::Torn(offset),
         }
         Ok(())
+    }
+
+    // Reads the next packet. Most are whole records that stand ready.
+    #[inline]
+    fn read<F: Files>(&mut self, files: &mut F) -> Result<(), CapFault>
+        requires opened { F.is_read files.old self.old.reading.file }
+        requires unread { self.old.ahead ≡ Unread }
+        ensures filled { let file = self.old.reading.file in
+            OnOk result (IsFilled self.old self.new
+            ((F.told files.old).rest file) ((F.told files.new).rest file)) }
+        ensures later { (time : ℕ) → IsFrom time self.old.ahead self.old.latest →
+            OnOk result (IsFrom time self.new.ahead self.new.latest) }
+        ensures same_file { self.new.reading.file ≡ self.old.reading.file }
+        ensures same_count { self.new.seq ≡ self.old.seq }
+        ensures same_six { self.new.six ≡ self.old.six }
+        ensures kept { Keeps (F.told files.old) (F.told files.new) self.old.reading.file }
+        ensures cause { let file = self.old.reading.file in
+            IsCause (F.counted files.old) (F.counted files.new) file result }
+        ensures never { IsNoHeaderFault result }
+        ensures reads { (g : ℕ) → F.is_read files.old g → F.is_read files.new g }
+        ensures writes { (g : ℕ) → F.is_written files.old g → F.is_written files.new g }
+    {
+        match self.captured.next_ready(files, &mut self.frame) {
+            None => self.read_on(files),
+            Some(Err(fault)) => Err(fault),
+            Some(Ok(Next::Frame(head))) => {
+                self.hold(true, head);
+                Ok(())
+            }
+            Some(Ok(Next::Other(head))) => {
+                self.hold(false, head);
+                Ok(())
+            }
+            Some(Ok(Next::End)) => {
+                self.ahead = Ahead::Ended;
+                Ok(())
+            }
+            Some(Ok(Next::Torn(offset))) => {
+                self.ahead = Ahead::Torn(offset);
+                Ok(())
+            }
+        }
     }
 
     /// Reads the next packet, where it isn't known yet what comes next.
@@ -230,7 +272,7 @@ impl Source {
     }
 
     /// The frame that was read last, as its port's handlers see it; None where it is skipped.
-    #[inline]
+    #[inline(always)]
     pub(crate) fn view(&self) -> Option<View<'_>>
         ensures seen { let s = self.now in
             IfSome result (λ v. v ≡ record { frame = s.frame; original = s.original }) }

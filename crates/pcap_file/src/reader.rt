@@ -155,7 +155,7 @@ impl Reader {
     }
 
     // The next record, where it stands ready as a whole; None, and nothing changed, where it doesn't.
-    #[inline]
+    #[inline(always)]
     fn take_ready<F: Files>(
         &mut self,
         files: &mut F,
@@ -236,6 +236,37 @@ impl Reader {
                     }
                 }
             }
+        }
+    }
+
+    /// The next record of the capture, where it stands ready as a whole, as `next` gives it; None, and
+    /// nothing changed, where it doesn't.
+    #[inline(always)]
+    pub fn next_ready<F: Files>(
+        &mut self,
+        files: &mut F,
+        frame: &mut Vec<u8>,
+    ) -> Option<Result<Next, CapFault>>
+        requires opened { F.is_read files.old self.old.file }
+        ensures steps { let before = left self.old (F.told files.old) in
+            IfSome result (Steps before (left self.new (F.told files.new)) frame.new.items) }
+        ensures moves { IfSome result (Moves self.old self.new frame.old.items frame.new.items) }
+        // No byte behind the record is taken.
+        ensures takes { let file = self.old.file in
+            IfSome result (TakesRecord ((F.told files.old).rest file) ((F.told files.new).rest file)
+            frame.new.items) }
+        ensures none { IfNone result
+            ((self.new ≡ self.old) × (files.new ≡ files.old) × (frame.new ≡ frame.old)) }
+        ensures same_place { (self.new.file ≡ self.old.file) × (self.new.form ≡ self.old.form) }
+        ensures kept { Keeps (F.told files.old) (F.told files.new) self.old.file }
+        ensures cause { F.counted files.new ≡ F.counted files.old }
+        ensures err { IfSome result (λ answer. IfErr answer (λ fault. fault ≡ CapFault.Memory)) }
+        ensures reads { (g : ℕ) → F.is_read files.old g → F.is_read files.new g }
+        ensures writes { (g : ℕ) → F.is_written files.old g → F.is_written files.new g }
+    {
+        match self.state {
+            State::Going => self.take_ready(files, frame),
+            _ => None,
         }
     }
 
