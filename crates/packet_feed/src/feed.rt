@@ -114,6 +114,7 @@ impl Feed {
     /// `End` comes exactly where no whole record is left in any capture, and `TooMany` exactly where
     /// one is and as many packets were given as were asked for. After an `Err` this feed may have
     /// moved, and no call is to be made on it.
+    #[inline(always)]
     pub fn advance<F: Files>(&mut self, files: &mut F) -> Result<Moved, FeedFault>
         requires opened { EachFile (F.is_read files.old) (files_in self.old.sources) }
         // Whatever bytes and packets the feed stood for, it stands for the same bytes, and for the
@@ -282,7 +283,7 @@ impl Feed {
     /// Its frame, in which a handler reads the fields that it needs; None where it is skipped: where
     /// it is no Ethernet frame, none that is handled, and where it is an IPv6 frame and its port has
     /// no handler for these.
-    #[inline]
+    #[inline(always)]
     pub fn view(&self) -> Option<View<'_>>
         ensures seen { let v = self.now in
             IfSome result (λ s. s ≡ record { frame = frame_of v; original = original_of v }) }

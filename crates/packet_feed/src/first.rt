@@ -27,7 +27,7 @@ fn earlier(first: Option<First>, port: usize, time: Option<u64>) -> Option<First
 }
 
 /// The port and the time of the packet that comes first, if one was read ahead.
-#[inline]
+#[inline(always)]
 pub(crate) fn earliest(sources: &Seq<Source>) -> Option<First>
     ensures { IsFirst sources.now (length sources.now) result }
 {

@@ -132,7 +132,7 @@ pub(crate) fn fill_at<F: Files>(
 
 /// Reads the next record of each capture of which it isn't known yet what comes next; where it is known
 /// of all but one, of that one alone.
-#[inline]
+#[inline(always)]
 pub(crate) fn fill_next<F: Files>(
     sources: &mut Seq<Source>,
     files: &mut F,

@@ -35,7 +35,7 @@ use vig_tables::Tables;
 
 // Handles a packet that came at a time, in nanoseconds, by its frame where that lies, in a context that
 // is kept from packet to packet; where none is seen, the packet is skipped.
-#[inline]
+#[inline(always)]
 fn handle_kept(
     tables: &mut Tables,
     func: &Ready,
@@ -66,6 +66,7 @@ fn handle_kept(
 }
 
 // Handles the packet that a feed gave last, and puts what it leaves into all files.
+#[inline(always)]
 fn handle_one<F: Files>(
     files: &mut F,
     func: &Ready,

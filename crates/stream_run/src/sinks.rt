@@ -108,6 +108,7 @@ pub fn hold_all(sinks: &mut Seq<Sink>, ports: u32, handled: &HandledParts) -> Re
 }
 
 // The same; it may be said that the packet's frame is not edited.
+#[inline(always)]
 fn hold_parts(
     sinks: &mut Seq<Sink>,
     ports: u32,
@@ -154,6 +155,7 @@ pub fn flush_full<F: Files>(sinks: &mut Seq<Sink>, files: &mut F) -> Result<(), 
 
 /// Puts what a packet leaves in each file there, where it came to it in parts; it may be said that its
 /// frame is not edited.
+#[inline(always)]
 pub(crate) fn put_parts<F: Files>(
     sinks: &mut Seq<Sink>,
     files: &mut F,
