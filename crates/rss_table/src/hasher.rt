@@ -10,7 +10,7 @@ use nf_base::packet::Packet;
 use nf_base::seq::Seq;
 use std::alloc::{AllocError, Global};
 use std::marker::Model;
-use toeplitz_hash::{input_of, toeplitz};
+use toeplitz_hash::{byte_hash, input_of};
 
 /// How many bytes of a packet are hashed.
 const BYTES: usize = 36;
@@ -67,9 +67,7 @@ fn hash_at(key: &[u8], i: usize, byte: u8) -> u32
     requires place { i < 36 }
     ensures { result ≡ toeplitz_of (drop i key.now) (byte ∷ []) }
 {
-    let mut input = [0u8; BYTES];
-    input[i] = byte;
-    toeplitz(key, &input[..i + 1])
+    byte_hash(&key[i..], byte)
 }
 
 /// The keys of ports with tables of hashes. Contracts see the keys.

@@ -23,8 +23,9 @@ pub fn toeplitz(key: &[u8], input: &[u8]) -> u32
     hash
 }
 
-/// The hash of one byte.
-fn byte_hash(key: &[u8], byte: u8) -> u32
+/// The hash of one byte: of an input's byte `i` under the key from byte `i` on, 5 bytes of it, that is what
+/// it adds to the input's hash.
+pub fn byte_hash(key: &[u8], byte: u8) -> u32
     requires { 5 ≤ length key.now }
     ensures { result ≡ toeplitz_of key.now (byte ∷ []) }
 {

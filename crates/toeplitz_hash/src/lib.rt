@@ -7,6 +7,6 @@ mod input;
 mod key;
 pub mod laws;
 
-pub use hash::toeplitz;
+pub use hash::{byte_hash, toeplitz};
 pub use input::{Input, hash_packet, input_of};
 pub use key::{DEFAULT_KEY, default_key};
