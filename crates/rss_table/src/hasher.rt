@@ -1,12 +1,12 @@
 //! The keys of ports with what they make of each byte, so that a packet is hashed by a look-up a byte.
 ghost use Rattle.std.specs.Prelude.{◌≡◌, ◌≤◌, ◌<◌, ◌∷◌, ◌++◌, [], drop, length, IfOk, slice_index_or};
-ghost use Rattle.toeplitz_hash.specs.Packets.{hash_of};
+ghost use Rattle.toeplitz_hash.specs.Packets.{hash_of, input_bytes};
 ghost use Rattle.toeplitz_hash.specs.Toeplitz.{toeplitz_of};
 
 use nf_base::card::TableSize;
 use nf_base::hash_key::HashKey;
 use nf_base::keys::Keys;
-use nf_base::packet::Packet;
+use nf_base::packet::{Fields, Packet};
 use nf_base::seq::Seq;
 use std::alloc::{AllocError, Global};
 use std::marker::Model;
@@ -14,6 +14,9 @@ use toeplitz_hash::{byte_hash, input_of};
 
 /// How many bytes of a packet are hashed.
 const BYTES: usize = 36;
+
+/// The same of an IPv4 packet.
+const FOUR_BYTES: usize = 12;
 
 /// A key, which contracts see as its bytes, and the hash of each byte at each place of an input.
 #[derive(Drop)]
@@ -49,6 +52,7 @@ impl KeyTable {
     }
 
     /// The hash of an input under the key.
+    #[inline(always)]
     fn hash(&self, input: &[u8]) -> u32
         requires { length input.now ≤ 36 }
         ensures { result ≡ toeplitz_of self.now input.now }
@@ -58,6 +62,21 @@ impl KeyTable {
             hash ^= self.hashes[i * 256 + *byte as usize];
         }
         hash
+    }
+
+    /// The hash of a handled packet under the key. Where it is known how many bytes an input has, there is
+    /// no loop.
+    #[tactic(auto, using(std::proofs::lemmas::List::take_all))]
+    fn hash_fields(&self, fields: &Fields) -> u32
+        ensures { result ≡ toeplitz_of self.now (input_bytes fields.now) }
+    {
+        let input = input_of(fields);
+        let bytes = input.as_slice();
+        if bytes.len() == FOUR_BYTES {
+            self.hash(&bytes[..FOUR_BYTES])
+        } else {
+            self.hash(bytes)
+        }
     }
 }
 
@@ -106,12 +125,11 @@ impl Hasher {
         requires { packet.now.id.port < length self.now.ports }
         ensures { result ≡ hash_of self.now packet.now }
     {
-        match packet.fields {
-            Some(fields) => Some(
-                self.ports
-                    .item(packet.id.port as usize)
-                    .hash(input_of(&fields).as_slice()),
-            ),
+        match &packet.fields {
+            Some(fields) => {
+                let key = self.ports.item(packet.id.port as usize);
+                Some(key.hash_fields(fields))
+            }
             None => None,
         }
     }

@@ -34,6 +34,7 @@ impl Model for Input {
 }
 
 impl Input {
+    #[inline]
     pub fn as_slice(&self) -> &[u8]
         ensures value { result.now ≡ self.now }
         ensures within { length self.now ≤ 36 }
@@ -43,6 +44,7 @@ impl Input {
 }
 
 /// The bytes of a handled packet that are hashed.
+#[inline(always)]
 pub fn input_of(fields: &Fields) -> Input
     ensures { result ≡ input_bytes fields.now }
 {
