@@ -9,8 +9,8 @@ use Rattle.nf_base.specs.declared.expr.Guard as guard
 use Rattle.nf_base.specs.View.{given_of}
 use Rattle.nf_base.specs.declared.packet.Field.{Field}
 use Rattle.nf_base.specs.declared.packet.Family.{Family}
-use Rattle.hash_fields.specs.declared.hashable.Hashable.{Hashable}
-use Rattle.hash_fields.specs.Hashed.{hashable}
+use Rattle.nf_base.specs.declared.hash_fields.Hashable.{Hashable}
+use Rattle.nf_base.specs.Hashed.{hashable}
 use Rattle.nf_sites.specs.Named.{Named, speaker}
 use Rattle.nf_sites.specs.Known.{field_set, label_count}
 use Rattle.access_keys.specs.declared.named.NamedField.{NamedField}

@@ -6,8 +6,8 @@ ghost use Rattle.access_keys.specs.Speaking.{field_in};
 ghost use Rattle.nf_base.specs.View.{expression_of, given_of};
 ghost use Rattle.nf_sites.specs.Known.{hashed_of, plain_field, field_set, same_field};
 
-use hash_fields::{Hashable, hashable_field};
 use nf_base::expr::{Expr, Given};
+use nf_base::hash_fields::{Hashable, hashable_field};
 use nf_base::packet::{Family, Field};
 use nf_base::value::field_width;
 use nf_base::width::Width;

@@ -1,5 +1,5 @@
-use hash_fields::Hashable;
 use nf_base::decl::ObjectId;
+use nf_base::hash_fields::Hashable;
 use nf_base::limited::Limited;
 use nf_base::packet::Door;
 use nf_sites::Sort;

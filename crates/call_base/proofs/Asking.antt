@@ -4,8 +4,8 @@ use Rattle.std.specs.List.{range_with_len}
 use Rattle.std.proofs.lemmas.List.{take_more, take-append-drop}
 use Rattle.std.proofs.lemmas.Option.{slice_get_within, get_or_from_slice_get}
 use Rattle.nf_files.specs.Causes.{Counted, Faulted, FaultedAsking, Asked, asking, losing}
-use Rattle.stream_run.specs.declared.stop.Stop.{Stop}
-use Rattle.stream_run.specs.declared.stop.Stop.TheVariants.{File, Memory}
+use Rattle.stream_run.specs.declared.fault.RunFault.{RunFault}
+use Rattle.stream_run.specs.declared.fault.RunFault.TheVariants.{File, Memory}
 use Rattle.call_base.specs.Numbers.{IsFrontOf}
 use Rattle.call_base.specs.Opened.{AsksNext, AsksSome}
 
@@ -44,7 +44,7 @@ asks_fault names front one old mid new file f g so_far (inr lost) = record {
 }
 
 -- the call that asks for one name more was stopped
-pub asks_next : (names front : List Asked) (one : Asked) (number : ℕ) (old mid new : Counted) (stop : Stop) → IsFrontOf names front → IsFrontOf names (front ++ one ∷ []) → mid ≡ asking front old
+pub asks_next : (names front : List Asked) (one : Asked) (number : ℕ) (old mid new : Counted) (stop : RunFault) → IsFrontOf names front → IsFrontOf names (front ++ one ∷ []) → mid ≡ asking front old
     → AsksNext {T = ℕ} one number mid new (Err stop) → AsksSome names old new stop
 asks_next names front one number old mid new Memory f g so_far (inl same) = record { front = front; is_front = f; cause = same ∙ so_far }
 asks_next names front one number old mid new Memory f g so_far (inr more) = record { front = front ++ one ∷ []; is_front = g; cause = asked_more front one old mid new so_far more }

@@ -14,11 +14,11 @@ use Rattle.run_history.specs.StateText.{state_text}
 use Rattle.stream_run.specs.Runs.{Run, course_of}
 use Rattle.stream_run.specs.Texts.{file_bytes}
 use Rattle.stream_run.specs.Writing.{IsFrontIfTold, IsStopCause, StopsAt, StopsAmong, KeepsBut}
-use Rattle.stream_run.specs.declared.stop.Stop.{Stop as NumberStop}
-use Rattle.stream_run.specs.declared.stop.Stop.TheVariants as numbered
-use Rattle.call_base.specs.declared.layout.Behind.TheVariants.{Created}
-use Rattle.call_base.specs.declared.status.Stop.{Stop}
-use Rattle.call_base.specs.declared.status.Stop.TheVariants as stops
+use Rattle.stream_run.specs.declared.fault.RunFault.{RunFault}
+use Rattle.stream_run.specs.declared.fault.RunFault.TheVariants as numbered
+use Rattle.call_base.specs.declared.layout.FileOrder.TheVariants.{Created}
+use Rattle.call_base.specs.declared.status.CallFault.{CallFault}
+use Rattle.call_base.specs.declared.status.CallFault.TheVariants as stops
 use Rattle.call_base.specs.Created.{Left, bytes_at, state_bytes, text_of}
 use Rattle.call_base.specs.Far.{IsFar}
 use Rattle.call_base.specs.Layout.{numbering, stop_named}
@@ -104,7 +104,7 @@ has_made l before a b targets run is h kept counted wholes = record {
 }
 
 -- the run was stopped
-pub broken_running : (l : Leaves) (ended : ℕ → ℕ → Type 0) (stated printed : Type 0) (before a b : Outside) (captures targets : List ℕ) (run : Run) (stop : NumberStop) → AreOf l before run → (h : HasCreated l before a targets) → AreFrom (before.told.next + 1) captures l.captures → KeepsBut targets a.told b.told
+pub broken_running : (l : Leaves) (ended : ℕ → ℕ → Type 0) (stated printed : Type 0) (before a b : Outside) (captures targets : List ℕ) (run : Run) (stop : RunFault) → AreOf l before run → (h : HasCreated l before a targets) → AreFrom (before.told.next + 1) captures l.captures → KeepsBut targets a.told b.told
     → ((k file : ℕ) → slice_get targets k ≡ Some file → IsFrontIfTold (file_bytes l.format run k) (b.told.given file)) → IsStopCause {T = Unit {0}} a.counted b.counted (Err stop) → StopsAmong {T = Unit {0}} captures targets (Err stop)
     → IsBroken l ended stated printed before b run (stop_named (numbering Created before.told.next l.captures l.ports) stop)
 broken_running l ended stated printed before a b captures targets run stop is h from kept fronts cause among =
@@ -122,7 +122,7 @@ broken_running l ended stated printed before a b captures targets run stop is h 
           (created_front l.inputs l.format l.out l.ports (l.ports + 1) (l.ports + 2) (omega arith)) (asked_made l before a targets h) cause;
     }
 
-at_creating : (ended stated : Type 0) (first captures ports : ℕ) (a b : Told) (name : ℕ → List ℕ) (stop : NumberStop) → 2 ≤ first → a.next ≡ first + 1 + captures → (s : AreSomeCreated a b name (ports + 1) stop)
+at_creating : (ended stated : Type 0) (first captures ports : ℕ) (a b : Told) (name : ℕ → List ℕ) (stop : RunFault) → 2 ≤ first → a.next ≡ first + 1 + captures → (s : AreSomeCreated a b name (ports + 1) stop)
     → IsNumbered (numbering Created first captures ports) stop × IsFar ended stated ports (stop_named (numbering Created first captures ports) stop) s.made 0
 at_creating ended stated first captures ports a b name numbered.Memory two at s = (tt, tt)
 at_creating ended stated first captures ports a b name (numbered.File file) two at s =
@@ -132,7 +132,7 @@ at_creating ended stated first captures ports a b name (numbered.File file) two 
     (own_created first captures ports file s.made two is (omega (arith, le)), far_created ended stated first captures ports file s.made s.made 0 two is le (omega arith) s.less)
 
 -- not all of these files could be created
-pub broken_creating : (l : Leaves) (ended : ℕ → ℕ → Type 0) (stated printed : Type 0) (before a b : Outside) (run : Run) (stop : NumberStop) → AreOf l before run → a.told.next ≡ l.base → HasOnlyAsked l.inputs before a → AreSomeCreated a.told b.told (name_at l.format l.out l.ports) (l.ports + 1) stop → AsksSome (created_by l.format l.out l.ports (l.ports + 1)) a.counted b.counted stop
+pub broken_creating : (l : Leaves) (ended : ℕ → ℕ → Type 0) (stated printed : Type 0) (before a b : Outside) (run : Run) (stop : RunFault) → AreOf l before run → a.told.next ≡ l.base → HasOnlyAsked l.inputs before a → AreSomeCreated a.told b.told (name_at l.format l.out l.ports) (l.ports + 1) stop → AsksSome (created_by l.format l.out l.ports (l.ports + 1)) a.counted b.counted stop
     → IsBroken l ended stated printed before b run (stop_named (numbering Created before.told.next l.captures l.ports) stop)
 broken_creating l ended stated printed before a b run stop is next only s asks =
     let n = l.ports in
@@ -199,7 +199,7 @@ is_last l before a mid run file is h begun =
 kept_put : {name text : List ℕ} {a b : Outside} (put : IsPut name text a b) (g : ℕ) → g < a.told.next → b.told.given g ≡ a.told.given g
 kept_put put g lt = put.wrote.givens g (λ e. omega (arith, e, lt, put.begun.created.number)) ∙ put.begun.created.givens g (λ e. omega (arith, e, lt, put.begun.created.number))
 
-kept_half : {name text : List ℕ} {a b : Outside} {stop : NumberStop} (half : IsHalfPut name text a b stop) (g : ℕ) → g < a.told.next → b.told.given g ≡ a.told.given g
+kept_half : {name text : List ℕ} {a b : Outside} {stop : RunFault} (half : IsHalfPut name text a b stop) (g : ℕ) → g < a.told.next → b.told.given g ≡ a.told.given g
 kept_half half g lt = half.wrote.wrote.givens g (λ e. omega (arith, e, lt, half.begun.created.number)) ∙ half.begun.created.givens g (λ e. omega (arith, e, lt, half.begun.created.number))
 
 -- the state is whole
@@ -217,22 +217,22 @@ has_put l before a b run text is h same put =
           (asked_more l (n + 1) before.counted a.counted put.mid.counted h.asked_for put.begun.asked_for);
     }
 
-asks_at : (one : Asked) (number : ℕ) (old new : Counted) (stop : NumberStop) → AsksNext {T = ℕ} one number old new (Err stop) → StopsAt {T = Unit {0}} number (Err stop)
+asks_at : (one : Asked) (number : ℕ) (old new : Counted) (stop : RunFault) → AsksNext {T = ℕ} one number old new (Err stop) → StopsAt {T = Unit {0}} number (Err stop)
 asks_at one number old new numbered.Memory h = tt
 asks_at one number old new (numbered.File file) h = h.0
 
-at_state : (ended stated : Type 0) (first captures ports number made full : ℕ) (stop : NumberStop) → 2 ≤ first → number ≡ first + 1 + captures + (ports + 1) → ports + 1 ≤ full → stated → StopsAt {T = Unit {0}} number (Err stop)
+at_state : (ended stated : Type 0) (first captures ports number made full : ℕ) (stop : RunFault) → 2 ≤ first → number ≡ first + 1 + captures + (ports + 1) → ports + 1 ≤ full → stated → StopsAt {T = Unit {0}} number (Err stop)
     → IsNumbered (numbering Created first captures ports) stop × IsFar ended stated ports (stop_named (numbering Created first captures ports) stop) made full
 at_state ended stated first captures ports number made full numbered.Memory two is whole states at = (tt, tt)
 at_state ended stated first captures ports number made full (numbered.File file) two is whole states at =
     (own_created first captures ports file (ports + 1) two (at ∙ is) (omega arith), far_state ended stated first captures ports file made full two (at ∙ is) whole states)
 
 -- it is not
-broken_put : (l : Leaves) (ended : ℕ → ℕ → Type 0) (stated printed : Type 0) (before a b : Outside) (run : Run) (text : List ℕ) (stop : NumberStop) → AreOf l before run → HasMade l before a run (l.ports + 1) (l.ports + 1) → text ≡ bytes_at l.format run (l.ports + 1) → stated
+broken_put : (l : Leaves) (ended : ℕ → ℕ → Type 0) (stated printed : Type 0) (before a b : Outside) (run : Run) (text : List ℕ) (stop : RunFault) → AreOf l before run → HasMade l before a run (l.ports + 1) (l.ports + 1) → text ≡ bytes_at l.format run (l.ports + 1) → stated
     → PutsTo {T = Unit {0}} (name_at l.format l.out l.ports (l.ports + 1)) text a b (Err stop) → IsBroken l ended stated printed before b run (stop_named (numbering Created before.told.next l.captures l.ports) stop)
 broken_put l ended stated printed before a b run text stop is h same states (inl none) =
     let n = l.ports in
-    subst (λ (s : NumberStop). IsBroken l ended stated printed before b run (stop_named (numbering Created before.told.next l.captures n) s)) (sym none.memory)
+    subst (λ (s : RunFault). IsBroken l ended stated printed before b run (stop_named (numbering Created before.told.next l.captures n) s)) (sym none.memory)
     (subst (λ (o : Outside). IsBroken l ended stated printed before o run stops.Memory) (sym none.same) (broken_starved l ended stated printed before a run (n + 1) (n + 1) (omega arith) (λ lt. absurd (omega (arith, lt))) h))
 broken_put l ended stated printed before a b run text stop is h same states (inr (inl k)) =
     let n = l.ports in
@@ -280,7 +280,7 @@ has_printed l before a b run made lines is h out = record {
   asked_for = out.counted ∙ h.asked_for;
 }
 
-pub broken_out : (l : Leaves) (ended : ℕ → ℕ → Type 0) (stated printed : Type 0) (before a b : Outside) (run : Run) (made : ℕ) (lines : List ℕ) (stop : NumberStop) → AreOf l before run → made ≤ l.ports + 2 → (l.ports + 1 < made → stated) → ended made made → (PrintedFront before.told b.told 0 lines → printed)
+pub broken_out : (l : Leaves) (ended : ℕ → ℕ → Type 0) (stated printed : Type 0) (before a b : Outside) (run : Run) (made : ℕ) (lines : List ℕ) (stop : RunFault) → AreOf l before run → made ≤ l.ports + 2 → (l.ports + 1 < made → stated) → ended made made → (PrintedFront before.told b.told 0 lines → printed)
     → HasMade l before a run made made → IsHalfOut lines a b stop → IsBroken l ended stated printed before b run (stop_named (numbering Created before.told.next l.captures l.ports) stop)
 broken_out l ended stated printed before a b run made lines stop is within states over told h half =
     let front = printed_front a.told b.told 0 lines half.wrote in
@@ -305,7 +305,7 @@ finished l before a mid b run text lines is h same put out = has_printed l befor
 pub kept_finished : {name text lines : List ℕ} {a mid b : Outside} → IsPut name text a mid → IsOut lines mid b → (g : ℕ) → 0 < g → g < a.told.next → b.told.given g ≡ a.told.given g
 kept_finished put out g some lt = out.wrote.givens g (λ e. omega (arith, e, some)) ∙ kept_put put g lt
 
-pub unfinished : (l : Leaves) (ended : ℕ → ℕ → Type 0) (stated printed : Type 0) (before a b : Outside) (run : Run) (text lines : List ℕ) (stop : NumberStop) → AreOf l before run → HasMade l before a run (l.ports + 1) (l.ports + 1) → text ≡ bytes_at l.format run (l.ports + 1) → stated → ended (l.ports + 2) (l.ports + 2)
+pub unfinished : (l : Leaves) (ended : ℕ → ℕ → Type 0) (stated printed : Type 0) (before a b : Outside) (run : Run) (text lines : List ℕ) (stop : RunFault) → AreOf l before run → HasMade l before a run (l.ports + 1) (l.ports + 1) → text ≡ bytes_at l.format run (l.ports + 1) → stated → ended (l.ports + 2) (l.ports + 2)
     → (((g : ℕ) → 0 < g → g < a.told.next → b.told.given g ≡ a.told.given g) → PrintedFront before.told b.told 0 lines → printed)
     → FinishesTo {T = Unit {0}} (name_at l.format l.out l.ports (l.ports + 1)) text lines a b (Err stop) → IsBroken l ended stated printed before b run (stop_named (numbering Created before.told.next l.captures l.ports) stop)
 unfinished l ended stated printed before a b run text lines stop is h same states over told (inl failed) = broken_put l ended stated printed before a b run text stop is h same states failed

@@ -7,12 +7,12 @@ use Rattle.nf_files.specs.Writes.{Writes, WritesFront}
 use Rattle.call_base.specs.declared.status.Status.{Status}
 use Rattle.call_base.specs.declared.status.Status.TheVariants.{Done, Usage, Refused, FileFault, NotCapture, Torn, ShareFull, TooMany, NoKeys, Memory, Differs, ProofFails}
 use Rattle.nf_files.specs.Causes.{Faulted}
-use Rattle.stream_run.specs.declared.stop.Stop.{Stop as NumberStop}
-use Rattle.stream_run.specs.declared.stop.Stop.TheVariants as numbered
+use Rattle.stream_run.specs.declared.fault.RunFault.{RunFault}
+use Rattle.stream_run.specs.declared.fault.RunFault.TheVariants as numbered
 use Rattle.stream_run.specs.Writing.{IsStopCause, StopsAt}
 use Rattle.call_base.specs.declared.status.RunFile.TheVariants.{Stdout}
-use Rattle.call_base.specs.declared.status.Stop.{Stop}
-use Rattle.call_base.specs.declared.status.Stop.TheVariants as stops
+use Rattle.call_base.specs.declared.status.CallFault.{CallFault}
+use Rattle.call_base.specs.declared.status.CallFault.TheVariants as stops
 use Rattle.call_base.specs.Outside.{Outside}
 use Rattle.call_base.specs.Printed.{Printed, PrintedFront}
 use Rattle.call_base.specs.PrintedOut.{stop_at_stdout, IsPrintCause, IsPrinted, IsHalfPrinted}
@@ -42,7 +42,7 @@ is_printed a b piece unnamed h counted = record {
   counted = counted;
 }
 
-pub is_half_printed : (a b : Outside) (piece : List ℕ) (stop : Stop) → a.told.name 0 ≡ None → WritesFront a.told b.told 0 piece → IsPrintCause a.counted b.counted stop → IsHalfPrinted a b piece stop
+pub is_half_printed : (a b : Outside) (piece : List ℕ) (stop : CallFault) → a.told.name 0 ≡ None → WritesFront a.told b.told 0 piece → IsPrintCause a.counted b.counted stop → IsHalfPrinted a b piece stop
 is_half_printed a b piece stop unnamed h cause = record {
   contents = λ n. contents_printed a.told b.told 0 _ n unnamed h.wrote;
   stdout = printed_front a.told b.told 0 piece h;
@@ -79,7 +79,7 @@ said_is (Differs at) some = refl
 said_is (ProofFails line) some = refl
 
 -- standard output failed, or memory ran out there
-pub half_printed : (a b : Outside) (piece : List ℕ) (stop : NumberStop) → a.told.name 0 ≡ None → WritesFront a.told b.told 0 piece → StopsAt {T = Unit {0}} 0 (Err stop) → IsStopCause {T = Unit {0}} a.counted b.counted (Err stop) → IsHalfPrinted a b piece (stop_at_stdout stop)
+pub half_printed : (a b : Outside) (piece : List ℕ) (stop : RunFault) → a.told.name 0 ≡ None → WritesFront a.told b.told 0 piece → StopsAt {T = Unit {0}} 0 (Err stop) → IsStopCause {T = Unit {0}} a.counted b.counted (Err stop) → IsHalfPrinted a b piece (stop_at_stdout stop)
 half_printed a b piece (numbered.File number) unnamed h at cause =
     is_half_printed a b piece (stops.File Stdout) unnamed h (refl, subst (λ (g : ℕ). Faulted a.counted b.counted g) at cause)
 half_printed a b piece numbered.Memory unnamed h at cause = is_half_printed a b piece stops.Memory unnamed h cause

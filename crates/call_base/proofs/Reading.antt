@@ -18,15 +18,15 @@ use Rattle.packet_feed.specs.Feeding.{Feeding, StandsFor, Starts}
 use Rattle.packet_feed.specs.Ports.{StandsByPort}
 use Rattle.packet_feed.specs.declared.fault.FeedFault.{FeedFault}
 use Rattle.packet_feed.specs.declared.fault.FeedFault.TheVariants as feed
-use Rattle.stream_run.specs.declared.stop.Stop.{Stop as NumberStop}
-use Rattle.stream_run.specs.declared.stop.Stop.TheVariants as numbered
-use Rattle.call_base.specs.declared.layout.Behind.{Behind}
+use Rattle.stream_run.specs.declared.fault.RunFault.{RunFault}
+use Rattle.stream_run.specs.declared.fault.RunFault.TheVariants as numbered
+use Rattle.call_base.specs.declared.layout.FileOrder.{FileOrder}
 use Rattle.call_base.specs.declared.layout.Layout.{Layout}
 use Rattle.call_base.specs.declared.loading.Found.{Found}
 use Rattle.call_base.specs.declared.status.RunFile.{RunFile}
 use Rattle.call_base.specs.declared.status.RunFile.TheVariants.{Nf, Capture, Journal, Output, OutJournal, State, Proof, Stdout, Stderr}
-use Rattle.call_base.specs.declared.status.Stop.{Stop}
-use Rattle.call_base.specs.declared.status.Stop.TheVariants.{File, Memory}
+use Rattle.call_base.specs.declared.status.CallFault.{CallFault}
+use Rattle.call_base.specs.declared.status.CallFault.TheVariants.{File, Memory}
 use Rattle.call_base.specs.Captures.{packets_under, Below}
 use Rattle.call_base.specs.Loading.{IsTextCause, FindsFunction, HasFoundCause}
 use Rattle.call_base.specs.Names.{reading}
@@ -99,19 +99,19 @@ has_found text before now found finds next untouched cause = record {
 }
 
 -- The text was not read, and no name but its own was asked for.
-pub record IsUnfound (c : Reads) (before now : Outside) (stop : Stop) : Type 0 where
+pub record IsUnfound (c : Reads) (before now : Outside) (stop : CallFault) : Type 0 where
   pub unread : IsUnread c before now stop
   pub few : length unread.front ≤ 1
   pub no_capture : (port : ℕ) → stop ≢ File (Capture port)
 
-unfound_behind : (c : Reads) (before now : Outside) (stop : Stop) → IsUntouched before.told now.told → IsReadCause c before.told now.told (asking (reading c.text ∷ []) before.counted) now.counted stop → ((port : ℕ) → stop ≢ File (Capture port)) → IsUnfound c before now stop
+unfound_behind : (c : Reads) (before now : Outside) (stop : CallFault) → IsUntouched before.told now.told → IsReadCause c before.told now.told (asking (reading c.text ∷ []) before.counted) now.counted stop → ((port : ℕ) → stop ≢ File (Capture port)) → IsUnfound c before now stop
 unfound_behind c before now stop untouched cause other = record {
   unread = record { untouched = untouched; front = reading c.text ∷ []; is_front = record { later = map reading c.captures; whole = refl }; cause = cause };
   few = omega arith;
   no_capture = other;
 }
 
-unfound_first : (c : Reads) (before now : Outside) (stop : Stop) → IsUntouched before.told now.told → IsReadCause c before.told now.told (asking [] before.counted) now.counted stop → ((port : ℕ) → stop ≢ File (Capture port)) → IsUnfound c before now stop
+unfound_first : (c : Reads) (before now : Outside) (stop : CallFault) → IsUntouched before.told now.told → IsReadCause c before.told now.told (asking [] before.counted) now.counted stop → ((port : ℕ) → stop ≢ File (Capture port)) → IsUnfound c before now stop
 unfound_first c before now stop untouched cause other = record {
   unread = record { untouched = untouched; front = []; is_front = record { later = names_of c; whole = refl }; cause = cause };
   few = omega arith;
@@ -123,7 +123,7 @@ text_failed c before now untouched (inl taken) = unfound_behind c before now (Fi
 text_failed c before now untouched (inr lost) =
     unfound_first c before now (File Nf) untouched (inr (subst (λ (old : Counted). Faulted (losing old) now.counted before.told.next) (asking_none before.counted) lost)) (λ port e. cc e)
 
-pub is_unfound : (c : Reads) (before now : Outside) (stop : Stop) → IsUntouched before.told now.told → IsTextCause c.text before.told.next before.counted now.counted stop → IsUnfound c before now stop
+pub is_unfound : (c : Reads) (before now : Outside) (stop : CallFault) → IsUntouched before.told now.told → IsTextCause c.text before.told.next before.counted now.counted stop → IsUnfound c before now stop
 is_unfound c before now (File file) untouched cause = subst (λ (f : RunFile). IsUnfound c before now (File f)) (sym cause.0) (text_failed c before now untouched cause.1)
 is_unfound c before now Memory untouched (inl same) = unfound_first c before now Memory untouched (same ∙ asking_none before.counted) (λ port e. cc e)
 is_unfound c before now Memory untouched (inr more) = unfound_behind c before now Memory untouched more (λ port e. cc e)
@@ -146,7 +146,7 @@ has_opened c before a b captures next only opened all untouched counted = record
   };
 }
 
-opening_cause : (c : Reads) (before now : Told) (layout : Layout) (old new : Counted) (stop : NumberStop) → 2 ≤ layout.first → before.next ≡ layout.first → length c.captures ≡ layout.captures → StopsFrom (layout.first + 1) layout.captures stop → StopsNext now.next stop → IsAskCause old new stop
+opening_cause : (c : Reads) (before now : Told) (layout : Layout) (old new : Counted) (stop : RunFault) → 2 ≤ layout.first → before.next ≡ layout.first → length c.captures ≡ layout.captures → StopsFrom (layout.first + 1) layout.captures stop → StopsNext now.next stop → IsAskCause old new stop
     → IsReadCause c before now old new (stop_named (numbering_of layout) stop)
 opening_cause c before now layout old new numbered.Memory two first count from here h = h
 opening_cause c before now layout old new (numbered.File number) two first count from here h =
@@ -158,7 +158,7 @@ opening_cause c before now layout old new (numbered.File number) two first count
     (record { from_two = omega (arith, two, first); within = omega (arith, lt, count); faulted = subst (Faults old new) same h; lesser = λ all. absurd (omega (arith, from.1, here, all, first, count)) })
 
 -- a capture could not be opened
-pub is_unopened : (c : Reads) (before a b : Outside) (layout : Layout) (stop : NumberStop) → 2 ≤ layout.first → before.told.next ≡ layout.first → length c.captures ≡ layout.captures → HasOnlyAsked (reading c.text ∷ []) before a → IsUntouched a.told b.told → StopsFrom (layout.first + 1) layout.captures stop → StopsNext b.told.next stop → AsksSome (map reading c.captures) a.counted b.counted stop
+pub is_unopened : (c : Reads) (before a b : Outside) (layout : Layout) (stop : RunFault) → 2 ≤ layout.first → before.told.next ≡ layout.first → length c.captures ≡ layout.captures → HasOnlyAsked (reading c.text ∷ []) before a → IsUntouched a.told b.told → StopsFrom (layout.first + 1) layout.captures stop → StopsNext b.told.next stop → AsksSome (map reading c.captures) a.counted b.counted stop
     → IsUnread c before b (stop_named (numbering_of layout) stop)
 is_unopened c before a b layout stop two first count only untouched from here asks = record {
   untouched = untouched_both before.told a.told b.told only.untouched untouched;
@@ -245,7 +245,7 @@ packets_fed {c = c} {before = before} {captures = captures} g next h is files si
 -- ---- why a call was stopped
 
 -- a cause by the numbers of a call
-pub read_cause : (c : Reads) (before now : Told) (behind : Behind) (ports : ℕ) (old new : Counted) (stop : Stop) → IsReadCause c before now old new stop → IsCauseBy (numbering behind before.next (length c.captures) ports) old new stop
+pub read_cause : (c : Reads) (before now : Told) (behind : FileOrder) (ports : ℕ) (old new : Counted) (stop : CallFault) → IsReadCause c before now old new stop → IsCauseBy (numbering behind before.next (length c.captures) ports) old new stop
 read_cause c before now behind ports old new (File Nf) h =
     record { number = before.next; faulted = h; file_is = sym (file_first behind before.next (length c.captures) ports); number_is = refl }
 read_cause c before now behind ports old new (File (Capture port)) h =
@@ -260,7 +260,7 @@ read_cause c before now behind ports old new (File Stderr) h = absurd h
 read_cause c before now behind ports old new Memory h = h
 
 -- such a stop of a call that asks for more names
-unfoldable pub read_stops : (c : Reads) (before now : Outside) (behind : Behind) (ports : ℕ) (names : List Asked) (stop : Stop) → IsFrontOf names (names_of c) → IsUnread c before now stop → StopsBy (numbering behind before.told.next (length c.captures) ports) names before.counted now.counted stop
+unfoldable pub read_stops : (c : Reads) (before now : Outside) (behind : FileOrder) (ports : ℕ) (names : List Asked) (stop : CallFault) → IsFrontOf names (names_of c) → IsUnread c before now stop → StopsBy (numbering behind before.told.next (length c.captures) ports) names before.counted now.counted stop
 read_stops c before now behind ports names stop f h = record {
   front = h.front;
   is_front = front_both names (names_of c) h.front h.is_front f;

@@ -2,8 +2,8 @@
 use Rattle.std.specs.Prelude.{◌≡◌, ℕ, ◌+◌, ◌≤◌}
 use Rattle.call_base.specs.declared.status.RunFile.{RunFile}
 use Rattle.call_base.specs.declared.status.RunFile.TheVariants.{Nf, Capture, Journal, Output, OutJournal, State, Proof, Stdout, Stderr}
-use Rattle.call_base.specs.declared.status.Stop.{Stop}
-use Rattle.call_base.specs.declared.status.Stop.TheVariants.{File, Memory}
+use Rattle.call_base.specs.declared.status.CallFault.{CallFault}
+use Rattle.call_base.specs.declared.status.CallFault.TheVariants.{File, Memory}
 
 -- How far a run of so many ports came that a file stopped: how many files were created, and how many of
 -- these are whole. Captures are read once all but the state are created, the state is left where the run
@@ -19,6 +19,6 @@ IsFarAt ended stated ports Proof made full = ⊥
 IsFarAt ended stated ports Stdout made full = ended
 IsFarAt ended stated ports Stderr made full = ⊥
 
-abbrev pub IsFar : Type 0 → Type 0 → ℕ → Stop → (made full : ℕ) → Type 0
+abbrev pub IsFar : Type 0 → Type 0 → ℕ → CallFault → (made full : ℕ) → Type 0
 IsFar ended stated ports (File file) made full = IsFarAt ended stated ports file made full
 IsFar ended stated ports Memory made full = Unit {0}

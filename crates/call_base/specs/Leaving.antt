@@ -6,11 +6,11 @@ use Rattle.nf_files.specs.Causes.{Asked, asking}
 use Rattle.nf_files.specs.Openings.{Creates}
 use Rattle.nf_files.specs.Writes.{Writes, WritesFront}
 use Rattle.stream_run.specs.Runs.{Run}
-use Rattle.stream_run.specs.declared.stop.Stop.{Stop as NumberStop}
-use Rattle.stream_run.specs.declared.stop.Stop.TheVariants.{Memory}
+use Rattle.stream_run.specs.declared.fault.RunFault.{RunFault}
+use Rattle.stream_run.specs.declared.fault.RunFault.TheVariants.{Memory}
 use Rattle.stream_run.specs.Writing.{IsStopCause, StopsAt}
-use Rattle.call_base.specs.declared.layout.Behind.TheVariants.{Created}
-use Rattle.call_base.specs.declared.status.Stop.{Stop}
+use Rattle.call_base.specs.declared.layout.FileOrder.TheVariants.{Created}
+use Rattle.call_base.specs.declared.status.CallFault.{CallFault}
 use Rattle.call_base.specs.Created.{Left, bytes_at}
 use Rattle.call_base.specs.Far.{IsFar}
 use Rattle.call_base.specs.Layout.{numbering}
@@ -36,12 +36,12 @@ pub record IsPut (name text : List ℕ) (old new : Outside) : Type 0 where
   pub counted : new.counted ≡ mid.counted
 
 -- it could not be created
-pub record IsUncreated (name : List ℕ) (old new : Outside) (stop : NumberStop) : Type 0 where
+pub record IsUncreated (name : List ℕ) (old new : Outside) (stop : RunFault) : Type 0 where
   pub same : Same old.told new.told
   pub asks : AsksNext {T = ℕ} (writing name) old.told.next old.counted new.counted (Err stop)
 
 -- a front of the text was put there
-pub record IsHalfPut (name text : List ℕ) (old new : Outside) (stop : NumberStop) : Type 0 where
+pub record IsHalfPut (name text : List ℕ) (old new : Outside) (stop : RunFault) : Type 0 where
   pub mid : Outside
   pub file : ℕ
   pub begun : IsBegun name file old mid
@@ -50,12 +50,12 @@ pub record IsHalfPut (name text : List ℕ) (old new : Outside) (stop : NumberSt
   pub cause : IsStopCause {T = Unit {0}} mid.counted new.counted (Err stop)
 
 -- memory ran out before
-pub record IsNotBegun (old new : Outside) (stop : NumberStop) : Type 0 where
+pub record IsNotBegun (old new : Outside) (stop : RunFault) : Type 0 where
   pub same : new ≡ old
   pub memory : stop ≡ Memory
 
 -- what putting a text under a name comes to
-abbrev pub PutsTo : {T : Type 0} → List ℕ → List ℕ → Outside → Outside → Result T NumberStop → Type 0
+abbrev pub PutsTo : {T : Type 0} → List ℕ → List ℕ → Outside → Outside → Result T RunFault → Type 0
 PutsTo name text old new (Ok x) = IsPut name text old new
 PutsTo name text old new (Err stop) = IsNotBegun old new stop ⊎ (IsUncreated name old new stop ⊎ IsHalfPut name text old new stop)
 
@@ -66,19 +66,19 @@ pub record IsOut (lines : List ℕ) (old new : Outside) : Type 0 where
   pub counted : new.counted ≡ old.counted
 
 -- a front of them was
-pub record IsHalfOut (lines : List ℕ) (old new : Outside) (stop : NumberStop) : Type 0 where
+pub record IsHalfOut (lines : List ℕ) (old new : Outside) (stop : RunFault) : Type 0 where
   pub unnamed : old.told.name 0 ≡ None
   pub wrote : WritesFront old.told new.told 0 lines
   pub at : StopsAt {T = Unit {0}} 0 (Err stop)
   pub cause : IsStopCause {T = Unit {0}} old.counted new.counted (Err stop)
 
 -- what printing them comes to
-abbrev pub OutTo : {T : Type 0} → List ℕ → Outside → Outside → Result T NumberStop → Type 0
+abbrev pub OutTo : {T : Type 0} → List ℕ → Outside → Outside → Result T RunFault → Type 0
 OutTo lines old new (Ok x) = IsOut lines old new
 OutTo lines old new (Err stop) = IsHalfOut lines old new stop
 
 -- what putting a text under a name and then printing lines comes to
-abbrev pub FinishesTo : {T : Type 0} → List ℕ → List ℕ → List ℕ → Outside → Outside → Result T NumberStop → Type 0
+abbrev pub FinishesTo : {T : Type 0} → List ℕ → List ℕ → List ℕ → Outside → Outside → Result T RunFault → Type 0
 FinishesTo name text lines old new (Ok x) = (mid : Outside) × IsPut name text old mid × IsOut lines mid new
 FinishesTo {T = T} name text lines old new (Err stop) =
     PutsTo {T = T} name text old new (Err stop) ⊎ ((mid : Outside) × IsPut name text old mid × IsHalfOut lines mid new stop)
@@ -126,7 +126,7 @@ pub record HasPrinted (l : Leaves) (before now : Outside) (run : Run) (count : �
 
 -- A run was stopped once it had begun to create files. The state is created behind whole others, by a run
 -- that leaves one, and lines are printed once it has ended.
-pub record IsBroken (l : Leaves) (ended : ℕ → ℕ → Type 0) (stated printed : Type 0) (before now : Outside) (run : Run) (stop : Stop) : Type 0 where
+pub record IsBroken (l : Leaves) (ended : ℕ → ℕ → Type 0) (stated printed : Type 0) (before now : Outside) (run : Run) (stop : CallFault) : Type 0 where
   pub made : ℕ
   pub full : ℕ
   pub within : made ≤ l.ports + 2

@@ -8,8 +8,8 @@ use Rattle.call_base.specs.declared.loading.Found.{Found}
 use Rattle.call_base.specs.declared.loading.NoFunction.{NoFunction}
 use Rattle.call_base.specs.declared.loading.NoFunction.TheVariants as none
 use Rattle.call_base.specs.declared.status.RunFile.TheVariants.{Nf}
-use Rattle.call_base.specs.declared.status.Stop.{Stop}
-use Rattle.call_base.specs.declared.status.Stop.TheVariants.{File, Memory}
+use Rattle.call_base.specs.declared.status.CallFault.{CallFault}
+use Rattle.call_base.specs.declared.status.CallFault.TheVariants.{File, Memory}
 use Rattle.call_base.specs.Names.{reading}
 use Rattle.call_base.specs.Source.{path_counts, IsFunctionUnder, IsNoFunctionUnder}
 
@@ -33,7 +33,7 @@ FindsFunction told name (Err (none.Text fault)) = IsNoFunctionUnder told name fa
 FindsFunction told name (Err (none.Stop stop)) = Unit {0}
 
 -- the text's file failed, which is the first that is opened, or memory ran out
-abbrev pub IsTextCause : List ℕ → ℕ → Counted → Counted → Stop → Type 0
+abbrev pub IsTextCause : List ℕ → ℕ → Counted → Counted → CallFault → Type 0
 IsTextCause name first old new (File file) = (file ≡ Nf) × FaultedAsking old new (reading name ∷ []) first
 IsTextCause name first old new Memory = (new ≡ old) ⊎ (new ≡ asking (reading name ∷ []) old)
 

@@ -2,8 +2,8 @@
 use Rattle.std.specs.Prelude.{◌≡◌, ◌⊎◌, ℕ, List, ◌++◌}
 use Rattle.nf_files.specs.Causes.{Counted, Faulted, Asked, asking, losing}
 use Rattle.call_base.specs.declared.status.RunFile.{RunFile}
-use Rattle.call_base.specs.declared.status.Stop.{Stop}
-use Rattle.call_base.specs.declared.status.Stop.TheVariants as stops
+use Rattle.call_base.specs.declared.status.CallFault.{CallFault}
+use Rattle.call_base.specs.declared.status.CallFault.TheVariants as stops
 
 -- Which file of a call has which number.
 pub record Numbering : Type 0 where
@@ -21,7 +21,7 @@ pub record FailedBy (numbering : Numbering) (old new : Counted) (file : RunFile)
   pub file_is : file ≡ numbering.file_of number
   pub number_is : number ≡ numbering.number_of file
 
-abbrev pub IsCauseBy : Numbering → Counted → Counted → Stop → Type 0
+abbrev pub IsCauseBy : Numbering → Counted → Counted → CallFault → Type 0
 IsCauseBy numbering old new (stops.File file) = FailedBy numbering old new file
 IsCauseBy numbering old new stops.Memory = new ≡ old
 
@@ -31,7 +31,7 @@ pub record IsFrontOf {A : Type 0} (all front : List A) : Type 0 where
   pub whole : front ++ later ≡ all
 
 -- A call was stopped; the names that it had asked for then are the first of a list.
-pub record StopsBy (numbering : Numbering) (names : List Asked) (old new : Counted) (stop : Stop) : Type 0 where
+pub record StopsBy (numbering : Numbering) (names : List Asked) (old new : Counted) (stop : CallFault) : Type 0 where
   pub front : List Asked
   pub is_front : IsFrontOf names front
   pub cause : IsCauseBy numbering (asking front old) new stop

@@ -5,8 +5,8 @@ use Rattle.nf_files.specs.Pieces.{Gains}
 use Rattle.nf_files.specs.Writes.{Writes, WritesFront}
 use Rattle.stream_run.specs.Texts.{IsFrontOf}
 use Rattle.stream_run.specs.Writing.{IsStopCause, StopsAt}
-use Rattle.stream_run.specs.declared.stop.Stop.{Stop as NumberStop}
-use Rattle.stream_run.specs.declared.stop.Stop.TheVariants as numbered
+use Rattle.stream_run.specs.declared.fault.RunFault.{RunFault}
+use Rattle.stream_run.specs.declared.fault.RunFault.TheVariants as numbered
 use Rattle.call_base.specs.declared.status.RunFile.TheVariants.{Stderr}
 use Rattle.call_base.specs.declared.status.Status.{Status}
 use Rattle.call_base.specs.declared.status.Status.TheVariants.{Done, Usage, Refused, FileFault, NotCapture, Torn, ShareFull, TooMany, NoKeys, Memory, Differs, ProofFails}
@@ -25,17 +25,17 @@ pub record PrintedFront (before after : Told) (file : ℕ) (bytes : List ℕ) : 
   pub printed : Printed before after file front
 
 -- a piece was given whole, or a front of it where the call was stopped
-abbrev pub Says : {T : Type 0} → Told → Told → ℕ → List ℕ → Result T NumberStop → Type 0
+abbrev pub Says : {T : Type 0} → Told → Told → ℕ → List ℕ → Result T RunFault → Type 0
 Says old new file piece (Ok x) = Writes old new file piece
 Says old new file piece (Err stop) = WritesFront old new file piece
 
 -- the status of a call that standard error, or want of memory, stopped
-abbrev pub stopped_at : NumberStop → Status
+abbrev pub stopped_at : RunFault → Status
 stopped_at (numbered.File number) = FileFault Stderr
 stopped_at numbered.Memory = Memory
 
 -- a status after standard error could not be written: a fault that stands already is not hidden
-abbrev pub after_stop : Status → NumberStop → Status
+abbrev pub after_stop : Status → RunFault → Status
 after_stop (FileFault file) stop = FileFault file
 after_stop Done stop = stopped_at stop
 after_stop Usage stop = stopped_at stop
@@ -58,7 +58,7 @@ pub record IsSaid (ended after : Outside) (due status : Status) : Type 0 where
 -- Standard error failed, or memory ran out, and it holds a front of the line.
 pub record IsHalfSaid (ended after : Outside) (due status : Status) : Type 0 where
   pub some : due ≢ Done
-  pub stop : NumberStop
+  pub stop : RunFault
   pub status_is : status ≡ after_stop due stop
   pub wrote : WritesFront ended.told after.told 1 (error_line due)
   pub at : StopsAt {T = Unit {0}} 1 (Err stop)

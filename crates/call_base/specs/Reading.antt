@@ -17,8 +17,8 @@ use Rattle.call_base.specs.declared.loading.NoFunction.{NoFunction}
 use Rattle.call_base.specs.declared.loading.NoFunction.TheVariants as none
 use Rattle.call_base.specs.declared.status.RunFile.TheVariants.{Nf, Capture, Journal, Output, OutJournal, State, Proof, Stdout, Stderr}
 use Rattle.call_base.specs.declared.status.Refusal.TheVariants as refusals
-use Rattle.call_base.specs.declared.status.Stop.{Stop}
-use Rattle.call_base.specs.declared.status.Stop.TheVariants.{File, Memory}
+use Rattle.call_base.specs.declared.status.CallFault.{CallFault}
+use Rattle.call_base.specs.declared.status.CallFault.TheVariants.{File, Memory}
 use Rattle.call_base.specs.declared.status.Halt.{Halt}
 use Rattle.call_base.specs.declared.status.Halt.TheVariants as halts
 use Rattle.call_base.specs.Captures.{Below}
@@ -105,7 +105,7 @@ pub record HasFailed (c : Reads) (before now : Told) (old new : Counted) (port :
   pub lesser : before.next + 1 + length c.captures ≤ now.next → Below IsCapture before c.captures port
 
 -- the text or a capture failed, or memory ran out
-abbrev pub IsReadCause : Reads → (before now : Told) → Counted → Counted → Stop → Type 0
+abbrev pub IsReadCause : Reads → (before now : Told) → Counted → Counted → CallFault → Type 0
 IsReadCause c before now old new (File Nf) = Faults old new before.next
 IsReadCause c before now old new (File (Capture port)) = HasFailed c before now old new port
 IsReadCause c before now old new (File Journal) = ⊥
@@ -119,7 +119,7 @@ IsReadCause c before now old new Memory = new ≡ old
 
 -- A call was stopped before its captures were read. It had asked for the first of its names, and nothing
 -- has changed.
-pub record IsUnread (c : Reads) (before now : Outside) (stop : Stop) : Type 0 where
+pub record IsUnread (c : Reads) (before now : Outside) (stop : CallFault) : Type 0 where
   pub untouched : IsUntouched before.told now.told
   pub front : List Asked
   pub is_front : IsFrontOf (names_of c) front

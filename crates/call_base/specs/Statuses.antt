@@ -5,8 +5,8 @@ use Rattle.call_base.specs.declared.status.End.{End}
 use Rattle.call_base.specs.declared.status.End.TheVariants as ends
 use Rattle.call_base.specs.declared.status.Refusal.{Refusal}
 use Rattle.call_base.specs.declared.status.Refusal.TheVariants as refusals
-use Rattle.call_base.specs.declared.status.Stop.{Stop}
-use Rattle.call_base.specs.declared.status.Stop.TheVariants as stops
+use Rattle.call_base.specs.declared.status.CallFault.{CallFault}
+use Rattle.call_base.specs.declared.status.CallFault.TheVariants as stops
 use Rattle.call_base.specs.declared.status.Status.{Status}
 use Rattle.call_base.specs.declared.status.Status.TheVariants.{Done, Usage, Refused, FileFault, NotCapture, Torn, ShareFull, TooMany, NoKeys, Memory, Differs, ProofFails}
 
@@ -40,6 +40,6 @@ refusal_status (refusals.NoKeys why) = NoKeys why
 refusal_status (refusals.NotCapture port) = NotCapture port
 
 -- the status of a call that is stopped so
-abbrev pub stop_status : Stop → Status
+abbrev pub stop_status : CallFault → Status
 stop_status (stops.File file) = FileFault file
 stop_status stops.Memory = Memory

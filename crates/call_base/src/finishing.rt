@@ -15,10 +15,10 @@ use nf_base::state::State;
 use nf_files::{Files, write_whole};
 use run_history::state_text::state_text;
 use std::alloc::Global;
-use stream_run::Stop;
+use stream_run::RunFault;
 
 // Puts a text into a file that is created behind a number that was given last.
-fn put_text<F: Files>(files: &mut F, name: &String, text: &[u8], last: u32) -> Result<(), Stop>
+fn put_text<F: Files>(files: &mut F, name: &String, text: &[u8], last: u32) -> Result<(), RunFault>
     requires last { (F.told files.old).next ≡ last + 1 }
     ensures { PutsTo (string_bytes name.now) text.now (seen (F.told files.old) (F.counted files.old))
         (seen (F.told files.new) (F.counted files.new)) result }
@@ -26,7 +26,7 @@ fn put_text<F: Files>(files: &mut F, name: &String, text: &[u8], last: u32) -> R
     match create_next(files, name, last) {
         Ok(file) => match write_whole(files, file, text) {
             Ok(()) => Ok(()),
-            Err(fault) => Err(Stop::of(file, fault)),
+            Err(fault) => Err(RunFault::of(file, fault)),
         },
         Err(stop) => Err(stop),
     }
@@ -41,7 +41,7 @@ fn leave_state<F: Files>(
     out: &String,
     state: &State,
     last: u32,
-) -> Result<(), Stop>
+) -> Result<(), RunFault>
     requires last { (F.told files.old).next ≡ last + 1 }
     ensures { let ports = length func.now.handlers in
         let name = names.name_at format (string_bytes out.now) ports (ports + 1) in
@@ -52,16 +52,16 @@ fn leave_state<F: Files>(
     let ports = func.handlers.len();
     let name = match name_at(alloc, format, out, ports, ports + 1) {
         Ok(name) => name,
-        Err(_) => return Err(Stop::Memory),
+        Err(_) => return Err(RunFault::Memory),
     };
     match state_text(alloc, func, state) {
         Ok(text) => put_text(files, &name, text.as_slice(), last),
-        Err(_) => Err(Stop::Memory),
+        Err(_) => Err(RunFault::Memory),
     }
 }
 
 /// Prints the lines on a run.
-pub fn print_lines<F: Files>(files: &mut F, lines: &[u8]) -> Result<(), Stop>
+pub fn print_lines<F: Files>(files: &mut F, lines: &[u8]) -> Result<(), RunFault>
     ensures { OutTo lines.now (seen (F.told files.old) (F.counted files.old))
         (seen (F.told files.new) (F.counted files.new)) result }
 {
@@ -79,7 +79,7 @@ pub fn finish<F: Files>(
     state: &State,
     lines: &[u8],
     last: u32,
-) -> Result<(), Stop>
+) -> Result<(), RunFault>
     requires last { (F.told files.old).next ≡ last + 1 }
     ensures { let ports = length func.now.handlers in
         let name = names.name_at format (string_bytes out.now) ports (ports + 1) in

@@ -8,7 +8,7 @@ ghost use Rattle.call_base.specs.Reading.{Reads, AreFrom, IsFresh, HasOpened, Re
 
 use crate::layout::Layout;
 use crate::opening::open_captures;
-use crate::status::{Halt, Refusal, RunFile, Stop};
+use crate::status::{CallFault, Halt, Refusal, RunFile};
 use nf_base::func::Func;
 use nf_files::Files;
 use packet_feed::{Feed, FeedFault};
@@ -27,8 +27,8 @@ fn unfed(fault: FeedFault) -> Halt
 {
     match fault {
         FeedFault::NotCapture { port } => Halt::Refusal(Refusal::NotCapture { port }),
-        FeedFault::File { port } => Halt::Stop(Stop::File(RunFile::Capture(port))),
-        FeedFault::Memory => Halt::Stop(Stop::Memory),
+        FeedFault::File { port } => Halt::Stop(CallFault::File(RunFile::Capture(port))),
+        FeedFault::Memory => Halt::Stop(CallFault::Memory),
     }
 }
 

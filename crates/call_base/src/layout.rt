@@ -2,33 +2,33 @@
 ghost use Rattle.std.specs.Prelude.{◌≡◌};
 ghost use Rattle.call_base.specs.Layout as meant;
 
-use crate::status::{Halt, RunFile, Stop};
-use stream_run::Stop as NumberStop;
+use crate::status::{CallFault, Halt, RunFile};
+use stream_run::RunFault;
 
 /// What a call opens behind its captures.
 #[derive(Clone, Copy, Debug, PartialEq, Eq)]
-pub enum Behind {
+pub enum FileOrder {
     /// The outputs of a run are created in port order, then the journal, and the state last.
     Created,
     /// The journal of a run is read, and then its outputs in port order.
     Read,
 }
 
-impl Behind {
+impl FileOrder {
     // The file of a place, of so many ports.
     fn file(self, ports: u32, place: u32) -> RunFile
         ensures { result ≡ meant.file_behind self ports place }
     {
         match self {
-            Behind::Created => created_file(ports, place),
-            Behind::Read => read_file(place),
+            FileOrder::Created => created_file(ports, place),
+            FileOrder::Read => read_file(place),
         }
     }
 }
 
 // What is created there.
 fn created_file(ports: u32, place: u32) -> RunFile
-    ensures { result ≡ meant.file_behind Behind.Created ports place }
+    ensures { result ≡ meant.file_behind FileOrder.Created ports place }
 {
     if place < ports {
         RunFile::Output(place)
@@ -41,7 +41,7 @@ fn created_file(ports: u32, place: u32) -> RunFile
 
 // What is read there.
 fn read_file(place: u32) -> RunFile
-    ensures { result ≡ meant.file_behind Behind.Read 0 place }
+    ensures { result ≡ meant.file_behind FileOrder.Read 0 place }
 {
     if place == 0 {
         RunFile::Journal
@@ -57,7 +57,7 @@ pub struct Layout {
     pub first: u32,
     pub captures: u32,
     pub ports: u32,
-    pub behind: Behind,
+    pub behind: FileOrder,
 }
 
 impl Layout {
@@ -89,12 +89,12 @@ impl Layout {
     }
 
     /// What a stop by the file of a number is for this call.
-    pub fn halt(self, stop: NumberStop) -> Halt
+    pub fn halt(self, stop: RunFault) -> Halt
         ensures { result ≡ Halt.Stop (meant.stop_named (meant.numbering_of self) stop) }
     {
         match stop {
-            NumberStop::File(number) => Halt::Stop(Stop::File(self.file(number))),
-            NumberStop::Memory => Halt::Stop(Stop::Memory),
+            RunFault::File(number) => Halt::Stop(CallFault::File(self.file(number))),
+            RunFault::Memory => Halt::Stop(CallFault::Memory),
         }
     }
 }

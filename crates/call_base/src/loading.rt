@@ -7,7 +7,7 @@ ghost use Rattle.call_base.specs.Loading.{IsTextAt, FindsFunction, HasFoundCause
 ghost use Rattle.call_base.specs.Reading.{halt_of};
 
 use crate::function::{Source, Unread, function_in};
-use crate::status::{Halt, Refusal, RunFile, Stop, TextFault};
+use crate::status::{CallFault, Halt, Refusal, RunFile, TextFault};
 use nf_files::{Files, FilesFault, read_whole};
 use std::alloc::Global;
 
@@ -30,7 +30,7 @@ pub struct Found {
 pub enum NoFunction {
     /// The text has this fault.
     Text(TextFault),
-    Stop(Stop),
+    Stop(CallFault),
 }
 
 impl NoFunction {
@@ -82,9 +82,9 @@ pub fn read_function<F: Files>(
                 source,
             }),
             Err(Unread::Text(fault)) => Err(NoFunction::Text(fault)),
-            Err(Unread::Memory) => Err(NoFunction::Stop(Stop::Memory)),
+            Err(Unread::Memory) => Err(NoFunction::Stop(CallFault::Memory)),
         },
-        Err(FilesFault::Failed) => Err(NoFunction::Stop(Stop::File(RunFile::Nf))),
-        Err(FilesFault::Memory(_)) => Err(NoFunction::Stop(Stop::Memory)),
+        Err(FilesFault::Failed) => Err(NoFunction::Stop(CallFault::File(RunFile::Nf))),
+        Err(FilesFault::Memory(_)) => Err(NoFunction::Stop(CallFault::Memory)),
     }
 }

@@ -11,17 +11,17 @@ use crate::names::name_at;
 use capture_format::CaptureFormat;
 use nf_files::{Files, FilesFault};
 use std::alloc::Global;
-use stream_run::Stop;
+use stream_run::RunFault;
 
 // What a fault of an opening is, behind a number that was given last.
-fn stop_behind(last: u32, fault: FilesFault) -> Stop
+fn stop_behind(last: u32, fault: FilesFault) -> RunFault
     ensures { result ≡ stop_of (min (last + 1) (2 ^ 32 - 1)) fault }
 {
-    Stop::of(last.saturating_add(1), fault)
+    RunFault::of(last.saturating_add(1), fault)
 }
 
 // Opens the next file, to be read.
-fn open_next<F: Files>(files: &mut F, name: &String, last: u32) -> Result<u32, Stop>
+fn open_next<F: Files>(files: &mut F, name: &String, last: u32) -> Result<u32, RunFault>
     requires last { (F.told files.old).next ≡ last + 1 }
     ensures ok { let name = string_bytes name.now in
         IfOk result (λ file. Opens (F.told files.old) (F.told files.new) name file) }
@@ -39,7 +39,7 @@ fn open_next<F: Files>(files: &mut F, name: &String, last: u32) -> Result<u32, S
 }
 
 /// Creates the next file, to be written.
-pub fn create_next<F: Files>(files: &mut F, name: &String, last: u32) -> Result<u32, Stop>
+pub fn create_next<F: Files>(files: &mut F, name: &String, last: u32) -> Result<u32, RunFault>
     requires last { (F.told files.old).next ≡ last + 1 }
     ensures ok { let name = string_bytes name.now in
         IfOk result (λ file. Creates (F.told files.old) (F.told files.new) name file) }
@@ -62,7 +62,7 @@ pub fn open_captures<F: Files>(
     files: &mut F,
     names: &[String],
     last: u32,
-) -> Result<Vec<u32>, Stop>
+) -> Result<Vec<u32>, RunFault>
     requires last { (F.told files.old).next ≡ last + 1 }
     ensures opened { let names = map string_bytes names.now in
         IfOk result (λ opened. AreOpened (F.told files.old) (F.told files.new) names opened.items) }
@@ -85,7 +85,7 @@ pub fn open_captures<F: Files>(
         match open_next(files, name, last) {
             Ok(file) => match opened.push(file) {
                 Ok(()) => last = file,
-                Err(_) => return Err(Stop::Memory),
+                Err(_) => return Err(RunFault::Memory),
             },
             Err(stop) => return Err(stop),
         }
@@ -102,7 +102,7 @@ fn create_at<F: Files>(
     ports: u32,
     place: u32,
     last: u32,
-) -> Result<u32, Stop>
+) -> Result<u32, RunFault>
     requires last { (F.told files.old).next ≡ last + 1 }
     ensures ok { let name = name_at format (string_bytes out.now) ports place in
         IfOk result (λ file. Creates (F.told files.old) (F.told files.new) name file) }
@@ -115,7 +115,7 @@ fn create_at<F: Files>(
 {
     match name_at(alloc, format, out, ports, place) {
         Ok(name) => create_next(files, &name, last),
-        Err(_) => Err(Stop::Memory),
+        Err(_) => Err(RunFault::Memory),
     }
 }
 
@@ -128,7 +128,7 @@ pub fn create_targets<F: Files>(
     out: &String,
     ports: u32,
     last: u32,
-) -> Result<Vec<u32>, Stop>
+) -> Result<Vec<u32>, RunFault>
     requires last { (F.told files.old).next ≡ last + 1 }
     requires few { ports ≤ 4 }
     ensures created { let name = name_at format (string_bytes out.now) ports in IfOk result (λ targets.
@@ -147,7 +147,7 @@ pub fn create_targets<F: Files>(
         match create_at(alloc, files, format, out, ports, place, last) {
             Ok(file) => match targets.push(file) {
                 Ok(()) => last = file,
-                Err(_) => return Err(Stop::Memory),
+                Err(_) => return Err(RunFault::Memory),
             },
             Err(stop) => return Err(stop),
         }

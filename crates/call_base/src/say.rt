@@ -6,13 +6,13 @@ ghost use Rattle.call_base.specs.Outside.{seen};
 ghost use Rattle.call_base.specs.Printed.{Says, Tells, after_stop};
 ghost use Rattle.call_base.specs.PrintedOut.{PrintsTo, stop_at_stdout};
 
-use crate::status::{RunFile, Status, Stop};
+use crate::status::{CallFault, RunFile, Status};
 use crate::text::error_line;
 use nf_files::{Files, write_whole};
-use stream_run::Stop as NumberStop;
+use stream_run::RunFault;
 
 /// Gives a piece to standard output, whose number is 0, or to standard error, whose number is 1.
-pub fn say<F: Files>(files: &mut F, file: u32, piece: &[u8]) -> Result<(), NumberStop>
+pub fn say<F: Files>(files: &mut F, file: u32, piece: &[u8]) -> Result<(), RunFault>
     requires standard { file < 2 }
     ensures wrote { Says (F.told files.old) (F.told files.new) file piece.now result }
     ensures at { StopsAt file result }
@@ -20,22 +20,22 @@ pub fn say<F: Files>(files: &mut F, file: u32, piece: &[u8]) -> Result<(), Numbe
 {
     match write_whole(files, file, piece) {
         Ok(()) => Ok(()),
-        Err(fault) => Err(NumberStop::of(file, fault)),
+        Err(fault) => Err(RunFault::of(file, fault)),
     }
 }
 
 // What a stop of printing is.
-fn stop_at_stdout(stop: NumberStop) -> Stop
+fn stop_at_stdout(stop: RunFault) -> CallFault
     ensures { result ≡ stop_at_stdout stop }
 {
     match stop {
-        NumberStop::File(_) => Stop::File(RunFile::Stdout),
-        NumberStop::Memory => Stop::Memory,
+        RunFault::File(_) => CallFault::File(RunFile::Stdout),
+        RunFault::Memory => CallFault::Memory,
     }
 }
 
 /// Prints on standard output.
-pub fn print_out<F: Files>(files: &mut F, piece: &[u8]) -> Result<(), Stop>
+pub fn print_out<F: Files>(files: &mut F, piece: &[u8]) -> Result<(), CallFault>
     ensures { PrintsTo (seen (F.told files.old) (F.counted files.old))
         (seen (F.told files.new) (F.counted files.new)) piece.now result }
 {
@@ -46,13 +46,13 @@ pub fn print_out<F: Files>(files: &mut F, piece: &[u8]) -> Result<(), Stop>
 }
 
 // A status after standard error could not be written: a fault that stands already is not hidden.
-fn after_stop(due: Status, stop: NumberStop) -> Status
+fn after_stop(due: Status, stop: RunFault) -> Status
     ensures { result ≡ after_stop due stop }
 {
     match (due, stop) {
         (Status::FileFault(file), _) => Status::FileFault(file),
-        (_, NumberStop::File(_)) => Status::FileFault(RunFile::Stderr),
-        (_, NumberStop::Memory) => Status::Memory,
+        (_, RunFault::File(_)) => Status::FileFault(RunFile::Stderr),
+        (_, RunFault::Memory) => Status::Memory,
     }
 }
 

@@ -104,7 +104,7 @@ pub enum Refusal {
 
 /// Why a call could not go on.
 #[derive(Clone, Copy, Debug, PartialEq, Eq)]
-pub enum Stop {
+pub enum CallFault {
     /// A call on a file failed.
     File(RunFile),
     Memory,
@@ -114,7 +114,7 @@ pub enum Stop {
 #[derive(Clone, Copy, Debug, PartialEq, Eq)]
 pub enum Halt {
     Refusal(Refusal),
-    Stop(Stop),
+    Stop(CallFault),
 }
 
 /// How a call of the program ended.
@@ -197,14 +197,14 @@ impl Refusal {
     }
 }
 
-impl Stop {
+impl CallFault {
     /// The status of a call that is stopped so.
     pub fn status(self) -> Status
         ensures { result ≡ stop_status self }
     {
         match self {
-            Stop::File(file) => Status::FileFault(file),
-            Stop::Memory => Status::Memory,
+            CallFault::File(file) => Status::FileFault(file),
+            CallFault::Memory => Status::Memory,
         }
     }
 }

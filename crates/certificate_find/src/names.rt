@@ -4,16 +4,16 @@ ghost use Rattle.std.specs.Prelude.{◌≤◌};
 use crate::bits::Bits;
 use crate::echelon::{Combination, Echelon};
 use certificate_laws::{Named, Side};
-use hash_fields::Hashable;
 use key_proof::{Numbered, row_of};
 use key_rows::Place;
+use nf_base::hash_fields::Hashable;
 use nf_base::packet::Family;
 use nf_base::seq::Seq;
 use std::alloc::{AllocError, Global};
 
 /// Rows by their names, in the order of the names, and their sums in echelon form.
 #[derive(Drop)]
-pub struct Kept {
+pub struct KeptRows {
     pub named: Vec<Named>,
     pub rows: Vec<Bits>,
     pub echelon: Echelon,
@@ -126,9 +126,9 @@ fn with_hashed(name: Named, hashed: u32) -> Named {
     }
 }
 
-impl Kept {
-    fn new(alloc: Global) -> Result<Kept, AllocError> {
-        Ok(Kept {
+impl KeptRows {
+    fn new(alloc: Global) -> Result<KeptRows, AllocError> {
+        Ok(KeptRows {
             named: Vec::new(alloc),
             rows: Vec::new(alloc),
             echelon: Echelon::new(alloc, Bits::none())?,
@@ -235,11 +235,11 @@ fn first_result(row: &[u32], before: &Option<Seq<u32>>) -> u32 {
 }
 
 /// The rows of all sites that are kept.
-pub fn keep_rows(alloc: Global, ports: u32, sites: &[Numbered]) -> Result<Kept, AllocError>
+pub fn keep_rows(alloc: Global, ports: u32, sites: &[Numbered]) -> Result<KeptRows, AllocError>
     requires { ports ≤ 4 }
 {
     let firsts = firsts(alloc, sites)?;
-    let mut kept = Kept::new(alloc)?;
+    let mut kept = KeptRows::new(alloc)?;
     for first in &firsts {
         kept.take_site(alloc, ports, sites, *first, &firsts)?;
     }

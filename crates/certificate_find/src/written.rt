@@ -1,7 +1,7 @@
 //! The text of a certificate.
 use crate::bits::Bits;
 use crate::echelon::Combination;
-use crate::names::{Kept, keep_rows};
+use crate::names::{KeptRows, keep_rows};
 use crate::tree::{Fixed, Step, grow};
 use certificate_laws::{Line, Span, Term};
 use certificate_text::{Heading, Kind};
@@ -25,7 +25,7 @@ fn bit(bits: &[bool], i: usize) -> bool {
 /// bits are fixed, and it is a clash.
 fn push_not(
     alloc: Global,
-    kept: &Kept,
+    kept: &KeptRows,
     spans: &[Span],
     fixed: &Fixed,
     place: u32,
@@ -50,7 +50,7 @@ fn push_not(
 fn nots(
     alloc: Global,
     subject: &Subject,
-    kept: &Kept,
+    kept: &KeptRows,
     spans: &[Span],
     keys: &Keys,
 ) -> Result<Vec<Step>, AllocError> {
@@ -129,7 +129,12 @@ fn line_of(alloc: Global, ranks: &[u32], step: &Step) -> Result<Line, AllocError
 }
 
 /// Puts the lines of the rows that are used behind what stands there.
-fn push_rows(alloc: Global, out: &mut Vec<u8>, kept: &Kept, used: &Bits) -> Result<(), AllocError> {
+fn push_rows(
+    alloc: Global,
+    out: &mut Vec<u8>,
+    kept: &KeptRows,
+    used: &Bits,
+) -> Result<(), AllocError> {
     for (k, named) in kept.named.iter().enumerate() {
         if used.has(k) {
             push_line(alloc, out, &Line::Row(*named))?;
@@ -164,7 +169,7 @@ fn push_steps(
 fn sharded(
     alloc: Global,
     subject: &Subject,
-    kept: &Kept,
+    kept: &KeptRows,
     spans: &[Span],
     card: Card,
     keys: &Keys,
@@ -181,7 +186,12 @@ fn sharded(
 }
 
 /// The certificate of there being none.
-fn locked(alloc: Global, kept: &Kept, spans: &[Span], card: Card) -> Result<Vec<u8>, AllocError> {
+fn locked(
+    alloc: Global,
+    kept: &KeptRows,
+    spans: &[Span],
+    card: Card,
+) -> Result<Vec<u8>, AllocError> {
     let mut steps = Vec::new(alloc);
     grow(alloc, &kept.rows, spans, Fixed::none(), 1280, &mut steps)?;
     let used = used(&steps);

@@ -9,16 +9,16 @@ use Rattle.key_proof.specs.Faults.{first_wrong}
 use Rattle.command_words.specs.Commands.{Certify}
 use Rattle.call_base.specs.declared.status.RunFile.{RunFile}
 use Rattle.call_base.specs.declared.status.RunFile.TheVariants.{Proof, Stdout}
-use Rattle.call_base.specs.declared.status.Stop.{Stop}
-use Rattle.call_base.specs.declared.status.Stop.TheVariants.{File, Memory}
+use Rattle.call_base.specs.declared.status.CallFault.{CallFault}
+use Rattle.call_base.specs.declared.status.CallFault.TheVariants.{File, Memory}
 use Rattle.call_base.specs.Names.{reading}
 use Rattle.call_base.specs.Outside.{Outside, IsUntouched}
 use Rattle.call_base.specs.Printed.{Printed, PrintedFront}
 use Rattle.call_base.specs.PrintedOut.{IsPrintCause}
 use Rattle.call_base.specs.Source.{IsFunctionUnder}
 use Rattle.call_base.proofs.Asking.{asking_both}
-use Rattle.certify_call.specs.declared.judged.Judged.{Judged}
-use Rattle.certify_call.specs.declared.judged.Judged.TheVariants.{Right, Fails}
+use Rattle.certify_call.specs.declared.judgement.Judgement.{Judgement}
+use Rattle.certify_call.specs.declared.judgement.Judgement.TheVariants.{Right, Fails}
 use Rattle.certify_call.specs.Judgements.{IsJudgement, JudgementsAreOne}
 use Rattle.certify_call.specs.Certifying.{certified_line, IsPrintedOf, asked_by, IsTold, IsHalfTold, TellsJudgement, IsJudgedUnder, IsProofCause, IsUnjudgedUnder, IsHalfJudgedUnder, JudgesUnder, IsJudged, IsUnread, IsProofUnread, IsHalfJudged, IsUnjudged}
 
@@ -36,16 +36,16 @@ printed_from a b c bytes same printed = subst (λ (o : Option (List ℕ)). Gains
 front_from : (a b c : Told) (bytes : List ℕ) → b.given 0 ≡ a.given 0 → PrintedFront b c 0 bytes → PrintedFront a c 0 bytes
 front_from a b c bytes same h = record { front = h.front; is_front = h.is_front; part = h.part; printed = printed_from a b c h.front same h.printed }
 
-judgement_from : (judged : Judged) (a b c : Told) → b.given 0 ≡ a.given 0 → IsPrintedOf judged b c → IsPrintedOf judged a c
+judgement_from : (judged : Judgement) (a b c : Told) → b.given 0 ≡ a.given 0 → IsPrintedOf judged b c → IsPrintedOf judged a c
 judgement_from Right a b c same printed = printed_from a b c certified_line same printed
 judgement_from (Fails line) a b c same printed = printed ∙ same
 
-print_cause : (old mid new : Counted) (stop : Stop) → mid ≡ old → IsPrintCause mid new stop → IsPrintCause old new stop
+print_cause : (old mid new : Counted) (stop : CallFault) → mid ≡ old → IsPrintCause mid new stop → IsPrintCause old new stop
 print_cause old mid new stop same h = subst (λ (c : Counted). IsPrintCause c new stop) same h
 
 -- ---- the certificate under a name
 
-pub judged_under : (f : Function) (name : List ℕ) (a b c : Outside) (text : List ℕ) (judged : Judged) (result : Result Judged Stop) → IsToldAs text (a.told.content name) → IsUntouched a.told b.told → b.counted ≡ asking (reading name ∷ []) a.counted
+pub judged_under : (f : Function) (name : List ℕ) (a b c : Outside) (text : List ℕ) (judged : Judgement) (result : Result Judgement CallFault) → IsToldAs text (a.told.content name) → IsUntouched a.told b.told → b.counted ≡ asking (reading name ∷ []) a.counted
     → IsJudgement f text judged → TellsJudgement judged b c result → JudgesUnder f name a c result
 judged_under f name a b c text judged (Ok told) text_told still counted is tells = subst (IsJudgedUnder f name a c) (sym tells.0) (record {
   text = text;
@@ -75,7 +75,7 @@ both_asked c old mid new first second =
 content_from : (a b : Told) (name text : List ℕ) → IsUntouched a b → IsToldAs text (b.content name) → IsToldAs text (a.content name)
 content_from a b name text still told = subst (IsToldAs text) (still.contents name) told
 
-pub judged : (c : Certify) (a b d : Outside) (f : Function) (one : Judged) → IsFunctionUnder a.told c.function f → IsUntouched a.told b.told → b.counted ≡ asking (reading c.function ∷ []) a.counted
+pub judged : (c : Certify) (a b d : Outside) (f : Function) (one : Judgement) → IsFunctionUnder a.told c.function f → IsUntouched a.told b.told → b.counted ≡ asking (reading c.function ∷ []) a.counted
     → IsJudgedUnder f c.proof b d one → IsJudged c a d one
 judged c a b d f one is still counted h = record {
   function = f;
@@ -89,11 +89,11 @@ judged c a b d f one is still counted h = record {
   counted = both_asked c a.counted b.counted d.counted counted h.counted;
 }
 
-proof_cause : (name : List ℕ) (number next : ℕ) (old mid new : Counted) (stop : Stop) → number ≡ next → mid ≡ old → IsProofCause name number mid new stop → IsProofCause name next old new stop
+proof_cause : (name : List ℕ) (number next : ℕ) (old mid new : Counted) (stop : CallFault) → number ≡ next → mid ≡ old → IsProofCause name number mid new stop → IsProofCause name next old new stop
 proof_cause name number next old mid new stop same counted h =
     subst (λ (n : ℕ). IsProofCause name n old new stop) same (subst (λ (c : Counted). IsProofCause name number c new stop) counted h)
 
-pub unjudged : (c : Certify) (a b d : Outside) (f : Function) (stop : Stop) → IsFunctionUnder a.told c.function f → IsUntouched a.told b.told → b.told.next ≡ a.told.next + 1 → b.counted ≡ asking (reading c.function ∷ []) a.counted
+pub unjudged : (c : Certify) (a b d : Outside) (f : Function) (stop : CallFault) → IsFunctionUnder a.told c.function f → IsUntouched a.told b.told → b.told.next ≡ a.told.next + 1 → b.counted ≡ asking (reading c.function ∷ []) a.counted
     → IsUnjudgedUnder c.proof b d stop ⊎ IsHalfJudgedUnder f c.proof b d stop → IsUnjudged c a d stop
 unjudged c a b d f stop is still next counted (inl h) = inr (inl (record {
   function = f;

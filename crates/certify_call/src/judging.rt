@@ -8,12 +8,12 @@ ghost use Rattle.call_base.specs.Outside.{seen};
 ghost use Rattle.certify_call.specs.Judgements.{IsJudgement};
 ghost use Rattle.certify_call.specs.Certifying.{TellsJudgement, JudgesUnder, JudgesTo};
 
-use crate::judged::Judged;
+use crate::judgement::Judgement;
 use access_keys::Site;
 use call_base::analysing::own_sites;
 use call_base::loading::{NoFunction, read_function, read_text};
 use call_base::say::print_out;
-use call_base::status::{RunFile, Stop};
+use call_base::status::{CallFault, RunFile};
 use command_words::CertifyCommand;
 use key_proof::{CertifyFault, certify};
 use nf_base::func::Func;
@@ -28,14 +28,14 @@ fn judged_by_plan(
     sites: &[Site],
     plan: &Plan,
     text: &[u8],
-) -> Result<Judged, AllocError>
+) -> Result<Judgement, AllocError>
     requires sites { sites.now ≡ own_sites (function_of func.now) }
     requires plan { plan.now ≡ own_plan (function_of func.now) }
     ensures { IfOk result (IsJudgement (function_of func.now) text.now) }
 {
     match certify(alloc, func, sites, plan, text) {
-        Ok(_verdict) => Ok(Judged::Right),
-        Err(CertifyFault::Fails(line)) => Ok(Judged::Fails { line: line as u64 }),
+        Ok(_verdict) => Ok(Judgement::Right),
+        Err(CertifyFault::Fails(line)) => Ok(Judgement::Fails { line: line as u64 }),
         Err(CertifyFault::Memory) => Err(AllocError),
     }
 }
@@ -46,7 +46,7 @@ fn judged_by_sites(
     func: &Func,
     sites: &[Site],
     text: &[u8],
-) -> Result<Judged, AllocError>
+) -> Result<Judgement, AllocError>
     requires sites { sites.now ≡ own_sites (function_of func.now) }
     ensures { IfOk result (IsJudgement (function_of func.now) text.now) }
 {
@@ -57,7 +57,7 @@ fn judged_by_sites(
 }
 
 // What a text comes to as a function's certificate.
-fn judgement_of(alloc: Global, func: &Func, text: &[u8]) -> Result<Judged, AllocError>
+fn judgement_of(alloc: Global, func: &Func, text: &[u8]) -> Result<Judgement, AllocError>
     requires few { HasFewPaths (function_of func.now) }
     ensures { IfOk result (IsJudgement (function_of func.now) text.now) }
 {
@@ -68,16 +68,16 @@ fn judgement_of(alloc: Global, func: &Func, text: &[u8]) -> Result<Judged, Alloc
 }
 
 // Prints where a certificate is right.
-fn print_judged<F: Files>(files: &mut F, judged: Judged) -> Result<Judged, Stop>
+fn print_judged<F: Files>(files: &mut F, judged: Judgement) -> Result<Judgement, CallFault>
     ensures { TellsJudgement judged (seen (F.told files.old) (F.counted files.old))
         (seen (F.told files.new) (F.counted files.new)) result }
 {
     match judged {
-        Judged::Right => match print_out(files, b"certified\n") {
+        Judgement::Right => match print_out(files, b"certified\n") {
             Ok(()) => Ok(judged),
             Err(stop) => Err(stop),
         },
-        Judged::Fails { .. } => Ok(judged),
+        Judgement::Fails { .. } => Ok(judged),
     }
 }
 
@@ -87,7 +87,7 @@ fn judge_under<F: Files>(
     files: &mut F,
     func: &Func,
     name: &String,
-) -> Result<Judged, Stop>
+) -> Result<Judgement, CallFault>
     requires few { HasFewPaths (function_of func.now) }
     ensures { JudgesUnder (function_of func.now) (string_bytes name.now)
         (seen (F.told files.old) (F.counted files.old))
@@ -96,10 +96,10 @@ fn judge_under<F: Files>(
     match read_text(alloc, files, name) {
         Ok(text) => match judgement_of(alloc, func, text.bytes.as_slice()) {
             Ok(judged) => print_judged(files, judged),
-            Err(_) => Err(Stop::Memory),
+            Err(_) => Err(CallFault::Memory),
         },
-        Err(FilesFault::Failed) => Err(Stop::File(RunFile::Proof)),
-        Err(FilesFault::Memory(_)) => Err(Stop::Memory),
+        Err(FilesFault::Failed) => Err(CallFault::File(RunFile::Proof)),
+        Err(FilesFault::Memory(_)) => Err(CallFault::Memory),
     }
 }
 
@@ -110,7 +110,7 @@ pub fn judge<F: Files>(
     alloc: Global,
     files: &mut F,
     command: &CertifyCommand,
-) -> Result<Judged, NoFunction>
+) -> Result<Judgement, NoFunction>
     ensures { JudgesTo (view.certify command.now) (seen (F.told files.old) (F.counted files.old))
         (seen (F.told files.new) (F.counted files.new)) result }
 {

@@ -1,9 +1,9 @@
 //! The call that judges a certificate of a function's keys, or of there being none.
 #![tactic(auto)]
 
-mod judged;
+mod judgement;
 mod judging;
 pub mod laws;
 
-pub use judged::Judged;
+pub use judgement::Judgement;
 pub use judging::judge;

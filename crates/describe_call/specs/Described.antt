@@ -5,11 +5,11 @@ use Rattle.nf_base.specs.declared.card.Card.{Card}
 use Rattle.nf_files.specs.Told.{Told}
 use Rattle.nf_files.specs.Causes.{Counted, Faulted, FaultedAsking, asking}
 use Rattle.command_words.specs.Commands.{Hash, Describe}
-use Rattle.stream_run.specs.declared.stop.Stop.{Stop as NumberStop}
-use Rattle.stream_run.specs.declared.stop.Stop.TheVariants as numbered
+use Rattle.stream_run.specs.declared.fault.RunFault.{RunFault}
+use Rattle.stream_run.specs.declared.fault.RunFault.TheVariants as numbered
 use Rattle.call_base.specs.declared.status.RunFile.TheVariants.{Nf, Stdout}
-use Rattle.call_base.specs.declared.status.Stop.{Stop}
-use Rattle.call_base.specs.declared.status.Stop.TheVariants.{File, Memory}
+use Rattle.call_base.specs.declared.status.CallFault.{CallFault}
+use Rattle.call_base.specs.declared.status.CallFault.TheVariants.{File, Memory}
 use Rattle.call_base.specs.declared.status.TextFault.{TextFault}
 use Rattle.call_base.specs.declared.loading.NoFunction.{NoFunction}
 use Rattle.call_base.specs.declared.loading.NoFunction.TheVariants as none
@@ -31,7 +31,7 @@ pub record IsHashed (c : Hash) (before now : Outside) : Type 0 where
   pub counted : now.counted ≡ before.counted
 
 -- That was stopped: nothing of the line was printed, or a front of it.
-pub record IsUnhashed (c : Hash) (before now : Outside) (stop : Stop) : Type 0 where
+pub record IsUnhashed (c : Hash) (before now : Outside) (stop : CallFault) : Type 0 where
   pub contents : (n : List ℕ) → now.told.content n ≡ before.told.content n
   pub stdout : (now.told.given 0 ≡ before.told.given 0) ⊎ PrintedFront before.told now.told 0 (hash_line c)
   pub stderr : now.told.given 1 ≡ before.told.given 1
@@ -54,12 +54,12 @@ IsNotDescribed c before now fault =
     IsNoFunctionUnder before.told c.function fault × HasOnlyAsked (reading c.function ∷ []) before now
 
 -- What stands under the name could not be read, or memory ran out before anything was printed.
-pub record IsUnread (c : Describe) (before now : Outside) (stop : Stop) : Type 0 where
+pub record IsUnread (c : Describe) (before now : Outside) (stop : CallFault) : Type 0 where
   pub untouched : IsUntouched before.told now.told
   pub cause : IsTextCause c.function before.told.next before.counted now.counted stop
 
 -- What stands under the name is a function, and a front of its text was printed.
-pub record IsHalfDescribed (c : Describe) (before now : Outside) (stop : Stop) : Type 0 where
+pub record IsHalfDescribed (c : Describe) (before now : Outside) (stop : CallFault) : Type 0 where
   pub function : Function
   pub is_function : IsFunctionUnder before.told c.function function
   pub text : List ℕ
@@ -70,22 +70,22 @@ pub record IsHalfDescribed (c : Describe) (before now : Outside) (stop : Stop) :
   pub cause : IsPrintCause (asking (reading c.function ∷ []) before.counted) now.counted stop
 
 -- That was stopped.
-abbrev pub IsUndescribed : Describe → Outside → Outside → Stop → Type 0
+abbrev pub IsUndescribed : Describe → Outside → Outside → CallFault → Type 0
 IsUndescribed c before now stop = IsUnread c before now stop ⊎ IsHalfDescribed c before now stop
 
 -- what printing a text on a function comes to; memory may run out before there is one
-pub record PrintsOne {T : Type 0} (what : Description) (f : Function) (card : Card) (before now : Outside) (result : Result T Stop) : Type 0 where
+pub record PrintsOne {T : Type 0} (what : Description) (f : Function) (card : Card) (before now : Outside) (result : Result T CallFault) : Type 0 where
   pub text : List ℕ
   pub is_text : IsDescription what f card text
   pub prints : PrintsTo before now text result
 
 -- nothing was printed, since memory ran out
-pub record IsStill (before now : Outside) (stop : Stop) : Type 0 where
+pub record IsStill (before now : Outside) (stop : CallFault) : Type 0 where
   pub untouched : IsUntouched before.told now.told
   pub counted : now.counted ≡ before.counted
   pub memory : stop ≡ Memory
 
-abbrev pub PrintsText : {T : Type 0} → Description → Function → Card → Outside → Outside → Result T Stop → Type 0
+abbrev pub PrintsText : {T : Type 0} → Description → Function → Card → Outside → Outside → Result T CallFault → Type 0
 PrintsText {T = T} what f card before now (Ok x) = PrintsOne {T = T} what f card before now (Ok x)
 PrintsText {T = T} what f card before now (Err stop) = PrintsOne {T = T} what f card before now (Err stop) ⊎ IsStill before now stop
 
@@ -96,6 +96,6 @@ DescribesTo c before now (Err (none.Text fault)) = IsNotDescribed c before now f
 DescribesTo c before now (Err (none.Stop stop)) = IsUndescribed c before now stop
 
 -- what printing the line of a hash comes to
-abbrev pub HashesTo : {T : Type 0} → Hash → Outside → Outside → Result T Stop → Type 0
+abbrev pub HashesTo : {T : Type 0} → Hash → Outside → Outside → Result T CallFault → Type 0
 HashesTo c before now (Ok x) = IsHashed c before now
 HashesTo c before now (Err stop) = IsUnhashed c before now stop

@@ -11,7 +11,7 @@ use crate::explaining::{explanation, verdict};
 use call_base::function::{PathCounts, Source};
 use call_base::loading::{NoFunction, read_function};
 use call_base::say::print_out;
-use call_base::status::Stop;
+use call_base::status::CallFault;
 use command_words::{DescribeCommand, Description};
 use itoa::Buffer;
 use nf_base::card::Card;
@@ -109,7 +109,7 @@ fn print_source<F: Files>(
     what: Description,
     source: &Source,
     card: Card,
-) -> Result<(), Stop>
+) -> Result<(), CallFault>
     requires counts { source.now.paths.items ≡ path_counts (function_of source.now.func) }
     requires few { HasFewPaths (function_of source.now.func) }
     ensures prints { PrintsText what (function_of source.now.func) card
@@ -117,7 +117,7 @@ fn print_source<F: Files>(
 {
     match description(alloc, what, source, card) {
         Ok(text) => print_out(files, text.as_slice()),
-        Err(_) => Err(Stop::Memory),
+        Err(_) => Err(CallFault::Memory),
     }
 }
 

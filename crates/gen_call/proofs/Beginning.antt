@@ -5,14 +5,14 @@ use Rattle.command_words.specs.Commands.{Gen}
 use Rattle.call_base.specs.declared.loading.Found.{Found}
 use Rattle.call_base.specs.declared.loading.NoFunction.{NoFunction}
 use Rattle.call_base.specs.declared.loading.NoFunction.TheVariants as none
-use Rattle.call_base.specs.declared.status.Stop.TheVariants as stops
+use Rattle.call_base.specs.declared.status.CallFault.TheVariants as stops
 use Rattle.call_base.specs.declared.status.Halt.{Halt}
 use Rattle.call_base.specs.declared.status.Halt.TheVariants as halts
 use Rattle.call_base.specs.declared.status.Refusal.TheVariants as refusals
 use Rattle.call_base.specs.Outside.{Outside, IsUntouched}
 use Rattle.call_base.specs.Loading.{FindsFunction, HasFoundCause}
 use Rattle.call_base.specs.Reading.{HasFound, halt_of}
-use Rattle.gen_call.specs.Who.{Serves}
+use Rattle.gen_call.specs.WorkerPlan.{Serves}
 use Rattle.gen_call.specs.Ending.{GensTo}
 
 -- ---- the function

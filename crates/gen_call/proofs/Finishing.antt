@@ -10,14 +10,14 @@ use Rattle.packet_feed.specs.Arrivals.{Arrival}
 use Rattle.run_history.specs.StateText as states
 use Rattle.run_history.specs.declared.line.Mode.{Mode}
 use Rattle.stream_run.specs.Runs.{Run}
-use Rattle.stream_run.specs.declared.stop.Stop.{Stop as NumberStop}
+use Rattle.stream_run.specs.declared.fault.RunFault.{RunFault}
 use Rattle.traffic_run.specs.Runs.{AreFirst, IsSent}
 use Rattle.traffic_summary.specs.Summary.{numbers_text}
 use Rattle.command_words.specs.Commands.{Gen}
-use Rattle.call_base.specs.declared.layout.Behind.{Behind}
-use Rattle.call_base.specs.declared.layout.Behind.TheVariants.{Created}
+use Rattle.call_base.specs.declared.layout.FileOrder.{FileOrder}
+use Rattle.call_base.specs.declared.layout.FileOrder.TheVariants.{Created}
 use Rattle.call_base.specs.declared.status.End.TheVariants.{Whole}
-use Rattle.call_base.specs.declared.status.Stop.{Stop}
+use Rattle.call_base.specs.declared.status.CallFault.{CallFault}
 use Rattle.call_base.specs.declared.status.Halt.{Halt}
 use Rattle.call_base.specs.declared.status.Halt.TheVariants as halts
 use Rattle.call_base.specs.Created.{bytes_at}
@@ -54,12 +54,12 @@ are_of before job run is e = record {
 
 -- ---- a stop
 
-pub halted : (since : Since) (b : Outside) (job : Job) (stop : NumberStop) (halt : Halt) → IsJob since.before job → halt ≡ halts.Stop (stop_named (numbering_of job.layout) stop)
+pub halted : (since : Since) (b : Outside) (job : Job) (stop : RunFault) (halt : Halt) → IsJob since.before job → halt ≡ halts.Stop (stop_named (numbering_of job.layout) stop)
     → IsStopped (asked job) (HasRefused since) since.before b (stop_named (made_numbering since.before.told.next job.layout.ports) stop) → GensTo (asked job) (HasRefused since) since.before b (Err halt)
 halted since b job stop halt is e h =
     let l = job.layout in
     let same : numbering_of l ≡ made_numbering since.before.told.next l.ports =
-    ap (λ (k : Behind). layout.numbering k l.first l.captures l.ports) is.behind
+    ap (λ (k : FileOrder). layout.numbering k l.first l.captures l.ports) is.behind
     ∙ ap (λ (n : ℕ). layout.numbering Created n l.captures l.ports) is.first
     ∙ ap (λ (n : ℕ). layout.numbering Created since.before.told.next n l.ports) is.captures in
     subst (λ (x : Halt). GensTo (asked job) (HasRefused since) since.before b (Err x)) (sym (e ∙ ap (λ (n : Numbering). halts.Stop (stop_named n stop)) same)) h
@@ -69,7 +69,7 @@ abbrev pub HalfTold : Gen → Outside → Outside → Run → Type 0
 HalfTold c before now run = (text : List ℕ) × IsSummary c now.told (before.told.next + 1) run text × PrintedFront before.told now.told 0 text
 
 -- the same by the ports of the run's own function
-pub cut_short : (since : Since) (b : Outside) (job : Job) (given : List Arrival) (run : Run) (stop : Stop) → IsJob since.before job → run.function ≡ function_of job.func.now → IsRunOf (asked job) (HasRefused since) since.before.told given run → AreFirst (packets_for (asked job) run.function) given
+pub cut_short : (since : Since) (b : Outside) (job : Job) (given : List Arrival) (run : Run) (stop : CallFault) → IsJob since.before job → run.function ≡ function_of job.func.now → IsRunOf (asked job) (HasRefused since) since.before.told given run → AreFirst (packets_for (asked job) run.function) given
     → IsBroken (leaves_of (asked job) since.before job.layout.ports) (IsPrinting (asked job) run given) (IsEndOf (asked job) run given Whole) (HalfTold (asked job) since.before b run) since.before b run stop → IsStopped (asked job) (HasRefused since) since.before b stop
 cut_short since b job given run stop is f is_run first broken =
     let c = asked job in
@@ -148,7 +148,7 @@ finished since a b job mode state sent is h mid put out =
       asked = q.asked_for;
     }
 
-pub unfinished : (since : Since) (a b : Outside) (job : Job) (mode : Mode) (state : State) (sent : ℕ) (stop : NumberStop) → IsJob since.before job → HasDone since a job mode state sent → FinishesTo {T = Unit {0}} (state_name job) (state_text job state) (lines_of job mode state sent) a b (Err stop)
+pub unfinished : (since : Since) (a b : Outside) (job : Job) (mode : Mode) (state : State) (sent : ℕ) (stop : RunFault) → IsJob since.before job → HasDone since a job mode state sent → FinishesTo {T = Unit {0}} (state_name job) (state_text job state) (lines_of job mode state sent) a b (Err stop)
     → IsStopped (asked job) (HasRefused since) since.before b (stop_named (made_numbering since.before.told.next job.layout.ports) stop)
 unfinished since a b job mode state sent stop is h failed =
     let c = asked job in

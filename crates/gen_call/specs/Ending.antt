@@ -9,7 +9,7 @@ use Rattle.call_base.specs.declared.status.End.{End}
 use Rattle.call_base.specs.declared.status.End.TheVariants.{Whole, Torn, TooMany, ShareFull}
 use Rattle.call_base.specs.declared.status.Refusal.{Refusal}
 use Rattle.call_base.specs.declared.status.Refusal.TheVariants.{Usage, Text, NoKeys, NotCapture}
-use Rattle.call_base.specs.declared.status.Stop.{Stop}
+use Rattle.call_base.specs.declared.status.CallFault.{CallFault}
 use Rattle.call_base.specs.declared.status.Halt.{Halt}
 use Rattle.call_base.specs.declared.status.Halt.TheVariants as halts
 use Rattle.call_base.specs.Outside.{Outside, IsUntouched, HasOnlyAsked}
@@ -66,7 +66,7 @@ IsRefused c before now (NoKeys why) = HasNoKeys c before.told why × HasOnlyAske
 IsRefused c before now (NotCapture port) = ⊥
 
 -- A run was stopped before it created anything: the text's file failed, or memory ran out.
-pub record IsUnbegun (c : Gen) (before now : Outside) (stop : Stop) : Type 0 where
+pub record IsUnbegun (c : Gen) (before now : Outside) (stop : CallFault) : Type 0 where
   pub untouched : IsUntouched before.told now.told
   pub cause : IsTextCause c.function before.told.next before.counted now.counted stop
 
@@ -79,7 +79,7 @@ pub record IsPrinting (c : Gen) (run : Run) (given : List Arrival) (made full : 
 -- A run was stopped after it began to create files: each holds a front of what one run leaves there, over
 -- all packets or some first ones. The state is created behind whole others, once all packets were handled,
 -- and nothing is printed before all are whole.
-pub record IsCutShort (c : Gen) (Refused : Type 0) (before now : Outside) (stop : Stop) : Type 0 where
+pub record IsCutShort (c : Gen) (Refused : Type 0) (before now : Outside) (stop : CallFault) : Type 0 where
   pub run : Run
   pub given : List Arrival
   pub is_run : IsRunOf c Refused before.told given run
@@ -96,7 +96,7 @@ pub record IsCutShort (c : Gen) (Refused : Type 0) (before now : Outside) (stop 
   pub stops : Stops before.told.next (ports_of run) (asked_until c (ports_of run) (ports_of run + 2)) before.counted now.counted stop
 
 -- A run was stopped by the outside or for want of memory.
-abbrev pub IsStopped : Gen → Type 0 → Outside → Outside → Stop → Type 0
+abbrev pub IsStopped : Gen → Type 0 → Outside → Outside → CallFault → Type 0
 IsStopped c Refused before now stop = IsUnbegun c before now stop ⊎ IsCutShort c Refused before now stop
 
 -- what a run comes to

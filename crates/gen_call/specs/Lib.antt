@@ -1,5 +1,5 @@
 pub mod Numbers
 pub mod Runs
-pub mod Who
+pub mod WorkerPlan
 pub mod Ending
 pub mod Progress

@@ -11,7 +11,7 @@ use Rattle.stream_run.specs.Runs.{Run, course_of}
 use Rattle.traffic_run.specs.Runs.{IsSent}
 use Rattle.command_words.specs.Commands.{Gen}
 use Rattle.command_words.specs.View as view
-use Rattle.call_base.specs.declared.layout.Behind.TheVariants.{Created}
+use Rattle.call_base.specs.declared.layout.FileOrder.TheVariants.{Created}
 use Rattle.call_base.specs.Leaving.{Leaves, HasMade}
 use Rattle.call_base.specs.Names.{reading, name_at}
 use Rattle.call_base.specs.Outside.{Outside}

@@ -17,10 +17,10 @@ use Rattle.shard_core.specs.declared.collected.Stop.{Stop as ShareStop}
 use Rattle.sharded_run.specs.Sharded.{IsStopBehind}
 use Rattle.stream_run.specs.Runs.{Run, course_of}
 use Rattle.stream_run.specs.Rules.{Rule, IsRunBy}
-use Rattle.traffic_run.specs.declared.asked.Asked.{Asked as Traffic}
-use Rattle.traffic_run.specs.declared.who.Who.{Who}
-use Rattle.traffic_run.specs.declared.who.Who.TheVariants.{One, Shards, Sharing}
-use Rattle.traffic_run.specs.Asked.{asked_for}
+use Rattle.traffic_run.specs.declared.traffic_spec.TrafficSpec.{TrafficSpec as Traffic}
+use Rattle.traffic_run.specs.declared.worker_plan.WorkerPlan.{WorkerPlan}
+use Rattle.traffic_run.specs.declared.worker_plan.WorkerPlan.TheVariants.{One, Shards, Sharing}
+use Rattle.traffic_run.specs.TrafficSpecs.{asked_for}
 use Rattle.traffic_run.specs.Runs.{AreBefore, IsSent}
 use Rattle.traffic_summary.specs.Summary.{numbers_text, left_text}
 use Rattle.command_words.specs.Commands.{Gen}
@@ -48,10 +48,11 @@ packets_for c f = asked_for (traffic_of c) (length f.handlers)
 
 -- Who handles the packets: one worker, or as many as are asked for, which share nothing under the
 -- function's keys for the network card that is asked for, or share all tables.
-abbrev pub IsWho : Gen → Function → Who → Type 0
-IsWho c f One = (c.workers ≡ 1) × (c.mode ≡ choice.Shard → HasKeys f c.card)
-IsWho c f (Shards keys workers) = (workers ≡ c.workers) × (1 < workers) × MayShard c.mode × AreGiven f c.card keys
-IsWho c f (Sharing workers) = (workers ≡ c.workers) × (1 < workers) × ShareTables c.mode c.card f
+abbrev pub IsWorkerPlan : Gen → Function → WorkerPlan → Type 0
+IsWorkerPlan c f One = (c.workers ≡ 1) × (c.mode ≡ choice.Shard → HasKeys f c.card)
+IsWorkerPlan c f (Shards keys workers) = (workers ≡ c.workers) × (1 < workers) × MayShard c.mode × AreGiven f c.card keys
+IsWorkerPlan c f (Sharing workers) = (workers ≡ c.workers) × (1 < workers) ×
+    ShareTables c.mode c.card f
 
 -- A run of some packets that a command asks for: its text is what stood under its name, of a function with
 -- keys for the network card that is asked for, where mode `shard` is. The packets are handled by the rule

@@ -5,6 +5,6 @@
 mod job;
 mod running;
 mod summing;
-mod who;
+mod worker_plan;
 
 pub use running::generate;

@@ -9,15 +9,15 @@ ghost use Rattle.call_base.specs.Names.{reading};
 ghost use Rattle.call_base.specs.Leaving.{FinishesTo, HasCreated};
 ghost use Rattle.call_base.specs.Outside.{Outside, HasOnlyAsked, seen};
 ghost use Rattle.call_base.specs.Reading.{HasFound};
-ghost use Rattle.gen_call.specs.Runs.{IsWho};
+ghost use Rattle.gen_call.specs.Runs.{IsWorkerPlan};
 ghost use Rattle.gen_call.specs.Ending.{GensTo};
 ghost use Rattle.gen_call.specs.Progress.{IsJob, asked, leaves_of, lines_of, state_name, state_text};
 
 use crate::job::Job;
 use crate::summing::lines_on;
-use crate::who::who_of;
+use crate::worker_plan::worker_plan_of;
 use call_base::finishing::finish;
-use call_base::layout::{Behind, Layout};
+use call_base::layout::{FileOrder, Layout};
 use call_base::loading::{Found, read_function};
 use call_base::object_name::full_share;
 use call_base::opening::create_targets;
@@ -25,14 +25,14 @@ use call_base::status::{End, Halt};
 use command_words::GenCommand;
 use lock_mode::Gate;
 use nf_base::state::State;
+use nf_base::worker_turns::Turns;
 use nf_files::Files;
 use run_history::line::Mode;
 use std::alloc::Global;
 use std::sync::{Arc, Wait};
 use std::thread::Threads;
-use stream_run::Stop as NumberStop;
-use traffic_run::{Asked, Came, Who, run};
-use worker_turns::Turns;
+use stream_run::RunFault;
+use traffic_run::{TrafficResult, TrafficSpec, WorkerPlan, run};
 
 // Leaves the last state, behind a number that was given last, and prints the lines on the run.
 fn leave_run<F: Files>(
@@ -43,7 +43,7 @@ fn leave_run<F: Files>(
     state: &State,
     sent: u64,
     last: u32,
-) -> Result<(), NumberStop>
+) -> Result<(), RunFault>
     requires some { 1 ≤ length job.now.func.now.handlers }
     requires last { (F.told files.old).next ≡ last + 1 }
     ensures { FinishesTo (state_name job.now) (state_text job.now state.now)
@@ -62,7 +62,7 @@ fn leave_run<F: Files>(
             lines.as_slice(),
             last,
         ),
-        Err(_) => Err(NumberStop::Memory),
+        Err(_) => Err(RunFault::Memory),
     }
 }
 
@@ -77,7 +77,7 @@ fn run_created<
     alloc: Global,
     files: &mut F,
     job: &Job,
-    who: &Who,
+    worker_plan: &WorkerPlan,
     targets: &[u32],
     turns: &Arc<T>,
     gate: &mut G,
@@ -85,15 +85,15 @@ fn run_created<
     ghost before: { Outside }
     requires job { IsJob before job.now }
     requires flows { 1 ≤ (asked job.now).flows }
-    requires who { IsWho (asked job.now) (function_of job.now.func.now) who.now }
-    requires serves { Serves (function_of job.now.func.now) who.now }
+    requires worker_plan { IsWorkerPlan (asked job.now) (function_of job.now.func.now) worker_plan.now }
+    requires serves { Serves (function_of job.now.func.now) worker_plan.now }
     requires created { EachFile (F.is_written files.old) targets.now }
     requires ready { let l = leaves_of (asked job.now) before job.now.layout.ports in
         HasCreated l before (seen (F.told files.old) (F.counted files.old)) targets.now }
     ensures gens { let Refused = Rose (G.refused gate.old) (G.refused gate.new) in
         GensTo (asked job.now) Refused before (seen (F.told files.new) (F.counted files.new)) result }
 {
-    let asked = Asked {
+    let asked = TrafficSpec {
         seed: job.command.seed,
         count: job.command.count,
         flows: job.command.flows,
@@ -102,16 +102,25 @@ fn run_created<
     };
     let first = targets[0];
     match run(
-        rt, alloc, files, job.func, who, asked, first, targets, turns, gate,
+        rt,
+        alloc,
+        files,
+        job.func,
+        worker_plan,
+        asked,
+        first,
+        targets,
+        turns,
+        gate,
     ) {
-        Ok(Came::Whole { mode, state, sent }) => {
+        Ok(TrafficResult::Whole { mode, state, sent }) => {
             let last = targets[job.layout.ports as usize];
             match leave_run(alloc, files, job, mode, &state, sent, last) {
                 Ok(()) => Ok(End::Whole),
                 Err(stop) => Err(job.layout.halt(stop)),
             }
         }
-        Ok(Came::Full(full)) => Ok(End::ShareFull(full_share(job.func, full.stop))),
+        Ok(TrafficResult::Full(full)) => Ok(End::ShareFull(full_share(job.func, full.stop))),
         Err(stop) => Err(job.layout.halt(stop)),
     }
 }
@@ -127,15 +136,15 @@ fn run_served<
     alloc: Global,
     files: &mut F,
     job: &Job,
-    who: &Who,
+    worker_plan: &WorkerPlan,
     turns: &Arc<T>,
     gate: &mut G,
 ) -> Result<End, Halt>
     ghost before: { Outside }
     requires job { IsJob before job.now }
     requires flows { 1 ≤ (asked job.now).flows }
-    requires who { IsWho (asked job.now) (function_of job.now.func.now) who.now }
-    requires serves { Serves (function_of job.now.func.now) who.now }
+    requires worker_plan { IsWorkerPlan (asked job.now) (function_of job.now.func.now) worker_plan.now }
+    requires serves { Serves (function_of job.now.func.now) worker_plan.now }
     requires next { (F.told files.old).next ≡ before.told.next + 1 }
     requires only { HasOnlyAsked (reading (asked job.now).function ∷ []) before
         (seen (F.told files.old) (F.counted files.old)) }
@@ -145,7 +154,16 @@ fn run_served<
     let Layout { first, ports, .. } = job.layout;
     let out = &job.command.out;
     match create_targets(alloc, files, job.command.format, out, ports, first) {
-        Ok(targets) => run_created(rt, alloc, files, job, who, targets.as_slice(), turns, gate),
+        Ok(targets) => run_created(
+            rt,
+            alloc,
+            files,
+            job,
+            worker_plan,
+            targets.as_slice(),
+            turns,
+            gate,
+        ),
         Err(stop) => Err(job.layout.halt(stop)),
     }
 }
@@ -174,8 +192,8 @@ fn run_found<
         (seen (F.told files.new) (F.counted files.new)) result }
 {
     let func = &found.source.func;
-    let who = match who_of(alloc, command, func) {
-        Ok(who) => who,
+    let worker_plan = match worker_plan_of(alloc, command, func) {
+        Ok(worker_plan) => worker_plan,
         Err(halt) => return Err(halt),
     };
     let job = Job {
@@ -185,10 +203,10 @@ fn run_found<
             first: found.file,
             captures: 0,
             ports: func.handlers.len(),
-            behind: Behind::Created,
+            behind: FileOrder::Created,
         },
     };
-    run_served(rt, alloc, files, &job, &who, turns, gate)
+    run_served(rt, alloc, files, &job, &worker_plan, turns, gate)
 }
 
 /// Runs a function over the traffic that is asked for, and sums the run up.

@@ -8,8 +8,8 @@ use Rattle.nf_base.specs.declared.packet.Family.{Family}
 use Rattle.nf_base.specs.Text.{Function}
 use Rattle.nf_sites.proofs.Lists.{to_map}
 use Rattle.nf_base.specs.declared.packet.Fields.{Fields}
-use Rattle.hash_fields.specs.declared.hashable.Hashable.{Hashable}
-use Rattle.hash_fields.specs.Hashed.{address_width, value}
+use Rattle.nf_base.specs.declared.hash_fields.Hashable.{Hashable}
+use Rattle.nf_base.specs.Hashed.{address_width, value}
 use Rattle.toeplitz_hash.specs.Packets.{key_at}
 use Rattle.toeplitz_hash.proofs.Sums.{sum_below-zero}
 use Rattle.gf2_solve.specs.Sums.{sum_of}

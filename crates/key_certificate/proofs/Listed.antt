@@ -6,7 +6,7 @@ use Rattle.std.proofs.lemmas.List.Elements.{All-nil, All-push, Contains-append_l
 use Rattle.std.proofs.lemmas.Option.{none-some, slice_get_within}
 use Rattle.nf_base.specs.declared.packet.Family.{Family}
 use Rattle.nf_base.specs.declared.packet.Family.TheVariants.{Four, Six}
-use Rattle.hash_fields.specs.Hashed.{address_width}
+use Rattle.nf_base.specs.Hashed.{address_width}
 use Rattle.std.specs.Option.{option_map}
 use Rattle.nf_laws.proofs.Listed.{here}
 use Rattle.key_rows.specs.declared.place.Place.{Place}

@@ -12,8 +12,8 @@ use Rattle.nf_sites.proofs.Lists.{from_map, passes}
 use Rattle.access_keys.specs.declared.site.Site.{Site}
 use Rattle.key_rows.specs.declared.place.Place.{Place}
 use Rattle.key_rows.specs.declared.place.Object.{Object}
-use Rattle.shard_rules.specs.declared.plan.Standing.{Standing}
-use Rattle.shard_rules.specs.declared.plan.Standing.TheVariants.{ReadOnly, Unused}
+use Rattle.shard_rules.specs.declared.plan.ObjectVerdict.{ObjectVerdict}
+use Rattle.shard_rules.specs.declared.plan.ObjectVerdict.TheVariants.{ReadOnly, Unused}
 use Rattle.shard_rules.specs.Sites.{object_sites}
 use Rattle.shard_rules.specs.Rules.{kept_labels}
 use Rattle.shard_rules.specs.Places.{place_of, places_of}
@@ -107,7 +107,7 @@ module _ (f : Function) (o : ObjectId) (k : ℕ) (at : slice_get f.objects k ≡
       ap (λ b. if b then (if is_any sites then ruled (labels_of f o) sites else Unused) else ReadOnly) written ∙ ap (λ b. if b then ruled (labels_of f o) sites else Unused) (any_there sites s mine) in
       in_objects (own_sites f) f 0 k f.objects o (numbered_at k (place_of kept s)) at
       (subst (λ (m : ℕ). Contains (standing_sites m o (own_sites f) (standing f (own_sites f) o)) (numbered_at k (place_of kept s))) zero_more
-      (subst (λ (t : Standing). Contains (standing_sites k o (own_sites f) t) (numbered_at k (place_of kept s))) (sym stands)
+      (subst (λ (t : ObjectVerdict). Contains (standing_sites k o (own_sites f) t) (numbered_at k (place_of kept s))) (sym stands)
       (in_sites o kept k (own_sites f) s (was (λ (t : Site). same_object t.object o) (own_sites f) s mine) (passes (λ (t : Site). same_object t.object o) (own_sites f) s mine))))
 
   place_numbered : (p : Place) → Contains (places_of (kept_labels (labels_of f o) (object_sites o (own_sites f))) (object_sites o (own_sites f))) p → IsPlaced (numbered_sites f) k p

@@ -14,8 +14,8 @@ use Rattle.nf_sites.proofs.KeptLabels.{one_object}
 use Rattle.access_keys.specs.declared.site.Site.{Site}
 use Rattle.key_rows.specs.declared.place.Place.{Place}
 use Rattle.key_rows.specs.declared.place.Object.{Object}
-use Rattle.shard_rules.specs.declared.plan.Standing.{Standing}
-use Rattle.shard_rules.specs.declared.plan.Standing.TheVariants.{ReadOnly, Unused, Ruled}
+use Rattle.shard_rules.specs.declared.plan.ObjectVerdict.{ObjectVerdict}
+use Rattle.shard_rules.specs.declared.plan.ObjectVerdict.TheVariants.{ReadOnly, Unused, Ruled}
 use Rattle.shard_rules.specs.Sites.{object_sites}
 use Rattle.shard_rules.specs.Rules.{kept_labels, rule_of}
 use Rattle.shard_rules.specs.Places.{place_of, places_of}

@@ -3,7 +3,7 @@ use Rattle.std.specs.Prelude.{ℕ, ◌+◌, ◌-◌, ◌*◌, ◌<◌, All, ◌=
 use Rattle.std.specs.List.{list_all, range_with_len}
 use Rattle.std.specs.Option.{option_map, option_and_then}
 use Rattle.nf_base.specs.declared.packet.Family.{Family}
-use Rattle.hash_fields.specs.declared.hashable.Hashable.TheVariants.{SrcIp, DstIp, SrcPort, DstPort}
+use Rattle.nf_base.specs.declared.hash_fields.Hashable.TheVariants.{SrcIp, DstIp, SrcPort, DstPort}
 use Rattle.key_rows.specs.declared.place.Place.{Place}
 use Rattle.key_rows.specs.Classes.{end, width_at, end_at, class_of}
 use Rattle.certificate_laws.specs.declared.line.Side.{Side}

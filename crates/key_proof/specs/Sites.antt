@@ -5,8 +5,8 @@ use Rattle.nf_base.specs.declared.decl.ObjectId.{ObjectId}
 use Rattle.nf_base.specs.Text.{Function}
 use Rattle.nf_sites.specs.Known.{same_object}
 use Rattle.access_keys.specs.declared.site.Site.{Site}
-use Rattle.shard_rules.specs.declared.plan.Standing.{Standing}
-use Rattle.shard_rules.specs.declared.plan.Standing.TheVariants.{ReadOnly, Unused, Ruled}
+use Rattle.shard_rules.specs.declared.plan.ObjectVerdict.{ObjectVerdict}
+use Rattle.shard_rules.specs.declared.plan.ObjectVerdict.TheVariants.{ReadOnly, Unused, Ruled}
 use Rattle.shard_rules.specs.Places.{place_of}
 use Rattle.shard_rules.specs.Served.{own_sites, own_plan}
 use Rattle.key_proof.specs.declared.numbered.Numbered.{Numbered}
@@ -19,13 +19,13 @@ sites_at o kept k (s ∷ sites) =
     ++ sites_at o kept k sites
 
 -- those of an object, by what it comes to
-abbrev pub standing_sites : ℕ → ObjectId → List Site → Standing → List Numbered
+abbrev pub standing_sites : ℕ → ObjectId → List Site → ObjectVerdict → List Numbered
 standing_sites k o sites ReadOnly = []
 standing_sites k o sites Unused = []
 standing_sites k o sites (Ruled rule kept) = sites_at o kept k sites
 
 -- those of objects that are numbered from one on
-abbrev pub objects_sites : ℕ → List Site → List ObjectId → List Standing → List Numbered
+abbrev pub objects_sites : ℕ → List Site → List ObjectId → List ObjectVerdict → List Numbered
 objects_sites k sites [] standings = []
 objects_sites k sites (o ∷ objects) [] = []
 objects_sites k sites (o ∷ objects) (standing ∷ standings) =

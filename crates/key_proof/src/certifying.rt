@@ -11,7 +11,7 @@ use access_keys::Site;
 use key_synth::{Cause, Verdict};
 use nf_base::decl::ObjectId;
 use nf_base::func::Func;
-use shard_rules::{Plan, Rule, Standing};
+use shard_rules::{ObjectVerdict, Plan, Rule};
 use std::alloc::Global;
 use thiserror::Error;
 
@@ -28,17 +28,17 @@ pub enum CertifyFault {
 }
 
 /// The rule of an object that has sites and keeps no label.
-fn unkept_rule(standing: &Standing) -> Option<Rule>
+fn unkept_rule(standing: &ObjectVerdict) -> Option<Rule>
     ensures { result ≡ unkept_rule standing.now }
 {
     match standing {
-        Standing::ReadOnly | Standing::Unused => None,
-        Standing::Ruled { rule, kept } => { if kept.len() == 0 { Some(*rule) } else { None } }
+        ObjectVerdict::ReadOnly | ObjectVerdict::Unused => None,
+        ObjectVerdict::Ruled { rule, kept } => { if kept.len() == 0 { Some(*rule) } else { None } }
     }
 }
 
 /// Why there are no keys, by what each of a function's objects comes to.
-fn cause(objects: &[ObjectId], standings: &[Standing]) -> Cause
+fn cause(objects: &[ObjectId], standings: &[ObjectVerdict]) -> Cause
     requires { length objects.now ≡ length standings.now }
     ensures { IsCause objects.now standings.now result }
 {

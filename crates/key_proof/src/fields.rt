@@ -1,14 +1,14 @@
 //! The eight fields of two inputs: those of the first are 0 to 3, in the order of the input, and
 //! those of the second 4 to 7.
 ghost use Rattle.std.specs.Prelude.{◌≡◌, ◌+◌, ◌*◌, ◌<◌, ◌≤◌, ℕ, IfSome, length, slice_index};
-ghost use Rattle.hash_fields.specs.Hashed.{address_width};
+ghost use Rattle.nf_base.specs.Hashed.{address_width};
 ghost use Rattle.key_rows.specs.Classes.{width_at, end_at, joined, class_of};
 ghost use Rattle.certificate_laws.specs.Certificates.{place_number};
 ghost use Rattle.key_proof.specs.Rows.{field_in, field_of};
 
 use certificate_laws::Side;
-use hash_fields::Hashable;
 use key_rows::Place;
+use nf_base::hash_fields::Hashable;
 use nf_base::packet::Family;
 
 /// How many bits an address has.

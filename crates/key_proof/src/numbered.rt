@@ -7,7 +7,7 @@ use access_keys::Site;
 use key_rows::Place;
 use nf_base::decl::ObjectId;
 use nf_base::seq::Seq;
-use shard_rules::{Standing, field_at, is_on};
+use shard_rules::{ObjectVerdict, field_at, is_on};
 use std::alloc::{AllocError, Global};
 
 /// A site of a written object.
@@ -61,14 +61,14 @@ fn put_standing(
     all: &mut Seq<Numbered>,
     k: usize,
     object: ObjectId,
-    standing: &Standing,
+    standing: &ObjectVerdict,
     sites: &[Site],
 ) -> Result<(), AllocError>
     ensures { OnOk result (all.new ≡ all.old ++ standing_sites k object sites.now standing.now) }
 {
     match standing {
-        Standing::ReadOnly | Standing::Unused => Ok(()),
-        Standing::Ruled { rule: _, kept } => {
+        ObjectVerdict::ReadOnly | ObjectVerdict::Unused => Ok(()),
+        ObjectVerdict::Ruled { rule: _, kept } => {
             put_sites(alloc, all, k, object, kept.as_slice(), sites)
         }
     }
@@ -80,7 +80,7 @@ fn put_standing(
 pub fn numbered_sites(
     alloc: Global,
     objects: &[ObjectId],
-    standings: &[Standing],
+    standings: &[ObjectVerdict],
     sites: &[Site],
 ) -> Result<Seq<Numbered>, AllocError>
     ensures { IfOk result (λ all. all ≡ objects_sites 0 sites.now objects.now standings.now) }

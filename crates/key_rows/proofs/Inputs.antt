@@ -4,9 +4,9 @@ use Rattle.std.specs.Int.{bit_at}
 use Rattle.std.proofs.lemmas.Nat.Bits.{bit_at-zero, bit_at-pow_same, bit_at-pow_other}
 use Rattle.toeplitz_hash.specs.Toeplitz.{sum_below}
 use Rattle.toeplitz_hash.proofs.Sums.{sum_below-zero, sum_below-one}
-use Rattle.hash_fields.specs.declared.hashable.Hashable.{Hashable}
-use Rattle.hash_fields.specs.declared.hashable.Hashable.TheVariants.{SrcIp, DstIp, SrcPort, DstPort}
-use Rattle.hash_fields.specs.Hashed.{number}
+use Rattle.nf_base.specs.declared.hash_fields.Hashable.{Hashable}
+use Rattle.nf_base.specs.declared.hash_fields.Hashable.TheVariants.{SrcIp, DstIp, SrcPort, DstPort}
+use Rattle.nf_base.specs.Hashed.{number}
 use Rattle.key_rows.specs.Laws.{KeepTies}
 use Rattle.nf_base.specs.declared.packet.Family.{Family}
 use Rattle.nf_base.specs.declared.packet.Family.TheVariants.{Four, Six}
@@ -14,7 +14,7 @@ use Rattle.nf_base.specs.declared.packet.Addresses.{Addresses}
 use Rattle.nf_base.specs.declared.packet.Addresses.TheVariants as addresses
 use Rattle.nf_base.specs.declared.packet.Fields.{Fields}
 use Rattle.nf_base.specs.Families.{family_by, source_in, destination_in}
-use Rattle.hash_fields.specs.Hashed.{address_width, width, value}
+use Rattle.nf_base.specs.Hashed.{address_width, width, value}
 use Rattle.key_rows.specs.Places.{IsInputOf}
 use Rattle.key_rows.specs.Places.{AreTied}
 use Rattle.key_rows.specs.Classes.{width_at}

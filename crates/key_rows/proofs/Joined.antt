@@ -1,9 +1,9 @@
 -- The fields of one class are those that are equal in all tied inputs.
 use Rattle.std.proofs.Common.{◌≡◌, ℕ, zero, suc, ◌+◌, ◌<◌, ◌==◌, refl, ap, sym, ◌∙◌, Bool, true, false, List, [], ◌∷◌, length, get_or, drop, drop-cons, add-one, arith, inl, inr, if◌then◌else◌}
 use Rattle.std.proofs.lemmas.Bool.{cases_eq}
-use Rattle.hash_fields.specs.declared.hashable.Hashable.{Hashable}
-use Rattle.hash_fields.specs.declared.hashable.Hashable.TheVariants.{SrcIp, DstIp, SrcPort, DstPort}
-use Rattle.hash_fields.specs.Hashed.{number}
+use Rattle.nf_base.specs.declared.hash_fields.Hashable.{Hashable}
+use Rattle.nf_base.specs.declared.hash_fields.Hashable.TheVariants.{SrcIp, DstIp, SrcPort, DstPort}
+use Rattle.nf_base.specs.Hashed.{number}
 use Rattle.key_rows.specs.Classes.{joined, classes_from, class_of}
 use Rattle.key_rows.specs.Laws.{KeepTies, ClassesAreEqualFields}
 use Rattle.key_rows.proofs.Sums.{at_same, at_other}

@@ -4,7 +4,7 @@ use Rattle.std.proofs.lemmas.Bool.{cases_lt}
 use Rattle.std.proofs.lemmas.List.{get_or_read}
 use Rattle.nf_base.specs.declared.keys.Keys.{Keys}
 use Rattle.nf_base.specs.declared.packet.Family.{Family}
-use Rattle.hash_fields.specs.declared.hashable.Hashable.{Hashable}
+use Rattle.nf_base.specs.declared.hash_fields.Hashable.{Hashable}
 use Rattle.key_rows.specs.declared.place.Place.{Place}
 use Rattle.key_rows.specs.Places.{Agree, AgreeAt, AreAdmissible}
 use Rattle.key_rows.specs.Systems.{AgreeOn, AgreeFrom}

@@ -5,7 +5,7 @@ use Rattle.std.proofs.Math.Nat.{mul-mod_left}
 use Rattle.std.proofs.lemmas.Bool.{cases_eq, cases_lt}
 use Rattle.std.proofs.lemmas.Nat.{shr_split}
 use Rattle.std.proofs.lemmas.Nat.Bits.{bit_at_cat_low}
-use Rattle.hash_fields.specs.declared.hashable.Hashable.TheVariants.{SrcIp, DstIp}
+use Rattle.nf_base.specs.declared.hash_fields.Hashable.TheVariants.{SrcIp, DstIp}
 use Rattle.toeplitz_hash.specs.Bits.{bit_of, number_of}
 use Rattle.toeplitz_hash.specs.Toeplitz.{sum_below, hash_bit, hash_of_bits, toeplitz_of}
 use Rattle.toeplitz_hash.proofs.Sums.{sum_below-zero, sum_below-one}
@@ -15,7 +15,7 @@ use Rattle.toeplitz_hash.proofs.Linear.{hashes_have_bits}
 use Rattle.key_rows.proofs.Sums.{at_same, at_other}
 use Rattle.nf_base.specs.declared.packet.Family.{Family}
 use Rattle.nf_base.specs.declared.packet.Fields.{Fields}
-use Rattle.hash_fields.specs.Hashed.{address_width, value}
+use Rattle.nf_base.specs.Hashed.{address_width, value}
 use Rattle.key_rows.specs.Places.{IsInputOf, input_bits}
 use Rattle.toeplitz_hash.specs.Packets.{input_bytes}
 use Rattle.key_rows.specs.Spread.{Spreads, index_of, Varies}

@@ -6,8 +6,8 @@ use Rattle.std.proofs.lemmas.Nat.{pow_pos, pow_below}
 use Rattle.std.proofs.lemmas.Nat.Bits.{bit_at-lt, bit_at_above}
 use Rattle.toeplitz_hash.specs.Toeplitz.{sum_below}
 use Rattle.toeplitz_hash.proofs.Sums.{sum_below-same}
-use Rattle.hash_fields.specs.declared.hashable.Hashable.{Hashable}
-use Rattle.hash_fields.specs.Hashed.{number}
+use Rattle.nf_base.specs.declared.hash_fields.Hashable.{Hashable}
+use Rattle.nf_base.specs.Hashed.{number}
 use Rattle.key_rows.specs.Classes.{class_of}
 use Rattle.key_rows.specs.Laws.{KeepTies}
 use Rattle.key_rows.proofs.Sums.{at_same, at_other, even_times, even_by_class}

@@ -2,7 +2,7 @@
 use Rattle.std.proofs.Common.{◌≡◌, ℕ, zero, suc, ◌+◌, ◌-◌, ◌*◌, ◌%◌, ◌^◌, ◌<◌, refl, ap, sym, ◌∙◌, subst, List, [], ◌∷◌, length, arith, zero-add, slice_index}
 use Rattle.std.specs.Int.{bit_at}
 use Rattle.std.proofs.lemmas.Nat.Bits.{bit_at_above}
-use Rattle.hash_fields.specs.declared.hashable.Hashable.TheVariants.{SrcIp, DstIp, SrcPort, DstPort}
+use Rattle.nf_base.specs.declared.hash_fields.Hashable.TheVariants.{SrcIp, DstIp, SrcPort, DstPort}
 use Rattle.toeplitz_hash.specs.Bits.{bit_of}
 use Rattle.toeplitz_hash.specs.Toeplitz.{sum_below, hash_bit, hash_of_bits, toeplitz_of}
 use Rattle.toeplitz_hash.specs.Laws.{bit_of_hash}
@@ -15,7 +15,7 @@ use Rattle.nf_base.specs.declared.packet.Family.{Family}
 use Rattle.nf_base.specs.declared.packet.Family.TheVariants.{Four, Six}
 use Rattle.nf_base.specs.declared.packet.Fields.{Fields}
 use Rattle.nf_base.specs.Families.{source_in, destination_in}
-use Rattle.hash_fields.specs.Hashed.{address_width, value}
+use Rattle.nf_base.specs.Hashed.{address_width, value}
 use Rattle.key_rows.specs.Places.{IsInputOf}
 use Rattle.toeplitz_hash.specs.Packets.{input_bytes}
 use Rattle.key_rows.specs.Classes.{end, width_at}

@@ -1,8 +1,8 @@
 -- Which fields of two tied inputs have to be equal.
 use Rattle.std.specs.Prelude.{ℕ, ◌+◌, ◌==◌, List, [], ◌∷◌, slice_index, if◌then◌else◌}
-use Rattle.hash_fields.specs.declared.hashable.Hashable.{Hashable}
-use Rattle.hash_fields.specs.declared.hashable.Hashable.TheVariants.{SrcIp, DstIp, SrcPort, DstPort}
-use Rattle.hash_fields.specs.Hashed.{number, width, address_width}
+use Rattle.nf_base.specs.declared.hash_fields.Hashable.{Hashable}
+use Rattle.nf_base.specs.declared.hash_fields.Hashable.TheVariants.{SrcIp, DstIp, SrcPort, DstPort}
+use Rattle.nf_base.specs.Hashed.{number, width, address_width}
 use Rattle.nf_base.specs.declared.packet.Family.{Family}
 
 -- behind which bit of its input a field ends

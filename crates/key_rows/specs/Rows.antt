@@ -2,7 +2,7 @@
 use Rattle.std.specs.Prelude.{◌≡◌, ℕ, ◌+◌, ◌-◌, ◌*◌, ◌/◌, ◌%◌, ◌<◌, ◌==◌, nat_lt, Bool, List, map, if◌then◌else◌, slice_index}
 use Rattle.std.specs.List.{range_with_len}
 use Rattle.nf_base.specs.declared.keys.Keys.{Keys}
-use Rattle.hash_fields.specs.declared.hashable.Hashable.{Hashable}
+use Rattle.nf_base.specs.declared.hash_fields.Hashable.{Hashable}
 use Rattle.toeplitz_hash.specs.Bits.{bit_of}
 use Rattle.toeplitz_hash.specs.Toeplitz.{sum_below}
 use Rattle.toeplitz_hash.specs.Packets.{key_at}

@@ -2,7 +2,7 @@
 ghost use Rattle.std.specs.Prelude.{◌≡◌, ◌<◌, ℕ, length, slice_index};
 ghost use Rattle.key_rows.specs.Classes.{joined, class_of};
 
-use hash_fields::Hashable;
+use nf_base::hash_fields::Hashable;
 
 /// The class of each of the eight fields of two inputs, of which the first comes to one place and
 /// the second to another: those of the first input are 0 to 3, in the order of the input, and those

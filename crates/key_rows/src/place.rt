@@ -1,4 +1,4 @@
-use hash_fields::Hashable;
+use nf_base::hash_fields::Hashable;
 use nf_base::packet::Family;
 use nf_base::seq::Seq;
 

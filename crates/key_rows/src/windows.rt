@@ -2,7 +2,7 @@
 ghost use Rattle.std.specs.Prelude.{◌≡◌, ◌+◌, ◌*◌, ◌<◌, ◌≤◌, ℕ, IsTrue, IfOk, false, length, slice_index};
 ghost use Rattle.nf_base.specs.declared.keys.Keys.{Keys};
 ghost use Rattle.key_rows.specs.Classes.{width_at, end_at};
-ghost use Rattle.hash_fields.specs.Hashed.{address_width};
+ghost use Rattle.nf_base.specs.Hashed.{address_width};
 ghost use Rattle.key_rows.specs.Rows.{IsWithinAt, AreWindowsOf, IsRowOf, numbered_bit, window_at};
 
 use crate::classes::classes_of;

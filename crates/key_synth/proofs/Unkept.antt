@@ -12,7 +12,7 @@ use Rattle.nf_sites.proofs.Lists.{from_map, to_map}
 use Rattle.access_keys.specs.declared.site.Site.{Site}
 use Rattle.access_keys.specs.Told.{site_told}
 use Rattle.shard_rules.specs.declared.rule.Rule.{Rule}
-use Rattle.shard_rules.specs.declared.plan.Standing.TheVariants.{ReadOnly, Unused}
+use Rattle.shard_rules.specs.declared.plan.ObjectVerdict.TheVariants.{ReadOnly, Unused}
 use Rattle.shard_rules.specs.Sites.{object_sites}
 use Rattle.shard_rules.specs.Rules.{kept_labels, rule_of}
 use Rattle.shard_rules.specs.Plans.{is_any, ruled, standing}

@@ -4,8 +4,8 @@ use Rattle.nf_base.specs.declared.card.Card.{Card}
 use Rattle.nf_base.specs.declared.decl.ObjectId.{ObjectId}
 use Rattle.nf_base.specs.Text.{Function}
 use Rattle.shard_rules.specs.declared.rule.Rule.{Rule}
-use Rattle.shard_rules.specs.declared.plan.Standing.{Standing}
-use Rattle.shard_rules.specs.declared.plan.Standing.TheVariants.{ReadOnly, Unused, Ruled}
+use Rattle.shard_rules.specs.declared.plan.ObjectVerdict.{ObjectVerdict}
+use Rattle.shard_rules.specs.declared.plan.ObjectVerdict.TheVariants.{ReadOnly, Unused, Ruled}
 use Rattle.shard_rules.specs.Served.{own_plan}
 use Rattle.key_synth.specs.declared.verdict.Cause.{Cause}
 use Rattle.key_synth.specs.declared.verdict.Cause.TheVariants as cause
@@ -20,20 +20,21 @@ rule_if_none rule [] = Some rule
 rule_if_none rule (l ∷ ls) = None
 
 -- the rule of a written object that has sites and keeps no label
-abbrev pub unkept_rule : Standing → Option Rule
+abbrev pub unkept_rule : ObjectVerdict → Option Rule
 unkept_rule ReadOnly = None
 unkept_rule Unused = None
 unkept_rule (Ruled rule kept) = rule_if_none rule kept
 
 -- No object before a number is such a one.
-pub record AreKeptBefore (standings : List Standing) (n : ℕ) : Type 0 where
-  pub none : (i : ℕ) (s : Standing) → i < n → slice_get standings i ≡ Some s → unkept_rule s ≡ None
+pub record AreKeptBefore (standings : List ObjectVerdict) (n : ℕ) : Type 0 where
+  pub none : (i : ℕ) (s : ObjectVerdict) → i < n → slice_get standings i ≡ Some s →
+      unkept_rule s ≡ None
 
 -- an object is the first such one of a function's, with its rule
-pub record IsFirstUnkept (objects : List ObjectId) (standings : List Standing)
+pub record IsFirstUnkept (objects : List ObjectId) (standings : List ObjectVerdict)
     (object : ObjectId) (rule : Rule) : Type 0 where
   pub i : ℕ
-  pub standing : Standing
+  pub standing : ObjectVerdict
   pub there : slice_get objects i ≡ Some object
   pub stands : slice_get standings i ≡ Some standing
   pub unkept : unkept_rule standing ≡ Some rule
@@ -41,7 +42,7 @@ pub record IsFirstUnkept (objects : List ObjectId) (standings : List Standing)
 
 -- The cause is the first written object in text order that has sites and keeps no label, with its
 -- rule, or the hash where each keeps one.
-abbrev pub IsCause : List ObjectId → List Standing → Cause → Type 0
+abbrev pub IsCause : List ObjectId → List ObjectVerdict → Cause → Type 0
 IsCause objects standings (cause.Object object rule) = IsFirstUnkept objects standings object rule
 IsCause objects standings cause.Hash = AreKeptBefore standings (length standings)
 

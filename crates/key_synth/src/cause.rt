@@ -4,20 +4,20 @@ ghost use Rattle.key_synth.specs.Verdicts.{unkept_rule, IsCause};
 
 use crate::verdict::Cause;
 use nf_base::decl::ObjectId;
-use shard_rules::{Rule, Standing};
+use shard_rules::{ObjectVerdict, Rule};
 
 /// The rule of an object that has sites and keeps no label.
-fn unkept_rule(standing: &Standing) -> Option<Rule>
+fn unkept_rule(standing: &ObjectVerdict) -> Option<Rule>
     ensures { result ≡ unkept_rule standing.now }
 {
     match standing {
-        Standing::ReadOnly | Standing::Unused => None,
-        Standing::Ruled { rule, kept } => { if kept.len() == 0 { Some(*rule) } else { None } }
+        ObjectVerdict::ReadOnly | ObjectVerdict::Unused => None,
+        ObjectVerdict::Ruled { rule, kept } => { if kept.len() == 0 { Some(*rule) } else { None } }
     }
 }
 
 /// The cause, by what each of a function's objects comes to.
-pub fn cause(objects: &[ObjectId], standings: &[Standing]) -> Cause
+pub fn cause(objects: &[ObjectId], standings: &[ObjectVerdict]) -> Cause
     requires { length objects.now ≡ length standings.now }
     ensures { IsCause objects.now standings.now result }
 {

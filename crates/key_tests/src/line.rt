@@ -1,7 +1,7 @@
 //! The objects of one line, and their keys.
-use hash_fields::Hashable;
 use key_rows::{Object, Place, nearest_keys};
 use nf_base::card::{Card, KeySize, TableSize};
+use nf_base::hash_fields::Hashable;
 use nf_base::keys::Keys;
 use nf_base::packet::Family;
 use nf_base::seq::Seq;

@@ -15,7 +15,7 @@ pub fn open<
     R: Threads + Wait + Clone + Send + Sync + Drop + 'static,
     G: Turns + Send + Sync + Drop + 'static,
 >(rt: &R, alloc: Global, size: usize, turns: &Arc<G>) -> Result<Line<G>, AllocError>
-    ensures { IfOk result (λ line. length line.places ≡ 2) }
+    ensures { IfOk result (λ line. length line.queue_workers ≡ 2) }
 {
     let func = policer(alloc)?;
     Line::start(rt, alloc, &func, Workers::new(2), size, turns)
@@ -29,8 +29,8 @@ pub fn send<R: Wait, G: Turns + Drop>(
     packet: &Packet,
     count: u32,
 ) -> u32
-    requires { queue < length line.old.places }
-    ensures { length line.new.places ≡ length line.old.places }
+    requires { queue < length line.old.queue_workers }
+    ensures { length line.new.queue_workers ≡ length line.old.queue_workers }
 {
     let mut sent = 0u32;
     for _ in 0..count {
@@ -44,7 +44,7 @@ pub fn send<R: Wait, G: Turns + Drop>(
 
 /// Sends seven packets to both queues; the sixth finds no index left.
 pub fn send_seven<R: Wait, G: Turns + Drop>(rt: &R, line: &mut Line<G>)
-    requires { length line.old.places ≡ 2 }
+    requires { length line.old.queue_workers ≡ 2 }
 {
     send(rt, line, 1, &packet(0, 0, 0x8000_0001), 1);
     send(rt, line, 0, &packet(1, 1, 0x0a00_0001), 1);
@@ -109,7 +109,7 @@ pub fn alike<R: Wait, G: Turns + Drop>(
 /// Collects what is left, and tells how many answers there were of each queue, and whether they came in
 /// the order of their numbers.
 pub fn collect<R: Wait, G: Turns + Drop>(rt: &R, line: &mut Line<G>) -> (u32, u32, bool)
-    ensures { length line.new.places ≡ length line.old.places }
+    ensures { length line.new.queue_workers ≡ length line.old.queue_workers }
 {
     let mut near = 0u32;
     let mut far = 0u32;

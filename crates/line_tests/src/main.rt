@@ -11,7 +11,7 @@ use lanes::{await_next, open, open_beside, send};
 use meeting::Meeting;
 use nf_base::done::Done;
 use policer::packet;
-use ring_line::{AnswerRef, Idle, Next, Place, Turns};
+use ring_line::{AnswerRef, Idle, Next, QueueWorker, Turns};
 use short_answers::{Told, plain};
 use std::io;
 use std::sync::{Arc, Wait};
@@ -43,7 +43,7 @@ fn tell_answer(rt: &HostRuntime, answer: AnswerRef<'_>) -> io::Result<()> {
 fn tell_next<R: Wait, G: Turns + Drop>(
     rt: &HostRuntime,
     waits: &R,
-    lane: &mut Place<G>,
+    lane: &mut QueueWorker<G>,
 ) -> io::Result<()> {
     match await_next(waits, lane) {
         Next::Ready => {
@@ -62,7 +62,7 @@ fn tell_next<R: Wait, G: Turns + Drop>(
 fn tell_some<R: Wait, G: Turns + Drop>(
     rt: &HostRuntime,
     waits: &R,
-    lane: &mut Place<G>,
+    lane: &mut QueueWorker<G>,
     n: u32,
 ) -> io::Result<()> {
     for _ in 0..n {
@@ -75,7 +75,7 @@ fn tell_some<R: Wait, G: Turns + Drop>(
 fn tell_five<R: Threads + Wait, G: Turns + Drop>(
     rt: &HostRuntime,
     threads: &R,
-    lane: Place<G>,
+    lane: QueueWorker<G>,
 ) -> io::Result<()> {
     let mut lane = lane;
     let packets = [

@@ -6,7 +6,7 @@ ghost use Rattle.nf_base.specs.Functions.{function_of};
 use crate::gates::Shut;
 use lock_core::is_served;
 use lock_mode::{Gate, PackGate};
-use lock_workers::{Idle, Worked, run};
+use lock_workers::{Idle, RunResult, run};
 use nf_base::func::Func;
 use nf_base::packet::Packet;
 use std::alloc::{AllocError, Global};
@@ -36,7 +36,7 @@ fn work_by<R: Threads + Wait + Sync, G: Gate + Drop + Send>(
     workers: u32,
     packets: &[Packet],
     gate: &mut G,
-) -> Result<Option<Worked>, AllocError> {
+) -> Result<Option<RunResult>, AllocError> {
     let ports = func.handlers.len();
     if workers == 0 || packets.len() > 4_294_967_296 {
         return Ok(None);
@@ -58,7 +58,7 @@ pub fn work<R: Threads + Wait + Sync>(
     func: &Func,
     workers: u32,
     packets: &[Packet],
-) -> Result<Option<Worked>, AllocError> {
+) -> Result<Option<RunResult>, AllocError> {
     if workers == 0 {
         work_by(rt, alloc, func, 1, packets, &mut Shut::new())
     } else {

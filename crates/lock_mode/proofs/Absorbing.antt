@@ -11,7 +11,7 @@ use Rattle.vig_tables.specs.TablesState.{TablesState}
 use Rattle.lock_core.specs.declared.call.Entry.{Entry}
 use Rattle.lock_core.specs.Events.{ComesTo}
 use Rattle.lock_core.proofs.Going.{comes_split}
-use Rattle.lock_mode.specs.Sides.{RanTo, IsNext}
+use Rattle.lock_mode.specs.TableCopies.{RanTo, IsNext}
 use Rattle.lock_mode.proofs.Fronts.{prefix_shorter, prefix_whole, prefix_length}
 
 -- of two beginnings of one history, of which one has one entry more, the longer one is the other with

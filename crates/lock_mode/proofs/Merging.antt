@@ -31,7 +31,7 @@ use Rattle.lock_log.specs.declared.order.Turn.{Turn}
 use Rattle.lock_log.specs.Turns.{call_of, in_turn, AreThere}
 use Rattle.lock_log.proofs.Turning.{turn_pushed, there_pushed}
 use Rattle.lock_mode.specs.Seats.{SeatState, entry_of, IsMadeBy, AreMade, AreAll}
-use Rattle.lock_mode.specs.Sides.{RanTo}
+use Rattle.lock_mode.specs.TableCopies.{RanTo}
 use Rattle.lock_mode.specs.Closing.{IsOrder, IsClosed}
 use Rattle.lock_mode.specs.Merging.{HaveSeen, IsMerged, calls_each, AreTurns, AreTaken, IsBehind, AreMerged}
 use Rattle.lock_mode.proofs.Fronts.{prefix_get, prefix_length}
@@ -94,16 +94,16 @@ merged_more : (f : Function) (all : List Entry) (seats : List SeatState) (order 
     → slice_get seats at ≡ Some s → n ≡ get_or taken at 0 → slice_get s.calls n ≡ Some c → c.place ≡ entries → step f m.state c.packet c.done.picks ≡ Some (record { state = u; done = c.done })
     → history (order ++ taken_call at c ∷ []) ≡ take new all → new ≤ length all → ComesTo f (history (order ++ taken_call at c ∷ [])) u
     → IsMerged f all seats (order ++ taken_call at c ∷ []) (set taken at (n + 1)) new
-merged_more f all seats order taken entries new at n s c u m here is call due stepped front within comes =
+merged_more f all seats order taken entries new at n s c u m here is call due stepped prefix within comes =
     let x : Ordered = taken_call at c in
-    let long : length (history order) ≡ c.place = ap length m.front ∙ (length-take-le entries all m.within ∙ sym due) in
+    let long : length (history order) ≡ c.place = ap length m.prefix ∙ (length-take-le entries all m.within ∙ sym due) in
     let call_is : call_at (length (history order)) x ≡ c = ap (λ (j : ℕ). call_at j x) long in
     let at_within = slice_get_within seats at s here in
     record {
       state = u;
       runs = runs_more f order x m.state u m.runs stepped;
       comes = comes;
-      front = front;
+      prefix = prefix;
       within = within;
       many = length-set taken at (n + 1) ∙ m.many;
       calls = λ k seat there.
@@ -122,19 +122,19 @@ put_case : (w : Way) (f : Function) (all : List Entry) (seats : List SeatState) 
     → IsMerged f all seats (order ++ taken_call at c ∷ []) (set taken at (n + 1)) new
 put_case Look f all seats order taken entries new at n s c m w here is call due seen made behind =
     let x : Ordered = taken_call at c in
-    let before : take c.place s.seen ≡ history order = sym (take_prefix s.seen all c.place seen made.0) ∙ (ap (λ (k : ℕ). take k all) due ∙ sym m.front) in
+    let before : take c.place s.seen ≡ history order = sym (take_prefix s.seen all c.place seen made.0) ∙ (ap (λ (k : ℕ). take k all) due ∙ sym m.prefix) in
     let look = made.1 in
     let same : look.state ≡ m.state = comes_once f (history order) look.state m.state (subst (λ (es : List Entry). ComesTo f es look.state) before look.comes) m.comes in
     let none : c.done.picks ≡ [] = steps_pick never f look.state c.packet [] (record { state = look.state; done = c.done }) look.steps in
     let stepped : step f m.state c.packet c.done.picks ≡ Some (record { state = m.state; done = c.done }) = ap (step f m.state c.packet) none ∙ subst (λ (z : State). step f z c.packet [] ≡ Some (record { state = z; done = c.done })) same look.steps in
     let stays : history (order ++ x ∷ []) ≡ history order = grown order x ∙ left_by_look (history order) x w in
     merged_more f all seats order taken entries new at n s c m.state m here is call due stepped
-    (stays ∙ (m.front ∙ ap (λ (k : ℕ). take k all) (sym behind))) (omega (arith, behind, m.within))
+    (stays ∙ (m.prefix ∙ ap (λ (k : ℕ). take k all) (sym behind))) (omega (arith, behind, m.within))
     (subst (λ (es : List Entry). ComesTo f es m.state) (sym stays) m.comes)
 put_case Alone f all seats order taken entries new at n s c m w here is call due seen made behind =
     let x : Ordered = taken_call at c in
     let within = slice_get_within s.seen c.place _ made.0 in
-    let before : take c.place s.seen ≡ history order = sym (take_prefix s.seen all c.place seen (omega (arith, within))) ∙ (ap (λ (k : ℕ). take k all) due ∙ sym m.front) in
+    let before : take c.place s.seen ≡ history order = sym (take_prefix s.seen all c.place seen (omega (arith, within))) ∙ (ap (λ (k : ℕ). take k all) due ∙ sym m.prefix) in
     let one = made.1 in
     let e : Entry = entry_of at (take c.place s.seen) c.packet c.done in
     let there : slice_get all entries ≡ Some e = ap (slice_get all) (sym due) ∙ prefix_get s.seen all c.place e seen made.0 in
@@ -144,8 +144,8 @@ put_case Alone f all seats order taken entries new at n s c m w here is call due
     let stepped : step f m.state c.packet c.done.picks ≡ Some (record { state = one.next; done = c.done }) = subst (λ (z : State). step f z c.packet c.done.picks ≡ Some (record { state = one.next; done = c.done })) same one.steps in
     let next : entry_behind (history order) x ≡ e = ap (λ (es : List Entry). entry_of at es c.packet c.done) (sym before) in
     let grows : history (order ++ x ∷ []) ≡ history order ++ e ∷ [] = grown order x ∙ (grown_by_alone (history order) x w ∙ ap (λ (z : Entry). history order ++ z ∷ []) next) in
-    let front : history (order ++ x ∷ []) ≡ take new all = grows ∙ (ap (λ (es : List Entry). es ++ e ∷ []) m.front ∙ (sym (take_get all entries e there) ∙ ap (λ (k : ℕ). take k all) (sym now))) in
-    merged_more f all seats order taken entries new at n s c one.next m here is call due stepped front (omega (arith, now, room))
+    let prefix : history (order ++ x ∷ []) ≡ take new all = grows ∙ (ap (λ (es : List Entry). es ++ e ∷ []) m.prefix ∙ (sym (take_get all entries e there) ∙ ap (λ (k : ℕ). take k all) (sym now))) in
+    merged_more f all seats order taken entries new at n s c one.next m here is call due stepped prefix (omega (arith, now, room))
     (subst (λ (es : List Entry). ComesTo f es one.next) (sym grows) (comes_more f (history order) e m.state one.next m.comes stepped))
 
 pub put_more : (f : Function) (all : List Entry) (seats : List SeatState) (order : List Ordered) (taken : List ℕ) (entries new at n count : ℕ) (s : SeatState) (c : Call) → IsMerged f all seats order taken entries → AreAll count seats → HaveSeen seats all (length seats)
@@ -165,7 +165,7 @@ merged_none f all seats order taken none zeros = rw (none, zeros) (record {
   state = opening f;
   runs = refl;
   comes = comes_none f;
-  front = refl;
+  prefix = refl;
   within = omega arith;
   many = length-replicate (length seats) 0;
   calls = λ k seat there. ap (λ (j : ℕ). take j seat.calls) (sym (get_or-replicate (length seats) k 0 0 (slice_get_within seats k seat there)));
@@ -174,7 +174,7 @@ merged_none f all seats order taken none zeros = rw (none, zeros) (record {
 
 pub merged_all : (f : Function) (all : List Entry) (seats : List SeatState) (order : List Ordered) (taken : List ℕ) (entries : ℕ) → IsMerged f all seats order taken entries → HaveSeen seats all (length seats) → entries ≡ length all → AreTaken seats taken (length seats) → AreMerged f all seats order
 merged_all f all seats order taken entries m seen whole every =
-    let is : history order ≡ all = m.front ∙ take_all entries all (omega (arith, whole)) in
+    let is : history order ≡ all = m.prefix ∙ take_all entries all (omega (arith, whole)) in
     record {
       state = m.state;
       comes = subst (λ (es : List Entry). ComesTo f es m.state) is m.comes;

@@ -8,7 +8,7 @@ use Rattle.nf_base.specs.Runs.{RunResult}
 use Rattle.vig_tables.specs.TablesState.{TablesState, opened_tables}
 use Rattle.lock_core.proofs.Going.{comes_none, comes_once}
 use Rattle.lock_mode.specs.Seats.{SeatState}
-use Rattle.lock_mode.specs.Sides.{RanTo}
+use Rattle.lock_mode.specs.TableCopies.{RanTo}
 use Rattle.lock_mode.specs.declared.opening.Opened.{Opened}
 use Rattle.lock_mode.specs.declared.opening.Opened.TheVariants.{Many, OneSeat}
 use Rattle.lock_mode.specs.Opening.{IsNew, AreNew, AreOpening, IfOneSeat}

@@ -3,8 +3,8 @@ use Rattle.std.proofs.Common.{◌≡◌, ℕ, ◌+◌, ◌≤◌, ◌==◌, ◌&
 use Rattle.std.proofs.lemmas.Bool.{eq-eqb}
 use Rattle.left_right.specs.Register.{TurnsAt}
 use Rattle.lock_core.specs.declared.call.Entry.{Entry}
-use Rattle.lock_mode.specs.Sides.{after, Sees}
-use Rattle.lock_mode.specs.Sides.{Rises}
+use Rattle.lock_mode.specs.TableCopies.{after, Sees}
+use Rattle.lock_mode.specs.TableCopies.{Rises}
 use Rattle.lock_mode.proofs.Rising.{sees}
 
 -- what is published behind an operation that brings one entry more

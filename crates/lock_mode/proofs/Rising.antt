@@ -5,7 +5,7 @@ use lib.ListN.{get_elem?}
 use Rattle.left_right.specs.Register.{Admits, TurnsAt}
 use Rattle.atomic_table.proofs.Lists.{at_set, at_snoc}
 use Rattle.lock_core.specs.declared.call.Entry.{Entry}
-use Rattle.lock_mode.specs.Sides.{Rises, Sees}
+use Rattle.lock_mode.specs.TableCopies.{Rises, Sees}
 
 pub admits : Admits Rises 0
 admits x views h = (h.0, λ seat v at. ⊎_elim (λ (t : get_elem? views seat ≡ some v). h.1 seat v t) (λ (e : 0 ≡ v). subst (λ (z : ℕ). z ≤ length x.0) e zero-le) (at_snoc views 0 v seat at))

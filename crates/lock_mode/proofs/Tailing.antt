@@ -15,8 +15,8 @@ use Rattle.lock_core.specs.declared.call.Entry.{Entry}
 use Rattle.lock_core.specs.Calls.{count_of}
 use Rattle.lock_core.specs.Events.{ComesTo, IsStep}
 use Rattle.lock_core.proofs.Going.{comes_more}
-use Rattle.lock_mode.specs.Sides.{RanTo, IsNext}
-use Rattle.lock_mode.specs.Tails.{AreCounts, IsTail}
+use Rattle.lock_mode.specs.TableCopies.{RanTo, IsNext}
+use Rattle.lock_mode.specs.HistoryEnds.{AreCounts, IsHistoryEnd}
 
 count_case : (own : Bool) (seat : ℕ) (es : List Entry) (e : Entry) → (e.seat == seat) ≡ own → length (filter (λ (x : Entry). x.seat == seat) es ++ cond own (e ∷ []) []) ≡ (cond own (count_of seat es + 1) (count_of seat es))
 count_case true seat es e q = length-append (filter (λ (x : Entry). x.seat == seat) es) (e ∷ [])
@@ -76,8 +76,8 @@ pub is_next : (f : Function) (u : TablesState) (es new : List Entry) (e : Entry)
 is_next f u es new e is port served ran = record { before = es; ends = is; port = port; served = served; state = u.state; comes = ran.comes }
 
 -- an empty history's end
-pub opens_tail : (f g : Function) (seats n : ℕ) (t : TablesState) (front : List Entry) (counts : List ℕ) → g ≡ f → RanTo f t [] → front ≡ [] → n ≡ seats → counts ≡ replicate n 0 → IsTail f g seats t front counts
-opens_tail f g seats n t front counts same ran empty each zeros = record {
+pub opens_history_end : (f g : Function) (seats n : ℕ) (t : TablesState) (prefix : List Entry) (counts : List ℕ) → g ≡ f → RanTo f t [] → prefix ≡ [] → n ≡ seats → counts ≡ replicate n 0 → IsHistoryEnd f g seats t prefix counts
+opens_history_end f g seats n t prefix counts same ran empty each zeros = record {
   same = same;
   each = ap length zeros ∙ length-replicate n 0 ∙ each;
   ran = subst (RanTo f t) (sym empty) ran;

@@ -1,6 +1,6 @@
 pub mod Books
-pub mod Sides
-pub mod Tails
+pub mod TableCopies
+pub mod HistoryEnds
 pub mod Alone
 pub mod Gates
 pub mod Looks

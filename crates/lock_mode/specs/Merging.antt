@@ -29,7 +29,7 @@ pub record IsMerged (f : Function) (all : List Entry) (seats : List SeatState)
   pub state : State
   pub runs : Runs f order state
   pub comes : ComesTo f (history order) state
-  pub front : history order ≡ take entries all
+  pub prefix : history order ≡ take entries all
   pub within : entries ≤ length all
   pub many : length taken ≡ length seats
   pub calls : (k : ℕ) (seat : SeatState) → slice_get seats k ≡ Some seat →

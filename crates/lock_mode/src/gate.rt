@@ -1,10 +1,10 @@
 //! The ways into the published tables, each of which may refuse.
 ghost use Rattle.std.specs.Prelude.{◌≡◌};
 
-use crate::book::Naming;
+use crate::history_counter::Naming;
 use crate::opening::{MakeFault, TablePair, readers_of};
 use crate::rule::{Seeing, TableEntry, TableReader};
-use crate::side::Side;
+use crate::table_copy::TableCopy;
 use left_right::writer::Writer;
 use std::alloc::Global;
 use std::sync::Wait;
@@ -17,7 +17,7 @@ pub trait Gate: Sized {
     ghost use Rattle.lock_mode.specs.declared.opening.MakeFault.TheVariants.{Refused};
     ghost use Rattle.left_right.specs.Sides.{view};
     ghost use Rattle.lock_mode.specs.Gates.{Rose};
-    ghost use Rattle.lock_mode.specs.Sides.{Sees};
+    ghost use Rattle.lock_mode.specs.TableCopies.{Sees};
 
     /// How often it refused, at most 2^64 - 1.
     ghost refused: { Self → ℕ };
@@ -42,8 +42,8 @@ pub trait Gate: Sized {
         &mut self,
         rt: &R,
         alloc: Global,
-        first: Side<J>,
-        second: Side<J>,
+        first: TableCopy<J>,
+        second: TableCopy<J>,
         seats: u32,
     ) -> Result<TablePair<J>, MakeFault>
         requires opens { first ≡ ([], true) }
@@ -97,8 +97,8 @@ impl Gate for PackGate {
         &mut self,
         rt: &R,
         alloc: Global,
-        first: Side<J>,
-        second: Side<J>,
+        first: TableCopy<J>,
+        second: TableCopy<J>,
         seats: u32,
     ) -> Result<TablePair<J>, MakeFault> {
         let Ok(writer) = Writer::new(alloc, first, second, seats as usize) else {
@@ -107,7 +107,7 @@ impl Gate for PackGate {
         match readers_of(alloc, &writer, seats) {
             Ok(readers) => Ok(TablePair { writer, readers }),
             Err(fault) => {
-                let _side = writer.take(rt);
+                let _table_copy = writer.take(rt);
                 if fault == MakeFault::Refused {
                     self.refused = self.refused.saturating_add(1);
                 }

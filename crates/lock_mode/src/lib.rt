@@ -1,24 +1,24 @@
 //! Seats that share the tables of one function.
 #![tactic(auto)]
 
-mod book;
-mod desk;
 mod gate;
-mod looked;
+mod history_counter;
+mod history_end;
+mod look_result;
 mod merge;
 mod opening;
+mod publisher;
 mod rule;
 mod seat;
+mod seat_reader;
 mod shared;
-mod side;
-mod tail;
-mod viewer;
+mod table_copy;
 
-pub use book::{Blank, Book, Front, Naming};
 pub use gate::{Gate, PackGate};
-pub use looked::Looked;
+pub use history_counter::{HistoryCounter, Naming, NewCounter, SeenHistory};
+pub use look_result::LookResult;
 pub use opening::{MakeFault, Opened, TablePair};
 pub use rule::{TableEntry, TableReader, TableWriter};
 pub use seat::Seat;
 pub use shared::{CloseRefused, Closed, Published, Shared};
-pub use side::Side;
+pub use table_copy::TableCopy;

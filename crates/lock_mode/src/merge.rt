@@ -5,8 +5,8 @@ ghost use Rattle.lock_log.specs.Turns.{in_turn, AreThere};
 ghost use Rattle.lock_mode.specs.Seats.{AreAll};
 ghost use Rattle.lock_mode.specs.Merging.{HaveSeen, AreTurns, AreTaken, IsBehind, AreMerged, calls_each};
 
-use crate::book::{Front, Naming};
 use crate::gate::Gate;
+use crate::history_counter::{Naming, SeenHistory};
 use crate::seat::Seat;
 use lock_core::Way;
 use lock_log::{CallLog, Turn};
@@ -53,7 +53,7 @@ impl Merge {
     fn new<J: Naming, G: Gate + Drop>(
         alloc: Global,
         seats: &[Seat<J, G>],
-        all: &Front<J>,
+        all: &SeenHistory<J>,
     ) -> Result<Merge, AllocError>
         ensures { IfOk result (λ merge. AreTurns J.function all.now seats.now
             merge.turns.items merge.taken.items merge.entries) }
@@ -99,7 +99,7 @@ impl Merge {
     fn put<J: Naming, G: Gate + Drop>(
         &mut self,
         seats: &[Seat<J, G>],
-        all: &Front<J>,
+        all: &SeenHistory<J>,
         at: usize,
     ) -> Result<bool, AllocError>
         requires within { at < length seats.now }
@@ -132,7 +132,7 @@ impl Merge {
     fn put_all<J: Naming, G: Gate + Drop>(
         &mut self,
         seats: &[Seat<J, G>],
-        all: &Front<J>,
+        all: &SeenHistory<J>,
     ) -> Result<(), AllocError>
         requires numbered { AreAll J.seats seats.now }
         requires seen { HaveSeen seats.now all.now (length seats.now) }
@@ -168,7 +168,11 @@ impl Merge {
     }
 
     /// Whether all calls of all seats and all entries of the history stand in the order.
-    fn is_whole<J: Naming, G: Gate + Drop>(&self, seats: &[Seat<J, G>], all: &Front<J>) -> bool
+    fn is_whole<J: Naming, G: Gate + Drop>(
+        &self,
+        seats: &[Seat<J, G>],
+        all: &SeenHistory<J>,
+    ) -> bool
         requires { length self.now.taken.items ≡ length seats.now }
         ensures { OnTrue result ((self.now.entries ≡ length all.now)
             × AreTaken seats.now self.now.taken.items (length seats.now)) }
@@ -180,7 +184,7 @@ impl Merge {
     fn into_turns<J: Naming, G: Gate + Drop>(
         self,
         seats: &[Seat<J, G>],
-        all: &Front<J>,
+        all: &SeenHistory<J>,
     ) -> Result<Vec<Turn>, AllocError>
         requires seen { HaveSeen seats.now all.now (length seats.now) }
         requires merged { AreTurns J.function all.now seats.now
@@ -207,7 +211,7 @@ impl Merge {
 pub(crate) fn merged<J: Naming, G: Gate + Drop>(
     alloc: Global,
     seats: &[Seat<J, G>],
-    all: &Front<J>,
+    all: &SeenHistory<J>,
 ) -> Result<Vec<Turn>, AllocError>
     requires numbered { AreAll J.seats seats.now }
     requires seen { HaveSeen seats.now all.now (length seats.now) }

@@ -4,13 +4,13 @@ ghost use Rattle.nf_base.specs.Functions.{function_of};
 ghost use Rattle.lock_mode.specs.Gates.{Rose};
 ghost use Rattle.lock_mode.specs.Opening.{IfMany, IfOneSeat, AreNew, AreOpening};
 
-use crate::book::{Book, Front, Naming};
 use crate::gate::Gate;
+use crate::history_counter::{HistoryCounter, Naming, SeenHistory};
+use crate::history_end::HistoryEnd;
 use crate::rule::{Rising, TableReader, TableWriter};
 use crate::seat::Seat;
 use crate::shared::Shared;
-use crate::side::{Op, Side};
-use crate::tail::Tail;
+use crate::table_copy::{Op, TableCopy};
 use crossbeam_utils::rule::Protocol;
 use left_right::Absorb;
 use nf_base::func::Func;
@@ -34,8 +34,8 @@ pub enum MakeFault {
 /// The writer of published tables, and their readers. It is not `Drop`.
 pub struct TablePair<J: Naming>
 where
-    Side<J>: Absorb<Op<J>>,
-    Rising: Protocol<Side<J>, u64>,
+    TableCopy<J>: Absorb<Op<J>>,
+    Rising: Protocol<TableCopy<J>, u64>,
 {
     pub writer: TableWriter<J>,
     pub readers: Vec<TableReader<J>>,
@@ -70,62 +70,66 @@ pub enum Opened<S, T> {
 }
 
 /// A copy of the opening tables.
-fn side_of<J: Naming>(alloc: Global, func: &Func, front: &Front<J>) -> Result<Side<J>, AllocError>
+fn table_copy_of<J: Naming>(
+    alloc: Global,
+    func: &Func,
+    prefix: &SeenHistory<J>,
+) -> Result<TableCopy<J>, AllocError>
     requires function { function_of func.now ≡ J.function }
-    requires empty { front.now ≡ [] }
-    ensures { IfOk result (λ side. side ≡ ([], true)) }
+    requires empty { prefix.now ≡ [] }
+    ensures { IfOk result (λ table_copy. table_copy ≡ ([], true)) }
 {
     let tables = Tables::new(alloc, func, WHOLE)?;
     let func = func.copy(alloc)?;
-    Ok(Side::opening(func, tables, front.again()))
+    Ok(TableCopy::opening(func, tables, prefix.again()))
 }
 
 /// The end of an empty history.
-fn tail_of<J: Naming>(
+fn history_end_of<J: Naming>(
     alloc: Global,
     func: &Func,
-    front: &Front<J>,
+    prefix: &SeenHistory<J>,
     seats: u32,
-) -> Result<Tail<J>, AllocError>
+) -> Result<HistoryEnd<J>, AllocError>
     requires function { function_of func.now ≡ J.function }
-    requires empty { front.now ≡ [] }
+    requires empty { prefix.now ≡ [] }
     requires seats { J.seats ≡ seats }
-    ensures { IfOk result (λ tail. tail ≡ []) }
+    ensures { IfOk result (λ history_end. history_end ≡ []) }
 {
     let tables = Tables::new(alloc, func, WHOLE)?;
     let func = func.copy(alloc)?;
-    Tail::opening(alloc, func, tables, front.again(), seats)
+    HistoryEnd::opening(alloc, func, tables, prefix.again(), seats)
 }
 
 /// Two copies of the opening tables to be published, and the end of an empty history.
 #[derive(Drop)]
 pub(crate) struct Copies<J: Naming> {
-    first: Side<J>,
-    second: Side<J>,
-    tail: Tail<J>,
+    first: TableCopy<J>,
+    second: TableCopy<J>,
+    history_end: HistoryEnd<J>,
 }
 
 /// Copies of a function's opening tables.
 pub(crate) fn copies_of<J: Naming>(
     alloc: Global,
     func: &Func,
-    front: &Front<J>,
+    prefix: &SeenHistory<J>,
     seats: u32,
 ) -> Result<Copies<J>, AllocError>
     requires function { function_of func.now ≡ J.function }
-    requires empty { front.now ≡ [] }
+    requires empty { prefix.now ≡ [] }
     requires seats { J.seats ≡ seats }
     ensures first { IfOk result (λ copies. copies.first ≡ ([], true)) }
     ensures second { IfOk result (λ copies. copies.second ≡ ([], true)) }
-    ensures tail { IfOk result (λ copies. copies.tail ≡ []) }
+    ensures history_end { IfOk result (λ copies. copies.history_end ≡ []) }
 {
-    let first = side_of(alloc, func, front)?;
-    let second = side_of(alloc, func, front)?;
-    let tail = tail_of(alloc, func, front, seats)?;
+    let first = table_copy_of(alloc, func, prefix)?;
+    let second = table_copy_of(alloc, func, prefix)?;
+    let history_end = history_end_of(alloc, func, prefix, seats)?;
     Ok(Copies {
         first,
         second,
-        tail,
+        history_end,
     })
 }
 
@@ -133,11 +137,11 @@ pub(crate) fn copies_of<J: Naming>(
 fn seats_of<J: Naming, G: Gate + Drop>(
     alloc: Global,
     gate: &G,
-    front: &Front<J>,
+    prefix: &SeenHistory<J>,
     readers: Vec<TableReader<J>>,
     seats: u32,
 ) -> Result<Vec<Seat<J, G>>, AllocError>
-    requires empty { front.now ≡ [] }
+    requires empty { prefix.now ≡ [] }
     requires seats { J.seats ≡ seats }
     requires each { length readers.items ≡ seats }
     ensures { IfOk result (λ all. AreNew J.seats all.items) }
@@ -148,7 +152,7 @@ fn seats_of<J: Naming, G: Gate + Drop>(
         let Some(reader) = readers.pop() else {
             unreachable!()
         };
-        let seat = Seat::new(alloc, number, gate.seat(), front.again(), reader);
+        let seat = Seat::new(alloc, number, gate.seat(), prefix.again(), reader);
         all.push(seat)?;
     }
     Ok(all)
@@ -160,11 +164,11 @@ fn seated<J: Naming, G: Gate + Drop, R: Wait>(
     alloc: Global,
     gate: &G,
     pair: TablePair<J>,
-    tail: Tail<J>,
-    book: Book<J>,
+    history_end: HistoryEnd<J>,
+    book: HistoryCounter<J>,
     seats: u32,
 ) -> Result<Opened<Shared<J>, Vec<Seat<J, G>>>, AllocError>
-    requires empty { tail ≡ [] }
+    requires empty { history_end ≡ [] }
     requires seats { J.seats ≡ seats }
     requires same { pair.writer.desk.shown.value ≡ ([], true) }
     requires settled { drop pair.writer.behind pair.writer.log.items ≡ [] }
@@ -173,10 +177,10 @@ fn seated<J: Naming, G: Gate + Drop, R: Wait>(
     ensures several { IfOk result (λ opened. IfOneSeat opened (λ _. ⊥)) }
 {
     let TablePair { writer, readers } = pair;
-    match seats_of(alloc, gate, &tail.seen(), readers, seats) {
-        Ok(all) => Ok(Opened::Many(Shared::over(writer, tail, book), all)),
+    match seats_of(alloc, gate, &history_end.seen(), readers, seats) {
+        Ok(all) => Ok(Opened::Many(Shared::over(writer, history_end, book), all)),
         Err(refused) => {
-            let _side = writer.take(rt);
+            let _table_copy = writer.take(rt);
             Err(refused)
         }
     }
@@ -188,14 +192,14 @@ pub(crate) fn opened_by<J: Naming, G: Gate + Drop, R: Wait>(
     alloc: Global,
     gate: &mut G,
     copies: Copies<J>,
-    book: Book<J>,
+    book: HistoryCounter<J>,
     seats: u32,
 ) -> Result<Opened<Shared<J>, Vec<Seat<J, G>>>, AllocError>
     requires some { 0 < seats }
     requires seats { J.seats ≡ seats }
     requires first { copies.first ≡ ([], true) }
     requires second { copies.second ≡ ([], true) }
-    requires tail { copies.tail ≡ [] }
+    requires history_end { copies.history_end ≡ [] }
     ensures many { IfOk result (λ opened. IfMany opened (λ _ all. AreNew J.seats all.items)) }
     ensures tables { IfOk result (λ opened. IfOneSeat opened (λ tables.
         AreOpening J.function tables)) }
@@ -206,11 +210,11 @@ pub(crate) fn opened_by<J: Naming, G: Gate + Drop, R: Wait>(
     let Copies {
         first,
         second,
-        tail,
+        history_end,
     } = copies;
     match gate.make(rt, alloc, first, second, seats) {
-        Ok(pair) => seated(rt, alloc, gate, pair, tail, book, seats),
-        Err(MakeFault::Refused) => Ok(Opened::OneSeat(tail.into_tables())),
+        Ok(pair) => seated(rt, alloc, gate, pair, history_end, book, seats),
+        Err(MakeFault::Refused) => Ok(Opened::OneSeat(history_end.into_tables())),
         Err(MakeFault::Memory) => Err(AllocError),
     }
 }

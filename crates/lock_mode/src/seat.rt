@@ -9,11 +9,11 @@ ghost use Rattle.lock_mode.specs.Gates.{Rose};
 ghost use Rattle.lock_mode.specs.Looks.{IfDone, IfNeedsWrite, IfRefused};
 ghost use Rattle.lock_mode.specs.Seats.{AreMade};
 
-use crate::book::{Front, Naming};
 use crate::gate::Gate;
-use crate::looked::Looked;
+use crate::history_counter::{Naming, SeenHistory};
+use crate::look_result::LookResult;
 use crate::rule::TableReader;
-use crate::viewer::{Viewer, catch_up, look_by};
+use crate::seat_reader::{SeatReader, catch_up, look_by};
 use core::mem::replace_with;
 use lock_core::{Placed, Way};
 use lock_log::CallLog;
@@ -31,7 +31,7 @@ use std::sync::Wait;
 pub struct Seat<J: Naming, G: Gate + Drop> {
     number: u32,
     gate: G,
-    viewer: Viewer<J>,
+    seat_reader: SeatReader<J>,
     calls: CallLog,
 }
 
@@ -42,18 +42,18 @@ impl<J: Naming, G: Gate + Drop> Model for Seat<J, G> {
 
     ghost view = { λ s. record {
       number = s.number;
-      seen = s.viewer.front;
+      seen = s.seat_reader.prefix;
       calls = s.calls.calls;
       room = s.calls.room;
       refused = G.refused s.gate;
     } };
 
     ghost invariant = { λ s.
-        IsSeat J.function J.seats s.number s.viewer.front s.calls.calls };
+        IsSeat J.function J.seats s.number s.seat_reader.prefix s.calls.calls };
 }
 
 /// Appends a look that was done to the calls of a seat, which have room.
-fn add_look(calls: &mut CallLog, place: u64, packet: &Packet, looked: &Looked)
+fn add_look(calls: &mut CallLog, place: u64, packet: &Packet, looked: &LookResult)
     requires room { 0 < calls.old.room }
     ensures done { IfDone looked.now (λ done. calls.new.calls ≡ calls.old.calls
         ++ (record { way = way.Look; place = place; packet = packet.now; done = done }) ∷ []) }
@@ -62,14 +62,17 @@ fn add_look(calls: &mut CallLog, place: u64, packet: &Packet, looked: &Looked)
     ensures room { calls.old.room ≤ calls.new.room + 1 }
 {
     match looked {
-        Looked::Done(done) => calls.push(Way::Look, place, packet, done),
-        Looked::NeedsWrite => {}
-        Looked::Refused => {}
+        LookResult::Done(done) => calls.push(Way::Look, place, packet, done),
+        LookResult::NeedsWrite => {}
+        LookResult::Refused => {}
     }
 }
 
 /// A look by value.
-fn look_seat<J: Naming, G: Gate + Drop>(seat: Seat<J, G>, packet: &Packet) -> (Seat<J, G>, Looked)
+fn look_seat<J: Naming, G: Gate + Drop>(
+    seat: Seat<J, G>,
+    packet: &Packet,
+) -> (Seat<J, G>, LookResult)
     requires port { packet.now.id.port < length J.function.handlers }
     requires served { IsServed J.function packet.now }
     requires room { 0 < seat.room }
@@ -90,16 +93,16 @@ fn look_seat<J: Naming, G: Gate + Drop>(seat: Seat<J, G>, packet: &Packet) -> (S
     let Seat {
         number,
         mut gate,
-        viewer,
+        seat_reader,
         mut calls,
     } = seat;
-    let (viewer, looked) = look_by(&mut gate, viewer, packet);
-    add_look(&mut calls, viewer.front.len(), packet, &looked);
+    let (seat_reader, looked) = look_by(&mut gate, seat_reader, packet);
+    add_look(&mut calls, seat_reader.prefix.len(), packet, &looked);
     (
         Seat {
             number,
             gate,
-            viewer,
+            seat_reader,
             calls,
         },
         looked,
@@ -110,13 +113,13 @@ fn look_seat<J: Naming, G: Gate + Drop>(seat: Seat<J, G>, packet: &Packet) -> (S
 fn stand_seat<J: Naming, G: Gate + Drop, R: Wait>(
     rt: &R,
     seat: Seat<J, G>,
-    front: Front<J>,
+    prefix: SeenHistory<J>,
     packet: &Packet,
     placed: &Placed,
 ) -> (Seat<J, G>, ())
     requires room { 0 < seat.room }
-    requires stands { IsAlone J.function seat.seen seat.number packet.now placed.now front }
-    ensures seen { result.0.seen ≡ front }
+    requires stands { IsAlone J.function seat.seen seat.number packet.now placed.now prefix }
+    ensures seen { result.0.seen ≡ prefix }
     ensures called { result.0.calls ≡ seat.calls
         ++ (record { way = way.Alone; place = placed.now.place; packet = packet.now; done = placed.now.done }) ∷ [] }
     ensures number { result.0.number ≡ seat.number }
@@ -126,20 +129,20 @@ fn stand_seat<J: Naming, G: Gate + Drop, R: Wait>(
     let Seat {
         number,
         gate,
-        viewer,
+        seat_reader,
         mut calls,
     } = seat;
     calls.push(Way::Alone, placed.place, packet, &placed.done);
-    let Viewer {
-        front: _seen,
+    let SeatReader {
+        prefix: _seen,
         reader,
-    } = viewer;
-    let viewer = catch_up(rt, reader, front);
+    } = seat_reader;
+    let seat_reader = catch_up(rt, reader, prefix);
     (
         Seat {
             number,
             gate,
-            viewer,
+            seat_reader,
             calls,
         },
         (),
@@ -153,11 +156,11 @@ impl<J: Naming, G: Gate + Drop> Seat<J, G> {
         alloc: Global,
         number: u32,
         gate: G,
-        front: Front<J>,
+        prefix: SeenHistory<J>,
         reader: TableReader<J>,
     ) -> Seat<J, G>
         requires below { number < J.seats }
-        requires empty { front ≡ [] }
+        requires empty { prefix ≡ [] }
         ensures number { result.number ≡ number }
         ensures refused { result.refused ≡ G.refused gate }
         ensures seen { result.seen ≡ [] }
@@ -166,7 +169,7 @@ impl<J: Naming, G: Gate + Drop> Seat<J, G> {
         Seat {
             number,
             gate,
-            viewer: Viewer::new(front, reader),
+            seat_reader: SeatReader::new(prefix, reader),
             calls: CallLog::new(alloc),
         }
     }
@@ -194,17 +197,17 @@ impl<J: Naming, G: Gate + Drop> Seat<J, G> {
         let Seat {
             number: _number,
             gate: _gate,
-            viewer: _viewer,
+            seat_reader: _seat_reader,
             calls,
         } = self;
         calls
     }
 
     /// The beginning of the history that it has seen.
-    pub(crate) fn seen(&self) -> &Front<J>
+    pub(crate) fn seen(&self) -> &SeenHistory<J>
         ensures { result.now ≡ self.now.seen }
     {
-        &self.viewer.front
+        &self.seat_reader.prefix
     }
 
     /// Makes room for so many calls.
@@ -225,7 +228,7 @@ impl<J: Naming, G: Gate + Drop> Seat<J, G> {
     /// room for one call.
     ///
     /// `Refused` comes only where the seat's gate refused.
-    pub fn look(&mut self, packet: &Packet) -> Looked
+    pub fn look(&mut self, packet: &Packet) -> LookResult
         requires port { packet.now.id.port < length J.function.handlers }
         requires served { IsServed J.function packet.now }
         requires room { 0 < self.old.room }
@@ -251,14 +254,14 @@ impl<J: Naming, G: Gate + Drop> Seat<J, G> {
     pub(crate) fn stand<R: Wait>(
         &mut self,
         rt: &R,
-        front: Front<J>,
+        prefix: SeenHistory<J>,
         packet: &Packet,
         placed: &Placed,
     )
         requires room { 0 < self.old.room }
         requires stands { IsAlone J.function self.old.seen self.old.number packet.now
-            placed.now front }
-        ensures seen { self.new.seen ≡ front }
+            placed.now prefix }
+        ensures seen { self.new.seen ≡ prefix }
         ensures called { self.new.calls ≡ self.old.calls
             ++ (record { way = way.Alone; place = placed.now.place; packet = packet.now; done = placed.now.done }) ∷ [] }
         ensures number { self.new.number ≡ self.old.number }
@@ -267,8 +270,8 @@ impl<J: Naming, G: Gate + Drop> Seat<J, G> {
     {
         replace_with(
             self,
-            front,
-            |seat, front| stand_seat(rt, seat, front, packet, placed),
+            prefix,
+            |seat, prefix| stand_seat(rt, seat, prefix, packet, placed),
         );
     }
 }

@@ -13,14 +13,14 @@ ghost use Rattle.lock_mode.specs.Merging.{calls_each};
 ghost use Rattle.lock_mode.specs.Opening.{IfMany, IfOneSeat, AreNew, AreOpening};
 ghost use Rattle.lock_mode.specs.Seats.{AreAll};
 
-use crate::book::{Blank, Book, Naming};
-use crate::desk::{Desk, Turned};
 use crate::gate::Gate;
+use crate::history_counter::{HistoryCounter, Naming, NewCounter};
+use crate::history_end::HistoryEnd;
 use crate::opening::{Opened, copies_of, opened_by};
+use crate::publisher::{Publisher, Turned};
 use crate::rule::{Rising, TableWriter};
 use crate::seat::Seat;
-use crate::side::{Op, Side};
-use crate::tail::Tail;
+use crate::table_copy::{Op, TableCopy};
 use crossbeam_utils::rule::Protocol;
 use left_right::Absorb;
 use lock_core::Placed;
@@ -35,10 +35,10 @@ use vig_tables::Tables;
 /// The tables of a function that seats share. It is not `Drop`: it ends by `close` or `give_up`.
 pub struct Shared<J: Naming>
 where
-    Side<J>: Absorb<Op<J>>,
-    Rising: Protocol<Side<J>, u64>,
+    TableCopy<J>: Absorb<Op<J>>,
+    Rising: Protocol<TableCopy<J>, u64>,
 {
-    desk: Mutex<Desk<J>>,
+    publisher: Mutex<Publisher<J>>,
 }
 
 /// What all seats did, as one order, and the tables that it leaves.
@@ -84,8 +84,8 @@ fn closed_of<J: Naming, G: Gate + Drop>(
 /// The tables that seats looked at, once they are closed. It is not `Drop`: it ends by `end`.
 pub struct Published<J: Naming>
 where
-    Side<J>: Absorb<Op<J>>,
-    Rising: Protocol<Side<J>, u64>,
+    TableCopy<J>: Absorb<Op<J>>,
+    Rising: Protocol<TableCopy<J>, u64>,
 {
     pub(crate) writer: TableWriter<J>,
 }
@@ -96,15 +96,15 @@ impl<J: Naming> Published<J> {
     /// It leaves nothing that a clause could speak of.
     pub fn end<R: Wait>(self, rt: &R) {
         let Published { writer } = self;
-        let _side = writer.take(rt);
+        let _table_copy = writer.take(rt);
     }
 }
 
 /// Shared tables and their seats, which are not closed for want of memory. It is not `Drop`.
 pub struct CloseRefused<J: Naming, G: Gate + Drop>
 where
-    Side<J>: Absorb<Op<J>>,
-    Rising: Protocol<Side<J>, u64>,
+    TableCopy<J>: Absorb<Op<J>>,
+    Rising: Protocol<TableCopy<J>, u64>,
 {
     pub shared: Shared<J>,
     pub seats: Vec<Seat<J, G>>,
@@ -119,7 +119,7 @@ impl<J: Naming> Shared<J> {
         alloc: Global,
         func: &Func,
         seats: u32,
-        book: Blank,
+        book: NewCounter,
         gate: &mut G,
     ) -> Result<Opened<Shared<J>, Vec<Seat<J, G>>>, AllocError>
         requires some { 0 < seats }
@@ -134,20 +134,24 @@ impl<J: Naming> Shared<J> {
             Rose (G.refused gate.old) (G.refused gate.new))) }
         ensures rises { G.refused gate.old ≤ G.refused gate.new }
     {
-        let (book, front) = book.named::<J>();
-        match copies_of(alloc, func, &front, seats) {
+        let (book, prefix) = book.named::<J>();
+        match copies_of(alloc, func, &prefix, seats) {
             Ok(copies) => opened_by(rt, alloc, gate, copies, book, seats),
             Err(refused) => Err(refused),
         }
     }
 
     /// Tables that were opened, for seats to share.
-    pub(crate) fn over(writer: TableWriter<J>, tail: Tail<J>, book: Book<J>) -> Shared<J>
+    pub(crate) fn over(
+        writer: TableWriter<J>,
+        history_end: HistoryEnd<J>,
+        book: HistoryCounter<J>,
+    ) -> Shared<J>
         requires settled { drop writer.behind writer.log.items ≡ [] }
-        requires same { writer.desk.shown.value ≡ (tail, true) }
+        requires same { writer.desk.shown.value ≡ (history_end, true) }
     {
         Shared {
-            desk: Mutex::new(Desk::over(writer, tail, book)),
+            publisher: Mutex::new(Publisher::over(writer, history_end, book)),
         }
     }
 
@@ -174,7 +178,7 @@ impl<J: Naming> Shared<J> {
         ensures room { seat.old.room ≤ seat.new.room + 1 }
     {
         seat.reserve(1)?;
-        let mut guard = self.desk.lock(rt);
+        let mut guard = self.publisher.lock(rt);
         let placed = guard.place(rt, seat, packet);
         MutexGuard::unlock(guard);
         placed
@@ -200,12 +204,12 @@ impl<J: Naming> Shared<J> {
                 seats,
             });
         };
-        let Shared { desk } = self;
-        match desk.into_inner().close(alloc, seats.as_slice()) {
+        let Shared { publisher } = self;
+        match publisher.into_inner().close(alloc, seats.as_slice()) {
             Ok((turned, published)) => Ok((closed_of(logs, seats, turned), published)),
-            Err(desk) => Err(CloseRefused {
+            Err(publisher) => Err(CloseRefused {
                 shared: Shared {
-                    desk: Mutex::new(desk),
+                    publisher: Mutex::new(publisher),
                 },
                 seats,
             }),
@@ -217,7 +221,7 @@ impl<J: Naming> Shared<J> {
     /// It leaves nothing that a clause could speak of.
     pub fn give_up<R: Wait, G: Gate + Drop>(self, rt: &R, seats: Vec<Seat<J, G>>) {
         drop(seats);
-        let Shared { desk } = self;
-        desk.into_inner().published().end(rt);
+        let Shared { publisher } = self;
+        publisher.into_inner().published().end(rt);
     }
 }

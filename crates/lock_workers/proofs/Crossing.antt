@@ -11,7 +11,7 @@ use denote.Plain.{UInt}
 use mir.Syntax.{w32}
 use Rattle.std.proofs.Crossing as heap
 use Rattle.std.proofs.Crossing.{crosses}
-use Rattle.worker_turns.proofs.Shared.{func_sync}
+use Rattle.nf_base.proofs.Shared.{func_sync}
 use Rattle.nf_base.specs.declared.expr.Expr.TheBlock as expr_members
 use Rattle.nf_base.specs.contracts.expr.Expr as expr
 use Rattle.nf_base.specs.contracts.expr.Expr.TheKnot as expr_knot
@@ -43,20 +43,20 @@ use Rattle.atomic_table.proofs.shared.Shared.TheSendSync as table
 use Rattle.atomic_table.proofs.send_lease.SendLease.TheSendSync as lease
 use Rattle.left_right.specs.declared.Absorb as absorb
 use Rattle.crossbeam_utils.specs.declared.rule.Protocol as protocol
-use Rattle.lock_mode.specs.declared.book.Naming as naming
+use Rattle.lock_mode.specs.declared.history_counter.Naming as naming
 use Rattle.lock_mode.specs.declared.gate.Gate as gate
 use Rattle.lock_mode.specs.declared.rule.Rising.{Rising}
-use Rattle.lock_mode.proofs.book.Front.TheSendSync as front_law
-use Rattle.lock_mode.proofs.book.Book.TheSendSync as book_law
-use Rattle.lock_mode.proofs.side.Op.TheSendSync as op_law
-use Rattle.lock_mode.specs.contracts.side.Side as side
-use Rattle.lock_mode.specs.contracts.side.Side.TheInside as side_inside
-use Rattle.lock_mode.specs.contracts.tail.Tail as tail
-use Rattle.lock_mode.specs.contracts.tail.Tail.TheInside as tail_inside
-use Rattle.lock_mode.specs.contracts.viewer.Viewer as viewer
+use Rattle.lock_mode.proofs.history_counter.SeenHistory.TheSendSync as front_law
+use Rattle.lock_mode.proofs.history_counter.HistoryCounter.TheSendSync as book_law
+use Rattle.lock_mode.proofs.table_copy.Op.TheSendSync as op_law
+use Rattle.lock_mode.specs.contracts.table_copy.TableCopy as side
+use Rattle.lock_mode.specs.contracts.table_copy.TableCopy.TheInside as side_inside
+use Rattle.lock_mode.specs.contracts.history_end.HistoryEnd as tail
+use Rattle.lock_mode.specs.contracts.history_end.HistoryEnd.TheInside as tail_inside
+use Rattle.lock_mode.specs.contracts.seat_reader.SeatReader as viewer
 use Rattle.lock_mode.specs.contracts.seat.Seat as seat
 use Rattle.lock_mode.specs.contracts.seat.Seat.TheInside as seat_inside
-use Rattle.lock_mode.specs.contracts.desk.Desk as desk
+use Rattle.lock_mode.specs.contracts.publisher.Publisher as desk
 use Rattle.lock_mode.specs.contracts.shared.Shared as shared
 
 -- ---- the text of a function: expressions and blocks hold themselves, in boxes

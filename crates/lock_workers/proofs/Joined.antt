@@ -22,7 +22,7 @@ use Rattle.lock_mode.specs.Opening.{AreNew}
 use Rattle.lock_mode.specs.Seats.{SeatState, AreAll}
 use Rattle.lock_workers.specs.Dealing.{worker_of, places_from, own_places, AreDealt}
 use Rattle.lock_workers.specs.Working.{packets_in, AreAtPlaces, HasWorked, AllHaveWorked, AreWorkers}
-use Rattle.lock_workers.specs.Worked.{AreAt, places_by, packets_by, count_by, AreInOrder, AreHandled}
+use Rattle.lock_workers.specs.RunResult.{AreAt, places_by, packets_by, count_by, AreInOrder, AreHandled}
 use Rattle.lock_workers.specs.Sharing.{AreAllDone, IsShared}
 
 lt_or_le : (k n : ℕ) → (k < n) ⊎ (n ≤ k)

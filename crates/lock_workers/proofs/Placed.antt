@@ -5,7 +5,7 @@ use Rattle.std.proofs.lemmas.List.{take_more, get_or-replicate, length-replicate
 use Rattle.std.proofs.lemmas.List.Elements.{filter-append}
 use Rattle.std.proofs.lemmas.Option.{slice_get_within, slice_get_read, get_or_from_slice_get}
 use Rattle.lock_core.specs.declared.call.Ordered.{Ordered}
-use Rattle.lock_workers.specs.Worked.{places_by, count_by}
+use Rattle.lock_workers.specs.RunResult.{places_by, count_by}
 
 -- a place in front of others, where it is the worker's
 abbrev own_if : Bool → ℕ → List ℕ → List ℕ

@@ -1,4 +1,4 @@
 pub mod Dealing
 pub mod Working
-pub mod Worked
+pub mod RunResult
 pub mod Sharing

@@ -9,8 +9,8 @@ use Rattle.lock_core.specs.Histories.{Runs}
 use Rattle.lock_mode.specs.Seats.{SeatState}
 use Rattle.lock_mode.specs.declared.shared.Closed.{Closed}
 use Rattle.lock_workers.specs.Working.{packets_in, AreAtPlaces}
-use Rattle.lock_workers.specs.declared.sharing.Met.{Met}
-use Rattle.lock_workers.specs.declared.sharing.Met.TheVariants.{Together, Alone}
+use Rattle.lock_workers.specs.declared.sharing.SharingResult.{SharingResult}
+use Rattle.lock_workers.specs.declared.sharing.SharingResult.TheVariants.{Together, Alone}
 
 -- each seat has called as often as it has places
 abbrev pub AreAllDone : List (List ℕ) → List SeatState → Type 0
@@ -33,11 +33,11 @@ pub record IsShared (f : Function) (packets : List Packet) (own : List (List ℕ
   pub others : (w : ℕ) → length own ≤ w → calls_of w order ≡ []
 
 -- where workers came to an order
-abbrev pub IfTogether : Met → (Closed → Type 0) → Type 0
+abbrev pub IfTogether : SharingResult → (Closed → Type 0) → Type 0
 IfTogether (Together closed) P = P closed
 IfTogether (Alone tables) P = Unit {0}
 
 -- where one is to work alone
-abbrev pub IfAlone : Met → (TablesState → Type 0) → Type 0
+abbrev pub IfAlone : SharingResult → (TablesState → Type 0) → Type 0
 IfAlone (Together closed) P = Unit {0}
 IfAlone (Alone tables) P = P tables

@@ -6,7 +6,7 @@ ghost use Rattle.nf_base.specs.Step.{step, opening};
 ghost use Rattle.nf_engine.specs.View.{fixed_of};
 ghost use Rattle.lock_core.specs.Histories.{Runs};
 ghost use Rattle.lock_log.specs.Turns.{ordered_by};
-ghost use Rattle.lock_workers.specs.Worked.{AreInOrder};
+ghost use Rattle.lock_workers.specs.RunResult.{AreInOrder};
 
 use lock_core::Way;
 use lock_log::{CallLog, Order};

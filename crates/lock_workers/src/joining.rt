@@ -1,6 +1,6 @@
 // Where the packets of an order stand among all packets.
 ghost use Rattle.std.specs.Prelude.{◌≡◌, ◌<◌, ℕ, List, [], length, replicate, All, IfOk, Some, slice_get};
-ghost use Rattle.lock_workers.specs.Worked.{count_by, places_by};
+ghost use Rattle.lock_workers.specs.RunResult.{count_by, places_by};
 
 use lock_log::Order;
 use nf_base::seq::Seq;

@@ -10,5 +10,5 @@ mod running;
 mod sharing;
 mod working;
 
-pub use running::{Worked, run};
-pub use worker_turns::{Idle, Turns};
+pub use nf_base::worker_turns::{Idle, Turns};
+pub use running::{RunResult, run};

@@ -5,29 +5,29 @@ ghost use Rattle.nf_base.specs.Functions.{function_of};
 ghost use Rattle.lock_mode.specs.Gates.{Rose};
 ghost use Rattle.lock_mode.specs.Opening.{AreOpening};
 ghost use Rattle.lock_workers.specs.Dealing.{AreDealt};
-ghost use Rattle.lock_workers.specs.Worked.{AreHandled};
+ghost use Rattle.lock_workers.specs.RunResult.{AreHandled};
 ghost use Rattle.lock_workers.specs.Sharing.{IsShared, IfTogether, IfAlone};
 
 use crate::alone::handle_all;
 use crate::dealing::deal;
 use crate::joining::places_of;
-use crate::sharing::{Met, share};
+use crate::sharing::{SharingResult, share};
 use lock_log::Order;
-use lock_mode::{Blank, Closed, Gate};
+use lock_mode::{Closed, Gate, NewCounter};
 use nf_base::func::Func;
 use nf_base::packet::Packet;
 use nf_base::seq::Seq;
 use nf_base::state::State;
+use nf_base::worker_turns::Turns;
 use std::alloc::{AllocError, Global};
 use std::marker::Brand;
 use std::sync::Wait;
 use std::thread::Threads;
 use vig_tables::Tables;
-use worker_turns::Turns;
 
 /// What workers came to.
 #[derive(Drop)]
-pub struct Worked {
+pub struct RunResult {
     /// How many handled the packets: as many as were asked for, or one, where the gate refused.
     pub workers: u32,
     /// The packets in the order in which they were handled, with who handled each and what it came
@@ -49,7 +49,7 @@ fn share_anew<R: Threads + Wait + Sync, T: Turns + Sync, G: Gate + Drop + Send>(
     own: &Seq<Seq<u32>>,
     turns: &T,
     gate: &mut G,
-) -> Result<Met, AllocError>
+) -> Result<SharingResult, AllocError>
     requires some { 0 < workers }
     requires dealt { AreDealt workers packets.now own.now }
     requires ports { All (λ p. p.id.port < length func.now.handlers) packets.now }
@@ -62,7 +62,7 @@ fn share_anew<R: Threads + Wait + Sync, T: Turns + Sync, G: Gate + Drop + Send>(
         Rose (G.refused gate.old) (G.refused gate.new))) }
     ensures rises { G.refused gate.old ≤ G.refused gate.new }
 {
-    let book = Blank::new();
+    let book = NewCounter::new();
     share::<Brand, R, G, T>(rt, alloc, func, workers, packets, own, turns, gate, book)
 }
 
@@ -74,7 +74,7 @@ fn joined(
     own: &Seq<Seq<u32>>,
     func: &Func,
     closed: Closed,
-) -> Result<Worked, AllocError>
+) -> Result<RunResult, AllocError>
     requires some { 0 < workers }
     requires dealt { AreDealt workers packets.now own.now }
     requires shared { IsShared (function_of func.now) packets.now own.now
@@ -86,7 +86,7 @@ fn joined(
     let Closed { tables, order } = closed;
     let places = places_of(alloc, &order, own)?;
     let state = tables.state(alloc)?;
-    Ok(Worked {
+    Ok(RunResult {
         workers,
         order,
         places,
@@ -100,7 +100,7 @@ fn work_alone(
     func: &Func,
     packets: &[Packet],
     tables: Tables,
-) -> Result<Worked, AllocError>
+) -> Result<RunResult, AllocError>
     requires opens { AreOpening (function_of func.now) tables }
     requires few { length packets.now ≤ 2 ^ 32 }
     requires ports { All (λ p. p.id.port < length func.now.handlers) packets.now }
@@ -133,7 +133,7 @@ pub fn run<R: Threads + Wait + Sync, T: Turns + Sync, G: Gate + Drop + Send>(
     packets: &[Packet],
     turns: &T,
     gate: &mut G,
-) -> Result<Worked, AllocError>
+) -> Result<RunResult, AllocError>
     requires some { 0 < workers }
     requires few { length packets.now ≤ 2 ^ 32 }
     requires ports { All (λ p. p.id.port < length func.now.handlers) packets.now }
@@ -147,8 +147,8 @@ pub fn run<R: Threads + Wait + Sync, T: Turns + Sync, G: Gate + Drop + Send>(
 {
     let own = deal(alloc, packets, workers)?;
     match share_anew(rt, alloc, func, workers, packets, &own, turns, gate) {
-        Ok(Met::Together(closed)) => joined(alloc, workers, packets, &own, func, closed),
-        Ok(Met::Alone(tables)) => work_alone(alloc, func, packets, tables),
+        Ok(SharingResult::Together(closed)) => joined(alloc, workers, packets, &own, func, closed),
+        Ok(SharingResult::Alone(tables)) => work_alone(alloc, func, packets, tables),
         Err(refused) => Err(refused),
     }
 }

@@ -10,15 +10,15 @@ ghost use Rattle.lock_workers.specs.Dealing.{AreDealt};
 ghost use Rattle.lock_workers.specs.Sharing.{AreAllDone, IsShared, IfTogether, IfAlone};
 
 use crate::working::work_each;
-use lock_mode::{Blank, CloseRefused, Closed, Gate, Naming, Opened, Seat, Shared};
+use lock_mode::{CloseRefused, Closed, Gate, Naming, NewCounter, Opened, Seat, Shared};
 use nf_base::func::Func;
 use nf_base::packet::Packet;
 use nf_base::seq::Seq;
+use nf_base::worker_turns::Turns;
 use std::alloc::{AllocError, Global};
 use std::sync::Wait;
 use std::thread::Threads;
 use vig_tables::Tables;
-use worker_turns::Turns;
 
 // Whether each seat has called for all packets at its places.
 fn are_done<J: Naming, G: Gate + Drop>(seats: &[Seat<J, G>], own: &Seq<Seq<u32>>) -> bool
@@ -75,7 +75,7 @@ fn work_shared<
 }
 
 /// What sharing tables came to.
-pub(crate) enum Met {
+pub(crate) enum SharingResult {
     /// All packets were handled by workers together.
     Together(Closed),
     /// The gate refused a reader, and the opening tables are there for one.
@@ -99,8 +99,8 @@ pub(crate) fn share<
     own: &Seq<Seq<u32>>,
     turns: &T,
     gate: &mut G,
-    book: Blank,
-) -> Result<Met, AllocError>
+    book: NewCounter,
+) -> Result<SharingResult, AllocError>
     requires some { 0 < workers }
     requires seats { J.seats ≡ workers }
     requires function { function_of func.now ≡ J.function }
@@ -119,11 +119,11 @@ pub(crate) fn share<
     match Shared::<J>::new(rt, alloc, func, workers, book, gate) {
         Ok(Opened::Many(shared, seats)) => {
             match work_shared(rt, alloc, shared, seats, packets, own, turns) {
-                Ok(closed) => Ok(Met::Together(closed)),
+                Ok(closed) => Ok(SharingResult::Together(closed)),
                 Err(refused) => Err(refused),
             }
         }
-        Ok(Opened::OneSeat(tables)) => Ok(Met::Alone(tables)),
+        Ok(Opened::OneSeat(tables)) => Ok(SharingResult::Alone(tables)),
         Err(refused) => Err(refused),
     }
 }

@@ -5,14 +5,14 @@ ghost use Rattle.lock_mode.specs.Seats.{SeatState};
 ghost use Rattle.lock_workers.specs.Working.{packets_in, AreAtPlaces, AreOf, HasWorked, AllHaveWorked, CanWork, AreWorkers};
 
 use crate::hint::Hint;
-use lock_mode::{Gate, Looked, Naming, Seat, Shared};
+use lock_mode::{Gate, LookResult, Naming, Seat, Shared};
 use nf_base::packet::Packet;
 use nf_base::seq::Seq;
+use nf_base::worker_turns::Turns;
 use std::alloc::AllocError;
 use std::sync::Wait;
 use std::thread;
 use std::thread::Threads;
-use worker_turns::Turns;
 
 // Looks at a packet, unless that is hardly worth it, and says whether it is done.
 fn look<J: Naming, G: Gate + Drop>(seat: &mut Seat<J, G>, packet: &Packet, hint: &mut Hint) -> bool
@@ -28,11 +28,11 @@ fn look<J: Naming, G: Gate + Drop>(seat: &mut Seat<J, G>, packet: &Packet, hint:
         return false;
     }
     match seat.look(packet) {
-        Looked::Done(_) => {
+        LookResult::Done(_) => {
             hint.done();
             true
         }
-        Looked::NeedsWrite | Looked::Refused => {
+        LookResult::NeedsWrite | LookResult::Refused => {
             hint.gave_up();
             false
         }

@@ -11,7 +11,7 @@ use Rattle.nf_files.specs.Told.{Told, IsToldAs}
 use Rattle.run_history.specs.declared.line.Mode.{Mode}
 use Rattle.stream_run.specs.Runs.{Handled}
 use Rattle.stream_run.specs.Texts.{piece, bytes_of}
-use Rattle.stream_run.specs.declared.stop.Stop.{Stop}
+use Rattle.stream_run.specs.declared.fault.RunFault.{RunFault}
 use Rattle.stream_run.specs.Writing.{StopsAmong, Holding, Holds, IsFrontIfTold, AreGrown, AreHeld, AreFronts, AreEmpty, AllGoOn, files_of}
 use Rattle.stream_run.proofs.Bytes.{flat_both, bytes_both}
 use Rattle.stream_run.proofs.Held.{file_at}
@@ -193,5 +193,5 @@ all_filled ports all from size old new same each = record {
 
 -- ---- where writing stops
 
-pub among_by : (stop : Stop) (some files : List ℕ) → some ≡ files → StopsAmong {T = Unit {0}} [] some (Err stop) → StopsAmong {T = Unit {0}} [] files (Err stop)
+pub among_by : (stop : RunFault) (some files : List ℕ) → some ≡ files → StopsAmong {T = Unit {0}} [] some (Err stop) → StopsAmong {T = Unit {0}} [] files (Err stop)
 among_by stop some files same h = subst (λ (fs : List ℕ). StopsAmong {T = Unit {0}} [] fs (Err stop)) same h

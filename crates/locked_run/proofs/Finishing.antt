@@ -18,11 +18,11 @@ use Rattle.run_history.specs.declared.line.Mode.{Mode}
 use Rattle.run_history.specs.declared.line.Mode.TheVariants.{One, Lock}
 use Rattle.run_history.specs.Headings.{IsHeading}
 use Rattle.lock_core.specs.declared.call.Ordered.{Ordered}
-use Rattle.lock_workers.specs.Worked.{AreHandled}
+use Rattle.lock_workers.specs.RunResult.{AreHandled}
 use Rattle.stream_run.specs.declared.ending.Ending.{Ending}
 use Rattle.stream_run.specs.declared.ending.Ending.TheVariants as ending
-use Rattle.stream_run.specs.declared.stop.Stop.{Stop}
-use Rattle.stream_run.specs.declared.stop.Stop.TheVariants.{File, Memory}
+use Rattle.stream_run.specs.declared.fault.RunFault.{RunFault}
+use Rattle.stream_run.specs.declared.fault.RunFault.TheVariants.{File, Memory}
 use Rattle.stream_run.specs.Runs.{Handled, turn_of, run_of}
 use Rattle.stream_run.specs.Orders.{Order, Keeps}
 use Rattle.stream_run.specs.Rules.{Rule, KeepsBy, lone_rule, lock_rule, IsRunBy}
@@ -34,7 +34,7 @@ use Rattle.stream_run.proofs.Stepping.{always}
 use Rattle.stream_run.proofs.Complete.{ran_of, run_by, bytes_are, first_most, first_none, empty_front, empty_told}
 use Rattle.stream_run.proofs.Reached.{first_given}
 use Rattle.sharded_run.specs.Reading.{Gathers, IsOver}
-use Rattle.locked_run.specs.declared.came.Settled.{Settled}
+use Rattle.locked_run.specs.declared.result.Settled.{Settled}
 use Rattle.locked_run.specs.Locked.{IsDue}
 use Rattle.locked_run.specs.Handled.{joined}
 use Rattle.locked_run.specs.Going.{mode_of, AreSettled, AreWhole, Writes, IsWritten, IsHalted}
@@ -224,6 +224,6 @@ cut_short_of f workers card format Refused n ports begun feed start read now fil
 pub still_empty : (old new : Told) (files : List ℕ) → KeepsBut [] old new → ((k file : ℕ) → slice_get files k ≡ Some file → IsEmptyIfTold (old.given file)) → (k file : ℕ) → slice_get files k ≡ Some file → IsEmptyIfTold (new.given file)
 still_empty old new files kept empty k file e = subst IsEmptyIfTold (sym (kept.givens file (λ i d lt. absurd (omega (arith, lt))))) (empty k file e)
 
-pub stops_as : (T U : Type 0) (captures files : List ℕ) (stop : Stop) → StopsAmong {T = T} captures files (Err stop) → StopsAmong {T = U} captures files (Err stop)
+pub stops_as : (T U : Type 0) (captures files : List ℕ) (stop : RunFault) → StopsAmong {T = T} captures files (Err stop) → StopsAmong {T = U} captures files (Err stop)
 stops_as T U captures files Memory h = tt
 stops_as T U captures files (File file) h = h

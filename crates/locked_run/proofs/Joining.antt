@@ -14,7 +14,7 @@ use Rattle.packet_feed.specs.Arrivals.{Arrival, packet_of}
 use Rattle.lock_core.specs.declared.call.Ordered.{Ordered}
 use Rattle.lock_core.specs.Histories as order
 use Rattle.lock_workers.specs.Dealing.{worker_of, places_from}
-use Rattle.lock_workers.specs.Worked.{AreAt, places_by, AreHandled}
+use Rattle.lock_workers.specs.RunResult.{AreAt, places_by, AreHandled}
 use Rattle.stream_run.specs.Runs.{Handled}
 use Rattle.stream_run.specs.Streaming.{IsUndivided, arrival_of, handling_in}
 use Rattle.locked_run.specs.Handled.{in_front, joined}

@@ -6,7 +6,7 @@ use Rattle.capture_format.specs.declared.format.CaptureFormat.{CaptureFormat}
 use Rattle.nf_files.specs.Told.{Told}
 use Rattle.nf_files.specs.Causes.{Counted}
 use Rattle.run_history.specs.declared.line.Mode.{Mode}
-use Rattle.stream_run.specs.declared.stop.Stop.{Stop}
+use Rattle.stream_run.specs.declared.fault.RunFault.{RunFault}
 use Rattle.stream_run.specs.Runs.{Handled}
 use Rattle.locked_run.specs.declared.chunk.Chunk.{Chunk}
 use Rattle.locked_run.specs.declared.rounds.Rounds.{Rounds}
@@ -23,7 +23,7 @@ all_of zero (x ∷ xs) ys e = absurd (omega (arith, e))
 all_of (suc n) (x ∷ xs) ys e = ap (λ (cs : List Chunk). x ∷ cs) (all_of n xs ys (omega (arith, e)))
 
 -- chunks were given, by whichever name
-pub given_as : {T : Type 0} (wrote writes : ℕ → Type 0) (counted counts : Counted) (was now : Told) (files : List ℕ) (lent left before after : List Chunk) (result : Result T Stop) → lent ≡ before → after ≡ left → AreGiven wrote writes counted counts was now files lent left result → AreGiven wrote writes counted counts was now files before after result
+pub given_as : {T : Type 0} (wrote writes : ℕ → Type 0) (counted counts : Counted) (was now : Told) (files : List ℕ) (lent left before after : List Chunk) (result : Result T RunFault) → lent ≡ before → after ≡ left → AreGiven wrote writes counted counts was now files lent left result → AreGiven wrote writes counted counts was now files before after result
 given_as wrote writes counted counts was now files lent left before after result e f given =
     subst (λ (cs : List Chunk). AreGiven wrote writes counted counts was now files before cs result) (sym f)
     (subst (λ (cs : List Chunk). AreGiven wrote writes counted counts was now files cs left result) e given)

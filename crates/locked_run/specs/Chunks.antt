@@ -9,7 +9,7 @@ use Rattle.nf_files.specs.Causes.{Counted}
 use Rattle.run_history.specs.declared.line.Mode.{Mode}
 use Rattle.stream_run.specs.Runs.{Handled}
 use Rattle.stream_run.specs.Texts.{piece}
-use Rattle.stream_run.specs.declared.stop.Stop.{Stop}
+use Rattle.stream_run.specs.declared.fault.RunFault.{RunFault}
 use Rattle.stream_run.specs.Writing.{Holding, files_of, AreFronts, KeepsBut, IsStopCause, StopsAmong}
 use Rattle.locked_run.specs.declared.chunk.Chunk.{Chunk}
 use Rattle.locked_run.specs.Going.{AreWhole}
@@ -69,7 +69,7 @@ GoOnTo mode workers card format ports all next now files chunks (Err e) =
 -- Chunks were given to these files, one after another: what was created, counted and told before
 -- and after it, and what is held then.
 pub record AreGiven {T : Type 0} (was_created is_created : ℕ → Type 0) (counted counts : Counted)
-    (was now : Told) (files : List ℕ) (before after : List Chunk) (result : Result T Stop)
+    (was now : Told) (files : List ℕ) (before after : List Chunk) (result : Result T RunFault)
     : Type 0 where
   pub goes_on : (mode : Mode) (workers : ℕ) (card : Card) (format : CaptureFormat) (ports : ℕ)
       (all : List Handled) (from size : ℕ) → HoldAll format ports all from size before →

@@ -16,7 +16,7 @@ use Rattle.stream_run.specs.Writing.{AreFronts}
 use Rattle.stream_run.specs.Streaming.{arrival_of}
 use Rattle.stream_run.specs.Orders.{Keeps}
 use Rattle.stream_run.specs.Rules.{Rule, AreBy}
-use Rattle.locked_run.specs.declared.came.Settled.{Settled}
+use Rattle.locked_run.specs.declared.result.Settled.{Settled}
 use Rattle.locked_run.specs.Locked.{IsDue}
 
 -- the mode in which so many of the workers handled packets

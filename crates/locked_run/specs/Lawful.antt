@@ -9,21 +9,21 @@ use Rattle.packet_feed.specs.Arrivals.{Arrival}
 use Rattle.packet_feed.specs.Told.{packets_of}
 use Rattle.packet_feed.specs.Sources.{files_in, sixes_in}
 use Rattle.packet_feed.specs.Feeding.{Feeding, StandsFor}
-use Rattle.stream_run.specs.declared.stop.Stop.{Stop}
+use Rattle.stream_run.specs.declared.fault.RunFault.{RunFault}
 use Rattle.stream_run.specs.Runs.{Run, course_of}
 use Rattle.stream_run.specs.Rules.{Rule, IsRunBy}
 use Rattle.stream_run.specs.Texts.{file_bytes}
 use Rattle.stream_run.specs.Writing.{IsFrontIfTold}
 use Rattle.stream_run.specs.Streaming.{AreFirst}
 use Rattle.stream_run.specs.Lawful.{AreTheFirst, EndsSo}
-use Rattle.locked_run.specs.declared.came.Came.{Came}
+use Rattle.locked_run.specs.declared.result.LockedResult.{LockedResult}
 use Rattle.locked_run.specs.Locked.{IsDue}
 
 -- The packets that were given are the first ones of the captures in capture order, at most so many,
 -- and the run's are these. Its files are whole, its last state is told, and how it ended.
 pub record IsFinished (f : Function) (workers : ℕ) (card : Card) (format : CaptureFormat)
     (Refused : Type 0) (begun : Feeding) (start : Told) (feed : Feeding) (now : Told)
-    (files : List ℕ) (came : Came) : Type 0 where
+    (files : List ℕ) (came : LockedResult) : Type 0 where
   pub run : Run
   pub given : List Arrival
   pub rule : Rule
@@ -61,7 +61,7 @@ pub record IsCutShort (f : Function) (workers : ℕ) (card : Card) (format : Cap
 
 -- what a run comes to
 abbrev pub Runs : Function → ℕ → Card → CaptureFormat → Type 0 → Feeding → Told → Feeding → Told →
-    List ℕ → Result Came Stop → Type 0
+    List ℕ → Result LockedResult RunFault → Type 0
 Runs f workers card format Refused begun start feed now files (Ok came) =
     IsFinished f workers card format Refused begun start feed now files came
 Runs f workers card format Refused begun start feed now files (Err stop) =

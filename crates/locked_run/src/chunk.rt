@@ -11,7 +11,7 @@ ghost use Rattle.stream_run.specs.Runs.{Handled};
 ghost use Rattle.stream_run.specs.Texts.{piece};
 ghost use Rattle.stream_run.specs.Writing.{files_of, AreGrown, KeepsAllBut, IsStopCause, StopsAmong};
 ghost use Rattle.short_answers.specs.Answers as answers;
-ghost use Rattle.lock_workers.specs.Worked.{AreAt};
+ghost use Rattle.lock_workers.specs.RunResult.{AreAt};
 ghost use Rattle.locked_run.specs.Handled.{joined};
 ghost use Rattle.locked_run.specs.Going.{AreWhole, Writes};
 ghost use Rattle.locked_run.specs.Chunks.{chunk_at, HoldPieces, AreBare, IsFilled, AreFilled, AreOf, AreIdle};
@@ -25,7 +25,7 @@ use nf_files::Files;
 use std::alloc::{AllocError, Global};
 use std::thread;
 use std::thread::Threads;
-use stream_run::{Sink, Stop, flush_all, hold_all};
+use stream_run::{RunFault, Sink, flush_all, hold_all};
 
 /// What the packets of a chunk leave for each file, from when it is made until it is written.
 #[derive(Drop)]
@@ -140,7 +140,7 @@ impl Chunk {
     }
 
     /// Gives what was made to the files, behind what packets before it leave there.
-    pub(crate) fn write<F: Files>(&mut self, files: &mut F) -> Result<(), Stop>
+    pub(crate) fn write<F: Files>(&mut self, files: &mut F) -> Result<(), RunFault>
         requires created { EachFile (F.is_written files.old) (files_of self.old.sinks) }
         requires apart { IsApart (files_of self.old.sinks) }
         ensures goes_on { (mode : Mode) → (workers : ℕ) → (card : Card) →
@@ -160,7 +160,7 @@ impl Chunk {
         if self.made {
             flush_all(&mut self.sinks, files)
         } else {
-            Err(Stop::Memory)
+            Err(RunFault::Memory)
         }
     }
 }

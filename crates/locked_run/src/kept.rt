@@ -1,7 +1,7 @@
 //! Packets that were read, with their frames.
 ghost use Rattle.std.specs.Prelude.{◌≡◌, ◌<◌, ◌≤◌, ◌∷◌, [], ◌++◌, length, map, slice_get, Some, IfOk, OnOk, OnErr};
 ghost use Rattle.nf_base.specs.declared.done.Done.{Done};
-ghost use Rattle.hash_fields.specs.Hashed.{HasInput};
+ghost use Rattle.nf_base.specs.Hashed.{HasInput};
 ghost use Rattle.pcap_file.specs.Record.{greatest_time};
 ghost use Rattle.packet_feed.specs.Arrivals.{Arrival, packet_of};
 ghost use Rattle.stream_run.specs.Runs.{Handled};

@@ -2,15 +2,15 @@
 //! leave is written in the order in which they did.
 #![tactic(auto)]
 
-mod came;
 mod chunk;
 mod kept;
 pub mod laws;
 mod pieces;
 mod reading;
+mod result;
 mod rounds;
 mod running;
 mod writing;
 
-pub use came::Came;
+pub use result::LockedResult;
 pub use running::run;

@@ -9,7 +9,7 @@ use crate::kept::{Batch, keep};
 use nf_files::Files;
 use packet_feed::{Fed, Feed};
 use std::alloc::Global;
-use stream_run::{Ending, Stop, stop_in};
+use stream_run::{Ending, RunFault, stop_in};
 
 /// Reads all packets that a feed gives, and how the captures end then.
 pub(crate) fn read_all<F: Files>(
@@ -18,7 +18,7 @@ pub(crate) fn read_all<F: Files>(
     feed: &mut Feed,
     captures: &[u32],
     batch: &mut Batch,
-) -> Result<Ending, Stop>
+) -> Result<Ending, RunFault>
     requires captures { files_in feed.old.sources ≡ captures.now }
     requires opened { EachFile (F.is_read files.old) captures.now }
     requires empty { batch.old ≡ [] }
@@ -38,7 +38,7 @@ pub(crate) fn read_all<F: Files>(
             Ok(Fed::Packet(packet)) => {
                 match keep(alloc, batch, &packet, feed.original(), feed.frame()) {
                     Ok(()) => {}
-                    Err(_) => return Err(Stop::Memory),
+                    Err(_) => return Err(RunFault::Memory),
                 }
             }
         }

@@ -7,7 +7,7 @@ ghost use Rattle.packet_feed.specs.Arrivals.{packet_of};
 ghost use Rattle.packet_feed.specs.Told.{EachFile, IsApart};
 ghost use Rattle.run_history.specs.declared.line.Mode.{Mode};
 ghost use Rattle.stream_run.specs.Writing.{KeepsBut, IsStopCause, StopsAmong};
-ghost use Rattle.lock_workers.specs.Worked.{AreAt};
+ghost use Rattle.lock_workers.specs.RunResult.{AreAt};
 ghost use Rattle.locked_run.specs.Handled.{joined};
 ghost use Rattle.locked_run.specs.Going.{AreWhole, Writes};
 ghost use Rattle.locked_run.specs.Chunks.{AreFilled, AreOf, AreGiven};
@@ -17,12 +17,12 @@ use crate::chunk::{Chunk, fill_each, idle_chunks};
 use crate::kept::Batch;
 use crate::writing::write_made;
 use capture_format::CaptureFormat;
-use lock_workers::Worked;
+use lock_workers::RunResult;
 use nf_files::Files;
 use std::alloc::{AllocError, Global};
 use std::mem;
 use std::thread::{Threads, join_mut};
-use stream_run::Stop;
+use stream_run::RunFault;
 
 /// The chunks of two rounds: while those of one are written, those of the next are made.
 #[derive(Drop)]
@@ -64,7 +64,7 @@ impl Rounds {
     }
 
     // Makes the first chunks.
-    fn begin<R: Threads + Sync>(&mut self, rt: &R, ports: u32, batch: &Batch, worked: &Worked)
+    fn begin<R: Threads + Sync>(&mut self, rt: &R, ports: u32, batch: &Batch, worked: &RunResult)
         requires at { AreAt (map packet_of batch.now) worked.now.order worked.now.places.items }
         requires room { step_of self.old < 2 ^ 64 }
         ensures filled { let all = joined batch.now worked.now.order worked.now.places.items in
@@ -94,10 +94,10 @@ impl Rounds {
         files: &mut F,
         ports: u32,
         batch: &Batch,
-        worked: &Worked,
+        worked: &RunResult,
         from: usize,
         targets: &[u32],
-    ) -> Result<(), Stop>
+    ) -> Result<(), RunFault>
         requires at { AreAt (map packet_of batch.now) worked.now.order worked.now.places.items }
         requires rounds { AreRounds targets.now (step_of self.old) self.old }
         requires room { from + (step_of self.old + step_of self.old) < 2 ^ 64 }
@@ -141,10 +141,10 @@ impl Rounds {
         files: &mut F,
         ports: u32,
         batch: &Batch,
-        worked: &Worked,
+        worked: &RunResult,
         from: usize,
         targets: &[u32],
-    ) -> Result<(), Stop>
+    ) -> Result<(), RunFault>
         requires at { AreAt (map packet_of batch.now) worked.now.order worked.now.places.items }
         requires rounds { AreRounds targets.now (step_of self.old) self.old }
         requires room { from + (step_of self.old + step_of self.old) < 2 ^ 64 }
@@ -182,9 +182,9 @@ impl Rounds {
         files: &mut F,
         ports: u32,
         batch: &Batch,
-        worked: &Worked,
+        worked: &RunResult,
         targets: &[u32],
-    ) -> Result<(), Stop>
+    ) -> Result<(), RunFault>
         requires at { AreAt (map packet_of batch.now) worked.now.order worked.now.places.items }
         requires rounds { AreRounds targets.now (step_of self.old) self.old }
         requires created { EachFile (F.is_written files.old) targets.now }

@@ -9,19 +9,19 @@ ghost use Rattle.packet_feed.specs.Sources.{files_in, sixes_in};
 ghost use Rattle.stream_run.specs.Writing.{KeepsBut, IsStopCause, StopsAmong};
 ghost use Rattle.lock_mode.specs.Gates.{Rose};
 ghost use Rattle.run_history.specs.Headings.{IsHeading};
-ghost use Rattle.lock_workers.specs.Worked.{AreAt, AreHandled};
+ghost use Rattle.lock_workers.specs.RunResult.{AreAt, AreHandled};
 ghost use Rattle.locked_run.specs.Handled.{joined};
 ghost use Rattle.locked_run.specs.Going.{mode_of, AreFresh, Writes, Settles};
 ghost use Rattle.locked_run.specs.Lawful.{Runs};
 
-use crate::came::{Came, Settled};
 use crate::kept::Batch;
 use crate::reading::read_all;
+use crate::result::{LockedResult, Settled};
 use crate::rounds::Rounds;
 use crate::writing::{chunk_count, chunk_size};
 use capture_format::CaptureFormat;
 use lock_mode::Gate;
-use lock_workers::{Turns, Worked};
+use lock_workers::{RunResult, Turns};
 use nf_base::card::Card;
 use nf_base::func::Func;
 use nf_base::workers::Workers;
@@ -31,7 +31,7 @@ use run_history::line::Mode;
 use std::alloc::{AllocError, Global};
 use std::sync::Wait;
 use std::thread::Threads;
-use stream_run::{Ran, Stop, begin_sinks, flush_all};
+use stream_run::{Ran, RunFault, begin_sinks, flush_all};
 
 // How packets were handled: by all workers, or by one where the gate refused.
 fn mode_of(handled_by: u32, workers: u32) -> Mode
@@ -53,7 +53,7 @@ fn work<R: Threads + Wait + Sync, T: Turns + Sync, G: Gate + Drop + Send>(
     batch: &Batch,
     turns: &T,
     gate: &mut G,
-) -> Result<Worked, AllocError>
+) -> Result<RunResult, AllocError>
     requires few { length batch.now ≤ 2 ^ 32 }
     requires ports { let ports = length func.now.handlers in
         All (λ p. p.id.port < ports) (map packet_of batch.now) }
@@ -77,7 +77,7 @@ fn write_heads<F: Files>(
     format: CaptureFormat,
     ports: u32,
     targets: &[u32],
-) -> Result<(), Stop>
+) -> Result<(), RunFault>
     requires heading { IsHeading (record { mode = mode; workers = workers; card = card }) }
     requires fresh { AreFresh (F.is_written files.old) (F.told files.old) targets.now }
     ensures written { Writes mode workers card format ports [] (F.told files.new) targets.now result }
@@ -91,7 +91,7 @@ fn write_heads<F: Files>(
             let mut sinks = sinks;
             flush_all(&mut sinks, files)
         }
-        Err(_) => Err(Stop::Memory),
+        Err(_) => Err(RunFault::Memory),
     }
 }
 
@@ -106,9 +106,9 @@ fn write<R: Threads + Sync, F: Files>(
     format: CaptureFormat,
     ports: u32,
     batch: &Batch,
-    worked: &Worked,
+    worked: &RunResult,
     targets: &[u32],
-) -> Result<(), Stop>
+) -> Result<(), RunFault>
     requires heading { IsHeading (record { mode = mode; workers = workers; card = card }) }
     requires at { AreAt (map packet_of batch.now) worked.now.order worked.now.places.items }
     requires fresh { AreFresh (F.is_written files.old) (F.told files.old) targets.now }
@@ -122,7 +122,7 @@ fn write<R: Threads + Sync, F: Files>(
     let count = chunk_count(batch, workers.get(), size);
     let mut rounds = match Rounds::new(alloc, count, size, format, targets) {
         Ok(rounds) => rounds,
-        Err(_) => return Err(Stop::Memory),
+        Err(_) => return Err(RunFault::Memory),
     };
     match write_heads(alloc, files, mode, workers, card, format, ports, targets) {
         Ok(()) => rounds.write_all(rt, files, ports, batch, worked, targets),
@@ -143,7 +143,7 @@ fn settle<R: Threads + Wait + Sync, F: Files, T: Turns + Sync, G: Gate + Drop + 
     targets: &[u32],
     turns: &T,
     gate: &mut G,
-) -> Result<Settled, Stop>
+) -> Result<Settled, RunFault>
     requires several { 1 < workers }
     requires few_packets { length batch.now ≤ 2 ^ 32 }
     requires ports { let ports = length func.now.handlers in
@@ -160,7 +160,7 @@ fn settle<R: Threads + Wait + Sync, F: Files, T: Turns + Sync, G: Gate + Drop + 
 {
     let worked = match work(rt, alloc, func, workers, batch, turns, gate) {
         Ok(worked) => worked,
-        Err(_) => return Err(Stop::Memory),
+        Err(_) => return Err(RunFault::Memory),
     };
     let mode = mode_of(worked.workers, workers.get());
     let ports = func.handlers.len();
@@ -205,7 +205,7 @@ pub fn run<R: Threads + Wait + Sync, F: Files, T: Turns + Sync, G: Gate + Drop +
     targets: &[u32],
     turns: &T,
     gate: &mut G,
-) -> Result<Came, Stop>
+) -> Result<LockedResult, RunFault>
     requires several { 1 < workers }
     requires captures { files_in feed.old.sources ≡ captures.now }
     requires six { sixes_in feed.old.sources ≡ six_ports (function_of func.now) }
@@ -239,7 +239,7 @@ pub fn run<R: Threads + Wait + Sync, F: Files, T: Turns + Sync, G: Gate + Drop +
     match settle(
         rt, alloc, files, func, workers, card, format, &batch, targets, turns, gate,
     ) {
-        Ok(settled) => Ok(Came {
+        Ok(settled) => Ok(LockedResult {
             mode: settled.mode,
             ran: Ran {
                 ending,

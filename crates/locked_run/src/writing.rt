@@ -12,7 +12,7 @@ ghost use Rattle.locked_run.specs.Chunks.{AreOf, HoldAll, GoOnTo, AreGiven};
 use crate::chunk::Chunk;
 use crate::kept::Batch;
 use nf_files::Files;
-use stream_run::Stop;
+use stream_run::RunFault;
 
 /// A chunk is of no more packets.
 const MOST_PACKETS: usize = 8_192;
@@ -49,7 +49,11 @@ pub(crate) fn chunk_count(batch: &Batch, workers: u32, size: usize) -> usize
 }
 
 // Gives chunks to the files, one after another.
-fn write_each<F: Files>(files: &mut F, chunks: &mut [Chunk], targets: &[u32]) -> Result<(), Stop>
+fn write_each<F: Files>(
+    files: &mut F,
+    chunks: &mut [Chunk],
+    targets: &[u32],
+) -> Result<(), RunFault>
     requires files { AreOf targets.now chunks.old }
     requires created { EachFile (F.is_written files.old) targets.now }
     requires apart { IsApart targets.now }
@@ -81,7 +85,7 @@ pub(crate) fn write_made<F: Files>(
     files: &mut F,
     chunks: &mut Vec<Chunk>,
     targets: &[u32],
-) -> Result<(), Stop>
+) -> Result<(), RunFault>
     requires files { AreOf targets.now chunks.old.items }
     requires created { EachFile (F.is_written files.old) targets.now }
     requires apart { IsApart targets.now }

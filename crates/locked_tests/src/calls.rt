@@ -9,17 +9,17 @@ ghost use Rattle.packet_feed.specs.Sources.{files_in, sixes_in};
 
 use capture_format::CaptureFormat;
 use lock_mode::Gate;
-use locked_run::{Came, run};
+use locked_run::{LockedResult, run};
 use nf_base::card::Card;
 use nf_base::func::Func;
+use nf_base::worker_turns::Turns;
 use nf_base::workers::Workers;
 use nf_files::{Files, FilesFault};
 use packet_feed::{Feed, FeedFault};
 use std::alloc::Global;
 use std::sync::Wait;
 use std::thread::Threads;
-use stream_run::Stop;
-use worker_turns::Turns;
+use stream_run::RunFault;
 
 /// Opens names to be read.
 pub fn open_all<F: Files>(
@@ -92,7 +92,7 @@ pub fn run_all<R: Threads + Wait + Sync, F: Files, T: Turns + Sync, G: Gate + Dr
     made: &[u32],
     turns: &T,
     gate: &mut G,
-) -> Result<Came, Stop>
+) -> Result<LockedResult, RunFault>
     requires captures { files_in feed.old.sources ≡ opened.now }
     requires six { sixes_in feed.old.sources ≡ six_ports (function_of func.now) }
     requires ports { length opened.now ≡ length func.now.handlers }

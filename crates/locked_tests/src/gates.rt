@@ -1,7 +1,7 @@
 //! A gate that makes no readers.
 ghost use Rattle.std.specs.Prelude.{◌≡◌};
 
-use lock_mode::{Gate, MakeFault, Naming, Side, TableEntry, TablePair, TableReader};
+use lock_mode::{Gate, MakeFault, Naming, TableCopy, TableEntry, TablePair, TableReader};
 use std::alloc::Global;
 use std::sync::Wait;
 
@@ -40,8 +40,8 @@ impl Gate for Shut {
         &mut self,
         _rt: &R,
         _alloc: Global,
-        first: Side<J>,
-        second: Side<J>,
+        first: TableCopy<J>,
+        second: TableCopy<J>,
         _seats: u32,
     ) -> Result<TablePair<J>, MakeFault> {
         drop(first);

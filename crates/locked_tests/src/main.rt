@@ -15,13 +15,13 @@ use functions::BRIDGE;
 use gates::Shut;
 use lock_mode::{Gate, PackGate};
 use meeting::{Doors, Meeting};
+use nf_base::worker_turns::{Idle, Turns};
 use outcome::{Outcome, outcome_of};
 use reading_back::seen_again;
 use std::alloc::{AllocError, Global};
 use std::io::{self, Write};
 use std::sync::Wait;
 use std::thread::Threads;
-use worker_turns::{Idle, Turns};
 
 /// Port 0 sends a packet, and later port 1 its answer.
 const BOTH: [&[Record]; 2] = [&[(5, Frame::OfA)], &[(9, Frame::OfB)]];

@@ -1,10 +1,10 @@
 //! Two workers, one of which waits for the other, and two seats that wait for one another.
-use lock_mode::{Gate, MakeFault, Naming, PackGate, Side, TableEntry, TablePair, TableReader};
+use lock_mode::{Gate, MakeFault, Naming, PackGate, TableCopy, TableEntry, TablePair, TableReader};
 use nf_base::packet::PacketId;
+use nf_base::worker_turns::Turns;
 use std::alloc::Global;
 use std::sync::Wait;
 use std::sync::atomic::{AtomicU64, Ordering};
-use worker_turns::Turns;
 
 /// Reads of a count after which a worker gives up.
 const READS: u64 = 200_000_000;
@@ -110,8 +110,8 @@ impl<'a> Gate for Doors<'a> {
         &mut self,
         rt: &R,
         alloc: Global,
-        first: Side<J>,
-        second: Side<J>,
+        first: TableCopy<J>,
+        second: TableCopy<J>,
         seats: u32,
     ) -> Result<TablePair<J>, MakeFault> {
         self.gate.make(rt, alloc, first, second, seats)

@@ -10,6 +10,7 @@ use crate::calls::{create_all, open_all, run_all, start};
 use lock_mode::Gate;
 use nf_base::card::Card;
 use nf_base::func::Func;
+use nf_base::worker_turns::Turns;
 use nf_files::{Files, MemoryFiles};
 use nf_syntax::parse;
 use nf_types::check;
@@ -19,8 +20,7 @@ use run_history::state_text::state_text;
 use std::alloc::{AllocError, Global};
 use std::sync::Wait;
 use std::thread::Threads;
-use stream_run::{Ending, Stop};
-use worker_turns::Turns;
+use stream_run::{Ending, RunFault};
 
 /// How a run ended.
 #[derive(Clone, Copy, Debug, PartialEq, Eq)]
@@ -32,7 +32,7 @@ pub enum End {
     Unstarted(FeedFault),
     /// An output or the journal could not be created.
     Uncreated,
-    Stopped(Stop),
+    Stopped(RunFault),
     /// So many packets were handled.
     Ran(Mode, Ending, u32),
 }

@@ -4,7 +4,9 @@ ghost use Rattle.nf_base.specs.Doors.{served_fields, IsServed};
 ghost use Rattle.nf_base.specs.Functions.{function_of};
 
 use crate::outcome::function;
-use lock_mode::{Blank, CloseRefused, Gate, Looked, Naming, Opened, PackGate, Seat, Shared};
+use lock_mode::{
+    CloseRefused, Gate, LookResult, Naming, NewCounter, Opened, PackGate, Seat, Shared,
+};
 use nf_base::done::Action;
 use nf_base::func::Func;
 use nf_base::mac::Mac;
@@ -62,12 +64,12 @@ fn look_twice<J: Naming, R: Wait>(
         picks: 0,
     };
     seat.reserve(1)?;
-    if let Looked::NeedsWrite = seat.look(packet) {
+    if let LookResult::NeedsWrite = seat.look(packet) {
         seen.needs_write = true;
     }
     shared.alone(rt, seat, packet)?;
     seat.reserve(1)?;
-    if let Looked::Done(done) = seat.look(packet) {
+    if let LookResult::Done(done) = seat.look(packet) {
         seen.action = Some(done.action);
         seen.picks = done.picks.as_slice().len();
     }
@@ -78,7 +80,7 @@ fn read_back<J: Naming, R: Wait>(
     rt: &R,
     alloc: Global,
     func: &Func,
-    book: Blank,
+    book: NewCounter,
 ) -> Result<Option<Seen>, AllocError>
     requires seats { J.seats ≡ 1 }
     requires function { function_of func.now ≡ J.function }
@@ -104,7 +106,7 @@ fn read_back<J: Naming, R: Wait>(
 fn read_anew<R: Wait>(rt: &R, alloc: Global, func: &Func) -> Result<Option<Seen>, AllocError>
     requires { 0 < length func.now.handlers }
 {
-    let book = Blank::new();
+    let book = NewCounter::new();
     read_back::<Brand, R>(rt, alloc, func, book)
 }
 

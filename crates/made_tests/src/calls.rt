@@ -11,14 +11,14 @@ ghost use Rattle.made_tests.specs.Order.{AreInOrder};
 use lock_mode::PackGate;
 use made_captures::Captures;
 use nf_base::func::Func;
+use nf_base::worker_turns::Idle;
 use nf_files::{Files, FilesFault};
 use packet_feed::{Fed, Feed, FeedFault};
 use std::alloc::{AllocError, Global};
 use std::sync::{Arc, Wait};
 use std::thread::Threads;
-use stream_run::Stop;
-use traffic_run::{Asked, Came, Who, run};
-use worker_turns::Idle;
+use stream_run::RunFault;
+use traffic_run::{TrafficResult, TrafficSpec, WorkerPlan, run};
 
 /// The captures of a line's numbers.
 pub fn captures_of(alloc: Global, numbers: [u32; 4]) -> Result<Captures, AllocError> {
@@ -82,10 +82,10 @@ pub fn run_all<R: Threads + Wait + Clone + Send + Sync + Drop + 'static, F: File
     alloc: Global,
     files: &mut F,
     func: &Func,
-    who: &Who,
-    asked: Asked,
+    who: &WorkerPlan,
+    asked: TrafficSpec,
     made: &[u32],
-) -> Result<Came, Stop>
+) -> Result<TrafficResult, RunFault>
     requires serves { Serves (function_of func.now) who.now }
     requires flows { 1 ≤ asked.flows }
     requires some_port { 1 ≤ length func.now.handlers }
@@ -101,6 +101,6 @@ pub fn run_all<R: Threads + Wait + Clone + Send + Sync + Drop + 'static, F: File
         Ok(turns) => run(
             rt, alloc, files, func, who, asked, first, made, &turns, &mut gate,
         ),
-        Err(_) => Err(Stop::Memory),
+        Err(_) => Err(RunFault::Memory),
     }
 }

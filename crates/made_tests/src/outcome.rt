@@ -15,8 +15,8 @@ use run_history::state_text::state_text;
 use std::alloc::{AllocError, Global};
 use std::sync::Wait;
 use std::thread::Threads;
-use stream_run::Stop;
-use traffic_run::{Asked, Came, Who};
+use stream_run::RunFault;
+use traffic_run::{TrafficResult, TrafficSpec, WorkerPlan};
 use traffic_summary::{numbers, summary};
 
 /// Who handles the packets.
@@ -38,7 +38,7 @@ pub enum End {
     NoKeys,
     /// An output or the journal could not be created.
     Uncreated,
-    Stopped(Stop),
+    Stopped(RunFault),
     /// All packets were handled.
     Whole,
     /// A share has no index left.
@@ -78,7 +78,7 @@ pub fn outcome_of<R: Threads + Wait + Clone + Send + Sync + Drop + 'static>(
     rt: &R,
     alloc: Global,
     text: &str,
-    asked: Asked,
+    asked: TrafficSpec,
     by: By,
     fails: &[u64],
 ) -> Result<Outcome, AllocError> {
@@ -107,7 +107,7 @@ fn run_over<R: Threads + Wait + Clone + Send + Sync + Drop + 'static, F: Files>(
     alloc: Global,
     files: &mut F,
     func: &Func,
-    asked: Asked,
+    asked: TrafficSpec,
     by: By,
     outcome: &mut Outcome,
 ) -> Result<(), AllocError>
@@ -116,13 +116,13 @@ fn run_over<R: Threads + Wait + Clone + Send + Sync + Drop + 'static, F: Files>(
 {
     let two = Workers::new(2);
     match by {
-        By::One => run_by(rt, alloc, files, func, &Who::One, asked, by, outcome),
+        By::One => run_by(rt, alloc, files, func, &WorkerPlan::One, asked, by, outcome),
         By::TwoTogether => run_by(
             rt,
             alloc,
             files,
             func,
-            &Who::Sharing(two),
+            &WorkerPlan::Sharing(two),
             asked,
             by,
             outcome,
@@ -133,7 +133,7 @@ fn run_over<R: Threads + Wait + Clone + Send + Sync + Drop + 'static, F: Files>(
                 alloc,
                 files,
                 func,
-                &Who::Shards(keys, two),
+                &WorkerPlan::Shards(keys, two),
                 asked,
                 by,
                 outcome,
@@ -152,8 +152,8 @@ fn run_by<R: Threads + Wait + Clone + Send + Sync + Drop + 'static, F: Files>(
     alloc: Global,
     files: &mut F,
     func: &Func,
-    who: &Who,
-    asked: Asked,
+    who: &WorkerPlan,
+    asked: TrafficSpec,
     by: By,
     outcome: &mut Outcome,
 ) -> Result<(), AllocError>
@@ -167,8 +167,8 @@ fn run_by<R: Threads + Wait + Clone + Send + Sync + Drop + 'static, F: Files>(
     };
     match run_all(rt, alloc, files, func, who, asked, made.as_slice()) {
         Err(stop) => outcome.end = End::Stopped(stop),
-        Ok(Came::Full(_)) => outcome.end = End::Full,
-        Ok(Came::Whole { mode, state, sent }) => {
+        Ok(TrafficResult::Full(_)) => outcome.end = End::Full,
+        Ok(TrafficResult::Whole { mode, state, sent }) => {
             let workers = workers_in(by);
             outcome.end = End::Whole;
             outcome.state = state_text(alloc, func, &state)?;

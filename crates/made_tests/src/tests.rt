@@ -4,8 +4,8 @@ use crate::outcome::{By, End, Outcome, outcome_of};
 use capture_format::CaptureFormat;
 use nf_base::card::{Card, KeySize, TableSize};
 use std::test::Fail;
-use stream_run::Stop;
-use traffic_run::Asked;
+use stream_run::RunFault;
+use traffic_run::TrafficSpec;
 
 /// A run of four packets from seed 0, and what it leaves: the journal, the last state, how many records in each
 /// output, and the lines that sum it up.
@@ -41,8 +41,8 @@ fn cases() -> &'static [Case] {
     &CASES
 }
 
-fn four_of(flows: u32) -> Asked {
-    Asked {
+fn four_of(flows: u32) -> TrafficSpec {
+    TrafficSpec {
         seed: 0,
         count: 4,
         flows,
@@ -100,7 +100,7 @@ fn a_firewall_lets_flows_through(rt: HostRuntime) -> Result<(), Fail> {
 /// The outputs don't depend on which index an entry has.
 #[test]
 fn two_workers_leave_the_same_outputs(rt: HostRuntime) -> Result<(), Fail> {
-    let asked = Asked {
+    let asked = TrafficSpec {
         seed: 7,
         count: 300,
         flows: 9,
@@ -132,9 +132,9 @@ fn each_call_that_fails_stops_the_run(rt: HostRuntime) -> Result<(), Fail> {
         End::Uncreated,
         End::Uncreated,
         End::Uncreated,
-        End::Stopped(Stop::File(2)),
-        End::Stopped(Stop::File(3)),
-        End::Stopped(Stop::File(4)),
+        End::Stopped(RunFault::File(2)),
+        End::Stopped(RunFault::File(3)),
+        End::Stopped(RunFault::File(4)),
         End::Whole,
     ];
     for (call, end) in cases.iter().enumerate() {
@@ -148,7 +148,7 @@ fn each_call_that_fails_stops_the_run(rt: HostRuntime) -> Result<(), Fail> {
 /// Each port's packets keep their order, and what was sent and what is left is not told.
 #[test]
 fn two_workers_share_all_tables(rt: HostRuntime) -> Result<(), Fail> {
-    let asked = Asked {
+    let asked = TrafficSpec {
         seed: 7,
         count: 40,
         flows: 3,

@@ -2,8 +2,8 @@
 use Rattle.std.proofs.Common.{◌≡◌, ◌⊎◌, inl, inr, ℕ, ◌+◌, ◌≤◌, List, [], ◌∷◌, length, Option, Some, None, Err, refl, sym, subst, ◌∙◌, arith}
 use Rattle.nf_files.specs.Told.{Told}
 use Rattle.nf_files.specs.Causes.{Counted, Faulted, FaultedAsking, Asked, asking, Rose, FirstAfter}
-use Rattle.stream_run.specs.declared.stop.Stop.{Stop as NumberStop}
-use Rattle.stream_run.specs.declared.stop.Stop.TheVariants as numbered
+use Rattle.stream_run.specs.declared.fault.RunFault.{RunFault}
+use Rattle.stream_run.specs.declared.fault.RunFault.TheVariants as numbered
 use Rattle.stream_run.specs.Writing.{IsStopCause, StopsAt}
 use Rattle.command_words.specs.Commands.{Run as RunAsked, Replay, Gen, Hash, Describe, Certify, Prove, Command, RunCommand, ReplayCommand, GenCommand, HashCommand, DescribeCommand, CertifyCommand, ProveCommand}
 use Rattle.call_base.specs.declared.status.RunFile.{RunFile}
@@ -12,13 +12,13 @@ use Rattle.call_base.specs.declared.status.End.{End}
 use Rattle.call_base.specs.declared.status.End.TheVariants as ends
 use Rattle.call_base.specs.declared.status.Refusal.{Refusal}
 use Rattle.call_base.specs.declared.status.Refusal.TheVariants as refusals
-use Rattle.call_base.specs.declared.status.Stop.{Stop}
-use Rattle.call_base.specs.declared.status.Stop.TheVariants as stops
+use Rattle.call_base.specs.declared.status.CallFault.{CallFault}
+use Rattle.call_base.specs.declared.status.CallFault.TheVariants as stops
 use Rattle.call_base.specs.declared.status.Status.{Status}
 use Rattle.call_base.specs.declared.status.Status.TheVariants.{Done, Usage, Refused, FileFault, NotCapture, Torn, ShareFull, TooMany, NoKeys, Memory, Differs, ProofFails}
-use Rattle.replay_call.specs.declared.checked.Checked.{Checked}
-use Rattle.replay_call.specs.declared.checked.Checked.TheVariants as checks
-use Rattle.replay_call.specs.Checked.{checked_status, IsRefused as IsUnjudged}
+use Rattle.replay_call.specs.declared.ending.ReplayEnd.{ReplayEnd}
+use Rattle.replay_call.specs.declared.ending.ReplayEnd.TheVariants as checks
+use Rattle.replay_call.specs.ReplayEnd.{checked_status, IsRefused as IsUnjudged}
 use Rattle.replay_call.specs.Numbers.{numbering as replay_numbering}
 use Rattle.call_base.specs.Statuses.{end_status, refusal_status, stop_status}
 use Rattle.call_base.specs.Outside.{Outside}
@@ -28,8 +28,8 @@ use Rattle.run_call.specs.Ending.{IsRefused, IsStopped}
 use Rattle.gen_call.specs.Numbers.{made_numbering}
 use Rattle.gen_call.specs.Ending.{IsRefused as IsUnmade, IsStopped as IsBrokenOff}
 use Rattle.describe_call.specs.Described.{IsUndescribed}
-use Rattle.certify_call.specs.declared.judged.Judged.{Judged}
-use Rattle.certify_call.specs.declared.judged.Judged.TheVariants as judgements
+use Rattle.certify_call.specs.declared.judgement.Judgement.{Judgement}
+use Rattle.certify_call.specs.declared.judgement.Judgement.TheVariants as judgements
 use Rattle.certify_call.specs.Judgements.{judged_status}
 use Rattle.certify_call.specs.Certifying.{asked_by, IsProofCause, IsUnjudged as IsStoppedJudging}
 use Rattle.prove_call.specs.Leaving.{IsCreateCause, IsWriteCause, IsHalfWritten, IsHalfPrinted}
@@ -80,32 +80,32 @@ refused_none c before now (refusals.NoKeys why) h = asked_none _ before.counted 
 refused_none c before now (refusals.NotCapture port) h = asked_none _ before.counted now.counted h.1.asked
 
 -- a call was stopped
-at_stop : (numbering : Numbering) (names : List Asked) (old new : Counted) (stop : Stop) → StopsBy numbering names old new stop → HasStatusCause numbering old new (stop_status stop)
+at_stop : (numbering : Numbering) (names : List Asked) (old new : Counted) (stop : CallFault) → StopsBy numbering names old new stop → HasStatusCause numbering old new (stop_status stop)
 at_stop numbering names old new (stops.File file) h =
     subst (CountsSome old new) h.cause.number_is (some_faulted h.front old new h.cause.number h.cause.faulted)
 at_stop numbering names old new stops.Memory h = asked_none h.front old new h.cause
 
-at_stopped : (R : Type 0) (c : RunAsked) (before now : Outside) (stop : Stop) → IsStopped R c before now stop → HasStatusCause (run_numbering before.told.next (length c.captures)) before.counted now.counted (stop_status stop)
+at_stopped : (R : Type 0) (c : RunAsked) (before now : Outside) (stop : CallFault) → IsStopped R c before now stop → HasStatusCause (run_numbering before.told.next (length c.captures)) before.counted now.counted (stop_status stop)
 at_stopped R c before now stop (inl h) = at_stop (run_numbering before.told.next (length c.captures)) _ before.counted now.counted stop h.stops
 at_stopped R c before now stop (inr h) = at_stop (run_numbering before.told.next (length c.captures)) _ before.counted now.counted stop h.stops
 
-at_print : (first ports : ℕ) (names : List Asked) (old new : Counted) (stop : Stop) → IsPrintCause (asking names old) new stop → HasStatusCause (run_numbering first ports) old new (stop_status stop)
+at_print : (first ports : ℕ) (names : List Asked) (old new : Counted) (stop : CallFault) → IsPrintCause (asking names old) new stop → HasStatusCause (run_numbering first ports) old new (stop_status stop)
 at_print first ports names old new (stops.File file) h =
     subst (λ (f : RunFile). CountsSome old new ((run_numbering first ports).number_of f)) (sym h.0) (some_faulted names old new 0 (inl h.1))
 at_print first ports names old new stops.Memory h = asked_none names old new h
 
-at_print_alone : (first ports : ℕ) (old new : Counted) (stop : Stop) → IsPrintCause old new stop → HasStatusCause (run_numbering first ports) old new (stop_status stop)
+at_print_alone : (first ports : ℕ) (old new : Counted) (stop : CallFault) → IsPrintCause old new stop → HasStatusCause (run_numbering first ports) old new (stop_status stop)
 at_print_alone first ports old new (stops.File file) h =
     subst (λ (f : RunFile). CountsSome old new ((run_numbering first ports).number_of f)) (sym h.0) (record { later = h.1.later; rose = h.1.rose; first = h.1.first })
 at_print_alone first ports old new stops.Memory h = subst (CountsNone old) (sym h) (counts_none old)
 
-at_text : (name : List ℕ) (first ports : ℕ) (old new : Counted) (stop : Stop) → IsTextCause name first old new stop → HasStatusCause (run_numbering first ports) old new (stop_status stop)
+at_text : (name : List ℕ) (first ports : ℕ) (old new : Counted) (stop : CallFault) → IsTextCause name first old new stop → HasStatusCause (run_numbering first ports) old new (stop_status stop)
 at_text name first ports old new (stops.File file) h =
     subst (λ (f : RunFile). CountsSome old new ((run_numbering first ports).number_of f)) (sym h.0) (some_asking _ old new first h.1)
 at_text name first ports old new stops.Memory (inl same) = subst (CountsNone old) (sym same) (counts_none old)
 at_text name first ports old new stops.Memory (inr more) = asked_none _ old new more
 
-at_undescribed : (c : Describe) (first ports : ℕ) (before now : Outside) (stop : Stop) → first ≡ before.told.next → IsUndescribed c before now stop → HasStatusCause (run_numbering first ports) before.counted now.counted (stop_status stop)
+at_undescribed : (c : Describe) (first ports : ℕ) (before now : Outside) (stop : CallFault) → first ≡ before.told.next → IsUndescribed c before now stop → HasStatusCause (run_numbering first ports) before.counted now.counted (stop_status stop)
 at_undescribed c first ports before now stop is (inl h) =
     subst (λ (n : ℕ). HasStatusCause (run_numbering n ports) before.counted now.counted (stop_status stop)) (sym is) (at_text c.function before.told.next ports before.counted now.counted stop h.cause)
 at_undescribed c first ports before now stop is (inr h) = at_print first ports _ before.counted now.counted stop h.cause
@@ -123,7 +123,7 @@ of_run R c before now status (inr (inl h)) =
 of_run R c before now status (inr (inr h)) =
     subst (causes (Some (RunCommand c)) before now) (sym h.status_is) (at_stopped R c before now h.how h.ends)
 
-at_checked : (numbering : Numbering) (old new : Counted) (how : Checked) → CountsNone old new → HasStatusCause numbering old new (checked_status how)
+at_checked : (numbering : Numbering) (old new : Counted) (how : ReplayEnd) → CountsNone old new → HasStatusCause numbering old new (checked_status how)
 at_checked numbering old new checks.Same h = h
 at_checked numbering old new (checks.TooMany most) h = h
 at_checked numbering old new (checks.Differs at) h = h
@@ -161,17 +161,17 @@ proof_counted : (name : List ℕ) (names : List Asked) (number : ℕ) (old new :
 proof_counted name names number old new (inl f) = record { later = f.later; rose = f.rose; first = f.first }
 proof_counted name names number old new (inr f) = record { later = f.later; rose = f.rose; first = f.first }
 
-at_proof : (first ports : ℕ) (name : List ℕ) (names : List Asked) (number : ℕ) (old new : Counted) (stop : Stop) → number ≡ (run_numbering first ports).number_of Proof → IsProofCause name number (asking names old) new stop → HasStatusCause (run_numbering first ports) old new (stop_status stop)
+at_proof : (first ports : ℕ) (name : List ℕ) (names : List Asked) (number : ℕ) (old new : Counted) (stop : CallFault) → number ≡ (run_numbering first ports).number_of Proof → IsProofCause name number (asking names old) new stop → HasStatusCause (run_numbering first ports) old new (stop_status stop)
 at_proof first ports name names number old new (stops.File file) is h =
     subst (λ (f : RunFile). CountsSome old new ((run_numbering first ports).number_of f)) (sym h.0) (subst (CountsSome old new) is (proof_counted name names number old new h.1))
 at_proof first ports name names number old new stops.Memory is (inl same) = asked_none names old new same
 at_proof first ports name names number old new stops.Memory is (inr more) = subst (CountsNone old) (sym more) (record { faults = refl; first = refl; missing = refl })
 
-at_judged : (numbering : Numbering) (old new : Counted) (how : Judged) → CountsNone old new → HasStatusCause numbering old new (judged_status how)
+at_judged : (numbering : Numbering) (old new : Counted) (how : Judgement) → CountsNone old new → HasStatusCause numbering old new (judged_status how)
 at_judged numbering old new judgements.Right h = h
 at_judged numbering old new (judgements.Fails line) h = h
 
-at_unjudged : (c : Certify) (before now : Outside) (stop : Stop) → IsStoppedJudging c before now stop → HasStatusCause (run_numbering before.told.next 0) before.counted now.counted (stop_status stop)
+at_unjudged : (c : Certify) (before now : Outside) (stop : CallFault) → IsStoppedJudging c before now stop → HasStatusCause (run_numbering before.told.next 0) before.counted now.counted (stop_status stop)
 at_unjudged c before now stop (inl h) = at_text c.function before.told.next 0 before.counted now.counted stop h.cause
 at_unjudged c before now stop (inr (inl h)) = at_proof before.told.next 0 c.proof (reading c.function ∷ []) (before.told.next + 1) before.counted now.counted stop (omega arith) h.cause
 at_unjudged c before now stop (inr (inr h)) = at_print before.told.next 0 (asked_by c) before.counted now.counted stop h.cause
@@ -189,25 +189,25 @@ created_counted : (name : List ℕ) (names : List Asked) (number : ℕ) (old new
 created_counted name names number old new (inl f) = record { later = f.later; rose = f.rose; first = f.first }
 created_counted name names number old new (inr f) = record { later = f.later; rose = f.rose; first = f.first }
 
-at_created : (first ports : ℕ) (name : List ℕ) (names : List Asked) (number : ℕ) (old new : Counted) (stop : Stop) → number ≡ (run_numbering first ports).number_of Proof → IsCreateCause name number (asking names old) new stop → HasStatusCause (run_numbering first ports) old new (stop_status stop)
+at_created : (first ports : ℕ) (name : List ℕ) (names : List Asked) (number : ℕ) (old new : Counted) (stop : CallFault) → number ≡ (run_numbering first ports).number_of Proof → IsCreateCause name number (asking names old) new stop → HasStatusCause (run_numbering first ports) old new (stop_status stop)
 at_created first ports name names number old new (stops.File file) is h =
     subst (λ (f : RunFile). CountsSome old new ((run_numbering first ports).number_of f)) (sym h.0) (subst (CountsSome old new) is (created_counted name names number old new h.1))
 at_created first ports name names number old new stops.Memory is (inl same) = asked_none names old new same
 at_created first ports name names number old new stops.Memory is (inr more) = subst (CountsNone old) (sym more) (record { faults = refl; first = refl; missing = refl })
 
 -- it could not be written
-at_written : (first ports : ℕ) (names : List Asked) (number : ℕ) (old new : Counted) (stop : Stop) → number ≡ (run_numbering first ports).number_of Proof → IsWriteCause number (asking names old) new stop → HasStatusCause (run_numbering first ports) old new (stop_status stop)
+at_written : (first ports : ℕ) (names : List Asked) (number : ℕ) (old new : Counted) (stop : CallFault) → number ≡ (run_numbering first ports).number_of Proof → IsWriteCause number (asking names old) new stop → HasStatusCause (run_numbering first ports) old new (stop_status stop)
 at_written first ports names number old new (stops.File file) is h =
     subst (λ (f : RunFile). CountsSome old new ((run_numbering first ports).number_of f)) (sym h.0) (subst (CountsSome old new) is (some_faulted names old new number (inl h.1)))
 at_written first ports names number old new stops.Memory is h = asked_none names old new h
 
-at_far : (first ports : ℕ) (c : Prove) (number : ℕ) (certificate printed : List ℕ) (before now : Outside) (stop : Stop) → number ≡ (run_numbering first ports).number_of Proof
+at_far : (first ports : ℕ) (c : Prove) (number : ℕ) (certificate printed : List ℕ) (before now : Outside) (stop : CallFault) → number ≡ (run_numbering first ports).number_of Proof
     → IsHalfWritten c.proof number (asking (proof_asked_by c) before.counted) certificate before now stop ⊎ IsHalfPrinted c.proof number (asking (proof_asked_by c) before.counted) certificate printed before now stop
     → HasStatusCause (run_numbering first ports) before.counted now.counted (stop_status stop)
 at_far first ports c number certificate printed before now stop is (inl h) = at_written first ports (proof_asked_by c) number before.counted now.counted stop is h.cause
 at_far first ports c number certificate printed before now stop is (inr h) = at_print first ports (proof_asked_by c) before.counted now.counted stop h.cause
 
-at_unproved : (c : Prove) (before now : Outside) (stop : Stop) → IsUnproved c before now stop → HasStatusCause (run_numbering before.told.next 0) before.counted now.counted (stop_status stop)
+at_unproved : (c : Prove) (before now : Outside) (stop : CallFault) → IsUnproved c before now stop → HasStatusCause (run_numbering before.told.next 0) before.counted now.counted (stop_status stop)
 at_unproved c before now stop (inl h) = at_text c.function before.told.next 0 before.counted now.counted stop h.cause
 at_unproved c before now stop (inr (inl h)) = at_created before.told.next 0 c.proof (reading c.function ∷ []) (before.told.next + 1) before.counted now.counted stop (omega arith) h.uncreated.cause
 at_unproved c before now stop (inr (inr h)) = at_far before.told.next 0 c (before.told.next + 1) h.half.certificate h.half.printed before now stop (omega arith) h.half.far
@@ -240,12 +240,12 @@ knows_file told name ports Proof h = tt
 knows_file told name ports Stdout h = tt
 knows_file told name ports Stderr h = tt
 
-knows_stop : (told : Told) (name : List ℕ) (ports : ℕ) (stop : Stop) → HasSoManyPorts told name ports → KnowsPortsAt told name ports (stop_status stop)
+knows_stop : (told : Told) (name : List ℕ) (ports : ℕ) (stop : CallFault) → HasSoManyPorts told name ports → KnowsPortsAt told name ports (stop_status stop)
 knows_stop told name ports (stops.File file) h = knows_file told name ports file h
 knows_stop told name ports stops.Memory h = tt
 
 -- the text could not be read
-at_unmade : (c : Gen) (before now : Outside) (stop : Stop) → IsTextCause c.function before.told.next before.counted now.counted stop → own_causes (Some (GenCommand c)) before now (stop_status stop)
+at_unmade : (c : Gen) (before now : Outside) (stop : CallFault) → IsTextCause c.function before.told.next before.counted now.counted stop → own_causes (Some (GenCommand c)) before now (stop_status stop)
 at_unmade c before now (stops.File file) h = record {
   ports = 0;
   of_function = subst (λ (f : RunFile). KnowsPorts before.told c.function 0 f) (sym h.0) tt;
@@ -254,7 +254,7 @@ at_unmade c before now (stops.File file) h = record {
 at_unmade c before now stops.Memory (inl same) = record { ports = 0; of_function = tt; cause = subst (CountsNone before.counted) (sym same) (counts_none before.counted) }
 at_unmade c before now stops.Memory (inr more) = record { ports = 0; of_function = tt; cause = asked_none _ before.counted now.counted more }
 
-at_broken : (R : Type 0) (c : Gen) (before now : Outside) (stop : Stop) → IsBrokenOff c R before now stop → own_causes (Some (GenCommand c)) before now (stop_status stop)
+at_broken : (R : Type 0) (c : Gen) (before now : Outside) (stop : CallFault) → IsBrokenOff c R before now stop → own_causes (Some (GenCommand c)) before now (stop_status stop)
 at_broken R c before now stop (inl h) = at_unmade c before now stop h.cause
 at_broken R c before now stop (inr h) =
     let ports = length h.run.function.handlers in
@@ -345,15 +345,15 @@ behind_some old mid new number other h f = record {
 }
 
 -- where no file stopped the call, what stops the telling of it is standard error's
-told_none : (numbering : Numbering) (stderr : numbering.number_of Stderr ≡ 1) (old mid new : Counted) (stop : NumberStop) (at : StopsAt {T = Unit {0}} 1 (Err stop)) → IsStopCause {T = Unit {0}} mid new (Err stop) → CountsNone old mid → HasStatusCause numbering old new (stopped_at stop)
+told_none : (numbering : Numbering) (stderr : numbering.number_of Stderr ≡ 1) (old mid new : Counted) (stop : RunFault) (at : StopsAt {T = Unit {0}} 1 (Err stop)) → IsStopCause {T = Unit {0}} mid new (Err stop) → CountsNone old mid → HasStatusCause numbering old new (stopped_at stop)
 told_none numbering stderr old mid new (numbered.File number) at cause h = subst (CountsSome old new) (at ∙ sym stderr) (behind_none old mid new number h cause)
 told_none numbering stderr old mid new numbered.Memory at cause h = both_none old mid new h cause
 
-told_some : (old mid new : Counted) (number : ℕ) (stop : NumberStop) → IsStopCause {T = Unit {0}} mid new (Err stop) → CountsSome old mid number → CountsSome old new number
+told_some : (old mid new : Counted) (number : ℕ) (stop : RunFault) → IsStopCause {T = Unit {0}} mid new (Err stop) → CountsSome old mid number → CountsSome old new number
 told_some old mid new number (numbered.File other) cause h = behind_some old mid new number other h cause
 told_some old mid new number numbered.Memory cause h = subst (λ (c : Counted). CountsSome old c number) (sym cause) h
 
-told_half : (numbering : Numbering) (stderr : numbering.number_of Stderr ≡ 1) (old mid new : Counted) (due : Status) (stop : NumberStop) → StopsAt {T = Unit {0}} 1 (Err stop) → IsStopCause {T = Unit {0}} mid new (Err stop) → HasStatusCause numbering old mid due → HasStatusCause numbering old new (after_stop due stop)
+told_half : (numbering : Numbering) (stderr : numbering.number_of Stderr ≡ 1) (old mid new : Counted) (due : Status) (stop : RunFault) → StopsAt {T = Unit {0}} 1 (Err stop) → IsStopCause {T = Unit {0}} mid new (Err stop) → HasStatusCause numbering old mid due → HasStatusCause numbering old new (after_stop due stop)
 told_half numbering stderr old mid new (FileFault file) stop at cause h = told_some old mid new (numbering.number_of file) stop cause h
 told_half numbering stderr old mid new Done stop at cause h = told_none numbering stderr old mid new stop at cause h
 told_half numbering stderr old mid new Usage stop at cause h = told_none numbering stderr old mid new stop at cause h
@@ -374,11 +374,11 @@ of_telling numbering stderr old ended after due status h (inr half) =
     subst (HasStatusCause numbering old after.counted) (sym half.status_is) (told_half numbering stderr old ended.counted after.counted due half.stop half.at half.cause h)
 
 -- what stops the telling is standard error, which no run creates
-knows_none : (told : Told) (name : List ℕ) (ports : ℕ) (stop : NumberStop) → KnowsPortsAt told name ports (stopped_at stop)
+knows_none : (told : Told) (name : List ℕ) (ports : ℕ) (stop : RunFault) → KnowsPortsAt told name ports (stopped_at stop)
 knows_none told name ports (numbered.File number) = tt
 knows_none told name ports numbered.Memory = tt
 
-knows_half : (told : Told) (name : List ℕ) (ports : ℕ) (due : Status) (stop : NumberStop) → KnowsPortsAt told name ports due → KnowsPortsAt told name ports (after_stop due stop)
+knows_half : (told : Told) (name : List ℕ) (ports : ℕ) (due : Status) (stop : RunFault) → KnowsPortsAt told name ports due → KnowsPortsAt told name ports (after_stop due stop)
 knows_half told name ports (FileFault file) stop h = h
 knows_half told name ports Done stop h = knows_none told name ports stop
 knows_half told name ports Usage stop h = knows_none told name ports stop

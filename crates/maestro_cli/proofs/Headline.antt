@@ -10,8 +10,8 @@ use Rattle.packet_feed.specs.Feeding.{HasMore}
 use Rattle.key_synth.specs.Keys.{NoneMayBeGiven}
 use Rattle.key_synth.specs.Laws.{MeetingPacketsHashAlike}
 use Rattle.lock_mode.specs.Gates.{Rose}
-use Rattle.stream_run.specs.declared.stop.Stop.{Stop as NumberStop}
-use Rattle.stream_run.specs.declared.stop.Stop.TheVariants as numbered
+use Rattle.stream_run.specs.declared.fault.RunFault.{RunFault}
+use Rattle.stream_run.specs.declared.fault.RunFault.TheVariants as numbered
 use Rattle.stream_run.specs.Runs.{Run, IsLegal}
 use Rattle.stream_run.specs.Texts.{file_bytes}
 use Rattle.stream_run.specs.Rules.{Rule, IsRunBy}
@@ -22,8 +22,8 @@ use Rattle.call_base.specs.declared.status.End.{End}
 use Rattle.call_base.specs.declared.status.End.TheVariants as ends
 use Rattle.call_base.specs.declared.status.Refusal.{Refusal}
 use Rattle.call_base.specs.declared.status.Refusal.TheVariants as refusals
-use Rattle.call_base.specs.declared.status.Stop.{Stop}
-use Rattle.call_base.specs.declared.status.Stop.TheVariants as stops
+use Rattle.call_base.specs.declared.status.CallFault.{CallFault}
+use Rattle.call_base.specs.declared.status.CallFault.TheVariants as stops
 use Rattle.call_base.specs.declared.status.Status.{Status}
 use Rattle.call_base.specs.declared.status.Status.TheVariants.{Done, Usage, Refused as Rejected, FileFault, NotCapture, Torn, ShareFull, TooMany, NoKeys, Memory, Differs, ProofFails}
 use Rattle.call_base.specs.Captures.{packets_under}
@@ -43,11 +43,11 @@ use Rattle.maestro_cli.specs.Headline.{IsDone, ArePackets, AreHandled, StandsUnd
 
 -- ---- how the call ended, by its status
 
-not_stopped : (stop : NumberStop) → IsDone (stopped_at stop) → ⊥
+not_stopped : (stop : RunFault) → IsDone (stopped_at stop) → ⊥
 not_stopped (numbered.File file) h = absurd h
 not_stopped numbered.Memory h = absurd h
 
-not_half : (due : Status) (stop : NumberStop) → due ≢ Done → IsDone (after_stop due stop) → ⊥
+not_half : (due : Status) (stop : RunFault) → due ≢ Done → IsDone (after_stop due stop) → ⊥
 not_half Done stop some h = some refl
 not_half (FileFault file) stop some h = absurd h
 not_half Usage stop some h = not_stopped stop h
@@ -73,7 +73,7 @@ not_refused (refusals.Text fault) h = absurd h
 not_refused (refusals.NoKeys why) h = absurd h
 not_refused (refusals.NotCapture port) h = absurd h
 
-not_stopped_so : (how : Stop) → IsDone (stop_status how) → ⊥
+not_stopped_so : (how : CallFault) → IsDone (stop_status how) → ⊥
 not_stopped_so (stops.File file) h = absurd h
 not_stopped_so stops.Memory h = absurd h
 
@@ -250,11 +250,11 @@ IsKeyless Memory = ⊥
 IsKeyless (Differs at) = ⊥
 IsKeyless (ProofFails line) = ⊥
 
-stopped_with_keys : (stop : NumberStop) → IsKeyless (stopped_at stop) → ⊥
+stopped_with_keys : (stop : RunFault) → IsKeyless (stopped_at stop) → ⊥
 stopped_with_keys (numbered.File file) h = absurd h
 stopped_with_keys numbered.Memory h = absurd h
 
-half_with_keys : (due : Status) (stop : NumberStop) → due ≢ Done → IsKeyless (after_stop due stop) → ⊥
+half_with_keys : (due : Status) (stop : RunFault) → due ≢ Done → IsKeyless (after_stop due stop) → ⊥
 half_with_keys Done stop some h = some refl
 half_with_keys (FileFault file) stop some h = absurd h
 half_with_keys Usage stop some h = stopped_with_keys stop h
@@ -278,7 +278,7 @@ end_with_keys (ends.Torn port offset) h = absurd h
 end_with_keys (ends.TooMany most) h = absurd h
 end_with_keys (ends.ShareFull full) h = absurd h
 
-stop_with_keys : (how : Stop) → IsKeyless (stop_status how) → ⊥
+stop_with_keys : (how : CallFault) → IsKeyless (stop_status how) → ⊥
 stop_with_keys (stops.File file) h = absurd h
 stop_with_keys stops.Memory h = absurd h
 

@@ -7,7 +7,7 @@ use Rattle.call_base.specs.declared.status.Status.TheVariants.{Done, Usage, Memo
 use Rattle.call_base.specs.Statuses.{end_status, refusal_status, stop_status}
 use Rattle.call_base.specs.Outside.{Outside, HasOnlyAsked}
 use Rattle.run_call.specs.Ending.{IsFinished, IsRefused, IsStopped}
-use Rattle.replay_call.specs.Checked.{IsChecked, checked_status, IsRefused as IsUnjudged, IsStopped as IsCutOff}
+use Rattle.replay_call.specs.ReplayEnd.{IsChecked, checked_status, IsRefused as IsUnjudged, IsStopped as IsCutOff}
 use Rattle.gen_call.specs.Ending.{IsFinished as IsMade, IsRefused as IsUnmade, IsStopped as IsBrokenOff}
 use Rattle.describe_call.specs.Described.{IsHashed, IsUnhashed, IsDescribed, IsNotDescribed, IsUndescribed}
 use Rattle.certify_call.specs.Judgements.{judged_status}

@@ -10,7 +10,7 @@ ghost use Rattle.lock_mode.specs.Gates.{Rose};
 
 use call_base::loading::NoFunction;
 use call_base::say::{print_out, tell};
-use call_base::status::{Halt, Refusal, Status, Stop};
+use call_base::status::{CallFault, Halt, Refusal, Status};
 use certify_call::judge;
 use command_words::{
     CertifyCommand, Command, DescribeCommand, GenCommand, HashCommand, ProveCommand, ReplayCommand,
@@ -19,6 +19,7 @@ use command_words::{
 use describe_call::{hash_line, print_description};
 use gen_call::generate;
 use lock_mode::Gate;
+use nf_base::worker_turns::Turns;
 use nf_files::Files;
 use prove_call::prove_keys;
 use replay_call::replay;
@@ -26,7 +27,6 @@ use run_call::run;
 use std::alloc::Global;
 use std::sync::{Arc, Wait};
 use std::thread::Threads;
-use worker_turns::Turns;
 
 // Does a run.
 fn do_run<
@@ -96,13 +96,17 @@ fn do_gen<
 }
 
 // Prints the line of a hash.
-fn print_hash<F: Files>(alloc: Global, files: &mut F, command: &HashCommand) -> Result<(), Stop>
+fn print_hash<F: Files>(
+    alloc: Global,
+    files: &mut F,
+    command: &HashCommand,
+) -> Result<(), CallFault>
     ensures { HashesTo (view.hash command.now) (seen (F.told files.old) (F.counted files.old))
         (seen (F.told files.new) (F.counted files.new)) result }
 {
     match hash_line(alloc, command) {
         Ok(line) => print_out(files, line.as_bytes()),
-        Err(_) => Err(Stop::Memory),
+        Err(_) => Err(CallFault::Memory),
     }
 }
 

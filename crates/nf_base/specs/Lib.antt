@@ -25,3 +25,4 @@ pub mod Runs
 pub mod Families
 pub mod Doors
 pub mod Cards
+pub mod Hashed

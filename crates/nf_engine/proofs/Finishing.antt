@@ -26,8 +26,8 @@ use Rattle.nf_engine.specs.declared.context.Context.{Context}
 use Rattle.nf_engine.specs.Input.{Input, packet_of}
 use Rattle.nf_engine.specs.declared.context.Flow.{Flow}
 use Rattle.nf_engine.specs.declared.context.Flow.TheVariants.{Falls, Drop, Flood, To}
-use Rattle.nf_engine.specs.declared.context.Went.{Went}
-use Rattle.nf_engine.specs.declared.context.Went.TheVariants as went
+use Rattle.nf_engine.specs.declared.context.BlockResult.{BlockResult}
+use Rattle.nf_engine.specs.declared.context.BlockResult.TheVariants as went
 use Rattle.nf_engine.specs.declared.context.Outcome.{Outcome}
 use Rattle.nf_engine.specs.declared.context.Outcome.TheVariants as outcome
 use Rattle.nf_base.specs.declared.done.Action.{Action}
@@ -84,7 +84,7 @@ ends_so p f s packet fields b t u start new flow h comes = λ all may.
       step = ap (step_result all) (begun p f s packet fields b t start all h ∙ g.1) ∙ ended all (drop (length new.picks) all) flow u new;
     }
 
-pub runs_so : (p : Input) (f : Function) (s : State) (packet : Packet) (fields : Fields) (b : Block) (t u : TablesState) (start new : Context) (to : Went) → Begins p f s packet fields b t start → Goes to p b t start u new → Runs to new p.strict p.share p.choices (completes_for p.strict p.share f s packet fields) u.state
+pub runs_so : (p : Input) (f : Function) (s : State) (packet : Packet) (fields : Fields) (b : Block) (t u : TablesState) (start new : Context) (to : BlockResult) → Begins p f s packet fields b t start → Goes to p b t start u new → Runs to new p.strict p.share p.choices (completes_for p.strict p.share f s packet fields) u.state
 runs_so p f s packet fields b t u start new went.Falls h goes = ends_so p f s packet fields b t u start new Falls h goes
 runs_so p f s packet fields b t u start new went.Drop h goes = ends_so p f s packet fields b t u start new Drop h goes
 runs_so p f s packet fields b t u start new went.Flood h goes = ends_so p f s packet fields b t u start new Flood h goes
@@ -117,7 +117,7 @@ ends_own : (a : Action) (c : Context) (share : Share) (s : State) (meant : List 
 ends_own a c share s meant ends = finishes_all share (done_of a c) s (meant c.picks) (ends c.picks (take-length c.picks))
 
 -- without choices
-pub runs_own : (to : Went) (c : Context) (strict : Bool) (share : Share) (s : State) (meant : List ℕ → Completion) → Runs to c strict share None meant s → IfEnds (outcome_of to) (λ a. (step_result c.picks (meant c.picks) ≡ Some (record { state = s; done = done_of a c })) × AreOwn share c.picks)
+pub runs_own : (to : BlockResult) (c : Context) (strict : Bool) (share : Share) (s : State) (meant : List ℕ → Completion) → Runs to c strict share None meant s → IfEnds (outcome_of to) (λ a. (step_result c.picks (meant c.picks) ≡ Some (record { state = s; done = done_of a c })) × AreOwn share c.picks)
 runs_own went.Falls c strict share s meant runs = ends_own action.Drop c share s meant runs
 runs_own went.Drop c strict share s meant runs = ends_own action.Drop c share s meant runs
 runs_own went.Flood c strict share s meant runs = ends_own action.Flood c share s meant runs
@@ -125,7 +125,7 @@ runs_own (went.To port) c strict share s meant runs = ends_own (action.To port) 
 runs_own (went.ShareFull chain) c strict share s meant runs = tt
 runs_own went.BadChoice c strict share s meant runs = absurd runs.0
 
-pub chosen_own : (to : Went) (c : Context) (strict : Bool) (share : Share) (s : State) (meant : List ℕ → Completion) → Runs to c strict share None meant s → IsChosen to
+pub chosen_own : (to : BlockResult) (c : Context) (strict : Bool) (share : Share) (s : State) (meant : List ℕ → Completion) → Runs to c strict share None meant s → IsChosen to
 chosen_own went.Falls c strict share s meant runs = tt
 chosen_own went.Drop c strict share s meant runs = tt
 chosen_own went.Flood c strict share s meant runs = tt
@@ -146,7 +146,7 @@ stop_own c share f s packet fields chain new has runs =
       };
     }
 
-pub stops_own : (to : Went) (c : Context) (share : Share) (f : Function) (s : State) (packet : Packet) (fields : Fields) (new : State) → packet.fields ≡ Some fields → Runs to c false share None (completes_for false share f s packet fields) new → IfStops (outcome_of to) (λ chain. StopsAt share f s packet chain)
+pub stops_own : (to : BlockResult) (c : Context) (share : Share) (f : Function) (s : State) (packet : Packet) (fields : Fields) (new : State) → packet.fields ≡ Some fields → Runs to c false share None (completes_for false share f s packet fields) new → IfStops (outcome_of to) (λ chain. StopsAt share f s packet chain)
 stops_own went.Falls c share f s packet fields new has runs = tt
 stops_own went.Drop c share f s packet fields new has runs = tt
 stops_own went.Flood c share f s packet fields new has runs = tt
@@ -155,7 +155,7 @@ stops_own (went.ShareFull chain) c share f s packet fields new has runs = stop_o
 stops_own went.BadChoice c share f s packet fields new has runs = tt
 
 -- where there are several shares
-pub shares_own : (to : Went) (c : Context) (share : Share) (s : State) (meant : List ℕ → Completion) → Runs to c false share None meant s → IfStops (outcome_of to) (λ chain. 2 ≤ share.of)
+pub shares_own : (to : BlockResult) (c : Context) (share : Share) (s : State) (meant : List ℕ → Completion) → Runs to c false share None meant s → IfStops (outcome_of to) (λ chain. 2 ≤ share.of)
 shares_own went.Falls c share s meant runs = tt
 shares_own went.Drop c share s meant runs = tt
 shares_own went.Flood c share s meant runs = tt
@@ -196,7 +196,7 @@ ends_all a c share choices s meant ends all =
     let past = past_all choices.now (length c.picks) all in
     (h.step ∙ ap (λ left. finished choices.now left s (done_of a c)) past.1, AllPass-from_list_all (owns share) choices.now (rw past.0 at h.own))
 
-pub runs_all : (to : Went) (c : Context) (strict : Bool) (share : Share) (choices : Bor (List ℕ)) (s : State) (meant : List ℕ → Completion) → Runs to c strict share (Some choices) meant s → length choices.now ≤ length c.picks → IfSome (end_of to) (λ a. (step_result choices.now (meant choices.now) ≡ Some (record { state = s; done = record { action = a; edits = c.edits; picks = choices.now } })) × AreOwn share choices.now)
+pub runs_all : (to : BlockResult) (c : Context) (strict : Bool) (share : Share) (choices : Bor (List ℕ)) (s : State) (meant : List ℕ → Completion) → Runs to c strict share (Some choices) meant s → length choices.now ≤ length c.picks → IfSome (end_of to) (λ a. (step_result choices.now (meant choices.now) ≡ Some (record { state = s; done = record { action = a; edits = c.edits; picks = choices.now } })) × AreOwn share choices.now)
 runs_all went.Falls c strict share choices s meant runs all = ends_all action.Drop c share choices s meant runs all
 runs_all went.Drop c strict share choices s meant runs all = ends_all action.Drop c share choices s meant runs all
 runs_all went.Flood c strict share choices s meant runs all = ends_all action.Flood c share choices s meant runs all
@@ -217,7 +217,7 @@ ends_short a c share choices s meant ends lt =
     h.step ∙ ap (λ left. finished choices.now left s (done_of a c)) more.2
 
 -- with choices, where the handler comes to no end, or some of which are left over
-pub runs_none : (to : Went) (c : Context) (strict : Bool) (share : Share) (choices : Bor (List ℕ)) (s : State) (meant : List ℕ → Completion) → Runs to c strict share (Some choices) meant s → (end_of to ≡ None) ⊎ (length c.picks < length choices.now) → AreOwn share choices.now → step_result choices.now (meant choices.now) ≡ None
+pub runs_none : (to : BlockResult) (c : Context) (strict : Bool) (share : Share) (choices : Bor (List ℕ)) (s : State) (meant : List ℕ → Completion) → Runs to c strict share (Some choices) meant s → (end_of to ≡ None) ⊎ (length c.picks < length choices.now) → AreOwn share choices.now → step_result choices.now (meant choices.now) ≡ None
 runs_none went.Falls c strict share choices s meant runs (inr lt) own = ends_short action.Drop c share choices s meant runs lt
 runs_none went.Drop c strict share choices s meant runs (inr lt) own = ends_short action.Drop c share choices s meant runs lt
 runs_none went.Flood c strict share choices s meant runs (inr lt) own = ends_short action.Flood c share choices s meant runs lt
@@ -238,7 +238,7 @@ pub seen_is : (packet : Packet) (fields : Fields) → packet.fields ≡ Some fie
 seen_is packet fields has = ap (λ (o : Option Fields). record packet { fields = o }) (sym has)
 
 -- the choices are own where all were taken
-pub own_all : (to : Went) (a : Action) (c : Context) (strict : Bool) (share : Share) (choices : Bor (List ℕ)) (s : State) (meant : List ℕ → Completion) → Runs to c strict share (Some choices) meant s → end_of to ≡ Some a → length choices.now ≤ length c.picks → AreOwn share choices.now
+pub own_all : (to : BlockResult) (a : Action) (c : Context) (strict : Bool) (share : Share) (choices : Bor (List ℕ)) (s : State) (meant : List ℕ → Completion) → Runs to c strict share (Some choices) meant s → end_of to ≡ Some a → length choices.now ≤ length c.picks → AreOwn share choices.now
 own_all to a c strict share choices s meant runs is all =
     (subst (λ (o : Option Action). IfSome o (λ b. (step_result choices.now (meant choices.now) ≡ Some (record { state = s; done = record { action = b; edits = c.edits; picks = choices.now } })) × AreOwn share choices.now)) is
     (runs_all to c strict share choices s meant runs all)).1

@@ -19,8 +19,8 @@ use Rattle.nf_code.specs.Followed.{end_followed, followed}
 use Rattle.vig_tables.specs.TablesState.{TablesState}
 use Rattle.nf_engine.specs.declared.context.Context.{Context}
 use Rattle.nf_engine.specs.declared.context.Flow.{Flow}
-use Rattle.nf_engine.specs.declared.context.Went.{Went}
-use Rattle.nf_engine.specs.declared.context.Went.TheVariants as went
+use Rattle.nf_engine.specs.declared.context.BlockResult.{BlockResult}
+use Rattle.nf_engine.specs.declared.context.BlockResult.TheVariants as went
 use Rattle.nf_engine.specs.Input.{Input}
 use Rattle.nf_engine.specs.Course.{BlockFits, Comes, Goes, lookups, news}
 use Rattle.nf_engine.specs.Choices.{context_by}
@@ -107,7 +107,7 @@ comes_alike : (p : Input) (a b : Block) (t u : TablesState) (old new : Context) 
 comes_alike p a b t u old new meant same comes = λ all may. (let c = comes all may in (c.0, sym (same.goes (stops_of p) (input_of p) (context_by all t old)) ∙ c.1))
 
 -- what goes alike goes so too
-pub goes_alike : (to : Went) (p : Input) (a b : Block) (t u : TablesState) (old new : Context) → Alike a b → Goes to p a t old u new → Goes to p b t old u new
+pub goes_alike : (to : BlockResult) (p : Input) (a b : Block) (t u : TablesState) (old new : Context) → Alike a b → Goes to p a t old u new → Goes to p b t old u new
 goes_alike went.Falls p a b t u old new same h = comes_alike p a b t u old new Normal same h
 goes_alike went.Drop p a b t u old new same h = comes_alike p a b t u old new (Ended action.Drop) same h
 goes_alike went.Flood p a b t u old new same h = comes_alike p a b t u old new (Ended action.Flood) same h

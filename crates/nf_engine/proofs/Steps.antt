@@ -8,7 +8,7 @@ use Rattle.nf_base.specs.Shares.{AreOwn, share_stops}
 use Rattle.nf_base.specs.Step.{StepResult, step, step_by, step_result}
 use Rattle.nf_base.specs.Text.{Function}
 use Rattle.nf_engine.specs.declared.context.Context.{Context}
-use Rattle.nf_engine.specs.declared.context.Went.{Went}
+use Rattle.nf_engine.specs.declared.context.BlockResult.{BlockResult}
 use Rattle.nf_engine.specs.declared.context.Outcome.{Outcome}
 use Rattle.nf_engine.specs.Handlings.{Runs, StopsAt, completes_for, done_of, handled_of, IfDone, IfEnds, IfStops, outcome_of}
 use Rattle.nf_engine.specs.Input.{Seen, packet_of}
@@ -19,25 +19,25 @@ use Rattle.nf_engine.proofs.Undivided.{undivided_step}
 abbrev pub meant : Share → Function → State → Seen → List ℕ → Completion
 meant share f s seen = completes_for false share f s (packet_of seen) seen.fields
 
-pub by_share : (to : Went) (c : Context) (share : Share) (f : Function) (s new : State) (seen : Seen) → Runs to c false share None (meant share f s seen) new → IfEnds (outcome_of to) (λ a. step_by (share_stops share) f s (packet_of seen) c.picks ≡ Some (record { state = new; done = done_of a c }))
+pub by_share : (to : BlockResult) (c : Context) (share : Share) (f : Function) (s new : State) (seen : Seen) → Runs to c false share None (meant share f s seen) new → IfEnds (outcome_of to) (λ a. step_by (share_stops share) f s (packet_of seen) c.picks ≡ Some (record { state = new; done = done_of a c }))
 by_share to c share f s new seen runs =
     if_ends (λ a. (step_result c.picks (meant share f s seen c.picks) ≡ Some (record { state = new; done = done_of a c })) × AreOwn share c.picks)
     (λ a. step_by (share_stops share) f s (packet_of seen) c.picks ≡ Some (record { state = new; done = done_of a c }))
     (outcome_of to) (λ a x. x.0) (runs_own to c false share new (meant share f s seen) runs)
 
-pub own_by : (to : Went) (c : Context) (share : Share) (f : Function) (s new : State) (seen : Seen) → Runs to c false share None (meant share f s seen) new → IfEnds (outcome_of to) (λ a. AreOwn share c.picks)
+pub own_by : (to : BlockResult) (c : Context) (share : Share) (f : Function) (s new : State) (seen : Seen) → Runs to c false share None (meant share f s seen) new → IfEnds (outcome_of to) (λ a. AreOwn share c.picks)
 own_by to c share f s new seen runs =
     if_ends (λ a. (step_result c.picks (meant share f s seen c.picks) ≡ Some (record { state = new; done = done_of a c })) × AreOwn share c.picks)
     (λ a. AreOwn share c.picks)
     (outcome_of to) (λ a x. x.1) (runs_own to c false share new (meant share f s seen) runs)
 
-pub undivided_by : (to : Went) (c : Context) (share : Share) (f : Function) (s new : State) (seen : Seen) → Runs to c false share None (meant share f s seen) new → IfEnds (outcome_of to) (λ a. step f s (packet_of seen) c.picks ≡ Some (record { state = new; done = done_of a c }))
+pub undivided_by : (to : BlockResult) (c : Context) (share : Share) (f : Function) (s new : State) (seen : Seen) → Runs to c false share None (meant share f s seen) new → IfEnds (outcome_of to) (λ a. step f s (packet_of seen) c.picks ≡ Some (record { state = new; done = done_of a c }))
 undivided_by to c share f s new seen runs =
     if_ends (λ a. step_by (share_stops share) f s (packet_of seen) c.picks ≡ Some (record { state = new; done = done_of a c }))
     (λ a. step f s (packet_of seen) c.picks ≡ Some (record { state = new; done = done_of a c }))
     (outcome_of to) (λ a x. undivided_step (share_stops share) f s (packet_of seen) c.picks (record { state = new; done = done_of a c }) x) (by_share to c share f s new seen runs)
 
-pub stop_by : (to : Went) (c : Context) (share : Share) (f : Function) (s new : State) (seen : Seen) → Runs to c false share None (meant share f s seen) new → IfStops (outcome_of to) (λ chain. StopsAt share f s (packet_of seen) chain)
+pub stop_by : (to : BlockResult) (c : Context) (share : Share) (f : Function) (s new : State) (seen : Seen) → Runs to c false share None (meant share f s seen) new → IfStops (outcome_of to) (λ chain. StopsAt share f s (packet_of seen) chain)
 stop_by to c share f s new seen runs = stops_own to c share f s (packet_of seen) seen.fields new refl runs
 
 -- a step of a packet, as all that is answered of it

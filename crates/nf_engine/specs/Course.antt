@@ -9,8 +9,8 @@ use Rattle.nf_base.specs.Text.{Block, End, Do, Ask, Make, Question, Get, Find, T
 use Rattle.vig_tables.specs.TablesState.{TablesState}
 use Rattle.nf_engine.specs.declared.context.Context.{Context}
 use Rattle.nf_engine.specs.Input.{Input}
-use Rattle.nf_engine.specs.declared.context.Went.{Went}
-use Rattle.nf_engine.specs.declared.context.Went.TheVariants.{Falls, Drop, Flood, To, ShareFull, BadChoice}
+use Rattle.nf_engine.specs.declared.context.BlockResult.{BlockResult}
+use Rattle.nf_engine.specs.declared.context.BlockResult.TheVariants.{Falls, Drop, Flood, To, ShareFull, BadChoice}
 use Rattle.nf_engine.specs.View.{context_of, input_of}
 use Rattle.nf_engine.specs.Stops.{may_halt, stops_of}
 use Rattle.nf_engine.specs.Choices.{MayBe, AreGiven, Consumes, are_own, context_by}
@@ -77,7 +77,8 @@ Comes p b t old u new meant =
     × (exec (stops_of p) (input_of p) b (context_by all t old) ≡ meant (context_by all u new))
 
 -- how a block goes for a share
-abbrev pub Goes : Went → Input → Block → TablesState → Context → TablesState → Context → Type 0
+abbrev pub Goes : BlockResult → Input → Block → TablesState → Context → TablesState → Context →
+    Type 0
 Goes Falls p b t old u new = Comes p b t old u new Normal
 Goes Drop p b t old u new = Comes p b t old u new (Ended action.Drop)
 Goes Flood p b t old u new = Comes p b t old u new (Ended action.Flood)
@@ -92,7 +93,7 @@ Goes BadChoice p b t old u new =
     → exec (stops_of p) (input_of p) b (context_by all t old) ≡ NoStep)
 
 -- where a block falls off its end
-abbrev pub IfFalls : Went → Type 0 → Type 0
+abbrev pub IfFalls : BlockResult → Type 0 → Type 0
 IfFalls Falls P = P
 IfFalls Drop P = Unit {0}
 IfFalls Flood P = Unit {0}

@@ -14,8 +14,8 @@ use Rattle.nf_base.specs.Shares.{IsShareStop}
 use Rattle.nf_base.specs.Step.{StepResult, step_result, if_none_left, completes}
 use Rattle.nf_base.specs.Text.{Function}
 use Rattle.nf_engine.specs.declared.context.Context.{Context}
-use Rattle.nf_engine.specs.declared.context.Went.{Went}
-use Rattle.nf_engine.specs.declared.context.Went.TheVariants as went
+use Rattle.nf_engine.specs.declared.context.BlockResult.{BlockResult}
+use Rattle.nf_engine.specs.declared.context.BlockResult.TheVariants as went
 use Rattle.nf_engine.specs.declared.context.Outcome.{Outcome}
 use Rattle.nf_engine.specs.declared.context.Outcome.TheVariants as outcome
 use Rattle.nf_engine.specs.declared.handling.Handled.{Handled}
@@ -76,7 +76,7 @@ EndsSo a c share choices meant s =
 
 -- what the run of a packet's handler comes to, by all the choices that it may have
 abbrev pub Runs :
-    Went → Context → Bool → Share → Choices → (List ℕ → Completion) → State → Type 0
+    BlockResult → Context → Bool → Share → Choices → (List ℕ → Completion) → State → Type 0
 Runs went.Falls c strict share choices meant s = EndsSo action.Drop c share choices meant s
 Runs went.Drop c strict share choices meant s = EndsSo action.Drop c share choices meant s
 Runs went.Flood c strict share choices meant s = EndsSo action.Flood c share choices meant s
@@ -90,7 +90,7 @@ Runs went.BadChoice c strict share choices meant s =
     × ((all : List ℕ) → MayBe choices c.picks all → IsTrue (are_own share all) → meant all ≡ NoStep)
 
 -- the action of a handler that came to its end
-abbrev pub end_of : Went → Option Action
+abbrev pub end_of : BlockResult → Option Action
 end_of went.Falls = Some action.Drop
 end_of went.Drop = Some action.Drop
 end_of went.Flood = Some action.Flood
@@ -99,7 +99,7 @@ end_of (went.ShareFull chain) = None
 end_of went.BadChoice = None
 
 -- no choice was given
-abbrev pub IsChosen : Went → Type 0
+abbrev pub IsChosen : BlockResult → Type 0
 IsChosen went.Falls = Unit {0}
 IsChosen went.Drop = Unit {0}
 IsChosen went.Flood = Unit {0}
@@ -108,7 +108,7 @@ IsChosen (went.ShareFull chain) = Unit {0}
 IsChosen went.BadChoice = ⊥
 
 -- what a handler comes to that was not given choices
-abbrev pub outcome_of : Went → Outcome
+abbrev pub outcome_of : BlockResult → Outcome
 outcome_of went.Falls = outcome.Drop
 outcome_of went.Drop = outcome.Drop
 outcome_of went.Flood = outcome.Flood

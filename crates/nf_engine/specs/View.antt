@@ -12,8 +12,8 @@ use Rattle.nf_engine.specs.declared.context.Context.{Context}
 use Rattle.nf_engine.specs.Input.{Input}
 use Rattle.nf_engine.specs.declared.context.Flow.{Flow}
 use Rattle.nf_engine.specs.declared.context.Flow.TheVariants.{Falls, Drop, Flood, To}
-use Rattle.nf_engine.specs.declared.context.Went.{Went}
-use Rattle.nf_engine.specs.declared.context.Went.TheVariants as went
+use Rattle.nf_engine.specs.declared.context.BlockResult.{BlockResult}
+use Rattle.nf_engine.specs.declared.context.BlockResult.TheVariants as went
 
 -- a handler in its context, where these choices are left
 abbrev pub context_of : TablesState → List ℕ → Context → context.Context
@@ -55,7 +55,7 @@ action_of Flood = action.Flood
 action_of (To port) = action.To port
 
 -- a block that came to its end, as one of all
-abbrev pub went_of : Flow → Went
+abbrev pub went_of : Flow → BlockResult
 went_of Falls = went.Falls
 went_of Drop = went.Drop
 went_of Flood = went.Flood

@@ -10,7 +10,7 @@ ghost use Rattle.nf_engine.specs.Course.{BlockFits, HasRoom, UsesRoom, Goes, IfF
 ghost use Rattle.nf_engine.specs.Quiet.{record_after};
 ghost use Rattle.nf_engine.specs.View.{context_of, input_of, completion_of, went_of, fixed_of, fixed_in};
 
-use crate::context::{Context, Flow, Went};
+use crate::context::{BlockResult, Context, Flow};
 use crate::creation::{NewResult, make};
 use crate::input::Input;
 use crate::operation::operate;
@@ -67,14 +67,14 @@ pub fn end<R: Reads>(tables: &Tables, context: &Context, p: &Input<R>, ending: &
 
 /// A block that came to its end.
 #[inline]
-pub fn went(flow: Flow) -> Went
+pub fn went(flow: Flow) -> BlockResult
     ensures { result ≡ went_of flow }
 {
     match flow {
-        Flow::Falls => Went::Falls,
-        Flow::Drop => Went::Drop,
-        Flow::Flood => Went::Flood,
-        Flow::To(port) => Went::To(port),
+        Flow::Falls => BlockResult::Falls,
+        Flow::Drop => BlockResult::Drop,
+        Flow::Flood => BlockResult::Flood,
+        Flow::To(port) => BlockResult::To(port),
     }
 }
 
@@ -86,7 +86,7 @@ pub fn exec<R: Reads>(
     context: &mut Context,
     p: &Input<R>,
     block: &Block,
-) -> Went
+) -> BlockResult
     requires over { fixed_of tables.old ≡ fixed_in p.now }
     requires fits { BlockFits p.now.decls (block_of block.now) }
     requires room { HasRoom context.old (block_of block.now) }
@@ -115,7 +115,7 @@ pub fn exec<R: Reads>(
                     miss
                 };
                 match exec(tables, context, p, inner) {
-                    Went::Falls => rest = next,
+                    BlockResult::Falls => rest = next,
                     ended => return ended,
                 }
             }
@@ -130,11 +130,11 @@ pub fn exec<R: Reads>(
                     NewResult::Made(_) => made,
                     NewResult::Taken => taken,
                     NewResult::Full => full,
-                    NewResult::Illegal => return Went::BadChoice,
-                    NewResult::Stopped => return Went::ShareFull(creation.chain),
+                    NewResult::Illegal => return BlockResult::BadChoice,
+                    NewResult::Stopped => return BlockResult::ShareFull(creation.chain),
                 };
                 match exec(tables, context, p, inner) {
-                    Went::Falls => rest = next,
+                    BlockResult::Falls => rest = next,
                     ended => return ended,
                 }
             }

@@ -6,7 +6,7 @@ ghost use Rattle.nf_engine.specs.View.{fixed_of, fixed_in};
 ghost use Rattle.nf_engine.specs.Ways.{HasWay};
 
 use crate::block::{forward, went};
-use crate::context::{Context, Went};
+use crate::context::{BlockResult, Context};
 use crate::creation::{NewResult, make};
 use crate::input::Input;
 use crate::operation::operate;
@@ -23,7 +23,7 @@ pub fn run_code<R: Reads>(
     p: &Input<R>,
     code: &Code,
     start: usize,
-) -> Went
+) -> BlockResult
     requires over { fixed_of tables.old ≡ fixed_in p.now }
     requires within { start < length code.now }
     requires fits { BlockFits p.now.decls (block_at code.now start) }
@@ -35,10 +35,10 @@ pub fn run_code<R: Reads>(
     let mut at = start;
     'steps: loop {
         match code.op(at) {
-            Op::Falls => return Went::Falls,
+            Op::Falls => return BlockResult::Falls,
             Op::Forward(port) => return went(forward(tables, context, p, port)),
-            Op::Flood => return Went::Flood,
-            Op::Discard => return Went::Drop,
+            Op::Flood => return BlockResult::Flood,
+            Op::Discard => return BlockResult::Drop,
             Op::Do { operation, next } => {
                 operate(tables, context, p, operation);
                 at = next;
@@ -64,8 +64,8 @@ pub fn run_code<R: Reads>(
                     NewResult::Made(_) => made,
                     NewResult::Taken => taken,
                     NewResult::Full => full,
-                    NewResult::Illegal => return Went::BadChoice,
-                    NewResult::Stopped => return Went::ShareFull(creation.chain),
+                    NewResult::Illegal => return BlockResult::BadChoice,
+                    NewResult::Stopped => return BlockResult::ShareFull(creation.chain),
                 };
             }
         }

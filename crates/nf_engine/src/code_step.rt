@@ -10,7 +10,7 @@ ghost use Rattle.nf_engine.specs.Input.{packet_of};
 ghost use Rattle.nf_engine.specs.View.{fixed_of};
 
 use crate::code_run::run_code;
-use crate::context::{Context, Outcome, Went};
+use crate::context::{BlockResult, Context, Outcome};
 use crate::handling::outcome;
 use crate::input::Input;
 use crate::reads::Reads;
@@ -66,7 +66,7 @@ fn run_ready<'x, R: Reads>(
     ready: &'x Ready,
     packet: &'x R,
     context: &mut Context,
-) -> Went
+) -> BlockResult
     requires of_func { tables.old.decls ≡ ready.now.chains }
     requires port { (R.seen packet.now).id.port < length ready.now.handlers }
     requires served { IsServed (function_of ready.now) (packet_of (R.seen packet.now)) }

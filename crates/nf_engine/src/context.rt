@@ -98,7 +98,7 @@ pub enum Flow {
 
 /// How a block went, or why it came to no end. It has no enum in it, so that it stays in registers.
 #[derive(Clone, Copy)]
-pub enum Went {
+pub enum BlockResult {
     /// It fell off its end.
     Falls,
     /// A statement ended the handler: the packet goes nowhere.

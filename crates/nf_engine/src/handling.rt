@@ -12,7 +12,7 @@ ghost use Rattle.nf_engine.specs.Input.{packet_of};
 ghost use Rattle.nf_engine.specs.View.{action_of, fixed_of};
 
 use crate::block::exec;
-use crate::context::{Context, Flow, Outcome, Went};
+use crate::context::{BlockResult, Context, Flow, Outcome};
 use crate::input::Input;
 use crate::reads::{PacketFields, Reads};
 use nf_base::done::{Action, Done, Edits};
@@ -251,7 +251,7 @@ fn run<'x, R: Reads>(
     strict: bool,
     choices: Option<&'x Picks>,
     context: &mut Context,
-) -> Went
+) -> BlockResult
     requires of_func { tables.old.decls ≡ func.now.chains }
     requires port { (R.seen packet.now).id.port < length func.now.handlers }
     requires served { IsServed (function_of func.now) (packet_of (R.seen packet.now)) }
@@ -280,32 +280,32 @@ fn run<'x, R: Reads>(
 }
 
 /// The action of a handler that came to its end.
-fn end_of(went: Went) -> Option<Action>
+fn end_of(went: BlockResult) -> Option<Action>
     ensures { result ≡ end_of went }
 {
     match went {
-        Went::Falls => Some(Action::Drop),
-        Went::Drop => Some(Action::Drop),
-        Went::Flood => Some(Action::Flood),
-        Went::To(port) => Some(Action::To(port)),
-        Went::ShareFull(_) => None,
-        Went::BadChoice => None,
+        BlockResult::Falls => Some(Action::Drop),
+        BlockResult::Drop => Some(Action::Drop),
+        BlockResult::Flood => Some(Action::Flood),
+        BlockResult::To(port) => Some(Action::To(port)),
+        BlockResult::ShareFull(_) => None,
+        BlockResult::BadChoice => None,
     }
 }
 
 /// What a handler comes to that was not given choices.
-pub fn outcome(went: Went) -> Outcome
+pub fn outcome(went: BlockResult) -> Outcome
     requires { IsChosen went }
     ensures { result ≡ outcome_of went }
 {
     match went {
-        Went::Falls => Outcome::Drop,
-        Went::Drop => Outcome::Drop,
-        Went::Flood => Outcome::Flood,
-        Went::To(port) => Outcome::To(port),
-        Went::ShareFull(chain) => Outcome::ShareFull(chain),
+        BlockResult::Falls => Outcome::Drop,
+        BlockResult::Drop => Outcome::Drop,
+        BlockResult::Flood => Outcome::Flood,
+        BlockResult::To(port) => Outcome::To(port),
+        BlockResult::ShareFull(chain) => Outcome::ShareFull(chain),
         // No choices are given.
-        Went::BadChoice => unreachable!(),
+        BlockResult::BadChoice => unreachable!(),
     }
 }
 

@@ -16,8 +16,8 @@ use Rattle.nf_base.specs.Operations.{never}
 use Rattle.nf_base.specs.Course.{route}
 use Rattle.nf_base.specs.Paths.{PathStep, Doing, Asking, Making, Closing}
 use Rattle.nf_base.specs.Step.{input, start_context, routes, route_of}
-use Rattle.hash_fields.specs.declared.hashable.Hashable.{Hashable}
-use Rattle.hash_fields.specs.Hashed as hash
+use Rattle.nf_base.specs.declared.hash_fields.Hashable.{Hashable}
+use Rattle.nf_base.specs.Hashed as hash
 use Rattle.path_walk.specs.Feasible.{handler_paths}
 use Rattle.path_walk.proofs.Taken.{courses_feasible}
 use Rattle.nf_laws.proofs.Listed.{here, there, has_none}

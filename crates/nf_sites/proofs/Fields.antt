@@ -14,9 +14,9 @@ use Rattle.nf_base.specs.Context.{Context, Input, value, given}
 use Rattle.std.specs.Option.{option_and_then}
 use Rattle.path_walk.specs.Tests.{field_number}
 use Rattle.path_walk.proofs.Texts.{one_field as same_number}
-use Rattle.hash_fields.specs.declared.hashable.Hashable.{Hashable}
-use Rattle.hash_fields.specs.Hashed as hash
-use Rattle.hash_fields.specs.Hashed.{hashable, IsInput}
+use Rattle.nf_base.specs.declared.hash_fields.Hashable.{Hashable}
+use Rattle.nf_base.specs.Hashed as hash
+use Rattle.nf_base.specs.Hashed.{hashable, IsInput}
 use Rattle.nf_sites.specs.Known.{of_width, plain_field, field_given, hashed_of, field_set, same_field}
 
 -- a field's value

@@ -6,9 +6,9 @@ use Rattle.nf_base.specs.declared.packet.Addresses.TheVariants as addresses
 use Rattle.nf_base.specs.declared.packet.Family.TheVariants as family
 use Rattle.nf_base.specs.Families.{source, destination}
 use Rattle.nf_base.specs.declared.packet.Fields.{Fields}
-use Rattle.hash_fields.specs.declared.hashable.Hashable.{Hashable}
-use Rattle.hash_fields.specs.declared.hashable.Hashable.TheVariants.{SrcIp, DstIp, SrcPort, DstPort}
-use Rattle.hash_fields.specs.Hashed.{value, width}
+use Rattle.nf_base.specs.declared.hash_fields.Hashable.{Hashable}
+use Rattle.nf_base.specs.declared.hash_fields.Hashable.TheVariants.{SrcIp, DstIp, SrcPort, DstPort}
+use Rattle.nf_base.specs.Hashed.{value, width}
 use Rattle.nf_base.specs.declared.decl.ObjectId.TheVariants as object
 use Rattle.nf_base.specs.declared.width.Width.TheVariants.{W32}
 use Rattle.nf_base.specs.declared.packet.Field.TheVariants as field

@@ -14,9 +14,9 @@ use Rattle.nf_base.specs.Context.{Context, Input, given}
 use Rattle.nf_base.specs.Objects.{is_written}
 use Rattle.nf_base.specs.Locations.{Location, EntryNo, KeyOf, CellAt, object_of}
 use Rattle.nf_base.specs.Step.{input}
-use Rattle.hash_fields.specs.declared.hashable.Hashable.{Hashable}
-use Rattle.hash_fields.specs.Hashed as hash
-use Rattle.hash_fields.specs.Hashed.{IsInput}
+use Rattle.nf_base.specs.declared.hash_fields.Hashable.{Hashable}
+use Rattle.nf_base.specs.Hashed as hash
+use Rattle.nf_base.specs.Hashed.{IsInput}
 use Rattle.nf_sites.specs.Named.{Named, named_as, numbered, speaker}
 use Rattle.nf_sites.specs.Sites.{Site, first_label}
 use Rattle.nf_sites.specs.Known.{together, field_given, field_of_named, known}

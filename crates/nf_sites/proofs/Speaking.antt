@@ -11,8 +11,8 @@ use Rattle.nf_base.specs.Text.{Expression, Number, Read, Index, Label, Column, C
 use Rattle.nf_base.specs.Values.{bits}
 use Rattle.nf_base.specs.Statements.{Statement, Ends, Does, Asks, Makes, statements}
 use Rattle.path_walk.specs.Tests.{field_number}
-use Rattle.hash_fields.specs.declared.hashable.Hashable.{Hashable}
-use Rattle.hash_fields.specs.Hashed.{width, hashable}
+use Rattle.nf_base.specs.declared.hash_fields.Hashable.{Hashable}
+use Rattle.nf_base.specs.Hashed.{width, hashable}
 use Rattle.nf_sites.specs.Named.{Named, lesser, least, or_else}
 use Rattle.nf_sites.specs.Known.{of_width, plain_field, field_given, same_field, field_at, sets_alike}
 use Rattle.nf_sites.specs.KnownLaws.{IsPlainField, FieldsAreGiven, SetsOneField, TogetherIs, Speaks, NoneSpeaks, SpeakersSpeak, NoneSpeaksWhere}

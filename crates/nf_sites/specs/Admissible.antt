@@ -5,8 +5,8 @@ use Rattle.nf_base.specs.declared.packet.Door.{Door}
 use Rattle.nf_base.specs.declared.packet.Fields.{Fields}
 use Rattle.nf_base.specs.Text.{Function}
 use Rattle.nf_base.specs.Objects.{is_written}
-use Rattle.hash_fields.specs.declared.hashable.Hashable.{Hashable}
-use Rattle.hash_fields.specs.Hashed.{value, IsInput}
+use Rattle.nf_base.specs.declared.hash_fields.Hashable.{Hashable}
+use Rattle.nf_base.specs.Hashed.{value, IsInput}
 use Rattle.nf_sites.specs.Sites.{Site}
 use Rattle.nf_sites.specs.OnPaths.{sites_of, IsSite}
 use Rattle.nf_sites.specs.Known.{known, labels_of, kept, IsKept}

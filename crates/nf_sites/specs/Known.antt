@@ -12,8 +12,8 @@ use Rattle.nf_base.specs.Text.{Expression, Number, Read, Index, Label, Column, C
 use Rattle.nf_base.specs.Values.{bits, field_width, is_hashable}
 use Rattle.nf_base.specs.Statements.{Statement, Ends, Does, Asks, Makes, statements}
 use Rattle.path_walk.specs.Tests.{field_number}
-use Rattle.hash_fields.specs.declared.hashable.Hashable.{Hashable}
-use Rattle.hash_fields.specs.Hashed.{width, hashable}
+use Rattle.nf_base.specs.declared.hash_fields.Hashable.{Hashable}
+use Rattle.nf_base.specs.Hashed.{width, hashable}
 use Rattle.nf_sites.specs.Named.{Named, speaker}
 use Rattle.nf_sites.specs.Sites.{Site}
 use Rattle.nf_sites.specs.OnPaths.{sites_of, IsSite}

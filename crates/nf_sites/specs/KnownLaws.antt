@@ -7,8 +7,8 @@ use Rattle.nf_base.specs.declared.packet.Field.{Field}
 use Rattle.nf_base.specs.Text.{Read, Given, Creation, Block, Function}
 use Rattle.nf_base.specs.Values.{bits}
 use Rattle.nf_base.specs.Statements.{Makes, statements}
-use Rattle.hash_fields.specs.declared.hashable.Hashable.{Hashable}
-use Rattle.hash_fields.specs.Hashed.{width, hashable}
+use Rattle.nf_base.specs.declared.hash_fields.Hashable.{Hashable}
+use Rattle.nf_base.specs.Hashed.{width, hashable}
 use Rattle.nf_sites.specs.Named.{Named, speaker}
 use Rattle.nf_sites.specs.Known.{field_given, field_at, together}
 

@@ -9,8 +9,8 @@ use Rattle.nf_base.specs.declared.packet.Fields.{Fields}
 use Rattle.nf_base.specs.declared.width.Width.TheVariants.{W16, W32}
 use Rattle.nf_base.specs.declared.expr.Operator.TheVariants.{Plus}
 use Rattle.nf_base.specs.Text.{Expression, Number, Read, Label, Cell, Both, Given, Block, Function}
-use Rattle.hash_fields.specs.declared.hashable.Hashable.{Hashable}
-use Rattle.hash_fields.specs.declared.hashable.Hashable.TheVariants as hashed
+use Rattle.nf_base.specs.declared.hash_fields.Hashable.{Hashable}
+use Rattle.nf_base.specs.declared.hash_fields.Hashable.TheVariants as hashed
 use Rattle.nf_laws.specs.Samples.{column, map_of, valued, read, nothing}
 use Rattle.nf_laws.specs.Nat.{nat}
 use Rattle.nf_laws.specs.Bridge.{bridge}

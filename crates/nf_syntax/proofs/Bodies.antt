@@ -3,7 +3,7 @@ use Rattle.std.proofs.Common.{◌≡◌, ◌∙◌, ◌≤◌, ℕ, suc, List, a
 use Rattle.nf_tokens.specs.declared.token.Placed.{Placed}
 use Rattle.nf_tree.specs.Tree.{Ending, Block, End, Do, Ask, Make}
 use Rattle.nf_tree.specs.Depth.{depth}
-use Rattle.nf_syntax.specs.declared.fault.Stop.{Stop}
+use Rattle.nf_syntax.specs.declared.fault.TokenFault.{TokenFault}
 use Rattle.nf_syntax.specs.Statements.{Statement, turned}
 use Rattle.nf_syntax.specs.Machine.{Place, BodyAt, behind, run}
 use Rattle.nf_syntax.specs.Reads.{Fails}
@@ -22,7 +22,7 @@ so_far room before after d s ps rest blocks left e all begun read = λ k.
     all k ∙ begun room k1 ∙ ap (λ x. run (behind room k1 x) blocks) e ∙ read k
 
 -- the reading of its blocks stops
-pub stopped : (room : ℕ) (before : Block) (d s : Statement) (ps rest blocks : List Placed) (stop : Stop) → d ≡ s → SoFar room before ps rest →
+pub stopped : (room : ℕ) (before : Block) (d s : Statement) (ps rest blocks : List Placed) (stop : TokenFault) → d ≡ s → SoFar room before ps rest →
     ((r : ℕ) (k : Block → Place) → run (BodyAt r k) rest ≡ run (behind r k d) blocks) →
     ((k : Block → Place) → Fails stop (run (behind room (λ next. k (turned before next)) s) blocks)) →
     (k : Block → Place) → Fails stop (run (BodyAt room k) ps)

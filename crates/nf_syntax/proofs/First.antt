@@ -5,8 +5,8 @@ use Rattle.nf_tokens.specs.declared.token.Placed.{Placed}
 use Rattle.nf_tokens.specs.declared.token.Token.{Token}
 use Rattle.nf_tree.specs.Tree.{Tree}
 use Rattle.nf_syntax.specs.declared.fault.SyntaxKind.{SyntaxKind}
-use Rattle.nf_syntax.specs.declared.fault.Stop.{Stop}
-use Rattle.nf_syntax.specs.declared.fault.Stop.TheVariants as stops
+use Rattle.nf_syntax.specs.declared.fault.TokenFault.{TokenFault}
+use Rattle.nf_syntax.specs.declared.fault.TokenFault.TheVariants as stops
 use Rattle.nf_syntax.specs.Items.{item, kind_of, Marked, unmarked}
 use Rattle.nf_syntax.specs.Machine.{Place, Row, Go, No, step, finished, ended, judged, Accepted, Stuck, Past, Short, run, whole}
 use Rattle.nf_syntax.specs.Language.{marked, Spells, CanGoOn, IsTreeOf, IsFirstStuck, IsFirstPast, IsShort, IsFirstFault, Finds}
@@ -159,7 +159,7 @@ first_short ps h =
     record { before = can_go_on r.stop (unmarked ps) r.there; unfinished = λ t s. let a = spelled_run ps t s in cc }
 
 -- what is read is spelled so
-pub found : {X : Type 0} → (view : X → Tree) (r : Result X Stop) (ps : List Placed) → Answers view r ps → IfOk r (λ x. IsTreeOf ps (view x))
+pub found : {X : Type 0} → (view : X → Tree) (r : Result X TokenFault) (ps : List Placed) → Answers view r ps → IfOk r (λ x. IsTreeOf ps (view x))
 found view (Ok x) ps a =
     let s = sound (unmarked ps) (without_end (view x)) (went whole ps (without_end (view x)) a.0) in
     record { spelled = record { well_formed = s.well_formed; tokens = s.tokens }; end = a.1 }
@@ -175,7 +175,7 @@ same_accepted : (a b : Tree) → Accepted a ≡ Accepted b → a ≡ b
 same_accepted a b h = cc
 
 -- what is spelled so is read, unless memory runs out
-pub only : {X : Type 0} → (view : X → Tree) (r : Result X Stop) (ps : List Placed) → Answers view r ps → (t : Tree) → IsTreeOf ps t → Finds view t r
+pub only : {X : Type 0} → (view : X → Tree) (r : Result X TokenFault) (ps : List Placed) → Answers view r ps → (t : Tree) → IsTreeOf ps t → Finds view t r
 only view (Ok x) ps a t s = same_tree (view x) t (same_accepted (without_end (view x)) (without_end t) (sym a.0 ∙ spelled_run ps t s.spelled)) (a.1 ∙ sym s.end)
 only view (Err (stops.Stuck kind p)) ps a t s = let h = spelled_run ps t s.spelled in cc
 only view (Err (stops.Past p)) ps a t s = let h = spelled_run ps t s.spelled in cc
@@ -183,7 +183,7 @@ only view (Err stops.Short) ps a t s = let h = spelled_run ps t s.spelled in cc
 only view (Err stops.Memory) ps a t s = tt
 
 -- where the reading stops is the first fault
-pub first : {X : Type 0} → (view : X → Tree) (r : Result X Stop) (ps : List Placed) → Answers view r ps → IfErr r (λ e. IsFirstFault e ps)
+pub first : {X : Type 0} → (view : X → Tree) (r : Result X TokenFault) (ps : List Placed) → Answers view r ps → IfErr r (λ e. IsFirstFault e ps)
 first view (Ok x) ps a = tt
 first view (Err (stops.Stuck kind p)) ps a = first_stuck ps kind p a
 first view (Err (stops.Past p)) ps a = first_past ps p a

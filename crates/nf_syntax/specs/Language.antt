@@ -11,8 +11,8 @@ use Rattle.nf_syntax.specs.declared.fault.ParseFault.{ParseFault}
 use Rattle.nf_syntax.specs.declared.fault.ParseFault.TheVariants as faults
 use Rattle.nf_syntax.specs.declared.fault.SyntaxKind.{SyntaxKind}
 use Rattle.nf_syntax.specs.declared.fault.SyntaxKind.TheVariants as kinds
-use Rattle.nf_syntax.specs.declared.fault.Stop.{Stop}
-use Rattle.nf_syntax.specs.declared.fault.Stop.TheVariants as stops
+use Rattle.nf_syntax.specs.declared.fault.TokenFault.{TokenFault}
+use Rattle.nf_syntax.specs.declared.fault.TokenFault.TheVariants as stops
 use Rattle.nf_syntax.specs.Items.{Item, item, kind_of, Marked, unmarked}
 use Rattle.nf_syntax.specs.Grammar.{IsText, spelling}
 
@@ -78,7 +78,7 @@ pub record IsShort (ps : List Placed) : Type 0 where
   pub unfinished : (tree : Tree) → Spells (unmarked ps) tree → ⊥
 
 -- where and why the reading of tokens stops
-abbrev pub IsFirstFault : Stop → List Placed → Type 0
+abbrev pub IsFirstFault : TokenFault → List Placed → Type 0
 IsFirstFault (stops.Stuck kind at) ps = IsFirstStuck kind at ps
 IsFirstFault (stops.Past at) ps = IsFirstPast at ps
 IsFirstFault stops.Short ps = IsShort ps
@@ -104,7 +104,7 @@ Gives view tree (Err faults.Memory) = Unit {0}
 Gives view tree (Err e) = ⊥
 
 -- the same of the reading of tokens
-abbrev pub Finds : {X : Type 0} → (X → Tree) → Tree → Result X Stop → Type 0
+abbrev pub Finds : {X : Type 0} → (X → Tree) → Tree → Result X TokenFault → Type 0
 Finds view tree (Ok x) = view x ≡ tree
 Finds view tree (Err stops.Memory) = Unit {0}
 Finds view tree (Err e) = ⊥

@@ -8,31 +8,32 @@ use Rattle.nf_tree.specs.declared.tree.SumOperator.{SumOperator}
 use Rattle.nf_tree.specs.declared.tree.ProductOperator.{ProductOperator}
 use Rattle.nf_tree.specs.declared.tree.Label.{Label}
 use Rattle.nf_tree.specs.Tree.{Expression, Given, Block, Tree}
-use Rattle.nf_syntax.specs.declared.fault.Stop.{Stop}
-use Rattle.nf_syntax.specs.declared.fault.Stop.TheVariants as stops
+use Rattle.nf_syntax.specs.declared.fault.TokenFault.{TokenFault}
+use Rattle.nf_syntax.specs.declared.fault.TokenFault.TheVariants as stops
 use Rattle.nf_syntax.specs.Expressions.{operands}
 use Rattle.nf_syntax.specs.Statements.{Statement, turned}
 use Rattle.nf_syntax.specs.Machine.{Place, NumberAt, FactorsAt, TermsAt, MoreAt, MoreGivenAt, MoreLabelsAt, MoreNumbersAt, BodyAt, FamilyAt, behind, Verdict, Accepted, Stuck, Past, Short, factor_at, term_at, value_at, one_given_at, one_label_at, run, whole}
 use Rattle.nf_syntax.specs.Language.{last_place}
 
-abbrev pub Fails : Stop → Verdict → Type 0
+abbrev pub Fails : TokenFault → Verdict → Type 0
 Fails (stops.Stuck kind p) v = v ≡ Stuck kind p
 Fails (stops.Past p) v = v ≡ Past p
 Fails stops.Short v = v ≡ Short
 Fails stops.Memory v = Unit {0}
 
 -- a part was read, and the tokens behind it are left, wherever that part is wanted
-abbrev pub Reads : {X A : Type 0} → ((A → Place) → Place) → (X → A) → (X → List Placed) → Result X Stop → List Placed → Type 0
+abbrev pub Reads : {X A : Type 0} → ((A → Place) → Place) → (X → A) → (X → List Placed) → Result X TokenFault → List Placed → Type 0
 Reads {A = A} wanted part rest (Ok x) ps = (length (rest x) < length ps) × ((k : A → Place) → run (wanted k) ps ≡ run (k (part x)) (rest x))
 Reads {A = A} wanted part rest (Err e) ps = (k : A → Place) → Fails e (run (wanted k) ps)
 
 -- a part that may be missing was read
-abbrev pub ReadsOn : {X A : Type 0} → ((A → Place) → Place) → (X → A) → (X → List Placed) → Result X Stop → List Placed → Type 0
+abbrev pub ReadsOn : {X A : Type 0} → ((A → Place) → Place) → (X → A) → (X → List Placed) → Result X TokenFault → List Placed → Type 0
 ReadsOn {A = A} wanted part rest (Ok x) ps = (length (rest x) ≤ length ps) × ((k : A → Place) → run (wanted k) ps ≡ run (k (part x)) (rest x))
 ReadsOn {A = A} wanted part rest (Err e) ps = (k : A → Place) → Fails e (run (wanted k) ps)
 
 -- the first statement of a body was read, up to its blocks
-abbrev pub Begins : {X : Type 0} → (X → Statement) → (X → List Placed) → Result X Stop → List Placed
+abbrev pub Begins : {X : Type 0} → (X → Statement) → (X → List Placed) → Result X TokenFault →
+    List Placed
     → Type 0
 Begins part rest (Ok x) ps = (length (rest x) < length ps)
     × ((room : ℕ) (k : Block → Place) → run (BodyAt room k) ps ≡ run (behind room k (part x)) (rest x))
@@ -40,7 +41,7 @@ Begins part rest (Err e) ps = (room : ℕ) (k : Block → Place) → Fails e (ru
 
 -- the blocks of a statement were read, and it stands with those before it
 abbrev pub Extends : {X : Type 0} → ℕ → Block → Statement → (X → Block) → (X → List Placed)
-    → Result X Stop → List Placed → Type 0
+    → Result X TokenFault → List Placed → Type 0
 Extends room before s part rest (Ok x) ps = (length (rest x) < length ps)
     × ((k : Block → Place) → run (behind room (λ next. k (turned before next)) s) ps
     ≡ run (BodyAt room (λ next. k (turned (part x) next))) (rest x))
@@ -48,7 +49,7 @@ Extends room before s part rest (Err e) ps =
     (k : Block → Place) → Fails e (run (behind room (λ next. k (turned before next)) s) ps)
 
 -- a sign was passed
-abbrev pub Passes : {X : Type 0} → (Place → Place) → (X → List Placed) → Result X Stop → List Placed → Type 0
+abbrev pub Passes : {X : Type 0} → (Place → Place) → (X → List Placed) → Result X TokenFault → List Placed → Type 0
 Passes wanted rest (Ok x) ps = (length (rest x) < length ps) × ((k : Place) → run (wanted k) ps ≡ run k (rest x))
 Passes wanted rest (Err e) ps = (k : Place) → Fails e (run (wanted k) ps)
 
@@ -92,6 +93,6 @@ Counts before e n = (n ≡ operands before e) × (n ≤ 64)
 abbrev pub without_end : Tree → Tree
 without_end t = record { name = t.name; ports = t.ports; declarations = t.declarations; handlers = t.handlers; end = start }
 
-abbrev pub Answers : {X : Type 0} → (X → Tree) → Result X Stop → List Placed → Type 0
+abbrev pub Answers : {X : Type 0} → (X → Tree) → Result X TokenFault → List Placed → Type 0
 Answers view (Ok x) ps = (run whole ps ≡ Accepted (without_end (view x))) × ((view x).end ≡ last_place start ps)
 Answers view (Err e) ps = Fails e (run whole ps)

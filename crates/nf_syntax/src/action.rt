@@ -7,7 +7,7 @@ ghost use Rattle.nf_syntax.specs.Reads.{Reads, Passes};
 ghost use Rattle.nf_syntax.specs.Statements.{statement_of};
 
 use crate::expression::{index, value};
-use crate::fault::{Stop, stuck};
+use crate::fault::{TokenFault, stuck};
 use crate::head::SetHead;
 use crate::single::{field, name, name_before, sign};
 use crate::statement::Statement;
@@ -16,7 +16,7 @@ use nf_tree::{Ending, Expr, Name, Operation};
 use std::alloc::Global;
 
 /// A `=`, a value and the `;` behind it.
-fn assigned(alloc: Global, tokens: &[Placed]) -> Result<(Expr, &[Placed]), Stop>
+fn assigned(alloc: Global, tokens: &[Placed]) -> Result<(Expr, &[Placed]), TokenFault>
     ensures { Reads assigned_at (λ x. expression_of x.0) (λ x. x.1.now) result tokens.now }
 {
     let rest = sign(tokens, Sign::Assign)?;
@@ -32,7 +32,7 @@ fn assigned(alloc: Global, tokens: &[Placed]) -> Result<(Expr, &[Placed]), Stop>
 }
 
 /// The `;` of an action and the `}` behind it: an action ends its block.
-fn end(tokens: &[Placed]) -> Result<&[Placed], Stop>
+fn end(tokens: &[Placed]) -> Result<&[Placed], TokenFault>
     ensures { Passes end_at (λ x. x.now) result tokens.now }
 {
     let rest = sign(tokens, Sign::Semicolon)?;
@@ -40,7 +40,7 @@ fn end(tokens: &[Placed]) -> Result<&[Placed], Stop>
 }
 
 /// A `touch`.
-pub fn touch(alloc: Global, tokens: &[Placed]) -> Result<(Statement, &[Placed]), Stop>
+pub fn touch(alloc: Global, tokens: &[Placed]) -> Result<(Statement, &[Placed]), TokenFault>
     ensures { Reads (λ k. touch_at k) (λ x. statement_of x.0) (λ x. x.1.now) result tokens.now }
 {
     let (variable, rest) = name_before(alloc, tokens, Sign::Semicolon)?;
@@ -48,7 +48,11 @@ pub fn touch(alloc: Global, tokens: &[Placed]) -> Result<(Statement, &[Placed]),
 }
 
 /// A `free`, whose word stands at `place`.
-pub fn free(alloc: Global, place: Place, tokens: &[Placed]) -> Result<(Statement, &[Placed]), Stop>
+pub fn free(
+    alloc: Global,
+    place: Place,
+    tokens: &[Placed],
+) -> Result<(Statement, &[Placed]), TokenFault>
     ensures { Reads (λ k. free_at place k)
         (λ x. statement_of x.0) (λ x. x.1.now) result tokens.now }
 {
@@ -57,7 +61,7 @@ pub fn free(alloc: Global, place: Place, tokens: &[Placed]) -> Result<(Statement
 }
 
 /// A `set`.
-pub fn set(alloc: Global, tokens: &[Placed]) -> Result<(Statement, &[Placed]), Stop>
+pub fn set(alloc: Global, tokens: &[Placed]) -> Result<(Statement, &[Placed]), TokenFault>
     ensures { Reads (λ k. set_at k) (λ x. statement_of x.0) (λ x. x.1.now) result tokens.now }
 {
     let (head, rest) = field(tokens)?;
@@ -72,7 +76,11 @@ pub fn set(alloc: Global, tokens: &[Placed]) -> Result<(Statement, &[Placed]), S
 }
 
 /// A written column, from what stands behind the variable's `.`.
-fn write(alloc: Global, variable: Name, tokens: &[Placed]) -> Result<(Statement, &[Placed]), Stop>
+fn write(
+    alloc: Global,
+    variable: Name,
+    tokens: &[Placed],
+) -> Result<(Statement, &[Placed]), TokenFault>
     ensures { Reads (λ k. write_at variable k)
         (λ x. statement_of x.0) (λ x. x.1.now) result tokens.now }
 {
@@ -87,7 +95,11 @@ fn write(alloc: Global, variable: Name, tokens: &[Placed]) -> Result<(Statement,
 }
 
 /// A written cell, from what stands behind the array's `[`.
-fn store(alloc: Global, array: Name, tokens: &[Placed]) -> Result<(Statement, &[Placed]), Stop>
+fn store(
+    alloc: Global,
+    array: Name,
+    tokens: &[Placed],
+) -> Result<(Statement, &[Placed]), TokenFault>
     ensures { Reads (λ k. store_at array k)
         (λ x. statement_of x.0) (λ x. x.1.now) result tokens.now }
 {
@@ -113,12 +125,12 @@ pub fn written(
     alloc: Global,
     first_name: Name,
     tokens: &[Placed],
-) -> Result<(Statement, &[Placed]), Stop>
+) -> Result<(Statement, &[Placed]), TokenFault>
     ensures { Reads (λ k. WrittenAt first_name k)
         (λ x. statement_of x.0) (λ x. x.1.now) result tokens.now }
 {
     match tokens {
-        [] => Err(Stop::Short),
+        [] => Err(TokenFault::Short),
         [first, rest @ ..] => match &first.token {
             Token::Sign(Sign::Dot) => write(alloc, first_name, rest),
             Token::Sign(Sign::OpenBracket) => store(alloc, first_name, rest),
@@ -129,7 +141,7 @@ pub fn written(
 
 /// A `forward`, and the end of its block.
 #[tactic(auto, unfolding(crate::specs::Machine::forward_at))]
-pub fn forward(alloc: Global, tokens: &[Placed]) -> Result<(Statement, &[Placed]), Stop>
+pub fn forward(alloc: Global, tokens: &[Placed]) -> Result<(Statement, &[Placed]), TokenFault>
     ensures { Reads (λ k. forward_at k) (λ x. statement_of x.0) (λ x. x.1.now) result tokens.now }
 {
     let (port, rest) = value(alloc, tokens)?;
@@ -144,7 +156,7 @@ pub fn forward(alloc: Global, tokens: &[Placed]) -> Result<(Statement, &[Placed]
 }
 
 /// A `flood`, and the end of its block.
-pub fn flood(tokens: &[Placed]) -> Result<(Statement, &[Placed]), Stop>
+pub fn flood(tokens: &[Placed]) -> Result<(Statement, &[Placed]), TokenFault>
     ensures { Reads (λ k. flood_at k) (λ x. statement_of x.0) (λ x. x.1.now) result tokens.now }
 {
     let rest = end(tokens)?;
@@ -152,7 +164,7 @@ pub fn flood(tokens: &[Placed]) -> Result<(Statement, &[Placed]), Stop>
 }
 
 /// A `drop`, and the end of its block.
-pub fn discard(tokens: &[Placed]) -> Result<(Statement, &[Placed]), Stop>
+pub fn discard(tokens: &[Placed]) -> Result<(Statement, &[Placed]), TokenFault>
     ensures { Reads (λ k. discard_at k) (λ x. statement_of x.0) (λ x. x.1.now) result tokens.now }
 {
     let rest = end(tokens)?;

@@ -10,7 +10,7 @@ ghost use Rattle.nf_syntax.specs.Machine.{BlockAt, BodyAt, OptionalAt};
 ghost use Rattle.nf_syntax.specs.Reads.{Reads, ReadsOn, Extends};
 ghost use Rattle.nf_syntax.specs.Statements.{Asks, Makes, turned};
 
-use crate::fault::{Stop, stuck};
+use crate::fault::{TokenFault, stuck};
 use crate::statement::{Statement, next_statement};
 use nf_tokens::{Placed, Sign, Token};
 use nf_tree::{Block, Creation, Ending, Question};
@@ -54,7 +54,7 @@ fn ask(
     question: Question,
     tokens: &[Placed],
     room: u32,
-) -> Result<(Box<Block>, &[Placed]), Stop>
+) -> Result<(Box<Block>, &[Placed]), TokenFault>
     ensures reads { Extends room (block_of before.value) (Asks (question_of question))
         (λ x. block_of x.0.value) (λ x. x.1.now) result tokens.now }
     ensures shallow { IfOk result
@@ -91,7 +91,7 @@ fn make(
     creation: Creation,
     tokens: &[Placed],
     room: u32,
-) -> Result<(Box<Block>, &[Placed]), Stop>
+) -> Result<(Box<Block>, &[Placed]), TokenFault>
     ensures reads { Extends room (block_of before.value) (Makes (creation_of creation))
         (λ x. block_of x.0.value) (λ x. x.1.now) result tokens.now }
     ensures shallow { IfOk result
@@ -125,7 +125,7 @@ fn optional(
     tokens: &[Placed],
     word: Sign,
     room: u32,
-) -> Result<(Box<Block>, &[Placed]), Stop>
+) -> Result<(Box<Block>, &[Placed]), TokenFault>
     requires { class_of word ≡ Joins }
     ensures reads { ReadsOn (λ k. OptionalAt word room k)
         (λ x. block_of x.0.value) (λ x. x.1.now) result tokens.now }
@@ -148,18 +148,22 @@ fn optional(
 
 /// A block, where so many more may be open.
 #[cycle(blocks)]
-pub fn block(alloc: Global, tokens: &[Placed], room: u32) -> Result<(Box<Block>, &[Placed]), Stop>
+pub fn block(
+    alloc: Global,
+    tokens: &[Placed],
+    room: u32,
+) -> Result<(Box<Block>, &[Placed]), TokenFault>
     ensures reads { Reads (λ k. BlockAt room k)
         (λ x. block_of x.0.value) (λ x. x.1.now) result tokens.now }
     ensures shallow { IfOk result (λ x. depth (block_of x.0.value) ≤ room) }
     ensures some_room { IfOk result (λ x. 1 ≤ room) }
 {
     match tokens {
-        [] => Err(Stop::Short),
+        [] => Err(TokenFault::Short),
         [first, rest @ ..] => match &first.token {
             Token::Sign(Sign::OpenBrace) => {
                 if room == 0 {
-                    return Err(Stop::Past(first.place));
+                    return Err(TokenFault::Past(first.place));
                 }
                 body(alloc, rest, room - 1)
             }
@@ -170,7 +174,7 @@ pub fn block(alloc: Global, tokens: &[Placed], room: u32) -> Result<(Box<Block>,
 
 /// The statements up to a `}`, where so many more blocks may be open.
 #[cycle(blocks)]
-fn body(alloc: Global, tokens: &[Placed], room: u32) -> Result<(Box<Block>, &[Placed]), Stop>
+fn body(alloc: Global, tokens: &[Placed], room: u32) -> Result<(Box<Block>, &[Placed]), TokenFault>
     ensures reads { Reads (λ k. BodyAt room k)
         (λ x. block_of x.0.value) (λ x. x.1.now) result tokens.now }
     ensures shallow { IfOk result (λ x. depth (block_of x.0.value) ≤ suc room) }

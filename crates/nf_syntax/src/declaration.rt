@@ -4,7 +4,7 @@ ghost use Rattle.std.specs.Prelude.{◌≡◌};
 ghost use Rattle.nf_syntax.specs.Machine.{closed_at, map_at, column_at, chain_head_at, chain_at, array_head_at, array_at, no_parts_yet, no_declarations_yet};
 ghost use Rattle.nf_syntax.specs.Reads.{Reads, ReadsOn};
 
-use crate::fault::{Stop, stuck};
+use crate::fault::{TokenFault, stuck};
 use crate::head::{ArrayHead, ChainHead};
 use crate::list::{contents, labels};
 use crate::single::{close, name, name_before, number, number_before, sign};
@@ -14,7 +14,7 @@ use nf_tree::{ArrayTree, ChainTree, ColumnKind, ColumnTree, Declaration, MapTree
 use std::alloc::Global;
 
 /// The `)` of a map's labels, with a `;` behind it.
-fn closed(tokens: &[Placed]) -> Result<(Place, &[Placed]), Stop>
+fn closed(tokens: &[Placed]) -> Result<(Place, &[Placed]), TokenFault>
     ensures { Reads closed_at (λ x. x.0) (λ x. x.1.now) result tokens.now }
 {
     let (close, rest) = close(tokens)?;
@@ -23,7 +23,7 @@ fn closed(tokens: &[Placed]) -> Result<(Place, &[Placed]), Stop>
 }
 
 /// A map behind its word, which stands at `place`.
-fn map(alloc: Global, place: Place, tokens: &[Placed]) -> Result<(MapTree, &[Placed]), Stop>
+fn map(alloc: Global, place: Place, tokens: &[Placed]) -> Result<(MapTree, &[Placed]), TokenFault>
     ensures { Reads (λ k. map_at place k) (λ x. x.0) (λ x. x.1.now) result tokens.now }
 {
     let (name, rest) = name_before(alloc, tokens, Sign::OpenParenthesis)?;
@@ -44,7 +44,7 @@ fn column(
     kind: ColumnKind,
     place: Place,
     tokens: &[Placed],
-) -> Result<(ColumnTree, &[Placed]), Stop>
+) -> Result<(ColumnTree, &[Placed]), TokenFault>
     ensures { Reads (λ k. column_at kind place k) (λ x. x.0) (λ x. x.1.now) result tokens.now }
 {
     let (name, rest) = name_before(alloc, tokens, Sign::Colon)?;
@@ -59,7 +59,7 @@ fn column(
 }
 
 /// The maps and columns of a chain, up to its `}`.
-fn parts(alloc: Global, tokens: &[Placed]) -> Result<(Seq<Part>, &[Placed]), Stop>
+fn parts(alloc: Global, tokens: &[Placed]) -> Result<(Seq<Part>, &[Placed]), TokenFault>
     ensures { Reads no_parts_yet (λ x. x.0) (λ x. x.1.now) result tokens.now }
 {
     let mut all = Seq::new(alloc);
@@ -85,11 +85,11 @@ fn parts(alloc: Global, tokens: &[Placed]) -> Result<(Seq<Part>, &[Placed]), Sto
             _ => return Err(stuck(first)),
         }
     }
-    Err(Stop::Short)
+    Err(TokenFault::Short)
 }
 
 /// The name, the size and the lifetime of a chain, up to its `{`.
-fn chain_head(alloc: Global, tokens: &[Placed]) -> Result<(ChainHead, &[Placed]), Stop>
+fn chain_head(alloc: Global, tokens: &[Placed]) -> Result<(ChainHead, &[Placed]), TokenFault>
     ensures { Reads chain_head_at (λ x. x.0) (λ x. x.1.now) result tokens.now }
 {
     let (name, rest) = name(alloc, tokens)?;
@@ -106,7 +106,11 @@ fn chain_head(alloc: Global, tokens: &[Placed]) -> Result<(ChainHead, &[Placed])
 }
 
 /// A chain behind its word, which stands at `place`.
-fn chain(alloc: Global, place: Place, tokens: &[Placed]) -> Result<(ChainTree, &[Placed]), Stop>
+fn chain(
+    alloc: Global,
+    place: Place,
+    tokens: &[Placed],
+) -> Result<(ChainTree, &[Placed]), TokenFault>
     ensures { Reads (λ k. chain_at place k) (λ x. x.0) (λ x. x.1.now) result tokens.now }
 {
     let (head, rest) = chain_head(alloc, tokens)?;
@@ -127,7 +131,7 @@ fn chain(alloc: Global, place: Place, tokens: &[Placed]) -> Result<(ChainTree, &
 }
 
 /// The name, the size and the width of an array.
-fn array_head(alloc: Global, tokens: &[Placed]) -> Result<(ArrayHead, &[Placed]), Stop>
+fn array_head(alloc: Global, tokens: &[Placed]) -> Result<(ArrayHead, &[Placed]), TokenFault>
     ensures { Reads array_head_at (λ x. x.0) (λ x. x.1.now) result tokens.now }
 {
     let (name, rest) = name(alloc, tokens)?;
@@ -137,7 +141,11 @@ fn array_head(alloc: Global, tokens: &[Placed]) -> Result<(ArrayHead, &[Placed])
 }
 
 /// An array behind its word, which stands at `place`.
-fn array(alloc: Global, place: Place, tokens: &[Placed]) -> Result<(ArrayTree, &[Placed]), Stop>
+fn array(
+    alloc: Global,
+    place: Place,
+    tokens: &[Placed],
+) -> Result<(ArrayTree, &[Placed]), TokenFault>
     ensures { Reads (λ k. array_at place k) (λ x. x.0) (λ x. x.1.now) result tokens.now }
 {
     let (head, rest) = array_head(alloc, tokens)?;
@@ -154,7 +162,10 @@ fn array(alloc: Global, place: Place, tokens: &[Placed]) -> Result<(ArrayTree, &
 }
 
 /// The chains and arrays in front of the handlers.
-pub fn declarations(alloc: Global, tokens: &[Placed]) -> Result<(Seq<Declaration>, &[Placed]), Stop>
+pub fn declarations(
+    alloc: Global,
+    tokens: &[Placed],
+) -> Result<(Seq<Declaration>, &[Placed]), TokenFault>
     ensures { ReadsOn no_declarations_yet (λ x. x.0) (λ x. x.1.now) result tokens.now }
 {
     let mut all = Seq::new(alloc);

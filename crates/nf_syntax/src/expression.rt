@@ -10,7 +10,7 @@ ghost use Rattle.nf_syntax.specs.Items.{class_of, Plain};
 ghost use Rattle.nf_syntax.specs.Machine.{AtomAt, NamedAt, ColumnAt, SignAt, product_at, sum_at, group_at, cell_at, value_at, index_at};
 ghost use Rattle.nf_syntax.specs.Reads.{Reads, Counts};
 
-use crate::fault::{Stop, stuck};
+use crate::fault::{TokenFault, stuck};
 use crate::single::{close, factor, named, sign, term};
 use nf_tokens::{Placed, Sign, Token};
 use nf_tree::{Expr, Literal, Name};
@@ -45,14 +45,14 @@ fn column(
     variable: Name,
     tokens: &[Placed],
     before: u32,
-) -> Result<(Counted, &[Placed]), Stop>
+) -> Result<(Counted, &[Placed]), TokenFault>
     requires { before < 64 }
     ensures reads { Reads (λ k. ColumnAt variable k) (λ x. expression_of x.0.tree) (λ x. x.1.now) result tokens.now }
     ensures counts { IfOk result (λ x. Counts before (expression_of x.0.tree) x.0.operands) }
 {
     let operands = before + 1;
     match tokens {
-        [] => Err(Stop::Short),
+        [] => Err(TokenFault::Short),
         [first, rest @ ..] => match &first.token {
             Token::Name(found) => {
                 let column = named(alloc, found, first.place)?;
@@ -76,7 +76,7 @@ fn cell(
     tokens: &[Placed],
     room: u32,
     before: u32,
-) -> Result<(Counted, &[Placed]), Stop>
+) -> Result<(Counted, &[Placed]), TokenFault>
     requires room { 1 ≤ room }
     requires before { before < 64 }
     ensures reads { Reads (λ k. cell_at room before array k) (λ x. expression_of x.0.tree) (λ x. x.1.now) result tokens.now }
@@ -105,7 +105,7 @@ fn group(
     tokens: &[Placed],
     room: u32,
     before: u32,
-) -> Result<(Counted, &[Placed]), Stop>
+) -> Result<(Counted, &[Placed]), TokenFault>
     requires room { 1 ≤ room }
     requires before { before ≤ 64 }
     ensures reads { Reads (λ k. group_at room before k) (λ x. expression_of x.0.tree) (λ x. x.1.now) result tokens.now }
@@ -135,18 +135,18 @@ fn behind_name(
     tokens: &[Placed],
     room: u32,
     before: u32,
-) -> Result<(Counted, &[Placed]), Stop>
+) -> Result<(Counted, &[Placed]), TokenFault>
     requires { before < 64 }
     ensures reads { Reads (λ k. NamedAt room before name k) (λ x. expression_of x.0.tree) (λ x. x.1.now) result tokens.now }
     ensures counts { IfOk result (λ x. Counts before (expression_of x.0.tree) x.0.operands) }
 {
     match tokens {
-        [] => Err(Stop::Short),
+        [] => Err(TokenFault::Short),
         [first, rest @ ..] => match &first.token {
             Token::Sign(Sign::Dot) => column(alloc, name, rest, before),
             Token::Sign(Sign::OpenBracket) => {
                 if room == 0 {
-                    return Err(Stop::Past(first.place));
+                    return Err(TokenFault::Past(first.place));
                 }
                 cell(alloc, name, rest, room, before)
             }
@@ -162,17 +162,17 @@ fn atom(
     tokens: &[Placed],
     room: u32,
     before: u32,
-) -> Result<(Counted, &[Placed]), Stop>
+) -> Result<(Counted, &[Placed]), TokenFault>
     requires { before ≤ 64 }
     ensures reads { Reads (λ k. AtomAt room before k) (λ x. expression_of x.0.tree) (λ x. x.1.now) result tokens.now }
     ensures counts { IfOk result (λ x. Counts before (expression_of x.0.tree) x.0.operands) }
 {
     match tokens {
-        [] => Err(Stop::Short),
+        [] => Err(TokenFault::Short),
         [first, rest @ ..] => match &first.token {
             Token::Number(found) => {
                 if before >= MOST {
-                    return Err(Stop::Past(first.place));
+                    return Err(TokenFault::Past(first.place));
                 }
                 let tree = Expr::Number(Literal {
                     value: *found,
@@ -183,7 +183,7 @@ fn atom(
             }
             Token::Field(found) => {
                 if before >= MOST {
-                    return Err(Stop::Past(first.place));
+                    return Err(TokenFault::Past(first.place));
                 }
                 let tree = Expr::Field {
                     field: *found,
@@ -194,14 +194,14 @@ fn atom(
             }
             Token::Name(found) => {
                 if before >= MOST {
-                    return Err(Stop::Past(first.place));
+                    return Err(TokenFault::Past(first.place));
                 }
                 let name = named(alloc, found, first.place)?;
                 behind_name(alloc, name, rest, room, before)
             }
             Token::Sign(Sign::OpenParenthesis) => {
                 if room == 0 {
-                    return Err(Stop::Past(first.place));
+                    return Err(TokenFault::Past(first.place));
                 }
                 group(alloc, rest, room, before)
             }
@@ -216,7 +216,7 @@ fn product(
     tokens: &[Placed],
     room: u32,
     before: u32,
-) -> Result<(Counted, &[Placed]), Stop>
+) -> Result<(Counted, &[Placed]), TokenFault>
     requires { before ≤ 64 }
     ensures reads { Reads (λ k. product_at room before k) (λ x. expression_of x.0.tree) (λ x. x.1.now) result tokens.now }
     ensures counts { IfOk result (λ x. Counts before (expression_of x.0.tree) x.0.operands) }
@@ -253,7 +253,7 @@ fn sum(
     tokens: &[Placed],
     room: u32,
     before: u32,
-) -> Result<(Counted, &[Placed]), Stop>
+) -> Result<(Counted, &[Placed]), TokenFault>
     requires { before ≤ 64 }
     ensures reads { Reads (λ k. sum_at room before k) (λ x. expression_of x.0.tree) (λ x. x.1.now) result tokens.now }
     ensures counts { IfOk result (λ x. Counts before (expression_of x.0.tree) x.0.operands) }
@@ -285,7 +285,7 @@ fn sum(
 }
 
 /// An outermost expression.
-pub fn value(alloc: Global, tokens: &[Placed]) -> Result<(Expr, &[Placed]), Stop>
+pub fn value(alloc: Global, tokens: &[Placed]) -> Result<(Expr, &[Placed]), TokenFault>
     ensures { Reads value_at (λ x. expression_of x.0) (λ x. x.1.now) result tokens.now }
 {
     let (all, rest) = sum(alloc, tokens, DEEPEST, 0)?;
@@ -297,7 +297,7 @@ pub fn value_before(
     alloc: Global,
     tokens: &[Placed],
     wanted: Sign,
-) -> Result<(Expr, &[Placed]), Stop>
+) -> Result<(Expr, &[Placed]), TokenFault>
     requires { class_of wanted ≡ Plain }
     ensures { Reads (λ k. value_at (λ v. SignAt wanted (k v)))
         (λ x. expression_of x.0) (λ x. x.1.now) result tokens.now }
@@ -313,7 +313,7 @@ pub fn value_before(
 }
 
 /// An outermost expression, up to the `]` behind it.
-pub fn index(alloc: Global, tokens: &[Placed]) -> Result<(Expr, &[Placed]), Stop>
+pub fn index(alloc: Global, tokens: &[Placed]) -> Result<(Expr, &[Placed]), TokenFault>
     ensures { Reads index_at (λ x. expression_of x.0) (λ x. x.1.now) result tokens.now }
 {
     value_before(alloc, tokens, Sign::CloseBracket)

@@ -1,7 +1,7 @@
 //! Why a text has no tree.
 
 ghost use Rattle.std.specs.Prelude.{◌≡◌};
-ghost use Rattle.nf_syntax.specs.declared.fault.Stop.TheVariants.{Memory, Stuck};
+ghost use Rattle.nf_syntax.specs.declared.fault.TokenFault.TheVariants.{Memory, Stuck};
 ghost use Rattle.nf_syntax.specs.Items.{kind_of};
 
 use nf_tokens::{Flaw, Place, Placed, Token};
@@ -46,7 +46,7 @@ pub enum ParseFault {
 
 /// Where and why the reading of tokens stops.
 #[derive(Drop)]
-pub enum Stop {
+pub enum TokenFault {
     /// A token that may not stand here, and what is wrong with it.
     Stuck(SyntaxKind, Place),
     /// A token that passes a limit.
@@ -57,19 +57,19 @@ pub enum Stop {
     Memory,
 }
 
-impl From<AllocError> for Stop {
+impl From<AllocError> for TokenFault {
     ghost from_gives = { λ _ e. e ≡ Memory };
 
-    fn from(_e: AllocError) -> Stop {
-        Stop::Memory
+    fn from(_e: AllocError) -> TokenFault {
+        TokenFault::Memory
     }
 }
 
-impl<T: Drop> From<AllocFailed<T>> for Stop {
+impl<T: Drop> From<AllocFailed<T>> for TokenFault {
     ghost from_gives = { λ _ e. e ≡ Memory };
 
-    fn from(_e: AllocFailed<T>) -> Stop {
-        Stop::Memory
+    fn from(_e: AllocFailed<T>) -> TokenFault {
+        TokenFault::Memory
     }
 }
 
@@ -86,8 +86,8 @@ fn kind_of(token: &Token) -> SyntaxKind
 }
 
 /// The stop at a token that may not stand where it stands.
-pub fn stuck(first: &Placed) -> Stop
+pub fn stuck(first: &Placed) -> TokenFault
     ensures { result ≡ Stuck (kind_of first.now.token) first.now.place }
 {
-    Stop::Stuck(kind_of(&first.token), first.place)
+    TokenFault::Stuck(kind_of(&first.token), first.place)
 }

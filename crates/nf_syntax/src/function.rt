@@ -9,7 +9,7 @@ ghost use Rattle.nf_syntax.specs.Reads.{Reads, ReadsFamily, Answers};
 
 use crate::block::block;
 use crate::declaration::declarations;
-use crate::fault::{Stop, stuck};
+use crate::fault::{TokenFault, stuck};
 use crate::head::TextHead;
 use crate::single::{name_before, number, number_before, sign};
 use nf_base::packet::Family;
@@ -35,7 +35,11 @@ fn family(tokens: &[Placed]) -> (Family, &[Placed])
 }
 
 /// A handler behind its word, which stands at `place`.
-fn handler(alloc: Global, place: Place, tokens: &[Placed]) -> Result<(HandlerTree, &[Placed]), Stop>
+fn handler(
+    alloc: Global,
+    place: Place,
+    tokens: &[Placed],
+) -> Result<(HandlerTree, &[Placed]), TokenFault>
     ensures { Reads (λ k. handler_at place k) (λ x. handler_of x.0) (λ x. x.1.now) result tokens.now }
 {
     let (port, rest) = number(tokens)?;
@@ -51,7 +55,7 @@ fn handler(alloc: Global, place: Place, tokens: &[Placed]) -> Result<(HandlerTre
 }
 
 /// The handlers up to the `}` of the text.
-fn handlers(alloc: Global, tokens: &[Placed]) -> Result<(Seq<HandlerTree>, &[Placed]), Stop>
+fn handlers(alloc: Global, tokens: &[Placed]) -> Result<(Seq<HandlerTree>, &[Placed]), TokenFault>
     ensures { Reads no_handlers_yet (λ x. map handler_of x.0) (λ x. x.1.now) result tokens.now }
 {
     let mut all = Seq::new(alloc);
@@ -67,11 +71,11 @@ fn handlers(alloc: Global, tokens: &[Placed]) -> Result<(Seq<HandlerTree>, &[Pla
             _ => return Err(stuck(first)),
         }
     }
-    Err(Stop::Short)
+    Err(TokenFault::Short)
 }
 
 /// The name and the ports of a function.
-fn text_head(alloc: Global, tokens: &[Placed]) -> Result<(TextHead, &[Placed]), Stop>
+fn text_head(alloc: Global, tokens: &[Placed]) -> Result<(TextHead, &[Placed]), TokenFault>
     ensures { Reads text_head_at (λ x. x.0) (λ x. x.1.now) result tokens.now }
 {
     let rest = sign(tokens, Sign::Nf)?;
@@ -93,7 +97,7 @@ fn last_place(tokens: &[Placed]) -> Place
 }
 
 /// The tree that all the tokens spell.
-pub fn whole(alloc: Global, tokens: &[Placed]) -> Result<Tree, Stop>
+pub fn whole(alloc: Global, tokens: &[Placed]) -> Result<Tree, TokenFault>
     ensures exact { Answers tree_of result tokens.now }
 {
     let (head, rest) = text_head(alloc, tokens)?;

@@ -6,7 +6,7 @@ ghost use Rattle.nf_syntax.specs.Machine.{GivenAt, WhereAt, ContentsAt, one_give
 ghost use Rattle.nf_syntax.specs.Reads.{Reads, ReadsOn};
 
 use crate::expression::value;
-use crate::fault::{Stop, stuck};
+use crate::fault::{TokenFault, stuck};
 use crate::single::{close, comma, name_before, number, sign};
 use nf_base::seq::Seq;
 use nf_tokens::{Placed, Sign, Token};
@@ -14,7 +14,7 @@ use nf_tree::{Expr, Given, Guards, Label, Literal};
 use std::alloc::Global;
 
 /// The values of a key.
-pub fn key(alloc: Global, tokens: &[Placed]) -> Result<(Seq<Expr>, &[Placed]), Stop>
+pub fn key(alloc: Global, tokens: &[Placed]) -> Result<(Seq<Expr>, &[Placed]), TokenFault>
     ensures { Reads values_at (λ x. map expression_of x.0) (λ x. x.1.now) result tokens.now }
 {
     let mut all = Seq::new(alloc);
@@ -29,7 +29,7 @@ pub fn key(alloc: Global, tokens: &[Placed]) -> Result<(Seq<Expr>, &[Placed]), S
 }
 
 /// A value behind its name.
-fn one_given(alloc: Global, tokens: &[Placed]) -> Result<(Given, &[Placed]), Stop>
+fn one_given(alloc: Global, tokens: &[Placed]) -> Result<(Given, &[Placed]), TokenFault>
     ensures { Reads one_given_at (λ x. given_of x.0) (λ x. x.1.now) result tokens.now }
 {
     let (name, rest) = name_before(alloc, tokens, Sign::Assign)?;
@@ -38,7 +38,7 @@ fn one_given(alloc: Global, tokens: &[Placed]) -> Result<(Given, &[Placed]), Sto
 }
 
 /// Values behind their names, one at least.
-fn some_given(alloc: Global, tokens: &[Placed]) -> Result<(Seq<Given>, &[Placed]), Stop>
+fn some_given(alloc: Global, tokens: &[Placed]) -> Result<(Seq<Given>, &[Placed]), TokenFault>
     ensures { Reads some_given_at (λ x. map given_of x.0) (λ x. x.1.now) result tokens.now }
 {
     let mut all = Seq::new(alloc);
@@ -53,7 +53,7 @@ fn some_given(alloc: Global, tokens: &[Placed]) -> Result<(Seq<Given>, &[Placed]
 }
 
 /// What a `new` gives its labels, maybe nothing.
-pub fn given(alloc: Global, tokens: &[Placed]) -> Result<(Seq<Given>, &[Placed]), Stop>
+pub fn given(alloc: Global, tokens: &[Placed]) -> Result<(Seq<Given>, &[Placed]), TokenFault>
     ensures { ReadsOn GivenAt (λ x. map given_of x.0) (λ x. x.1.now) result tokens.now }
 {
     match tokens {
@@ -66,7 +66,7 @@ pub fn given(alloc: Global, tokens: &[Placed]) -> Result<(Seq<Given>, &[Placed])
 }
 
 /// The guards behind a `where`.
-fn some_guards(alloc: Global, tokens: &[Placed]) -> Result<(Guards, &[Placed]), Stop>
+fn some_guards(alloc: Global, tokens: &[Placed]) -> Result<(Guards, &[Placed]), TokenFault>
     ensures { Reads guards_at (λ x. guards_of x.0) (λ x. x.1.now) result tokens.now }
 {
     let rest = sign(tokens, Sign::OpenParenthesis)?;
@@ -76,7 +76,7 @@ fn some_guards(alloc: Global, tokens: &[Placed]) -> Result<(Guards, &[Placed]), 
 }
 
 /// The guards of a `find`, where a `where` is written.
-pub fn guards(alloc: Global, tokens: &[Placed]) -> Result<(Guards, &[Placed]), Stop>
+pub fn guards(alloc: Global, tokens: &[Placed]) -> Result<(Guards, &[Placed]), TokenFault>
     ensures { ReadsOn WhereAt (λ x. guards_of x.0) (λ x. x.1.now) result tokens.now }
 {
     match tokens {
@@ -89,7 +89,7 @@ pub fn guards(alloc: Global, tokens: &[Placed]) -> Result<(Guards, &[Placed]), S
 }
 
 /// A label with its width.
-fn one_label(alloc: Global, tokens: &[Placed]) -> Result<(Label, &[Placed]), Stop>
+fn one_label(alloc: Global, tokens: &[Placed]) -> Result<(Label, &[Placed]), TokenFault>
     ensures { Reads one_label_at (λ x. x.0) (λ x. x.1.now) result tokens.now }
 {
     let (name, rest) = name_before(alloc, tokens, Sign::Colon)?;
@@ -98,7 +98,7 @@ fn one_label(alloc: Global, tokens: &[Placed]) -> Result<(Label, &[Placed]), Sto
 }
 
 /// The labels of a map.
-pub fn labels(alloc: Global, tokens: &[Placed]) -> Result<(Seq<Label>, &[Placed]), Stop>
+pub fn labels(alloc: Global, tokens: &[Placed]) -> Result<(Seq<Label>, &[Placed]), TokenFault>
     ensures { Reads labels_at (λ x. x.0) (λ x. x.1.now) result tokens.now }
 {
     let mut all = Seq::new(alloc);
@@ -113,7 +113,7 @@ pub fn labels(alloc: Global, tokens: &[Placed]) -> Result<(Seq<Label>, &[Placed]
 }
 
 /// Numbers, one at least.
-fn numbers(alloc: Global, tokens: &[Placed]) -> Result<(Seq<Literal>, &[Placed]), Stop>
+fn numbers(alloc: Global, tokens: &[Placed]) -> Result<(Seq<Literal>, &[Placed]), TokenFault>
     ensures { Reads numbers_at (λ x. x.0) (λ x. x.1.now) result tokens.now }
 {
     let mut all = Seq::new(alloc);
@@ -128,7 +128,7 @@ fn numbers(alloc: Global, tokens: &[Placed]) -> Result<(Seq<Literal>, &[Placed])
 }
 
 /// The contents of an array behind their `=`, up to the `;`.
-fn some_contents(alloc: Global, tokens: &[Placed]) -> Result<(Seq<Literal>, &[Placed]), Stop>
+fn some_contents(alloc: Global, tokens: &[Placed]) -> Result<(Seq<Literal>, &[Placed]), TokenFault>
     ensures { Reads contents_at (λ x. x.0) (λ x. x.1.now) result tokens.now }
 {
     let rest = sign(tokens, Sign::OpenBrace)?;
@@ -139,11 +139,11 @@ fn some_contents(alloc: Global, tokens: &[Placed]) -> Result<(Seq<Literal>, &[Pl
 }
 
 /// The contents of an array, maybe none, up to the `;`.
-pub fn contents(alloc: Global, tokens: &[Placed]) -> Result<(Seq<Literal>, &[Placed]), Stop>
+pub fn contents(alloc: Global, tokens: &[Placed]) -> Result<(Seq<Literal>, &[Placed]), TokenFault>
     ensures { Reads ContentsAt (λ x. x.0) (λ x. x.1.now) result tokens.now }
 {
     match tokens {
-        [] => Err(Stop::Short),
+        [] => Err(TokenFault::Short),
         [first, rest @ ..] => match &first.token {
             Token::Sign(Sign::Assign) => some_contents(alloc, rest),
             Token::Sign(Sign::Semicolon) => Ok((Seq::new(alloc), rest)),

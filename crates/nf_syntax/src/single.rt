@@ -5,7 +5,7 @@ ghost use Rattle.nf_syntax.specs.Items.{class_of, Plain, named};
 ghost use Rattle.nf_syntax.specs.Machine.{NameAt, NumberAt, FieldAt, SignAt, CloseAt, ComparisonAt, name_before_at, number_before_at};
 ghost use Rattle.nf_syntax.specs.Reads.{Reads, Passes, PassesComma, PassesFactor, PassesTerm};
 
-use crate::fault::{Stop, stuck};
+use crate::fault::{TokenFault, stuck};
 use crate::head::SetHead;
 use nf_base::expr::Comparison;
 use nf_base::seq::Seq;
@@ -28,11 +28,11 @@ pub fn named(alloc: Global, bytes: &Seq<u8>, place: Place) -> Result<Name, Alloc
     Ok(Name { bytes, place })
 }
 
-pub fn name(alloc: Global, tokens: &[Placed]) -> Result<(Name, &[Placed]), Stop>
+pub fn name(alloc: Global, tokens: &[Placed]) -> Result<(Name, &[Placed]), TokenFault>
     ensures { Reads NameAt (λ x. x.0) (λ x. x.1.now) result tokens.now }
 {
     match tokens {
-        [] => Err(Stop::Short),
+        [] => Err(TokenFault::Short),
         [first, rest @ ..] => match &first.token {
             Token::Name(found) => {
                 let name = named(alloc, found, first.place)?;
@@ -43,11 +43,11 @@ pub fn name(alloc: Global, tokens: &[Placed]) -> Result<(Name, &[Placed]), Stop>
     }
 }
 
-pub fn number(tokens: &[Placed]) -> Result<(Literal, &[Placed]), Stop>
+pub fn number(tokens: &[Placed]) -> Result<(Literal, &[Placed]), TokenFault>
     ensures { Reads NumberAt (λ x. x.0) (λ x. x.1.now) result tokens.now }
 {
     match tokens {
-        [] => Err(Stop::Short),
+        [] => Err(TokenFault::Short),
         [first, rest @ ..] => match &first.token {
             Token::Number(found) => {
                 let number = Literal {
@@ -62,11 +62,11 @@ pub fn number(tokens: &[Placed]) -> Result<(Literal, &[Placed]), Stop>
 }
 
 /// A field that is written.
-pub fn field(tokens: &[Placed]) -> Result<(SetHead, &[Placed]), Stop>
+pub fn field(tokens: &[Placed]) -> Result<(SetHead, &[Placed]), TokenFault>
     ensures { Reads FieldAt (λ x. x.0) (λ x. x.1.now) result tokens.now }
 {
     match tokens {
-        [] => Err(Stop::Short),
+        [] => Err(TokenFault::Short),
         [first, rest @ ..] => match &first.token {
             Token::Field(found) => {
                 let field = SetHead {
@@ -81,12 +81,12 @@ pub fn field(tokens: &[Placed]) -> Result<(SetHead, &[Placed]), Stop>
 }
 
 /// What stands behind a sign that has no place in the tree.
-pub fn sign(tokens: &[Placed], wanted: Sign) -> Result<&[Placed], Stop>
+pub fn sign(tokens: &[Placed], wanted: Sign) -> Result<&[Placed], TokenFault>
     requires { class_of wanted ≡ Plain }
     ensures { Passes (λ k. SignAt wanted k) (λ x. x.now) result tokens.now }
 {
     match tokens {
-        [] => Err(Stop::Short),
+        [] => Err(TokenFault::Short),
         [first, rest @ ..] => match &first.token {
             Token::Sign(found) => {
                 if found.number() == wanted.number() {
@@ -105,7 +105,7 @@ pub fn name_before(
     alloc: Global,
     tokens: &[Placed],
     wanted: Sign,
-) -> Result<(Name, &[Placed]), Stop>
+) -> Result<(Name, &[Placed]), TokenFault>
     requires { class_of wanted ≡ Plain }
     ensures { Reads (λ k. name_before_at wanted k) (λ x. x.0) (λ x. x.1.now) result tokens.now }
 {
@@ -115,7 +115,7 @@ pub fn name_before(
 }
 
 /// A number and the sign behind it.
-pub fn number_before(tokens: &[Placed], wanted: Sign) -> Result<(Literal, &[Placed]), Stop>
+pub fn number_before(tokens: &[Placed], wanted: Sign) -> Result<(Literal, &[Placed]), TokenFault>
     requires { class_of wanted ≡ Plain }
     ensures { Reads (λ k. number_before_at wanted k) (λ x. x.0) (λ x. x.1.now) result tokens.now }
 {
@@ -125,11 +125,11 @@ pub fn number_before(tokens: &[Placed], wanted: Sign) -> Result<(Literal, &[Plac
 }
 
 /// The place of a `)`.
-pub fn close(tokens: &[Placed]) -> Result<(Place, &[Placed]), Stop>
+pub fn close(tokens: &[Placed]) -> Result<(Place, &[Placed]), TokenFault>
     ensures { Reads CloseAt (λ x. x.0) (λ x. x.1.now) result tokens.now }
 {
     match tokens {
-        [] => Err(Stop::Short),
+        [] => Err(TokenFault::Short),
         [first, rest @ ..] => match &first.token {
             Token::Sign(Sign::CloseParenthesis) => Ok((first.place, rest)),
             _ => Err(stuck(first)),
@@ -138,11 +138,11 @@ pub fn close(tokens: &[Placed]) -> Result<(Place, &[Placed]), Stop>
 }
 
 /// How two values are compared.
-pub fn comparison(tokens: &[Placed]) -> Result<(Comparison, &[Placed]), Stop>
+pub fn comparison(tokens: &[Placed]) -> Result<(Comparison, &[Placed]), TokenFault>
     ensures { Reads ComparisonAt (λ x. x.0) (λ x. x.1.now) result tokens.now }
 {
     match tokens {
-        [] => Err(Stop::Short),
+        [] => Err(TokenFault::Short),
         [first, rest @ ..] => match &first.token {
             Token::Sign(Sign::Equal) => Ok((Comparison::Equal, rest)),
             Token::Sign(Sign::NotEqual) => Ok((Comparison::NotEqual, rest)),

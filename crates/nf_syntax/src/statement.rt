@@ -8,7 +8,7 @@ ghost use Rattle.nf_syntax.specs.Statements.{statement_of};
 
 use crate::action::{discard, flood, forward, free, set, touch, written};
 use crate::expression::{index, value};
-use crate::fault::{Stop, stuck};
+use crate::fault::{TokenFault, stuck};
 use crate::head::{EntryHead, GetHead};
 use crate::list::{given, guards, key};
 use crate::single::{close, comparison, name_before, named};
@@ -26,7 +26,7 @@ pub enum Statement {
 }
 
 /// The names and signs of a `get` up to its `(`.
-fn get_head(alloc: Global, tokens: &[Placed]) -> Result<(GetHead, &[Placed]), Stop>
+fn get_head(alloc: Global, tokens: &[Placed]) -> Result<(GetHead, &[Placed]), TokenFault>
     ensures { Reads get_head_at (λ x. x.0) (λ x. x.1.now) result tokens.now }
 {
     let (variable, rest) = name_before(alloc, tokens, Sign::Assign)?;
@@ -47,7 +47,7 @@ fn entry_head(
     alloc: Global,
     tokens: &[Placed],
     opening: Sign,
-) -> Result<(EntryHead, &[Placed]), Stop>
+) -> Result<(EntryHead, &[Placed]), TokenFault>
     requires { class_of opening ≡ Plain }
     ensures { Reads (λ k. entry_head_at opening k) (λ x. x.0) (λ x. x.1.now) result tokens.now }
 {
@@ -58,7 +58,7 @@ fn entry_head(
 
 /// A `get`, whose word stands at `place`.
 #[tactic(auto, unfolding(crate::specs::Machine::get_at))]
-fn get(alloc: Global, place: Place, tokens: &[Placed]) -> Result<(Statement, &[Placed]), Stop>
+fn get(alloc: Global, place: Place, tokens: &[Placed]) -> Result<(Statement, &[Placed]), TokenFault>
     ensures { Reads (λ k. get_at place k) (λ x. statement_of x.0) (λ x. x.1.now) result tokens.now }
 {
     let (head, rest) = get_head(alloc, tokens)?;
@@ -82,7 +82,11 @@ fn get(alloc: Global, place: Place, tokens: &[Placed]) -> Result<(Statement, &[P
 
 /// A `find`, whose word stands at `place`.
 #[tactic(auto, unfolding(crate::specs::Machine::find_at))]
-fn find(alloc: Global, place: Place, tokens: &[Placed]) -> Result<(Statement, &[Placed]), Stop>
+fn find(
+    alloc: Global,
+    place: Place,
+    tokens: &[Placed],
+) -> Result<(Statement, &[Placed]), TokenFault>
     ensures { Reads (λ k. find_at place k)
         (λ x. statement_of x.0) (λ x. x.1.now) result tokens.now }
 {
@@ -108,7 +112,7 @@ fn find(alloc: Global, place: Place, tokens: &[Placed]) -> Result<(Statement, &[
 
 /// An `if`.
 #[tactic(auto, unfolding(crate::specs::Machine::if_at))]
-fn test(alloc: Global, tokens: &[Placed]) -> Result<(Statement, &[Placed]), Stop>
+fn test(alloc: Global, tokens: &[Placed]) -> Result<(Statement, &[Placed]), TokenFault>
     ensures { Reads (λ k. if_at k) (λ x. statement_of x.0) (λ x. x.1.now) result tokens.now }
 {
     let (left, rest) = value(alloc, tokens)?;
@@ -136,7 +140,7 @@ fn test(alloc: Global, tokens: &[Placed]) -> Result<(Statement, &[Placed]), Stop
 
 /// A `new`, whose word stands at `place`.
 #[tactic(auto, unfolding(crate::specs::Machine::new_at))]
-fn new(alloc: Global, place: Place, tokens: &[Placed]) -> Result<(Statement, &[Placed]), Stop>
+fn new(alloc: Global, place: Place, tokens: &[Placed]) -> Result<(Statement, &[Placed]), TokenFault>
     ensures { Reads (λ k. new_at place k) (λ x. statement_of x.0) (λ x. x.1.now) result tokens.now }
 {
     let (head, rest) = entry_head(alloc, tokens, Sign::OpenParenthesis)?;
@@ -154,11 +158,14 @@ fn new(alloc: Global, place: Place, tokens: &[Placed]) -> Result<(Statement, &[P
 }
 
 /// The next statement of a body, or its end with its `}`.
-pub fn next_statement(alloc: Global, tokens: &[Placed]) -> Result<(Statement, &[Placed]), Stop>
+pub fn next_statement(
+    alloc: Global,
+    tokens: &[Placed],
+) -> Result<(Statement, &[Placed]), TokenFault>
     ensures { Begins (λ x. statement_of x.0) (λ x. x.1.now) result tokens.now }
 {
     match tokens {
-        [] => Err(Stop::Short),
+        [] => Err(TokenFault::Short),
         [first, rest @ ..] => match &first.token {
             Token::Sign(Sign::Get) => get(alloc, first.place, rest),
             Token::Sign(Sign::Find) => find(alloc, first.place, rest),

@@ -8,7 +8,7 @@ ghost use Rattle.nf_syntax.specs.declared.fault.ParseFault.TheVariants.{Syntax};
 ghost use Rattle.nf_syntax.specs.Items.{Item, Marked};
 ghost use Rattle.nf_syntax.specs.Language.{SyntaxTree, marked, CanGoOn, IsTreeOf, IsTextOf, IsShallow, IsFirstFault, IsFault, Gives, Finds, Explains};
 
-use crate::fault::{ParseFault, Stop, SyntaxKind};
+use crate::fault::{ParseFault, SyntaxKind, TokenFault};
 use crate::function::whole;
 use nf_tokens::{Place, Placed, end_of, tokens};
 use nf_tree::Tree;
@@ -18,7 +18,7 @@ use std::alloc::Global;
 const LONGEST: usize = 1048576;
 
 /// The tree that these tokens spell, all of them.
-fn read(alloc: Global, placed: &[Placed]) -> Result<Tree, Stop>
+fn read(alloc: Global, placed: &[Placed]) -> Result<Tree, TokenFault>
     ensures found { IfOk result (λ tree. IsTreeOf placed.now (tree_of tree)) }
     ensures only { (tree : SyntaxTree) → IsTreeOf placed.now tree → Finds tree_of tree result }
     ensures first { IfErr result (λ stop. IsFirstFault stop placed.now) }
@@ -60,10 +60,10 @@ pub fn parse(alloc: Global, text: &[u8]) -> Result<Tree, ParseFault>
     };
     match read(alloc, placed.as_slice()) {
         Ok(tree) => Ok(tree),
-        Err(Stop::Stuck(kind, place)) => Err(fault(kind, place)),
-        Err(Stop::Past(place)) => Err(fault(SyntaxKind::Limit, place)),
-        Err(Stop::Short) => Err(fault(SyntaxKind::End, end_of(text))),
-        Err(Stop::Memory) => Err(ParseFault::Memory),
+        Err(TokenFault::Stuck(kind, place)) => Err(fault(kind, place)),
+        Err(TokenFault::Past(place)) => Err(fault(SyntaxKind::Limit, place)),
+        Err(TokenFault::Short) => Err(fault(SyntaxKind::End, end_of(text))),
+        Err(TokenFault::Memory) => Err(ParseFault::Memory),
     }
 }
 

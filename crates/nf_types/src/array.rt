@@ -9,7 +9,7 @@ ghost use Rattle.nf_types.specs.Faults.{first, fault_in};
 
 use crate::chain::size;
 use crate::column::width;
-use crate::fault::{Fault, Stop, TypingKind, refuse_if};
+use crate::fault::{Fault, TypingFault, TypingKind, refuse_if};
 use crate::name::{copied, short};
 use crate::objects::{Objects, is_object};
 use nf_base::decl::ArrayDecl;
@@ -66,7 +66,7 @@ fn cells(
 
 /// An array behind other chains and arrays.
 #[tactic(auto, using(crate::proofs::First::first_append), unfolding(crate::specs::DeclarationFaults::array_faults, crate::specs::Declarations::array_of))]
-pub fn array(alloc: Global, objects: &Objects, tree: &ArrayTree) -> Result<ArrayDecl, Stop>
+pub fn array(alloc: Global, objects: &Objects, tree: &ArrayTree) -> Result<ArrayDecl, TypingFault>
     ensures found { Finds (λ d. d) (array_faults objects.now tree.now) (array_of tree.now) result }
     ensures few { IfOk result (λ d. length objects.now.arrays ≤ 7) }
 {
@@ -83,7 +83,7 @@ pub fn array(alloc: Global, objects: &Objects, tree: &ArrayTree) -> Result<Array
         Ok(cells) => Ok(ArrayDecl { name, width, cells }),
         Err(_) => {
             drop(name);
-            Err(Stop::Memory)
+            Err(TypingFault::Memory)
         }
     }
 }

@@ -8,7 +8,7 @@ ghost use Rattle.nf_types.specs.Roomy.{IsRoomy};
 ghost use Rattle.nf_base.specs.Limits.{maps_in};
 
 use crate::column::{column, map, put_column};
-use crate::fault::{Stop, TypingKind, refuse_if};
+use crate::fault::{TypingFault, TypingKind, refuse_if};
 use crate::name::{copied, short};
 use crate::objects::{Objects, is_object};
 use nf_base::decl::ChainDecl;
@@ -24,7 +24,7 @@ const MOST_CHAINS: u32 = 8;
 const LARGEST: u64 = 65536;
 
 /// How many indices or cells there are.
-pub fn size(size: &Literal) -> Result<Size, Stop>
+pub fn size(size: &Literal) -> Result<Size, TypingFault>
     ensures { Finds (λ n. n) (size_faults size.now) size.now.value result }
 {
     let number = size.value;
@@ -43,7 +43,7 @@ fn part(
     fixed: u32,
     chain: &mut ChainDecl,
     part: &Part,
-) -> Result<(), Stop>
+) -> Result<(), TypingFault>
     requires maps { maps ≤ 16 }
     requires fixed { fixed ≤ 8 }
     requires roomy { IsRoomy fixed chain.old }
@@ -80,7 +80,7 @@ fn fixed_with(fixed: u32, part: &Part) -> u32
 
 /// The parts of a chain, behind so many maps of other chains.
 #[tactic(auto, using(crate::proofs::First::first_append))]
-fn parts(alloc: Global, maps: u32, chain: &mut ChainDecl, parts: &[Part]) -> Result<(), Stop>
+fn parts(alloc: Global, maps: u32, chain: &mut ChainDecl, parts: &[Part]) -> Result<(), TypingFault>
     requires maps { maps + length chain.old.maps ≤ 16 }
     requires roomy { IsRoomy 0 chain.old }
     ensures found { Finds (λ _. chain.new) (parts_faults maps 0 chain.old parts.now)
@@ -109,7 +109,7 @@ fn maps_in(chains: &[ChainDecl]) -> u32
 
 /// A chain behind other chains and arrays.
 #[tactic(auto, using(crate::proofs::First::first_append), unfolding(crate::specs::DeclarationFaults::chain_faults, crate::specs::Declarations::chain_of))]
-pub fn chain(alloc: Global, objects: &Objects, tree: &ChainTree) -> Result<ChainDecl, Stop>
+pub fn chain(alloc: Global, objects: &Objects, tree: &ChainTree) -> Result<ChainDecl, TypingFault>
     requires maps { maps_in objects.now.chains ≤ 16 }
     ensures found { Finds (λ d. d) (chain_faults objects.now tree.now) (chain_of tree.now) result }
     ensures few { IfOk result (λ d. length objects.now.chains ≤ 7) }

@@ -9,7 +9,7 @@ ghost use Rattle.nf_types.specs.DeclarationFaults.{width_faults, names_column, n
 ghost use Rattle.nf_types.specs.Faults.{first, fault_in};
 ghost use Rattle.nf_types.specs.Roomy.{IsRoomy};
 
-use crate::fault::{Fault, Stop, TypingKind, refuse_if};
+use crate::fault::{Fault, TypingFault, TypingKind, refuse_if};
 use crate::name::{copied, is_among, short};
 use nf_base::decl::{ChainDecl, ColumnDecl, ColumnId, MapDecl, Name};
 use nf_base::width::Width;
@@ -26,7 +26,7 @@ const MOST_MAPS: u32 = 16;
 const MOST_COLUMNS: u32 = 8;
 
 /// The width of so many bits.
-pub fn width(bits: &Literal) -> Result<Width, Stop>
+pub fn width(bits: &Literal) -> Result<Width, TypingFault>
     ensures { Finds (λ w. w) (width_faults bits.now) (width_of bits.now.value) result }
 {
     match bits.value {
@@ -36,7 +36,7 @@ pub fn width(bits: &Literal) -> Result<Width, Stop>
         48 => Ok(Width::W48),
         64 => Ok(Width::W64),
         128 => Ok(Width::W128),
-        _ => Err(Stop::Broken(Fault {
+        _ => Err(TypingFault::Broken(Fault {
             kind: TypingKind::Limit,
             place: bits.place,
         })),
@@ -51,7 +51,12 @@ fn names_column(chain: &ChainDecl, name: &[u8]) -> bool
 
 /// A label behind so many others of its map.
 #[tactic(auto, using(crate::proofs::First::first_append), unfolding(crate::specs::DeclarationFaults::label_faults))]
-fn label(alloc: Global, chain: &ChainDecl, number: usize, label: &Label) -> Result<ColumnDecl, Stop>
+fn label(
+    alloc: Global,
+    chain: &ChainDecl,
+    number: usize,
+    label: &Label,
+) -> Result<ColumnDecl, TypingFault>
     ensures found { Finds (λ x. x) (label_faults chain.now number label.now)
         (column_of label.now.name label.now.width) result }
     ensures few { IfOk result (λ x. number ≤ 7) }
@@ -79,7 +84,7 @@ fn put_label(chain: &mut ChainDecl, label: ColumnDecl) -> Result<(), AllocError>
 }
 
 /// The labels of a map.
-fn labels(alloc: Global, chain: &mut ChainDecl, labels: &[Label]) -> Result<(), Stop>
+fn labels(alloc: Global, chain: &mut ChainDecl, labels: &[Label]) -> Result<(), TypingFault>
     requires labels { length chain.old.labels ≤ 128 }
     requires order { length chain.old.order ≤ 136 }
     ensures found { Finds (λ _. chain.new) (labels_faults chain.old 0 labels.now)
@@ -137,7 +142,7 @@ pub fn map(
     fixed: u32,
     chain: &mut ChainDecl,
     tree: &MapTree,
-) -> Result<(), Stop>
+) -> Result<(), TypingFault>
     requires maps { maps ≤ 16 }
     requires fixed { fixed ≤ 8 }
     requires roomy { IsRoomy fixed chain.old }
@@ -203,7 +208,7 @@ pub fn column(
     fixed: u32,
     chain: &ChainDecl,
     tree: &ColumnTree,
-) -> Result<ColumnDecl, Stop>
+) -> Result<ColumnDecl, TypingFault>
     ensures found { Finds (λ c. c) (column_faults fixed chain.now tree.now)
         (column_of tree.now.name tree.now.width) result }
     ensures few { IfOk result (λ c. columns_before tree.now.kind fixed chain.now ≤ 7) }

@@ -9,7 +9,7 @@ ghost use Rattle.nf_types.specs.Roomy.{AreRoomy};
 
 use crate::array::array;
 use crate::chain::chain;
-use crate::fault::Stop;
+use crate::fault::TypingFault;
 use crate::objects::Objects;
 use nf_base::decl::ObjectId;
 use nf_base::limited::Limited;
@@ -18,7 +18,11 @@ use std::alloc::Global;
 
 /// One chain or array more.
 #[tactic(auto, using(crate::proofs::Maps::maps_more))]
-fn declaration(alloc: Global, objects: &mut Objects, declaration: &Declaration) -> Result<(), Stop>
+fn declaration(
+    alloc: Global,
+    objects: &mut Objects,
+    declaration: &Declaration,
+) -> Result<(), TypingFault>
     requires maps { maps_in objects.old.chains ≤ 16 }
     requires roomy { AreRoomy objects.old }
     ensures found { Finds (λ _. objects.new) (declaration_faults objects.old declaration.now)
@@ -51,7 +55,7 @@ fn each_declaration(
     alloc: Global,
     objects: &mut Objects,
     declarations: &[Declaration],
-) -> Result<(), Stop>
+) -> Result<(), TypingFault>
     requires { objects.old ≡ no_objects }
     ensures found { Finds (λ _. objects.new) (declarations_faults no_objects declarations.now)
         (objects_of declarations.now) result }
@@ -64,7 +68,7 @@ fn each_declaration(
 }
 
 /// The chains and arrays of a text.
-pub fn declarations(alloc: Global, declarations: &[Declaration]) -> Result<Objects, Stop>
+pub fn declarations(alloc: Global, declarations: &[Declaration]) -> Result<Objects, TypingFault>
     ensures found { Finds (λ o. o) (declarations_faults no_objects declarations.now)
         (objects_of declarations.now) result }
     ensures maps { IfOk result (λ o. maps_in o.chains ≤ 16) }

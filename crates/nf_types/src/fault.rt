@@ -1,7 +1,7 @@
 //! What is wrong with a tree, and where.
 
 ghost use Rattle.std.specs.Prelude.{◌≡◌};
-ghost use Rattle.nf_types.specs.declared.fault.Stop.TheVariants.{Memory, Broken};
+ghost use Rattle.nf_types.specs.declared.fault.TypingFault.TheVariants.{Memory, Broken};
 ghost use Rattle.nf_types.specs.Faults.{fault_if, first, fault_in};
 
 use nf_tokens::Place;
@@ -77,33 +77,33 @@ pub fn refuse_if(wrong: bool, kind: TypingKind, place: Place) -> Result<(), Faul
 
 /// Why a part of a tree gives nothing.
 #[derive(Drop)]
-pub enum Stop {
+pub enum TypingFault {
     /// A rule or a limit is broken.
     Broken(Fault),
     /// Memory ran out.
     Memory,
 }
 
-impl From<Fault> for Stop {
+impl From<Fault> for TypingFault {
     ghost from_gives = { λ fault e. e ≡ Broken fault };
 
-    fn from(fault: Fault) -> Stop {
-        Stop::Broken(fault)
+    fn from(fault: Fault) -> TypingFault {
+        TypingFault::Broken(fault)
     }
 }
 
-impl From<AllocError> for Stop {
+impl From<AllocError> for TypingFault {
     ghost from_gives = { λ _ e. e ≡ Memory };
 
-    fn from(_e: AllocError) -> Stop {
-        Stop::Memory
+    fn from(_e: AllocError) -> TypingFault {
+        TypingFault::Memory
     }
 }
 
-impl<T: Drop> From<AllocFailed<T>> for Stop {
+impl<T: Drop> From<AllocFailed<T>> for TypingFault {
     ghost from_gives = { λ _ e. e ≡ Memory };
 
-    fn from(_e: AllocFailed<T>) -> Stop {
-        Stop::Memory
+    fn from(_e: AllocFailed<T>) -> TypingFault {
+        TypingFault::Memory
     }
 }

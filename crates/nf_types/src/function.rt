@@ -11,7 +11,7 @@ ghost use Rattle.nf_types.specs.TextFaults.{faults};
 ghost use Rattle.nf_types.specs.Answers.{Finds, Answers};
 
 use crate::declaration::declarations;
-use crate::fault::{CheckFault, Stop, TypingKind, refuse_if};
+use crate::fault::{CheckFault, TypingFault, TypingKind, refuse_if};
 use crate::handler::{can_be_numbered, handlers};
 use crate::handler_rules;
 use crate::name::declared;
@@ -23,7 +23,7 @@ use std::alloc::Global;
 /// How many ports a function may have.
 const MOST_PORTS: u64 = 4;
 
-fn ports(ports: &Literal) -> Result<u32, Stop>
+fn ports(ports: &Literal) -> Result<u32, TypingFault>
     ensures found { Finds (λ n. n) (port_faults ports.now) ports.now.value result }
     ensures some { IfOk result (λ n. 1 ≤ n) }
     ensures few { IfOk result (λ n. n ≤ 4) }
@@ -39,7 +39,7 @@ fn ports(ports: &Literal) -> Result<u32, Stop>
 
 /// More places than 32 bits can number count as want of memory.
 #[tactic(auto, using(crate::proofs::First::first_append))]
-fn function(alloc: Global, tree: &Tree) -> Result<Func, Stop>
+fn function(alloc: Global, tree: &Tree) -> Result<Func, TypingFault>
     ensures { Finds function_of (faults (tree_of tree.now)) (function (tree_of tree.now)) result }
 {
     let name = declared(alloc, &tree.name)?;
@@ -48,7 +48,7 @@ fn function(alloc: Global, tree: &Tree) -> Result<Func, Stop>
     let all = tree.handlers.as_slice();
     handler_rules::handlers(u64::from(ports), &objects, all, tree.end)?;
     if !can_be_numbered(all) {
-        return Err(Stop::Memory);
+        return Err(TypingFault::Memory);
     }
     let handlers = handlers(alloc, &objects, ports, all)?;
     let Objects {
@@ -78,11 +78,11 @@ pub fn check(alloc: Global, tree: &Tree) -> Result<Func, CheckFault>
 {
     match function(alloc, tree) {
         Ok(func) => Ok(func),
-        Err(Stop::Broken(fault)) => Err(CheckFault::Typing {
+        Err(TypingFault::Broken(fault)) => Err(CheckFault::Typing {
             kind: fault.kind,
             line: fault.place.line,
             column: fault.place.column,
         }),
-        Err(Stop::Memory) => Err(CheckFault::Memory),
+        Err(TypingFault::Memory) => Err(CheckFault::Memory),
     }
 }

@@ -6,7 +6,7 @@ ghost use Rattle.nf_types.specs.Names.{is_among, named};
 ghost use Rattle.nf_types.specs.Faults.{length_faults, first, fault_in};
 ghost use Rattle.nf_types.specs.Answers.{Finds};
 
-use crate::fault::{Fault, Stop, TypingKind, refuse_if};
+use crate::fault::{Fault, TypingFault, TypingKind, refuse_if};
 use nf_base::decl::{ArrayDecl, ChainDecl, ColumnDecl, MapDecl, Name as Declared};
 use nf_tree::{Label, Name};
 use std::alloc::{AllocError, Global};
@@ -83,7 +83,7 @@ pub fn copied(alloc: Global, name: &Name) -> Result<Declared, AllocError>
 }
 
 /// A name that is declared.
-pub fn declared(alloc: Global, name: &Name) -> Result<Declared, Stop>
+pub fn declared(alloc: Global, name: &Name) -> Result<Declared, TypingFault>
     ensures { Finds (λ x. x) (length_faults name.now) name.now.bytes result }
 {
     short(name)?;

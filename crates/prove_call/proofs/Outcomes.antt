@@ -7,11 +7,11 @@ use Rattle.nf_files.specs.Causes.{Counted, Faulted, asking}
 use Rattle.nf_files.specs.Pieces.{Gains}
 use Rattle.nf_files.specs.Openings.{Creates}
 use Rattle.nf_files.specs.Writes.{Writes, WritesFront}
-use Rattle.stream_run.specs.declared.stop.Stop.{Stop as NumberStop}
-use Rattle.stream_run.specs.declared.stop.Stop.TheVariants as numbered
+use Rattle.stream_run.specs.declared.fault.RunFault.{RunFault}
+use Rattle.stream_run.specs.declared.fault.RunFault.TheVariants as numbered
 use Rattle.command_words.specs.Commands.{Prove}
-use Rattle.call_base.specs.declared.status.Stop.{Stop}
-use Rattle.call_base.specs.declared.status.Stop.TheVariants.{Memory}
+use Rattle.call_base.specs.declared.status.CallFault.{CallFault}
+use Rattle.call_base.specs.declared.status.CallFault.TheVariants.{Memory}
 use Rattle.call_base.specs.Leaving.{IsOut, OutTo}
 use Rattle.call_base.specs.Names.{reading, writing}
 use Rattle.call_base.specs.Outside.{Outside, IsUntouched}
@@ -45,7 +45,7 @@ written a b c name text file created asked wrote same = record {
   counted = same ∙ asked;
 }
 
-pub half_written : (a b c : Outside) (name called text : List ℕ) (file : ℕ) (stop : Stop) → called ≡ name → Creates a.told b.told called file → b.counted ≡ asking (writing called ∷ []) a.counted → WritesFront b.told c.told file text
+pub half_written : (a b c : Outside) (name called text : List ℕ) (file : ℕ) (stop : CallFault) → called ≡ name → Creates a.told b.told called file → b.counted ≡ asking (writing called ∷ []) a.counted → WritesFront b.told c.told file text
     → IsWriteCause file b.counted c.counted stop → IsHalfWritten name a.told.next (asking (writing name ∷ []) a.counted) text a c stop
 half_written a b c name called text file stop same created asked wrote cause =
     subst (λ (n : List ℕ). IsHalfWritten n a.told.next (asking (writing n ∷ []) a.counted) text a c stop) same (record {
@@ -55,12 +55,12 @@ half_written a b c name called text file stop same created asked wrote cause =
           (subst (λ (o : Counted). IsWriteCause file o c.counted stop) asked cause);
     })
 
-pub uncreated : (a b : Outside) (name : List ℕ) (stop : Stop) → Same a.told b.told → IsCreateCause name a.told.next a.counted b.counted stop → IsUncreated name a.told.next a b a.counted stop
+pub uncreated : (a b : Outside) (name : List ℕ) (stop : CallFault) → Same a.told b.told → IsCreateCause name a.told.next a.counted b.counted stop → IsUncreated name a.told.next a b a.counted stop
 uncreated a b name stop same cause = record { untouched = untouched_same a.told b.told same; cause = cause }
 
 -- ---- the verdict
 
-pub half_out : (a b : Outside) (text : List ℕ) (stop : NumberStop) → OutTo {T = Unit {0}} text a b (Err stop) → IsHalfOut text a b (stop_at_stdout stop)
+pub half_out : (a b : Outside) (text : List ℕ) (stop : RunFault) → OutTo {T = Unit {0}} text a b (Err stop) → IsHalfOut text a b (stop_at_stdout stop)
 half_out a b text (numbered.File number) h = record {
   unnamed = h.unnamed;
   wrote = h.wrote;
@@ -84,7 +84,7 @@ left a b c name certificate printed w out = record {
   counted = out.counted ∙ w.counted;
 }
 
-half_printed : (a b c : Outside) (name certificate printed : List ℕ) (stop : Stop) → IsWritten name certificate a b → IsHalfOut printed b c stop → IsHalfPrinted name a.told.next (asking (writing name ∷ []) a.counted) certificate printed a c stop
+half_printed : (a b c : Outside) (name certificate printed : List ℕ) (stop : CallFault) → IsWritten name certificate a b → IsHalfOut printed b c stop → IsHalfPrinted name a.told.next (asking (writing name ∷ []) a.counted) certificate printed a c stop
 half_printed a b c name certificate printed stop w half = record {
   holds = holds_printed a.told b.told c.told name certificate _ a.told.next w.from_two half.unnamed w.holds half.wrote.wrote;
   stdout = front_behind a.told b.told c.told printed (w.standard 0 (omega arith)) (printed_front b.told c.told 0 printed half.wrote);
@@ -92,15 +92,15 @@ half_printed a b c name certificate printed stop w half = record {
   cause = subst (λ (o : Counted). IsPrintCause o c.counted stop) w.counted half.cause;
 }
 
-pub unwritten : (T : Type 0) (a b : Outside) (name certificate printed : List ℕ) (stop : Stop) → WritesUnder {T = T} name certificate a b (Err stop) → Leaves {T = T} name certificate printed a b (Err stop)
+pub unwritten : (T : Type 0) (a b : Outside) (name certificate printed : List ℕ) (stop : CallFault) → WritesUnder {T = T} name certificate a b (Err stop) → Leaves {T = T} name certificate printed a b (Err stop)
 unwritten T a b name certificate printed stop (inl h) = inl h
 unwritten T a b name certificate printed stop (inr h) = inr (inl h)
 
-printed_too : (T : Type 0) (a b c : Outside) (name certificate printed : List ℕ) (result : Result T Stop) → IsWritten name certificate a b → PrintsOut {T = T} printed b c result → Leaves {T = T} name certificate printed a c result
+printed_too : (T : Type 0) (a b c : Outside) (name certificate printed : List ℕ) (result : Result T CallFault) → IsWritten name certificate a b → PrintsOut {T = T} printed b c result → Leaves {T = T} name certificate printed a c result
 printed_too T a b c name certificate printed (Ok x) w h = left a b c name certificate printed w h
 printed_too T a b c name certificate printed (Err stop) w h = inr (inr (half_printed a b c name certificate printed stop w h))
 
-pub leaves_behind : (T : Type 0) (a b c : Outside) (name certificate printed text said : List ℕ) (result : Result T Stop) → text ≡ certificate → said ≡ printed → IsWritten name text a b → PrintsOut {T = T} said b c result
+pub leaves_behind : (T : Type 0) (a b c : Outside) (name certificate printed text said : List ℕ) (result : Result T CallFault) → text ≡ certificate → said ≡ printed → IsWritten name text a b → PrintsOut {T = T} said b c result
     → Leaves {T = T} name certificate printed a c result
 leaves_behind T a b c name certificate printed text said result same too w h =
     printed_too T a b c name certificate printed result
@@ -109,7 +109,7 @@ leaves_behind T a b c name certificate printed text said result same too w h =
 
 -- ---- the texts of a function
 
-half_proved_under : (T : Type 0) (f : Function) (card : Card) (name certificate printed : List ℕ) (a b : Outside) (stop : Stop) → AreTexts f card certificate printed → Leaves {T = T} name certificate printed a b (Err stop) → ProvesUnder {T = T} f card name a b (Err stop)
+half_proved_under : (T : Type 0) (f : Function) (card : Card) (name certificate printed : List ℕ) (a b : Outside) (stop : CallFault) → AreTexts f card certificate printed → Leaves {T = T} name certificate printed a b (Err stop) → ProvesUnder {T = T} f card name a b (Err stop)
 half_proved_under T f card name certificate printed a b stop texts (inl h) = inl h
 half_proved_under T f card name certificate printed a b stop texts (inr h) = inr (record {
   certificate = certificate;
@@ -118,7 +118,7 @@ half_proved_under T f card name certificate printed a b stop texts (inr h) = inr
   far = h;
 })
 
-pub proves_behind : (T : Type 0) (f : Function) (card : Card) (name certificate printed : List ℕ) (a b : Outside) (result : Result T Stop) → AreTexts f card certificate printed → Leaves {T = T} name certificate printed a b result → ProvesUnder {T = T} f card name a b result
+pub proves_behind : (T : Type 0) (f : Function) (card : Card) (name certificate printed : List ℕ) (a b : Outside) (result : Result T CallFault) → AreTexts f card certificate printed → Leaves {T = T} name certificate printed a b result → ProvesUnder {T = T} f card name a b result
 proves_behind T f card name certificate printed a b (Ok x) texts h = record { certificate = certificate; printed = printed; are_texts = texts; left = h }
 proves_behind T f card name certificate printed a b (Err stop) texts h = half_proved_under T f card name certificate printed a b stop texts h
 
@@ -144,7 +144,7 @@ left_from a b d name certificate printed file number asked all still at same h =
   counted = h.counted ∙ same;
 }
 
-far_from : (a b d : Outside) (name certificate printed : List ℕ) (file number : ℕ) (asked all : Counted) (stop : Stop) → IsUntouched a.told b.told → file ≡ number → asked ≡ all
+far_from : (a b d : Outside) (name certificate printed : List ℕ) (file number : ℕ) (asked all : Counted) (stop : CallFault) → IsUntouched a.told b.told → file ≡ number → asked ≡ all
     → IsHalfWritten name file asked certificate b d stop ⊎ IsHalfPrinted name file asked certificate printed b d stop → IsHalfWritten name number all certificate a d stop ⊎ IsHalfPrinted name number all certificate printed a d stop
 far_from a b d name certificate printed file number asked all stop still at same (inl h) = inl (record {
   holds = front_from a.told b.told d.told name certificate file number still.contents at h.holds;
@@ -172,7 +172,7 @@ proved c a b d f is still next counted h = record {
   };
 }
 
-pub unproved : (T : Type 0) (c : Prove) (a b d : Outside) (f : Function) (stop : Stop) → IsFunctionUnder a.told c.function f → IsUntouched a.told b.told → b.told.next ≡ a.told.next + 1 → b.counted ≡ asking (reading c.function ∷ []) a.counted
+pub unproved : (T : Type 0) (c : Prove) (a b d : Outside) (f : Function) (stop : CallFault) → IsFunctionUnder a.told c.function f → IsUntouched a.told b.told → b.told.next ≡ a.told.next + 1 → b.counted ≡ asking (reading c.function ∷ []) a.counted
     → ProvesUnder {T = T} f c.card c.proof b d (Err stop) → IsUnproved c a d stop
 unproved T c a b d f stop is still next counted (inl h) = inr (inl (record {
   function = f;

@@ -4,7 +4,7 @@ use Rattle.nf_base.specs.Text.{Function}
 use Rattle.nf_base.specs.declared.card.Card.{Card}
 use Rattle.nf_files.specs.Causes.{Counted, Asked, asking}
 use Rattle.command_words.specs.Commands.{Prove}
-use Rattle.call_base.specs.declared.status.Stop.{Stop}
+use Rattle.call_base.specs.declared.status.CallFault.{CallFault}
 use Rattle.call_base.specs.declared.status.TextFault.{TextFault}
 use Rattle.call_base.specs.declared.loading.NoFunction.{NoFunction}
 use Rattle.call_base.specs.declared.loading.NoFunction.TheVariants as none
@@ -33,7 +33,7 @@ pub record IsProvedUnder (f : Function) (card : Card) (name : List ℕ) (file : 
 -- how far that came: a front of the certificate was written, or the whole and a front of the verdict
 -- printed
 pub record IsHalfProvedUnder (f : Function) (card : Card) (name : List ℕ) (file : ℕ)
-    (asked : Counted) (before now : Outside) (stop : Stop) : Type 0 where
+    (asked : Counted) (before now : Outside) (stop : CallFault) : Type 0 where
   pub certificate : List ℕ
   pub printed : List ℕ
   pub are_texts : AreTexts f card certificate printed
@@ -42,7 +42,7 @@ pub record IsHalfProvedUnder (f : Function) (card : Card) (name : List ℕ) (fil
 
 -- what it comes to; memory may run out before there are texts
 abbrev pub ProvesUnder : {T : Type 0} → Function → Card → List ℕ → Outside → Outside →
-    Result T Stop → Type 0
+    Result T CallFault → Type 0
 ProvesUnder f card name before now (Ok x) =
     IsProvedUnder f card name before.told.next (asking (writing name ∷ []) before.counted) before now
 ProvesUnder f card name before now (Err stop) =
@@ -66,12 +66,12 @@ IsNotProved c before now fault =
     × HasOnlyAsked (reading c.function ∷ []) before now
 
 -- The function's text could not be read, or memory ran out.
-pub record IsUnread (c : Prove) (before now : Outside) (stop : Stop) : Type 0 where
+pub record IsUnread (c : Prove) (before now : Outside) (stop : CallFault) : Type 0 where
   pub untouched : IsUntouched before.told now.told
   pub cause : IsTextCause c.function before.told.next before.counted now.counted stop
 
 -- It is a function, and the certificate's file could not be created, or memory ran out before that.
-pub record IsUnwritten (c : Prove) (before now : Outside) (stop : Stop) : Type 0 where
+pub record IsUnwritten (c : Prove) (before now : Outside) (stop : CallFault) : Type 0 where
   pub function : Function
   pub is_function : IsFunctionUnder before.told c.function function
   pub uncreated : IsUncreated c.proof (before.told.next + 1) before now
@@ -79,14 +79,14 @@ pub record IsUnwritten (c : Prove) (before now : Outside) (stop : Stop) : Type 0
 
 -- It is a function, and the call was stopped while the certificate was written, or behind that while
 -- the verdict was printed.
-pub record IsHalfProved (c : Prove) (before now : Outside) (stop : Stop) : Type 0 where
+pub record IsHalfProved (c : Prove) (before now : Outside) (stop : CallFault) : Type 0 where
   pub function : Function
   pub is_function : IsFunctionUnder before.told c.function function
   pub half : IsHalfProvedUnder function c.card c.proof (before.told.next + 1)
       (asking (asked_by c) before.counted) before now stop
 
 -- the call was stopped
-abbrev pub IsUnproved : Prove → Outside → Outside → Stop → Type 0
+abbrev pub IsUnproved : Prove → Outside → Outside → CallFault → Type 0
 IsUnproved c before now stop =
     IsUnread c before now stop ⊎ (IsUnwritten c before now stop ⊎ IsHalfProved c before now stop)
 

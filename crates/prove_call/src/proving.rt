@@ -10,7 +10,7 @@ ghost use Rattle.prove_call.specs.Proving.{ProvesUnder, ProvesTo};
 use crate::leaving::leave;
 use crate::texts::texts_of;
 use call_base::loading::{NoFunction, read_function};
-use call_base::status::Stop;
+use call_base::status::CallFault;
 use command_words::ProveCommand;
 use nf_base::func::Func;
 use nf_files::Files;
@@ -23,7 +23,7 @@ fn prove_under<F: Files>(
     files: &mut F,
     func: &Func,
     command: &ProveCommand,
-) -> Result<(), Stop>
+) -> Result<(), CallFault>
     requires few { HasFewPaths (function_of func.now) }
     requires declares { DeclaresObjects (function_of func.now) }
     ensures { ProvesUnder (function_of func.now) command.now.card (string_bytes command.now.proof)
@@ -32,7 +32,7 @@ fn prove_under<F: Files>(
 {
     match texts_of(alloc, func, command.card) {
         Ok(texts) => leave(files, &command.proof, &texts),
-        Err(_) => Err(Stop::Memory),
+        Err(_) => Err(CallFault::Memory),
     }
 }
 

@@ -7,18 +7,18 @@ use Rattle.nf_files.specs.Told.{Told}
 use Rattle.nf_files.specs.Causes.{Counted, Asked, asking}
 use Rattle.packet_feed.specs.Told.{IsCapture}
 use Rattle.packet_feed.specs.Feeding.{Feeding}
-use Rattle.stream_run.specs.declared.stop.Stop.{Stop as NumberStop}
-use Rattle.stream_run.specs.declared.stop.Stop.TheVariants as numbered
+use Rattle.stream_run.specs.declared.fault.RunFault.{RunFault}
+use Rattle.stream_run.specs.declared.fault.RunFault.TheVariants as numbered
 use Rattle.command_words.specs.Commands.{Replay}
-use Rattle.call_base.specs.declared.layout.Behind.{Behind}
-use Rattle.call_base.specs.declared.layout.Behind.TheVariants.{Read}
+use Rattle.call_base.specs.declared.layout.FileOrder.{FileOrder}
+use Rattle.call_base.specs.declared.layout.FileOrder.TheVariants.{Read}
 use Rattle.call_base.specs.declared.loading.NoFunction.{NoFunction}
 use Rattle.call_base.specs.declared.loading.NoFunction.TheVariants as none
 use Rattle.call_base.specs.declared.status.RunFile.{RunFile}
 use Rattle.call_base.specs.declared.status.RunFile.TheVariants.{Nf, Capture, Journal, Output, OutJournal, State, Proof, Stdout, Stderr}
 use Rattle.call_base.specs.declared.status.Refusal.TheVariants as refusals
-use Rattle.call_base.specs.declared.status.Stop.{Stop}
-use Rattle.call_base.specs.declared.status.Stop.TheVariants as stops
+use Rattle.call_base.specs.declared.status.CallFault.{CallFault}
+use Rattle.call_base.specs.declared.status.CallFault.TheVariants as stops
 use Rattle.call_base.specs.declared.status.Halt.{Halt}
 use Rattle.call_base.specs.declared.status.Halt.TheVariants as halts
 use Rattle.call_base.specs.Captures.{Below}
@@ -38,14 +38,14 @@ use Rattle.call_base.proofs.Stops.{memory_behind, stopped_asking, front_length}
 use Rattle.replay_call.specs.declared.job.Job.{Job}
 use Rattle.replay_call.specs.Numbers.{numbering}
 use Rattle.replay_call.specs.Names.{inputs_of, names_of, asked_by}
-use Rattle.replay_call.specs.Checked.{KnowsPorts, KnowsHeaders, KnownAt, IsKnown, IsDue, IsStopped, ReplaysTo}
+use Rattle.replay_call.specs.ReplayEnd.{KnowsPorts, KnowsHeaders, KnownAt, IsKnown, IsDue, IsStopped, ReplaysTo}
 use Rattle.replay_call.specs.Progress.{IsJob, IsSized, HasFed, asked, ports_of, reads_of}
 
 inputs_front : (c : Replay) → IsFrontOf (asked_by c) (inputs_of c)
 inputs_front c = front_before (inputs_of c) (map reading (names_of c)) (inputs_of c) (front_all (inputs_of c))
 
 -- a stop that changed nothing
-pub stopped_untouched : (c : Replay) (before b : Outside) (stop : Stop) → IsUntouched before.told b.told → (s : StopsBy (numbering before.told.next (length c.captures)) (asked_by c) before.counted b.counted stop) → IsKnown c before.told b.told stop → IsDue c before.told (length s.front) → IsStopped c before b stop
+pub stopped_untouched : (c : Replay) (before b : Outside) (stop : CallFault) → IsUntouched before.told b.told → (s : StopsBy (numbering before.told.next (length c.captures)) (asked_by c) before.counted b.counted stop) → IsKnown c before.told b.told stop → IsDue c before.told (length s.front) → IsStopped c before b stop
 stopped_untouched c before b stop untouched stops_at known due = record {
   contents = untouched.contents;
   stdout = inl (untouched.standard 0 (omega arith));
@@ -60,12 +60,12 @@ pub numbers_are : (before : Outside) (job : Job) → IsJob before job → IsSize
 numbers_are before job is sized =
     let l = job.layout in
     let ports : l.ports ≡ ports_of job = sym (length-map job.command.now.captures.items _ ∙ sized.captures) in
-    ap (λ (b : Behind). layout.numbering b l.first l.captures l.ports) sized.behind
+    ap (λ (b : FileOrder). layout.numbering b l.first l.captures l.ports) sized.behind
     ∙ ap (λ (n : ℕ). layout.numbering Read n l.captures l.ports) is.first
     ∙ ap (λ (n : ℕ). layout.numbering Read before.told.next n l.ports) sized.opened
     ∙ ap (λ (n : ℕ). layout.numbering Read before.told.next n n) ports
 
-pub halted : (before b : Outside) (job : Job) (stop : NumberStop) (halt : Halt) → IsJob before job → IsSized job → halt ≡ halts.Stop (stop_named (numbering_of job.layout) stop) → IsStopped (asked job) before b (stop_named (numbering before.told.next (ports_of job)) stop) → ReplaysTo (asked job) before b (Err halt)
+pub halted : (before b : Outside) (job : Job) (stop : RunFault) (halt : Halt) → IsJob before job → IsSized job → halt ≡ halts.Stop (stop_named (numbering_of job.layout) stop) → IsStopped (asked job) before b (stop_named (numbering before.told.next (ports_of job)) stop) → ReplaysTo (asked job) before b (Err halt)
 halted before b job stop halt is sized same h =
     subst (λ (x : Halt). ReplaysTo (asked job) before b (Err x)) (sym (same ∙ ap (λ (n : Numbering). halts.Stop (stop_named n stop)) (numbers_are before job is sized))) h
 
@@ -74,7 +74,7 @@ two_of before job is sized = omega (arith, sized.from_two, is.first)
 
 -- ---- the text and the captures
 
-unread_known : (c : Replay) (before now : Told) (old new : Counted) (stop : Stop) → ((port : ℕ) → stop ≡ stops.File (Capture port) → KnowsPorts c before) → IsReadCause (reads_of c) before now old new stop → IsKnown c before now stop
+unread_known : (c : Replay) (before now : Told) (old new : Counted) (stop : CallFault) → ((port : ℕ) → stop ≡ stops.File (Capture port) → KnowsPorts c before) → IsReadCause (reads_of c) before now old new stop → IsKnown c before now stop
 unread_known c before now old new (stops.File Nf) ports h = tt
 unread_known c before now old new (stops.File (Capture port)) ports h = record { ports = ports port refl; lesser = h.lesser }
 unread_known c before now old new (stops.File Journal) ports h = absurd h
@@ -87,7 +87,7 @@ unread_known c before now old new (stops.File Stderr) ports h = absurd h
 unread_known c before now old new stops.Memory ports h = tt
 
 -- they were not all read
-unread : (c : Replay) (before b : Outside) (stop : Stop) → (h : IsUnread (reads_of c) before b stop) → ((port : ℕ) → stop ≡ stops.File (Capture port) → KnowsPorts c before.told) → (1 < length h.front → KnowsPorts c before.told) → IsStopped c before b stop
+unread : (c : Replay) (before b : Outside) (stop : CallFault) → (h : IsUnread (reads_of c) before b stop) → ((port : ℕ) → stop ≡ stops.File (Capture port) → KnowsPorts c before.told) → (1 < length h.front → KnowsPorts c before.told) → IsStopped c before b stop
 unfolding read_stops
 unread c before b stop h ports due =
     stopped_untouched c before b stop h.untouched (read_stops (reads_of c) before b Read (length c.captures) (asked_by c) stop (inputs_front c) h)
@@ -142,7 +142,7 @@ known_other c told now number k h two at =
       | inr some ↦ subst (KnownAt c told now) (sym (read_output (length c.captures) k some)) h
     ])
 
-unopened : (c : Replay) (told now : Told) (stop : NumberStop) → KnowsHeaders c told → 2 ≤ told.next → StopsFrom (told.next + 1 + length c.captures) (length c.captures + 1) stop → IsNumbered (numbering told.next (length c.captures)) stop × IsKnown c told now (stop_named (numbering told.next (length c.captures)) stop)
+unopened : (c : Replay) (told now : Told) (stop : RunFault) → KnowsHeaders c told → 2 ≤ told.next → StopsFrom (told.next + 1 + length c.captures) (length c.captures + 1) stop → IsNumbered (numbering told.next (length c.captures)) stop × IsKnown c told now (stop_named (numbering told.next (length c.captures)) stop)
 unopened c told now numbered.Memory h two from = (tt, tt)
 unopened c told now (numbered.File number) h two from =
     let k = number - (told.next + 1 + length c.captures) in
@@ -150,7 +150,7 @@ unopened c told now (numbered.File number) h two from =
     (own_read told.next (length c.captures) (length c.captures) number k two at, known_other c told now number k h two at)
 
 -- one of them could not be opened
-pub are_unopened : (before a b : Outside) (job : Job) (captures : List ℕ) (v : Feeding) (stop : NumberStop) → IsJob before job → IsSized job → HasFed before a job captures v → IsUntouched a.told b.told → StopsFrom (before.told.next + 1 + ports_of job) (ports_of job + 1) stop → AsksSome (map reading (names_of (asked job))) a.counted b.counted stop
+pub are_unopened : (before a b : Outside) (job : Job) (captures : List ℕ) (v : Feeding) (stop : RunFault) → IsJob before job → IsSized job → HasFed before a job captures v → IsUntouched a.told b.told → StopsFrom (before.told.next + 1 + ports_of job) (ports_of job + 1) stop → AsksSome (map reading (names_of (asked job))) a.counted b.counted stop
     → IsStopped (asked job) before b (stop_named (numbering before.told.next (ports_of job)) stop)
 are_unopened before a b job captures v stop is sized h untouched from asks =
     let n = numbering before.told.next (ports_of job) in

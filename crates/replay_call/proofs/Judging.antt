@@ -20,21 +20,21 @@ use Rattle.run_history.specs.Headings.{Heading}
 use Rattle.run_history.specs.Line.{line_bytes}
 use Rattle.run_history.specs.declared.line.JournalLine.TheVariants.{Header}
 use Rattle.journal_read.specs.Journals.{Reading, Stands, HasNoHeader}
-use Rattle.stream_run.specs.declared.stop.Stop.{Stop as NumberStop}
-use Rattle.stream_run.specs.declared.stop.Stop.TheVariants as numbered
+use Rattle.stream_run.specs.declared.fault.RunFault.{RunFault}
+use Rattle.stream_run.specs.declared.fault.RunFault.TheVariants as numbered
 use Rattle.stream_run.specs.Writing.{IsStopCause, StopsAt, StopsAmong}
 use Rattle.replay_run.specs.Turns.{Begins, beside_of}
 use Rattle.replay_run.specs.Heads.{Comes}
-use Rattle.replay_run.specs.declared.begun.Begun.{Begun}
-use Rattle.replay_run.specs.declared.replayed.Replayed.{Replayed}
-use Rattle.replay_run.specs.declared.replayed.Replayed.TheVariants as came
+use Rattle.replay_run.specs.declared.opened.OpenedJournal.{OpenedJournal}
+use Rattle.replay_run.specs.declared.result.ReplayResult.{ReplayResult}
+use Rattle.replay_run.specs.declared.result.ReplayResult.TheVariants as came
 use Rattle.replay_run.proofs.Ends.{started_while}
 use Rattle.replay_run.proofs.Heads.{comes_as}
 use Rattle.replay_run.proofs.Kept.{others_both, others_one}
-use Rattle.call_base.specs.declared.layout.Behind.TheVariants.{Read}
+use Rattle.call_base.specs.declared.layout.FileOrder.TheVariants.{Read}
 use Rattle.call_base.specs.declared.status.RunFile.TheVariants.{Stdout}
-use Rattle.call_base.specs.declared.status.Stop.{Stop}
-use Rattle.call_base.specs.declared.status.Stop.TheVariants as stops
+use Rattle.call_base.specs.declared.status.CallFault.{CallFault}
+use Rattle.call_base.specs.declared.status.CallFault.TheVariants as stops
 use Rattle.call_base.specs.Outside.{Outside, IsUntouched}
 use Rattle.call_base.specs.Names.{reading, output_name}
 use Rattle.call_base.specs.Numbers.{StopsBy}
@@ -47,12 +47,12 @@ use Rattle.call_base.proofs.Creating.{untouched_both}
 use Rattle.call_base.proofs.Layouts.{IsNumbered, own_capture, own_read, file_stdout}
 use Rattle.call_base.proofs.Reading.{got_at, fed_next, fed_only, all_captures, packets_fed}
 use Rattle.call_base.proofs.Stops.{stopped_behind, memory_behind}
-use Rattle.replay_call.specs.declared.checked.Checked.{Checked}
+use Rattle.replay_call.specs.declared.ending.ReplayEnd.{ReplayEnd}
 use Rattle.replay_call.specs.declared.job.Job.{Job}
 use Rattle.replay_call.specs.Numbers.{numbering}
 use Rattle.replay_call.specs.Names.{inputs_of, names_of, asked_by}
 use Rattle.replay_call.specs.Contents.{BeginsWith, beside_under, keys_by}
-use Rattle.replay_call.specs.Checked.{KnowsHeaders, KnowsSame, KnownAt, IsKnown, IsChecked, IsStopped, checked_by, printed_by}
+use Rattle.replay_call.specs.ReplayEnd.{KnowsHeaders, KnowsSame, KnownAt, IsKnown, IsChecked, IsStopped, checked_by, printed_by}
 use Rattle.replay_call.specs.Progress.{AreKeysOf, IsJob, IsSized, HasFed, HasReady, HasBegun, HasCome, asked, ports_of}
 use Rattle.replay_call.proofs.Beginning.{two_of, fed_headers, stopped_untouched, known_capture, known_other, due_others}
 
@@ -113,9 +113,9 @@ other_capture before a job captures v journal outputs h i f e = λ same. omega (
 other_output : (before a : Outside) (job : Job) (captures : List ℕ) (v : Feeding) (journal : ℕ) (outputs : List ℕ) → HasReady before a job captures v journal outputs → (i f : ℕ) → slice_get outputs i ≡ Some f → f ≢ journal
 other_output before a job captures v journal outputs h i f e = λ same. omega (arith, same, h.outputs_at i f e, h.journal_at)
 
-pub has_come : (before a b : Outside) (job : Job) (keys : Option Keys) (captures : List ℕ) (v : Feeding) (begun : Begun) (outputs : List ℕ) (came : Replayed) → IsJob before job → IsSized job → HasBegun before a job captures v begun outputs → AreKeysOf (function_of job.func.now) begun.header.card keys
+pub has_come : (before a b : Outside) (job : Job) (keys : Option Keys) (captures : List ℕ) (v : Feeding) (begun : OpenedJournal) (outputs : List ℕ) (came : ReplayResult) → IsJob before job → IsSized job → HasBegun before a job captures v begun outputs → AreKeysOf (function_of job.func.now) begun.header.card keys
     → length outputs ≡ job.layout.ports
-    → ((start : Told) (bytes : Option (List ℕ)) → Begins begun.header v begun.lines start bytes a.told → Comes {E = NumberStop} (function_of job.func.now) keys begun.header (length captures) (beside_of job.command.now.format v start bytes outputs a.told job.command.now.most) (Ok came))
+    → ((start : Told) (bytes : Option (List ℕ)) → Begins begun.header v begun.lines start bytes a.told → Comes {E = RunFault} (function_of job.func.now) keys begun.header (length captures) (beside_of job.command.now.format v start bytes outputs a.told job.command.now.most) (Ok came))
     → KeepsOthers (captures ++ begun.lines.file ∷ outputs) a.told b.told → b.counted ≡ a.counted → HasCome before b job came
 has_come before a b job keys captures v begun outputs came is sized h of_card as_many comes kept counted =
     let c = asked job in
@@ -130,8 +130,8 @@ has_come before a b job keys captures v begun outputs came is sized h of_card as
       captures = started_while fed.old.told v h.old.told a.told (λ port g e. h.kept.rests g (other_capture before h.old job captures v journal outputs r port g (subst (λ (fs : List ℕ). slice_get fs port ≡ Some g) fed.fresh.files e))) r.started;
       lines = h.lines;
     } in
-    let here = subst (λ (ks : Option Keys). Comes {E = NumberStop} f ks begun.header (length c.captures) one (Ok came)) (sym of_card.same)
-    (subst (λ (n : ℕ). Comes {E = NumberStop} f keys begun.header n one (Ok came)) fed.opened.all (comes fed.old.told bytes begins)) in
+    let here = subst (λ (ks : Option Keys). Comes {E = RunFault} f ks begun.header (length c.captures) one (Ok came)) (sym of_card.same)
+    (subst (λ (n : ℕ). Comes {E = RunFault} f keys begun.header n one (Ok came)) fed.opened.all (comes fed.old.told bytes begins)) in
     let others = others_both (captures ++ journal ∷ outputs) h.old.told a.told b.told (others_one captures journal outputs h.old.told a.told h.kept) kept in
     record {
       replayed = record {
@@ -178,7 +178,7 @@ headless before a b job captures v journal outputs is h none kept counted = reco
 -- ---- a stop while lines are judged
 
 -- a capture, the journal or an output
-at_judging : (before a : Outside) (now : Told) (job : Job) (captures : List ℕ) (v : Feeding) (journal : ℕ) (outputs : List ℕ) (stop : NumberStop) → 2 ≤ before.told.next → KnowsHeaders (asked job) before.told → HasReady before a job captures v journal outputs → StopsAmong {T = Replayed} captures (journal ∷ outputs) (Err stop)
+at_judging : (before a : Outside) (now : Told) (job : Job) (captures : List ℕ) (v : Feeding) (journal : ℕ) (outputs : List ℕ) (stop : RunFault) → 2 ≤ before.told.next → KnowsHeaders (asked job) before.told → HasReady before a job captures v journal outputs → StopsAmong {T = ReplayResult} captures (journal ∷ outputs) (Err stop)
     → IsNumbered (numbering before.told.next (ports_of job)) stop × IsKnown (asked job) before.told now (stop_named (numbering before.told.next (ports_of job)) stop)
 at_judging before a now job captures v journal outputs numbered.Memory two known h among = (tt, tt)
 at_judging before a now job captures v journal outputs (numbered.File file) two known h (inl one) =
@@ -195,8 +195,8 @@ at_judging before a now job captures v journal outputs (numbered.File file) two 
     at_place zero e = let same : journal ≡ file = cc in omega (arith, same, h.journal_at)
     at_place (suc k) e = omega (arith, h.outputs_at k file e)
 
-pub is_unjudged : (before a b : Outside) (job : Job) (captures : List ℕ) (v : Feeding) (journal : ℕ) (outputs : List ℕ) (stop : NumberStop) → IsJob before job → IsSized job → HasReady before a job captures v journal outputs → KeepsOthers (captures ++ journal ∷ outputs) a.told b.told
-    → StopsAmong {T = Replayed} captures (journal ∷ outputs) (Err stop) → IsStopCause {T = Unit {0}} a.counted b.counted (Err stop) → IsStopped (asked job) before b (stop_named (numbering before.told.next (ports_of job)) stop)
+pub is_unjudged : (before a b : Outside) (job : Job) (captures : List ℕ) (v : Feeding) (journal : ℕ) (outputs : List ℕ) (stop : RunFault) → IsJob before job → IsSized job → HasReady before a job captures v journal outputs → KeepsOthers (captures ++ journal ∷ outputs) a.told b.told
+    → StopsAmong {T = ReplayResult} captures (journal ∷ outputs) (Err stop) → IsStopCause {T = Unit {0}} a.counted b.counted (Err stop) → IsStopped (asked job) before b (stop_named (numbering before.told.next (ports_of job)) stop)
 is_unjudged before a b job captures v journal outputs stop is sized h kept among cause =
     let n = numbering before.told.next (ports_of job) in
     let names = asked_by (asked job) in
@@ -207,26 +207,26 @@ is_unjudged before a b job captures v journal outputs stop is sized h kept among
     (stopped_behind n names names before.counted a.counted b.counted stop at.0 (front_all names) h.only.asked cause) at.1 (due_others (asked job) before.told _ known)
 
 -- the journal's file alone is one of all
-at_among : (captures : List ℕ) (journal : ℕ) (outputs : List ℕ) (stop : NumberStop) → StopsAt {T = Unit {0}} journal (Err stop) → StopsAmong {T = Replayed} captures (journal ∷ outputs) (Err stop)
+at_among : (captures : List ℕ) (journal : ℕ) (outputs : List ℕ) (stop : RunFault) → StopsAt {T = Unit {0}} journal (Err stop) → StopsAmong {T = ReplayResult} captures (journal ∷ outputs) (Err stop)
 at_among captures journal outputs numbered.Memory h = tt
 at_among captures journal outputs (numbered.File file) h = inr (0, ap (λ (n : ℕ). Some n) (sym h))
 
 -- the first line could not be read
-pub is_unbegun : (before a b : Outside) (job : Job) (captures : List ℕ) (v : Feeding) (journal : ℕ) (outputs : List ℕ) (stop : NumberStop) → IsJob before job → IsSized job → HasReady before a job captures v journal outputs → Keeps a.told b.told journal
+pub is_unbegun : (before a b : Outside) (job : Job) (captures : List ℕ) (v : Feeding) (journal : ℕ) (outputs : List ℕ) (stop : RunFault) → IsJob before job → IsSized job → HasReady before a job captures v journal outputs → Keeps a.told b.told journal
     → StopsAt {T = Unit {0}} journal (Err stop) → IsStopCause {T = Unit {0}} a.counted b.counted (Err stop) → IsStopped (asked job) before b (stop_named (numbering before.told.next (ports_of job)) stop)
 is_unbegun before a b job captures v journal outputs stop is sized h kept at cause =
     is_unjudged before a b job captures v journal outputs stop is sized h (others_one captures journal outputs a.told b.told kept) (at_among captures journal outputs stop at) cause
 
 -- what follows the first line could not be judged
-pub is_unended : (before a b : Outside) (job : Job) (captures : List ℕ) (v : Feeding) (begun : Begun) (outputs : List ℕ) (stop : NumberStop) → IsJob before job → IsSized job → HasBegun before a job captures v begun outputs → KeepsOthers (captures ++ begun.lines.file ∷ outputs) a.told b.told
-    → StopsAmong {T = Replayed} captures (begun.lines.file ∷ outputs) (Err stop) → IsStopCause {T = Unit {0}} a.counted b.counted (Err stop) → IsStopped (asked job) before b (stop_named (numbering before.told.next (ports_of job)) stop)
+pub is_unended : (before a b : Outside) (job : Job) (captures : List ℕ) (v : Feeding) (begun : OpenedJournal) (outputs : List ℕ) (stop : RunFault) → IsJob before job → IsSized job → HasBegun before a job captures v begun outputs → KeepsOthers (captures ++ begun.lines.file ∷ outputs) a.told b.told
+    → StopsAmong {T = ReplayResult} captures (begun.lines.file ∷ outputs) (Err stop) → IsStopCause {T = Unit {0}} a.counted b.counted (Err stop) → IsStopped (asked job) before b (stop_named (numbering before.told.next (ports_of job)) stop)
 is_unended before a b job captures v begun outputs stop is sized h kept among cause =
     is_unjudged before h.old b job captures v begun.lines.file outputs stop is sized h.ready
     (others_both (captures ++ begun.lines.file ∷ outputs) h.old.told a.told b.told (others_one captures begun.lines.file outputs h.old.told a.told h.kept) kept)
     among (subst (λ (n : Counted). IsStopCause {T = Unit {0}} n b.counted (Err stop)) h.counted cause)
 
 -- memory ran out behind the first line
-pub unkept_begun : (before now : Outside) (job : Job) (captures : List ℕ) (v : Feeding) (begun : Begun) (outputs : List ℕ) → IsJob before job → HasBegun before now job captures v begun outputs → IsStopped (asked job) before now stops.Memory
+pub unkept_begun : (before now : Outside) (job : Job) (captures : List ℕ) (v : Feeding) (begun : OpenedJournal) (outputs : List ℕ) → IsJob before job → HasBegun before now job captures v begun outputs → IsStopped (asked job) before now stops.Memory
 unkept_begun before now job captures v begun outputs is h =
     let r = h.ready in
     let names = asked_by (asked job) in
@@ -238,7 +238,7 @@ unkept_begun before now job captures v begun outputs is h =
 -- ---- what is told
 
 -- nothing is printed
-pub told_so : (before now : Outside) (job : Job) (came : Replayed) (checked : Checked) → HasCome before now job came → checked ≡ checked_by (asked job).most came → printed_by (function_of job.func.now) came ≡ [] → IsChecked (asked job) before now checked
+pub told_so : (before now : Outside) (job : Job) (came : ReplayResult) (checked : ReplayEnd) → HasCome before now job came → checked ≡ checked_by (asked job).most came → printed_by (function_of job.func.now) came ≡ [] → IsChecked (asked job) before now checked
 told_so before now job came checked h is none = record {
   function = function_of job.func.now;
   came = came;
@@ -270,7 +270,7 @@ printed_whole before a b job state text h is p = record {
   asked = p.counted ∙ h.asked_for;
 }
 
-print_stops : (before : Outside) (job : Job) (a b : Counted) (stop : Stop) → 2 ≤ before.told.next → a ≡ asking (asked_by (asked job)) before.counted → IsPrintCause a b stop → StopsBy (numbering before.told.next (ports_of job)) (asked_by (asked job)) before.counted b stop
+print_stops : (before : Outside) (job : Job) (a b : Counted) (stop : CallFault) → 2 ≤ before.told.next → a ≡ asking (asked_by (asked job)) before.counted → IsPrintCause a b stop → StopsBy (numbering before.told.next (ports_of job)) (asked_by (asked job)) before.counted b stop
 print_stops before job a b (stops.File file) two so_far cause = record {
   front = asked_by (asked job);
   is_front = front_all (asked_by (asked job));
@@ -283,15 +283,15 @@ print_stops before job a b (stops.File file) two so_far cause = record {
 }
 print_stops before job a b stops.Memory two so_far cause = memory_behind (numbering before.told.next (ports_of job)) (asked_by (asked job)) (asked_by (asked job)) before.counted b (front_all (asked_by (asked job))) (cause ∙ so_far)
 
-known_printed : (before : Outside) (now : Told) (job : Job) (a b : Counted) (stop : Stop) → KnowsSame (asked job) before.told → IsPrintCause a b stop → IsKnown (asked job) before.told now stop
+known_printed : (before : Outside) (now : Told) (job : Job) (a b : Counted) (stop : CallFault) → KnowsSame (asked job) before.told → IsPrintCause a b stop → IsKnown (asked job) before.told now stop
 known_printed before now job a b (stops.File file) same cause = subst (KnownAt (asked job) before.told now) (sym cause.0) same
 known_printed before now job a b stops.Memory same cause = tt
 
-come_headers : (before now : Outside) (job : Job) (came : Replayed) → HasCome before now job came → KnowsHeaders (asked job) before.told
+come_headers : (before now : Outside) (job : Job) (came : ReplayResult) → HasCome before now job came → KnowsHeaders (asked job) before.told
 come_headers before now job came h = record { ports = record { function = function_of job.func.now; has_ports = h.replayed.has_ports }; captures = h.replayed.captures }
 
 -- a front of it was
-pub printed_half : (before a b : Outside) (job : Job) (state : State) (text : List ℕ) (stop : Stop) → 2 ≤ before.told.next → HasCome before a job (came.Same state) → text ≡ state_text (function_of job.func.now) state → IsHalfPrinted a b text stop → IsStopped (asked job) before b stop
+pub printed_half : (before a b : Outside) (job : Job) (state : State) (text : List ℕ) (stop : CallFault) → 2 ≤ before.told.next → HasCome before a job (came.Same state) → text ≡ state_text (function_of job.func.now) state → IsHalfPrinted a b text stop → IsStopped (asked job) before b stop
 printed_half before a b job state text stop two h same p = record {
   contents = λ n. p.contents n ∙ h.contents n;
   stdout = inr (record {
@@ -312,7 +312,7 @@ printed_half before a b job state text stop two h same p = record {
 }
 
 -- memory ran out
-pub unkept_come : (before now : Outside) (job : Job) (came : Replayed) → HasCome before now job came → IsStopped (asked job) before now stops.Memory
+pub unkept_come : (before now : Outside) (job : Job) (came : ReplayResult) → HasCome before now job came → IsStopped (asked job) before now stops.Memory
 unkept_come before now job came h = record {
   contents = h.contents;
   stdout = inl h.stdout;

@@ -11,11 +11,11 @@ use Rattle.run_history.specs.Headings.{Heading, IsHeading}
 use Rattle.run_history.specs.Line.{line_bytes}
 use Rattle.run_history.specs.declared.line.JournalLine.TheVariants.{Header}
 use Rattle.journal_read.specs.Journals.{HasNoHeader}
-use Rattle.stream_run.specs.declared.stop.Stop.{Stop}
+use Rattle.stream_run.specs.declared.fault.RunFault.{RunFault}
 use Rattle.replay_run.specs.Replaying.{Beside}
 use Rattle.replay_run.specs.Heads.{Comes}
-use Rattle.replay_run.specs.declared.replayed.Replayed.{Replayed}
-use Rattle.replay_run.specs.declared.replayed.Replayed.TheVariants.{Line}
+use Rattle.replay_run.specs.declared.result.ReplayResult.{ReplayResult}
+use Rattle.replay_run.specs.declared.result.ReplayResult.TheVariants.{Line}
 use Rattle.command_words.specs.Commands.{Replay}
 use Rattle.call_base.specs.Captures.{packets_under, Below}
 use Rattle.call_base.specs.Names.{output_name}
@@ -64,23 +64,24 @@ BeginsWith heading None = Unit {0}
 BeginsWith heading (Some all) = (later : List ℕ) × (line_bytes (Header heading) ++ later ≡ all)
 
 -- The journal begins with no first line: line 1 is wrong.
-pub record IsHeadless (c : Replay) (told : Told) (came : Replayed) : Type 0 where
+pub record IsHeadless (c : Replay) (told : Told) (came : ReplayResult) : Type 0 where
   pub first : came ≡ Line 1
   pub none : HasNoHeader (told.content c.journal)
 
 -- The journal's first line tells a network card, and the journal and the outputs are judged beside the
 -- captures, under the keys that the function is given for this card, if any.
-pub record IsJudged (c : Replay) (told : Told) (f : Function) (came : Replayed) : Type 0 where
+pub record IsJudged (c : Replay) (told : Told) (f : Function) (came : ReplayResult) : Type 0 where
   pub heading : Heading
   pub is_heading : IsHeading heading
   pub first : BeginsWith heading (told.content c.journal)
   pub verdict : Verdict
   pub is_verdict : IsVerdict f heading.card verdict
-  pub comes : Comes {E = Stop} f (keys_by verdict) heading (length c.captures) (beside_under f c told) (Ok came)
+  pub comes : Comes {E = RunFault} f (keys_by verdict) heading (length c.captures) (beside_under f c told) (Ok came)
 
 -- What a replay comes to: the text is a network function with as many ports as there are captures, all
 -- of which are captures, and the journal has no first line, or is judged by it.
-pub record HasReplayed (c : Replay) (told : Told) (f : Function) (came : Replayed) : Type 0 where
+pub record HasReplayed (c : Replay) (told : Told) (f : Function) (came : ReplayResult) :
+    Type 0 where
   pub has_ports : HasPorts c told f
   pub captures : Below IsCapture told c.captures (length c.captures)
   pub judged : IsHeadless c told came ⊎ IsJudged c told f came

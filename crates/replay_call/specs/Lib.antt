@@ -1,5 +1,5 @@
 pub mod Numbers
 pub mod Names
 pub mod Contents
-pub mod Checked
+pub mod ReplayEnd
 pub mod Progress

@@ -1,6 +1,6 @@
 -- Which file of a replay a number is.
 use Rattle.std.specs.Prelude.{ℕ}
-use Rattle.call_base.specs.declared.layout.Behind.TheVariants.{Read}
+use Rattle.call_base.specs.declared.layout.FileOrder.TheVariants.{Read}
 use Rattle.call_base.specs.Numbers.{Numbering}
 use Rattle.call_base.specs.Layout as layout
 

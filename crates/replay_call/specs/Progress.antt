@@ -12,12 +12,12 @@ use Rattle.key_synth.specs.Verdicts.{IsVerdict}
 use Rattle.run_history.specs.Headings.{IsHeading}
 use Rattle.run_history.specs.declared.line.JournalLine.TheVariants.{Header}
 use Rattle.journal_read.specs.Journals.{Stands}
-use Rattle.replay_run.specs.declared.begun.Begun.{Begun}
-use Rattle.replay_run.specs.declared.replayed.Replayed.{Replayed}
+use Rattle.replay_run.specs.declared.opened.OpenedJournal.{OpenedJournal}
+use Rattle.replay_run.specs.declared.result.ReplayResult.{ReplayResult}
 use Rattle.replay_run.specs.Turns.{IsStarted}
 use Rattle.command_words.specs.Commands.{Replay}
 use Rattle.command_words.specs.View as view
-use Rattle.call_base.specs.declared.layout.Behind.TheVariants.{Read}
+use Rattle.call_base.specs.declared.layout.FileOrder.TheVariants.{Read}
 use Rattle.call_base.specs.Names.{output_name}
 use Rattle.call_base.specs.Outside.{Outside, HasOnlyAsked}
 use Rattle.call_base.specs.Reading as reads
@@ -75,7 +75,7 @@ pub record HasReady (before now : Outside) (job : Job) (captures : List ℕ) (fe
   pub only : HasOnlyAsked (asked_by (asked job)) before now
 
 -- The journal's first line was read, and nothing of the outputs yet.
-pub record HasBegun (before now : Outside) (job : Job) (captures : List ℕ) (feed : Feeding) (begun : Begun) (outputs : List ℕ) : Type 0 where
+pub record HasBegun (before now : Outside) (job : Job) (captures : List ℕ) (feed : Feeding) (begun : OpenedJournal) (outputs : List ℕ) : Type 0 where
   pub old : Outside
   pub ready : HasReady before old job captures feed begun.lines.file outputs
   pub kept : Keeps old.told now.told begun.lines.file
@@ -84,7 +84,7 @@ pub record HasBegun (before now : Outside) (job : Job) (captures : List ℕ) (fe
   pub lines : Stands (old.told.rest begun.lines.file) (Header begun.header ∷ []) begun.lines (now.told.rest begun.lines.file)
 
 -- The journal and the outputs were judged.
-pub record HasCome (before now : Outside) (job : Job) (came : Replayed) : Type 0 where
+pub record HasCome (before now : Outside) (job : Job) (came : ReplayResult) : Type 0 where
   pub replayed : HasReplayed (asked job) before.told (function_of job.func.now) came
   pub contents : (n : List ℕ) → now.told.content n ≡ before.told.content n
   pub stdout : now.told.given 0 ≡ before.told.given 0

@@ -2,10 +2,10 @@
 //! text is printed where all is the same.
 #![tactic(auto)]
 
-mod checked;
+mod ending;
 mod job;
 mod names;
 mod replaying;
 
-pub use checked::Checked;
+pub use ending::ReplayEnd;
 pub use replaying::replay;

@@ -5,33 +5,33 @@ ghost use Rattle.std.specs.Prelude.{◌≡◌, ◌+◌, ◌≤◌, ◌++◌, [],
 ghost use Rattle.nf_base.specs.Functions.{function_of};
 ghost use Rattle.packet_feed.specs.Told.{EachFile, IsApart};
 ghost use Rattle.replay_run.specs.Queues.{lent};
-ghost use Rattle.replay_run.specs.declared.replayed.Replayed.TheVariants.{Same};
+ghost use Rattle.replay_run.specs.declared.result.ReplayResult.TheVariants.{Same};
 ghost use Rattle.command_words.specs.View as view;
 ghost use Rattle.call_base.specs.Names.{reading};
 ghost use Rattle.call_base.specs.Source.{HasFewPaths};
 ghost use Rattle.call_base.specs.Outside.{Outside, HasOnlyAsked, seen};
 ghost use Rattle.call_base.specs.Reading.{IsFresh, HasFound, AreFrom};
 ghost use Rattle.replay_call.specs.Names.{names_of};
-ghost use Rattle.replay_call.specs.Checked.{ReplaysTo};
+ghost use Rattle.replay_call.specs.ReplayEnd.{ReplaysTo};
 ghost use Rattle.replay_call.specs.Progress.{AreKeysOf, IsSized, IsJob, HasFed, HasReady, HasBegun, HasCome, asked};
 
-use crate::checked::Checked;
+use crate::ending::ReplayEnd;
 use crate::job::Job;
 use crate::names::names_behind;
 use call_base::analysing::verdict_of;
 use call_base::inputs::{Inputs, open_inputs};
-use call_base::layout::{Behind, Layout};
+use call_base::layout::{FileOrder, Layout};
 use call_base::loading::{Found, read_function};
 use call_base::opening::open_captures;
 use call_base::say::print_out;
-use call_base::status::{Difference, Halt, Refusal, Stop};
+use call_base::status::{CallFault, Difference, Halt, Refusal};
 use command_words::ReplayCommand;
 use key_synth::Verdict;
 use nf_base::keys::Keys;
 use nf_base::state::State;
 use nf_files::Files;
 use packet_feed::Feed;
-use replay_run::{Begun, Replayed, first_line};
+use replay_run::{OpenedJournal, ReplayResult, first_line};
 use run_history::state_text::state_text;
 use std::alloc::Global;
 
@@ -41,7 +41,7 @@ fn print_state<F: Files>(
     files: &mut F,
     job: &Job,
     state: &State,
-) -> Result<Checked, Halt>
+) -> Result<ReplayEnd, Halt>
     requires sized { IsSized job.now }
     ensures replays { let now = seen (F.told files.old) (F.counted files.old) in
         (before : Outside) → IsJob before job.now → HasCome before now job.now (Same state.now) →
@@ -49,27 +49,32 @@ fn print_state<F: Files>(
 {
     match state_text(alloc, job.func, state) {
         Ok(text) => match print_out(files, text.as_slice()) {
-            Ok(()) => Ok(Checked::Same),
+            Ok(()) => Ok(ReplayEnd::Same),
             Err(stop) => Err(Halt::Stop(stop)),
         },
-        Err(_) => Err(Halt::Stop(Stop::Memory)),
+        Err(_) => Err(Halt::Stop(CallFault::Memory)),
     }
 }
 
 // Tells what was found.
-fn told<F: Files>(alloc: Global, files: &mut F, job: &Job, came: Replayed) -> Result<Checked, Halt>
+fn told<F: Files>(
+    alloc: Global,
+    files: &mut F,
+    job: &Job,
+    came: ReplayResult,
+) -> Result<ReplayEnd, Halt>
     requires sized { IsSized job.now }
     ensures replays { let now = seen (F.told files.old) (F.counted files.old) in
         (before : Outside) → IsJob before job.now → HasCome before now job.now came →
         ReplaysTo (asked job.now) before (seen (F.told files.new) (F.counted files.new)) result }
 {
     match came {
-        Replayed::Same(state) => print_state(alloc, files, job, &state),
-        Replayed::TooMany => Ok(Checked::TooMany {
+        ReplayResult::Same(state) => print_state(alloc, files, job, &state),
+        ReplayResult::TooMany => Ok(ReplayEnd::TooMany {
             most: job.command.most,
         }),
-        Replayed::Line(line) => Ok(Checked::Differs(Difference::Line(line))),
-        Replayed::Output(port) => Ok(Checked::Differs(Difference::Output(port))),
+        ReplayResult::Line(line) => Ok(ReplayEnd::Differs(Difference::Line(line))),
+        ReplayResult::Output(port) => Ok(ReplayEnd::Differs(Difference::Output(port))),
     }
 }
 
@@ -82,9 +87,9 @@ fn replay_keyed<F: Files>(
     keys: Option<&Keys>,
     feed: &mut Feed,
     captures: &[u32],
-    begun: Begun,
+    begun: OpenedJournal,
     outputs: &[u32],
-) -> Result<Checked, Halt>
+) -> Result<ReplayEnd, Halt>
     requires sized { IsSized job.now }
     requires keyed { IfSome keys (λ k. length job.now.func.now.handlers ≤ length k.now.ports) }
     requires of_card { IfSome keys (λ k. k.now.table ≡ begun.header.card.table) }
@@ -118,9 +123,9 @@ fn replay_begun<F: Files>(
     job: &Job,
     feed: &mut Feed,
     captures: &[u32],
-    begun: Begun,
+    begun: OpenedJournal,
     outputs: &[u32],
-) -> Result<Checked, Halt>
+) -> Result<ReplayEnd, Halt>
     requires sized { IsSized job.now }
     requires fresh { let f = function_of job.now.func.now in
         IsFresh f job.now.command.now.most captures.now feed.old }
@@ -149,7 +154,7 @@ fn replay_begun<F: Files>(
         Ok(Verdict::Locked(_)) => replay_keyed(
             alloc, files, job, None, feed, captures, begun, outputs,
         ),
-        Err(_) => Err(Halt::Stop(Stop::Memory)),
+        Err(_) => Err(Halt::Stop(CallFault::Memory)),
     }
 }
 
@@ -162,7 +167,7 @@ fn replay_ready<F: Files>(
     captures: &[u32],
     journal: u32,
     outputs: &[u32],
-) -> Result<Checked, Halt>
+) -> Result<ReplayEnd, Halt>
     requires sized { IsSized job.now }
     requires fresh { let f = function_of job.now.func.now in
         IsFresh f job.now.command.now.most captures.now feed.old }
@@ -179,7 +184,7 @@ fn replay_ready<F: Files>(
 {
     match first_line(alloc, files, journal) {
         Ok(Some(begun)) => replay_begun(alloc, files, job, feed, captures, begun, outputs),
-        Ok(None) => told(alloc, files, job, Replayed::Line(1)),
+        Ok(None) => told(alloc, files, job, ReplayResult::Line(1)),
         Err(stop) => Err(job.layout.halt(stop)),
     }
 }
@@ -193,7 +198,7 @@ fn replay_named<F: Files>(
     captures: &[u32],
     names: &[String],
     last: u32,
-) -> Result<Checked, Halt>
+) -> Result<ReplayEnd, Halt>
     requires sized { IsSized job.now }
     requires fresh { let f = function_of job.now.func.now in
         IsFresh f job.now.command.now.most captures.now feed.old }
@@ -214,7 +219,7 @@ fn replay_named<F: Files>(
             Some((journal, outputs)) => replay_ready(
                 alloc, files, job, feed, captures, *journal, outputs,
             ),
-            None => Err(Halt::Stop(Stop::Memory)),
+            None => Err(Halt::Stop(CallFault::Memory)),
         },
         Err(stop) => Err(job.layout.halt(stop)),
     }
@@ -227,7 +232,7 @@ fn replay_fed<F: Files>(
     job: &Job,
     feed: &mut Feed,
     captures: &[u32],
-) -> Result<Checked, Halt>
+) -> Result<ReplayEnd, Halt>
     requires sized { IsSized job.now }
     requires fresh { let f = function_of job.now.func.now in
         IsFresh f job.now.command.now.most captures.now feed.old }
@@ -246,12 +251,12 @@ fn replay_fed<F: Files>(
     let ReplayCommand { journal, out, .. } = command;
     match names_behind(alloc, journal, command.format, out, ports) {
         Ok(names) => replay_named(alloc, files, job, feed, captures, names.as_slice(), last),
-        Err(_) => Err(Halt::Stop(Stop::Memory)),
+        Err(_) => Err(Halt::Stop(CallFault::Memory)),
     }
 }
 
 // Opens the captures, and goes on.
-fn replay_job<F: Files>(alloc: Global, files: &mut F, job: &Job) -> Result<Checked, Halt>
+fn replay_job<F: Files>(alloc: Global, files: &mut F, job: &Job) -> Result<ReplayEnd, Halt>
     requires sized { IsSized job.now }
     requires next { (F.told files.old).next ≡ job.now.layout.first + 1 }
     ensures replays { let now = seen (F.told files.old) (F.counted files.old) in
@@ -275,7 +280,7 @@ fn replay_found<F: Files>(
     files: &mut F,
     command: &ReplayCommand,
     found: &Found,
-) -> Result<Checked, Halt>
+) -> Result<ReplayEnd, Halt>
     requires some { 1 ≤ length command.now.captures.items }
     requires few { length command.now.captures.items ≤ 4 }
     requires few_paths { HasFewPaths (function_of found.now.source.func) }
@@ -295,7 +300,7 @@ fn replay_found<F: Files>(
         first: found.file,
         captures: ports,
         ports,
-        behind: Behind::Read,
+        behind: FileOrder::Read,
     };
     let job = Job {
         command,
@@ -313,7 +318,7 @@ pub fn replay<F: Files>(
     alloc: Global,
     files: &mut F,
     command: &ReplayCommand,
-) -> Result<Checked, Halt>
+) -> Result<ReplayEnd, Halt>
     requires some { 1 ≤ length command.now.captures.items }
     requires few { length command.now.captures.items ≤ 4 }
     ensures replays { ReplaysTo (view.replay command.now)

@@ -23,14 +23,14 @@ use Rattle.stream_run.specs.Rules.{rule_in}
 use Rattle.stream_run.proofs.Ruled.{handled_fronts}
 use Rattle.stream_run.specs.Runs.{Handled}
 use Rattle.stream_run.specs.Streaming.{arrival_of, handling_in, result_in, IsUndivided}
-use Rattle.stream_run.specs.declared.stop.Stop.{Stop}
+use Rattle.stream_run.specs.declared.fault.RunFault.{RunFault}
 use Rattle.replay_run.specs.Replaying.{RunKind, Beside, line_in, journal_lines, sent, IsRun, AreFirstIn, NoneGoesOn, BeginsWith, IsWrong, IsRight, IsJournal, Replays}
 use Rattle.replay_run.specs.Queues.{keys_or_none}
 use Rattle.replay_run.specs.Heads.{Comes}
 use Rattle.replay_run.proofs.Ports.{first_front, same_packets}
 use Rattle.replay_run.specs.Laws.{IsThere, RightIsAccepted, IsFirst, FirstIsFound}
-use Rattle.replay_run.specs.declared.replayed.Replayed.{Replayed}
-use Rattle.replay_run.specs.declared.replayed.Replayed.TheVariants.{Same, TooMany, Line, Output}
+use Rattle.replay_run.specs.declared.result.ReplayResult.{ReplayResult}
+use Rattle.replay_run.specs.declared.result.ReplayResult.TheVariants.{Same, TooMany, Line, Output}
 
 -- ---- lines of bytes
 
@@ -195,7 +195,7 @@ module _ (f : Function) (keys : Option Keys) (heading : Heading) (ports : ℕ) (
       (subst (AreFirstIn heading.mode (Some there.all)) (ap (map arrival_of) on ∙ map-append arrival_of (ks ++ h ∷ []) later) there.first) in
       none h ran.0 (lines.0, (lines_bytes (map line_in later), bytes)) first ran.1
 
-  pub accepted : (came : Replayed) → Replays {E = Stop} Kind heading ports beside (Ok came) → came ≡ Same state
+  pub accepted : (came : ReplayResult) → Replays {E = RunFault} Kind heading ports beside (Ok came) → came ≡ Same state
   accepted (Same s) r =
       let all = all_of r.hs s r.journal_is in
       let one = same_runs f hs r.hs state s there.run.undivided r.journal_is.right.run.undivided (ap (map arrival_of) all) (ap (map line_in) all) in
@@ -220,7 +220,7 @@ module _ (f : Function) (keys : Option Keys) (heading : Heading) (ports : ℕ) (
       let same : Header other ≡ Header heading = same_line (Header other) (Header heading) rest (lines_bytes (map line_in hs)) is there.header (sym e) in
       cc
 
-  pub all_accepted : (came : Replayed) → Comes {E = Stop} f keys heading ports beside (Ok came) → came ≡ Same state
+  pub all_accepted : (came : ReplayResult) → Comes {E = RunFault} f keys heading ports beside (Ok came) → came ≡ Same state
   all_accepted (Same s) h = accepted (Same s) h.replays
   all_accepted TooMany h = accepted TooMany h.replays
   all_accepted (Output port) h = accepted (Output port) h.replays

@@ -16,7 +16,7 @@ use Rattle.packet_feed.proofs.Standing.{all_ports}
 use Rattle.run_history.specs.declared.line.Mode.TheVariants.{One, Shard, Lock}
 use Rattle.run_history.specs.declared.line.JournalLine.{JournalLine}
 use Rattle.journal_check.specs.Judging.{port_in}
-use Rattle.stream_run.specs.declared.stop.Stop.{Stop}
+use Rattle.stream_run.specs.declared.fault.RunFault.{RunFault}
 use Rattle.replay_run.specs.Turns.{packets_at, Fetches, CountsOne}
 
 -- feeds over the same captures have the same packets
@@ -49,19 +49,19 @@ past_ports feed start given now told port line is e past h =
     (subst (λ (n : ℕ). AllByRecursion (λ (a : Arrival). a.packet.id.port < n) given) (sym long) h.sources.among)
 
 pub fetched : (port : ℕ) (line : JournalLine) (feed next : Feeding) (old now : Told) (r : Option Packet) → port_in line ≡ Some port → files_in next.sources ≡ files_in feed.sources → sixes_in next.sources ≡ sixes_in feed.sources → CountsAt port feed next (Ok r)
-    → ((start : Told) (given : List Arrival) → StandsByPort start given feed old → FeedsAt port start given next now (Ok r)) → Fetches {E = Stop} Lock line feed next old now (Ok r)
+    → ((start : Told) (given : List Arrival) → StandsByPort start given feed old → FeedsAt port start given next now (Ok r)) → Fetches {E = RunFault} Lock line feed next old now (Ok r)
 fetched port line feed next old now (Some packet) is files sixes counts feeds = (is ∙ ap (λ (n : ℕ). Some n) (sym counts.1), λ start given h. feeds start given h)
 fetched port line feed next old now None is files sixes counts feeds = λ start given h other e.
     let same : port ≡ other = same_Some _ _ (sym is ∙ e) in
     subst (λ (n : ℕ). AreAllOf n (packets_at feed start) given) same
     (subst (λ (all : Option (List Arrival)). AreAllOf port all given) (same_packets next feed start files sixes) (feeds start given h).1)
 
-pub counted : (port : ℕ) (feed next : Feeding) (r : Option Packet) → CountsAt port feed next (Ok r) → CountsOne {E = Stop} feed next (Ok r)
+pub counted : (port : ℕ) (feed next : Feeding) (r : Option Packet) → CountsAt port feed next (Ok r) → CountsOne {E = RunFault} feed next (Ok r)
 counted port feed next (Some packet) counts = (counts.0, counts.2)
 counted port feed next None counts = tt
 
 -- in mode `shard` the packets are those of mode `one`
-pub as_shard : (line : JournalLine) (feed next : Feeding) (old now : Told) (r : Result (Option Packet) Stop) → Fetches One line feed next old now r → Fetches Shard line feed next old now r
+pub as_shard : (line : JournalLine) (feed next : Feeding) (old now : Told) (r : Result (Option Packet) RunFault) → Fetches One line feed next old now r → Fetches Shard line feed next old now r
 as_shard line feed next old now (Ok (Some packet)) h = h
 as_shard line feed next old now (Ok None) h = h
 as_shard line feed next old now (Err stop) h = tt

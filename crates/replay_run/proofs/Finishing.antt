@@ -13,15 +13,15 @@ use Rattle.run_history.specs.Headings.{Heading}
 use Rattle.file_match.specs.Comparing.{Comparing, IsOtherIfTold}
 use Rattle.replay_run.specs.Outputs.{AreToldBelow, IsLeastOther}
 use Rattle.journal_read.specs.Journals.{Reading}
-use Rattle.stream_run.specs.declared.stop.Stop.{Stop}
+use Rattle.stream_run.specs.declared.fault.RunFault.{RunFault}
 use Rattle.replay_run.specs.Replaying.{RunKind, IsRun, IsJournal, Replays, Finishes, AreSent, IsLeastUnsent, sent}
 use Rattle.replay_run.specs.Turns.{Begins, Reads, IsOver, rest_at, beside_of}
 use Rattle.replay_run.specs.declared.lines.End.{End}
-use Rattle.replay_run.specs.declared.replayed.Replayed.{Replayed}
-use Rattle.replay_run.specs.declared.replayed.Replayed.TheVariants.{Same, TooMany, Line, Output}
+use Rattle.replay_run.specs.declared.result.ReplayResult.{ReplayResult}
+use Rattle.replay_run.specs.declared.result.ReplayResult.TheVariants.{Same, TooMany, Line, Output}
 
 -- what reading lines comes to, by another name of the first line and of the outputs
-pub read_as : (format : CaptureFormat) (f : Function) (keys : Keys) (one header : Heading) (ports : ℕ) (feed : Feeding) (journal : Reading) (outs outputs : List ℕ) (old mid : Told) (most : ℕ) (found : List Comparing) (state : State) (r : Result End Stop) → one ≡ header → outs ≡ outputs
+pub read_as : (format : CaptureFormat) (f : Function) (keys : Keys) (one header : Heading) (ports : ℕ) (feed : Feeding) (journal : Reading) (outs outputs : List ℕ) (old mid : Told) (most : ℕ) (found : List Comparing) (state : State) (r : Result End RunFault) → one ≡ header → outs ≡ outputs
     → ((start : Told) (bytes : Option (List ℕ)) → Begins one feed journal start bytes old → Reads (IsRun f keys one) one ports (beside_of format feed start bytes outs old most) old.rest mid found state r)
     → (start : Told) (bytes : Option (List ℕ)) → Begins header feed journal start bytes old → Reads (IsRun f keys header) header ports (beside_of format feed start bytes outputs old most) old.rest mid found state r
 read_as format f keys one header ports feed journal outs outputs old mid most found state r heading files h =
@@ -57,7 +57,7 @@ least_unsent bytes now files ports port same h =
       lesser = are_sent bytes now files port (omega (arith, inside)) h.lesser;
     }
 
-pub finished : (Run : RunKind) (heading : Heading) (format : CaptureFormat) (ports : ℕ) (feed : Feeding) (start : Told) (bytes : Option (List ℕ)) (files : List ℕ) (old : Told) (most : ℕ) (now : Told) (found : List Comparing) (state : State) (r : Result Replayed Stop) → ports ≡ length files
+pub finished : (Run : RunKind) (heading : Heading) (format : CaptureFormat) (ports : ℕ) (feed : Feeding) (start : Told) (bytes : Option (List ℕ)) (files : List ℕ) (old : Told) (most : ℕ) (now : Told) (found : List Comparing) (state : State) (r : Result ReplayResult RunFault) → ports ≡ length files
     → (o : IsOver Run heading ports (beside_of format feed start bytes files old most) old.rest now found state) → Finishes (sent format heading ports o.hs) old.rest files state r → Replays Run heading ports (beside_of format feed start bytes files old most) r
 finished Run heading format ports feed start bytes files old most now found state (Ok (Same left)) same o fin = record {
   hs = o.hs;

@@ -7,7 +7,7 @@ use Rattle.nf_base.specs.Text.{Function}
 use Rattle.packet_feed.specs.Arrivals.{Arrival}
 use Rattle.run_history.specs.Headings.{Heading, IsHeading}
 use Rattle.journal_read.specs.Journals.{Reading, Stands, AreAllLines, AreMoreLines}
-use Rattle.stream_run.specs.declared.stop.Stop.{Stop}
+use Rattle.stream_run.specs.declared.fault.RunFault.{RunFault}
 use Rattle.stream_run.specs.Runs.{Handled}
 use Rattle.stream_run.specs.Streaming.{arrival_of}
 use Rattle.nf_files.specs.Told.{IsToldAs}
@@ -15,8 +15,8 @@ use Rattle.file_match.specs.Comparing.{IsOtherIfTold}
 use Rattle.replay_run.specs.Queues.{keys_or_none, IsKeyedBy}
 use Rattle.replay_run.specs.Replaying.{RunKind, Beside, IsRun, AreFirstIn, IsWrong, IsRight, IsJournal, Replays, AreSent, journal_lines, sent}
 use Rattle.replay_run.specs.Heads.{IsHeaded, Comes}
-use Rattle.replay_run.specs.declared.replayed.Replayed.{Replayed}
-use Rattle.replay_run.specs.declared.replayed.Replayed.TheVariants.{Same, TooMany, Line, Output}
+use Rattle.replay_run.specs.declared.result.ReplayResult.{ReplayResult}
+use Rattle.replay_run.specs.declared.result.ReplayResult.TheVariants.{Same, TooMany, Line, Output}
 
 -- nothing was read yet
 pub stands_none : (o : Option (List ℕ)) (v : Reading) → v.held ≡ [] → Stands o [] v o
@@ -25,7 +25,7 @@ stands_none (Some all) v e = ap (λ (t : List ℕ). t ++ all) (sym e)
 
 -- ---- what a replay comes to
 
-pub headed : (f : Function) (keys : Option Keys) (heading : Heading) (ports : ℕ) (beside : Beside) (r : Result Replayed Stop) → IsHeading heading → IsKeyedBy heading.mode keys → Replays (IsRun f (keys_or_none keys) heading) heading ports beside r → Comes f keys heading ports beside r
+pub headed : (f : Function) (keys : Option Keys) (heading : Heading) (ports : ℕ) (beside : Beside) (r : Result ReplayResult RunFault) → IsHeading heading → IsKeyedBy heading.mode keys → Replays (IsRun f (keys_or_none keys) heading) heading ports beside r → Comes f keys heading ports beside r
 headed f keys heading ports beside (Ok (Same state)) is keyed h = record { is_heading = is; keyed = keyed; replays = h }
 headed f keys heading ports beside (Ok TooMany) is keyed h = record { is_heading = is; keyed = keyed; replays = h }
 headed f keys heading ports beside (Ok (Line line)) is keyed h = inr (record { is_heading = is; keyed = keyed; replays = h })
@@ -51,7 +51,7 @@ journal_as Run heading one other hs state packets journal most j = record {
 sent_as : (bytes : ℕ → List ℕ) (one other : ℕ → Option (List ℕ)) (ports : ℕ) → ((port : ℕ) → port < ports → other port ≡ one port) → AreSent bytes one ports → AreSent bytes other ports
 sent_as bytes one other ports same h port lt = subst (IsToldAs (bytes port)) (sym (same port lt)) (h port lt)
 
-pub replays_as : (Run : RunKind) (heading : Heading) (ports : ℕ) (one other : Beside) (r : Result Replayed Stop) → other.format ≡ one.format → other.packets ≡ one.packets → other.journal ≡ one.journal → other.most ≡ one.most → ((port : ℕ) → port < ports → other.outputs port ≡ one.outputs port)
+pub replays_as : (Run : RunKind) (heading : Heading) (ports : ℕ) (one other : Beside) (r : Result ReplayResult RunFault) → other.format ≡ one.format → other.packets ≡ one.packets → other.journal ≡ one.journal → other.most ≡ one.most → ((port : ℕ) → port < ports → other.outputs port ≡ one.outputs port)
     → Replays Run heading ports one r → Replays Run heading ports other r
 replays_as Run heading ports one other (Ok (Same state)) kind packets journal most outputs h = record {
   hs = h.hs;
@@ -91,7 +91,7 @@ replays_as Run heading ports one other (Ok (Output port)) kind packets journal m
 }
 replays_as Run heading ports one other (Err e) kind packets journal most outputs h = tt
 
-headed_as : (f : Function) (keys : Option Keys) (heading : Heading) (ports : ℕ) (one other : Beside) (came : Replayed) → other.format ≡ one.format → other.packets ≡ one.packets → other.journal ≡ one.journal → other.most ≡ one.most → ((port : ℕ) → port < ports → other.outputs port ≡ one.outputs port)
+headed_as : (f : Function) (keys : Option Keys) (heading : Heading) (ports : ℕ) (one other : Beside) (came : ReplayResult) → other.format ≡ one.format → other.packets ≡ one.packets → other.journal ≡ one.journal → other.most ≡ one.most → ((port : ℕ) → port < ports → other.outputs port ≡ one.outputs port)
     → IsHeaded f keys heading ports one came → IsHeaded f keys heading ports other came
 headed_as f keys heading ports one other came kind packets journal most outputs h = record {
   is_heading = h.is_heading;
@@ -100,7 +100,7 @@ headed_as f keys heading ports one other came kind packets journal most outputs 
 }
 
 -- what a replay comes to, of the same that is told
-pub comes_as : (f : Function) (keys : Option Keys) (heading : Heading) (ports : ℕ) (one other : Beside) (r : Result Replayed Stop) → other.format ≡ one.format → other.packets ≡ one.packets → other.journal ≡ one.journal → other.most ≡ one.most → ((port : ℕ) → port < ports → other.outputs port ≡ one.outputs port)
+pub comes_as : (f : Function) (keys : Option Keys) (heading : Heading) (ports : ℕ) (one other : Beside) (r : Result ReplayResult RunFault) → other.format ≡ one.format → other.packets ≡ one.packets → other.journal ≡ one.journal → other.most ≡ one.most → ((port : ℕ) → port < ports → other.outputs port ≡ one.outputs port)
     → Comes f keys heading ports one r → Comes f keys heading ports other r
 comes_as f keys heading ports one other (Ok (Same state)) kind packets journal most outputs h = headed_as f keys heading ports one other (Same state) kind packets journal most outputs h
 comes_as f keys heading ports one other (Ok TooMany) kind packets journal most outputs h = headed_as f keys heading ports one other TooMany kind packets journal most outputs h

@@ -14,8 +14,8 @@ use Rattle.packet_feed.specs.Streams.{Stream}
 use Rattle.packet_feed.specs.Sources.{files_in}
 use Rattle.packet_feed.proofs.Standing.{at_file, stands_among}
 use Rattle.packet_feed.proofs.Standing as standing
-use Rattle.stream_run.specs.declared.stop.Stop.{Stop}
-use Rattle.stream_run.specs.declared.stop.Stop.TheVariants.{File, Memory}
+use Rattle.stream_run.specs.declared.fault.RunFault.{RunFault}
+use Rattle.stream_run.specs.declared.fault.RunFault.TheVariants.{File, Memory}
 use Rattle.stream_run.specs.Writing.{StopsAt, StopsAmong}
 
 pub all_left : (P : ℕ → Type 0) (xs ys : List ℕ) → All P (xs ++ ys) → All P xs
@@ -82,7 +82,7 @@ by_port_while start given feed old new same h = record {
 
 -- ---- which file failed
 
-pub among_outputs : (T U : Type 0) (captures outputs : List ℕ) (stop : Stop) → StopsAmong {T = T} [] outputs (Err stop) → StopsAmong {T = U} captures outputs (Err stop)
+pub among_outputs : (T U : Type 0) (captures outputs : List ℕ) (stop : RunFault) → StopsAmong {T = T} [] outputs (Err stop) → StopsAmong {T = U} captures outputs (Err stop)
 among_outputs T U captures outputs Memory h = tt
 among_outputs T U captures outputs (File g) (inl none) = absurd (none_in none.0 g none.1)
   where
@@ -91,21 +91,21 @@ among_outputs T U captures outputs (File g) (inl none) = absurd (none_in none.0 
 among_outputs T U captures outputs (File g) (inr one) = inr one
 
 -- with the journal in front of the outputs
-pub among_more : (T U : Type 0) (captures outputs : List ℕ) (file : ℕ) (stop : Stop) → StopsAmong {T = T} captures outputs (Err stop) → StopsAmong {T = U} captures (file ∷ outputs) (Err stop)
+pub among_more : (T U : Type 0) (captures outputs : List ℕ) (file : ℕ) (stop : RunFault) → StopsAmong {T = T} captures outputs (Err stop) → StopsAmong {T = U} captures (file ∷ outputs) (Err stop)
 among_more T U captures outputs file Memory h = tt
 among_more T U captures outputs file (File g) (inl one) = inl one
 among_more T U captures outputs file (File g) (inr one) = inr (suc one.0, one.1)
 
-pub among_journal : (T U : Type 0) (captures outputs : List ℕ) (file : ℕ) (stop : Stop) → StopsAt {T = T} file (Err stop) → StopsAmong {T = U} captures (file ∷ outputs) (Err stop)
+pub among_journal : (T U : Type 0) (captures outputs : List ℕ) (file : ℕ) (stop : RunFault) → StopsAt {T = T} file (Err stop) → StopsAmong {T = U} captures (file ∷ outputs) (Err stop)
 among_journal T U captures outputs file Memory h = tt
 among_journal T U captures outputs file (File g) h = inr (0, ap Some (sym h))
 
 -- whatever comes of the outputs
-pub among_any : (T : Type 0) (captures outputs : List ℕ) (file : ℕ) (r : Result T Stop) → StopsAmong {T = T} [] outputs r → StopsAmong {T = T} captures (file ∷ outputs) r
+pub among_any : (T : Type 0) (captures outputs : List ℕ) (file : ℕ) (r : Result T RunFault) → StopsAmong {T = T} [] outputs r → StopsAmong {T = T} captures (file ∷ outputs) r
 among_any T captures outputs file (Ok x) h = tt
 among_any T captures outputs file (Err stop) h = among_more T T captures outputs file stop (among_outputs T T captures outputs stop h)
 
 -- where a call was stopped
-pub among_of : {T : Type 0} (U : Type 0) (captures outputs : List ℕ) (r : Result T Stop) (stop : Stop) → r ≡ Err stop → StopsAmong {T = T} [] outputs r → StopsAmong {T = U} captures outputs (Err stop)
+pub among_of : {T : Type 0} (U : Type 0) (captures outputs : List ℕ) (r : Result T RunFault) (stop : RunFault) → r ≡ Err stop → StopsAmong {T = T} [] outputs r → StopsAmong {T = U} captures outputs (Err stop)
 among_of U captures outputs (Ok x) stop e h = absurd cc
-among_of {T = T} U captures outputs (Err s) stop e h = let same : s ≡ stop = cc in subst (λ (x : Stop). StopsAmong {T = U} captures outputs (Err x)) same (among_outputs T U captures outputs s h)
+among_of {T = T} U captures outputs (Err s) stop e h = let same : s ≡ stop = cc in subst (λ (x : RunFault). StopsAmong {T = U} captures outputs (Err x)) same (among_outputs T U captures outputs s h)

@@ -19,13 +19,13 @@ use Rattle.stream_run.specs.Orders.{AreFirstBy}
 use Rattle.stream_run.specs.Rules.{Rule, IsRunBy, IsFrontOf, AreBy}
 use Rattle.stream_run.specs.Runs.{Run, Handled, course_of, handled_in, run_of}
 use Rattle.stream_run.specs.Streaming.{arrival_of, AreFirst}
-use Rattle.stream_run.specs.declared.stop.Stop.{Stop}
+use Rattle.stream_run.specs.declared.fault.RunFault.{RunFault}
 use Rattle.stream_run.specs.Texts.{file_bytes}
 use Rattle.replay_run.specs.Replaying.{RunKind, Beside, IsRun, AreFirstIn, line_in, journal_lines, sent}
 use Rattle.replay_run.specs.Queues.{keys_or_none, IsKeyedBy}
 use Rattle.replay_run.specs.Heads.{Comes}
-use Rattle.replay_run.specs.declared.replayed.Replayed.{Replayed}
-use Rattle.replay_run.specs.declared.replayed.Replayed.TheVariants.{Same}
+use Rattle.replay_run.specs.declared.result.ReplayResult.{ReplayResult}
+use Rattle.replay_run.specs.declared.result.ReplayResult.TheVariants.{Same}
 
 -- what the first line of a run's journal tells
 abbrev pub heading_of : Run → Heading
@@ -54,8 +54,8 @@ pub record IsThere (Kind : RunKind) (keys : Option Keys) (heading : Heading) (po
 
 -- Where a run's journal and outputs are there, they are taken for right, and nothing else is said.
 abbrev pub RightIsAccepted : Type 0
-RightIsAccepted = (f : Function) (keys : Option Keys) (heading : Heading) (ports : ℕ) (beside : Beside) (hs : List Handled) (state : State) (came : Replayed) →
-    IsThere (IsRun f (keys_or_none keys) heading) keys heading ports beside hs state → Comes {E = Stop} f keys heading ports beside (Ok came) → came ≡ Same state
+RightIsAccepted = (f : Function) (keys : Option Keys) (heading : Heading) (ports : ℕ) (beside : Beside) (hs : List Handled) (state : State) (came : ReplayResult) →
+    IsThere (IsRun f (keys_or_none keys) heading) keys heading ports beside hs state → Comes {E = RunFault} f keys heading ports beside (Ok came) → came ≡ Same state
 
 -- Its first line is found there, and no other one.
 pub record IsFirst (heading : Heading) (journal : Option (List ℕ)) : Type 0 where

@@ -21,8 +21,8 @@ use Rattle.stream_run.specs.Rules.{rule_in, order_in, AreBy}
 use Rattle.stream_run.specs.Texts.{bytes_of}
 use Rattle.stream_run.specs.Streaming.{arrival_of}
 use Rattle.replay_run.specs.Outputs.{AreTold, IsLeastOther}
-use Rattle.replay_run.specs.declared.replayed.Replayed.{Replayed}
-use Rattle.replay_run.specs.declared.replayed.Replayed.TheVariants.{Same, TooMany, Line, Output}
+use Rattle.replay_run.specs.declared.result.ReplayResult.{ReplayResult}
+use Rattle.replay_run.specs.declared.result.ReplayResult.TheVariants.{Same, TooMany, Line, Output}
 
 -- a handled packet's line
 abbrev pub line_in : Handled → JournalLine
@@ -137,7 +137,7 @@ pub record IsFirstWrong (Run : RunKind) (heading : Heading) (beside : Beside) (l
   pub wrong : IsWrong Run heading beside.packets hs beside.journal
 
 -- what a replay comes to, of a journal whose first line is right
-abbrev pub Replays : {E : Type 0} → RunKind → Heading → ℕ → Beside → Result Replayed E → Type 0
+abbrev pub Replays : {E : Type 0} → RunKind → Heading → ℕ → Beside → Result ReplayResult E → Type 0
 Replays Run heading ports beside (Ok (Same state)) = IsSame Run heading ports beside state
 Replays Run heading ports beside (Ok TooMany) = IsTooMany Run heading beside
 Replays Run heading ports beside (Ok (Line line)) = IsFirstWrong Run heading beside line
@@ -145,7 +145,7 @@ Replays Run heading ports beside (Ok (Output port)) = IsOther Run heading ports 
 Replays Run heading ports beside (Err e) = Unit {0}
 
 -- what comparing the outputs to their ends comes to, where all lines are right and left this state
-abbrev pub Finishes : {E : Type 0} → (ℕ → List ℕ) → (ℕ → Option (List ℕ)) → List ℕ → State → Result Replayed E → Type 0
+abbrev pub Finishes : {E : Type 0} → (ℕ → List ℕ) → (ℕ → Option (List ℕ)) → List ℕ → State → Result ReplayResult E → Type 0
 Finishes bytes start outputs state (Ok (Same left)) = (left ≡ state) × AreTold bytes start outputs
 Finishes bytes start outputs state (Ok TooMany) = ⊥
 Finishes bytes start outputs state (Ok (Line line)) = ⊥

@@ -2,15 +2,15 @@
 //! are read, and what their packets leave is compared with the outputs.
 #![tactic(auto)]
 
-mod begun;
 pub mod laws;
 mod lines;
+mod opened;
 mod outputs;
 mod packets;
-mod replayed;
 mod replaying;
+mod result;
 mod turn;
 
-pub use begun::Begun;
-pub use replayed::Replayed;
+pub use opened::OpenedJournal;
 pub use replaying::{first_line, replay};
+pub use result::ReplayResult;

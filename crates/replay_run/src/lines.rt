@@ -31,7 +31,7 @@ use packet_feed::Feed;
 use rss_table::Table;
 use run_history::line::Mode;
 use std::alloc::Global;
-use stream_run::Stop;
+use stream_run::RunFault;
 
 /// How the lines of a journal end.
 #[derive(Clone, Copy, Debug, PartialEq, Eq)]
@@ -45,7 +45,11 @@ pub(crate) enum End {
 }
 
 // The next line.
-fn next_line<F: Files>(alloc: Global, files: &mut F, journal: &mut Journal) -> Result<Next, Stop>
+fn next_line<F: Files>(
+    alloc: Global,
+    files: &mut F,
+    journal: &mut Journal,
+) -> Result<Next, RunFault>
     requires opened { F.is_read files.old journal.old.file }
     ensures gives { let file = journal.old.file in
         (start : Option (List ℕ)) → (lines : List JournalLine) →
@@ -60,12 +64,12 @@ fn next_line<F: Files>(alloc: Global, files: &mut F, journal: &mut Journal) -> R
 {
     match journal.next(alloc, files) {
         Ok(next) => Ok(next),
-        Err(fault) => Err(Stop::of(journal.file(), fault)),
+        Err(fault) => Err(RunFault::of(journal.file(), fault)),
     }
 }
 
 // Whether there is more behind the lines that were asked for.
-fn end_of<F: Files>(alloc: Global, files: &mut F, journal: &mut Journal) -> Result<End, Stop>
+fn end_of<F: Files>(alloc: Global, files: &mut F, journal: &mut Journal) -> Result<End, RunFault>
     requires opened { F.is_read files.old journal.old.file }
     ensures ends { let file = journal.old.file in
         (start : Option (List ℕ)) → (lines : List JournalLine) →
@@ -82,7 +86,7 @@ fn end_of<F: Files>(alloc: Global, files: &mut F, journal: &mut Journal) -> Resu
     match journal.is_over(alloc, files) {
         Ok(true) => Ok(End::Over),
         Ok(false) => Ok(End::TooMany),
-        Err(fault) => Err(Stop::of(journal.file(), fault)),
+        Err(fault) => Err(RunFault::of(journal.file(), fault)),
     }
 }
 
@@ -102,7 +106,7 @@ pub(crate) fn read_lines<F: Files>(
     journal: &mut Journal,
     format: CaptureFormat,
     outputs: &mut Seq<Compared>,
-) -> Result<End, Stop>
+) -> Result<End, RunFault>
     requires of_func { judge.old.tables.decls ≡ func.now.chains }
     requires mode { judge.old.heading.mode ≡ mode }
     requires keyed { IsKeyed judge.old.heading.mode keys }

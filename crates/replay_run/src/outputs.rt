@@ -18,7 +18,7 @@ use nf_base::packet::Packet;
 use nf_base::seq::Seq;
 use nf_files::Files;
 use std::alloc::{AllocError, Global};
-use stream_run::{HandledPacket, Stop, push_sent};
+use stream_run::{HandledPacket, RunFault, push_sent};
 
 /// Outputs of which nothing was read yet.
 pub(crate) fn begin(alloc: Global, outputs: &[u32]) -> Result<Seq<Compared>, AllocError>
@@ -35,7 +35,11 @@ pub(crate) fn begin(alloc: Global, outputs: &[u32]) -> Result<Seq<Compared>, All
 }
 
 // Compares the next bytes of one output.
-fn compare_next<F: Files>(files: &mut F, compared: &mut Compared, bytes: &[u8]) -> Result<(), Stop>
+fn compare_next<F: Files>(
+    files: &mut F,
+    compared: &mut Compared,
+    bytes: &[u8],
+) -> Result<(), RunFault>
     requires opened { F.is_read files.old compared.old.file }
     ensures compares { let file = compared.old.file in
         (start : Option (List ℕ)) → (before : List ℕ) →
@@ -50,7 +54,7 @@ fn compare_next<F: Files>(files: &mut F, compared: &mut Compared, bytes: &[u8]) 
 {
     match compared.compare(files, bytes) {
         Ok(()) => Ok(()),
-        Err(fault) => Err(Stop::of(compared.file(), fault)),
+        Err(fault) => Err(RunFault::of(compared.file(), fault)),
     }
 }
 
@@ -65,7 +69,7 @@ fn compare_sent<F: Files>(
     original: u32,
     frame: &[u8],
     done: &Done,
-) -> Result<(), Stop>
+) -> Result<(), RunFault>
     requires opened { F.is_read files.old compared.old.file }
     requires time { packet.now.time ≤ greatest_time }
     requires captured { length frame.now ≤ 262144 }
@@ -91,12 +95,16 @@ fn compare_sent<F: Files>(
     };
     match push_sent(buffer, format, port, &handled) {
         Ok(()) => compare_next(files, compared, buffer.as_slice()),
-        Err(_) => Err(Stop::Memory),
+        Err(_) => Err(RunFault::Memory),
     }
 }
 
 // Compares the next bytes of all outputs with the same.
-fn compare_heads<F: Files>(files: &mut F, all: &mut Seq<Compared>, head: &[u8]) -> Result<(), Stop>
+fn compare_heads<F: Files>(
+    files: &mut F,
+    all: &mut Seq<Compared>,
+    head: &[u8],
+) -> Result<(), RunFault>
     requires opened { EachFile (F.is_read files.old) (files_of all.old) }
     requires apart { IsApart (files_of all.old) }
     ensures compares { (start : ℕ → Option (List ℕ)) →
@@ -125,7 +133,7 @@ pub(crate) fn compare_headers<F: Files>(
     files: &mut F,
     format: CaptureFormat,
     all: &mut Seq<Compared>,
-) -> Result<Vec<u8>, Stop>
+) -> Result<Vec<u8>, RunFault>
     requires opened { EachFile (F.is_read files.old) (files_of all.old) }
     requires apart { IsApart (files_of all.old) }
     requires fresh { (k : ℕ) → (c : Comparing) → slice_get all.old k ≡ Some c → c.same ≡ true }
@@ -142,7 +150,7 @@ pub(crate) fn compare_headers<F: Files>(
     let mut buffer = Vec::new(alloc);
     match push_head(&mut buffer, format) {
         Ok(()) => {}
-        Err(_) => return Err(Stop::Memory),
+        Err(_) => return Err(RunFault::Memory),
     }
     match compare_heads(files, all, buffer.as_slice()) {
         Ok(()) => Ok(buffer),
@@ -160,7 +168,7 @@ pub(crate) fn compare_all<F: Files>(
     original: u32,
     frame: &[u8],
     done: &Done,
-) -> Result<(), Stop>
+) -> Result<(), RunFault>
     requires opened { EachFile (F.is_read files.old) (files_of all.old) }
     requires apart { IsApart (files_of all.old) }
     requires few { length all.old ≤ 2 ^ 32 }
@@ -193,7 +201,7 @@ pub(crate) fn compare_all<F: Files>(
 }
 
 // Whether one output held what it was compared with, and no more.
-fn is_whole<F: Files>(files: &mut F, compared: &mut Compared) -> Result<bool, Stop>
+fn is_whole<F: Files>(files: &mut F, compared: &mut Compared) -> Result<bool, RunFault>
     requires opened { F.is_read files.old compared.old.file }
     ensures whole { let file = compared.old.file in
         (start : Option (List ℕ)) → (bytes : List ℕ) →
@@ -207,7 +215,7 @@ fn is_whole<F: Files>(files: &mut F, compared: &mut Compared) -> Result<bool, St
 {
     match compared.is_whole(files) {
         Ok(same) => Ok(same),
-        Err(fault) => Err(Stop::of(compared.file(), fault)),
+        Err(fault) => Err(RunFault::of(compared.file(), fault)),
     }
 }
 
@@ -215,7 +223,7 @@ fn is_whole<F: Files>(files: &mut F, compared: &mut Compared) -> Result<bool, St
 pub(crate) fn first_other<F: Files>(
     files: &mut F,
     all: &mut Seq<Compared>,
-) -> Result<Option<u32>, Stop>
+) -> Result<Option<u32>, RunFault>
     requires opened { EachFile (F.is_read files.old) (files_of all.old) }
     requires apart { IsApart (files_of all.old) }
     requires few { length all.old ≤ 2 ^ 32 }

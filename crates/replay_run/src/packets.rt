@@ -11,7 +11,7 @@ use nf_base::packet::Packet;
 use nf_files::Files;
 use packet_feed::{Fed, Feed};
 use run_history::line::{JournalLine, Mode};
-use stream_run::{Stop, stop_in};
+use stream_run::{RunFault, stop_in};
 
 // The next packet in capture order; None where none is left.
 fn next_of_all<F: Files>(
@@ -19,7 +19,7 @@ fn next_of_all<F: Files>(
     feed: &mut Feed,
     captures: &[u32],
     line: &JournalLine,
-) -> Result<Option<Packet>, Stop>
+) -> Result<Option<Packet>, RunFault>
     requires captures { files_in feed.old.sources ≡ captures.now }
     requires room { feed.old.given < feed.old.most }
     requires read { EachFile (F.is_read files.old) captures.now }
@@ -48,7 +48,7 @@ fn next_of_port<F: Files>(
     feed: &mut Feed,
     captures: &[u32],
     line: &JournalLine,
-) -> Result<Option<Packet>, Stop>
+) -> Result<Option<Packet>, RunFault>
     requires captures { files_in feed.old.sources ≡ captures.now }
     requires room { feed.old.given < feed.old.most }
     requires read { EachFile (F.is_read files.old) captures.now }
@@ -85,7 +85,7 @@ pub(crate) fn packet_for<F: Files>(
     mode: Mode,
     captures: &[u32],
     line: &JournalLine,
-) -> Result<Option<Packet>, Stop>
+) -> Result<Option<Packet>, RunFault>
     requires captures { files_in feed.old.sources ≡ captures.now }
     requires room { feed.old.given < feed.old.most }
     requires read { EachFile (F.is_read files.old) captures.now }

@@ -15,10 +15,10 @@ ghost use Rattle.replay_run.specs.Replaying.{IsRun, Replays, Finishes};
 ghost use Rattle.replay_run.specs.Turns.{Begins, beside_of};
 ghost use Rattle.replay_run.specs.Heads.{Heads, Comes};
 
-use crate::begun::Begun;
 use crate::lines::{End, read_lines};
+use crate::opened::OpenedJournal;
 use crate::outputs::{begin, first_other};
-use crate::replayed::Replayed;
+use crate::result::ReplayResult;
 use capture_format::CaptureFormat;
 use file_match::Compared;
 use journal_check::Judge;
@@ -32,7 +32,7 @@ use rss_table::Table;
 use run_history::header::Header;
 use run_history::line::Mode;
 use std::alloc::Global;
-use stream_run::Stop;
+use stream_run::RunFault;
 
 // Compares the outputs to their ends, and gives the state that all lines left.
 fn finish<F: Files>(
@@ -40,7 +40,7 @@ fn finish<F: Files>(
     files: &mut F,
     judge: &Judge,
     compared: &mut Seq<Compared>,
-) -> Result<Replayed, Stop>
+) -> Result<ReplayResult, RunFault>
     requires opened { EachFile (F.is_read files.old) (files_of compared.old) }
     requires apart { IsApart (files_of compared.old) }
     requires few { length compared.old ≤ 2 ^ 32 }
@@ -54,10 +54,10 @@ fn finish<F: Files>(
     ensures writes { (g : ℕ) → F.is_written files.old g → F.is_written files.new g }
 {
     match first_other(files, compared) {
-        Ok(Some(port)) => Ok(Replayed::Output(port)),
+        Ok(Some(port)) => Ok(ReplayResult::Output(port)),
         Ok(None) => match judge.state(alloc) {
-            Ok(state) => Ok(Replayed::Same(state)),
-            Err(_) => Err(Stop::Memory),
+            Ok(state) => Ok(ReplayResult::Same(state)),
+            Err(_) => Err(RunFault::Memory),
         },
         Err(stop) => Err(stop),
     }
@@ -86,7 +86,7 @@ fn replay_with<F: Files>(
     header: Header,
     format: CaptureFormat,
     outputs: &[u32],
-) -> Result<Replayed, Stop>
+) -> Result<ReplayResult, RunFault>
     requires keyed { IsKeyed header.mode keys }
     requires keys { IfSome keys (λ k. length func.now.handlers ≤ length k.now.ports) }
     requires of_card { IfSome keys (λ k. k.now.table ≡ header.card.table) }
@@ -118,11 +118,11 @@ fn replay_with<F: Files>(
     let mode = header.mode();
     let mut judge = match Judge::new(alloc, func, header) {
         Ok(judge) => judge,
-        Err(_) => return Err(Stop::Memory),
+        Err(_) => return Err(RunFault::Memory),
     };
     let mut compared = match begin(alloc, outputs) {
         Ok(compared) => compared,
-        Err(_) => return Err(Stop::Memory),
+        Err(_) => return Err(RunFault::Memory),
     };
     let end = match read_lines(
         alloc,
@@ -143,8 +143,8 @@ fn replay_with<F: Files>(
         Err(stop) => return Err(stop),
     };
     match end {
-        End::Wrong(line) => Ok(Replayed::Line(line)),
-        End::TooMany => Ok(Replayed::TooMany),
+        End::Wrong(line) => Ok(ReplayResult::Line(line)),
+        End::TooMany => Ok(ReplayResult::TooMany),
         End::Over => finish(alloc, files, &judge, &mut compared),
     }
 }
@@ -168,7 +168,7 @@ pub fn first_line<F: Files>(
     alloc: Global,
     files: &mut F,
     journal: u32,
-) -> Result<Option<Begun>, Stop>
+) -> Result<Option<OpenedJournal>, RunFault>
     requires opened { F.is_read files.old journal }
     ensures heads { let old = (F.told files.old).rest journal in
         Heads old ((F.told files.new).rest journal) result }
@@ -181,12 +181,12 @@ pub fn first_line<F: Files>(
 {
     let mut lines = match Journal::new(alloc, journal) {
         Ok(lines) => lines,
-        Err(_) => return Err(Stop::Memory),
+        Err(_) => return Err(RunFault::Memory),
     };
     match lines.header(alloc, files) {
-        Ok(Some(header)) => Ok(Some(Begun { lines, header })),
+        Ok(Some(header)) => Ok(Some(OpenedJournal { lines, header })),
         Ok(None) => Ok(None),
-        Err(fault) => Err(Stop::of(journal, fault)),
+        Err(fault) => Err(RunFault::of(journal, fault)),
     }
 }
 
@@ -213,10 +213,10 @@ pub fn replay<F: Files>(
     feed: &mut Feed,
     most: u32,
     captures: &[u32],
-    begun: Begun,
+    begun: OpenedJournal,
     format: CaptureFormat,
     outputs: &[u32],
-) -> Result<Replayed, Stop>
+) -> Result<ReplayResult, RunFault>
     requires keys { IfSome keys (λ k. length func.now.handlers ≤ length k.now.ports) }
     requires of_card { IfSome keys (λ k. k.now.table ≡ begun.header.card.table) }
     requires captures { files_in feed.old.sources ≡ captures.now }
@@ -245,9 +245,9 @@ pub fn replay<F: Files>(
     ensures reads { (g : ℕ) → F.is_read files.old g → F.is_read files.new g }
     ensures writes { (g : ℕ) → F.is_written files.old g → F.is_written files.new g }
 {
-    let Begun { lines, header } = begun;
+    let OpenedJournal { lines, header } = begun;
     if !is_keyed(header.mode(), keys) {
-        return Ok(Replayed::Line(1));
+        return Ok(ReplayResult::Line(1));
     }
     let mut lines = lines;
     replay_with(

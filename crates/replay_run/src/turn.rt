@@ -25,7 +25,7 @@ use nf_files::Files;
 use packet_feed::Feed;
 use rss_table::Table;
 use run_history::line::{JournalLine, Mode};
-use stream_run::Stop;
+use stream_run::RunFault;
 
 // The queue of a packet, of so many workers; 0 where no keys are given.
 fn queue_of(keys: Option<&Keys>, table: &Table, packet: &Packet) -> u32
@@ -55,7 +55,7 @@ pub(crate) fn one_turn<F: Files>(
     buffer: &mut Vec<u8>,
     format: CaptureFormat,
     line: &JournalLine,
-) -> Result<bool, Stop>
+) -> Result<bool, RunFault>
     requires of_func { judge.old.tables.decls ≡ func.now.chains }
     requires mode { judge.old.heading.mode ≡ mode }
     requires keyed { IsKeyed judge.old.heading.mode keys }

@@ -11,9 +11,9 @@ use nf_base::func::Func;
 use nf_base::keys::Keys;
 use nf_files::{Files, FilesFault};
 use packet_feed::{Feed, FeedFault};
-use replay_run::{Begun, Replayed, first_line, replay};
+use replay_run::{OpenedJournal, ReplayResult, first_line, replay};
 use std::alloc::Global;
-use stream_run::Stop;
+use stream_run::RunFault;
 
 /// Opens names to be read.
 pub fn open_all<F: Files>(
@@ -55,7 +55,11 @@ pub fn start<F: Files>(
 }
 
 /// Reads the first line of a journal.
-pub fn begin<F: Files>(alloc: Global, files: &mut F, journal: u32) -> Result<Option<Begun>, Stop>
+pub fn begin<F: Files>(
+    alloc: Global,
+    files: &mut F,
+    journal: u32,
+) -> Result<Option<OpenedJournal>, RunFault>
     requires opened { F.is_read files.old journal }
     ensures same_file { IfOk result (λ found. IfSome found (λ begun. begun.lines.file ≡ journal)) }
     ensures reads { (g : ℕ) → F.is_read files.old g → F.is_read files.new g }
@@ -72,9 +76,9 @@ pub fn check<F: Files>(
     feed: &mut Feed,
     most: u32,
     captures: &[u32],
-    begun: Begun,
+    begun: OpenedJournal,
     outputs: &[u32],
-) -> Result<Replayed, Stop>
+) -> Result<ReplayResult, RunFault>
     requires keys { IfSome keys (λ k. length func.now.handlers ≤ length k.now.ports) }
     requires of_card { IfSome keys (λ k. k.now.table ≡ begun.header.card.table) }
     requires captures { files_in feed.old.sources ≡ captures.now }

@@ -11,10 +11,10 @@ use nf_base::func::Func;
 use nf_files::{Files, MemoryFiles};
 use nf_syntax::parse;
 use packet_feed::{Feed, FeedFault};
-use replay_run::Replayed;
+use replay_run::ReplayResult;
 use run_history::state_text::state_text;
 use std::alloc::{AllocError, Global};
-use stream_run::Stop;
+use stream_run::RunFault;
 
 /// How a replay ended.
 #[derive(Clone, Copy, Debug, PartialEq, Eq)]
@@ -24,7 +24,7 @@ pub enum End {
     /// A file could not be opened.
     Unopened,
     Unstarted(FeedFault),
-    Stopped(Stop),
+    Stopped(RunFault),
     /// The journal and the outputs are those of a run.
     Same,
     TooMany,
@@ -176,15 +176,15 @@ fn replay_opened<F: Files>(
 fn put(
     alloc: Global,
     func: &Func,
-    replayed: Result<Replayed, Stop>,
+    replayed: Result<ReplayResult, RunFault>,
     outcome: &mut Outcome,
 ) -> Result<(), AllocError> {
     match replayed {
         Err(stop) => outcome.end = End::Stopped(stop),
-        Ok(Replayed::TooMany) => outcome.end = End::TooMany,
-        Ok(Replayed::Line(line)) => outcome.end = End::Line(line),
-        Ok(Replayed::Output(port)) => outcome.end = End::Output(port),
-        Ok(Replayed::Same(state)) => {
+        Ok(ReplayResult::TooMany) => outcome.end = End::TooMany,
+        Ok(ReplayResult::Line(line)) => outcome.end = End::Line(line),
+        Ok(ReplayResult::Output(port)) => outcome.end = End::Output(port),
+        Ok(ReplayResult::Same(state)) => {
             outcome.end = End::Same;
             outcome.state = state_text(alloc, func, &state)?;
         }

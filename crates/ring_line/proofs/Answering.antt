@@ -16,7 +16,7 @@ use Rattle.shard_machine.specs.Machine.{packets_of}
 use Rattle.shard_machine.proofs.Sent.{append_twice, map_append}
 use Rattle.ring_line.specs.declared.halt.Halt.{Halt}
 use Rattle.ring_line.specs.Packs.{Packed, answers_of}
-use Rattle.ring_line.specs.Desks.{Seated, Answers, Ends}
+use Rattle.ring_line.specs.QueueHandlers.{HandlerState, Answers, Ends}
 use Rattle.ring_line.specs.Handled as handled
 use Rattle.ring_line.specs.Handled.{CanServe, Handles, EndsAt, CameTo}
 use Rattle.ring_line.proofs.Packing.{answered_more, answered_all, answered_front}
@@ -26,7 +26,7 @@ pub all_at : {A : Type 0} (P : A → Type 0) (xs : List A) (i : ℕ) (x : A) →
 all_at P xs i x all at = subst P (get_or_from_slice_get xs i x x at) (all i x (slice_get_within xs i x at))
 
 -- an answer more
-pub answers_more : (f : Function) (func : Func) (first : State) (told : List Answer) (old new : Seated) (before after : Packed) → f ≡ function_of func → old.func ≡ func → All (CanServe func) before.packets → Answers old before new after →
+pub answers_more : (f : Function) (func : Func) (first : State) (told : List Answer) (old new : HandlerState) (before after : Packed) → f ≡ function_of func → old.func ≡ func → All (CanServe func) before.packets → Answers old before new after →
     Handles f old.tables.share first (told ++ answers_of before) old.tables.state → Handles f old.tables.share first (told ++ answers_of after) new.tables.state
 answers_more f func first told old new before after is same all a h =
     let at : CanServe old.func a.packet = subst (λ (g : Func). CanServe g a.packet) (sym same) (all_at (CanServe func) before.packets (length before.answers) a.packet all a.next) in
@@ -47,7 +47,7 @@ all_came f share first state packets told pack before le h = (
 )
 
 -- or the share ends at the next packet
-pub end_came : (f : Function) (func : Func) (first : State) (packets : List Packet) (told : List Answer) (old new : Seated) (before after : Packed) (e : Ends old before new after) → f ≡ function_of func → old.func ≡ func → All (CanServe func) before.packets → packets_of told ≡ packets →
+pub end_came : (f : Function) (func : Func) (first : State) (packets : List Packet) (told : List Answer) (old new : HandlerState) (before after : Packed) (e : Ends old before new after) → f ≡ function_of func → old.func ≡ func → All (CanServe func) before.packets → packets_of told ≡ packets →
     Handles f old.tables.share first (told ++ answers_of before) old.tables.state → EndsAt f old.tables.share first (packets ++ after.packets) (told ++ answers_of after) e.halt
 end_came f func first packets told old new before after e is same all begin h =
     let at : CanServe old.func e.halt.packet = subst (λ (g : Func). CanServe g e.halt.packet) (sym same) (all_at (CanServe func) before.packets (length before.answers) e.halt.packet all e.next) in
@@ -61,7 +61,7 @@ end_came f func first packets told old new before after e is same all begin h =
     (ends_behind f old.tables.share first old.tables.state packets before.packets front.0 told (answers_of before) e.halt begin front.1 h stops))
 
 -- the same from the beginning of the pack on
-pub handled_more : (start old new : Seated) (begin before after : Packed) (first : State) (told : List Answer) → before.packets ≡ begin.packets → old.func ≡ start.func → fixed_of old.tables ≡ fixed_of start.tables → Answers old before new after → All (CanServe start.func) begin.packets →
+pub handled_more : (start old new : HandlerState) (begin before after : Packed) (first : State) (told : List Answer) → before.packets ≡ begin.packets → old.func ≡ start.func → fixed_of old.tables ≡ fixed_of start.tables → Answers old before new after → All (CanServe start.func) begin.packets →
     Handles (function_of start.func) start.tables.share first (told ++ answers_of before) old.tables.state → Handles (function_of start.func) start.tables.share first (told ++ answers_of after) new.tables.state
 handled_more start old new begin before after first told packets same fixed a all h =
     let share : old.tables.share ≡ start.tables.share = ap (λ (x : Fixed). x.share) fixed in
@@ -69,7 +69,7 @@ handled_more start old new begin before after first told packets same fixed a al
     subst (λ (s : Share). Handles f s first (told ++ answers_of after) new.tables.state) share
     (answers_more f start.func first told old new before after refl same (subst (All (CanServe start.func)) (sym packets) all) a (subst (λ (s : Share). Handles f s first (told ++ answers_of before) old.tables.state) (sym share) h))
 
-pub ended_here : (start old new : Seated) (begin before after : Packed) (first : State) (packets : List Packet) (told : List Answer) → before.packets ≡ begin.packets → old.func ≡ start.func → fixed_of old.tables ≡ fixed_of start.tables → Ends old before new after → All (CanServe start.func) begin.packets → packets_of told ≡ packets →
+pub ended_here : (start old new : HandlerState) (begin before after : Packed) (first : State) (packets : List Packet) (told : List Answer) → before.packets ≡ begin.packets → old.func ≡ start.func → fixed_of old.tables ≡ fixed_of start.tables → Ends old before new after → All (CanServe start.func) begin.packets → packets_of told ≡ packets →
     Handles (function_of start.func) start.tables.share first (told ++ answers_of before) old.tables.state → CameTo (function_of start.func) start.tables.share first (packets ++ after.packets) (told ++ answers_of after) new.halt new.tables.state
 ended_here start old new begin before after first packets told are same fixed e all front h =
     let share : old.tables.share ≡ start.tables.share = ap (λ (x : Fixed). x.share) fixed in

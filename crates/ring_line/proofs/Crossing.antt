@@ -1,4 +1,4 @@
--- What may cross to a worker's thread: the text of a function, tables, and so a desk between its rings.
+-- What may cross to a worker's thread: the text of a function, tables, and so a queue handler between its rings.
 use denote.RattleType.{RattleType}
 use denote.Param.Send.{IsSend, IsSync, sendable, view_send}
 use denote.Param.SendFields.{as_row_send, variants_send, declared_send}
@@ -24,12 +24,12 @@ use Rattle.nf_base.specs.contracts.handler.Handler as handler
 use Rattle.nf_base.specs.contracts.port_handlers.PortHandlers as port_handlers
 use Rattle.nf_base.specs.contracts.func.Func as func
 use Rattle.ring_line.proofs.halt.Halt.TheSendSync as halt_law
-use Rattle.ring_line.proofs.keeps.Ends.TheSendSync as ends_law
+use Rattle.ring_line.proofs.worker_ends.RingEnds.TheSendSync as ends_law
 use Rattle.ring_line.proofs.bell.Looks.TheSendSync as looks_law
 use Rattle.vig_tables.proofs.tables.Tables.TheSendSync as tables_law
-use Rattle.ring_line.specs.contracts.desk.Desk as desk
-use Rattle.ring_line.specs.contracts.desk.Desk.TheInside as desk_inside
-use Rattle.ring_line.specs.contracts.shop.Shop as shop
+use Rattle.ring_line.specs.contracts.queue_handler.QueueHandler as queue_handler
+use Rattle.ring_line.specs.contracts.queue_handler.QueueHandler.TheInside as queue_handler_inside
+use Rattle.ring_line.specs.contracts.worker_loop.WorkerLoop as worker_loop
 
 -- ---- the text of a function: expressions and blocks hold themselves, in boxes
 
@@ -102,11 +102,11 @@ func_send = declared_send func.the_type (
   ),
 )
 
--- ---- a worker's desk and its rings
+-- ---- a worker's queue handler and its rings
 
 module _ (G : RattleType) (s : IsSend G) (y : IsSync G) where
-  desk_send : IsSend (desk.the_row G)
-  desk_send = view_send _ _ _ _ _ (declared_send (desk_inside.the_type G) (
+  queue_handler_send : IsSend (queue_handler.the_row G)
+  queue_handler_send = view_send _ _ _ _ _ (declared_send (queue_handler_inside.the_type G) (
     search (sendable, func_send) depth 40,
     (
       search (sendable, tables_law.the_send) depth 40,
@@ -117,11 +117,11 @@ module _ (G : RattleType) (s : IsSend G) (y : IsSync G) where
     ),
   ))
 
-  pub shop_send : IsSend (shop.the_row G)
-  shop_send = declared_send (shop.the_type G) (
+  pub worker_loop_send : IsSend (worker_loop.the_row G)
+  worker_loop_send = declared_send (worker_loop.the_type G) (
     search (sendable, as_row_send, ends_law.the_send) depth 40,
     (
-      search (sendable, as_row_send, desk_send) depth 40,
+      search (sendable, as_row_send, queue_handler_send) depth 40,
       (
         search (sendable, crosses, as_row_send) depth 40,
         (

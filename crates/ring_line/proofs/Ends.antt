@@ -3,7 +3,7 @@ use Rattle.std.proofs.Common.{◌≡◌, List, [], ◌∷◌, ◌++◌, map, ref
 use Rattle.ring_line.specs.declared.item.Item.{Item}
 use Rattle.ring_line.specs.declared.item.Item.TheVariants.{End}
 use Rattle.ring_line.specs.Packs.{Packed}
-use Rattle.ring_line.specs.Shops.{as_work, closed}
+use Rattle.ring_line.specs.WorkerLoops.{as_work, closed}
 
 -- it came out last, and it was put in last alone: all packs came out
 pub all_out : (ps qs : List Packed) (rest : List Item) → closed qs ++ rest ≡ map as_work ps ++ End ∷ [] → qs ≡ ps

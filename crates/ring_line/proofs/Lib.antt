@@ -9,8 +9,8 @@ pub mod Crossing
 pub mod Flights
 pub mod Shares
 pub mod Telling
-pub mod Laning
-pub mod Nearing
-pub mod Placing
+pub mod ThreadWorkers
+pub mod InlineWorkers
+pub mod QueueWorkers
 pub mod Lining
 pub mod Lying

@@ -1,4 +1,4 @@
--- What all lanes came to is a play.
+-- What all workers came to is a play.
 use Rattle.std.proofs.Common.{◌≡◌, ◌≤◌, ◌<◌, ℕ, List, [], ◌∷◌, ◌++◌, length, map, replicate, Option, Some, None, ◌⊎◌, refl, ap, sym, ◌∙◌, subst, arith, inl, inr}
 use Rattle.std.proofs.lemmas.Bool.{cases_lt}
 use Rattle.nf_base.specs.declared.packet.Packet.{Packet}
@@ -14,23 +14,23 @@ use Rattle.shard_core.specs.Sharded.{answer_of}
 use Rattle.shard_core.proofs.Played.{plays_append}
 use Rattle.ring_line.specs.declared.halt.Halt.{Halt}
 use Rattle.ring_line.specs.Handled.{WorkedTimes, WorkedThrough, EndsAt, CameTo, IsAt}
-use Rattle.ring_line.specs.Plays.{LaneEnd, AllCame, CameOut, IsPlay, HaltsAreStops, collected_at}
+use Rattle.ring_line.specs.Plays.{WorkerEnd, AllCame, CameOut, IsPlay, HaltsAreStops, collected_at}
 use Rattle.ring_line.proofs.Handling.{handling_is_work}
 use Rattle.ring_line.proofs.InOrder.{came_begins, InOrder, in_order, handed_out, each_all, same_at, packets_of_got}
 use Rattle.ring_line.proofs.Playing.{Sent, all_sent, AllReached, all_workers, AllCollected, all_got}
 
 -- a worker below the number, or a new one
-through : (x : Setup) (packets : List Packet) (got : List Collected) (left : List ℕ) (ends : ℕ → LaneEnd) → AllCame x packets got left ends → (w : ℕ) → w < x.workers →
+through : (x : Setup) (packets : List Packet) (got : List Collected) (left : List ℕ) (ends : ℕ → WorkerEnd) → AllCame x packets got left ends → (w : ℕ) → w < x.workers →
     WorkedThrough x.function (x.share w) (opening x.function) (packets_at x.queue w packets) (collected_at w got ++ (ends w).more) (ends w).halt (ends w).state
 through x packets got left ends all w lt =
-    handling_is_work x.function (x.share w) (opening x.function) (packets_at x.queue w packets) (collected_at w got ++ (ends w).more) (ends w).halt (ends w).state (all.lanes w lt)
+    handling_is_work x.function (x.share w) (opening x.function) (packets_at x.queue w packets) (collected_at w got ++ (ends w).more) (ends w).halt (ends w).state (all.thread_workers w lt)
 
-pub in_queue_order : (x : Setup) (packets : List Packet) (got : List Collected) (left : List ℕ) (ends : ℕ → LaneEnd) → IsSetup x → AllCame x packets got left ends → InOrder x.queue packets got left
+pub in_queue_order : (x : Setup) (packets : List Packet) (got : List Collected) (left : List ℕ) (ends : ℕ → WorkerEnd) → IsSetup x → AllCame x packets got left ends → InOrder x.queue packets got left
 in_queue_order x packets got left ends is all =
     in_order x.queue x.workers packets got left is.below all.order
-    (λ w lt. came_begins x.function (x.share w) (opening x.function) x.queue w packets got (ends w).more (ends w).halt (ends w).state (all.lanes w lt))
+    (λ w lt. came_begins x.function (x.share w) (opening x.function) x.queue w packets got (ends w).more (ends w).halt (ends w).state (all.thread_workers w lt))
 
-module _ (x : Setup) (packets : List Packet) (got : List Collected) (left : List ℕ) (ends : ℕ → LaneEnd) (is : IsSetup x) (all : AllCame x packets got left ends) where
+module _ (x : Setup) (packets : List Packet) (got : List Collected) (left : List ℕ) (ends : ℕ → WorkerEnd) (is : IsSetup x) (all : AllCame x packets got left ends) where
   abbrev first : ℕ → Worker
   first w = record { worked = []; waiting = packets_at x.queue w packets; state = opening x.function; stopped = None }
 
@@ -74,8 +74,8 @@ module _ (x : Setup) (packets : List Packet) (got : List Collected) (left : List
       all_got x got order.later (λ (w : ℕ). (ends w).more) is.below order.queues worked.machine [] got refl (worked.collected ∙ sent.collected)
       (worked.dispatched ∙ sent.dispatched ∙ order.packets_are) (λ w lt. (worked_is w lt).worked)
 
-  pub lanes_are_a_play : IsPlay x packets got ends
-  lanes_are_a_play = record {
+  pub workers_are_a_play : IsPlay x packets got ends
+  workers_are_a_play = record {
     machine = collects.machine;
     counts = counts;
     plays = plays_append x (map (λ (p : Packet). Dispatch p) packets) (works_from counts 0 x.workers ++ replicate (length got) Collect) (new_machine x.function) sent.machine collects.machine [] (map answer_of got) sent.plays
@@ -103,7 +103,7 @@ stop_is x packets got queue left halt behind order at = of_later order.later ord
         let is : p ≡ halt.packet = cc in
         (home ∙ ap x.queue is, (later, are ∙ ap (λ (z : Packet). handed_out got ++ z ∷ later) is))
 
-halt_front : (x : Setup) (w : ℕ) (packets : List Packet) (answers : List Answer) (end : LaneEnd) (halt : Halt) → CameTo x.function (x.share w) (opening x.function) packets (answers ++ end.more) end.halt end.state → end.halt ≡ Some halt → end.more ≡ [] →
+halt_front : (x : Setup) (w : ℕ) (packets : List Packet) (answers : List Answer) (end : WorkerEnd) (halt : Halt) → CameTo x.function (x.share w) (opening x.function) packets (answers ++ end.more) end.halt end.state → end.halt ≡ Some halt → end.more ≡ [] →
     (behind : List Packet) × (packets ≡ packets_of answers ++ halt.packet ∷ behind)
 halt_front x w packets answers end halt came at none =
     let e : EndsAt x.function (x.share w) (opening x.function) packets (answers ++ end.more) halt = subst (λ (o : Option Halt). CameTo x.function (x.share w) (opening x.function) packets (answers ++ end.more) o end.state) at came in
@@ -113,7 +113,7 @@ pub halts_are_stops : HaltsAreStops
 halts_are_stops x packets got queue left ends halt play is all at none =
     let order = in_queue_order x packets got (queue ∷ left) ends is all in
     let below : queue < x.workers = first_below order.later order.left_are in
-    let front = halt_front x queue (packets_at x.queue queue packets) (collected_at queue got) (ends queue) halt (all.lanes queue below) at none in
+    let front = halt_front x queue (packets_at x.queue queue packets) (collected_at queue got) (ends queue) halt (all.thread_workers queue below) at none in
     let stop = stop_is x packets got queue left halt front.0 order front.1 in
     let home = stop.0 in
     let out = play.workers queue below in

@@ -7,7 +7,7 @@ use Rattle.shard_machine.specs.Machine.{packets_of}
 use Rattle.shard_machine.proofs.Sent.{append_nil, append_twice}
 use Rattle.ring_line.specs.declared.halt.Halt.{Halt}
 use Rattle.ring_line.specs.Packs.{Packed, answered, answers_of, packets_in, answers_in, TellsAtLast}
-use Rattle.ring_line.specs.Lanes.{IsLast}
+use Rattle.ring_line.specs.ThreadWorkers.{IsLast}
 
 pub packets_snoc : (ps : List Packed) (p : Packed) → packets_in (ps ++ p ∷ []) ≡ packets_in ps ++ p.packets
 packets_snoc [] p = append_nil p.packets

@@ -9,11 +9,11 @@ use Rattle.nf_engine.specs.View.{Fixed, fixed_of}
 use Rattle.shard_machine.specs.declared.event.Answer.{Answer}
 use Rattle.ring_line.specs.declared.halt.Halt.{Halt}
 use Rattle.rtrb.specs.Ring.{sent, received}
-use Rattle.ring_line.specs.declared.keeps.Ends.{Ends}
+use Rattle.ring_line.specs.declared.worker_ends.RingEnds.{RingEnds}
 use Rattle.ring_line.specs.Packs.{Packed, packets_in, answers_in, answers_of, TellsAtLast}
-use Rattle.ring_line.specs.Desks.{Seated}
+use Rattle.ring_line.specs.QueueHandlers.{HandlerState}
 use Rattle.ring_line.specs.Handled.{CanServe, CameTo, none_yet}
-use Rattle.ring_line.specs.Shops.{Given, Told, AtWork, begun}
+use Rattle.ring_line.specs.WorkerLoops.{Given, Told, AtWork, begun}
 use Rattle.ring_line.proofs.Handling.{ends_before}
 use Rattle.ring_line.proofs.Packing.{packets_snoc, answers_snoc, tells_more}
 
@@ -26,8 +26,8 @@ pub all_second : {A : Type 0} (P : A → Type 0) (xs ys : List A) → All P (xs 
 all_second P [] ys all = all
 all_second P (x ∷ xs) ys all = all_second P xs ys (λ j e l. all (suc j) e (omega (arith, l)))
 
--- the desk answered a pack
-pub told_more : (given : Given) (packs sent_back : List Packed) (old new : Seated) (pack after : Packed) → Told given packs sent_back old → old.halt ≡ None → new.func ≡ old.func → fixed_of new.tables ≡ fixed_of old.tables → after.packets ≡ pack.packets → after.halt ≡ new.halt →
+-- the queue handler answered a pack
+pub told_more : (given : Given) (packs sent_back : List Packed) (old new : HandlerState) (pack after : Packed) → Told given packs sent_back old → old.halt ≡ None → new.func ≡ old.func → fixed_of new.tables ≡ fixed_of old.tables → after.packets ≡ pack.packets → after.halt ≡ new.halt →
     ((first : State) → (packets : List Packet) → (told : List Answer) → All (CanServe old.func) pack.packets → CameTo (function_of old.func) old.tables.share first packets told None old.tables.state →
     CameTo (function_of old.func) old.tables.share first (packets ++ after.packets) (told ++ answers_of after) new.halt new.tables.state) → Told given (packs ++ pack ∷ []) (sent_back ++ after ∷ []) new
 told_more given packs sent_back old new pack after t running func fixed packets halt came =
@@ -56,13 +56,13 @@ told_more given packs sent_back old new pack after t running func fixed packets 
     )
 
 -- the share had ended
-pub told_past : (given : Given) (packs sent_back : List Packed) (desk : Seated) (pack : Packed) (halt : Halt) → desk.halt ≡ Some halt → Told given packs sent_back desk → Told given (packs ++ pack ∷ []) sent_back desk
-told_past given packs sent_back desk pack halt ended t =
+pub told_past : (given : Given) (packs sent_back : List Packed) (queue_handler : HandlerState) (pack : Packed) (halt : Halt) → queue_handler.halt ≡ Some halt → Told given packs sent_back queue_handler → Told given (packs ++ pack ∷ []) sent_back queue_handler
+told_past given packs sent_back queue_handler pack halt ended t =
     let h = t.1 in
     let f = function_of given.func in
     let share = given.tables.share in
     let first = given.tables.state in
-    let state = desk.tables.state in (
+    let state = queue_handler.tables.state in (
       t.0,
       record {
         share = h.share;
@@ -70,15 +70,15 @@ told_past given packs sent_back desk pack halt ended t =
         came = λ all.
             let both : All (CanServe given.func) (packets_in packs ++ pack.packets) = subst (All (CanServe given.func)) (packets_snoc packs pack) all in
             let before = subst (λ (o : Option Halt). CameTo f share first (packets_in packs) (answers_in sent_back) o state) ended (h.came (all_first (CanServe given.func) (packets_in packs) pack.packets both)) in
-            subst (λ (ps : List Packet). CameTo f share first ps (answers_in sent_back) desk.halt state) (sym (packets_snoc packs pack))
+            subst (λ (ps : List Packet). CameTo f share first ps (answers_in sent_back) queue_handler.halt state) (sym (packets_snoc packs pack))
             (subst (λ (o : Option Halt). CameTo f share first (packets_in packs ++ pack.packets) (answers_in sent_back) o state) (sym ended)
             (ends_before f share first (packets_in packs) pack.packets (answers_in sent_back) halt before));
       },
     )
 
 -- a worker before its first pack
-pub begins_work : (ends : Ends) (desk : Seated) → received ends.from ≡ [] → sent ends.to ≡ [] → desk.halt ≡ None → AtWork (begun ends desk) ends desk
-begins_work ends desk none_came none_sent running = record {
+pub begins_work : (ends : RingEnds) (queue_handler : HandlerState) → received ends.from ≡ [] → sent ends.to ≡ [] → queue_handler.halt ≡ None → AtWork (begun ends queue_handler) ends queue_handler
+begins_work ends queue_handler none_came none_sent running = record {
   same = search rules;
   packs = [];
   received = none_came;
@@ -86,9 +86,9 @@ begins_work ends desk none_came none_sent running = record {
     refl,
     record {
       share = refl;
-      last = subst (TellsAtLast desk.halt) (sym none_sent) running;
-      came = λ all. subst (λ (ps : List Packed). CameTo (function_of desk.func) desk.tables.share desk.tables.state [] (answers_in ps) desk.halt desk.tables.state) (sym none_sent)
-          (subst (λ (o : Option Halt). CameTo (function_of desk.func) desk.tables.share desk.tables.state [] [] o desk.tables.state) (sym running) (none_yet, refl));
+      last = subst (TellsAtLast queue_handler.halt) (sym none_sent) running;
+      came = λ all. subst (λ (ps : List Packed). CameTo (function_of queue_handler.func) queue_handler.tables.share queue_handler.tables.state [] (answers_in ps) queue_handler.halt queue_handler.tables.state) (sym none_sent)
+          (subst (λ (o : Option Halt). CameTo (function_of queue_handler.func) queue_handler.tables.share queue_handler.tables.state [] [] o queue_handler.tables.state) (sym running) (none_yet, refl));
     },
   );
 }

@@ -7,8 +7,8 @@ use Rattle.nf_base.specs.Text.{Function}
 use Rattle.vig_tables.specs.TablesState.{TablesState}
 use Rattle.shard_machine.specs.declared.event.Answer.{Answer}
 use Rattle.ring_line.specs.declared.halt.Halt.{Halt}
-use Rattle.ring_line.specs.declared.lane.Next.{Next}
-use Rattle.ring_line.specs.declared.lane.Next.TheVariants.{Ready, Halted, Nothing}
+use Rattle.ring_line.specs.declared.thread_worker.Next.{Next}
+use Rattle.ring_line.specs.declared.thread_worker.Next.TheVariants.{Ready, Halted, Nothing}
 use Rattle.ring_line.specs.Handled.{CameTo}
 
 -- What comes next, by whether an answer lies ready and where the share has ended.

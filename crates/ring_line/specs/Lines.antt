@@ -11,30 +11,33 @@ use Rattle.shard_core.specs.declared.collected.Collected.{Collected}
 use Rattle.shard_core.specs.declared.collected.Stop.{Stop}
 use Rattle.shard_core.specs.Sharded.{answer_of}
 use Rattle.ring_line.specs.declared.halt.Halt.{Halt}
-use Rattle.ring_line.specs.declared.place.Place.{Place}
+use Rattle.ring_line.specs.declared.queue_worker.QueueWorker.{QueueWorker}
 use Rattle.ring_line.specs.declared.line.Line.{Line}
 use Rattle.ring_line.specs.declared.line.Answered as line_answer
 use Rattle.ring_line.specs.declared.line.Answered.TheVariants as answer
 use Rattle.ring_line.specs.declared.line.First.{First}
 use Rattle.ring_line.specs.declared.line.First.TheVariants as come
 use Rattle.ring_line.specs.Handed.{Finishes}
-use Rattle.ring_line.specs.Places.{in_flight_of, PlaceStands, PlaceHasAnswer, PlaceFirstAnswer, PlaceHalted}
-use Rattle.ring_line.specs.Plays.{LaneEnd, AllCame, collected_at}
+use Rattle.ring_line.specs.QueueWorkers.{in_flight_of, QueueWorkerStands, QueueWorkerHasAnswer, QueueWorkerFirstAnswer, QueueWorkerHalted}
+use Rattle.ring_line.specs.Plays.{WorkerEnd, AllCame, collected_at}
 
 -- These packets were sent, each to the worker of its queue, and these answers were collected, in the
 -- order sent.
 pub record LineStands {G : Type 0} (line : Line G) (x : Setup) (packets : List Packet)
     (got : List Collected) : Type 0 where
-  pub count : length line.places ≡ x.workers
+  pub count : length line.queue_workers ≡ x.workers
   pub order : map (λ (c : Collected). c.queue) got ++ line.order.items ≡ map x.queue packets
-  pub places : (w : ℕ) (place : Place G) → slice_get line.places w ≡ Some place →
-      PlaceStands place x.function (x.share w) (packets_at x.queue w packets) (collected_at w got)
+  pub queue_workers : (w : ℕ) (queue_worker : QueueWorker G) →
+      slice_get line.queue_workers w ≡ Some queue_worker →
+      QueueWorkerStands queue_worker x.function (x.share w) (packets_at x.queue w packets)
+      (collected_at w got)
   pub time : line.time ≡ last_time 0 (lines_of (map answer_of got))
 
 -- a packet more can be sent to a queue
 pub record HasRoom {G : Type 0} (line : Line G) (queue : ℕ) : Type 0 where
   pub all : length line.order.items < 1024
-  pub own : (place : Place G) → slice_get line.places queue ≡ Some place → in_flight_of place < 64
+  pub own : (queue_worker : QueueWorker G) →
+      slice_get line.queue_workers queue ≡ Some queue_worker → in_flight_of queue_worker < 64
 
 -- a queue is the first of some
 abbrev pub ComesFirst : ℕ → List ℕ → Type 0
@@ -45,16 +48,16 @@ ComesFirst q (p ∷ ps) = p ≡ q
 pub record LineHasAnswer {G : Type 0} (line : Line G) : Type 0 where
   pub queue : ℕ
   pub first : ComesFirst queue line.order.items
-  pub place : Place G
-  pub there : slice_get line.places queue ≡ Some place
-  pub has : PlaceHasAnswer place
+  pub queue_worker : QueueWorker G
+  pub there : slice_get line.queue_workers queue ≡ Some queue_worker
+  pub has : QueueWorkerHasAnswer queue_worker
 
 -- and this is that answer
 pub record LineFirstAnswer {G : Type 0} (line : Line G) (c : Collected) : Type 0 where
   pub first : ComesFirst c.queue line.order.items
-  pub place : Place G
-  pub there : slice_get line.places c.queue ≡ Some place
-  pub answer : PlaceFirstAnswer place (answer_of c)
+  pub queue_worker : QueueWorker G
+  pub there : slice_get line.queue_workers c.queue ≡ Some queue_worker
+  pub answer : QueueWorkerFirstAnswer queue_worker (answer_of c)
 
 -- where a share ended
 abbrev pub halt_of : Stop → Halt
@@ -63,8 +66,9 @@ halt_of stop = record { chain = stop.chain; packet = stop.packet }
 -- the first packet that isn't collected is of a queue whose worker has come to its share's end
 pub record StandsAtStop {G : Type 0} (line : Line G) (stop : Stop) : Type 0 where
   pub first : ComesFirst stop.queue line.order.items
-  pub halted : (place : Place G) → slice_get line.places stop.queue ≡ Some place →
-      PlaceHalted place (halt_of stop)
+  pub halted : (queue_worker : QueueWorker G) →
+      slice_get line.queue_workers stop.queue ≡ Some queue_worker →
+      QueueWorkerHalted queue_worker (halt_of stop)
 
 -- what has come of the first packet that isn't collected
 abbrev pub IsFirst : {G : Type 0} → First → Line G → Type 0
@@ -83,8 +87,8 @@ abbrev pub IsCollected : {G : Type 0} → line_answer.Answered → Line G → Li
 IsCollected (answer.Done c) old new = length old.order.items ≡ length new.order.items + 1
 IsCollected (answer.Stop stop) old new = new.order ≡ old.order
 
--- the tables of a worker that is where its lane ended
-pub record EndsAs (f : Function) (share : Share) (end : LaneEnd) (tables : TablesState)
+-- the tables of a worker that is where its queue's worker ended
+pub record EndsAs (f : Function) (share : Share) (end : WorkerEnd) (tables : TablesState)
     : Type 0 where
   pub decls : tables.decls ≡ f.chains
   pub share_is : tables.share ≡ share
@@ -94,36 +98,41 @@ pub record EndsAs (f : Function) (share : Share) (end : LaneEnd) (tables : Table
 -- was collected are the first of its answers. These are their tables.
 pub record LineFinishes {G : Type 0} (line : Line G) (x : Setup) (packets : List Packet)
     (got : List Collected) (parts : List TablesState) : Type 0 where
-  pub ends : ℕ → LaneEnd
+  pub ends : ℕ → WorkerEnd
   pub came : AllCame x packets got line.order.items ends
   pub count : length parts ≡ x.workers
   pub tables : (w : ℕ) (t : TablesState) → slice_get parts w ≡ Some t →
       EndsAs x.function (x.share w) (ends w) t
-  pub halted : (w : ℕ) (place : Place G) (halt : Halt) → slice_get line.places w ≡ Some place →
-      PlaceHalted place halt → ((ends w).halt ≡ Some halt) × ((ends w).more ≡ [])
+  pub halted : (w : ℕ) (queue_worker : QueueWorker G) (halt : Halt) →
+      slice_get line.queue_workers w ≡ Some queue_worker →
+      QueueWorkerHalted queue_worker halt → ((ends w).halt ≡ Some halt) × ((ends w).more ≡ [])
 
 -- the tables of each worker once it is at its end
-pub record AreFinished {G : Type 0} (places : List (Place G)) (parts : List TablesState)
+pub record AreFinished {G : Type 0} (queue_workers : List (QueueWorker G))
+    (parts : List TablesState)
     : Type 0 where
-  pub count : length parts ≡ length places
-  pub each : (w : ℕ) (place : Place G) (tables : TablesState) → slice_get places w ≡ Some place →
+  pub count : length parts ≡ length queue_workers
+  pub each : (w : ℕ) (queue_worker : QueueWorker G) (tables : TablesState) →
+      slice_get queue_workers w ≡ Some queue_worker →
       slice_get parts w ≡ Some tables →
       (f : Function) (share : Share) (packets : List Packet) (answers : List Answer) →
-      PlaceStands place f share packets answers →
-      Finishes (PlaceHalted place) f share packets answers tables
+      QueueWorkerStands queue_worker f share packets answers →
+      Finishes (QueueWorkerHalted queue_worker) f share packets answers tables
 
 -- the first of some workers is at its end, behind others
-pub record MovesOn {G : Type 0} (old : List (Place G)) (before : List TablesState)
-    (new : List (Place G)) (after : List TablesState) : Type 0 where
-  pub first : Place G
+pub record MovesOn {G : Type 0} (old : List (QueueWorker G)) (before : List TablesState)
+    (new : List (QueueWorker G)) (after : List TablesState) : Type 0 where
+  pub first : QueueWorker G
   pub left : old ≡ first ∷ new
-  pub more : (done : List (Place G)) → AreFinished done before →
+  pub more : (done : List (QueueWorker G)) → AreFinished done before →
       AreFinished (done ++ first ∷ []) after
 
 -- workers of the first queues of so many, to which nothing was sent
-pub record AreStarted {G : Type 0} (f : Function) (n : ℕ) (places : List (Place G)) : Type 0 where
-  pub each : (w : ℕ) (place : Place G) → slice_get places w ≡ Some place →
+pub record AreStarted {G : Type 0} (f : Function) (n : ℕ) (queue_workers : List (QueueWorker G)) :
+    Type 0 where
+  pub each : (w : ℕ) (queue_worker : QueueWorker G) →
+      slice_get queue_workers w ≡ Some queue_worker →
       (share : Share)
       × (share.queue ≡ w)
       × (share.of ≡ n)
-      × PlaceStands place f share [] []
+      × QueueWorkerStands queue_worker f share [] []

@@ -1,4 +1,4 @@
--- Packs and lanes of a few packets.
+-- Packs and workers of a few packets.
 use Rattle.std.specs.Prelude.{◌≡◌, ℕ, ◌==◌, [], ◌∷◌, Some, None, if◌then◌else◌}
 use Rattle.nf_base.specs.declared.share.Share.{Share}
 use Rattle.shard_laws.specs.Rows.{first, second, third}
@@ -8,7 +8,7 @@ use Rattle.shard_machine.specs.Rows.{two, answer}
 use Rattle.shard_core.specs.declared.collected.Collected.{Collected}
 use Rattle.ring_line.specs.declared.halt.Halt.{Halt}
 use Rattle.ring_line.specs.Packs.{Packed, answered, answers_in, packets_in, TellsAtLast}
-use Rattle.ring_line.specs.Lanes.{IsLast}
+use Rattle.ring_line.specs.ThreadWorkers.{IsLast}
 use Rattle.ring_line.specs.Plays.{collected_at, line_events}
 
 -- the second of these packets is one at which a share ends

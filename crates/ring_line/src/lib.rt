@@ -3,25 +3,25 @@
 #![tactic(auto)]
 
 mod bell;
-mod desk;
 mod halt;
-mod hand;
+mod inline_worker;
 mod item;
-mod keeps;
-mod lane;
 pub mod laws;
 mod line;
-mod near;
 mod opening;
 mod pack;
-mod place;
+mod queue_handler;
+mod queue_worker;
 pub mod rows;
-mod shop;
+mod runner;
+mod thread_worker;
+mod worker_ends;
+mod worker_loop;
 
-pub use desk::Desk;
 pub use halt::Halt;
-pub use lane::Next;
 pub use line::{Answered, CollectedRef, First, Line};
+pub use nf_base::worker_turns::{Idle, Turns};
 pub use pack::AnswerRef;
-pub use place::Place;
-pub use worker_turns::{Idle, Turns};
+pub use queue_handler::QueueHandler;
+pub use queue_worker::QueueWorker;
+pub use thread_worker::Next;

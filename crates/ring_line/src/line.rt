@@ -2,9 +2,9 @@
 ghost use Rattle.std.specs.Prelude.{◌≡◌, ◌≤◌, ◌<◌, [], length, All};
 ghost use Rattle.std.specs.Vec.{vec_capacity};
 ghost use Rattle.std.specs.VecDeque.{deque_capacity};
-ghost use Rattle.ring_line.specs.Places.{all_in_flight};
+ghost use Rattle.ring_line.specs.QueueWorkers.{all_in_flight};
 
-use crate::place::Place;
+use crate::queue_worker::QueueWorker;
 use nf_base::packet::Packet;
 use nf_base::seq::Seq;
 use shard_core::{Collected, Stop};
@@ -49,15 +49,15 @@ pub struct CollectedRef<'a> {
 /// Neither sending nor collecting takes memory.
 #[derive(Drop)]
 pub struct Line<G> {
-    places: Seq<Place<G>>,
+    queue_workers: Seq<QueueWorker<G>>,
     order: VecDeque<u32>,
     /// Room for the workers' tables.
     parts: Vec<Tables>,
     /// That of the last handled packet that was collected, in nanoseconds: 0 before the first.
     time: u64,
-    ghost flights: { all_in_flight places ≡ length order.items },
-    ghost below: { All (λ q. q < length places) order.items },
+    ghost flights: { all_in_flight queue_workers ≡ length order.items },
+    ghost below: { All (λ q. q < length queue_workers) order.items },
     ghost room: { 1024 ≤ deque_capacity order },
     ghost none: { parts.items ≡ [] },
-    ghost enough: { length places ≤ vec_capacity parts },
+    ghost enough: { length queue_workers ≤ vec_capacity parts },
 }

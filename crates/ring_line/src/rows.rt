@@ -1,4 +1,4 @@
-//! Worked rows: packs and lanes of a few packets.
+//! Worked rows: packs and workers of a few packets.
 ghost use Rattle.ring_line.specs.Rows.{PacksAreTold, LinesAreToldOf};
 
 /// What stands in two packs, and which of two may tell that a share ended.

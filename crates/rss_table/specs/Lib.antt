@@ -1,3 +1,3 @@
 pub mod Tables
 pub mod Shares
-pub mod Hashers
+pub mod ByteTables

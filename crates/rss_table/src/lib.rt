@@ -2,11 +2,11 @@
 //! of its queues owns.
 #![tactic(auto)]
 
-mod hasher;
+mod byte_tables;
 pub mod laws;
 mod shares;
 mod table;
 
-pub use hasher::Hasher;
+pub use byte_tables::ByteTables;
 pub use shares::share;
 pub use table::{Table, table_index};

@@ -3,7 +3,7 @@ ghost use Rattle.std.specs.Prelude.{◌≡◌, ℕ, ◌<◌, length, Some};
 ghost use Rattle.nf_base.specs.Cards.{entries};
 ghost use Rattle.rss_table.specs.Tables.{AllBelow, table_index, even_table, queue_at, queue_of};
 
-use crate::hasher::Hasher;
+use crate::byte_tables::ByteTables;
 use nf_base::card::TableSize;
 use nf_base::keys::Keys;
 use nf_base::packet::Packet;
@@ -55,12 +55,12 @@ impl Table {
     }
 
     /// The same by the tables of keys.
-    pub fn queue_by(&self, hasher: &Hasher, packet: &Packet) -> u32
-        requires { packet.now.id.port < length hasher.now.ports }
-        ensures value { result ≡ queue_of self.now hasher.now packet.now }
+    pub fn queue_by(&self, byte_tables: &ByteTables, packet: &Packet) -> u32
+        requires { packet.now.id.port < length byte_tables.now.ports }
+        ensures value { result ≡ queue_of self.now byte_tables.now packet.now }
         ensures below { (count : ℕ) → AllBelow count self.now → result < count }
     {
-        let Some(hash) = hasher.hash_packet(packet) else {
+        let Some(hash) = byte_tables.hash_packet(packet) else {
             return 0;
         };
         self.queue_of_hash(hash)

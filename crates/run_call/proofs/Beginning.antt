@@ -4,17 +4,17 @@ use Rattle.nf_base.specs.Functions.{function_of}
 use Rattle.nf_base.specs.Text.{Function}
 use Rattle.nf_files.specs.Told.{Told}
 use Rattle.nf_files.specs.Causes.{Counted}
-use Rattle.stream_run.specs.declared.stop.Stop.{Stop as NumberStop}
+use Rattle.stream_run.specs.declared.fault.RunFault.{RunFault}
 use Rattle.command_words.specs.Commands.{Run as RunAsked}
 use Rattle.command_words.specs.declared.command.ModeChoice.{ModeChoice}
-use Rattle.call_base.specs.declared.layout.Behind.{Behind}
-use Rattle.call_base.specs.declared.layout.Behind.TheVariants.{Created}
+use Rattle.call_base.specs.declared.layout.FileOrder.{FileOrder}
+use Rattle.call_base.specs.declared.layout.FileOrder.TheVariants.{Created}
 use Rattle.call_base.specs.declared.loading.Found.{Found}
 use Rattle.call_base.specs.declared.loading.NoFunction.{NoFunction}
 use Rattle.call_base.specs.declared.loading.NoFunction.TheVariants as none
 use Rattle.call_base.specs.declared.status.RunFile.TheVariants.{Nf, Capture, Journal, Output, OutJournal, State, Proof, Stdout, Stderr}
-use Rattle.call_base.specs.declared.status.Stop.{Stop}
-use Rattle.call_base.specs.declared.status.Stop.TheVariants as stops
+use Rattle.call_base.specs.declared.status.CallFault.{CallFault}
+use Rattle.call_base.specs.declared.status.CallFault.TheVariants as stops
 use Rattle.call_base.specs.declared.status.Halt.{Halt}
 use Rattle.call_base.specs.declared.status.Halt.TheVariants as halts
 use Rattle.call_base.specs.declared.status.Refusal.TheVariants as refusals
@@ -27,21 +27,21 @@ use Rattle.call_base.specs.Outside.{Outside, IsUntouched}
 use Rattle.call_base.specs.Reading.{HasFound, IsReadCause, IsUnread, ReadsTo, halt_of}
 use Rattle.call_base.proofs.Asking.{front_all}
 use Rattle.call_base.proofs.Reading.{IsUnfound, has_found, is_unfound, is_starved, read_stops}
-use Rattle.run_call.specs.declared.course.Course.{Course}
-use Rattle.run_call.specs.declared.course.Course.TheVariants as course
+use Rattle.run_call.specs.declared.worker_plan.WorkerPlan.{WorkerPlan}
+use Rattle.run_call.specs.declared.worker_plan.WorkerPlan.TheVariants as worker_plan
 use Rattle.run_call.specs.declared.job.Job.{Job}
 use Rattle.call_base.specs.Rules.{HasKeys, ShareTables}
-use Rattle.run_call.specs.Modes.{NeedsKeys, IsCourse, Serves}
+use Rattle.run_call.specs.Modes.{NeedsKeys, IsWorkerPlan, Serves}
 use Rattle.run_call.specs.Runs.{HasPorts}
 use Rattle.run_call.specs.Ending.{KnownAt, IsKnown, IsUnbegun, IsStopped, RunsTo}
 use Rattle.run_call.specs.Progress.{IsJob, asked, ports_of, reads_of}
 
 -- a stop, by the numbers of a job
-pub halted : {Refused : Type 0} (before b : Outside) (job : Job) (stop : NumberStop) (halt : Halt) → IsJob before.told job → halt ≡ halts.Stop (stop_named (numbering_of job.layout) stop) → IsStopped Refused (asked job) before b (stop_named (run_numbering before.told.next (ports_of job)) stop) → RunsTo Refused (asked job) before b (Err halt)
+pub halted : {Refused : Type 0} (before b : Outside) (job : Job) (stop : RunFault) (halt : Halt) → IsJob before.told job → halt ≡ halts.Stop (stop_named (numbering_of job.layout) stop) → IsStopped Refused (asked job) before b (stop_named (run_numbering before.told.next (ports_of job)) stop) → RunsTo Refused (asked job) before b (Err halt)
 halted {Refused = Refused} before b job stop halt is e h =
     let l = job.layout in
     let same : numbering_of l ≡ run_numbering before.told.next (ports_of job) =
-    ap (λ (k : Behind). layout.numbering k l.first l.captures l.ports) is.behind
+    ap (λ (k : FileOrder). layout.numbering k l.first l.captures l.ports) is.behind
     ∙ ap (λ (n : ℕ). layout.numbering Created n l.captures l.ports) is.first
     ∙ ap (λ (n : ℕ). layout.numbering Created before.told.next n l.ports) is.captures
     ∙ ap (λ (n : ℕ). layout.numbering Created before.told.next n n) is.ports in
@@ -49,7 +49,7 @@ halted {Refused = Refused} before b job stop halt is e h =
 
 -- ---- the text and the captures
 
-unread_known : (c : RunAsked) (before now : Told) (old new : Counted) (stop : Stop) → ((port : ℕ) → stop ≡ stops.File (Capture port) → (f : Function) × HasPorts c before f) → IsReadCause (reads_of c) before now old new stop → IsKnown c before now stop
+unread_known : (c : RunAsked) (before now : Told) (old new : Counted) (stop : CallFault) → ((port : ℕ) → stop ≡ stops.File (Capture port) → (f : Function) × HasPorts c before f) → IsReadCause (reads_of c) before now old new stop → IsKnown c before now stop
 unread_known c before now old new (stops.File Nf) ports h = tt
 unread_known c before now old new (stops.File (Capture port)) ports h =
     let known = ports port refl in
@@ -63,14 +63,14 @@ unread_known c before now old new (stops.File Stdout) ports h = absurd h
 unread_known c before now old new (stops.File Stderr) ports h = absurd h
 unread_known c before now old new stops.Memory ports h = tt
 
-unbegun : (c : RunAsked) (before b : Outside) (stop : Stop) → ((port : ℕ) → stop ≡ stops.File (Capture port) → (f : Function) × HasPorts c before.told f) → IsUnread (reads_of c) before b stop → IsUnbegun c before b stop
+unbegun : (c : RunAsked) (before b : Outside) (stop : CallFault) → ((port : ℕ) → stop ≡ stops.File (Capture port) → (f : Function) × HasPorts c before.told f) → IsUnread (reads_of c) before b stop → IsUnbegun c before b stop
 unbegun c before b stop ports h = record {
   known = unread_known c before.told b.told _ b.counted stop ports h.cause;
   untouched = h.untouched;
   stops = read_stops (reads_of c) before b Created (length c.captures) (inputs_of c) stop (front_all (inputs_of c)) h;
 }
 
-unbegun_text : (c : RunAsked) (before b : Outside) (stop : Stop) → IsUnfound (reads_of c) before b stop → IsUnbegun c before b stop
+unbegun_text : (c : RunAsked) (before b : Outside) (stop : CallFault) → IsUnfound (reads_of c) before b stop → IsUnbegun c before b stop
 unbegun_text c before b stop h = unbegun c before b stop (λ port e. absurd (h.no_capture port e)) h.unread
 
 unfound : (Refused : Type 0) (c : RunAsked) (before b : Outside) (why : NoFunction) → IsUntouched before.told b.told → FindsFunction before.told c.function (Err why) → HasFoundCause c.function before.told.next before.counted b.counted (Err why) → RunsTo Refused c before b (Err (halt_of why))
@@ -94,10 +94,10 @@ unfed Refused before b job (halts.Stop stop) is h = inl (unbegun (asked job) bef
 -- ---- who handles the packets
 
 -- a function has keys where they are needed
-pub keyed_by : (c : RunAsked) (f : Function) (course : Course) → IsCourse c f course → NeedsKeys c → HasKeys f c.card
-keyed_by c f course.One is needs = is.1 needs
-keyed_by c f (course.Shards keys) is needs = record { keys = keys; given = is.2 }
-keyed_by c f course.Tables is needs = absurd (subst (λ (m : ModeChoice). ShareTables m c.card f) needs is.1)
+pub keyed_by : (c : RunAsked) (f : Function) (worker_plan : WorkerPlan) → IsWorkerPlan c f worker_plan → NeedsKeys c → HasKeys f c.card
+keyed_by c f worker_plan.One is needs = is.1 needs
+keyed_by c f (worker_plan.Shards keys) is needs = record { keys = keys; given = is.2 }
+keyed_by c f worker_plan.Tables is needs = absurd (subst (λ (m : ModeChoice). ShareTables m c.card f) needs is.1)
 
 -- the function has no keys, and they are needed; or memory ran out
 pub is_unserved : (Refused : Type 0) (c : RunAsked) (before now : Outside) (found : Found) (halt : Halt) → HasFound c.function before now found → length c.captures ≡ length (function_of found.source.func).handlers → Serves c (function_of found.source.func) (Err halt) → RunsTo Refused c before now (Err halt)

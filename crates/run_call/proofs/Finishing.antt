@@ -8,10 +8,10 @@ use Rattle.packet_feed.specs.Arrivals.{Arrival}
 use Rattle.run_history.specs.StateText.{state_text}
 use Rattle.run_history.specs.declared.line.Mode.{Mode}
 use Rattle.stream_run.specs.Runs.{Run}
-use Rattle.stream_run.specs.declared.stop.Stop.{Stop as NumberStop}
+use Rattle.stream_run.specs.declared.fault.RunFault.{RunFault}
 use Rattle.command_words.specs.Commands.{Run as RunAsked}
 use Rattle.call_base.specs.declared.status.End.{End}
-use Rattle.call_base.specs.declared.status.Stop.{Stop}
+use Rattle.call_base.specs.declared.status.CallFault.{CallFault}
 use Rattle.call_base.specs.Created.{bytes_at}
 use Rattle.call_base.specs.Layout.{run_numbering, stop_named}
 use Rattle.call_base.specs.Leaving.{IsPut, IsOut, IsHalfOut, FinishesTo, AreOf, HasPrinted, IsBroken}
@@ -38,11 +38,11 @@ abbrev line_on : Run → List ℕ
 line_on run = ran_line (length run.turns) run.mode run.workers
 
 -- A run that a command asks for was stopped.
-abbrev pub IsBrokenRun : RunAsked → Outside → Outside → List Arrival → Run → Stop → Type 0
+abbrev pub IsBrokenRun : RunAsked → Outside → Outside → List Arrival → Run → CallFault → Type 0
 IsBrokenRun c before now arrivals run stop =
     IsBroken (leaves_of c before) (IsPrinting c before arrivals run) (LeavesState c before arrivals run) (PrintedFront before.told now.told 0 (line_on run)) before now run stop
 
-pub cut_short : {Refused : Type 0} (c : RunAsked) (before now : Outside) (arrivals : List Arrival) (run : Run) (stop : Stop) → IsRunOf Refused c before.told arrivals run → IsBrokenRun c before now arrivals run stop → IsStopped Refused c before now stop
+pub cut_short : {Refused : Type 0} (c : RunAsked) (before now : Outside) (arrivals : List Arrival) (run : Run) (stop : CallFault) → IsRunOf Refused c before.told arrivals run → IsBrokenRun c before now arrivals run stop → IsStopped Refused c before now stop
 cut_short c before now arrivals run stop is_run k = inr (record {
   arrivals = arrivals;
   run = run;
@@ -84,7 +84,7 @@ printed before a b job mode packets state end lines is h all line out =
     let n = ports_of job in
     is_finished before a b job mode packets state end lines (n + 1) h all line (has_printed (leaves_of (asked job) before) before a b h.run (n + 1) lines (are_of before job h.run is h.is_run.has_ports) h.made out)
 
-pub half_printed : {Refused : Type 0} (before a b : Outside) (job : Job) (mode : Mode) (packets : ℕ) (state : State) (end : End) (lines : List ℕ) (stop : NumberStop) → IsJob before.told job → HasRun Refused before a job mode packets state end → left_by (ports_of job) end ≡ ports_of job + 1 → lines ≡ ran_line packets mode (asked job).workers → IsHalfOut lines a b stop
+pub half_printed : {Refused : Type 0} (before a b : Outside) (job : Job) (mode : Mode) (packets : ℕ) (state : State) (end : End) (lines : List ℕ) (stop : RunFault) → IsJob before.told job → HasRun Refused before a job mode packets state end → left_by (ports_of job) end ≡ ports_of job + 1 → lines ≡ ran_line packets mode (asked job).workers → IsHalfOut lines a b stop
     → IsStopped Refused (asked job) before b (stop_named (run_numbering before.told.next (ports_of job)) stop)
 half_printed before a b job mode packets state end lines stop is h all line half =
     let c = asked job in
@@ -110,7 +110,7 @@ run_finished before a b job mode packets state end lines is h all line mid put o
     is_finished before a b job mode packets state end lines (ports_of job + 2) h all line
     (finished (leaves_of (asked job) before) before a mid b h.run text lines (are_of before job h.run is h.is_run.has_ports) h.made (text_is is h) (subst (λ (n : List ℕ). IsPut n text a mid) (name_is before job is) put) out)
 
-pub run_unfinished : {Refused : Type 0} (before a b : Outside) (job : Job) (mode : Mode) (packets : ℕ) (state : State) (end : End) (lines : List ℕ) (stop : NumberStop) → IsJob before.told job → HasRun Refused before a job mode packets state end → left_by (ports_of job) end ≡ ports_of job + 2 → lines ≡ ran_line packets mode (asked job).workers
+pub run_unfinished : {Refused : Type 0} (before a b : Outside) (job : Job) (mode : Mode) (packets : ℕ) (state : State) (end : End) (lines : List ℕ) (stop : RunFault) → IsJob before.told job → HasRun Refused before a job mode packets state end → left_by (ports_of job) end ≡ ports_of job + 2 → lines ≡ ran_line packets mode (asked job).workers
     → FinishesTo {T = Unit {0}} (name_at (asked job).format (asked job).out (length job.func.now.handlers) (length job.func.now.handlers + 1)) (state_text (function_of job.func.now) state) lines a b (Err stop) → IsStopped Refused (asked job) before b (stop_named (run_numbering before.told.next (ports_of job)) stop)
 run_unfinished before a b job mode packets state end lines stop is h all line failed =
     let c = asked job in

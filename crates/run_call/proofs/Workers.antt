@@ -20,10 +20,10 @@ use Rattle.run_history.specs.declared.line.Mode.{Mode}
 use Rattle.run_history.specs.declared.line.Mode.TheVariants.{One, Shard}
 use Rattle.key_synth.specs.Keys.{AreGiven}
 use Rattle.shard_core.specs.declared.collected.Stop.{Stop as ShareStop}
-use Rattle.sharded_run.specs.declared.came.ShareFull.{ShareFull as Full}
+use Rattle.sharded_run.specs.declared.result.ShareFull.{ShareFull as Full}
 use Rattle.sharded_run.specs.Sharded.{IsStopBehind, AreBefore}
 use Rattle.sharded_run.specs.Lawful as shards
-use Rattle.locked_run.specs.declared.came.Came.{Came}
+use Rattle.locked_run.specs.declared.result.LockedResult.{LockedResult}
 use Rattle.locked_run.specs.Locked.{IsDue}
 use Rattle.locked_run.specs.Lawful as tables
 use Rattle.stream_run.specs.Runs.{Run, arrival_in, course_of}
@@ -34,7 +34,7 @@ use Rattle.stream_run.specs.Lawful as lawful
 use Rattle.stream_run.specs.Lawful.{IsRunOver, AreTheFirst}
 use Rattle.stream_run.specs.Writing.{IsFrontIfTold, IsStopCause, StopsAmong, KeepsBut}
 use Rattle.stream_run.specs.declared.ran.Ran.{Ran}
-use Rattle.stream_run.specs.declared.stop.Stop.{Stop as NumberStop}
+use Rattle.stream_run.specs.declared.fault.RunFault.{RunFault}
 use Rattle.stream_run.proofs.Complete.{cut_short as one_cut, halts_none}
 use Rattle.stream_run.proofs.Ruled.{nothing_is}
 use Rattle.call_base.specs.declared.status.End.{End}
@@ -48,11 +48,11 @@ use Rattle.call_base.specs.Opened.{AreAllCreated, AreSomeCreated, AsksSome}
 use Rattle.call_base.specs.Outside.{Outside}
 use Rattle.call_base.proofs.Ending.{has_made, broken_running, broken_creating}
 use Rattle.call_base.proofs.Reading.{file_in, fed_next, fed_only, captures_from, all_captures, packets_fed}
-use Rattle.run_call.specs.declared.course.Course.{Course}
-use Rattle.run_call.specs.declared.course.Course.TheVariants as course
+use Rattle.run_call.specs.declared.worker_plan.WorkerPlan.{WorkerPlan}
+use Rattle.run_call.specs.declared.worker_plan.WorkerPlan.TheVariants as worker_plan
 use Rattle.run_call.specs.declared.job.Job.{Job}
 use Rattle.call_base.specs.Rules.{IsRuleOf, by_one, by_shards, by_tables, by_none}
-use Rattle.run_call.specs.Modes.{IsCourse}
+use Rattle.run_call.specs.Modes.{IsWorkerPlan}
 use Rattle.run_call.specs.Runs.{HasPorts, IsRunOf, IsEndOf, packets}
 use Rattle.run_call.specs.Ending.{IsStopped}
 use Rattle.run_call.specs.Progress.{IsJob, HasFed, HasReady, HasRun, asked, ports_of, leaves_of, end_of}
@@ -112,10 +112,10 @@ several_of Refused before now job captures feed rule arrivals r is several due h
 
 -- ---- the rules that are due
 
-shards_due : (Refused : Type 0) (job : Job) (keys : Keys) → IsCourse (asked job) (function_of job.func.now) (course.Shards keys) → IsRuleOf Refused (asked job).mode (asked job).workers (asked job).card (function_of job.func.now) (shard_rule keys (asked job).workers)
+shards_due : (Refused : Type 0) (job : Job) (keys : Keys) → IsWorkerPlan (asked job) (function_of job.func.now) (worker_plan.Shards keys) → IsRuleOf Refused (asked job).mode (asked job).workers (asked job).card (function_of job.func.now) (shard_rule keys (asked job).workers)
 shards_due Refused job keys several = by_shards keys several.0.0 several.1 several.2 refl
 
-tables_due : (Refused : Type 0) (job : Job) (rule : Rule) → IsCourse (asked job) (function_of job.func.now) course.Tables → IsDue (asked job).workers Refused rule → IsRuleOf Refused (asked job).mode (asked job).workers (asked job).card (function_of job.func.now) rule
+tables_due : (Refused : Type 0) (job : Job) (rule : Rule) → IsWorkerPlan (asked job) (function_of job.func.now) worker_plan.Tables → IsDue (asked job).workers Refused rule → IsRuleOf Refused (asked job).mode (asked job).workers (asked job).card (function_of job.func.now) rule
 tables_due Refused job rule several (inl e) = by_tables several.0 several.1 e
 tables_due Refused job rule several (inr e) = by_none several.0 several.1 e.0 e.1
 
@@ -147,16 +147,16 @@ begun_one Refused before a job captures feed is alone h =
     (some.run, lone_of Refused before a job captures feed some.run is alone h some.is_run)
 
 -- a run that was asked for, before its first packet
-begun_by : (Refused : Type 0) (before a : Outside) (job : Job) (captures : List ℕ) (feed : Feeding) (of : Course) → IsJob before.told job → IsCourse (asked job) (function_of job.func.now) of → HasFed before a job captures feed → (r : Run) × IsRunOf Refused (asked job) before.told (packets r) r
-begun_by Refused before a job captures feed course.One is by h = begun_one Refused before a job captures feed is by.0 h
-begun_by Refused before a job captures feed (course.Shards keys) is by h = none_of Refused before a job captures feed (shard_rule keys (asked job).workers) is by.0.0 (shards_due Refused job keys by) h
-begun_by Refused before a job captures feed course.Tables is by h = none_of Refused before a job captures feed (lock_rule (asked job).workers) is by.0 (tables_due Refused job (lock_rule (asked job).workers) by (inl refl)) h
+begun_by : (Refused : Type 0) (before a : Outside) (job : Job) (captures : List ℕ) (feed : Feeding) (of : WorkerPlan) → IsJob before.told job → IsWorkerPlan (asked job) (function_of job.func.now) of → HasFed before a job captures feed → (r : Run) × IsRunOf Refused (asked job) before.told (packets r) r
+begun_by Refused before a job captures feed worker_plan.One is by h = begun_one Refused before a job captures feed is by.0 h
+begun_by Refused before a job captures feed (worker_plan.Shards keys) is by h = none_of Refused before a job captures feed (shard_rule keys (asked job).workers) is by.0.0 (shards_due Refused job keys by) h
+begun_by Refused before a job captures feed worker_plan.Tables is by h = none_of Refused before a job captures feed (lock_rule (asked job).workers) is by.0 (tables_due Refused job (lock_rule (asked job).workers) by (inl refl)) h
 
 begun : (Refused : Type 0) (before a : Outside) (job : Job) (captures : List ℕ) (feed : Feeding) → IsJob before.told job → HasFed before a job captures feed → (r : Run) × IsRunOf Refused (asked job) before.told (packets r) r
-begun Refused before a job captures feed is h = begun_by Refused before a job captures feed job.course.now is is.course h
+begun Refused before a job captures feed is h = begun_by Refused before a job captures feed job.worker_plan.now is is.worker_plan h
 
 -- not all files could be created
-pub uncreated : (Refused : Type 0) (before a b : Outside) (job : Job) (captures : List ℕ) (feed : Feeding) (stop : NumberStop) → IsJob before.told job → HasFed before a job captures feed → AreSomeCreated a.told b.told (name_at (asked job).format (asked job).out (ports_of job)) (ports_of job + 1) stop → AsksSome (created_by (asked job).format (asked job).out (ports_of job) (ports_of job + 1)) a.counted b.counted stop
+pub uncreated : (Refused : Type 0) (before a b : Outside) (job : Job) (captures : List ℕ) (feed : Feeding) (stop : RunFault) → IsJob before.told job → HasFed before a job captures feed → AreSomeCreated a.told b.told (name_at (asked job).format (asked job).out (ports_of job)) (ports_of job + 1) stop → AsksSome (created_by (asked job).format (asked job).out (ports_of job) (ports_of job + 1)) a.counted b.counted stop
     → IsStopped Refused (asked job) before b (stop_named (run_numbering before.told.next (ports_of job)) stop)
 uncreated Refused before a b job captures feed stop is h some asks =
     let c = asked job in
@@ -210,7 +210,7 @@ handled before a b job captures targets feed mode count state end arrivals run i
 }
 
 -- a run was stopped while it handled packets
-halted_at : {Refused : Type 0} (before a b : Outside) (job : Job) (captures targets : List ℕ) (feed : Feeding) (stop : NumberStop) (arrivals : List Arrival) (run : Run) → IsJob before.told job → HasReady before a job captures targets feed → IsRunOf Refused (asked job) before.told arrivals run → KeepsBut targets a.told b.told
+halted_at : {Refused : Type 0} (before a b : Outside) (job : Job) (captures targets : List ℕ) (feed : Feeding) (stop : RunFault) (arrivals : List Arrival) (run : Run) → IsJob before.told job → HasReady before a job captures targets feed → IsRunOf Refused (asked job) before.told arrivals run → KeepsBut targets a.told b.told
     → ((k file : ℕ) → slice_get targets k ≡ Some file → IsFrontIfTold (file_bytes (asked job).format run k) (b.told.given file)) → IsStopCause {T = Unit {0}} a.counted b.counted (Err stop) → StopsAmong {T = Unit {0}} captures targets (Err stop) → IsStopped Refused (asked job) before b (stop_named (run_numbering before.told.next (ports_of job)) stop)
 halted_at before a b job captures targets feed stop arrivals run is h is_run kept fronts cause among =
     cut_short (asked job) before b arrivals run _ is_run
@@ -225,14 +225,14 @@ one_finished Refused before a b job captures targets feed next ran is alone h fi
     handled before a b job captures targets feed One ran.packets ran.state _ (packets fin.run) fin.run is h (lone_of Refused before h.created.old job captures feed fin.run is alone h.fed one) one.is_run.function one.is_run.mode (one.is_run.workers ∙ sym alone)
     (ends_as before h.created.old job captures feed next ran.ending (packets fin.run) fin.run one.is_run.function h.fed fin.same_files fin.same_six fin.same_most (fin.ending h.fed.old.told stands)) fin.count fin.left.0 fin.left.1 kept counted fin.wholes
 
-pub one_halted : (Refused : Type 0) (before a b : Outside) (job : Job) (captures targets : List ℕ) (feed : Feeding) (stop : NumberStop) → IsJob before.told job → (asked job).workers ≡ 1 → HasReady before a job captures targets feed → lawful.IsCutShort (function_of job.func.now) (asked job).card (asked job).format feed a.told b.told targets → KeepsBut targets a.told b.told
+pub one_halted : (Refused : Type 0) (before a b : Outside) (job : Job) (captures targets : List ℕ) (feed : Feeding) (stop : RunFault) → IsJob before.told job → (asked job).workers ≡ 1 → HasReady before a job captures targets feed → lawful.IsCutShort (function_of job.func.now) (asked job).card (asked job).format feed a.told b.told targets → KeepsBut targets a.told b.told
     → IsStopCause {T = Unit {0}} a.counted b.counted (Err stop) → StopsAmong {T = Unit {0}} captures targets (Err stop) → IsStopped Refused (asked job) before b (stop_named (run_numbering before.told.next (ports_of job)) stop)
 one_halted Refused before a b job captures targets feed stop is alone h cut kept cause among =
     let some = cut.lawful h.fed.old.told (ready_stands before a job captures targets feed h) in
     halted_at before a b job captures targets feed stop (packets some.run) some.run is h (lone_of Refused before h.created.old job captures feed some.run is alone h.fed some.is_run) kept some.fronts cause among
 
 -- by several workers that share nothing
-pub shards_finished : (Refused : Type 0) (before a b : Outside) (job : Job) (captures targets : List ℕ) (feed next : Feeding) (keys : Keys) (ran : Ran) → IsJob before.told job → IsCourse (asked job) (function_of job.func.now) (course.Shards keys) → HasReady before a job captures targets feed
+pub shards_finished : (Refused : Type 0) (before a b : Outside) (job : Job) (captures targets : List ℕ) (feed next : Feeding) (keys : Keys) (ran : Ran) → IsJob before.told job → IsWorkerPlan (asked job) (function_of job.func.now) (worker_plan.Shards keys) → HasReady before a job captures targets feed
     → shards.IsFinished (function_of job.func.now) keys (asked job).workers (asked job).card (asked job).format feed a.told next b.told targets ran → KeepsBut targets a.told b.told → b.counted ≡ a.counted
     → HasRun Refused before b job Shard ran.packets ran.state (end_of (asked job).most ran.ending (first_tear 0 (tears_in next.sources)))
 shards_finished Refused before a b job captures targets feed next keys ran is several h fin kept counted =
@@ -243,7 +243,7 @@ shards_finished Refused before a b job captures targets feed next keys ran is se
     (ends_as before h.created.old job captures feed next ran.ending (packets fin.run) fin.run fin.is_run.function h.fed fin.same_files fin.same_six fin.same_most (fin.ending h.fed.old.told stands)) fin.count fin.left.0 fin.left.1 kept counted fin.wholes
 
 -- the share stop was met
-pub shards_full : (Refused : Type 0) (before a b : Outside) (job : Job) (captures targets : List ℕ) (feed : Feeding) (keys : Keys) (full : Full) (said : FullShare) → IsToldStop (function_of job.func.now) full.stop said → IsJob before.told job → IsCourse (asked job) (function_of job.func.now) (course.Shards keys) → HasReady before a job captures targets feed
+pub shards_full : (Refused : Type 0) (before a b : Outside) (job : Job) (captures targets : List ℕ) (feed : Feeding) (keys : Keys) (full : Full) (said : FullShare) → IsToldStop (function_of job.func.now) full.stop said → IsJob before.told job → IsWorkerPlan (asked job) (function_of job.func.now) (worker_plan.Shards keys) → HasReady before a job captures targets feed
     → (fin : shards.IsFull (function_of job.func.now) keys (asked job).workers (asked job).card (asked job).format feed a.told b.told targets full) → KeepsBut targets a.told b.told → b.counted ≡ a.counted
     → HasRun Refused before b job Shard full.packets fin.stops.state (ShareFull said)
 shards_full Refused before a b job captures targets feed keys full said told is several h fin kept counted =
@@ -267,14 +267,14 @@ shards_full Refused before a b job captures targets feed keys full said told is 
     )
     fin.count fin.stops.answers fin.stops.ran kept counted fin.wholes
 
-pub shards_halted : (Refused : Type 0) (before a b : Outside) (job : Job) (captures targets : List ℕ) (feed : Feeding) (keys : Keys) (stop : NumberStop) → IsJob before.told job → IsCourse (asked job) (function_of job.func.now) (course.Shards keys) → HasReady before a job captures targets feed
+pub shards_halted : (Refused : Type 0) (before a b : Outside) (job : Job) (captures targets : List ℕ) (feed : Feeding) (keys : Keys) (stop : RunFault) → IsJob before.told job → IsWorkerPlan (asked job) (function_of job.func.now) (worker_plan.Shards keys) → HasReady before a job captures targets feed
     → shards.IsCutShort (function_of job.func.now) keys (asked job).workers (asked job).card (asked job).format feed a.told b.told targets → KeepsBut targets a.told b.told → IsStopCause {T = Unit {0}} a.counted b.counted (Err stop) → StopsAmong {T = Unit {0}} captures targets (Err stop) → IsStopped Refused (asked job) before b (stop_named (run_numbering before.told.next (ports_of job)) stop)
 shards_halted Refused before a b job captures targets feed keys stop is several h cut kept cause among =
     let first = cut.packets h.fed.old.told (ready_stands before a job captures targets feed h) in
     halted_at before a b job captures targets feed stop (packets cut.run) cut.run is h (several_of Refused before h.created.old job captures feed (shard_rule keys (asked job).workers) (packets cut.run) cut.run is several.0.0 (shards_due Refused job keys several) h.fed cut.is_run (omega (arith, length-map cut.run.turns arrival_in, cut.within)) first) kept cut.fronts cause among
 
 -- by several workers that share the tables
-pub tables_finished : (Refused : Type 0) (before a b : Outside) (job : Job) (captures targets : List ℕ) (feed next : Feeding) (came : Came) → IsJob before.told job → IsCourse (asked job) (function_of job.func.now) course.Tables → HasReady before a job captures targets feed
+pub tables_finished : (Refused : Type 0) (before a b : Outside) (job : Job) (captures targets : List ℕ) (feed next : Feeding) (came : LockedResult) → IsJob before.told job → IsWorkerPlan (asked job) (function_of job.func.now) worker_plan.Tables → HasReady before a job captures targets feed
     → tables.IsFinished (function_of job.func.now) (asked job).workers (asked job).card (asked job).format Refused feed a.told next b.told targets came → KeepsBut targets a.told b.told → b.counted ≡ a.counted
     → HasRun Refused before b job came.mode came.ran.packets came.ran.state (end_of (asked job).most came.ran.ending (first_tear 0 (tears_in next.sources)))
 tables_finished Refused before a b job captures targets feed next came is several h fin kept counted =
@@ -285,7 +285,7 @@ tables_finished Refused before a b job captures targets feed next came is severa
     (several_of Refused before h.created.old job captures feed fin.rule fin.given fin.run is several.0 (tables_due Refused job fin.rule several fin.due) h.fed fin.is_run fin.within first) of (fin.is_run.mode ∙ sym fin.mode_is) (fin.is_run.workers ∙ counted_by (asked job).workers Refused fin.rule fin.due)
     (ends_as before h.created.old job captures feed next came.ran.ending fin.given fin.run of h.fed fin.same_files fin.same_six fin.same_most (fin.ending h.fed.old.told stands)) fin.count fin.left.0 fin.left.1 kept counted fin.wholes
 
-pub tables_halted : (Refused : Type 0) (before a b : Outside) (job : Job) (captures targets : List ℕ) (feed : Feeding) (stop : NumberStop) → IsJob before.told job → IsCourse (asked job) (function_of job.func.now) course.Tables → HasReady before a job captures targets feed
+pub tables_halted : (Refused : Type 0) (before a b : Outside) (job : Job) (captures targets : List ℕ) (feed : Feeding) (stop : RunFault) → IsJob before.told job → IsWorkerPlan (asked job) (function_of job.func.now) worker_plan.Tables → HasReady before a job captures targets feed
     → tables.IsCutShort (function_of job.func.now) (asked job).workers (asked job).card (asked job).format Refused feed a.told b.told targets → KeepsBut targets a.told b.told → IsStopCause {T = Unit {0}} a.counted b.counted (Err stop) → StopsAmong {T = Unit {0}} captures targets (Err stop) → IsStopped Refused (asked job) before b (stop_named (run_numbering before.told.next (ports_of job)) stop)
 tables_halted Refused before a b job captures targets feed stop is several h cut kept cause among =
     let first = cut.packets h.fed.old.told (ready_stands before a job captures targets feed h) in

@@ -10,8 +10,8 @@ use Rattle.call_base.specs.declared.status.RunFile.TheVariants.{Nf, Capture, Jou
 use Rattle.call_base.specs.declared.status.End.{End}
 use Rattle.call_base.specs.declared.status.Refusal.{Refusal}
 use Rattle.call_base.specs.declared.status.Refusal.TheVariants.{Usage, Text, NoKeys, NotCapture}
-use Rattle.call_base.specs.declared.status.Stop.{Stop}
-use Rattle.call_base.specs.declared.status.Stop.TheVariants.{File, Memory}
+use Rattle.call_base.specs.declared.status.CallFault.{CallFault}
+use Rattle.call_base.specs.declared.status.CallFault.TheVariants.{File, Memory}
 use Rattle.call_base.specs.declared.status.Halt.{Halt}
 use Rattle.call_base.specs.declared.status.Halt.TheVariants as halts
 use Rattle.call_base.specs.Outside.{Outside, IsUntouched, HasOnlyAsked}
@@ -75,12 +75,12 @@ KnownAt c told now Proof = ⊥
 KnownAt c told now Stdout = ⊥
 KnownAt c told now Stderr = ⊥
 
-abbrev pub IsKnown : RunAsked → Told → Told → Stop → Type 0
+abbrev pub IsKnown : RunAsked → Told → Told → CallFault → Type 0
 IsKnown c told now (File file) = KnownAt c told now file
 IsKnown c told now Memory = Unit {0}
 
 -- A run was stopped before it created anything.
-pub record IsUnbegun (c : RunAsked) (before now : Outside) (stop : Stop) : Type 0 where
+pub record IsUnbegun (c : RunAsked) (before now : Outside) (stop : CallFault) : Type 0 where
   pub known : IsKnown c before.told now.told stop
   pub untouched : IsUntouched before.told now.told
   pub stops : Stops before.told.next (length c.captures) (inputs_of c) before.counted now.counted stop
@@ -101,7 +101,7 @@ pub record LeavesState (c : RunAsked) (before : Outside) (arrivals : List Arriva
 -- A run was stopped after it began to create files: each holds a front of what one run leaves there. The
 -- state is created behind whole others, by a run that leaves one, and nothing is printed before all are
 -- whole.
-pub record IsCutShort (Refused : Type 0) (c : RunAsked) (before now : Outside) (stop : Stop) : Type 0 where
+pub record IsCutShort (Refused : Type 0) (c : RunAsked) (before now : Outside) (stop : CallFault) : Type 0 where
   pub arrivals : List Arrival
   pub run : Run
   pub is_run : IsRunOf Refused c before.told arrivals run
@@ -119,7 +119,7 @@ pub record IsCutShort (Refused : Type 0) (c : RunAsked) (before now : Outside) (
   pub stops : Stops before.told.next (length c.captures) (asked_by c) before.counted now.counted stop
 
 -- A run was stopped by the outside or for want of memory.
-abbrev pub IsStopped : Type 0 → RunAsked → Outside → Outside → Stop → Type 0
+abbrev pub IsStopped : Type 0 → RunAsked → Outside → Outside → CallFault → Type 0
 IsStopped Refused c before now stop = IsUnbegun c before now stop ⊎ IsCutShort Refused c before now stop
 
 -- what a run comes to

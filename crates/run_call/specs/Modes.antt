@@ -10,8 +10,8 @@ use Rattle.key_synth.specs.declared.verdict.Verdict.TheVariants.{Locked}
 use Rattle.key_synth.specs.Verdicts.{IsVerdict}
 use Rattle.key_synth.specs.Keys.{AreGiven}
 use Rattle.toeplitz_hash.specs.Meeting.{HashAlikeWhereTheyMeet}
-use Rattle.run_call.specs.declared.course.Course.{Course}
-use Rattle.run_call.specs.declared.course.Course.TheVariants.{One, Shards, Tables}
+use Rattle.run_call.specs.declared.worker_plan.WorkerPlan.{WorkerPlan}
+use Rattle.run_call.specs.declared.worker_plan.WorkerPlan.TheVariants.{One, Shards, Tables}
 use Rattle.call_base.specs.declared.status.NoKeys.{NoKeys}
 use Rattle.call_base.specs.Named.{SaysCause}
 use Rattle.call_base.specs.Rules.{HasKeys, MayShard, ShareTables}
@@ -19,7 +19,7 @@ use Rattle.call_base.specs.declared.status.Halt.{Halt}
 use Rattle.call_base.specs.declared.status.Halt.TheVariants as halts
 use Rattle.call_base.specs.declared.status.Refusal.{Refusal}
 use Rattle.call_base.specs.declared.status.Refusal.TheVariants as refusals
-use Rattle.call_base.specs.declared.status.Stop.TheVariants as stops
+use Rattle.call_base.specs.declared.status.CallFault.TheVariants as stops
 
 -- keys are needed where mode `shard` is asked for
 abbrev pub NeedsKeys : RunAsked → Type 0
@@ -42,11 +42,11 @@ Asks c = AsksIn c.mode c.workers
 
 -- who handles the packets: one worker, or as many as are asked for, which share nothing, under the
 -- function's keys for the network card that is asked for, or share the tables
-abbrev pub IsCourse : RunAsked → Function → Course → Type 0
-IsCourse c f One = (c.workers ≡ 1) × (NeedsKeys c → HasKeys f c.card)
-IsCourse c f (Shards keys) =
+abbrev pub IsWorkerPlan : RunAsked → Function → WorkerPlan → Type 0
+IsWorkerPlan c f One = (c.workers ≡ 1) × (NeedsKeys c → HasKeys f c.card)
+IsWorkerPlan c f (Shards keys) =
     ((1 < c.workers) × (c.workers ≤ 16)) × MayShard c.mode × AreGiven f c.card keys × HashAlikeWhereTheyMeet f keys
-IsCourse c f Tables = (1 < c.workers) × ShareTables c.mode c.card f
+IsWorkerPlan c f Tables = (1 < c.workers) × ShareTables c.mode c.card f
 
 -- why there is none
 abbrev pub IsUnserved : RunAsked → Function → Refusal → Type 0
@@ -56,13 +56,13 @@ IsUnserved c f (refusals.Text fault) = ⊥
 IsUnserved c f (refusals.NotCapture port) = ⊥
 
 -- what a verdict comes to
-abbrev pub ServesBy : RunAsked → Function → Result Course Refusal → Type 0
-ServesBy c f (Ok course) = IsCourse c f course
+abbrev pub ServesBy : RunAsked → Function → Result WorkerPlan Refusal → Type 0
+ServesBy c f (Ok worker_plan) = IsWorkerPlan c f worker_plan
 ServesBy c f (Err why) = IsUnserved c f why
 
 -- what looking for it comes to; want of memory is free
-abbrev pub Serves : RunAsked → Function → Result Course Halt → Type 0
-Serves c f (Ok course) = IsCourse c f course
+abbrev pub Serves : RunAsked → Function → Result WorkerPlan Halt → Type 0
+Serves c f (Ok worker_plan) = IsWorkerPlan c f worker_plan
 Serves c f (Err (halts.Refusal why)) = IsUnserved c f why
 Serves c f (Err (halts.Stop (stops.File file))) = ⊥
 Serves c f (Err (halts.Stop stops.Memory)) = Unit {0}

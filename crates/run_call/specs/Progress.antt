@@ -12,7 +12,7 @@ use Rattle.stream_run.specs.declared.ending.Ending.{Ending}
 use Rattle.stream_run.specs.declared.ending.Ending.TheVariants as ending
 use Rattle.command_words.specs.Commands.{Run as RunAsked}
 use Rattle.command_words.specs.View as view
-use Rattle.call_base.specs.declared.layout.Behind.TheVariants.{Created}
+use Rattle.call_base.specs.declared.layout.FileOrder.TheVariants.{Created}
 use Rattle.call_base.specs.declared.status.End.{End}
 use Rattle.call_base.specs.declared.status.End.TheVariants.{Whole, Torn, TooMany}
 use Rattle.call_base.specs.Leaving.{Leaves, HasCreated, HasMade}
@@ -21,13 +21,14 @@ use Rattle.call_base.specs.Outside.{Outside}
 use Rattle.call_base.specs.Reading as reads
 use Rattle.call_base.specs.Reading.{Reads}
 use Rattle.run_call.specs.declared.job.Job.{Job}
-use Rattle.run_call.specs.Modes.{IsCourse}
+use Rattle.run_call.specs.Modes.{IsWorkerPlan}
 use Rattle.run_call.specs.Runs.{HasPorts, IsRunOf, IsEndOf}
 
 -- what a job is: the run that a command asks for, with its function and the numbers of its files
 pub record IsJob (before : Told) (job : Job) : Type 0 where
   pub has_ports : HasPorts (view.run job.command.now) before (function_of job.func.now)
-  pub course : IsCourse (view.run job.command.now) (function_of job.func.now) job.course.now
+  pub worker_plan :
+      IsWorkerPlan (view.run job.command.now) (function_of job.func.now) job.worker_plan.now
   pub handlers : length job.func.now.handlers ≡ job.layout.ports
   pub first : job.layout.first ≡ before.next
   pub from_two : 2 ≤ job.layout.first

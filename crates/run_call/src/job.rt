@@ -1,6 +1,6 @@
 //! A run that is to be done.
 
-use crate::course::Course;
+use crate::worker_plan::WorkerPlan;
 use call_base::layout::Layout;
 use command_words::RunCommand;
 use nf_base::func::Func;
@@ -11,6 +11,6 @@ use nf_base::func::Func;
 pub struct Job<'a> {
     pub command: &'a RunCommand,
     pub func: &'a Func,
-    pub course: &'a Course,
+    pub worker_plan: &'a WorkerPlan,
     pub layout: Layout,
 }

@@ -8,16 +8,16 @@ ghost use Rattle.call_base.specs.Names.{reading};
 ghost use Rattle.call_base.specs.Outside.{Outside, HasOnlyAsked, seen};
 ghost use Rattle.call_base.specs.Reading.{HasFound};
 ghost use Rattle.run_call.specs.Ending.{RunsTo};
-ghost use Rattle.run_call.specs.Modes.{IsCourse, Serves};
+ghost use Rattle.run_call.specs.Modes.{IsWorkerPlan, Serves};
 ghost use Rattle.run_call.specs.Progress.{IsJob, HasFed, HasReady, asked};
-ghost use Rattle.run_call.specs.declared.course.Course.TheVariants.{Shards, Tables};
+ghost use Rattle.run_call.specs.declared.worker_plan.WorkerPlan.TheVariants.{Shards, Tables};
 ghost use Rattle.lock_mode.specs.Gates.{Rose};
 
-use crate::course::{Course, course_of};
 use crate::job::Job;
 use crate::leaving::{leave_ran, print_ran};
+use crate::worker_plan::{WorkerPlan, worker_plan_of};
 use call_base::inputs::{Inputs, open_inputs};
-use call_base::layout::{Behind, Layout};
+use call_base::layout::{FileOrder, Layout};
 use call_base::loading::{Found, read_function};
 use call_base::object_name::full_share;
 use call_base::opening::create_targets;
@@ -26,15 +26,15 @@ use command_words::RunCommand;
 use lock_mode::Gate;
 use locked_run::run as run_locked;
 use nf_base::keys::Keys;
+use nf_base::worker_turns::Turns;
 use nf_files::Files;
 use packet_feed::Feed;
 use run_history::line::Mode;
-use sharded_run::{Came, run as run_sharded};
+use sharded_run::{ShardedResult, run as run_sharded};
 use std::alloc::Global;
 use std::sync::{Arc, Wait};
 use std::thread::Threads;
 use stream_run::run as run_stream;
-use worker_turns::Turns;
 
 // Handles all packets by one worker, and leaves what comes of them in the files that were created.
 fn run_one<F: Files>(
@@ -85,7 +85,7 @@ fn run_shards<
 ) -> Result<End, Halt>
     ghost before: { Outside }
     requires job { IsJob before.told job.now }
-    requires several { IsCourse (asked job.now) (function_of job.now.func.now) (Shards keys.now) }
+    requires several { IsWorkerPlan (asked job.now) (function_of job.now.func.now) (Shards keys.now) }
     requires opened { EachFile (F.is_read files.old) captures.now }
     requires created { EachFile (F.is_written files.old) targets.now }
     requires ready { HasReady before (seen (F.told files.old) (F.counted files.old)) job.now
@@ -98,11 +98,11 @@ fn run_shards<
     match run_sharded(
         rt, alloc, files, job.func, keys, workers, card, format, feed, captures, targets, turns,
     ) {
-        Ok(Came::Ran(ran)) => {
+        Ok(ShardedResult::Ran(ran)) => {
             let last = targets[job.layout.ports as usize];
             leave_ran(alloc, files, job, Mode::Shard, &ran, feed.torn(), last)
         }
-        Ok(Came::Full(full)) => {
+        Ok(ShardedResult::Full(full)) => {
             let end = End::ShareFull(full_share(job.func, full.stop));
             print_ran(files, job, Mode::Shard, full.packets, end)
         }
@@ -124,7 +124,7 @@ fn run_tables<R: Threads + Wait + Sync, F: Files, G: Turns + Sync, L: Gate + Dro
 ) -> Result<End, Halt>
     ghost before: { Outside }
     requires job { IsJob before.told job.now }
-    requires several { IsCourse (asked job.now) (function_of job.now.func.now) Tables }
+    requires several { IsWorkerPlan (asked job.now) (function_of job.now.func.now) Tables }
     requires opened { EachFile (F.is_read files.old) captures.now }
     requires created { EachFile (F.is_written files.old) targets.now }
     requires ready { HasReady before (seen (F.told files.old) (F.counted files.old)) job.now
@@ -171,12 +171,12 @@ fn run_ready<
     ensures runs { RunsTo (Rose (L.refused gate.old) (L.refused gate.new)) (asked job.now) before
         (seen (F.told files.new) (F.counted files.new)) result }
 {
-    match job.course {
-        Course::One => run_one(alloc, files, job, feed, captures, targets),
-        Course::Shards(keys) => run_shards(
+    match job.worker_plan {
+        WorkerPlan::One => run_one(alloc, files, job, feed, captures, targets),
+        WorkerPlan::Shards(keys) => run_shards(
             rt, alloc, files, job, keys, feed, captures, targets, turns,
         ),
-        Course::Tables => run_tables(
+        WorkerPlan::Tables => run_tables(
             rt, alloc, files, job, feed, captures, targets, &**turns, gate,
         ),
     }
@@ -262,7 +262,7 @@ fn run_served<
     files: &mut F,
     command: &RunCommand,
     found: &Found,
-    course: &Course,
+    worker_plan: &WorkerPlan,
     turns: &Arc<G>,
     gate: &mut L,
 ) -> Result<End, Halt>
@@ -270,7 +270,7 @@ fn run_served<
     requires some { 1 ≤ length command.now.captures.items }
     requires few { length command.now.captures.items ≤ 4 }
     requires as_many { length command.now.captures.items ≡ length found.now.source.func.handlers }
-    requires course { IsCourse (view.run command.now) (function_of found.now.source.func) course.now }
+    requires worker_plan { IsWorkerPlan (view.run command.now) (function_of found.now.source.func) worker_plan.now }
     requires found { HasFound (view.run command.now).function before
         (seen (F.told files.old) (F.counted files.old)) found.now }
     ensures runs { RunsTo (Rose (L.refused gate.old) (L.refused gate.new)) (view.run command.now)
@@ -282,12 +282,12 @@ fn run_served<
         first: found.file,
         captures: ports,
         ports,
-        behind: Behind::Created,
+        behind: FileOrder::Created,
     };
     let job = Job {
         command,
         func,
-        course,
+        worker_plan,
         layout,
     };
     run_job(rt, alloc, files, &job, turns, gate)
@@ -320,8 +320,8 @@ fn run_found<
     if command.captures.len() != func.handlers.len() as usize {
         return Err(Halt::Refusal(Refusal::Usage));
     }
-    match course_of(alloc, command, func) {
-        Ok(course) => run_served(rt, alloc, files, command, found, &course, turns, gate),
+    match worker_plan_of(alloc, command, func) {
+        Ok(worker_plan) => run_served(rt, alloc, files, command, found, &worker_plan, turns, gate),
         Err(halt) => Err(halt),
     }
 }

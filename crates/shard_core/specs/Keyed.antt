@@ -2,7 +2,7 @@
 use Rattle.std.specs.Prelude.{◌≡◌, ℕ, List, Contains}
 use Rattle.nf_base.specs.declared.keys.Keys.{Keys}
 use Rattle.nf_base.specs.declared.packet.Packet.{Packet}
-use Rattle.hash_fields.specs.Hashed.{HasInput}
+use Rattle.nf_base.specs.Hashed.{HasInput}
 use Rattle.toeplitz_hash.specs.Meeting.{HashAlikeWhereTheyMeet}
 use Rattle.rss_table.specs.Tables.{even_table, queue_of}
 use Rattle.shard_machine.specs.Machine.{Setup}

@@ -20,7 +20,7 @@ use nf_base::keys::Keys;
 use nf_base::packet::Packet;
 use nf_base::seq::Seq;
 use nf_base::workers::Workers;
-use rss_table::{Hasher, Table, share};
+use rss_table::{ByteTables, Table, share};
 use shard_machine::{Answer, Worked};
 use std::alloc::{AllocError, Global};
 use std::marker::Model;
@@ -32,7 +32,7 @@ use std::mem;
 pub struct Shards {
     alloc: Global,
     func: Func,
-    keys: Hasher,
+    keys: ByteTables,
     table: Table,
     /// How many queues there are.
     count: Workers,
@@ -306,7 +306,7 @@ fn make(alloc: Global, func: &Func, keys: Keys, workers: Workers) -> Result<Shar
 {
     let func = func.copy(alloc)?;
     let table = Table::even(workers, keys.table);
-    let keys = Hasher::new(alloc, &keys)?;
+    let keys = ByteTables::new(alloc, &keys)?;
     let made = make_workers(alloc, &func, workers)?;
     Ok(Shards {
         alloc,

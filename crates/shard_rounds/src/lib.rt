@@ -8,6 +8,6 @@ pub mod laws;
 mod round;
 mod working;
 
+pub use nf_base::worker_turns::{Idle, Turns};
 pub use round::{Round, begin_round, end_round, run_round};
-pub use worker_turns::{Idle, Turns};
 pub use working::{work_apart, work_beside};

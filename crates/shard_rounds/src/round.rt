@@ -15,10 +15,10 @@ use crate::giving::{give_all, take_room};
 use crate::working::work_apart;
 use nf_base::packet::Packet;
 use nf_base::seq::Seq;
+use nf_base::worker_turns::Turns;
 use shard_core::{Collected, Shards, Stop};
 use std::alloc::{AllocError, Global};
 use std::thread::Threads;
-use worker_turns::Turns;
 
 /// What a round came to.
 #[derive(Drop)]

@@ -11,11 +11,11 @@ ghost use Rattle.shard_rounds.specs.Workings.{AreWorkers, CanWork, WorkedThrough
 
 use nf_base::func::Func;
 use nf_base::packet::PacketId;
+use nf_base::worker_turns::Turns;
 use shard_core::{Shards, Worker};
 use shard_machine::Worked;
 use std::thread;
 use std::thread::{Threads, join_mut};
-use worker_turns::Turns;
 
 /// Lets each worker work all that waits for it, in a thread of its own where one can be made.
 pub fn work_apart<R: Threads + Sync, G: Turns + Sync>(rt: &R, shards: &mut Shards, turns: &G)

@@ -15,7 +15,7 @@ use Rattle.nf_sites.specs.OnPaths as listed
 use Rattle.nf_sites.specs.Known as sites
 use Rattle.nf_sites.specs.Admissible.{AreEqual, Agree, IsAt, IsAdmissibleBySites}
 use Rattle.nf_base.specs.declared.packet.Family.{Family}
-use Rattle.hash_fields.specs.Hashed.{value, width}
+use Rattle.nf_base.specs.Hashed.{value, width}
 use Rattle.nf_sites.proofs.Lists.{passes, from_map, to_map, all_has}
 use Rattle.nf_sites.proofs.KeptLabels.{itself, one_object}
 use Rattle.access_keys.specs.declared.site.Site.{Site}

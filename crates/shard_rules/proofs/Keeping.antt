@@ -12,7 +12,7 @@ use Rattle.nf_laws.proofs.Listed.{here, there, kept, was}
 use Rattle.nf_sites.specs.Known.{same_object, label_count, labels_of}
 use Rattle.nf_sites.proofs.Lists.{passes, all_has, all_true}
 use Rattle.nf_sites.proofs.KeptLabels.{itself, one_object}
-use Rattle.hash_fields.specs.declared.hashable.Hashable.{Hashable}
+use Rattle.nf_base.specs.declared.hash_fields.Hashable.{Hashable}
 use Rattle.access_keys.specs.declared.site.Site.{Site}
 use Rattle.shard_rules.specs.Sites.{field_at, knows}
 use Rattle.shard_rules.specs.Rules.{is_kept, kept_labels}

@@ -4,8 +4,8 @@ use Rattle.std.specs.List.{filter_map}
 use Rattle.std.specs.Option.{is_some}
 use Rattle.nf_base.specs.declared.packet.Fields.{Fields}
 use Rattle.nf_laws.proofs.Listed.{here, there, has, has_none}
-use Rattle.hash_fields.specs.declared.hashable.Hashable.{Hashable}
-use Rattle.hash_fields.specs.Hashed.{value}
+use Rattle.nf_base.specs.declared.hash_fields.Hashable.{Hashable}
+use Rattle.nf_base.specs.Hashed.{value}
 use Rattle.nf_sites.specs.Admissible.{AreEqual}
 use Rattle.access_keys.specs.declared.site.Site.{Site}
 use Rattle.shard_rules.specs.Sites.{field_at, knows}

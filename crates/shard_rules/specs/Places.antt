@@ -1,8 +1,8 @@
 -- The places of an object: what tells its sites apart, for keys.
 use Rattle.std.specs.Prelude.{ℕ, ◌==◌, ◌&&◌, Bool, true, false, List, [], ◌∷◌, map}
 use Rattle.std.specs.List.{filter_map}
-use Rattle.hash_fields.specs.declared.hashable.Hashable.{Hashable}
-use Rattle.hash_fields.specs.Hashed.{number}
+use Rattle.nf_base.specs.declared.hash_fields.Hashable.{Hashable}
+use Rattle.nf_base.specs.Hashed.{number}
 use Rattle.access_keys.specs.declared.site.Site.{Site}
 use Rattle.key_rows.specs.Keyed.{version}
 use Rattle.key_rows.specs.declared.place.Place.{Place}

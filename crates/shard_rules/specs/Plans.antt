@@ -6,8 +6,8 @@ use Rattle.nf_base.specs.Text.{Function}
 use Rattle.nf_base.specs.Objects.{is_written}
 use Rattle.access_keys.specs.declared.site.Site.{Site}
 use Rattle.key_rows.specs.declared.place.Object.{Object}
-use Rattle.shard_rules.specs.declared.plan.Standing.{Standing}
-use Rattle.shard_rules.specs.declared.plan.Standing.TheVariants.{ReadOnly, Unused, Ruled}
+use Rattle.shard_rules.specs.declared.plan.ObjectVerdict.{ObjectVerdict}
+use Rattle.shard_rules.specs.declared.plan.ObjectVerdict.TheVariants.{ReadOnly, Unused, Ruled}
 use Rattle.shard_rules.specs.declared.plan.Plan.{Plan}
 use Rattle.nf_sites.specs.Known.{same_object, labels_of}
 use Rattle.shard_rules.specs.Once.{each_once}
@@ -21,12 +21,12 @@ is_any [] = false
 is_any (s ∷ ss) = true
 
 -- what the sites of an object with some labels come to
-abbrev pub ruled : List ℕ → List Site → Standing
+abbrev pub ruled : List ℕ → List Site → ObjectVerdict
 ruled labels sites =
     Ruled (rule_of labels sites (kept_labels labels sites)) (kept_labels labels sites)
 
 -- what an object of a function comes to, by the function's sites
-abbrev pub standing : Function → List Site → ObjectId → Standing
+abbrev pub standing : Function → List Site → ObjectId → ObjectVerdict
 standing f sites o =
     if is_written f o
     then (if is_any (object_sites o sites)

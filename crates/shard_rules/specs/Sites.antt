@@ -3,7 +3,7 @@ use Rattle.std.specs.Prelude.{ℕ, Bool, true, false, not, List, filter, Option,
 use Rattle.std.specs.List.{list_any, list_all}
 use Rattle.nf_base.specs.declared.decl.ObjectId.{ObjectId}
 use Rattle.nf_base.specs.Chains.{joined}
-use Rattle.hash_fields.specs.declared.hashable.Hashable.{Hashable}
+use Rattle.nf_base.specs.declared.hash_fields.Hashable.{Hashable}
 use Rattle.nf_sites.specs.declared.sort.Sort.{Sort}
 use Rattle.nf_sites.specs.declared.sort.Sort.TheVariants.{Get, Find, New, Name, Load, Store}
 use Rattle.nf_sites.specs.Known.{same_object}

@@ -9,7 +9,7 @@ ghost use Rattle.shard_rules.specs.Plans.{is_any, standing, objects_of, written_
 
 use crate::labels::{is_on, kept_labels, label_count, same_object};
 use crate::place::places_of;
-use crate::plan::{Plan, Standing};
+use crate::plan::{ObjectVerdict, Plan};
 use crate::rule::rule_of;
 use crate::written::is_written;
 use access_keys::Site;
@@ -36,23 +36,23 @@ fn standing(
     func: &Func,
     sites: &[Site],
     object: ObjectId,
-) -> Result<Standing, AllocError>
+) -> Result<ObjectVerdict, AllocError>
     ensures { IfOk result (λ s. s ≡ standing (function_of func.now) sites.now object) }
 {
     if !is_written(func, object) {
-        return Ok(Standing::ReadOnly);
+        return Ok(ObjectVerdict::ReadOnly);
     }
     if !has_site(sites, object) {
-        return Ok(Standing::Unused);
+        return Ok(ObjectVerdict::Unused);
     }
     let count = label_count(func, object);
     let kept = kept_labels(alloc, count, sites, object)?;
     let rule = rule_of(count, sites, object, kept.as_slice());
-    Ok(Standing::Ruled { rule, kept })
+    Ok(ObjectVerdict::Ruled { rule, kept })
 }
 
 /// What each object of a function comes to, in text order.
-fn standings(alloc: Global, func: &Func, sites: &[Site]) -> Result<Seq<Standing>, AllocError>
+fn standings(alloc: Global, func: &Func, sites: &[Site]) -> Result<Seq<ObjectVerdict>, AllocError>
     ensures { IfOk result (λ all.
         all ≡ map (standing (function_of func.now) sites.now) func.now.objects) }
 {

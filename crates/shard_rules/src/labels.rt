@@ -7,9 +7,9 @@ ghost use Rattle.shard_rules.specs.Sites.{object_sites, field_at, knows, knows_o
 ghost use Rattle.shard_rules.specs.Rules.{is_kept, kept_labels};
 
 use access_keys::Site;
-use hash_fields::Hashable;
 use nf_base::decl::ObjectId;
 use nf_base::func::Func;
+use nf_base::hash_fields::Hashable;
 use nf_base::seq::Seq;
 use std::alloc::{AllocError, Global};
 

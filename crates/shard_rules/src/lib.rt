@@ -12,6 +12,6 @@ mod written;
 
 pub use joining::join;
 pub use labels::{field_at, is_on, knows_one, label_count};
-pub use plan::{Plan, Standing};
+pub use plan::{ObjectVerdict, Plan};
 pub use rule::Rule;
 pub use written::is_written;

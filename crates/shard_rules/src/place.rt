@@ -7,9 +7,9 @@ ghost use Rattle.shard_rules.specs.Places.{place_of, same_fields, same_place, pl
 
 use crate::labels::{field_at, is_on};
 use access_keys::Site;
-use hash_fields::Hashable;
 use key_rows::Place;
 use nf_base::decl::ObjectId;
+use nf_base::hash_fields::Hashable;
 use nf_base::packet::Family;
 use nf_base::seq::Seq;
 use std::alloc::{AllocError, Global};

@@ -4,7 +4,7 @@ use nf_base::seq::Seq;
 
 /// What an object's sites come to.
 #[derive(Drop)]
-pub enum Standing {
+pub enum ObjectVerdict {
     /// The text doesn't write it.
     ReadOnly,
     /// The text writes it, and no feasible path uses it.
@@ -20,7 +20,7 @@ pub enum Standing {
 #[derive(Drop)]
 pub struct Plan {
     /// One for each object of the function, in text order.
-    pub standings: Seq<Standing>,
+    pub standings: Seq<ObjectVerdict>,
     /// The places of each object that the text writes and that has sites, in the order in which the
     /// sites come to them.
     pub objects: Seq<Object>,

@@ -27,7 +27,7 @@ use Rattle.stream_run.specs.Writing.{IsFrontIfTold}
 use Rattle.stream_run.specs.Streaming.{IsUndivided, arrival_of, AreFirst}
 use Rattle.stream_run.specs.Lawful.{AreTheFirst, EndsSo}
 use Rattle.stream_run.proofs.Complete.{ran_of, run_by, bytes_are, same_arrivals, how_ended, ends_so, first_most}
-use Rattle.sharded_run.specs.declared.came.ShareFull.{ShareFull}
+use Rattle.sharded_run.specs.declared.result.ShareFull.{ShareFull}
 use Rattle.sharded_run.specs.Sharded.{AreBefore}
 use Rattle.sharded_run.specs.Going.{Halts, EndsWith, StopsWith, AreWhole}
 use Rattle.sharded_run.specs.Lawful.{IsFinished, IsFull, IsCutShort}

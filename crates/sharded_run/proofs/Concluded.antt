@@ -22,8 +22,8 @@ use Rattle.ring_line.specs.Lines.{LineStands, LineFinishes}
 use Rattle.stream_run.specs.declared.ending.Ending.{Ending}
 use Rattle.stream_run.specs.declared.ran.Ran as ran_type
 use Rattle.stream_run.specs.Writing.{Holding, AreHeld, AreFronts}
-use Rattle.sharded_run.specs.declared.came.Ended as ended
-use Rattle.sharded_run.specs.declared.came.ShareFull.{ShareFull}
+use Rattle.sharded_run.specs.declared.result.RunEnd as ended
+use Rattle.sharded_run.specs.declared.result.ShareFull.{ShareFull}
 use Rattle.sharded_run.specs.declared.crew.Crew.{Crew}
 use Rattle.sharded_run.specs.Setups.{setup_of}
 use Rattle.sharded_run.specs.Answered.{answered}
@@ -38,13 +38,13 @@ use Rattle.sharded_run.proofs.Flowed.{flows_as}
 use Rattle.sharded_run.proofs.Gathered.{gathers_none}
 
 -- what new workers come to with all packets of captures
-abbrev Flows : {G E : Type 0} → ℕ → Feeding → Told → List Holding → Crew G → Feeding → Told → Crew G → List ℕ → Result ended.Ended E → Type 0
+abbrev Flows : {G E : Type 0} → ℕ → Feeding → Told → List Holding → Crew G → Feeding → Told → Crew G → List ℕ → Result ended.RunEnd E → Type 0
 Flows n from begun sinks crew feed now after files r =
     (x : Setup) (card : Card) (format : CaptureFormat) (first : Feeding) (start : Told) (all : List Arrival) → Suits x n crew from → length (files_in first.sources) ≡ n → Passing x card format begun crew sinks all → Gathers n first from start begun all
     → FlowsSo x n first start feed now after (AreWhole x.workers card format crew.ports now files) (λ hs. AreFronts Shard x.workers card format crew.ports hs now files) r
 
 -- from the first packet on
-pub new_flows : {G E : Type 0} (func : Func) (keys : Keys) (workers n : ℕ) (card : Card) (format : CaptureFormat) (some : 0 < workers) (most : workers ≤ 16) (begun feed : Feeding) (start now : Told) (sinks : List Holding) (crew after : Crew G) (files : List ℕ) (r : Result ended.Ended E) → IsNewCrew crew func keys workers → n ≡ length func.handlers
+pub new_flows : {G E : Type 0} (func : Func) (keys : Keys) (workers n : ℕ) (card : Card) (format : CaptureFormat) (some : 0 < workers) (most : workers ≤ 16) (begun feed : Feeding) (start now : Told) (sinks : List Holding) (crew after : Crew G) (files : List ℕ) (r : Result ended.RunEnd E) → IsNewCrew crew func keys workers → n ≡ length func.handlers
     → sixes_in begun.sources ≡ six_ports (function_of func) → length (files_in begun.sources) ≡ n → AreHeld Shard workers card format (length func.handlers) [] start sinks → Flows n begun start sinks crew feed now after files r
     → FlowsSo (setup_of (function_of func) keys workers (share_by workers some most)) n begun start feed now after (AreWhole workers card format n now files) (λ hs. AreFronts Shard workers card format n hs now files) r
 new_flows func keys workers n card format some most begun feed start now sinks crew after files r new ports six long held flows =

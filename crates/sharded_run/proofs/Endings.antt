@@ -11,7 +11,7 @@ use Rattle.nf_base.specs.declared.share.Share.{Share}
 use Rattle.nf_base.specs.Functions.{function_of}
 use Rattle.nf_base.specs.Text.{Function}
 use Rattle.nf_files.specs.Told.{Told}
-use Rattle.hash_fields.specs.Hashed.{HasInput}
+use Rattle.nf_base.specs.Hashed.{HasInput}
 use Rattle.toeplitz_hash.specs.Meeting.{HashAlikeWhereTheyMeet}
 use Rattle.packet_feed.specs.Arrivals.{Arrival, packet_of}
 use Rattle.packet_feed.specs.Told as told_of

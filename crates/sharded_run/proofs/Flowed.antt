@@ -11,15 +11,15 @@ use Rattle.run_history.specs.declared.line.Mode.TheVariants.{Shard}
 use Rattle.shard_machine.specs.Machine.{Setup}
 use Rattle.ring_line.specs.Lines.{StandsAtStop}
 use Rattle.stream_run.specs.declared.ending.Ending.{Ending}
-use Rattle.stream_run.specs.declared.stop.Stop.{Stop}
+use Rattle.stream_run.specs.declared.fault.RunFault.{RunFault}
 use Rattle.stream_run.specs.Runs.{Handled}
 use Rattle.stream_run.specs.Rules.{queue_by}
 use Rattle.stream_run.specs.Writing.{Holding, AreHeld, AreFronts}
-use Rattle.sharded_run.specs.declared.came.Ended as ended
-use Rattle.sharded_run.specs.declared.came.Ended.TheVariants as over
-use Rattle.sharded_run.specs.declared.came.Passed as passed
-use Rattle.sharded_run.specs.declared.came.Passed.TheVariants as pass
-use Rattle.sharded_run.specs.declared.came.ShareFull.{ShareFull}
+use Rattle.sharded_run.specs.declared.result.RunEnd as ended
+use Rattle.sharded_run.specs.declared.result.RunEnd.TheVariants as over
+use Rattle.sharded_run.specs.declared.result.ReadResult as passed
+use Rattle.sharded_run.specs.declared.result.ReadResult.TheVariants as pass
+use Rattle.sharded_run.specs.declared.result.ShareFull.{ShareFull}
 use Rattle.sharded_run.specs.declared.crew.Crew.{Crew}
 use Rattle.sharded_run.specs.declared.router.Router.{Router}
 use Rattle.sharded_run.specs.Answered.{answered}
@@ -36,7 +36,7 @@ met_count x card format ports begun feed next start old now crew sinks all packe
     let long : length all ≡ length st.done + length crew.frames = ap (λ (t : List Arrival). length t) st.parts ∙ length-append st.done crew.frames in
     omega (arith, long, st.long, g.count, more, e)
 
-pub passed_by : {G : Type 0} (x : Setup) (card : Card) (format : CaptureFormat) (ports : ℕ) (begun feed next : Feeding) (start old mid now : Told) (crew : Crew G) (sinks : List Holding) (all : List Arrival) (one : Arrival) (r : Result passed.Passed Stop) → HandedOut x card format now crew sinks all one next.given r → Gathers ports begun feed start old all → Gathers ports begun next start mid (all ++ one ∷ []) → next.given ≡ feed.given + 1
+pub passed_by : {G : Type 0} (x : Setup) (card : Card) (format : CaptureFormat) (ports : ℕ) (begun feed next : Feeding) (start old mid now : Told) (crew : Crew G) (sinks : List Holding) (all : List Arrival) (one : Arrival) (r : Result passed.ReadResult RunFault) → HandedOut x card format now crew sinks all one next.given r → Gathers ports begun feed start old all → Gathers ports begun next start mid (all ++ one ∷ []) → next.given ≡ feed.given + 1
     → ((g : ℕ) → now.rest g ≡ mid.rest g) → PassedSo x card format ports begun start next now crew sinks all r
 passed_by x card format ports begun feed next start old mid now crew sinks all one (Ok pass.On) h g k more rests = (one, h, gathers_rest ports begun next start mid now (all ++ one ∷ []) rests k)
 passed_by x card format ports begun feed next start old mid now crew sinks all one (Ok (pass.End ending)) h g k more rests = absurd h
@@ -63,7 +63,7 @@ none_in_flight x card format now crew sinks all st same none = of_none crew.line
     of_none (q ∷ qs) e = absurd (omega (arith, e))
 
 -- what is held is given to the files
-pub flows_ok : {G : Type 0} (E : Type 0) (x : Setup) (ports : ℕ) (begun feed : Feeding) (start old now : Told) (crew : Crew G) (Left More Front Rest : List Handled → Type 0) (e : ended.Ended) → ((g : ℕ) → now.rest g ≡ old.rest g) → ((hs : List Handled) → Left hs → More hs) → FlowsSo {E = E} x ports begun start feed old crew Left Front (Ok e)
+pub flows_ok : {G : Type 0} (E : Type 0) (x : Setup) (ports : ℕ) (begun feed : Feeding) (start old now : Told) (crew : Crew G) (Left More Front Rest : List Handled → Type 0) (e : ended.RunEnd) → ((g : ℕ) → now.rest g ≡ old.rest g) → ((hs : List Handled) → Left hs → More hs) → FlowsSo {E = E} x ports begun start feed old crew Left Front (Ok e)
     → FlowsSo {E = E} x ports begun start feed now crew More Rest (Ok e)
 flows_ok E x ports begun feed start old now crew Left More Front Rest (over.Over ending) rests more h = record {
   all = h.all;
@@ -85,7 +85,7 @@ flows_ok E x ports begun feed start old now crew Left More Front Rest (over.Full
 }
 
 -- or a file fails
-pub flows_err : {G E : Type 0} (x : Setup) (ports : ℕ) (begun feed : Feeding) (start old now : Told) (crew : Crew G) (Left More Front Rest : List Handled → Type 0) (e : ended.Ended) (fault_is : E) → ((hs : List Handled) → Left hs → Rest hs) → FlowsSo {E = E} x ports begun start feed old crew Left Front (Ok e)
+pub flows_err : {G E : Type 0} (x : Setup) (ports : ℕ) (begun feed : Feeding) (start old now : Told) (crew : Crew G) (Left More Front Rest : List Handled → Type 0) (e : ended.RunEnd) (fault_is : E) → ((hs : List Handled) → Left hs → Rest hs) → FlowsSo {E = E} x ports begun start feed old crew Left Front (Ok e)
     → FlowsSo {E = E} x ports begun start feed now crew More Rest (Err fault_is)
 flows_err x ports begun feed start old now crew Left More Front Rest (over.Over ending) fault_is more h = (h.all, h.got, h.stands, record { feed = feed; now = old; gathers = h.gathers }, more (answered h.all h.got) h.left)
 flows_err x ports begun feed start old now crew Left More Front Rest (over.Full full) fault_is more h = (h.all, h.got, h.stands, h.read, more (answered h.all h.got) h.left)
@@ -98,7 +98,7 @@ flows_in x ports begun feed start now crew ending Left More more h = record { al
 pub stops_in : {G : Type 0} (x : Setup) (ports : ℕ) (begun : Feeding) (start : Told) (crew : Crew G) (full : ShareFull) (Left More : List Handled → Type 0) → ((hs : List Handled) → Left hs → More hs) → SomePassed x ports begun start crew full Left → SomePassed x ports begun start crew full More
 stops_in x ports begun start crew full Left More more h = record { all = h.all; got = h.got; stands = h.stands; stop = h.stop; count = h.count; read = h.read; left = more (answered h.all h.got) h.left }
 
-pub flows_as : {G E : Type 0} (x : Setup) (ports : ℕ) (begun feed : Feeding) (start now : Told) (crew : Crew G) (Left More Front Rest : List Handled → Type 0) (r : Result ended.Ended E) → ((hs : List Handled) → Left hs → More hs) → ((hs : List Handled) → Front hs → Rest hs) → FlowsSo {E = E} x ports begun start feed now crew Left Front r
+pub flows_as : {G E : Type 0} (x : Setup) (ports : ℕ) (begun feed : Feeding) (start now : Told) (crew : Crew G) (Left More Front Rest : List Handled → Type 0) (r : Result ended.RunEnd E) → ((hs : List Handled) → Left hs → More hs) → ((hs : List Handled) → Front hs → Rest hs) → FlowsSo {E = E} x ports begun start feed now crew Left Front r
     → FlowsSo {E = E} x ports begun start feed now crew More Rest r
 flows_as x ports begun feed start now crew Left More Front Rest (Ok (over.Over ending)) more rest h = flows_in x ports begun feed start now crew ending Left More more h
 flows_as x ports begun feed start now crew Left More Front Rest (Ok (over.Full full)) more rest h = stops_in x ports begun start crew full Left More more h

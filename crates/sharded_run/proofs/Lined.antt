@@ -13,7 +13,7 @@ use Rattle.nf_base.specs.Text.{Function}
 use Rattle.nf_base.specs.Runs.{Handling, RunResult, run}
 use Rattle.nf_base.specs.Shares.{IsShareStop}
 use Rattle.nf_base.specs.Step.{opening}
-use Rattle.hash_fields.specs.Hashed.{HasInput}
+use Rattle.nf_base.specs.Hashed.{HasInput}
 use Rattle.toeplitz_hash.specs.Meeting.{HashAlikeWhereTheyMeet}
 use Rattle.shard_laws.specs.Queues.{Throughout}
 use Rattle.shard_laws.specs.Rule.{AreShares, KeepsRule, KeepsToQueue, KeepShareRule}

@@ -24,16 +24,16 @@ use Rattle.shard_core.specs.Sharded.{Sharded, WorkerStands, answer_of}
 use Rattle.ring_line.specs.declared.halt.Halt.{Halt}
 use Rattle.ring_line.specs.declared.line.Line.{Line}
 use Rattle.ring_line.specs.Handled.{IsAt}
-use Rattle.ring_line.specs.Plays.{LaneEnd, AllCame, IsPlay, line_events}
+use Rattle.ring_line.specs.Plays.{WorkerEnd, AllCame, IsPlay, line_events}
 use Rattle.ring_line.specs.Lines.{LineStands, LineFinishes, ComesFirst, StandsAtStop, halt_of}
 use Rattle.ring_line.proofs.InOrder.{same_at, packets_of_got}
-use Rattle.ring_line.proofs.Lined.{in_queue_order, lanes_are_a_play, halts_are_stops}
+use Rattle.ring_line.proofs.Lined.{in_queue_order, workers_are_a_play, halts_are_stops}
 use Rattle.ring_line.proofs.Lining.{some_of}
 use Rattle.stream_run.specs.Rules.{queue_by}
 use Rattle.sharded_run.specs.Setups.{setup_of}
 
 -- what a worker of the machine holds with these tables
-abbrev held_at : Machine → (ℕ → LaneEnd) → ℕ → TablesState → Held
+abbrev held_at : Machine → (ℕ → WorkerEnd) → ℕ → TablesState → Held
 held_at m ends w t = record {
   tables = t;
   waiting = (m.worker w).waiting;
@@ -43,19 +43,19 @@ held_at m ends w t = record {
 }
 
 -- those from one of them on
-abbrev held_from : Machine → (ℕ → LaneEnd) → ℕ → List TablesState → List Held
+abbrev held_from : Machine → (ℕ → WorkerEnd) → ℕ → List TablesState → List Held
 held_from m ends w [] = []
 held_from m ends w (t ∷ ts) = held_at m ends w t ∷ held_from m ends (suc w) ts
 
-held_tables : (m : Machine) (ends : ℕ → LaneEnd) (w : ℕ) (ts : List TablesState) → tables_in (held_from m ends w ts) ≡ ts
+held_tables : (m : Machine) (ends : ℕ → WorkerEnd) (w : ℕ) (ts : List TablesState) → tables_in (held_from m ends w ts) ≡ ts
 held_tables m ends w [] = refl
 held_tables m ends w (t ∷ ts) = ap (λ (us : List TablesState). t ∷ us) (held_tables m ends (suc w) ts)
 
-held_long : (m : Machine) (ends : ℕ → LaneEnd) (w : ℕ) (ts : List TablesState) → length (held_from m ends w ts) ≡ length ts
+held_long : (m : Machine) (ends : ℕ → WorkerEnd) (w : ℕ) (ts : List TablesState) → length (held_from m ends w ts) ≡ length ts
 held_long m ends w [] = refl
 held_long m ends w (t ∷ ts) = omega (arith, held_long m ends (suc w) ts)
 
-held_there : (m : Machine) (ends : ℕ → LaneEnd) (w : ℕ) (ts : List TablesState) (k : ℕ) (held : Held) → slice_get (held_from m ends w ts) k ≡ Some held → (t : TablesState) × (slice_get ts k ≡ Some t) × (held_at m ends (w + k) t ≡ held)
+held_there : (m : Machine) (ends : ℕ → WorkerEnd) (w : ℕ) (ts : List TablesState) (k : ℕ) (held : Held) → slice_get (held_from m ends w ts) k ≡ Some held → (t : TablesState) × (slice_get ts k ≡ Some t) × (held_at m ends (w + k) t ≡ held)
 held_there m ends w [] k held at = absurd cc
 held_there m ends w (t ∷ ts) zero held at =
     let here : w + 0 ≡ w = omega arith in
@@ -75,7 +75,7 @@ module _ {G : Type 0} (func : Func) (keys : Keys) (workers : ℕ) (share : ℕ �
   x = setup_of (function_of func) keys workers share
 
   pub play : IsPlay x packets got fin.ends
-  play = lanes_are_a_play x packets got line.order.items fin.ends is fin.came
+  play = workers_are_a_play x packets got line.order.items fin.ends is fin.came
 
   abbrev m : Machine
   m = play.machine
@@ -159,6 +159,6 @@ module _ {G : Type 0} (func : Func) (keys : Keys) (workers : ℕ) (share : ℕ �
   line_stop stop s =
       let order = in_queue_order x packets got line.order.items fin.ends is fin.came in
       let lt = first_below stop.queue line.order.items order.later order.left_are s.first in
-      let place = some_of line.places stop.queue (omega (arith, lt, st.count)) in
+      let place = some_of line.queue_workers stop.queue (omega (arith, lt, st.count)) in
       let h = fin.halted stop.queue place.0 (halt_of stop) place.1 (s.halted place.0 place.1) in
       at_order stop line.order.items refl s.first h.0 h.1

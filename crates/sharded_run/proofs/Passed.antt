@@ -16,7 +16,7 @@ use Rattle.run_history.specs.declared.line.Mode.TheVariants.{Shard}
 use Rattle.shard_machine.specs.Machine.{Setup}
 use Rattle.shard_core.specs.declared.collected.Collected.{Collected}
 use Rattle.ring_line.specs.Lines.{LineStands, ComesFirst}
-use Rattle.ring_line.specs.Places.{CanHandle}
+use Rattle.ring_line.specs.QueueWorkers.{CanHandle}
 use Rattle.stream_run.specs.Runs.{Handled}
 use Rattle.stream_run.specs.Texts.{bytes_of}
 use Rattle.stream_run.specs.Writing.{Holding, Holds, IsFrontIfTold, files_of, AreHeld, AreFronts}

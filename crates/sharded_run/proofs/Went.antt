@@ -7,8 +7,8 @@ use Rattle.packet_feed.specs.Told.{KeepsOthers}
 use Rattle.packet_feed.specs.Faults.{FaultedAt, IsCause}
 use Rattle.packet_feed.specs.declared.fault.FeedFault.{FeedFault}
 use Rattle.packet_feed.specs.declared.fault.FeedFault.TheVariants as feed
-use Rattle.stream_run.specs.declared.stop.Stop.{Stop}
-use Rattle.stream_run.specs.declared.stop.Stop.TheVariants as fault
+use Rattle.stream_run.specs.declared.fault.RunFault.{RunFault}
+use Rattle.stream_run.specs.declared.fault.RunFault.TheVariants as fault
 use Rattle.stream_run.specs.Streaming.{stop_on, stop_in}
 use Rattle.stream_run.specs.Writing.{KeepsAllBut, IsStopCause, StopsAmong}
 use Rattle.stream_run.proofs.Held.{but_both, but_none, but_read, but_written, stops_wider, stops_reading}
@@ -18,7 +18,7 @@ pub went_none : {T : Type 0} (captures files : List ℕ) (told : Told) (count : 
 went_none captures files told count t = record { kept = but_none files told; cause = refl; among = tt }
 
 -- a call that goes on, and another
-pub went_both : {T U : Type 0} (captures files : List ℕ) (old now new : Told) (a b c : Counted) (t : T) (r : Result U Stop) → WentOn {T = T} captures files old now a b (Ok t) → WentOn captures files now new b c r → WentOn captures files old new a c r
+pub went_both : {T U : Type 0} (captures files : List ℕ) (old now new : Told) (a b c : Counted) (t : T) (r : Result U RunFault) → WentOn {T = T} captures files old now a b (Ok t) → WentOn captures files now new b c r → WentOn captures files old new a c r
 went_both captures files old now new a b c t r h k = record {
   kept = but_both files old now new h.kept k.kept;
   cause = subst (λ (n : Counted). IsStopCause n c r) h.cause k.cause;
@@ -29,30 +29,30 @@ went_both captures files old now new a b c t r h k = record {
 pub went_ok : {T U : Type 0} (captures files : List ℕ) (old new : Told) (a b : Counted) (t : T) (u : U) → WentOn {T = T} captures files old new a b (Ok t) → WentOn {T = U} captures files old new a b (Ok u)
 went_ok captures files old new a b t u h = record { kept = h.kept; cause = h.cause; among = tt }
 
-pub went_err : {T U : Type 0} (captures files : List ℕ) (old new : Told) (a b : Counted) (stop : Stop) → WentOn {T = T} captures files old new a b (Err stop) → WentOn {T = U} captures files old new a b (Err stop)
+pub went_err : {T U : Type 0} (captures files : List ℕ) (old new : Told) (a b : Counted) (stop : RunFault) → WentOn {T = T} captures files old new a b (Err stop) → WentOn {T = U} captures files old new a b (Err stop)
 went_err captures files old new a b (fault.File file) h = record { kept = h.kept; cause = h.cause; among = h.among }
 went_err captures files old new a b fault.Memory h = record { kept = h.kept; cause = h.cause; among = tt }
 
 -- want of memory behind a call that went on
-pub went_memory : {T U : Type 0} (captures files : List ℕ) (old new : Told) (a b : Counted) (t : T) (stop : Stop) → stop ≡ fault.Memory → WentOn {T = T} captures files old new a b (Ok t) → WentOn {T = U} captures files old new a b (Err stop)
+pub went_memory : {T U : Type 0} (captures files : List ℕ) (old new : Told) (a b : Counted) (t : T) (stop : RunFault) → stop ≡ fault.Memory → WentOn {T = T} captures files old new a b (Ok t) → WentOn {T = U} captures files old new a b (Err stop)
 went_memory {T} {U} captures files old new a b t stop is h =
     let none : WentOn {T = U} captures files old new a b (Err fault.Memory) = record { kept = h.kept; cause = h.cause; among = tt } in
-    subst (λ (s : Stop). WentOn {T = U} captures files old new a b (Err s)) (sym is) none
+    subst (λ (s : RunFault). WentOn {T = U} captures files old new a b (Err s)) (sym is) none
 
 -- where the files are known by another list
-pub went_then : {T U : Type 0} (captures files all : List ℕ) (old now new : Told) (a b c : Counted) (t : T) (r : Result U Stop) → all ≡ files → WentOn {T = T} captures files old now a b (Ok t) → WentOn captures all now new b c r → WentOn captures files old new a c r
+pub went_then : {T U : Type 0} (captures files all : List ℕ) (old now new : Told) (a b c : Counted) (t : T) (r : Result U RunFault) → all ≡ files → WentOn {T = T} captures files old now a b (Ok t) → WentOn captures all now new b c r → WentOn captures files old new a c r
 went_then captures files all old now new a b c t r same h k = went_both captures files old now new a b c t r h (subst (λ (fs : List ℕ). WentOn captures fs now new b c r) same k)
 
 -- ---- files are written
 
-cause_as : (T U : Type 0) (a b : Counted) (stop : Stop) → IsStopCause {T = T} a b (Err stop) → IsStopCause {T = U} a b (Err stop)
+cause_as : (T U : Type 0) (a b : Counted) (stop : RunFault) → IsStopCause {T = T} a b (Err stop) → IsStopCause {T = U} a b (Err stop)
 cause_as T U a b (fault.File file) h = h
 cause_as T U a b fault.Memory h = h
 
 pub went_written : {T : Type 0} (captures files all : List ℕ) (old new : Told) (a b : Counted) (t : T) → all ≡ files → KeepsAllBut all old new → b ≡ a → WentOn captures files old new a b (Ok t)
 went_written captures files all old new a b t same kept cause = record { kept = but_written files all old new same kept; cause = cause; among = tt }
 
-pub unwritten : (T : Type 0) {U : Type 0} (captures files all : List ℕ) (old new : Told) (a b : Counted) (stop : Stop) → all ≡ files → KeepsAllBut all old new → IsStopCause {T = T} a b (Err stop) → StopsAmong {T = T} [] all (Err stop) → WentOn {T = U} captures files old new a b (Err stop)
+pub unwritten : (T : Type 0) {U : Type 0} (captures files all : List ℕ) (old new : Told) (a b : Counted) (stop : RunFault) → all ≡ files → KeepsAllBut all old new → IsStopCause {T = T} a b (Err stop) → StopsAmong {T = T} [] all (Err stop) → WentOn {T = U} captures files old new a b (Err stop)
 unwritten T {U} captures files all old new a b stop same kept cause among = record { kept = but_written files all old new same kept; cause = cause_as T U a b stop cause; among = stops_wider T U captures files all stop same among }
 
 -- ---- captures are read
@@ -69,7 +69,7 @@ cause_reading T U a b captures (feed.NotCapture port) h = h
 cause_reading T U a b captures (feed.File port) h = faulted_on U a b (slice_get captures port) h
 cause_reading T U a b captures feed.Memory h = h
 
-pub unread : (T : Type 0) {U : Type 0} (captures files all : List ℕ) (old new : Told) (a b : Counted) (f : FeedFault) (stop : Stop) → all ≡ captures → stop ≡ stop_in captures f → KeepsOthers all old new → IsCause {T = T} a b all (Err f) → WentOn {T = U} captures files old new a b (Err stop)
+pub unread : (T : Type 0) {U : Type 0} (captures files all : List ℕ) (old new : Told) (a b : Counted) (f : FeedFault) (stop : RunFault) → all ≡ captures → stop ≡ stop_in captures f → KeepsOthers all old new → IsCause {T = T} a b all (Err f) → WentOn {T = U} captures files old new a b (Err stop)
 unread T {U} captures files all old new a b f stop same is kept cause =
     let here : IsCause {T = T} a b captures (Err f) = subst (λ (fs : List ℕ). IsCause {T = T} a b fs (Err f)) same cause in
     let went : WentOn {T = U} captures files old new a b (Err (stop_in captures f)) = record {
@@ -77,4 +77,4 @@ unread T {U} captures files all old new a b f stop same is kept cause =
       cause = cause_reading T U a b captures f here;
       among = stops_reading U captures files f;
     } in
-    subst (λ (s : Stop). WentOn {T = U} captures files old new a b (Err s)) (sym is) went
+    subst (λ (s : RunFault). WentOn {T = U} captures files old new a b (Err s)) (sym is) went

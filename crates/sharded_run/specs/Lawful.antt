@@ -10,15 +10,15 @@ use Rattle.packet_feed.specs.Told.{packets_of}
 use Rattle.packet_feed.specs.Sources.{files_in, sixes_in}
 use Rattle.packet_feed.specs.Feeding.{Feeding, StandsFor}
 use Rattle.stream_run.specs.declared.ran.Ran.{Ran}
-use Rattle.stream_run.specs.declared.stop.Stop.{Stop}
+use Rattle.stream_run.specs.declared.fault.RunFault.{RunFault}
 use Rattle.stream_run.specs.Runs.{Run, course_of, arrival_in}
 use Rattle.stream_run.specs.Texts.{file_bytes}
 use Rattle.stream_run.specs.Writing.{IsFrontIfTold}
 use Rattle.stream_run.specs.Streaming.{AreFirst}
 use Rattle.stream_run.specs.Lawful.{AreTheFirst, EndsSo}
-use Rattle.sharded_run.specs.declared.came.ShareFull.{ShareFull}
-use Rattle.sharded_run.specs.declared.came.Came as came
-use Rattle.sharded_run.specs.declared.came.Came.TheVariants as outcome
+use Rattle.sharded_run.specs.declared.result.ShareFull.{ShareFull}
+use Rattle.sharded_run.specs.declared.result.ShardedResult as came
+use Rattle.sharded_run.specs.declared.result.ShardedResult.TheVariants as outcome
 use Rattle.stream_run.specs.Rules.{shard_rule, IsRunBy}
 use Rattle.sharded_run.specs.Sharded.{IsStopBehind, AreBefore}
 
@@ -58,7 +58,7 @@ pub record IsCutShort (f : Function) (keys : Keys) (workers : ℕ) (card : Card)
   pub fronts : (k file : ℕ) → slice_get files k ≡ Some file → IsFrontIfTold (file_bytes format run k) (now.given file)
 
 -- what a run comes to
-abbrev pub Runs : Function → Keys → ℕ → Card → CaptureFormat → Feeding → Told → Feeding → Told → List ℕ → Result came.Came Stop → Type 0
+abbrev pub Runs : Function → Keys → ℕ → Card → CaptureFormat → Feeding → Told → Feeding → Told → List ℕ → Result came.ShardedResult RunFault → Type 0
 Runs f keys workers card format begun start feed now files (Ok (outcome.Ran ran)) = IsFinished f keys workers card format begun start feed now files ran
 Runs f keys workers card format begun start feed now files (Ok (outcome.Full full)) = IsFull f keys workers card format begun start now files full
 Runs f keys workers card format begun start feed now files (Err stop) = IsCutShort f keys workers card format begun start now files

@@ -19,15 +19,15 @@ use Rattle.shard_core.specs.declared.collected.Collected.{Collected}
 use Rattle.shard_core.specs.declared.collected.Stop as share
 use Rattle.ring_line.specs.Lines.{LineStands, HasRoom, StandsAtStop}
 use Rattle.stream_run.specs.declared.ending.Ending.{Ending}
-use Rattle.stream_run.specs.declared.stop.Stop.{Stop}
+use Rattle.stream_run.specs.declared.fault.RunFault.{RunFault}
 use Rattle.stream_run.specs.Runs.{Handled}
 use Rattle.stream_run.specs.Rules.{queue_by}
 use Rattle.stream_run.specs.Writing.{Holding, files_of, AreHeld, AreFronts, KeepsBut, IsStopCause, StopsAmong}
-use Rattle.sharded_run.specs.declared.came.Ended as ended
-use Rattle.sharded_run.specs.declared.came.Ended.TheVariants as end
-use Rattle.sharded_run.specs.declared.came.Passed as passed
-use Rattle.sharded_run.specs.declared.came.Passed.TheVariants as pass
-use Rattle.sharded_run.specs.declared.came.ShareFull.{ShareFull}
+use Rattle.sharded_run.specs.declared.result.RunEnd as ended
+use Rattle.sharded_run.specs.declared.result.RunEnd.TheVariants as end
+use Rattle.sharded_run.specs.declared.result.ReadResult as passed
+use Rattle.sharded_run.specs.declared.result.ReadResult.TheVariants as pass
+use Rattle.sharded_run.specs.declared.result.ShareFull.{ShareFull}
 use Rattle.sharded_run.specs.declared.crew.Crew.{Crew}
 use Rattle.sharded_run.specs.Reading.{Gathers, IsOver}
 use Rattle.sharded_run.specs.Answered.{answered}
@@ -36,7 +36,7 @@ use Rattle.sharded_run.specs.Answered.{answered}
 
 -- nothing but these files and what is left of captures changed, and a fault of them is told
 pub record WentOn {T : Type 0} (captures files : List ℕ) (old new : Told) (before after : Counted)
-    (result : Result T Stop) : Type 0 where
+    (result : Result T RunFault) : Type 0 where
   pub kept : KeepsBut files old new
   pub cause : IsStopCause before after result
   pub among : StopsAmong captures files result
@@ -127,7 +127,7 @@ pub record MetStop {G : Type 0} (crew : Crew G) : Type 0 where
   pub stands : StandsAtStop crew.line stop
 
 -- where a share stop was met, the crew tells it
-abbrev pub HasMet : {G E : Type 0} → Crew G → Result passed.Passed E → Type 0
+abbrev pub HasMet : {G E : Type 0} → Crew G → Result passed.ReadResult E → Type 0
 HasMet crew (Ok pass.On) = Unit {0}
 HasMet crew (Ok (pass.End ending)) = Unit {0}
 HasMet crew (Ok (pass.Met packets)) = is_some crew.met ≡ true
@@ -137,7 +137,7 @@ HasMet crew (Err e) = Unit {0}
 -- many packets were handled as were given, without it and those whose frames are kept.
 abbrev pub HandedOut : {G E : Type 0} →
     Setup → Card → CaptureFormat → Told → Crew G → List Holding → List Arrival → Arrival → ℕ →
-    Result passed.Passed E → Type 0
+    Result passed.ReadResult E → Type 0
 HandedOut x card format now crew sinks all one given (Ok pass.On) =
     Passing x card format now crew sinks (all ++ one ∷ [])
 HandedOut x card format now crew sinks all one given (Ok (pass.End ending)) = ⊥
@@ -176,7 +176,7 @@ pub record MeetsStop {G : Type 0} (x : Setup) (card : Card) (format : CaptureFor
 -- what reading a packet and handing it to its queue comes to
 abbrev pub PassedSo : {G E : Type 0} →
     Setup → Card → CaptureFormat → ℕ → Feeding → Told → Feeding → Told → Crew G →
-    List Holding → List Arrival → Result passed.Passed E → Type 0
+    List Holding → List Arrival → Result passed.ReadResult E → Type 0
 PassedSo x card format ports begun start feed now crew sinks all (Ok pass.On) =
     (one : Arrival)
     × Passing x card format now crew sinks (all ++ one ∷ [])
@@ -221,7 +221,7 @@ pub record SomePassed {G : Type 0} (x : Setup) (ports : ℕ) (begun : Feeding) (
 -- what all packets come to, by what is known of the files then, or of fronts of them
 abbrev pub FlowsSo : {G E : Type 0} →
     Setup → ℕ → Feeding → Told → Feeding → Told → Crew G →
-    (List Handled → Type 0) → (List Handled → Type 0) → Result ended.Ended E → Type 0
+    (List Handled → Type 0) → (List Handled → Type 0) → Result ended.RunEnd E → Type 0
 FlowsSo x ports begun start feed now crew Left Front (Ok (end.Over ending)) =
     AllPassed x ports begun start feed now crew ending Left
 FlowsSo x ports begun start feed now crew Left Front (Ok (end.Full full)) =

@@ -5,7 +5,7 @@ use Rattle.nf_base.specs.declared.packet.Fields.{Fields}
 use Rattle.nf_base.specs.declared.packet.Packet.{Packet}
 use Rattle.nf_base.specs.Doors.{six_at, served_fields}
 use Rattle.nf_files.specs.Told.{Told}
-use Rattle.hash_fields.specs.Hashed.{HasInput}
+use Rattle.nf_base.specs.Hashed.{HasInput}
 use Rattle.pcap_file.specs.Record.{greatest_time}
 use Rattle.packet_feed.specs.Arrivals.{Arrival, packet_of}
 use Rattle.packet_feed.specs.Told.{packets_of}

@@ -2,9 +2,9 @@
 ghost use Rattle.std.specs.Prelude.{◌≡◌, length, is_some, true, Some};
 ghost use Rattle.shard_core.specs.declared.collected.Stop.{Stop};
 
-use crate::came::ShareFull;
-use crate::kept::Frames;
+use crate::frames::Frames;
 use crate::plain_answer::PlainAnswer;
+use crate::result::ShareFull;
 use crate::router::Router;
 use ring_line::Line;
 use shard_core::Stop;
@@ -23,7 +23,7 @@ pub struct Crew<G> {
     /// The share stop that was met, if one was.
     pub(crate) met: Option<Stop>,
     ghost as_many: { length frames ≡ length line.order.items },
-    ghost queues: { length line.places ≡ router.workers },
+    ghost queues: { length line.queue_workers ≡ router.workers },
 }
 
 impl<G> Crew<G> {

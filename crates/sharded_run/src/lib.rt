@@ -2,16 +2,16 @@
 //! it leaves is written behind, in capture order, as its answer comes.
 #![tactic(auto)]
 
-mod came;
 mod crew;
-mod kept;
+mod frames;
 pub mod laws;
 mod passing;
 mod plain_answer;
+mod result;
 mod router;
 mod running;
 mod streaming;
 mod writing;
 
-pub use came::{Came, Ended, ShareFull};
+pub use result::{RunEnd, ShardedResult, ShareFull};
 pub use running::run;

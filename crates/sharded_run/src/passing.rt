@@ -10,16 +10,16 @@ ghost use Rattle.packet_feed.specs.Sources.{files_in, sixes_in};
 ghost use Rattle.packet_feed.specs.Feeding.{Feeding, frame_of, shown};
 ghost use Rattle.shard_machine.specs.Machine.{Setup};
 ghost use Rattle.ring_line.specs.Lines.{HasRoom, LineHasAnswer};
-ghost use Rattle.ring_line.specs.Places.{CanHandle};
-ghost use Rattle.stream_run.specs.declared.stop.Stop.TheVariants as stops;
+ghost use Rattle.ring_line.specs.QueueWorkers.{CanHandle};
+ghost use Rattle.stream_run.specs.declared.fault.RunFault.TheVariants as stops;
 ghost use Rattle.stream_run.specs.Writing.{Holding, files_of};
 ghost use Rattle.stream_run.specs.Rules.{queue_by};
 ghost use Rattle.sharded_run.specs.Reading.{Gathers};
 ghost use Rattle.sharded_run.specs.Passing.{WentOn, Passing, Wrote, WroteOne, SameCrew, SameButOne, HasMade, SentSo, HandedOut, HasMet, Suits, PassedSo};
 
-use crate::came::Passed;
 use crate::crew::Crew;
-use crate::kept::fits;
+use crate::frames::fits;
+use crate::result::ReadResult;
 use crate::writing::write_told;
 use nf_base::packet::Packet;
 use nf_base::seq::Seq;
@@ -28,7 +28,7 @@ use packet_feed::{Fed, Feed};
 use ring_line::{First, Turns};
 use std::alloc::Global;
 use std::sync::Wait;
-use stream_run::{Ending, Sink, Stop, stop_in};
+use stream_run::{Ending, RunFault, Sink, stop_in};
 
 /// How many packets are in flight at most, of all queues.
 const ALL_IN_FLIGHT: usize = 1_024;
@@ -38,7 +38,7 @@ fn write_ready<F: Files, G: Turns + Drop>(
     files: &mut F,
     crew: &mut Crew<G>,
     sinks: &mut Seq<Sink>,
-) -> Result<(), Stop>
+) -> Result<(), RunFault>
     requires ready { LineHasAnswer crew.old.line }
     requires some { 0 < length crew.old.frames }
     requires created { EachFile (F.is_written files.old) (files_of sinks.old) }
@@ -80,7 +80,7 @@ fn write_come<F: Files, G: Turns + Drop>(
     files: &mut F,
     crew: &mut Crew<G>,
     sinks: &mut Seq<Sink>,
-) -> Result<(), Stop>
+) -> Result<(), RunFault>
     requires created { EachFile (F.is_written files.old) (files_of sinks.old) }
     requires apart { IsApart (files_of sinks.old) }
     requires few { length sinks.old ≤ 2 ^ 32 }
@@ -114,7 +114,7 @@ pub(crate) fn write_next<R: Wait, F: Files, G: Turns + Drop>(
     files: &mut F,
     crew: &mut Crew<G>,
     sinks: &mut Seq<Sink>,
-) -> Result<Option<shard_core::Stop>, Stop>
+) -> Result<Option<shard_core::Stop>, RunFault>
     requires some { 0 < length crew.old.frames }
     requires created { EachFile (F.is_written files.old) (files_of sinks.old) }
     requires apart { IsApart (files_of sinks.old) }
@@ -146,7 +146,7 @@ fn make_room<R: Wait, F: Files, G: Turns + Drop>(
     crew: &mut Crew<G>,
     sinks: &mut Seq<Sink>,
     queue: u32,
-) -> Result<Option<shard_core::Stop>, Stop>
+) -> Result<Option<shard_core::Stop>, RunFault>
     requires queue { queue < crew.old.router.workers }
     requires created { EachFile (F.is_written files.old) (files_of sinks.old) }
     requires apart { IsApart (files_of sinks.old) }
@@ -184,7 +184,7 @@ fn send<R: Wait, G: Turns + Drop>(
     feed: &Feed,
     queue: u32,
     packet: &Packet,
-) -> Result<(), Stop>
+) -> Result<(), RunFault>
     requires queue { queue < crew.old.router.workers }
     requires room { HasRoom crew.old.line queue }
     requires time { packet.now.time ≤ greatest_time }
@@ -202,7 +202,7 @@ fn send<R: Wait, G: Turns + Drop>(
         .push(alloc, packet, feed.original(), feed.frame())
     {
         Ok(()) => {}
-        Err(_) => return Err(Stop::Memory),
+        Err(_) => return Err(RunFault::Memory),
     }
     crew.line.send(rt, queue, packet);
     Ok(())
@@ -217,7 +217,7 @@ fn hand_out<R: Wait, F: Files, G: Turns + Drop>(
     feed: &Feed,
     packet: &Packet,
     sinks: &mut Seq<Sink>,
-) -> Result<Passed, Stop>
+) -> Result<ReadResult, RunFault>
     requires port { packet.now.id.port < length crew.old.router.keys.ports }
     requires time { packet.now.time ≤ greatest_time }
     requires captured { length (frame_of feed.now) ≤ 262144 }
@@ -243,13 +243,13 @@ fn hand_out<R: Wait, F: Files, G: Turns + Drop>(
     let queue = crew.router.queue(packet);
     match make_room(rt, files, crew, sinks, queue) {
         Ok(None) => match send(rt, alloc, crew, feed, queue, packet) {
-            Ok(()) => Ok(Passed::On),
+            Ok(()) => Ok(ReadResult::On),
             Err(stop) => Err(stop),
         },
         Ok(Some(stop)) => {
             let packets = feed.given() - 1 - crew.line.left() as u32;
             crew.met = Some(stop);
-            Ok(Passed::Met(packets))
+            Ok(ReadResult::Met(packets))
         }
         Err(stop) => Err(stop),
     }
@@ -264,7 +264,7 @@ pub(crate) fn pass_one<R: Wait, F: Files, G: Turns + Drop>(
     feed: &mut Feed,
     captures: &[u32],
     sinks: &mut Seq<Sink>,
-) -> Result<Passed, Stop>
+) -> Result<ReadResult, RunFault>
     requires captures { files_in feed.old.sources ≡ captures.now }
     requires keyed { length captures.now ≤ length crew.old.router.keys.ports }
     requires fewer { length crew.old.frames ≤ feed.old.given }
@@ -296,8 +296,8 @@ pub(crate) fn pass_one<R: Wait, F: Files, G: Turns + Drop>(
             fits(packet);
             hand_out(rt, alloc, files, crew, feed, &packet, sinks)
         }
-        Ok(Fed::End) => Ok(Passed::End(Ending::All)),
-        Ok(Fed::TooMany) => Ok(Passed::End(Ending::TooMany)),
+        Ok(Fed::End) => Ok(ReadResult::End(Ending::All)),
+        Ok(Fed::TooMany) => Ok(ReadResult::End(Ending::TooMany)),
         Err(fault) => Err(stop_in(captures, fault)),
     }
 }

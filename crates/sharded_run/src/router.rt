@@ -6,13 +6,13 @@ ghost use Rattle.stream_run.specs.Rules.{queue_by};
 use nf_base::keys::Keys;
 use nf_base::packet::Packet;
 use nf_base::workers::Workers;
-use rss_table::{Hasher, Table};
+use rss_table::{ByteTables, Table};
 use std::alloc::{AllocError, Global};
 
 /// A key for each port, and a table of so many queues.
 #[derive(Drop)]
 pub(crate) struct Router {
-    keys: Hasher,
+    keys: ByteTables,
     table: Table,
     workers: Workers,
     ghost even: { table ≡ even_table keys.table workers },
@@ -25,7 +25,7 @@ impl Router {
         ensures workers { IfOk result (λ router. router.workers ≡ workers) }
     {
         Ok(Router {
-            keys: Hasher::new(alloc, keys)?,
+            keys: ByteTables::new(alloc, keys)?,
             table: Table::even(workers, keys.table),
             workers,
         })

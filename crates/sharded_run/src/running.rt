@@ -18,8 +18,8 @@ ghost use Rattle.sharded_run.specs.Going.{HaveWorked, IsLast, IsMadeOf};
 ghost use Rattle.sharded_run.specs.Passing.{WentOn};
 ghost use Rattle.sharded_run.specs.Lawful.{Runs};
 
-use crate::came::{Came, Ended};
 use crate::crew::Crew;
+use crate::result::{RunEnd, ShardedResult};
 use crate::streaming::flow;
 use capture_format::CaptureFormat;
 use nf_base::card::Card;
@@ -34,7 +34,7 @@ use run_history::line::Mode;
 use std::alloc::{AllocError, Global};
 use std::sync::{Arc, Wait};
 use std::thread::Threads;
-use stream_run::{Ending, Ran, Sink, Stop, begin_sinks};
+use stream_run::{Ending, Ran, RunFault, Sink, begin_sinks};
 use vig_tables::Tables;
 
 // The last state, from the workers' tables, where all packets were collected.
@@ -79,7 +79,7 @@ fn stream<
     captures: &[u32],
     sinks: &mut Seq<Sink>,
     turns: &Arc<G>,
-) -> Result<Came, Stop>
+) -> Result<ShardedResult, RunFault>
     requires several { 1 < workers }
     requires most { workers ≤ 16 }
     requires keyed { length func.now.handlers ≤ length keys.now.ports }
@@ -106,16 +106,16 @@ fn stream<
 {
     let mut crew = match Crew::start(rt, alloc, func, keys, workers, turns) {
         Ok(crew) => crew,
-        Err(_) => return Err(Stop::Memory),
+        Err(_) => return Err(RunFault::Memory),
     };
     let ended = flow(rt, alloc, files, &mut crew, feed, captures, sinks);
     let (parts, time) = crew.finish(rt);
     match ended {
-        Ok(Ended::Full(full)) => Ok(Came::Full(full)),
-        Ok(Ended::Over(ending)) => {
+        Ok(RunEnd::Full(full)) => Ok(ShardedResult::Full(full)),
+        Ok(RunEnd::Over(ending)) => {
             match conclude(alloc, func, parts.as_slice(), time, ending, feed.given()) {
-                Ok(ran) => Ok(Came::Ran(ran)),
-                Err(_) => Err(Stop::Memory),
+                Ok(ran) => Ok(ShardedResult::Ran(ran)),
+                Err(_) => Err(RunFault::Memory),
             }
         }
         Err(stop) => Err(stop),
@@ -151,7 +151,7 @@ pub fn run<
     captures: &[u32],
     targets: &[u32],
     turns: &Arc<G>,
-) -> Result<Came, Stop>
+) -> Result<ShardedResult, RunFault>
     requires several { 1 < workers }
     requires keyed { length func.now.handlers ≤ length keys.now.ports }
     requires alike { HashAlikeWhereTheyMeet (function_of func.now) keys.now }
@@ -179,7 +179,7 @@ pub fn run<
     let mode = Mode::Shard;
     let mut sinks = match begin_sinks(alloc, mode, workers, card, format, ports, targets) {
         Ok(sinks) => sinks,
-        Err(_) => return Err(Stop::Memory),
+        Err(_) => return Err(RunFault::Memory),
     };
     stream(
         rt, alloc, files, func, keys, workers, feed, captures, &mut sinks, turns,

@@ -14,16 +14,16 @@ ghost use Rattle.sharded_run.specs.Reading.{Gathers, IsOver};
 ghost use Rattle.sharded_run.specs.Going.{AreWhole};
 ghost use Rattle.sharded_run.specs.Passing.{WentOn, Passing, SameCrew, Suits, FlowsSo};
 
-use crate::came::{Ended, Passed, ShareFull};
 use crate::crew::Crew;
 use crate::passing::{pass_one, write_next};
+use crate::result::{ReadResult, RunEnd, ShareFull};
 use nf_base::seq::Seq;
 use nf_files::Files;
 use packet_feed::Feed;
 use ring_line::Turns;
 use std::alloc::Global;
 use std::sync::Wait;
-use stream_run::{Ending, Sink, Stop, flush_all};
+use stream_run::{Ending, RunFault, Sink, flush_all};
 
 // Writes what is left behind the last packet, as the answers come; a share stop comes before the end of
 // the captures.
@@ -34,7 +34,7 @@ fn drain<R: Wait, F: Files, G: Turns + Drop>(
     feed: &Feed,
     sinks: &mut Seq<Sink>,
     ending: Ending,
-) -> Result<Ended, Stop>
+) -> Result<RunEnd, RunFault>
     requires fewer { length crew.old.frames ≤ feed.now.given }
     requires created { EachFile (F.is_written files.old) (files_of sinks.old) }
     requires apart { IsApart (files_of sinks.old) }
@@ -58,13 +58,13 @@ fn drain<R: Wait, F: Files, G: Turns + Drop>(
 {
     for _ in rt.forever() {
         if crew.line.left() == 0 {
-            return Ok(Ended::Over(ending));
+            return Ok(RunEnd::Over(ending));
         }
         match write_next(rt, files, crew, sinks) {
             Ok(None) => {}
             Ok(Some(stop)) => {
                 let packets = feed.given() - crew.line.left() as u32;
-                return Ok(Ended::Full(ShareFull { stop, packets }));
+                return Ok(RunEnd::Full(ShareFull { stop, packets }));
             }
             Err(stop) => return Err(stop),
         }
@@ -82,7 +82,7 @@ fn pass_all<R: Wait, F: Files, G: Turns + Drop>(
     feed: &mut Feed,
     captures: &[u32],
     sinks: &mut Seq<Sink>,
-) -> Result<Ended, Stop>
+) -> Result<RunEnd, RunFault>
     requires captures { files_in feed.old.sources ≡ captures.now }
     requires keyed { length captures.now ≤ length crew.old.router.keys.ports }
     requires fewer { length crew.old.frames ≤ feed.old.given }
@@ -108,9 +108,9 @@ fn pass_all<R: Wait, F: Files, G: Turns + Drop>(
 {
     for _ in rt.forever() {
         match pass_one(rt, alloc, files, crew, feed, captures, sinks) {
-            Ok(Passed::On) => {}
-            Ok(Passed::End(ending)) => return drain(rt, files, crew, feed, sinks, ending),
-            Ok(Passed::Met(packets)) => return Ok(Ended::Full(crew.share_full(packets))),
+            Ok(ReadResult::On) => {}
+            Ok(ReadResult::End(ending)) => return drain(rt, files, crew, feed, sinks, ending),
+            Ok(ReadResult::Met(packets)) => return Ok(RunEnd::Full(crew.share_full(packets))),
             Err(stop) => return Err(stop),
         }
     }
@@ -126,7 +126,7 @@ pub(crate) fn flow<R: Wait, F: Files, G: Turns + Drop>(
     feed: &mut Feed,
     captures: &[u32],
     sinks: &mut Seq<Sink>,
-) -> Result<Ended, Stop>
+) -> Result<RunEnd, RunFault>
     requires captures { files_in feed.old.sources ≡ captures.now }
     requires keyed { length captures.now ≤ length crew.old.router.keys.ports }
     requires fewer { length crew.old.frames ≤ feed.old.given }

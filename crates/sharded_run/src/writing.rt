@@ -8,23 +8,23 @@ ghost use Rattle.short_answers.specs.Answers.{done_told};
 ghost use Rattle.stream_run.specs.Runs.{Handled};
 ghost use Rattle.stream_run.specs.Writing.{files_of, AreHeld, AllGoOn, KeepsAllBut, IsStopCause, StopsAmong};
 
-use crate::kept::Kept;
+use crate::frames::HeldPacket;
 use crate::plain_answer::PlainAnswer;
 use nf_base::done::Done;
 use nf_base::seq::Seq;
 use nf_files::Files;
 use short_answers::Told;
-use stream_run::{HandledPacket, Sink, Stop, put_all};
+use stream_run::{HandledPacket, RunFault, Sink, put_all};
 
 // Puts what one packet of a queue leaves into all files, where its answer stands whole.
 fn write_one<F: Files>(
     files: &mut F,
     sinks: &mut Seq<Sink>,
     ports: u32,
-    kept: &Kept,
+    kept: &HeldPacket,
     queue: u32,
     done: &Done,
-) -> Result<(), Stop>
+) -> Result<(), RunFault>
     requires created { EachFile (F.is_written files.old) (files_of sinks.old) }
     requires apart { IsApart (files_of sinks.old) }
     requires few { length sinks.old ≤ 2 ^ 32 }
@@ -55,11 +55,11 @@ pub(crate) fn write_told<F: Files>(
     files: &mut F,
     sinks: &mut Seq<Sink>,
     ports: u32,
-    kept: &Kept,
+    kept: &HeldPacket,
     queue: u32,
     told: Told<'_>,
     plain: &mut PlainAnswer,
-) -> Result<(), Stop>
+) -> Result<(), RunFault>
     requires created { EachFile (F.is_written files.old) (files_of sinks.old) }
     requires apart { IsApart (files_of sinks.old) }
     requires few { length sinks.old ≤ 2 ^ 32 }

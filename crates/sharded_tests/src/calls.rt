@@ -12,15 +12,15 @@ use capture_format::CaptureFormat;
 use nf_base::card::Card;
 use nf_base::func::Func;
 use nf_base::keys::Keys;
+use nf_base::worker_turns::Idle;
 use nf_base::workers::Workers;
 use nf_files::{Files, FilesFault};
 use packet_feed::{Feed, FeedFault};
-use sharded_run::{Came, run};
+use sharded_run::{ShardedResult, run};
 use std::alloc::Global;
 use std::sync::{Arc, Wait};
 use std::thread::Threads;
-use stream_run::Stop;
-use worker_turns::Idle;
+use stream_run::RunFault;
 
 /// Opens names to be read.
 pub fn open_all<F: Files>(
@@ -92,7 +92,7 @@ pub fn run_all<R: Threads + Wait + Clone + Send + Sync + Drop + 'static, F: File
     feed: &mut Feed,
     opened: &[u32],
     made: &[u32],
-) -> Result<Came, Stop>
+) -> Result<ShardedResult, RunFault>
     requires keyed { length func.now.handlers ≤ length keys.now.ports }
     requires alike { HashAlikeWhereTheyMeet (function_of func.now) keys.now }
     requires captures { files_in feed.old.sources ≡ opened.now }
@@ -108,7 +108,7 @@ pub fn run_all<R: Threads + Wait + Clone + Send + Sync + Drop + 'static, F: File
 {
     let turns = match Arc::new(alloc, Idle) {
         Ok(turns) => turns,
-        Err(_) => return Err(Stop::Memory),
+        Err(_) => return Err(RunFault::Memory),
     };
     run(
         rt,

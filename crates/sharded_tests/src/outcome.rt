@@ -15,11 +15,11 @@ use nf_syntax::parse;
 use nf_types::check;
 use packet_feed::{Feed, FeedFault};
 use run_history::state_text::state_text;
-use sharded_run::Came;
+use sharded_run::ShardedResult;
 use std::alloc::{AllocError, Global};
 use std::sync::Wait;
 use std::thread::Threads;
-use stream_run::{Ending, Stop};
+use stream_run::{Ending, RunFault};
 
 /// How a run ended.
 #[derive(Clone, Copy, Debug, PartialEq, Eq)]
@@ -33,7 +33,7 @@ pub enum End {
     Unstarted(FeedFault),
     /// An output or the journal could not be created.
     Uncreated,
-    Stopped(Stop),
+    Stopped(RunFault),
     /// So many packets were handled.
     Ran(Ending, u32),
     /// A share has no index left: of this queue, behind so many packets.
@@ -158,11 +158,11 @@ fn run_made<R: Threads + Wait + Clone + Send + Sync + Drop + 'static, F: Files>(
     outcome.torn = torn(feed);
     match ran {
         Err(stop) => outcome.end = End::Stopped(stop),
-        Ok(Came::Ran(ran)) => {
+        Ok(ShardedResult::Ran(ran)) => {
             outcome.end = End::Ran(ran.ending, ran.packets);
             outcome.state = state_text(alloc, func, &ran.state)?;
         }
-        Ok(Came::Full(full)) => outcome.end = End::Full(full.stop.queue, full.packets),
+        Ok(ShardedResult::Full(full)) => outcome.end = End::Full(full.stop.queue, full.packets),
     }
     Ok(())
 }

@@ -1,9 +1,9 @@
 //! A site in words: its port and family, its object, how it touches it, and each label that it knows with the field.
 
 use access_keys::Site;
-use hash_fields::Hashable;
 use nf_base::decl::{ChainDecl, ObjectId};
 use nf_base::func::Func;
+use nf_base::hash_fields::Hashable;
 use nf_base::packet::Family;
 use nf_sites::Sort;
 use std::alloc::{AllocError, Global};

@@ -29,7 +29,7 @@ use Rattle.run_history.specs.declared.line.Mode.TheVariants.{One}
 use Rattle.stream_run.specs.declared.ending.Ending.{Ending}
 use Rattle.stream_run.specs.declared.ending.Ending.TheVariants as ending
 use Rattle.stream_run.specs.declared.ran.Ran.{Ran}
-use Rattle.stream_run.specs.declared.stop.Stop.{Stop}
+use Rattle.stream_run.specs.declared.fault.RunFault.{RunFault}
 use Rattle.stream_run.specs.Runs.{Turn, Handled, course_of, arrival_in, handling_of, turn_of, run_of, handled_in, paired, longer}
 use Rattle.stream_run.specs.Texts.{file_bytes, bytes_of, head}
 use Rattle.stream_run.specs.Writing.{Holding, Holds, IsFrontIfTold, files_of, AreHeld, AreFronts, AreEmpty}
@@ -249,7 +249,7 @@ whole_front bytes (Some g) h = record { later = []; all = append-nil g ∙ h }
 
 -- ---- what the code comes to
 
-pub is_run : (f : Function) (card : Card) (format : CaptureFormat) (begun : Feeding) (start : Told) (feed : Feeding) (now : Told) (files : List ℕ) (result : Result Ran Stop) → length (files_in begun.sources) ≡ length f.handlers → sixes_in begun.sources ≡ six_ports f → Streams f card format (length f.handlers) begun start feed now files result → Runs f card format begun start feed now files result
+pub is_run : (f : Function) (card : Card) (format : CaptureFormat) (begun : Feeding) (start : Told) (feed : Feeding) (now : Told) (files : List ℕ) (result : Result Ran RunFault) → length (files_in begun.sources) ≡ length f.handlers → sixes_in begun.sources ≡ six_ports f → Streams f card format (length f.handlers) begun start feed now files result → Runs f card format begun start feed now files result
 is_run f card format begun start feed now files (Ok ran) ports six h = finished f card format begun start feed now files ran h
 is_run f card format begun start feed now files (Err stop) ports six h = cut_short f card format begun start now files ports six h
 
@@ -329,7 +329,7 @@ halts_begun f card format ports begun start sinks held = record {
 }
 
 -- the same, of a function's ports as they are counted
-pub is_run_at : (f : Function) (card : Card) (format : CaptureFormat) (n : ℕ) (begun : Feeding) (start : Told) (feed : Feeding) (now : Told) (files : List ℕ) (result : Result Ran Stop) → n ≡ length f.handlers → length (files_in begun.sources) ≡ n → sixes_in begun.sources ≡ six_ports f → Streams f card format n begun start feed now files result → Runs f card format begun start feed now files result
+pub is_run_at : (f : Function) (card : Card) (format : CaptureFormat) (n : ℕ) (begun : Feeding) (start : Told) (feed : Feeding) (now : Told) (files : List ℕ) (result : Result Ran RunFault) → n ≡ length f.handlers → length (files_in begun.sources) ≡ n → sixes_in begun.sources ≡ six_ports f → Streams f card format n begun start feed now files result → Runs f card format begun start feed now files result
 is_run_at f card format n begun start feed now files result same ports six h =
     is_run f card format begun start feed now files result (ports ∙ same) six (subst (λ (m : ℕ). Streams f card format m begun start feed now files result) same h)
 

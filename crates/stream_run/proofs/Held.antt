@@ -16,8 +16,8 @@ use Rattle.packet_feed.specs.Told.{IsApart, KeepsOthers}
 use Rattle.run_history.specs.declared.line.Mode.{Mode}
 use Rattle.packet_feed.specs.declared.fault.FeedFault.{FeedFault}
 use Rattle.packet_feed.specs.declared.fault.FeedFault.TheVariants as feed
-use Rattle.stream_run.specs.declared.stop.Stop.{Stop}
-use Rattle.stream_run.specs.declared.stop.Stop.TheVariants.{File, Memory}
+use Rattle.stream_run.specs.declared.fault.RunFault.{RunFault}
+use Rattle.stream_run.specs.declared.fault.RunFault.TheVariants.{File, Memory}
 use Rattle.stream_run.specs.Streaming.{stop_on, stop_in}
 use Rattle.stream_run.specs.Runs.{Handled}
 use Rattle.stream_run.specs.Texts.{bytes_of, piece, IsFrontOf}
@@ -221,7 +221,7 @@ written_on files all captures start old read new same h k w = but_both files sta
 
 -- ---- which file failed
 
-pub stops_here : (T U : Type 0) (files : List ℕ) (k file : ℕ) (stop : Stop) → slice_get files k ≡ Some file → StopsAt {T = T} file (Err stop) → StopsAmong {T = U} [] files (Err stop)
+pub stops_here : (T U : Type 0) (files : List ℕ) (k file : ℕ) (stop : RunFault) → slice_get files k ≡ Some file → StopsAt {T = T} file (Err stop) → StopsAmong {T = U} [] files (Err stop)
 stops_here T U files k file Memory e h = tt
 stops_here T U files k file (File g) e h = inr (k, e ∙ ap Some (sym h))
 
@@ -229,7 +229,7 @@ none_in : (k g : ℕ) → slice_get [] k ≡ Some g → ⊥
 none_in k g e = cc
 
 -- one of the files that are written is one of all
-pub stops_wider : (T U : Type 0) (captures files all : List ℕ) (stop : Stop) → all ≡ files → StopsAmong {T = T} [] all (Err stop) → StopsAmong {T = U} captures files (Err stop)
+pub stops_wider : (T U : Type 0) (captures files all : List ℕ) (stop : RunFault) → all ≡ files → StopsAmong {T = T} [] all (Err stop) → StopsAmong {T = U} captures files (Err stop)
 stops_wider T U captures files all Memory same h = tt
 stops_wider T U captures files all (File g) same (inl none) = absurd (none_in none.0 g none.1)
 stops_wider T U captures files all (File g) same (inr one) = inr (one.0, ap (λ (fs : List ℕ). slice_get fs one.0) (sym same) ∙ one.1)

@@ -19,7 +19,7 @@ use Rattle.packet_feed.specs.Sources.{files_in, sixes_in, all_left, Follows}
 use Rattle.packet_feed.specs.Feeding.{Feeding, StandsFor, AreAll, AreTorn, HasMore, shown, frame_of, original_of}
 use Rattle.packet_feed.proofs.Standing.{stands_kept}
 use Rattle.run_history.specs.declared.line.Mode.TheVariants.{One}
-use Rattle.stream_run.specs.declared.stop.Stop.{Stop}
+use Rattle.stream_run.specs.declared.fault.RunFault.{RunFault}
 use Rattle.stream_run.specs.declared.ending.Ending.TheVariants.{All, TooMany}
 use Rattle.stream_run.specs.Runs.{Handled}
 use Rattle.stream_run.specs.Texts.{bytes_of}
@@ -98,7 +98,7 @@ pub reached_more : (f : Function) (card : Card) (format : CaptureFormat) (ports 
     → ((before : Told) (given : List Arrival) → StandsFor before given feed old → StandsFor before (given ++ shown packet next ∷ []) next read)
     → original ≡ original_of next → frame ≡ frame_of next → next.given ≡ feed.given + 1
     → ((g : ℕ) → read.given g ≡ old.given g) → ((g : ℕ) → new.rest g ≡ read.rest g)
-    → HandlesOne {T = Unit {0}} {E = Stop} f ports packet original frame state after read new sinks now (Ok tt)
+    → HandlesOne {T = Unit {0}} {E = RunFault} f ports packet original frame state after read new sinks now (Ok tt)
     → Reaches f card format ports begun start next new now after
 reached_more f card format ports begun start feed next old read new sinks now state after packet original frame r feeds o fr given givens rests h =
     let one = came_to 0 packet original frame h.done in
@@ -187,12 +187,12 @@ halts_reading f card format ports begun start feed old new sinks state r same si
 }
 
 -- a packet could not be put into all files
-pub halts_writing : (f : Function) (card : Card) (format : CaptureFormat) (ports : ℕ) (begun : Feeding) (start : Told) (feed next : Feeding) (old read new : Told) (sinks now : List Holding) (state after : State) (packet : Packet) (original : ℕ) (frame : List ℕ) (stop : Stop)
+pub halts_writing : (f : Function) (card : Card) (format : CaptureFormat) (ports : ℕ) (begun : Feeding) (start : Told) (feed next : Feeding) (old read new : Told) (sinks now : List Holding) (state after : State) (packet : Packet) (original : ℕ) (frame : List ℕ) (stop : RunFault)
     → Reaches f card format ports begun start feed old sinks state
     → ((before : Told) (given : List Arrival) → StandsFor before given feed old → StandsFor before (given ++ shown packet next ∷ []) next read)
     → original ≡ original_of next → frame ≡ frame_of next → files_in next.sources ≡ files_in begun.sources → sixes_in next.sources ≡ sixes_in begun.sources → feed.given < begun.most
     → ((g : ℕ) → read.given g ≡ old.given g)
-    → HandlesOne {T = Unit {0}} {E = Stop} f ports packet original frame state after read new sinks now (Err stop)
+    → HandlesOne {T = Unit {0}} {E = RunFault} f ports packet original frame state after read new sinks now (Err stop)
     → Halts f card format ports begun start new (files_of now)
 halts_writing f card format ports begun start feed next old read new sinks now state after packet original frame stop r feeds o fr same six within givens h =
     let one = came_to 0 packet original frame h.done in

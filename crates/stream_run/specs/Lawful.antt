@@ -16,7 +16,7 @@ use Rattle.run_history.specs.declared.line.Mode.TheVariants.{One}
 use Rattle.stream_run.specs.declared.ending.Ending.{Ending}
 use Rattle.stream_run.specs.declared.ending.Ending.TheVariants.{All, TooMany}
 use Rattle.stream_run.specs.declared.ran.Ran.{Ran}
-use Rattle.stream_run.specs.declared.stop.Stop.{Stop}
+use Rattle.stream_run.specs.declared.fault.RunFault.{RunFault}
 use Rattle.stream_run.specs.Runs.{Run, Handled, course_of, arrival_in}
 use Rattle.stream_run.specs.Rules.{Rule, one_rule, IsRunBy}
 use Rattle.stream_run.specs.Texts.{file_bytes, bytes_of}
@@ -66,7 +66,7 @@ pub record IsCutShort (f : Function) (card : Card) (format : CaptureFormat) (beg
   pub lawful : (before : Told) → StandsFor before [] begun start → HoldsFronts f card format begun.most (packets_of (sixes_in begun.sources) (files_in begun.sources) before) now files
 
 -- what a run comes to
-abbrev pub Runs : Function → Card → CaptureFormat → Feeding → Told → Feeding → Told → List ℕ → Result Ran Stop → Type 0
+abbrev pub Runs : Function → Card → CaptureFormat → Feeding → Told → Feeding → Told → List ℕ → Result Ran RunFault → Type 0
 Runs f card format begun start feed now files (Ok ran) = IsFinished f card format begun start feed now files ran
 Runs f card format begun start feed now files (Err stop) = IsCutShort f card format begun start now files
 
@@ -85,11 +85,11 @@ pub record Finishes (f : Function) (card : Card) (format : CaptureFormat) (ports
   pub wholes : (k file : ℕ) → slice_get files k ≡ Some file → IsToldAs (bytes_of One 1 card format ports k hs) (now.given file)
 
 -- what handling all packets and giving what is held to the files comes to
-abbrev pub Flows : Function → Card → CaptureFormat → ℕ → Feeding → Told → Feeding → Told → List ℕ → State → Result Ending Stop → Type 0
+abbrev pub Flows : Function → Card → CaptureFormat → ℕ → Feeding → Told → Feeding → Told → List ℕ → State → Result Ending RunFault → Type 0
 Flows f card format ports begun start feed now files state (Ok ending) = Finishes f card format ports begun start feed now files ending feed.given state
 Flows f card format ports begun start feed now files state (Err stop) = Halts f card format ports begun start now files
 
 -- what a whole run comes to, of the packets that were handled
-abbrev pub Streams : Function → Card → CaptureFormat → ℕ → Feeding → Told → Feeding → Told → List ℕ → Result Ran Stop → Type 0
+abbrev pub Streams : Function → Card → CaptureFormat → ℕ → Feeding → Told → Feeding → Told → List ℕ → Result Ran RunFault → Type 0
 Streams f card format ports begun start feed now files (Ok ran) = Finishes f card format ports begun start feed now files ran.ending ran.packets ran.state
 Streams f card format ports begun start feed now files (Err stop) = Halts f card format ports begun start now files

@@ -18,8 +18,8 @@ use Rattle.packet_feed.specs.Told.{packets_of}
 use Rattle.packet_feed.specs.Sources.{files_in, sixes_in}
 use Rattle.packet_feed.specs.Feeding.{Feeding, StandsFor, AreAll, AreTorn, HasMore}
 use Rattle.run_history.specs.declared.line.Mode.TheVariants.{One}
-use Rattle.stream_run.specs.declared.stop.Stop.{Stop}
-use Rattle.stream_run.specs.declared.stop.Stop.TheVariants.{File, Memory}
+use Rattle.stream_run.specs.declared.fault.RunFault.{RunFault}
+use Rattle.stream_run.specs.declared.fault.RunFault.TheVariants.{File, Memory}
 use Rattle.stream_run.specs.declared.ending.Ending.{Ending}
 use Rattle.stream_run.specs.declared.ending.Ending.TheVariants.{All, TooMany}
 use Rattle.stream_run.specs.Runs.{Handled}
@@ -89,17 +89,17 @@ pub record Ends (f : Function) (card : Card) (format : CaptureFormat) (ports : �
   pub within : feed.given ≤ feed.most
 
 -- what a run comes to
-abbrev pub Comes : Function → Card → CaptureFormat → ℕ → Feeding → Told → Feeding → Told → List Holding → State → Result Ending Stop → Type 0
+abbrev pub Comes : Function → Card → CaptureFormat → ℕ → Feeding → Told → Feeding → Told → List Holding → State → Result Ending RunFault → Type 0
 Comes f card format ports begun start feed now sinks state (Ok ending) = Ends f card format ports begun start feed now sinks state ending
 Comes f card format ports begun start feed now sinks state (Err stop) = Halts f card format ports begun start now (files_of sinks)
 
 -- the file of a port that failed
-abbrev pub stop_on : Option ℕ → Stop
+abbrev pub stop_on : Option ℕ → RunFault
 stop_on None = Memory
 stop_on (Some file) = File file
 
 -- what a fault of the captures is for a run
-abbrev pub stop_in : List ℕ → FeedFault → Stop
+abbrev pub stop_in : List ℕ → FeedFault → RunFault
 stop_in captures (feed.NotCapture port) = Memory
 stop_in captures (feed.File port) = stop_on (slice_get captures port)
 stop_in captures feed.Memory = Memory

@@ -8,8 +8,8 @@ use Rattle.nf_base.specs.declared.done.Done.{Done}
 use Rattle.nf_files.specs.Told.{Told, IsCurrent}
 use Rattle.nf_files.specs.Causes.{Counted, Faulted}
 use Rattle.run_history.specs.declared.line.Mode.{Mode}
-use Rattle.stream_run.specs.declared.stop.Stop.{Stop}
-use Rattle.stream_run.specs.declared.stop.Stop.TheVariants.{File, Memory}
+use Rattle.stream_run.specs.declared.fault.RunFault.{RunFault}
+use Rattle.stream_run.specs.declared.fault.RunFault.TheVariants.{File, Memory}
 use Rattle.stream_run.specs.Runs.{Handled}
 use Rattle.stream_run.specs.Texts.{bytes_of, IsFrontOf}
 
@@ -53,13 +53,13 @@ GoesOn bytes given held (Ok x) = Holds bytes given held
 GoesOn bytes given held (Err e) = IsFrontIfTold bytes given
 
 -- the count of faults of a call that can be stopped: it changes where a file failed, and there alone
-abbrev pub IsStopCause : {T : Type 0} → Counted → Counted → Result T Stop → Type 0
+abbrev pub IsStopCause : {T : Type 0} → Counted → Counted → Result T RunFault → Type 0
 IsStopCause old new (Ok x) = new ≡ old
 IsStopCause old new (Err Memory) = new ≡ old
 IsStopCause old new (Err (File file)) = Faulted old new file
 
 -- a call that can be stopped, by this file or for want of memory
-abbrev pub StopsAt : {T : Type 0} → ℕ → Result T Stop → Type 0
+abbrev pub StopsAt : {T : Type 0} → ℕ → Result T RunFault → Type 0
 StopsAt file (Ok x) = Unit {0}
 StopsAt file (Err Memory) = Unit {0}
 StopsAt file (Err (File g)) = g ≡ file
@@ -69,7 +69,7 @@ abbrev pub IsOneOf : List ℕ → ℕ → Type 0
 IsOneOf files file = (k : ℕ) × (slice_get files k ≡ Some file)
 
 -- the same, by one of these files, or of those
-abbrev pub StopsAmong : {T : Type 0} → List ℕ → List ℕ → Result T Stop → Type 0
+abbrev pub StopsAmong : {T : Type 0} → List ℕ → List ℕ → Result T RunFault → Type 0
 StopsAmong files others (Ok x) = Unit {0}
 StopsAmong files others (Err Memory) = Unit {0}
 StopsAmong files others (Err (File file)) = IsOneOf files file ⊎ IsOneOf others file

@@ -3,6 +3,7 @@
 
 mod buffer;
 mod ending;
+mod fault;
 mod handled;
 mod heads;
 pub mod laws;
@@ -13,11 +14,11 @@ pub mod rules;
 mod running;
 mod sink;
 mod sinks;
-mod stop;
 mod streaming;
 mod told;
 
 pub use ending::Ending;
+pub use fault::RunFault;
 pub use handled::{HandledPacket, HandledParts};
 pub use heads::begin_sinks;
 pub use piece::push_sent;
@@ -25,6 +26,5 @@ pub use ran::Ran;
 pub use running::{handle_all, stop_in};
 pub use sink::Sink;
 pub use sinks::{flush_all, flush_full, hold_all, put_all};
-pub use stop::Stop;
 pub use streaming::run;
 pub use told::ToldFields;

@@ -17,10 +17,10 @@ ghost use Rattle.stream_run.specs.Seen.{packet_seen};
 ghost use Rattle.stream_run.specs.Streaming.{HandlesOne, Comes, stop_in};
 
 use crate::ending::Ending;
+use crate::fault::RunFault;
 use crate::handled::HandledParts;
 use crate::sink::Sink;
 use crate::sinks::put_parts;
-use crate::stop::Stop;
 use crate::told::ToldFields;
 use frame_ip::View;
 use frame_reads::FrameFields;
@@ -74,7 +74,7 @@ fn handle_one<F: Files>(
     context: &mut Context,
     sinks: &mut Seq<Sink>,
     feed: &Feed,
-) -> Result<(), Stop>
+) -> Result<(), RunFault>
     requires of_func { tables.old.decls ≡ func.now.chains }
     requires whole { tables.old.share.of ≡ 1 }
     requires port { (last_packet feed.now).id.port < length func.now.handlers }
@@ -117,7 +117,7 @@ fn handle_one<F: Files>(
 
 /// What a fault of the captures in these files is for a run whose headers were read: it is of one of
 /// them, or of none.
-pub fn stop_in(captures: &[u32], fault: FeedFault) -> Stop
+pub fn stop_in(captures: &[u32], fault: FeedFault) -> RunFault
     requires read { IsReadFault fault }
     requires one { IsOneOf captures.now fault }
     ensures { result ≡ stop_in captures.now fault }
@@ -125,10 +125,10 @@ pub fn stop_in(captures: &[u32], fault: FeedFault) -> Stop
     match fault {
         FeedFault::NotCapture { port: _ } => unreachable!(),
         FeedFault::File { port } => match captures.get(port as usize) {
-            Some(file) => Stop::File(*file),
+            Some(file) => RunFault::File(*file),
             None => unreachable!(),
         },
-        FeedFault::Memory => Stop::Memory,
+        FeedFault::Memory => RunFault::Memory,
     }
 }
 
@@ -145,7 +145,7 @@ pub fn handle_all<F: Files>(
     feed: &mut Feed,
     captures: &[u32],
     sinks: &mut Seq<Sink>,
-) -> Result<Ending, Stop>
+) -> Result<Ending, RunFault>
     requires of_func { tables.old.decls ≡ func.now.chains }
     requires whole { tables.old.share.of ≡ 1 }
     requires opens { tables.old.state ≡ opening (function_of func.now) }

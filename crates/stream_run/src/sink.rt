@@ -5,9 +5,9 @@ ghost use Rattle.stream_run.specs.Texts.{written_of, sent_bytes, line_of};
 ghost use Rattle.stream_run.specs.Writing.{Holds, GoesOn, IsLittle, KeepsOther, IsStopCause, StopsAt};
 
 use crate::buffer::Buffer;
+use crate::fault::RunFault;
 use crate::handled::HandledParts;
 use crate::piece::is_sent;
-use crate::stop::Stop;
 use capture_format::CaptureFormat;
 use nf_files::{Files, write_whole};
 use std::alloc::AllocError;
@@ -47,7 +47,7 @@ impl Sink {
 
     /// Gives all bytes to the file.
     #[inline(never)]
-    pub fn flush<F: Files>(&mut self, files: &mut F) -> Result<(), Stop>
+    pub fn flush<F: Files>(&mut self, files: &mut F) -> Result<(), RunFault>
         requires created { F.is_written files.old self.old.file }
         ensures goes_on { (bytes : List ℕ) →
             Holds bytes ((F.told files.old).given self.old.file) self.old.held →
@@ -66,13 +66,13 @@ impl Sink {
                 self.held.clear();
                 Ok(())
             }
-            Err(fault) => Err(Stop::of(self.file, fault)),
+            Err(fault) => Err(RunFault::of(self.file, fault)),
         }
     }
 
     /// Gives what is held to the file where it is much.
     #[inline(always)]
-    pub(crate) fn flush_full<F: Files>(&mut self, files: &mut F) -> Result<(), Stop>
+    pub(crate) fn flush_full<F: Files>(&mut self, files: &mut F) -> Result<(), RunFault>
         requires created { F.is_written files.old self.old.file }
         ensures goes_on { (bytes : List ℕ) →
             Holds bytes ((F.told files.old).given self.old.file) self.old.held →

@@ -11,10 +11,10 @@ ghost use Rattle.stream_run.specs.Runs.{Handled};
 ghost use Rattle.stream_run.specs.Texts.{piece, sent_in, told_in};
 ghost use Rattle.stream_run.specs.Writing.{files_of, AreGrown, AreHeld, AllGoOn, AreEmpty, HoldLittle, KeepsAllBut, IsStopCause, StopsAmong};
 
+use crate::fault::RunFault;
 use crate::handled::{HandledPacket, HandledParts};
 use crate::piece::action_of;
 use crate::sink::Sink;
-use crate::stop::Stop;
 use nf_base::done::Action;
 use nf_base::seq::Seq;
 use nf_files::Files;
@@ -127,7 +127,7 @@ fn hold_parts(
 }
 
 /// Gives to the files what is held for them where it is much.
-pub fn flush_full<F: Files>(sinks: &mut Seq<Sink>, files: &mut F) -> Result<(), Stop>
+pub fn flush_full<F: Files>(sinks: &mut Seq<Sink>, files: &mut F) -> Result<(), RunFault>
     requires created { EachFile (F.is_written files.old) (files_of sinks.old) }
     requires apart { IsApart (files_of sinks.old) }
     ensures goes_on { (mode : Mode) → (workers : ℕ) → (card : Card) →
@@ -162,7 +162,7 @@ pub(crate) fn put_parts<F: Files>(
     ports: u32,
     handled: &HandledParts,
     edited: bool,
-) -> Result<(), Stop>
+) -> Result<(), RunFault>
     requires edited { edited ≡ false → IsUnedited handled.now.done.edits }
     requires created { EachFile (F.is_written files.old) (files_of sinks.old) }
     requires apart { IsApart (files_of sinks.old) }
@@ -183,7 +183,7 @@ pub(crate) fn put_parts<F: Files>(
 {
     match hold_parts(sinks, ports, handled, edited) {
         Ok(()) => flush_full(sinks, files),
-        Err(_) => Err(Stop::Memory),
+        Err(_) => Err(RunFault::Memory),
     }
 }
 
@@ -193,7 +193,7 @@ pub fn put_all<F: Files>(
     files: &mut F,
     ports: u32,
     handled: &HandledPacket,
-) -> Result<(), Stop>
+) -> Result<(), RunFault>
     requires created { EachFile (F.is_written files.old) (files_of sinks.old) }
     requires apart { IsApart (files_of sinks.old) }
     requires few { length sinks.old ≤ 2 ^ 32 }
@@ -216,7 +216,7 @@ pub fn put_all<F: Files>(
 }
 
 /// Gives to all files what is held for them.
-pub fn flush_all<F: Files>(sinks: &mut Seq<Sink>, files: &mut F) -> Result<(), Stop>
+pub fn flush_all<F: Files>(sinks: &mut Seq<Sink>, files: &mut F) -> Result<(), RunFault>
     requires created { EachFile (F.is_written files.old) (files_of sinks.old) }
     requires apart { IsApart (files_of sinks.old) }
     ensures goes_on { (mode : Mode) → (workers : ℕ) → (card : Card) →

@@ -12,12 +12,12 @@ ghost use Rattle.stream_run.specs.Lawful.{Runs, Flows, Streams};
 ghost use Rattle.capture_format.specs.declared.format.CaptureFormat.{CaptureFormat};
 
 use crate::ending::Ending;
+use crate::fault::RunFault;
 use crate::heads::begin_sinks;
 use crate::ran::Ran;
 use crate::running::handle_all;
 use crate::sink::Sink;
 use crate::sinks::flush_all;
-use crate::stop::Stop;
 use capture_format::CaptureFormat;
 use nf_base::card::Card;
 use nf_base::func::Func;
@@ -39,7 +39,7 @@ fn flow<F: Files>(
     feed: &mut Feed,
     captures: &[u32],
     sinks: &mut Seq<Sink>,
-) -> Result<Ending, Stop>
+) -> Result<Ending, RunFault>
     requires of_func { tables.old.decls ≡ func.now.chains }
     requires whole { tables.old.share.of ≡ 1 }
     requires opens { tables.old.state ≡ opening (function_of func.now) }
@@ -79,7 +79,7 @@ fn stream<F: Files>(
     feed: &mut Feed,
     captures: &[u32],
     sinks: &mut Seq<Sink>,
-) -> Result<Ran, Stop>
+) -> Result<Ran, RunFault>
     requires captures { files_in feed.old.sources ≡ captures.now }
     requires six { sixes_in feed.old.sources ≡ six_ports (function_of func.now) }
     requires ports { length captures.now ≡ length func.now.handlers }
@@ -99,11 +99,11 @@ fn stream<F: Files>(
 {
     let mut tables = match Tables::new(alloc, func, Share { queue: 0, of: 1 }) {
         Ok(tables) => tables,
-        Err(_) => return Err(Stop::Memory),
+        Err(_) => return Err(RunFault::Memory),
     };
     let ready = match Ready::of(alloc, func) {
         Ok(ready) => ready,
-        Err(_) => return Err(Stop::Memory),
+        Err(_) => return Err(RunFault::Memory),
     };
     let ending = match flow(files, &ready, &mut tables, feed, captures, sinks) {
         Ok(ending) => ending,
@@ -115,7 +115,7 @@ fn stream<F: Files>(
             packets: feed.given(),
             state,
         }),
-        Err(_) => Err(Stop::Memory),
+        Err(_) => Err(RunFault::Memory),
     }
 }
 
@@ -135,7 +135,7 @@ pub fn run<F: Files>(
     feed: &mut Feed,
     captures: &[u32],
     targets: &[u32],
-) -> Result<Ran, Stop>
+) -> Result<Ran, RunFault>
     requires captures { files_in feed.old.sources ≡ captures.now }
     requires six { sixes_in feed.old.sources ≡ six_ports (function_of func.now) }
     requires ports { length captures.now ≡ length func.now.handlers }
@@ -160,7 +160,7 @@ pub fn run<F: Files>(
     let workers = Workers::new(1);
     let mut sinks = match begin_sinks(alloc, Mode::One, workers, card, format, ports, targets) {
         Ok(sinks) => sinks,
-        Err(_) => return Err(Stop::Memory),
+        Err(_) => return Err(RunFault::Memory),
     };
     stream(alloc, files, func, feed, captures, &mut sinks)
 }

@@ -13,7 +13,7 @@ use nf_base::func::Func;
 use nf_files::{Files, FilesFault};
 use packet_feed::{Feed, FeedFault};
 use std::alloc::Global;
-use stream_run::{Ran, Stop, run};
+use stream_run::{Ran, RunFault, run};
 
 /// Opens names to be read.
 pub fn open_all<F: Files>(
@@ -84,7 +84,7 @@ pub fn run_all<F: Files>(
     feed: &mut Feed,
     opened: &[u32],
     made: &[u32],
-) -> Result<Ran, Stop>
+) -> Result<Ran, RunFault>
     requires captures { files_in feed.old.sources ≡ opened.now }
     requires six { sixes_in feed.old.sources ≡ six_ports (function_of func.now) }
     requires ports { length opened.now ≡ length func.now.handlers }

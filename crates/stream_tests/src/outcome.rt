@@ -16,7 +16,7 @@ use nf_types::check;
 use packet_feed::{Feed, FeedFault};
 use run_history::state_text::state_text;
 use std::alloc::{AllocError, Global};
-use stream_run::{Ending, Stop};
+use stream_run::{Ending, RunFault};
 
 /// How a run ended.
 #[derive(Clone, Copy, Debug, PartialEq, Eq)]
@@ -28,7 +28,7 @@ pub enum End {
     Unstarted(FeedFault),
     /// An output or the journal could not be created.
     Uncreated,
-    Stopped(Stop),
+    Stopped(RunFault),
     /// So many packets were handled.
     Ran(Ending, u32),
 }

@@ -7,7 +7,7 @@ use nf_base::card::{Card, KeySize, TableSize};
 use packet_feed::FeedFault;
 use std::alloc::{AllocError, Global};
 use std::test::Fail;
-use stream_run::{Ending, Stop};
+use stream_run::{Ending, RunFault};
 
 /// A run, and what it comes to.
 struct Case {
@@ -288,15 +288,15 @@ fn each_call_that_fails_stops_the_run(rt: HostRuntime) -> Result<(), Fail> {
         End::Uncreated,
         End::Uncreated,
         End::Uncreated,
-        End::Stopped(Stop::File(2)),
-        End::Stopped(Stop::File(2)),
-        End::Stopped(Stop::File(3)),
-        End::Stopped(Stop::File(3)),
-        End::Stopped(Stop::File(2)),
-        End::Stopped(Stop::File(3)),
-        End::Stopped(Stop::File(4)),
-        End::Stopped(Stop::File(5)),
-        End::Stopped(Stop::File(6)),
+        End::Stopped(RunFault::File(2)),
+        End::Stopped(RunFault::File(2)),
+        End::Stopped(RunFault::File(3)),
+        End::Stopped(RunFault::File(3)),
+        End::Stopped(RunFault::File(2)),
+        End::Stopped(RunFault::File(3)),
+        End::Stopped(RunFault::File(4)),
+        End::Stopped(RunFault::File(5)),
+        End::Stopped(RunFault::File(6)),
         End::Ran(Ending::All, 2),
     ];
     for (call, end) in cases.iter().enumerate() {
@@ -327,7 +327,7 @@ fn each_call_that_fails_in_mid_stream_leaves_fronts(rt: HostRuntime) -> Result<(
             22 => 4,
             _ => 2,
         };
-        assert_eq!(rt; got.end, End::Stopped(Stop::File(file)), "call {call}");
+        assert_eq!(rt; got.end, End::Stopped(RunFault::File(file)), "call {call}");
         assert!(rt; are_fronts(&got, &whole), "call {call}");
         longest = longest.max(got.files.first().map_or(0, |file| file.len()));
     }

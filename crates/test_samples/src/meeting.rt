@@ -1,7 +1,7 @@
 //! Two workers, one of which waits for the other.
 use nf_base::packet::PacketId;
+use nf_base::worker_turns::Turns;
 use std::sync::atomic::{AtomicU64, Ordering};
-use worker_turns::Turns;
 
 /// Reads of a count after which a worker gives up.
 const READS: u64 = 200_000_000;

@@ -3,7 +3,7 @@ use Rattle.std.specs.Prelude.{◌≡◌, List}
 use Rattle.nf_base.specs.declared.keys.Keys.{Keys}
 use Rattle.nf_base.specs.Text.{Function}
 use Rattle.nf_base.specs.Runs.{Handling, Report, Meet}
-use Rattle.hash_fields.specs.Hashed.{HasInput}
+use Rattle.nf_base.specs.Hashed.{HasInput}
 use Rattle.toeplitz_hash.specs.Packets.{hash_of}
 
 -- two packets that meet in a run of a function have equal hashes

@@ -7,18 +7,18 @@ use Rattle.nf_base.specs.declared.card.Card.{Card}
 use Rattle.nf_base.specs.Text.{Function}
 use Rattle.nf_files.specs.Told.{Told, IsToldAs}
 use Rattle.packet_feed.specs.Arrivals.{Arrival}
-use Rattle.stream_run.specs.declared.stop.Stop.{Stop}
+use Rattle.stream_run.specs.declared.fault.RunFault.{RunFault}
 use Rattle.stream_run.specs.Texts.{file_bytes}
 use Rattle.stream_run.specs.Writing.{IsSameOrOther, KeepsBut, IsFrontIfTold}
 use Rattle.made_captures.specs.Told.{names_of, names_beyond, with_made}
 use Rattle.nf_files.specs.Causes.{Counted}
 use Rattle.made_captures.specs.Outputs.{Counting, journal_of, bytes_from, is_right, counts_right, is_known, flag, mark_of, told_if, told_beside}
 use Rattle.made_captures.proofs.Placing.{name_low}
-use Rattle.traffic_run.specs.declared.who.Who.{Who}
-use Rattle.traffic_run.specs.declared.who.Who.TheVariants as whos
-use Rattle.traffic_run.specs.declared.came.Left.{Left}
-use Rattle.traffic_run.specs.declared.came.Left.TheVariants.{Whole, Full}
-use Rattle.sharded_run.specs.declared.came.ShareFull.{ShareFull}
+use Rattle.traffic_run.specs.declared.worker_plan.WorkerPlan.{WorkerPlan}
+use Rattle.traffic_run.specs.declared.worker_plan.WorkerPlan.TheVariants as worker_plans
+use Rattle.traffic_run.specs.declared.result.UncountedResult.{UncountedResult}
+use Rattle.traffic_run.specs.declared.result.UncountedResult.TheVariants.{Whole, Full}
+use Rattle.sharded_run.specs.declared.result.ShareFull.{ShareFull}
 use Rattle.traffic_run.specs.Beside.{CountsTo, StaysKnown}
 use Rattle.traffic_run.specs.Runs.{IsFull, Leaves}
 
@@ -92,27 +92,27 @@ keeps_back files cs ds a b r s old new p q small k =
 
 -- ---- what was given to files
 
-pub full_back : (who : Who) (card : Card) (format : CaptureFormat) (f : Function) (arrivals : List Arrival) (told now : Told) (files : List ℕ) (full : ShareFull) → ((g : ℕ) → told.given g ≡ now.given g) → IsFull who card format f arrivals told files full → IsFull who card format f arrivals now files full
-full_back whos.One card format f arrivals told now files full same h = absurd h
-full_back (whos.Shards keys workers) card format f arrivals told now files full same h = record {
+pub full_back : (worker_plan : WorkerPlan) (card : Card) (format : CaptureFormat) (f : Function) (arrivals : List Arrival) (told now : Told) (files : List ℕ) (full : ShareFull) → ((g : ℕ) → told.given g ≡ now.given g) → IsFull worker_plan card format f arrivals told files full → IsFull worker_plan card format f arrivals now files full
+full_back worker_plans.One card format f arrivals told now files full same h = absurd h
+full_back (worker_plans.Shards keys workers) card format f arrivals told now files full same h = record {
   run = h.run;
   is_run = h.is_run;
   stops = h.stops;
   packets = h.packets;
   wholes = λ k file e. subst (IsToldAs (file_bytes format h.run k)) (same file) (h.wholes k file e);
 }
-full_back (whos.Sharing workers) card format f arrivals told now files full same h = absurd h
+full_back (worker_plans.Sharing workers) card format f arrivals told now files full same h = absurd h
 
-leaves_same : (who : Who) (card : Card) (format : CaptureFormat) (Refused : Type 0) (f : Function) (arrivals : List Arrival) (told now : Told) (files : List ℕ) (result : Result Left Stop) → ((g : ℕ) → told.given g ≡ now.given g) → Leaves who card format Refused f arrivals told files result → Leaves who card format Refused f arrivals now files result
-leaves_same who card format Refused f arrivals told now files (Ok (Whole m state)) same h = record {
+leaves_same : (worker_plan : WorkerPlan) (card : Card) (format : CaptureFormat) (Refused : Type 0) (f : Function) (arrivals : List Arrival) (told now : Told) (files : List ℕ) (result : Result UncountedResult RunFault) → ((g : ℕ) → told.given g ≡ now.given g) → Leaves worker_plan card format Refused f arrivals told files result → Leaves worker_plan card format Refused f arrivals now files result
+leaves_same worker_plan card format Refused f arrivals told now files (Ok (Whole m state)) same h = record {
   run = h.run;
   is_run = h.is_run;
   mode_is = h.mode_is;
   left = h.left;
   wholes = λ k file e. subst (IsToldAs (file_bytes format h.run k)) (same file) (h.wholes k file e);
 }
-leaves_same who card format Refused f arrivals told now files (Ok (Full full)) same h = full_back who card format f arrivals told now files full same h
-leaves_same who card format Refused f arrivals told now files (Err stop) same h = record {
+leaves_same worker_plan card format Refused f arrivals told now files (Ok (Full full)) same h = full_back worker_plan card format f arrivals told now files full same h
+leaves_same worker_plan card format Refused f arrivals told now files (Err stop) same h = record {
   run = h.run;
   given = h.given;
   first = h.first;
@@ -123,9 +123,9 @@ leaves_same who card format Refused f arrivals told now files (Err stop) same h 
 given_if : (right : Bool) (told : Told) (g : ℕ) → right ≡ true → (told_if right told).given g ≡ told.given g
 given_if right told g e = ap (λ (b : Bool). (told_if b told).given g) e
 
-pub leaves_back : (who : Who) (card : Card) (format : CaptureFormat) (Refused : Type 0) (f : Function) (arrivals : List Arrival) (captures : List (List ℕ)) (mark : List ℕ) (right : Bool) (now : Told) (files : List ℕ) (result : Result Left Stop) → right ≡ true
-    → Leaves who card format Refused f arrivals (with_made captures mark (told_if right now)) files result → Leaves who card format Refused f arrivals now files result
-leaves_back who card format Refused f arrivals captures mark right now files result e h = leaves_same who card format Refused f arrivals (with_made captures mark (told_if right now)) now files result (λ g. given_if right now g e) h
+pub leaves_back : (worker_plan : WorkerPlan) (card : Card) (format : CaptureFormat) (Refused : Type 0) (f : Function) (arrivals : List Arrival) (captures : List (List ℕ)) (mark : List ℕ) (right : Bool) (now : Told) (files : List ℕ) (result : Result UncountedResult RunFault) → right ≡ true
+    → Leaves worker_plan card format Refused f arrivals (with_made captures mark (told_if right now)) files result → Leaves worker_plan card format Refused f arrivals now files result
+leaves_back worker_plan card format Refused f arrivals captures mark right now files result e h = leaves_same worker_plan card format Refused f arrivals (with_made captures mark (told_if right now)) now files result (λ g. given_if right now g e) h
 
 pub empty_beside : (right : Bool) (told : Told) (P : Option (List ℕ) → Type 0) (g : ℕ) → right ≡ true → P (told.given g) → P ((told_if right told).given g)
 empty_beside right told P g e p = subst P (sym (given_if right told g e)) p

@@ -10,18 +10,18 @@ use Rattle.nf_base.specs.Text.{Function}
 use Rattle.nf_files.specs.Told.{Told, IsEmptyIfTold}
 use Rattle.nf_files.specs.Causes.{Counted, Faulted, FirstAfter}
 use Rattle.packet_feed.specs.Told.{IsApart}
-use Rattle.stream_run.specs.declared.stop.Stop.{Stop}
-use Rattle.stream_run.specs.declared.stop.Stop.TheVariants.{File, Memory}
+use Rattle.stream_run.specs.declared.fault.RunFault.{RunFault}
+use Rattle.stream_run.specs.declared.fault.RunFault.TheVariants.{File, Memory}
 use Rattle.stream_run.specs.Writing.{IsStopCause, StopsAmong}
 use Rattle.made_captures.specs.Captures.{first_number, numbers_of}
 use Rattle.made_captures.specs.Outputs.{sum_of, bytes_from, is_right, is_known}
 use Rattle.made_captures.proofs.Numbering.{number_at}
 use Rattle.gen_traffic.specs.Traffic.{Recipe}
 use Rattle.made_captures.specs.Laws.{arrivals_of}
-use Rattle.traffic_run.specs.declared.who.Who.{Who}
-use Rattle.traffic_run.specs.declared.came.Left.{Left}
-use Rattle.traffic_run.specs.declared.came.Left.TheVariants.{Whole, Full}
-use Rattle.traffic_run.specs.declared.came.Came.{Came}
+use Rattle.traffic_run.specs.declared.worker_plan.WorkerPlan.{WorkerPlan}
+use Rattle.traffic_run.specs.declared.result.UncountedResult.{UncountedResult}
+use Rattle.traffic_run.specs.declared.result.UncountedResult.TheVariants.{Whole, Full}
+use Rattle.traffic_run.specs.declared.result.TrafficResult.{TrafficResult}
 use Rattle.traffic_run.specs.Beside.{CountsTo, StaysKnown, told_file, told_stop, came_of}
 use Rattle.traffic_run.specs.Runs.{Leaves, Runs}
 use Rattle.traffic_run.proofs.Sending.{file_at, is_sent_by}
@@ -98,7 +98,7 @@ told_fault first n file old new past known h = record {
   missing = h.missing;
 }
 
-stop_causes : (T U : Type 0) (captures files : List ℕ) (first n : ℕ) (old new : Counted) (stop : Stop) → captures ≡ numbers_of n → length files ≡ n + 1 → ((k file : ℕ) → slice_get files k ≡ Some file → file ≡ first + k) → first + n + n < 2 ^ 32 → StaysKnown (first + n) old new
+stop_causes : (T U : Type 0) (captures files : List ℕ) (first n : ℕ) (old new : Counted) (stop : RunFault) → captures ≡ numbers_of n → length files ≡ n + 1 → ((k file : ℕ) → slice_get files k ≡ Some file → file ≡ first + k) → first + n + n < 2 ^ 32 → StaysKnown (first + n) old new
     → IsStopCause {T = T} old new (Err stop) → StopsAmong {T = T} captures files (Err stop) → IsStopCause {T = U} old new (Err (told_stop first n stop))
 stop_causes T U captures files first n old new Memory is as_many numbers low known h among = h
 stop_causes T U captures files first n old new (File file) is as_many numbers low known h (inl made) =
@@ -109,7 +109,7 @@ stop_causes T U captures files first n old new (File file) is as_many numbers lo
     let lt : own.0 < n + 1 = omega (arith, slice_get_within files own.0 file own.1, as_many) in
     subst (Faulted old new) (sym (in_told first n file (omega (arith, e)) (omega (arith, e, lt)))) h
 
-stop_among : (T U : Type 0) (captures files : List ℕ) (first n : ℕ) (stop : Stop) → captures ≡ numbers_of n → length files ≡ n + 1 → ((k file : ℕ) → slice_get files k ≡ Some file → file ≡ first + k) → first + n + n < 2 ^ 32
+stop_among : (T U : Type 0) (captures files : List ℕ) (first n : ℕ) (stop : RunFault) → captures ≡ numbers_of n → length files ≡ n + 1 → ((k file : ℕ) → slice_get files k ≡ Some file → file ≡ first + k) → first + n + n < 2 ^ 32
     → StopsAmong {T = T} captures files (Err stop) → StopsAmong {T = U} [] files (Err (told_stop first n stop))
 stop_among T U captures files first n Memory is as_many numbers low among = tt
 stop_among T U captures files first n (File file) is as_many numbers low (inl made) =
@@ -121,22 +121,22 @@ stop_among T U captures files first n (File file) is as_many numbers low (inr ow
     let lt : own.0 < n + 1 = omega (arith, slice_get_within files own.0 file own.1, as_many) in
     inr (own.0, own.1 ∙ ap Some (sym (in_told first n file (omega (arith, e)) (omega (arith, e, lt)))))
 
-pub came_causes : (format : CaptureFormat) (captures files : List ℕ) (first n bytes : ℕ) (old new : Counted) (result : Result Left Stop) → captures ≡ numbers_of n → length files ≡ n + 1 → ((k file : ℕ) → slice_get files k ≡ Some file → file ≡ first + k) → first + n + n < 2 ^ 32 → StaysKnown (first + n) old new
+pub came_causes : (format : CaptureFormat) (captures files : List ℕ) (first n bytes : ℕ) (old new : Counted) (result : Result UncountedResult RunFault) → captures ≡ numbers_of n → length files ≡ n + 1 → ((k file : ℕ) → slice_get files k ≡ Some file → file ≡ first + k) → first + n + n < 2 ^ 32 → StaysKnown (first + n) old new
     → StopsAmong captures files result → IsStopCause old new result → IsStopCause old new (came_of format first n bytes result)
 came_causes format captures files first n bytes old new (Ok (Whole m state)) is as_many numbers low known among h = h
 came_causes format captures files first n bytes old new (Ok (Full full)) is as_many numbers low known among h = h
-came_causes format captures files first n bytes old new (Err stop) is as_many numbers low known among h = stop_causes Left Came captures files first n old new stop is as_many numbers low known h among
+came_causes format captures files first n bytes old new (Err stop) is as_many numbers low known among h = stop_causes UncountedResult TrafficResult captures files first n old new stop is as_many numbers low known h among
 
-pub came_among : (format : CaptureFormat) (captures files : List ℕ) (first n bytes : ℕ) (result : Result Left Stop) → captures ≡ numbers_of n → length files ≡ n + 1 → ((k file : ℕ) → slice_get files k ≡ Some file → file ≡ first + k) → first + n + n < 2 ^ 32
+pub came_among : (format : CaptureFormat) (captures files : List ℕ) (first n bytes : ℕ) (result : Result UncountedResult RunFault) → captures ≡ numbers_of n → length files ≡ n + 1 → ((k file : ℕ) → slice_get files k ≡ Some file → file ≡ first + k) → first + n + n < 2 ^ 32
     → StopsAmong captures files result → StopsAmong [] files (came_of format first n bytes result)
 came_among format captures files first n bytes (Ok (Whole m state)) is as_many numbers low among = tt
 came_among format captures files first n bytes (Ok (Full full)) is as_many numbers low among = tt
-came_among format captures files first n bytes (Err stop) is as_many numbers low among = stop_among Left Came captures files first n stop is as_many numbers low among
+came_among format captures files first n bytes (Err stop) is as_many numbers low among = stop_among UncountedResult TrafficResult captures files first n stop is as_many numbers low among
 
 -- ---- what a run came to
 
-pub came_runs : (who : Who) (card : Card) (format : CaptureFormat) (Refused : Type 0) (f : Function) (made : Recipe) (now : Told) (files : List ℕ) (first n bytes : ℕ) (result : Result Left Stop) → length (arrivals_of made) < 2 ^ 32 → length f.handlers ≡ n → n ≤ 4 → length files ≡ n + 1 → ((k file : ℕ) → slice_get files k ≡ Some file → file ≡ first + k)
-    → CountsTo first n now bytes → Leaves who card format Refused f (arrivals_of made) now files result → Runs who card format Refused f (arrivals_of made) now files first (came_of format first n bytes result)
-came_runs who card format Refused f made now files first n bytes (Ok (Whole m state)) short ports few as_many numbers right h = record { whole = h; sent_is = is_sent_by who card format Refused f made now files m state h first n bytes short ports few as_many numbers right }
-came_runs who card format Refused f made now files first n bytes (Ok (Full full)) short ports few as_many numbers right h = h
-came_runs who card format Refused f made now files first n bytes (Err stop) short ports few as_many numbers right h = h
+pub came_runs : (worker_plan : WorkerPlan) (card : Card) (format : CaptureFormat) (Refused : Type 0) (f : Function) (made : Recipe) (now : Told) (files : List ℕ) (first n bytes : ℕ) (result : Result UncountedResult RunFault) → length (arrivals_of made) < 2 ^ 32 → length f.handlers ≡ n → n ≤ 4 → length files ≡ n + 1 → ((k file : ℕ) → slice_get files k ≡ Some file → file ≡ first + k)
+    → CountsTo first n now bytes → Leaves worker_plan card format Refused f (arrivals_of made) now files result → Runs worker_plan card format Refused f (arrivals_of made) now files first (came_of format first n bytes result)
+came_runs worker_plan card format Refused f made now files first n bytes (Ok (Whole m state)) short ports few as_many numbers right h = record { whole = h; sent_is = is_sent_by worker_plan card format Refused f made now files m state h first n bytes short ports few as_many numbers right }
+came_runs worker_plan card format Refused f made now files first n bytes (Ok (Full full)) short ports few as_many numbers right h = h
+came_runs worker_plan card format Refused f made now files first n bytes (Err stop) short ports few as_many numbers right h = h

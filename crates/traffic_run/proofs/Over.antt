@@ -23,19 +23,19 @@ use Rattle.stream_run.specs.Lawful.{AreTheFirst, IsRunOver}
 use Rattle.stream_run.specs.Lawful as one
 use Rattle.stream_run.proofs.Complete.{empty_front}
 use Rattle.stream_run.proofs.Ruled.{nothing_is}
-use Rattle.sharded_run.specs.declared.came.ShareFull.{ShareFull}
+use Rattle.sharded_run.specs.declared.result.ShareFull.{ShareFull}
 use Rattle.sharded_run.specs.Sharded as sharded
 use Rattle.sharded_run.specs.Lawful as shards
-use Rattle.locked_run.specs.declared.came.Came.{Came}
+use Rattle.locked_run.specs.declared.result.LockedResult.{LockedResult}
 use Rattle.locked_run.specs.Lawful as locked
 use Rattle.gen_traffic.specs.Traffic.{Recipe, traffic}
 use Rattle.gen_traffic.proofs.Streams.{counted}
 use Rattle.made_captures.specs.Laws.{arrival_of, arrivals_of}
-use Rattle.traffic_run.specs.declared.who.Who.{Who}
-use Rattle.traffic_run.specs.declared.who.Who.TheVariants.{One, Shards, Sharing}
-use Rattle.stream_run.specs.declared.stop.Stop.{Stop}
-use Rattle.traffic_run.specs.declared.came.Left.{Left}
-use Rattle.traffic_run.specs.declared.came.Left.TheVariants as left
+use Rattle.traffic_run.specs.declared.worker_plan.WorkerPlan.{WorkerPlan}
+use Rattle.traffic_run.specs.declared.worker_plan.WorkerPlan.TheVariants.{One, Shards, Sharing}
+use Rattle.stream_run.specs.declared.fault.RunFault.{RunFault}
+use Rattle.traffic_run.specs.declared.result.UncountedResult.{UncountedResult}
+use Rattle.traffic_run.specs.declared.result.UncountedResult.TheVariants as left
 use Rattle.traffic_run.specs.Started.{HasStarted}
 use Rattle.traffic_run.specs.Runs.{IsDue, IsWhole, AreBefore, IsStopped, AreFirst, IsCutShort, Leaves}
 
@@ -47,15 +47,15 @@ arrivals_long r = length-map (traffic r) arrival_of ∙ (counted r).count
 -- ---- nothing was handled
 
 -- a rule that is due before any packet came
-first_due : (who : Who) (Refused : Type 0) → (rule : Rule) × IsDue who Refused rule
+first_due : (worker_plan : WorkerPlan) (Refused : Type 0) → (rule : Rule) × IsDue worker_plan Refused rule
 first_due One Refused = (one_rule, refl)
 first_due (Shards keys workers) Refused = (shard_rule keys workers, refl)
 first_due (Sharing workers) Refused = (lock_rule workers, inl refl)
 
 -- where files are empty, each holds a front of what a run over no packet leaves there
-pub none_by : (who : Who) (card : Card) (format : CaptureFormat) (Refused : Type 0) (f : Function) (arrivals : List Arrival) (now : Told) (files : List ℕ) → ((k file : ℕ) → slice_get files k ≡ Some file → IsEmptyIfTold (now.given file)) → IsCutShort who card format Refused f arrivals now files
-none_by who card format Refused f arrivals now files empty =
-    let due = first_due who Refused in
+pub none_by : (worker_plan : WorkerPlan) (card : Card) (format : CaptureFormat) (Refused : Type 0) (f : Function) (arrivals : List Arrival) (now : Told) (files : List ℕ) → ((k file : ℕ) → slice_get files k ≡ Some file → IsEmptyIfTold (now.given file)) → IsCutShort worker_plan card format Refused f arrivals now files
+none_by worker_plan card format Refused f arrivals now files empty =
+    let due = first_due worker_plan Refused in
     let r : Run = record { function = f; mode = due.0.mode; workers = due.0.workers; card = card; turns = [] } in
     record {
       run = r;
@@ -148,7 +148,7 @@ cut_shards card format Refused f keys workers six captures begun start arrivals 
 
 -- ---- by several that share all tables
 
-pub whole_sharing : (card : Card) (format : CaptureFormat) (Refused : Type 0) (f : Function) (workers : ℕ) (six : List Bool) (captures : List ℕ) (begun : Feeding) (start : Told) (arrivals : List Arrival) (later : Feeding) (now : Told) (files : List ℕ) (came : Came) (h : HasStarted six captures begun start arrivals)
+pub whole_sharing : (card : Card) (format : CaptureFormat) (Refused : Type 0) (f : Function) (workers : ℕ) (six : List Bool) (captures : List ℕ) (begun : Feeding) (start : Told) (arrivals : List Arrival) (later : Feeding) (now : Told) (files : List ℕ) (came : LockedResult) (h : HasStarted six captures begun start arrivals)
     → locked.IsFinished f workers card format Refused begun start later now files came → IsWhole (Sharing workers) card format Refused f arrivals now files came.mode came.ran.state
 whole_sharing card format Refused f workers six captures begun start arrivals later now files came h k = record {
   run = k.run;
@@ -179,12 +179,12 @@ still_empty files old new same empty k file e = subst IsEmptyIfTold (sym (same f
 
 -- ---- a gate that isn't asked may have refused or not
 
-pub one_whole : (card : Card) (format : CaptureFormat) (Refused : Type 0) (f : Function) (arrivals : List Arrival) (now : Told) (files : List ℕ) (result : Result Left Stop) → Leaves One card format ⊥ f arrivals now files result → Leaves One card format Refused f arrivals now files result
+pub one_whole : (card : Card) (format : CaptureFormat) (Refused : Type 0) (f : Function) (arrivals : List Arrival) (now : Told) (files : List ℕ) (result : Result UncountedResult RunFault) → Leaves One card format ⊥ f arrivals now files result → Leaves One card format Refused f arrivals now files result
 one_whole card format Refused f arrivals now files (Ok (left.Whole m state)) h = record { run = h.run; is_run = record { rule = h.is_run.rule; due = h.is_run.due; is_run = h.is_run.is_run }; mode_is = h.mode_is; left = h.left; wholes = h.wholes }
 one_whole card format Refused f arrivals now files (Ok (left.Full full)) h = absurd h
 one_whole card format Refused f arrivals now files (Err stop) h = record { run = h.run; given = h.given; first = h.first; is_run = record { rule = h.is_run.rule; due = h.is_run.due; is_run = h.is_run.is_run }; fronts = h.fronts }
 
-pub shards_whole : (card : Card) (format : CaptureFormat) (Refused : Type 0) (f : Function) (keys : Keys) (workers : ℕ) (arrivals : List Arrival) (now : Told) (files : List ℕ) (result : Result Left Stop) → Leaves (Shards keys workers) card format ⊥ f arrivals now files result → Leaves (Shards keys workers) card format Refused f arrivals now files result
+pub shards_whole : (card : Card) (format : CaptureFormat) (Refused : Type 0) (f : Function) (keys : Keys) (workers : ℕ) (arrivals : List Arrival) (now : Told) (files : List ℕ) (result : Result UncountedResult RunFault) → Leaves (Shards keys workers) card format ⊥ f arrivals now files result → Leaves (Shards keys workers) card format Refused f arrivals now files result
 shards_whole card format Refused f keys workers arrivals now files (Ok (left.Whole m state)) h = record { run = h.run; is_run = record { rule = h.is_run.rule; due = h.is_run.due; is_run = h.is_run.is_run }; mode_is = h.mode_is; left = h.left; wholes = h.wholes }
 shards_whole card format Refused f keys workers arrivals now files (Ok (left.Full full)) h = h
 shards_whole card format Refused f keys workers arrivals now files (Err stop) h = record { run = h.run; given = h.given; first = h.first; is_run = record { rule = h.is_run.rule; due = h.is_run.due; is_run = h.is_run.is_run }; fronts = h.fronts }

@@ -30,8 +30,8 @@ use Rattle.stream_run.proofs.Edited.{packet_long}
 use Rattle.gen_traffic.specs.Traffic.{Recipe, sent_from as sent_by}
 use Rattle.made_captures.specs.Laws.{arrival_of, arrivals_of}
 use Rattle.made_captures.specs.Outputs.{sum_of, bytes_from, is_right}
-use Rattle.traffic_run.specs.declared.who.Who.{Who}
-use Rattle.traffic_run.specs.declared.who.Who.TheVariants.{One, Shards, Sharing}
+use Rattle.traffic_run.specs.declared.worker_plan.WorkerPlan.{WorkerPlan}
+use Rattle.traffic_run.specs.declared.worker_plan.WorkerPlan.TheVariants.{One, Shards, Sharing}
 use Rattle.traffic_run.specs.Runs.{IsDue, IsRunOf, IsWhole, sent_from, sent_in, AreTold, IsSent}
 use Rattle.traffic_run.specs.Sent.{length_of_42, records_in}
 use Rattle.traffic_run.specs.Beside.{CountsTo}
@@ -161,19 +161,19 @@ count_is Pcapng n s bytes few small right =
 
 -- ---- whose run it is
 
-pub function_by : (who : Who) (card : Card) (Refused : Type 0) (f : Function) (arrivals : List Arrival) (r : Run) → IsRunOf who card Refused f arrivals r → r.function ≡ f
-function_by who card Refused f arrivals r is = is.is_run.function
+pub function_by : (worker_plan : WorkerPlan) (card : Card) (Refused : Type 0) (f : Function) (arrivals : List Arrival) (r : Run) → IsRunOf worker_plan card Refused f arrivals r → r.function ≡ f
+function_by worker_plan card Refused f arrivals r is = is.is_run.function
 
 -- but in mode `lock` packets are handled as they are given
-as_given : (who : Who) (Refused : Type 0) (rule : Rule) → IsDue who Refused rule → rule.mode ≢ mode.Lock → rule.order ≡ AsGiven
+as_given : (worker_plan : WorkerPlan) (Refused : Type 0) (rule : Rule) → IsDue worker_plan Refused rule → rule.mode ≢ mode.Lock → rule.order ≡ AsGiven
 as_given One Refused rule e other = ap (λ (x : Rule). x.order) e
 as_given (Shards keys workers) Refused rule e other = ap (λ (x : Rule). x.order) e
 as_given (Sharing workers) Refused rule (inl e) other = absurd (other (ap (λ (x : Rule). x.mode) e))
 as_given (Sharing workers) Refused rule (inr e) other = ap (λ (x : Rule). x.order) e.1
 
-order_by : (who : Who) (card : Card) (Refused : Type 0) (f : Function) (arrivals : List Arrival) (r : Run) → IsRunOf who card Refused f arrivals r → r.mode ≢ mode.Lock → map arrival_in r.turns ≡ arrivals
-order_by who card Refused f arrivals r is other =
-    subst (λ (o : Order). Keeps o arrivals (map arrival_in r.turns)) (as_given who Refused is.rule is.due (λ e. other (is.is_run.mode ∙ e))) is.is_run.order
+order_by : (worker_plan : WorkerPlan) (card : Card) (Refused : Type 0) (f : Function) (arrivals : List Arrival) (r : Run) → IsRunOf worker_plan card Refused f arrivals r → r.mode ≢ mode.Lock → map arrival_in r.turns ≡ arrivals
+order_by worker_plan card Refused f arrivals r is other =
+    subst (λ (o : Order). Keeps o arrivals (map arrival_in r.turns)) (as_given worker_plan Refused is.rule is.due (λ e. other (is.is_run.mode ∙ e))) is.is_run.order
 
 sent_of : (format : CaptureFormat) (made : Recipe) (r : Run) (now : Told) (files : List ℕ) (first n bytes : ℕ) → map arrival_in r.turns ≡ arrivals_of made → length (map arrival_in r.turns) < 2 ^ 32 → length r.function.handlers ≡ n → n ≤ 4 → length files ≡ n + 1
     → ((k file : ℕ) → slice_get files k ≡ Some file → file ≡ first + k) → ((k file : ℕ) → slice_get files k ≡ Some file → IsToldAs (file_bytes format r k) (now.given file)) → CountsTo first n now bytes
@@ -189,8 +189,8 @@ sent_of format made r now files first n bytes packets short ports few as_many nu
     let sum : is_right (Some (head_length format * n + length_of_42 format * sent_from hs 0 n)) bytes ≡ true = subst (λ (o : Option ℕ). is_right o bytes ≡ true) (ap (λ (f : ℕ). bytes_from now.given f n) (sym zeroth) ∙ given) right in
     count_is format n (sent_from hs 0 n) bytes few (sent_small hs 0 n lots) sum ∙ ap (sent_from hs 0) (sym ports)
 
-pub is_sent_by : (who : Who) (card : Card) (format : CaptureFormat) (Refused : Type 0) (f : Function) (made : Recipe) (now : Told) (files : List ℕ) (m : Mode) (state : State) (w : IsWhole who card format Refused f (arrivals_of made) now files m state) (first n bytes : ℕ) → length (arrivals_of made) < 2 ^ 32 → length f.handlers ≡ n → n ≤ 4 → length files ≡ n + 1
+pub is_sent_by : (worker_plan : WorkerPlan) (card : Card) (format : CaptureFormat) (Refused : Type 0) (f : Function) (made : Recipe) (now : Told) (files : List ℕ) (m : Mode) (state : State) (w : IsWhole worker_plan card format Refused f (arrivals_of made) now files m state) (first n bytes : ℕ) → length (arrivals_of made) < 2 ^ 32 → length f.handlers ≡ n → n ≤ 4 → length files ≡ n + 1
     → ((k file : ℕ) → slice_get files k ≡ Some file → file ≡ first + k) → CountsTo first n now bytes → IsSent now first w.run (records_in format bytes n)
-is_sent_by who card format Refused f made now files m state w first n bytes short ports few as_many numbers right other told =
-    let packets = order_by who card Refused f (arrivals_of made) w.run w.is_run other in
-    sent_of format made w.run now files first n bytes packets (omega (arith, short, ap (λ (t : List Arrival). length t) packets)) (ap (λ (g : Function). length g.handlers) (function_by who card Refused f (arrivals_of made) w.run w.is_run) ∙ ports) few as_many numbers w.wholes right told
+is_sent_by worker_plan card format Refused f made now files m state w first n bytes short ports few as_many numbers right other told =
+    let packets = order_by worker_plan card Refused f (arrivals_of made) w.run w.is_run other in
+    sent_of format made w.run now files first n bytes packets (omega (arith, short, ap (λ (t : List Arrival). length t) packets)) (ap (λ (g : Function). length g.handlers) (function_by worker_plan card Refused f (arrivals_of made) w.run w.is_run) ∙ ports) few as_many numbers w.wholes right told

@@ -3,13 +3,13 @@ use Rattle.std.specs.Prelude.{◌≡◌, ℕ, ◌+◌, ◌≤◌, true, List, So
 use Rattle.capture_format.specs.declared.format.CaptureFormat.{CaptureFormat}
 use Rattle.nf_files.specs.Told.{Told}
 use Rattle.nf_files.specs.Causes.{Counted}
-use Rattle.stream_run.specs.declared.stop.Stop.{Stop}
-use Rattle.stream_run.specs.declared.stop.Stop.TheVariants.{File, Memory}
+use Rattle.stream_run.specs.declared.fault.RunFault.{RunFault}
+use Rattle.stream_run.specs.declared.fault.RunFault.TheVariants.{File, Memory}
 use Rattle.made_captures.specs.Outputs.{Counting, journal_of, bytes_from, is_right, is_known}
-use Rattle.traffic_run.specs.declared.came.Left.{Left}
-use Rattle.traffic_run.specs.declared.came.Left.TheVariants as left
-use Rattle.traffic_run.specs.declared.came.Came.{Came}
-use Rattle.traffic_run.specs.declared.came.Came.TheVariants as came
+use Rattle.traffic_run.specs.declared.result.UncountedResult.{UncountedResult}
+use Rattle.traffic_run.specs.declared.result.UncountedResult.TheVariants as left
+use Rattle.traffic_run.specs.declared.result.TrafficResult.{TrafficResult}
+use Rattle.traffic_run.specs.declared.result.TrafficResult.TheVariants as came
 use Rattle.traffic_run.specs.Sent.{records_in}
 
 -- none of the files stands behind the journal
@@ -29,12 +29,13 @@ StaysKnown last old new = is_known last new.first ≡ is_known last old.first
 abbrev pub told_file : ℕ → ℕ → ℕ → ℕ
 told_file first ports file = if nat_le first file then (if nat_le file (first + ports) then file else first) else first
 
-abbrev pub told_stop : ℕ → ℕ → Stop → Stop
+abbrev pub told_stop : ℕ → ℕ → RunFault → RunFault
 told_stop first ports (File file) = File (told_file first ports file)
 told_stop first ports Memory = Memory
 
 -- what a run came to, whose outputs were given so many bytes
-abbrev pub came_of : CaptureFormat → ℕ → ℕ → ℕ → Result Left Stop → Result Came Stop
+abbrev pub came_of : CaptureFormat → ℕ → ℕ → ℕ → Result UncountedResult RunFault →
+    Result TrafficResult RunFault
 came_of format first ports bytes (Ok (left.Whole m state)) = Ok (came.Whole m state (records_in format bytes ports))
 came_of format first ports bytes (Ok (left.Full full)) = Ok (came.Full full)
 came_of format first ports bytes (Err stop) = Err (told_stop first ports stop)

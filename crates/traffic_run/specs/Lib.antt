@@ -1,4 +1,4 @@
-pub mod Asked
+pub mod TrafficSpecs
 pub mod Runs
 pub mod Sent
 pub mod Started

@@ -7,38 +7,38 @@ ghost use Rattle.lock_mode.specs.Gates.{Rose};
 ghost use Rattle.nf_files.specs.Told.{IsEmptyIfTold};
 ghost use Rattle.packet_feed.specs.Told.{EachFile, IsApart};
 ghost use Rattle.stream_run.specs.Writing.{KeepsBut, IsStopCause, StopsAmong};
-ghost use Rattle.traffic_run.specs.Asked.{asked_for};
+ghost use Rattle.traffic_run.specs.TrafficSpecs.{asked_for};
 ghost use Rattle.traffic_run.specs.Runs.{ArePackets, Leaves, Serves};
 ghost use Rattle.traffic_run.specs.Started.{HasStarted};
-ghost use Rattle.traffic_run.specs.declared.who.Who.TheVariants.{One, Shards, Sharing};
+ghost use Rattle.traffic_run.specs.declared.worker_plan.WorkerPlan.TheVariants.{One, Shards, Sharing};
 
-use crate::asked::Asked;
-use crate::came::Left;
-use crate::who::Who;
+use crate::result::UncountedResult;
+use crate::traffic_spec::TrafficSpec;
+use crate::worker_plan::WorkerPlan;
 use lock_mode::Gate;
 use nf_base::func::Func;
 use nf_base::keys::Keys;
+use nf_base::worker_turns::Turns;
 use nf_base::workers::Workers;
 use nf_files::Files;
 use packet_feed::Feed;
 use run_history::line::Mode;
-use sharded_run::Came;
+use sharded_run::ShardedResult;
 use std::alloc::Global;
 use std::sync::{Arc, Wait};
 use std::thread::Threads;
-use stream_run::{Stop, stop_in};
-use worker_turns::Turns;
+use stream_run::{RunFault, stop_in};
 
 // By one worker.
 fn run_one<F: Files>(
     alloc: Global,
     files: &mut F,
     func: &Func,
-    asked: &Asked,
+    asked: &TrafficSpec,
     feed: &mut Feed,
     captures: &[u32],
     targets: &[u32],
-) -> Result<Left, Stop>
+) -> Result<UncountedResult, RunFault>
     requires started { let all = asked_for asked.now (length func.now.handlers) in
         let six = six_ports (function_of func.now) in
         HasStarted six captures.now feed.old (F.told files.old) all }
@@ -60,7 +60,7 @@ fn run_one<F: Files>(
 {
     let (card, format) = (asked.card, asked.format);
     match stream_run::run(alloc, files, func, card, format, feed, captures, targets) {
-        Ok(ran) => Ok(Left::Whole {
+        Ok(ran) => Ok(UncountedResult::Whole {
             mode: Mode::One,
             state: ran.state,
         }),
@@ -80,12 +80,12 @@ fn run_shards<
     func: &Func,
     keys: &Keys,
     workers: Workers,
-    asked: &Asked,
+    asked: &TrafficSpec,
     feed: &mut Feed,
     captures: &[u32],
     targets: &[u32],
     turns: &Arc<T>,
-) -> Result<Left, Stop>
+) -> Result<UncountedResult, RunFault>
     requires started { let all = asked_for asked.now (length func.now.handlers) in
         let six = six_ports (function_of func.now) in
         HasStarted six captures.now feed.old (F.told files.old) all }
@@ -102,8 +102,8 @@ fn run_shards<
     requires empty { (k : ℕ) → (file : ℕ) → slice_get targets.now k ≡ Some file →
         IsEmptyIfTold ((F.told files.old).given file) }
     ensures leaves { let all = asked_for asked.now (length func.now.handlers) in
-        let who = Shards keys.now workers in
-        Leaves who asked.now.card asked.now.format ⊥ (function_of func.now) all
+        let worker_plan = Shards keys.now workers in
+        Leaves worker_plan asked.now.card asked.now.format ⊥ (function_of func.now) all
         (F.told files.new) targets.now result }
     ensures kept { KeepsBut targets.now (F.told files.old) (F.told files.new) }
     ensures cause { IsStopCause (F.counted files.old) (F.counted files.new) result }
@@ -123,11 +123,11 @@ fn run_shards<
         targets,
         turns,
     ) {
-        Ok(Came::Ran(ran)) => Ok(Left::Whole {
+        Ok(ShardedResult::Ran(ran)) => Ok(UncountedResult::Whole {
             mode: Mode::Shard,
             state: ran.state,
         }),
-        Ok(Came::Full(full)) => Ok(Left::Full(full)),
+        Ok(ShardedResult::Full(full)) => Ok(UncountedResult::Full(full)),
         Err(stop) => Err(stop),
     }
 }
@@ -139,13 +139,13 @@ fn run_sharing<R: Threads + Wait + Sync, F: Files, T: Turns + Sync, G: Gate + Dr
     files: &mut F,
     func: &Func,
     workers: Workers,
-    asked: &Asked,
+    asked: &TrafficSpec,
     feed: &mut Feed,
     captures: &[u32],
     targets: &[u32],
     turns: &T,
     gate: &mut G,
-) -> Result<Left, Stop>
+) -> Result<UncountedResult, RunFault>
     requires started { let all = asked_for asked.now (length func.now.handlers) in
         let six = six_ports (function_of func.now) in
         HasStarted six captures.now feed.old (F.told files.old) all }
@@ -181,7 +181,7 @@ fn run_sharing<R: Threads + Wait + Sync, F: Files, T: Turns + Sync, G: Gate + Dr
         turns,
         gate,
     ) {
-        Ok(came) => Ok(Left::Whole {
+        Ok(came) => Ok(UncountedResult::Whole {
             mode: came.mode,
             state: came.ran.state,
         }),
@@ -200,18 +200,18 @@ fn run_by<
     alloc: Global,
     files: &mut F,
     func: &Func,
-    who: &Who,
-    asked: &Asked,
+    worker_plan: &WorkerPlan,
+    asked: &TrafficSpec,
     feed: &mut Feed,
     captures: &[u32],
     targets: &[u32],
     turns: &Arc<T>,
     gate: &mut G,
-) -> Result<Left, Stop>
+) -> Result<UncountedResult, RunFault>
     requires started { let all = asked_for asked.now (length func.now.handlers) in
         let six = six_ports (function_of func.now) in
         HasStarted six captures.now feed.old (F.told files.old) all }
-    requires serves { Serves (function_of func.now) who.now }
+    requires serves { Serves (function_of func.now) worker_plan.now }
     requires ports { length captures.now ≡ length func.now.handlers }
     requires some_port { 1 ≤ length func.now.handlers }
     requires few_ports { length captures.now ≤ 4 }
@@ -223,18 +223,18 @@ fn run_by<
         IsEmptyIfTold ((F.told files.old).given file) }
     ensures leaves { let Refused = Rose (G.refused gate.old) (G.refused gate.new) in
         let all = asked_for asked.now (length func.now.handlers) in
-        Leaves who.now asked.now.card asked.now.format Refused (function_of func.now) all
+        Leaves worker_plan.now asked.now.card asked.now.format Refused (function_of func.now) all
         (F.told files.new) targets.now result }
     ensures kept { KeepsBut targets.now (F.told files.old) (F.told files.new) }
     ensures cause { IsStopCause (F.counted files.old) (F.counted files.new) result }
     ensures among { StopsAmong captures.now targets.now result }
 {
-    match who {
-        Who::One => run_one(alloc, files, func, asked, feed, captures, targets),
-        Who::Shards(keys, workers) => run_shards(
+    match worker_plan {
+        WorkerPlan::One => run_one(alloc, files, func, asked, feed, captures, targets),
+        WorkerPlan::Shards(keys, workers) => run_shards(
             rt, alloc, files, func, keys, *workers, asked, feed, captures, targets, turns,
         ),
-        Who::Sharing(workers) => run_sharing(
+        WorkerPlan::Sharing(workers) => run_sharing(
             rt, alloc, files, func, *workers, asked, feed, captures, targets, &**turns, gate,
         ),
     }
@@ -251,14 +251,14 @@ pub(crate) fn run_over<
     alloc: Global,
     files: &mut F,
     func: &Func,
-    who: &Who,
-    asked: &Asked,
+    worker_plan: &WorkerPlan,
+    asked: &TrafficSpec,
     captures: &[u32],
     targets: &[u32],
     turns: &Arc<T>,
     gate: &mut G,
-) -> Result<Left, Stop>
-    requires serves { Serves (function_of func.now) who.now }
+) -> Result<UncountedResult, RunFault>
+    requires serves { Serves (function_of func.now) worker_plan.now }
     requires made { let all = asked_for asked.now (length func.now.handlers) in
         ArePackets (six_ports (function_of func.now)) captures.now (F.told files.old) all }
     requires alone { IsApart captures.now }
@@ -273,7 +273,7 @@ pub(crate) fn run_over<
         IsEmptyIfTold ((F.told files.old).given file) }
     ensures leaves { let Refused = Rose (G.refused gate.old) (G.refused gate.new) in
         let all = asked_for asked.now (length func.now.handlers) in
-        Leaves who.now asked.now.card asked.now.format Refused (function_of func.now) all
+        Leaves worker_plan.now asked.now.card asked.now.format Refused (function_of func.now) all
         (F.told files.new) targets.now result }
     ensures kept { KeepsBut targets.now (F.told files.old) (F.told files.new) }
     ensures cause { IsStopCause (F.counted files.old) (F.counted files.new) result }
@@ -281,7 +281,17 @@ pub(crate) fn run_over<
 {
     match Feed::start(alloc, files, func, captures, asked.count) {
         Ok(mut feed) => run_by(
-            rt, alloc, files, func, who, asked, &mut feed, captures, targets, turns, gate,
+            rt,
+            alloc,
+            files,
+            func,
+            worker_plan,
+            asked,
+            &mut feed,
+            captures,
+            targets,
+            turns,
+            gate,
         ),
         Err(fault) => Err(stop_in(captures, fault)),
     }

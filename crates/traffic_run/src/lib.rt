@@ -1,14 +1,14 @@
 //! Runs over made-up traffic: as runs over captures are, but none is opened.
 #![tactic(auto)]
 
-mod asked;
-mod came;
 mod handling;
+mod result;
 mod running;
 mod sent;
-mod who;
+mod traffic_spec;
+mod worker_plan;
 
-pub use asked::Asked;
-pub use came::Came;
+pub use result::TrafficResult;
 pub use running::run;
-pub use who::Who;
+pub use traffic_spec::TrafficSpec;
+pub use worker_plan::WorkerPlan;

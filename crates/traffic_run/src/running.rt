@@ -9,26 +9,26 @@ ghost use Rattle.stream_run.specs.Writing.{KeepsBut, IsStopCause, StopsAmong};
 ghost use Rattle.made_captures.specs.Captures.{IsMade, numbers_of};
 ghost use Rattle.made_captures.specs.Told.{with_made};
 ghost use Rattle.made_captures.specs.Outputs.{counts_right, is_known, journal_of, told_beside};
-ghost use Rattle.traffic_run.specs.Asked.{asked_for};
+ghost use Rattle.traffic_run.specs.TrafficSpecs.{asked_for};
 ghost use Rattle.traffic_run.specs.Runs.{ArePackets, Leaves, Serves, Runs};
 ghost use Rattle.traffic_run.specs.Beside.{AreBefore, CountsTo, StaysKnown, told_file, told_stop, came_of};
 
-use crate::asked::Asked;
-use crate::came::{Came, Left};
 use crate::handling::run_over;
+use crate::result::{TrafficResult, UncountedResult};
 use crate::sent::records_in;
-use crate::who::Who;
+use crate::traffic_spec::TrafficSpec;
+use crate::worker_plan::WorkerPlan;
 use capture_format::CaptureFormat;
 use lock_mode::Gate;
 use made_captures::laws::captures_are_traffic;
 use made_captures::{Captures, MadeCaptures, Outputs};
 use nf_base::func::Func;
+use nf_base::worker_turns::Turns;
 use nf_files::Files;
 use std::alloc::Global;
 use std::sync::{Arc, Wait};
 use std::thread::Threads;
-use stream_run::Stop;
-use worker_turns::Turns;
+use stream_run::RunFault;
 
 // Packets are handled of captures that stand beside the files.
 fn run_beside<
@@ -42,14 +42,14 @@ fn run_beside<
     alloc: Global,
     beside: &mut MadeCaptures<'a, F>,
     func: &Func,
-    who: &Who,
-    asked: &Asked,
+    worker_plan: &WorkerPlan,
+    asked: &TrafficSpec,
     captures: &[u32],
     targets: &[u32],
     turns: &Arc<T>,
     gate: &mut G,
-) -> Result<Left, Stop>
-    requires serves { Serves (function_of func.now) who.now }
+) -> Result<UncountedResult, RunFault>
+    requires serves { Serves (function_of func.now) worker_plan.now }
     requires right { counts_right beside.old.outputs (F.told beside.old.files.now) ≡ true }
     requires made { let all = asked_for asked.now (length func.now.handlers) in
         let six = six_ports (function_of func.now) in
@@ -69,7 +69,7 @@ fn run_beside<
     ensures same_files { beside.new.files.ghost_name ≡ beside.old.files.ghost_name }
     ensures leaves { let Refused = Rose (G.refused gate.old) (G.refused gate.new) in
         let all = asked_for asked.now (length func.now.handlers) in
-        Leaves who.now asked.now.card asked.now.format Refused (function_of func.now) all
+        Leaves worker_plan.now asked.now.card asked.now.format Refused (function_of func.now) all
         (F.told beside.new.files.now) targets.now result }
     ensures counts { let c = beside.old.outputs in
         CountsTo c.first c.count (F.told beside.new.files.now) beside.new.outputs.bytes }
@@ -82,14 +82,23 @@ fn run_beside<
     ensures among { StopsAmong captures.now targets.now result }
 {
     run_over(
-        rt, alloc, beside, func, who, asked, captures, targets, turns, gate,
+        rt,
+        alloc,
+        beside,
+        func,
+        worker_plan,
+        asked,
+        captures,
+        targets,
+        turns,
+        gate,
     )
 }
 
 /// What handling packets came to, and how many bytes the outputs were given, modulo 2^64.
 #[derive(Drop)]
 struct Handled {
-    result: Result<Left, Stop>,
+    result: Result<UncountedResult, RunFault>,
     bytes: u64,
 }
 
@@ -105,15 +114,15 @@ fn run_made<
     files: &mut F,
     made: Captures,
     func: &Func,
-    who: &Who,
-    asked: &Asked,
+    worker_plan: &WorkerPlan,
+    asked: &TrafficSpec,
     captures: &[u32],
     first: u32,
     targets: &[u32],
     turns: &Arc<T>,
     gate: &mut G,
 ) -> Handled
-    requires serves { Serves (function_of func.now) who.now }
+    requires serves { Serves (function_of func.now) worker_plan.now }
     requires made { let all = asked_for asked.now (length func.now.handlers) in
         let six = six_ports (function_of func.now) in
         (mark : List ℕ) → (told : Told) →
@@ -132,7 +141,7 @@ fn run_made<
         IsEmptyIfTold ((F.told files.old).given file) }
     ensures leaves { let Refused = Rose (G.refused gate.old) (G.refused gate.new) in
         let all = asked_for asked.now (length func.now.handlers) in
-        Leaves who.now asked.now.card asked.now.format Refused (function_of func.now) all
+        Leaves worker_plan.now asked.now.card asked.now.format Refused (function_of func.now) all
         (F.told files.new) targets.now result.result }
     ensures counts { CountsTo first (length func.now.handlers) (F.told files.new) result.bytes }
     ensures known { StaysKnown (first + length func.now.handlers)
@@ -149,7 +158,7 @@ fn run_made<
         alloc,
         &mut beside,
         func,
-        who,
+        worker_plan,
         asked,
         captures,
         targets,
@@ -175,20 +184,25 @@ fn told_file(first: u32, ports: u32, file: u32) -> u32
 }
 
 // What a run came to.
-fn came_of(handled: Handled, format: CaptureFormat, first: u32, ports: u32) -> Result<Came, Stop>
+fn came_of(
+    handled: Handled,
+    format: CaptureFormat,
+    first: u32,
+    ports: u32,
+) -> Result<TrafficResult, RunFault>
     requires { first + ports < 2 ^ 32 }
     ensures { result ≡ came_of format first ports handled.bytes handled.result }
 {
     let Handled { result, bytes } = handled;
     match result {
-        Ok(Left::Whole { mode, state }) => Ok(Came::Whole {
+        Ok(UncountedResult::Whole { mode, state }) => Ok(TrafficResult::Whole {
             mode,
             state,
             sent: records_in(format, bytes, ports),
         }),
-        Ok(Left::Full(full)) => Ok(Came::Full(full)),
-        Err(Stop::File(file)) => Err(Stop::File(told_file(first, ports, file))),
-        Err(Stop::Memory) => Err(Stop::Memory),
+        Ok(UncountedResult::Full(full)) => Ok(TrafficResult::Full(full)),
+        Err(RunFault::File(file)) => Err(RunFault::File(told_file(first, ports, file))),
+        Err(RunFault::Memory) => Err(RunFault::Memory),
     }
 }
 
@@ -220,17 +234,17 @@ pub fn run<
     alloc: Global,
     files: &mut F,
     func: &Func,
-    who: &Who,
-    asked: Asked,
+    worker_plan: &WorkerPlan,
+    asked: TrafficSpec,
     first: u32,
     targets: &[u32],
     turns: &Arc<T>,
     gate: &mut G,
-) -> Result<Came, Stop>
+) -> Result<TrafficResult, RunFault>
     requires flows { 1 ≤ asked.flows }
     requires some_port { 1 ≤ length func.now.handlers }
     requires few_ports { length func.now.handlers ≤ 4 }
-    requires serves { Serves (function_of func.now) who.now }
+    requires serves { Serves (function_of func.now) worker_plan.now }
     requires from_two { 2 ≤ first }
     requires numbers { (k : ℕ) → (file : ℕ) → slice_get targets.now k ≡ Some file → file ≡ first + k }
     requires created { EachFile (F.is_written files.old) targets.now }
@@ -241,7 +255,7 @@ pub fn run<
     // stop; or each file holds a front of what such a run leaves there.
     ensures runs { let Refused = Rose (G.refused gate.old) (G.refused gate.new) in
         let all = asked_for asked (length func.now.handlers) in
-        Runs who.now asked.card asked.format Refused (function_of func.now) all
+        Runs worker_plan.now asked.card asked.format Refused (function_of func.now) all
         (F.told files.new) targets.now first result }
     ensures kept { KeepsBut targets.now (F.told files.old) (F.told files.new) }
     ensures cause { IsStopCause (F.counted files.old) (F.counted files.new) result }
@@ -251,19 +265,30 @@ pub fn run<
     captures_are_traffic();
     let ports = func.handlers.len();
     if !is_low(first, ports) {
-        return Err(Stop::Memory);
+        return Err(RunFault::Memory);
     }
     let captures = match Captures::new(alloc, asked.seed, asked.count(), asked.flows, ports) {
         Ok(captures) => captures,
-        Err(_) => return Err(Stop::Memory),
+        Err(_) => return Err(RunFault::Memory),
     };
     let numbers = match captures.numbers(alloc) {
         Ok(numbers) => numbers,
-        Err(_) => return Err(Stop::Memory),
+        Err(_) => return Err(RunFault::Memory),
     };
     let numbers = numbers.as_slice();
     let handled = run_made(
-        rt, alloc, files, captures, func, who, &asked, numbers, first, targets, turns, gate,
+        rt,
+        alloc,
+        files,
+        captures,
+        func,
+        worker_plan,
+        &asked,
+        numbers,
+        first,
+        targets,
+        turns,
+        gate,
     );
     came_of(handled, asked.format, first, ports)
 }

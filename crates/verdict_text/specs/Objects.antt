@@ -5,12 +5,12 @@ use Rattle.nf_base.specs.declared.packet.Family.{Family}
 use Rattle.nf_base.specs.declared.packet.Family.TheVariants.{Four, Six}
 use Rattle.nf_base.specs.declared.packet.Door.{Door}
 use Rattle.nf_base.specs.Text.{Function}
-use Rattle.hash_fields.specs.declared.hashable.Hashable.{Hashable}
+use Rattle.nf_base.specs.declared.hash_fields.Hashable.{Hashable}
 use Rattle.nf_sites.specs.declared.sort.Sort.{Sort}
 use Rattle.nf_sites.specs.declared.sort.Sort.TheVariants.{Get, Find, New, Name, Load, Store}
 use Rattle.access_keys.specs.declared.site.Site.{Site}
-use Rattle.shard_rules.specs.declared.plan.Standing.{Standing}
-use Rattle.shard_rules.specs.declared.plan.Standing.TheVariants.{ReadOnly, Unused, Ruled}
+use Rattle.shard_rules.specs.declared.plan.ObjectVerdict.{ObjectVerdict}
+use Rattle.shard_rules.specs.declared.plan.ObjectVerdict.TheVariants.{ReadOnly, Unused, Ruled}
 use Rattle.shard_rules.specs.declared.plan.Plan.{Plan}
 use Rattle.shard_rules.specs.Rules.{rule_word}
 use Rattle.nf_sites.specs.Known.{same_object, labels_of}
@@ -74,7 +74,7 @@ kept_text f o [] = codes " -"
 kept_text f o (l ∷ ls) = labels_text f o (l ∷ ls)
 
 -- what an object's sites came to, and the sites
-abbrev pub standing_text : Function → List Site → ObjectId → Standing → List ℕ
+abbrev pub standing_text : Function → List Site → ObjectId → ObjectVerdict → List ℕ
 standing_text f sites o ReadOnly = codes " read only\n"
 standing_text f sites o Unused = codes " unused\n"
 standing_text f sites o (Ruled rule kept) =
@@ -82,12 +82,12 @@ standing_text f sites o (Ruled rule kept) =
     ++ sites_text f o sites
 
 -- the lines of an object
-abbrev pub object_text : Function → List Site → ObjectId → Standing → List ℕ
+abbrev pub object_text : Function → List Site → ObjectId → ObjectVerdict → List ℕ
 object_text f sites o standing =
     codes "object " ++ object_name f o ++ standing_text f sites o standing
 
 -- those of some objects, each with what its sites came to
-abbrev pub objects_text : Function → List Site → List ObjectId → List Standing → List ℕ
+abbrev pub objects_text : Function → List Site → List ObjectId → List ObjectVerdict → List ℕ
 objects_text f sites [] standings = []
 objects_text f sites (o ∷ os) [] = []
 objects_text f sites (o ∷ os) (standing ∷ standings) =

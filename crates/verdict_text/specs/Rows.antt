@@ -9,12 +9,12 @@ use Rattle.nf_base.specs.declared.decl.MapDecl.{MapDecl}
 use Rattle.nf_base.specs.declared.width.Width.TheVariants.{W16, W32, W64}
 use Rattle.nf_base.specs.declared.packet.Family.TheVariants.{Six}
 use Rattle.nf_base.specs.Text.{Function}
-use Rattle.hash_fields.specs.declared.hashable.Hashable.TheVariants.{SrcIp, DstPort}
+use Rattle.nf_base.specs.declared.hash_fields.Hashable.TheVariants.{SrcIp, DstPort}
 use Rattle.nf_sites.specs.declared.sort.Sort.TheVariants.{Get, New, Name, Load, Store}
 use Rattle.access_keys.specs.declared.site.Site.{Site}
 use Rattle.shard_rules.specs.declared.rule.Rule.TheVariants.{SameKey, Subset, DisjointKeys, Unhashable, Interchangeable}
-use Rattle.shard_rules.specs.declared.plan.Standing.{Standing}
-use Rattle.shard_rules.specs.declared.plan.Standing.TheVariants.{ReadOnly, Unused, Ruled}
+use Rattle.shard_rules.specs.declared.plan.ObjectVerdict.{ObjectVerdict}
+use Rattle.shard_rules.specs.declared.plan.ObjectVerdict.TheVariants.{ReadOnly, Unused, Ruled}
 use Rattle.shard_rules.specs.declared.plan.Plan.{Plan}
 use Rattle.shard_rules.specs.Rows.{at_chain, at_array, policer, translator, hidden, narrowed, counter}
 use Rattle.nf_base.specs.declared.card.TableSize.TheVariants.{Entries128, Entries512}
@@ -58,7 +58,7 @@ function_named name chains arrays objects = record {
 }
 
 -- what each object comes to
-abbrev pub plan_with : List Standing → Plan
+abbrev pub plan_with : List ObjectVerdict → Plan
 plan_with standings = record { standings = standings; objects = [] }
 
 -- a policer by destination

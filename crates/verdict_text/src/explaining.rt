@@ -19,12 +19,12 @@ ghost use Rattle.verdict_text.specs.Objects.{sort_text, known_text, knowns_text,
 use crate::names::{field_word, label_name, map_name};
 use crate::text::{push_bytes, push_decimal};
 use access_keys::Site;
-use hash_fields::Hashable;
 use nf_base::decl::ObjectId;
 use nf_base::func::Func;
+use nf_base::hash_fields::Hashable;
 use nf_base::packet::{Door, Family};
 use nf_sites::Sort;
-use shard_rules::{Plan, Standing, field_at, is_on, knows_one, label_count};
+use shard_rules::{ObjectVerdict, Plan, field_at, is_on, knows_one, label_count};
 use std::alloc::{AllocError, Global};
 
 fn push_sort(out: &mut Vec<u8>, func: &Func, object: ObjectId, sort: Sort) -> Result<(), AllocError>
@@ -168,15 +168,15 @@ fn push_standing(
     func: &Func,
     sites: &[Site],
     object: ObjectId,
-    standing: &Standing,
+    standing: &ObjectVerdict,
 ) -> Result<(), AllocError>
     ensures ok { OnOk result (out.new.items
         ≡ out.old.items ++ standing_text (function_of func.now) sites.now object standing.now) }
 {
     match standing {
-        Standing::ReadOnly => push_bytes(out, b" read only\n"),
-        Standing::Unused => push_bytes(out, b" unused\n"),
-        Standing::Ruled { rule, kept } => {
+        ObjectVerdict::ReadOnly => push_bytes(out, b" read only\n"),
+        ObjectVerdict::Unused => push_bytes(out, b" unused\n"),
+        ObjectVerdict::Ruled { rule, kept } => {
             push_bytes(out, b" rule ")?;
             push_bytes(out, rule.word().as_bytes())?;
             push_bytes(out, b" keeps")?;
@@ -192,7 +192,7 @@ fn push_object(
     func: &Func,
     sites: &[Site],
     object: ObjectId,
-    standing: &Standing,
+    standing: &ObjectVerdict,
 ) -> Result<(), AllocError>
     ensures ok { OnOk result (out.new.items
         ≡ out.old.items ++ object_text (function_of func.now) sites.now object standing.now) }
@@ -207,7 +207,7 @@ fn push_objects(
     func: &Func,
     sites: &[Site],
     objects: &[ObjectId],
-    standings: &[Standing],
+    standings: &[ObjectVerdict],
 ) -> Result<(), AllocError>
     ensures ok { OnOk result (out.new.items
         ≡ out.old.items

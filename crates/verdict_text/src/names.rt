@@ -3,9 +3,9 @@ ghost use Rattle.std.specs.Prelude.{◌≡◌};
 ghost use Rattle.nf_base.specs.Functions.{function_of};
 ghost use Rattle.verdict_text.specs.Names.{map_name, label_name, field_word};
 
-use hash_fields::Hashable;
 use nf_base::decl::ObjectId;
 use nf_base::func::Func;
+use nf_base::hash_fields::Hashable;
 use nf_base::packet::Family;
 
 /// The name of a map of a chain.

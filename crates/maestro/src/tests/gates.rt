@@ -1,5 +1,5 @@
 // Gates to shared tables, and workers that wait for one another.
-use lock_mode::{Gate, MakeFault, Naming, PackGate, Side, TableEntry, TablePair, TableReader};
+use lock_mode::{Gate, MakeFault, Naming, PackGate, TableCopy, TableEntry, TablePair, TableReader};
 use maestro_cli::Turns;
 use nf_base::packet::PacketId;
 use std::alloc::Global;
@@ -110,8 +110,8 @@ impl<'a> Gate for Doors<'a> {
         &mut self,
         rt: &R,
         alloc: Global,
-        first: Side<J>,
-        second: Side<J>,
+        first: TableCopy<J>,
+        second: TableCopy<J>,
         seats: u32,
     ) -> Result<TablePair<J>, MakeFault> {
         self.gate.make(rt, alloc, first, second, seats)
@@ -149,8 +149,8 @@ impl Gate for Shut {
         &mut self,
         _rt: &R,
         _alloc: Global,
-        first: Side<J>,
-        second: Side<J>,
+        first: TableCopy<J>,
+        second: TableCopy<J>,
         _seats: u32,
     ) -> Result<TablePair<J>, MakeFault> {
         drop(first);

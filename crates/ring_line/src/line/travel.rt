@@ -5,18 +5,18 @@ ghost use Rattle.shard_laws.specs.Queues.{time_after};
 ghost use Rattle.shard_machine.specs.Machine.{Setup};
 ghost use Rattle.shard_core.specs.declared.collected.Collected as got;
 ghost use Rattle.short_answers.specs.Answers.{done_told};
-ghost use Rattle.ring_line.specs.Places.{CanHandle};
+ghost use Rattle.ring_line.specs.QueueWorkers.{CanHandle};
 ghost use Rattle.ring_line.specs.Lines.{LineStands, HasRoom, ComesFirst, LineHasAnswer, LineFirstAnswer, IsFirst, Collects, IsCollected};
 
 use super::{ALL_IN_FLIGHT, Answered, CollectedRef, First, Line};
 use crate::halt::Halt;
-use crate::lane::Next;
+use crate::thread_worker::Next;
 use nf_base::done::Done;
 use nf_base::packet::Packet;
+use nf_base::worker_turns::Turns;
 use shard_core::{Collected, Stop};
 use short_answers::{Told, plain};
 use std::sync::Wait;
-use worker_turns::Turns;
 
 impl<G: Turns + Drop> Line<G> {
     /// How many packets are sent and not collected.
@@ -36,26 +36,26 @@ impl<G: Turns + Drop> Line<G> {
     /// Whether a packet can be sent to a queue: fewer than 64 of it are in flight, and fewer than 1,024 of
     /// all. So it can where none is.
     pub fn has_room(&self, queue: u32) -> bool
-        requires { queue < length self.now.places }
+        requires { queue < length self.now.queue_workers }
         ensures yes { result ≡ true → HasRoom self.now queue }
         ensures all { HasRoom self.now queue → result ≡ true }
         ensures none { length self.now.order.items ≡ 0 → result ≡ true }
     {
-        self.order.len() < ALL_IN_FLIGHT && self.places.item(queue as usize).has_room()
+        self.order.len() < ALL_IN_FLIGHT && self.queue_workers.item(queue as usize).has_room()
     }
 
     /// Sends a packet to its queue, where there is room.
     pub fn send<R: Wait>(&mut self, rt: &R, queue: u32, packet: &Packet)
-        requires queue { queue < length self.old.places }
+        requires queue { queue < length self.old.queue_workers }
         requires room { HasRoom self.old queue }
         ensures stands { (x : Setup) → (packets : List arrival.Packet) →
             (got : List got.Collected) → LineStands self.old x packets got →
             CanHandle x.function packet.now → x.queue packet.now ≡ queue →
             LineStands self.new x (packets ++ packet.now ∷ []) got }
-        ensures queues { length self.new.places ≡ length self.old.places }
+        ensures queues { length self.new.queue_workers ≡ length self.old.queue_workers }
         ensures left { length self.new.order.items ≡ length self.old.order.items + 1 }
     {
-        self.places.item_mut(queue as usize).send(rt, packet);
+        self.queue_workers.item_mut(queue as usize).send(rt, packet);
         self.order.push_back_reserved(queue);
     }
 
@@ -63,7 +63,7 @@ impl<G: Turns + Drop> Line<G> {
     fn first(&self) -> u32
         requires { 0 < length self.now.order.items }
         ensures first { ComesFirst result self.now.order.items }
-        ensures there { result < length self.now.places }
+        ensures there { result < length self.now.queue_workers }
     {
         self.order[0]
     }
@@ -78,16 +78,16 @@ impl<G: Turns + Drop> Line<G> {
             return false;
         }
         let queue = self.first();
-        self.places.item(queue as usize).is_ready()
+        self.queue_workers.item(queue as usize).is_ready()
     }
 
     /// What has come of the first packet, which is of this queue.
     fn come_of(&self, queue: u32) -> Option<First>
         requires first { ComesFirst queue self.now.order.items }
-        requires there { queue < length self.now.places }
+        requires there { queue < length self.now.queue_workers }
         ensures { IfSome result (λ first. IsFirst first self.now) }
     {
-        match self.places.item(queue as usize).next() {
+        match self.queue_workers.item(queue as usize).next() {
             Next::Ready => Some(First::Answer),
             Next::Halted(halt) => {
                 let Halt { chain, packet } = halt;
@@ -110,7 +110,7 @@ impl<G: Turns + Drop> Line<G> {
             (got : List got.Collected) → LineStands self.old x packets got →
             LineStands self.new x packets got }
         ensures order { self.new.order ≡ self.old.order }
-        ensures queues { length self.new.places ≡ length self.old.places }
+        ensures queues { length self.new.queue_workers ≡ length self.old.queue_workers }
     {
         let queue = self.first();
         for _ in rt.forever() {
@@ -134,7 +134,7 @@ impl<G: Turns + Drop> Line<G> {
             }) }
     {
         let queue = self.first();
-        let answer = self.places.item(queue as usize).answer();
+        let answer = self.queue_workers.item(queue as usize).answer();
         CollectedRef {
             packet: answer.packet,
             queue,
@@ -151,12 +151,12 @@ impl<G: Turns + Drop> Line<G> {
             LineStands self.old x packets got → LineFirstAnswer self.old one →
             LineStands self.new x packets (got ++ one ∷ []) }
         ensures left { length self.old.order.items ≡ length self.new.order.items + 1 }
-        ensures queues { length self.new.places ≡ length self.old.places }
+        ensures queues { length self.new.queue_workers ≡ length self.old.queue_workers }
     {
         let answer = self.answer();
         let queue = answer.queue;
         let time = time_after(self.time, answer.packet);
-        self.places.item_mut(queue as usize).pass();
+        self.queue_workers.item_mut(queue as usize).pass();
         self.order.pop_front();
         self.time = time;
     }
@@ -168,7 +168,7 @@ impl<G: Turns + Drop> Line<G> {
             (got : List got.Collected) → LineStands self.old x packets got →
             LineStands self.new x packets (got ++ result ∷ []) }
         ensures left { length self.old.order.items ≡ length self.new.order.items + 1 }
-        ensures queues { length self.new.places ≡ length self.old.places }
+        ensures queues { length self.new.queue_workers ≡ length self.old.queue_workers }
     {
         let collected = copy_of(self.answer());
         self.pass();
@@ -183,7 +183,7 @@ impl<G: Turns + Drop> Line<G> {
             (got : List got.Collected) → LineStands self.old x packets got →
             Collects result self.new x packets got }
         ensures left { IsCollected result self.old self.new }
-        ensures queues { length self.new.places ≡ length self.old.places }
+        ensures queues { length self.new.queue_workers ≡ length self.old.queue_workers }
     {
         match self.await_first(rt) {
             First::Answer => Answered::Done(self.take()),
@@ -194,12 +194,12 @@ impl<G: Turns + Drop> Line<G> {
     /// Takes more answers of a queue. Before it waits all packets go out: a worker may be held up by
     /// another.
     fn wait<R: Wait>(&mut self, rt: &R, queue: u32)
-        requires { queue < length self.old.places }
+        requires { queue < length self.old.queue_workers }
         ensures stands { (x : Setup) → (packets : List arrival.Packet) →
             (got : List got.Collected) → LineStands self.old x packets got →
             LineStands self.new x packets got }
         ensures order { self.new.order ≡ self.old.order }
-        ensures queues { length self.new.places ≡ length self.old.places }
+        ensures queues { length self.new.queue_workers ≡ length self.old.queue_workers }
     {
         if !self.poll(queue) {
             self.flush(rt);
@@ -209,26 +209,26 @@ impl<G: Turns + Drop> Line<G> {
 
     /// Takes more answers of a queue, where they have come; and tells whether it did.
     fn poll(&mut self, queue: u32) -> bool
-        requires { queue < length self.old.places }
+        requires { queue < length self.old.queue_workers }
         ensures stands { (x : Setup) → (packets : List arrival.Packet) →
             (got : List got.Collected) → LineStands self.old x packets got →
             LineStands self.new x packets got }
         ensures order { self.new.order ≡ self.old.order }
-        ensures queues { length self.new.places ≡ length self.old.places }
+        ensures queues { length self.new.queue_workers ≡ length self.old.queue_workers }
     {
-        self.places.item_mut(queue as usize).poll()
+        self.queue_workers.item_mut(queue as usize).poll()
     }
 
     /// Waits for more answers of a queue.
     fn turn<R: Wait>(&mut self, rt: &R, queue: u32)
-        requires { queue < length self.old.places }
+        requires { queue < length self.old.queue_workers }
         ensures stands { (x : Setup) → (packets : List arrival.Packet) →
             (got : List got.Collected) → LineStands self.old x packets got →
             LineStands self.new x packets got }
         ensures order { self.new.order ≡ self.old.order }
-        ensures queues { length self.new.places ≡ length self.old.places }
+        ensures queues { length self.new.queue_workers ≡ length self.old.queue_workers }
     {
-        self.places.item_mut(queue as usize).turn(rt);
+        self.queue_workers.item_mut(queue as usize).turn(rt);
     }
 
     /// All packets go out that were not handed out yet.
@@ -237,10 +237,10 @@ impl<G: Turns + Drop> Line<G> {
             (got : List got.Collected) → LineStands self.old x packets got →
             LineStands self.new x packets got }
         ensures order { self.new.order ≡ self.old.order }
-        ensures queues { length self.new.places ≡ length self.old.places }
+        ensures queues { length self.new.queue_workers ≡ length self.old.queue_workers }
     {
-        for queue in 0..self.places.len() {
-            self.places.item_mut(queue).flush(rt);
+        for queue in 0..self.queue_workers.len() {
+            self.queue_workers.item_mut(queue).flush(rt);
         }
     }
 }

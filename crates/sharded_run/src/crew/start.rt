@@ -8,7 +8,7 @@ ghost use Rattle.ring_line.specs.Lines.{LineStands, LineFinishes};
 ghost use Rattle.sharded_run.specs.Passing.{IsNewCrew};
 
 use super::Crew;
-use crate::kept::Frames;
+use crate::frames::Frames;
 use crate::plain_answer::PlainAnswer;
 use crate::router::Router;
 use nf_base::func::Func;

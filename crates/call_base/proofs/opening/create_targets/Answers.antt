@@ -2,8 +2,8 @@ use Rattle.std.proofs.Common.{◌≡◌, ◌+◌, ◌<◌, ◌≤◌, inl, inr, 
 use Rattle.std.proofs.lemmas.List.FromFn.{map-range_with_len_more}
 use Rattle.capture_format.specs.declared.format.CaptureFormat.{CaptureFormat}
 use Rattle.nf_files.specs.Causes.{Asked, Counted, asking}
-use Rattle.stream_run.specs.declared.stop.Stop.{Stop}
-use Rattle.stream_run.specs.declared.stop.Stop.TheVariants.{File, Memory}
+use Rattle.stream_run.specs.declared.fault.RunFault.{RunFault}
+use Rattle.stream_run.specs.declared.fault.RunFault.TheVariants.{File, Memory}
 use Rattle.call_base.specs.Names.{name_at, writing, created_by}
 use Rattle.call_base.specs.Numbers.{IsFrontOf}
 use Rattle.call_base.specs.Opened.{AreCreated, AsksNext}
@@ -20,7 +20,7 @@ next_of format out ports made = sym (map-range_with_len_more (λ k. writing (nam
 front_of : (format : CaptureFormat) (out : List ℕ) (ports k n : ℕ) → k ≤ n → IsFrontOf (created_by format out ports n) (created_by format out ports k)
 front_of format out ports k n le = front_range (λ j. writing (name_at format out ports j)) 0 k n le
 
-fails_at : (number next made count : ℕ) (stop : Stop) (old new : Counted) (one : Asked) → AsksNext {T = ℕ} one number old new (Err stop) → number ≡ next + made → made < count → (file : ℕ) → stop ≡ File file → (file ≡ next + made) × (made < count)
+fails_at : (number next made count : ℕ) (stop : RunFault) (old new : Counted) (one : Asked) → AsksNext {T = ℕ} one number old new (Err stop) → number ≡ next + made → made < count → (file : ℕ) → stop ≡ File file → (file ≡ next + made) × (made < count)
 fails_at number next made count Memory old new one h at lt file e = absurd (cc e)
 fails_at number next made count (File f) old new one h at lt file e = let same : file ≡ f = cc e in (same ∙ h.0 ∙ at, lt)
 

@@ -32,7 +32,7 @@ returns-in-Ok g c =
     let now = seen (told c.leave_run.new.files) (counted c.leave_run.new.files) in
     let whole = c.in-Ok-Whole in
     let came = rw whole.field-0-is at whole.ensures.runs in
-    let behind = done since a b job c.args.targets.now c.args.who.now _ _ whole.mode whole.state whole.sent requires.0 requires.1.1.1.1.1 requires.1.1.0 refl (first_is g.before a job c.args.targets.now requires.1.1.1.1.1) came whole.ensures.kept whole.ensures.cause in
+    let behind = done since a b job c.args.targets.now c.args.worker_plan.now _ _ whole.mode whole.state whole.sent requires.0 requires.1.1.1.1.1 requires.1.1.0 refl (first_is g.before a job c.args.targets.now requires.1.1.1.1.1) came whole.ensures.kept whole.ensures.cause in
     record { gens = finished since b now job whole.mode whole.state whole.sent requires.0 behind c.in-Ok.ensures.0 c.in-Ok.ensures.1 c.in-Ok.ensures.2 }
 
 pub returns-in-Ok-Whole : goal.returns-in-Ok-Whole
@@ -47,7 +47,7 @@ returns-in-Ok-Whole g c =
     let now = seen (told c.leave_run.new.files) (counted c.leave_run.new.files) in
     let whole = c.in-Ok-Whole in
     let came = rw whole.field-0-is at whole.ensures.runs in
-    let behind = done since a b job c.args.targets.now c.args.who.now _ _ whole.mode whole.state whole.sent requires.0 requires.1.1.1.1.1 requires.1.1.0 refl (first_is g.before a job c.args.targets.now requires.1.1.1.1.1) came whole.ensures.kept whole.ensures.cause in
+    let behind = done since a b job c.args.targets.now c.args.worker_plan.now _ _ whole.mode whole.state whole.sent requires.0 requires.1.1.1.1.1 requires.1.1.0 refl (first_is g.before a job c.args.targets.now requires.1.1.1.1.1) came whole.ensures.kept whole.ensures.cause in
     let stopped = unfinished since b now job whole.mode whole.state whole.sent c.in-Err-leave_run.stop requires.0 behind c.in-Err-leave_run.ensures in
     record { gens = halted since now job c.in-Err-leave_run.stop c.halt.result requires.0 c.halt.ensures stopped }
 
@@ -61,7 +61,7 @@ returns-in-Ok-Full g c =
     let a = seen (told c.args.files.now) (counted c.args.files.now) in
     let b = seen (told c.run.new.files) (counted c.run.new.files) in
     let came = rw c.in-Ok-Full.field-0-is at c.in-Ok-Full.ensures.runs in
-    record { gens = share_full since a b job c.args.targets.now c.args.who.now _ c.in-Ok-Full.full c.full_share.result c.full_share.ensures requires.0 requires.1.1.1.1.1 requires.1.1.0 refl came c.in-Ok-Full.ensures.kept c.in-Ok-Full.ensures.cause }
+    record { gens = share_full since a b job c.args.targets.now c.args.worker_plan.now _ c.in-Ok-Full.full c.full_share.result c.full_share.ensures requires.0 requires.1.1.1.1.1 requires.1.1.0 refl came c.in-Ok-Full.ensures.kept c.in-Ok-Full.ensures.cause }
 
 pub returns : goal.returns
 returns g c =
@@ -73,5 +73,5 @@ returns g c =
     let a = seen (told c.args.files.now) (counted c.args.files.now) in
     let b = seen (told c.run.new.files) (counted c.run.new.files) in
     let came = c.in-Err.ensures.runs in
-    let stopped = cut since a b job c.args.targets.now c.args.who.now _ c.in-Err.stop requires.0 requires.1.1.1.1.1 requires.1.1.0 refl came c.in-Err.ensures.kept c.in-Err.ensures.cause c.in-Err.ensures.among in
+    let stopped = cut since a b job c.args.targets.now c.args.worker_plan.now _ c.in-Err.stop requires.0 requires.1.1.1.1.1 requires.1.1.0 refl came c.in-Err.ensures.kept c.in-Err.ensures.cause c.in-Err.ensures.among in
     record { gens = halted since b job c.in-Err.stop c.halt-in-Err.result requires.0 c.halt-in-Err.ensures stopped }

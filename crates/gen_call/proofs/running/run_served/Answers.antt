@@ -16,7 +16,7 @@ returns-in-Err g c =
     let since : Since = record { before = g.before; was = g.G.Gate.refused c.args.gate.now; is = g.G.Gate.refused c.args.gate.now } in
     let a = seen (told c.args.files.now) (counted c.args.files.now) in
     let b = seen (told c.create_targets.new.files) (counted c.create_targets.new.files) in
-    let stopped = uncreated since a b job c.args.who.now c.in-Err.stop requires.0 requires.1.1.1.1.0 requires.1.1.1.1.1 requires.1.1.0 c.in-Err.ensures.some c.in-Err.ensures.cause in
+    let stopped = uncreated since a b job c.args.worker_plan.now c.in-Err.stop requires.0 requires.1.1.1.1.0 requires.1.1.1.1.1 requires.1.1.0 c.in-Err.ensures.some c.in-Err.ensures.cause in
     record { gens = halted since b job c.in-Err.stop c.halt.result requires.0 c.halt.ensures stopped }
 
 pub run_created-requires : goal.run_created-requires

@@ -1,5 +1,5 @@
 use Rattle.std.proofs.Common.{get_or, ◌∷◌, [], ◌<◌, length, arith}
-use Rattle.hash_fields.specs.declared.hashable.Hashable.TheVariants.{SrcIp}
+use Rattle.nf_base.specs.declared.hash_fields.Hashable.TheVariants.{SrcIp}
 use Rattle.key_rows.proofs.Joined.{same_below, opened, one_tie}
 use Rattle.key_rows.proofs.classes.classes_of.Goals as goal
 

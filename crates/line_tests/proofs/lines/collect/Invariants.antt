@@ -3,4 +3,4 @@ use Rattle.line_tests.proofs.lines.collect.Given as goal
 
 -- as many queues as before
 abbrev pub invariant-loop : goal.invariant-loop
-invariant-loop g l = length l.line.places ≡ length l.fn.line.places
+invariant-loop g l = length l.line.queue_workers ≡ length l.fn.line.queue_workers

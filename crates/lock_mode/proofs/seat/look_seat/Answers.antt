@@ -8,13 +8,13 @@ use Rattle.lock_mode.proofs.seat.look_seat.Goals as goal
 
 pub invariant_of-result : goal.invariant_of-result
 invariant_of-result g c =
-    let looked = c.look_by-viewer.result.1 in
-    let front = c.look_by-viewer.result.0.front in
+    let looked = c.look_by-seat_reader.result.1 in
+    let prefix = c.look_by-seat_reader.result.0.prefix in
     let calls = c.seat.inside.calls.calls in
     let put = c.add_look.new.calls.calls in
     let packet = c.args.packet.now in
-    let done : IfDone looked (λ (d : Done). put ≡ calls ++ record { way = way.Look; place = length front; packet = packet; done = d } ∷ []) =
+    let done : IfDone looked (λ (d : Done). put ≡ calls ++ record { way = way.Look; place = length prefix; packet = packet; done = d } ∷ []) =
     subst (λ (k : ℕ). IfDone looked (λ (d : Done). put ≡ calls ++ record { way = way.Look; place = k; packet = packet; done = d } ∷ [])) c.len.ensures.length c.add_look.ensures.done in
-    seat_looked looked g.J.Naming.function g.J.Naming.seats c.seat.inside.number c.seat.inside.viewer.front front packet calls put c.look_by-viewer.ensures.seen c.seat.invariant c.look_by-viewer.ensures.done done
+    seat_looked looked g.J.Naming.function g.J.Naming.seats c.seat.inside.number c.seat.inside.seat_reader.prefix prefix packet calls put c.look_by-seat_reader.ensures.seen c.seat.invariant c.look_by-seat_reader.ensures.done done
     (needs_ap looked (λ (v : LogState). v.calls) c.add_look.new.calls c.seat.inside.calls c.add_look.ensures.needs)
     (refused_ap looked (λ (v : LogState). v.calls) c.add_look.new.calls c.seat.inside.calls c.add_look.ensures.refused)

@@ -8,8 +8,8 @@ use denote.Param.Send.{param_send, param_sync, shr_slice_sync}
 use Rattle.lock_workers.proofs.Crossing.{seat_send, shared_sync, packet_sync, places_sync}
 use Rattle.nf_base.specs.contracts.packet.Packet as packet
 use Rattle.lock_core.specs.contracts.call.Entry as entry
-use Rattle.lock_mode.specs.contracts.side.SideAbsorbOp.TheImpl as side_impl
-use Rattle.lock_mode.specs.contracts.rule.RisingProtocolSideU64.TheImpl as rule_impl
+use Rattle.lock_mode.specs.contracts.table_copy.TableCopyAbsorbOp.TheImpl as side_impl
+use Rattle.lock_mode.specs.contracts.rule.RisingProtocolTableCopyU64.TheImpl as rule_impl
 use Rattle.lock_mode.specs.Seats.{SeatState}
 use Rattle.lock_workers.specs.Working.{HasWorked, AllHaveWorked}
 use Rattle.lock_workers.proofs.Joined.{all_worked, all_of}

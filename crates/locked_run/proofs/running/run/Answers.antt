@@ -7,7 +7,7 @@ use Rattle.packet_feed.specs.Sources.{sixes_in}
 use Rattle.sharded_run.proofs.Complete.{counted}
 use Rattle.sharded_run.proofs.Fitting.{are_served}
 use Rattle.lock_mode.specs.Gates.{Rose}
-use Rattle.locked_run.specs.declared.came.Came.{Came}
+use Rattle.locked_run.specs.declared.result.LockedResult.{LockedResult}
 use Rattle.locked_run.proofs.Finishing.{cut_none, cut_short_of, finished_of, still_empty, stops_as}
 use Rattle.locked_run.proofs.running.run.Goals as goal
 
@@ -22,7 +22,7 @@ pub returns-in-Err-clause-kept : goal.returns-in-Err-clause-kept
 returns-in-Err-clause-kept g c = c.read_all.ensures.kept c.args.targets.now
 
 pub returns-in-Err-clause-among : goal.returns-in-Err-clause-among
-returns-in-Err-clause-among g c = stops_as Ending Came c.args.captures.now c.args.targets.now c.in-Err.stop (c.in-Err.ensures.among c.args.targets.now)
+returns-in-Err-clause-among g c = stops_as Ending LockedResult c.args.captures.now c.args.targets.now c.in-Err.stop (c.in-Err.ensures.among c.args.targets.now)
 
 pub settle-requires-clause-fresh : goal.settle-requires-clause-fresh
 settle-requires-clause-fresh g c κs within =

@@ -1,5 +1,5 @@
 use Rattle.std.proofs.Common.{◌≡◌, ◌∙◌, subst, arith}
-use Rattle.nf_syntax.specs.declared.fault.Stop.TheVariants as stops
+use Rattle.nf_syntax.specs.declared.fault.TokenFault.TheVariants as stops
 use Rattle.nf_syntax.specs.Language.{IsFirstFault}
 use Rattle.nf_syntax.proofs.Explained.{misplaced, passing, unfinished}
 use Rattle.nf_syntax.proofs.Shallow.{shallow}

@@ -1,6 +1,6 @@
 use Rattle.std.proofs.Common.{inr, refl, string_bytes}
 use Rattle.call_base.specs.declared.status.RunFile.TheVariants.{Proof}
-use Rattle.call_base.specs.declared.status.Stop.TheVariants.{File, Memory}
+use Rattle.call_base.specs.declared.status.CallFault.TheVariants.{File, Memory}
 use Rattle.call_base.specs.Outside.{seen}
 use Rattle.prove_call.proofs.Outcomes.{half_written}
 use Rattle.prove_call.proofs.leaving.write_certificate.Goals as goal

@@ -2,7 +2,7 @@ use Rattle.std.proofs.Common.{Err, sym, subst}
 use Rattle.command_words.specs.View as view
 use Rattle.call_base.specs.declared.status.Halt.{Halt}
 use Rattle.call_base.specs.Outside.{seen}
-use Rattle.replay_call.specs.Checked.{ReplaysTo}
+use Rattle.replay_call.specs.ReplayEnd.{ReplaysTo}
 use Rattle.replay_call.proofs.Beginning.{unfound}
 use Rattle.replay_call.proofs.replaying.replay.Goals as goal
 

@@ -2,8 +2,8 @@ use Rattle.std.proofs.Common.{◌≡◌, ◌≢◌, ◌+◌, ◌∙◌, ◌++◌
 use Rattle.std.specs.List.{slice_get}
 use Rattle.std.proofs.lemmas.List.{length-map}
 use Rattle.nf_files.specs.Causes.{asking}
-use Rattle.stream_run.specs.declared.stop.Stop.{Stop as NumberStop}
-use Rattle.stream_run.specs.declared.stop.Stop.TheVariants as numbered
+use Rattle.stream_run.specs.declared.fault.RunFault.{RunFault}
+use Rattle.stream_run.specs.declared.fault.RunFault.TheVariants as numbered
 use Rattle.packet_feed.specs.Feeding.{Feeding}
 use Rattle.call_base.specs.Names.{reading}
 use Rattle.call_base.specs.Opened.{AreOpened, AsksSome, StopsFrom}
@@ -25,7 +25,7 @@ placed (x ∷ xs) ys from hx hy (suc i) f e =
 ports_are : (job : Job) → IsSized job → job.layout.ports ≡ ports_of job
 ports_are job sized = sym (length-map job.command.now.captures.items string_bytes ∙ sized.captures)
 
-from_behind : (before a : Outside) (job : Job) (captures : List ℕ) (v : Feeding) (last count : ℕ) (stop : NumberStop) → HasFed before a job captures v → a.told.next ≡ last + 1 → count ≡ ports_of job + 1 → StopsFrom (last + 1) count stop → StopsFrom (before.told.next + 1 + ports_of job) (ports_of job + 1) stop
+from_behind : (before a : Outside) (job : Job) (captures : List ℕ) (v : Feeding) (last count : ℕ) (stop : RunFault) → HasFed before a job captures v → a.told.next ≡ last + 1 → count ≡ ports_of job + 1 → StopsFrom (last + 1) count stop → StopsFrom (before.told.next + 1 + ports_of job) (ports_of job + 1) stop
 from_behind before a job captures v last count numbered.Memory h next long from = tt
 from_behind before a job captures v last count (numbered.File file) h next long from = (omega (arith, from.0, next, fed_next h, h.opened.all), omega (arith, from.1, next, fed_next h, h.opened.all, long))
 

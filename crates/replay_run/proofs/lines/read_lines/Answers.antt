@@ -11,7 +11,7 @@ use Rattle.run_history.specs.declared.line.JournalLine.{JournalLine}
 use Rattle.run_history.specs.Lines.{IsLine}
 use Rattle.journal_read.specs.Journals.{Reading, Stands, AreAllLines}
 use Rattle.journal_read.specs.Journals as journals
-use Rattle.stream_run.specs.declared.stop.Stop.{Stop}
+use Rattle.stream_run.specs.declared.fault.RunFault.{RunFault}
 use Rattle.stream_run.specs.Writing.{StopsAmong}
 use Rattle.file_match.specs.Comparing.{Comparing}
 use Rattle.stream_run.specs.Runs.{Handled}
@@ -143,7 +143,7 @@ returns-then-given-most-clause-reads_all g c =
     let read : Keeps old new file = subst (λ (n : ℕ). Keeps old new n) inv.same_file c.end_of.ensures.kept in
     let ends = subst (λ (m : ℕ). (at : Option (List ℕ)) (lines : List JournalLine) → Stands at lines c.lines.journal (old.rest m) → IsEnd at lines c.end_of.result) inv.same_file c.end_of.ensures.ends in
     λ start bytes b.
-    ends_at f heading c.args.format (length captures) start bytes c.args.feed.now outputs first c.args.most Stop old new c.lines.feed c.lines.journal file c.lines.outputs c.lines.judge.tables.state c.end_of.result (inv.reached start bytes b) same inv.six (omega (arith, c.if-given-most.true, c.given.ensures))
+    ends_at f heading c.args.format (length captures) start bytes c.args.feed.now outputs first c.args.most RunFault old new c.lines.feed c.lines.journal file c.lines.outputs c.lines.judge.tables.state c.end_of.result (inv.reached start bytes b) same inv.six (omega (arith, c.if-given-most.true, c.given.ensures))
     ends c.end_of.ensures.right (outputs_while c.lines.outputs begun file old new inv.same_outputs c.requires.no_output read)
 
 pub returns-then-given-most-clause-kept : goal.returns-then-given-most-clause-kept

@@ -6,7 +6,7 @@ use Rattle.packet_feed.specs.Told.{IsApart}
 use Rattle.packet_feed.proofs.Gathering.{map_kept}
 use Rattle.packet_feed.proofs.Standing.{kept_more}
 use Rattle.file_match.specs.Comparing.{Comparing}
-use Rattle.stream_run.specs.declared.stop.Stop.{Stop}
+use Rattle.stream_run.specs.declared.fault.RunFault.{RunFault}
 use Rattle.stream_run.proofs.Held.{stops_here}
 use Rattle.replay_run.specs.Outputs.{files_of, AreTold, AreToldBelow}
 use Rattle.replay_run.proofs.Compared.{file_at, same_length, partly_more, FoundAt, WholeAt, found_decides, whole_decides, told_whole, told_other, told_below, told_all}
@@ -64,7 +64,7 @@ loop-k-preserved g c =
     let apart = subst (λ (fs : List ℕ). IsApart fs) (sym inv.same_files) c.requires.apart in
     record {
       partly = λ start bytes found. partly_more (WholeAt bytes start) (FoundAt bytes start) now k o c.is_whole.new.compared (told c.loop-k.files) (told c.is_whole.new.files) (whole_decides bytes start) (found_decides bytes start) apart at c.is_whole.ensures.kept
-          (λ was. subst (λ (n : ℕ). IsToldAs (bytes k) (start n)) (sym c.is_whole.ensures.same_file) (told_whole Stop (bytes k) (start o.file) ((rw c.in-Ok-true.field-0-test at c.in-Ok-true.ensures.whole) (start o.file) (bytes k) was))) (inv.partly start bytes found);
+          (λ was. subst (λ (n : ℕ). IsToldAs (bytes k) (start n)) (sym c.is_whole.ensures.same_file) (told_whole RunFault (bytes k) (start o.file) ((rw c.in-Ok-true.field-0-test at c.in-Ok-true.ensures.whole) (start o.file) (bytes k) was))) (inv.partly start bytes found);
       same_files = map_kept (λ (x : Comparing). x.file) now k o c.is_whole.new.compared at c.is_whole.ensures.same_file ∙ inv.same_files;
       kept = kept_more (files_of c.args.all.now) k o.file (told c.args.files.now) (told c.loop-k.files) (told c.is_whole.new.files) file inv.kept c.is_whole.ensures.kept;
       reads = λ n r. c.is_whole.ensures.reads n (inv.reads n r);
@@ -87,7 +87,7 @@ returns-in-Ok-false-clause-other g c = λ start bytes found.
     record {
       file = o.file;
       at = file;
-      other = told_other Stop (bytes k) (start o.file) ((rw c.in-Ok-false.field-0-test at c.in-Ok-false.ensures.whole) (start o.file) (bytes k) ((inv.partly start bytes found k o at).1 (omega arith)));
+      other = told_other RunFault (bytes k) (start o.file) ((rw c.in-Ok-false.field-0-test at c.in-Ok-false.ensures.whole) (start o.file) (bytes k) ((inv.partly start bytes found k o at).1 (omega arith)));
       lesser = subst (λ (fs : List ℕ). AreToldBelow k bytes start fs) inv.same_files below;
     }
 

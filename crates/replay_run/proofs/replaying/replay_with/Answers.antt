@@ -11,7 +11,7 @@ use Rattle.replay_run.specs.Replaying.{IsRun, Finishes, sent}
 use Rattle.replay_run.specs.Turns.{AreClear}
 use Rattle.replay_run.specs.declared.lines.End.TheVariants as end
 use Rattle.replay_run.proofs.Finishing.{read_as, finished}
-use Rattle.replay_run.specs.declared.replayed.Replayed.{Replayed}
+use Rattle.replay_run.specs.declared.result.ReplayResult.{ReplayResult}
 use Rattle.replay_run.proofs.Apart.{apart_right, clear_of, without, not_left, not_right, tail_apart}
 use Rattle.replay_run.proofs.Runs.{begins_so}
 use Rattle.replay_run.proofs.Kept.{others_both, others_outputs, among_any}
@@ -71,7 +71,7 @@ returns-clause-kept g c =
 pub returns-clause-among : goal.returns-clause-among
 returns-clause-among g c =
     let outputs = c.args.outputs.now in
-    among_any Replayed c.args.captures.now outputs c.args.journal.now.file c.finish.result
+    among_any ReplayResult c.args.captures.now outputs c.args.journal.now.file c.finish.result
     (subst (λ (fs : List ℕ). StopsAmong [] fs c.finish.result) (c.read_lines.ensures.same_outputs ∙ c.in-Ok-begin.ensures.files) c.finish.ensures.among)
 
 pub returns-in-Wrong-clause-replays : goal.returns-in-Wrong-clause-replays

@@ -9,7 +9,7 @@ use Rattle.packet_feed.proofs.Served.{shown_served}
 use Rattle.run_history.specs.declared.line.Mode.{Mode}
 use Rattle.journal_check.specs.Judging.{Steps, line_of}
 use Rattle.stream_run.specs.Streaming.{arrival_of}
-use Rattle.stream_run.specs.declared.stop.Stop.{Stop}
+use Rattle.stream_run.specs.declared.fault.RunFault.{RunFault}
 use Rattle.replay_run.specs.Outputs.{files_of}
 use Rattle.replay_run.specs.Queues.{keys_in}
 use Rattle.replay_run.specs.Replaying.{IsRun}
@@ -36,7 +36,7 @@ returns-in-Ok-None-clause-turns g c = λ start hs run stands.
     let told = g.F.Files.told in
     let j = c.args.judge.now in
     let line = c.args.line.now in
-    let fetches = subst (λ (m : Mode). Fetches {E = Stop} m line c.args.feed.now c.packet_for.new.feed (told c.args.files.now) (told c.packet_for.new.files) (Ok None)) (sym c.requires.mode) (rw c.in-Ok-None.field-0-is at c.in-Ok-None.ensures.fetches) in
+    let fetches = subst (λ (m : Mode). Fetches {E = RunFault} m line c.args.feed.now c.packet_for.new.feed (told c.args.files.now) (told c.packet_for.new.files) (Ok None)) (sym c.requires.mode) (rw c.in-Ok-None.field-0-is at c.in-Ok-None.ensures.fetches) in
     none_left (IsRun (function_of c.args.func.now) (keys_in c.args.keys) j.heading) j.heading.mode (packets_at c.args.feed.now start) hs line (fetches start (map arrival_of hs) stands)
 
 pub returns-in-Ok-None-clause-kept : goal.returns-in-Ok-None-clause-kept
@@ -55,7 +55,7 @@ returns-in-None-clause-turns g c = λ start hs run stands.
     let a = shown p c.packet_for.new.feed in
     let queue = c.queue_of-queue.ensures j.heading.workers c.requires.table in
     let none = subst (λ (q : ℕ). (next : StepResult) → Steps f j.heading q j.tables.state p next → line ≢ line_of j.heading q (record { packet = p; done = next.done })) queue c.in-None.ensures.none in
-    let fetches = subst (λ (m : Mode). Fetches {E = Stop} m line c.args.feed.now c.packet_for.new.feed (told c.args.files.now) (told c.packet_for.new.files) (Ok (Some p))) (sym c.requires.mode) (rw c.in-Ok-Some.field-0-is at c.in-Ok-Some.ensures.fetches) in
+    let fetches = subst (λ (m : Mode). Fetches {E = RunFault} m line c.args.feed.now c.packet_for.new.feed (told c.args.files.now) (told c.packet_for.new.files) (Ok (Some p))) (sym c.requires.mode) (rw c.in-Ok-Some.field-0-is at c.in-Ok-Some.ensures.fetches) in
     other_line (IsRun f (keys_in keys) j.heading) j.heading.mode (packets_at c.args.feed.now start) hs a line
     (no_next f keys j.heading hs j.tables.state p line c.requires.some c.requires.keyed run none)
     fetches.0
@@ -87,7 +87,7 @@ returns-in-Ok-clause-turns g c =
     let read = told c.packet_for.new.files in
     let new = told c.compare_all.new.files in
     let next = c.packet_for.new.feed in
-    let fetches = subst (λ (m : Mode). Fetches {E = Stop} m line c.args.feed.now next old read (Ok (Some p))) (sym c.requires.mode) (rw c.in-Ok-Some.field-0-is at c.in-Ok-Some.ensures.fetches) in
+    let fetches = subst (λ (m : Mode). Fetches {E = RunFault} m line c.args.feed.now next old read (Ok (Some p))) (sym c.requires.mode) (rw c.in-Ok-Some.field-0-is at c.in-Ok-Some.ensures.fetches) in
     let files : files_in next.sources ≡ all = c.packet_for.ensures.same_captures ∙ c.requires.captures in
     record {
       packet = p;

@@ -3,7 +3,7 @@ use Rattle.std.proofs.lemmas.Option.{slice_get_within, get_or_from_slice_get}
 use Rattle.std.specs.declared.alloc.AllocError.{AllocError}
 use denote.Param.Send.{param_sync, sendable}
 use Rattle.std.proofs.Crossing.{crosses}
-use Rattle.worker_turns.proofs.Shared.{func_sync}
+use Rattle.nf_base.proofs.Shared.{func_sync}
 use Rattle.nf_base.specs.Functions.{function_of}
 use Rattle.vig_tables.specs.TablesState.{TablesState}
 use Rattle.ring_line.specs.Openings.{IsOpenedAt}

@@ -39,9 +39,9 @@ run_job-requires g c κs within =
                               has_ports = record {
                                 is_function = found.is_function;
                                 as_many = as_many ∙ sym (length-map c.args.found.now.source.func.handlers blocks_of);
-                                keyed = λ needs. keyed_by asked (function_of c.args.found.now.source.func) c.args.course.now requires.1.1.1.0 needs;
+                                keyed = λ needs. keyed_by asked (function_of c.args.found.now.source.func) c.args.worker_plan.now requires.1.1.1.0 needs;
                               };
-                              course = requires.1.1.1.0;
+                              worker_plan = requires.1.1.1.0;
                               handlers = sym c.len-ports.ensures.value;
                               captures = refl;
                               behind = refl;

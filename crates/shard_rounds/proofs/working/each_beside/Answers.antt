@@ -4,7 +4,7 @@ use Rattle.std.specs.contracts.vec.Vec as Vec
 use Rattle.std.specs.contracts.alloc.Global as Heap
 use Rattle.std.specs.contracts.impls.GlobalAllocator.TheImpl.{ghosts}
 use Rattle.std.proofs.Crossing.{Vec-send}
-use Rattle.worker_turns.proofs.Shared.{func_sync}
+use Rattle.nf_base.proofs.Shared.{func_sync}
 use Rattle.shard_core.specs.contracts.worker.Worker as worker
 use Rattle.shard_core.proofs.worker.Worker.TheSendSync as worker_law
 use Rattle.shard_rounds.proofs.working.each_beside.Lts.{arg-0-1}

@@ -4,7 +4,7 @@ use Rattle.shard_core.specs.Held.{Held}
 use Rattle.shard_rounds.specs.Workings.{WorkedThrough, AllWorkedThrough}
 use denote.Param.Send.{param_sync}
 use Rattle.shard_rounds.proofs.working.work_each.Lts.{arg-1-2}
-use Rattle.worker_turns.proofs.Shared.{func_sync}
+use Rattle.nf_base.proofs.Shared.{func_sync}
 use Rattle.shard_rounds.proofs.Called.{can_each, all_through, all_of}
 use Rattle.shard_rounds.proofs.working.work_each.Goals as goal
 

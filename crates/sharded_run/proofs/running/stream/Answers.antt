@@ -3,10 +3,10 @@ use Rattle.nf_base.specs.Functions.{function_of}
 use Rattle.packet_feed.specs.Arrivals.{packet_of}
 use Rattle.vig_tables.specs.TablesState.{TablesState}
 use Rattle.vig_tables.specs.Union.{AreOf}
-use Rattle.stream_run.specs.declared.stop.Stop.{Stop}
-use Rattle.stream_run.specs.declared.stop.Stop.TheVariants as fault
+use Rattle.stream_run.specs.declared.fault.RunFault.{RunFault}
+use Rattle.stream_run.specs.declared.fault.RunFault.TheVariants as fault
 use Rattle.stream_run.specs.Writing.{files_of}
-use Rattle.sharded_run.specs.declared.came.Ended.TheVariants as over
+use Rattle.sharded_run.specs.declared.result.RunEnd.TheVariants as over
 use Rattle.sharded_run.specs.Setups.{setup_of}
 use Rattle.sharded_run.specs.Going.{IsMadeOf}
 use Rattle.sharded_run.proofs.Begun.{share_by, is_setup, halts_begun}
@@ -48,7 +48,7 @@ returns-in-Ok-Full-clause-runs g c = λ card format held.
     let x = setup_of (function_of func) keys workers share in
     let is = is_setup (function_of func) keys workers some c.requires.most in
     let long = ap (λ (fs : List ℕ). length fs) c.requires.captures in
-    let h = new_flows {E = Stop} func keys workers n card format some c.requires.most begun c.flow-ended.new.feed start now c.args.sinks.now c.in-Ok.crew c.flow-ended.new.crew files (Ok (over.Full c.in-Ok-Full.full)) c.in-Ok.ensures c.requires.ports c.requires.six long held (rw c.in-Ok-Full.field-0-is at c.in-Ok-Full.ensures.flows) in
+    let h = new_flows {E = RunFault} func keys workers n card format some c.requires.most begun c.flow-ended.new.feed start now c.args.sinks.now c.in-Ok.crew c.flow-ended.new.crew files (Ok (over.Full c.in-Ok-Full.full)) c.in-Ok.ensures c.requires.ports c.requires.six long held (rw c.in-Ok-Full.field-0-is at c.in-Ok-Full.ensures.flows) in
     runs_full func keys workers share card format begun start now files c.flow-ended.new.crew c.finish-parts.result.0.items is c.requires.several c.requires.alike n (c.requires.ports ∙ counted func) c.requires.new c.in-Ok-Full.full h (c.finish-parts.ensures.finishes x (map packet_of h.all) h.got h.stands)
 
 pub returns-in-Ok-Full-clause-went : goal.returns-in-Ok-Full-clause-went
@@ -70,7 +70,7 @@ conclude-requires-clause-some g c =
     let x = setup_of (function_of func) keys workers share in
     let is = is_setup (function_of func) keys workers some c.requires.most in
     let long = ap (λ (fs : List ℕ). length fs) c.requires.captures in
-    let h = new_flows {E = Stop} func keys workers n c.requires.heads.0 c.requires.heads.1 some c.requires.most begun c.flow-ended.new.feed start now c.args.sinks.now c.in-Ok.crew c.flow-ended.new.crew files (Ok (over.Over c.in-Ok-Over.ending)) c.in-Ok.ensures c.requires.ports c.requires.six long c.requires.heads.2 (rw c.in-Ok-Over.field-0-is at c.in-Ok-Over.ensures.flows) in
+    let h = new_flows {E = RunFault} func keys workers n c.requires.heads.0 c.requires.heads.1 some c.requires.most begun c.flow-ended.new.feed start now c.args.sinks.now c.in-Ok.crew c.flow-ended.new.crew files (Ok (over.Over c.in-Ok-Over.ending)) c.in-Ok.ensures c.requires.ports c.requires.six long c.requires.heads.2 (rw c.in-Ok-Over.field-0-is at c.in-Ok-Over.ensures.flows) in
     let fin = (c.finish-parts.ensures.finishes x (map packet_of h.all) h.got h.stands) in
     omega (arith, fin.count, c.requires.several, ap (λ (ps : List TablesState). length ps) c.as_slice.ensures.value)
 
@@ -90,7 +90,7 @@ conclude-requires-clause-of_one g c =
     let x = setup_of (function_of func) keys workers share in
     let is = is_setup (function_of func) keys workers some c.requires.most in
     let long = ap (λ (fs : List ℕ). length fs) c.requires.captures in
-    let h = new_flows {E = Stop} func keys workers n c.requires.heads.0 c.requires.heads.1 some c.requires.most begun c.flow-ended.new.feed start now c.args.sinks.now c.in-Ok.crew c.flow-ended.new.crew files (Ok (over.Over c.in-Ok-Over.ending)) c.in-Ok.ensures c.requires.ports c.requires.six long c.requires.heads.2 (rw c.in-Ok-Over.field-0-is at c.in-Ok-Over.ensures.flows) in
+    let h = new_flows {E = RunFault} func keys workers n c.requires.heads.0 c.requires.heads.1 some c.requires.most begun c.flow-ended.new.feed start now c.args.sinks.now c.in-Ok.crew c.flow-ended.new.crew files (Ok (over.Over c.in-Ok-Over.ending)) c.in-Ok.ensures c.requires.ports c.requires.six long c.requires.heads.2 (rw c.in-Ok-Over.field-0-is at c.in-Ok-Over.ensures.flows) in
     subst (AreOf func.chains) (sym c.as_slice.ensures.value) (parts_of_one func keys workers share c.flow-ended.new.crew h.all h.got c.finish-parts.result.0.items (c.finish-parts.ensures.finishes x (map packet_of h.all) h.got h.stands))
 
 pub returns-in-Ok-conclude-clause-runs : goal.returns-in-Ok-conclude-clause-runs
@@ -109,7 +109,7 @@ returns-in-Ok-conclude-clause-runs g c = λ card format held.
     let x = setup_of (function_of func) keys workers share in
     let is = is_setup (function_of func) keys workers some c.requires.most in
     let long = ap (λ (fs : List ℕ). length fs) c.requires.captures in
-    let h = new_flows {E = Stop} func keys workers n card format some c.requires.most begun c.flow-ended.new.feed start now c.args.sinks.now c.in-Ok.crew c.flow-ended.new.crew files (Ok (over.Over c.in-Ok-Over.ending)) c.in-Ok.ensures c.requires.ports c.requires.six long held (rw c.in-Ok-Over.field-0-is at c.in-Ok-Over.ensures.flows) in
+    let h = new_flows {E = RunFault} func keys workers n card format some c.requires.most begun c.flow-ended.new.feed start now c.args.sinks.now c.in-Ok.crew c.flow-ended.new.crew files (Ok (over.Over c.in-Ok-Over.ending)) c.in-Ok.ensures c.requires.ports c.requires.six long held (rw c.in-Ok-Over.field-0-is at c.in-Ok-Over.ensures.flows) in
     let tables = c.as_slice.result.now in
     runs_over func keys workers share card format begun start now files c.flow-ended.new.crew c.finish-parts.result.0.items is c.requires.several c.requires.alike n (c.requires.ports ∙ counted func) c.requires.new c.flow-ended.new.feed c.in-Ok-Over.ending c.in-Ok-conclude.ran c.given.result h (c.finish-parts.ensures.finishes x (map packet_of h.all) h.got h.stands) c.given.ensures
     (λ hs v worked made. c.in-Ok-conclude.ensures keys workers hs v c.requires.several c.requires.alike worked
@@ -134,7 +134,7 @@ returns-in-Ok-Over-clause-runs g c = λ card format held.
     let x = setup_of (function_of func) keys workers share in
     let is = is_setup (function_of func) keys workers some c.requires.most in
     let long = ap (λ (fs : List ℕ). length fs) c.requires.captures in
-    let h = new_flows {E = Stop} func keys workers n card format some c.requires.most begun c.flow-ended.new.feed start now c.args.sinks.now c.in-Ok.crew c.flow-ended.new.crew files (Ok (over.Over c.in-Ok-Over.ending)) c.in-Ok.ensures c.requires.ports c.requires.six long held (rw c.in-Ok-Over.field-0-is at c.in-Ok-Over.ensures.flows) in
+    let h = new_flows {E = RunFault} func keys workers n card format some c.requires.most begun c.flow-ended.new.feed start now c.args.sinks.now c.in-Ok.crew c.flow-ended.new.crew files (Ok (over.Over c.in-Ok-Over.ending)) c.in-Ok.ensures c.requires.ports c.requires.six long held (rw c.in-Ok-Over.field-0-is at c.in-Ok-Over.ensures.flows) in
     runs_whole func keys workers share card format begun start now files c.flow-ended.new.crew c.finish-parts.result.0.items is c.requires.several c.requires.alike n (c.requires.ports ∙ counted func) c.requires.new c.flow-ended.new.feed c.in-Ok-Over.ending h (c.finish-parts.ensures.finishes x (map packet_of h.all) h.got h.stands)
 
 pub returns-clause-runs : goal.returns-clause-runs
@@ -153,5 +153,5 @@ returns-clause-runs g c = λ card format held.
     let x = setup_of (function_of func) keys workers share in
     let is = is_setup (function_of func) keys workers some c.requires.most in
     let long = ap (λ (fs : List ℕ). length fs) c.requires.captures in
-    let h = new_flows {E = Stop} func keys workers n card format some c.requires.most begun c.flow-ended.new.feed start now c.args.sinks.now c.in-Ok.crew c.flow-ended.new.crew files (Err c.in-Err-ended.stop) c.in-Ok.ensures c.requires.ports c.requires.six long held c.in-Err-ended.ensures.flows in
+    let h = new_flows {E = RunFault} func keys workers n card format some c.requires.most begun c.flow-ended.new.feed start now c.args.sinks.now c.in-Ok.crew c.flow-ended.new.crew files (Err c.in-Err-ended.stop) c.in-Ok.ensures c.requires.ports c.requires.six long held c.in-Err-ended.ensures.flows in
     runs_cut func keys workers share card format begun start now files c.flow-ended.new.crew c.finish-parts.result.0.items is c.requires.several c.requires.alike n (c.requires.ports ∙ counted func) c.requires.new h.0 h.1 h.2 (c.finish-parts.ensures.finishes x (map packet_of h.0) h.1 h.2) h.3 h.4

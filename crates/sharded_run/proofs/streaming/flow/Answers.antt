@@ -1,7 +1,7 @@
 use Rattle.std.proofs.Common.{◌∙◌, ℕ, List, length, refl, ap, subst}
 use Rattle.std.specs.List.{slice_get}
 use Rattle.run_history.specs.declared.line.Mode.TheVariants.{Shard}
-use Rattle.stream_run.specs.declared.stop.Stop.{Stop}
+use Rattle.stream_run.specs.declared.fault.RunFault.{RunFault}
 use Rattle.stream_run.specs.Writing.{files_of, AreHeld, AreFronts}
 use Rattle.stream_run.proofs.Complete.{empty_told}
 use Rattle.sharded_run.specs.Going.{AreWhole}
@@ -18,7 +18,7 @@ returns-in-Ok-flush_all-clause-flows g c = λ x card format begun start all suit
     let files = files_of c.args.sinks.now in
     let many = c.args.crew.now.ports in
     let same = c.flush_all.ensures.same_files ∙ c.pass_all.ensures.same_files in
-    flows_ok Stop x n begun c.pass_all.new.feed start mid now c.pass_all.new.crew (λ hs. AreHeld Shard x.workers card format many hs mid c.pass_all.new.sinks) (AreWhole x.workers card format many now files) (λ hs. AreFronts Shard x.workers card format many hs mid files) (λ hs. AreFronts Shard x.workers card format many hs now files) c.in-Ok.ended c.flush_all.ensures.kept.rests
+    flows_ok RunFault x n begun c.pass_all.new.feed start mid now c.pass_all.new.crew (λ hs. AreHeld Shard x.workers card format many hs mid c.pass_all.new.sinks) (AreWhole x.workers card format many now files) (λ hs. AreFronts Shard x.workers card format many hs mid files) (λ hs. AreFronts Shard x.workers card format many hs now files) c.in-Ok.ended c.flush_all.ensures.kept.rests
     (λ hs held k file e. empty_told Shard x.workers card format many now c.flush_all.new.sinks hs (c.in-Ok-flush_all.ensures.goes_on Shard x.workers card format many hs held) c.in-Ok-flush_all.ensures.empty k file (ap (λ (fs : List ℕ). slice_get fs k) same ∙ e))
     (c.in-Ok.ensures.flows x card format begun start all suits ports st h)
 

@@ -1,6 +1,6 @@
 use Rattle.std.proofs.Common.{◌≡◌, ◌∙◌, ◌++◌, ◌∷◌, [], length, refl, sym, subst}
 use Rattle.stream_run.specs.Writing.{files_of}
-use Rattle.sharded_run.specs.declared.came.ShareFull.{ShareFull}
+use Rattle.sharded_run.specs.declared.result.ShareFull.{ShareFull}
 use Rattle.sharded_run.specs.Passing.{MeetsStop}
 use Rattle.sharded_run.proofs.Went.{went_none, went_ok, went_err, went_then}
 use Rattle.sharded_run.proofs.Flowed.{suits_on, flows_as, stops_in, held_at, fronts_at, some_met, cut_short}

@@ -3,7 +3,7 @@ use Rattle.nf_base.specs.Functions.{function_of}
 use Rattle.nf_base.specs.Doors.{six_ports}
 use Rattle.lock_mode.specs.Gates.{Rose}
 use Rattle.stream_run.proofs.Held.{but_both, but_read}
-use Rattle.traffic_run.specs.Asked.{recipe_of, asked_for}
+use Rattle.traffic_run.specs.TrafficSpecs.{recipe_of, asked_for}
 use Rattle.traffic_run.proofs.Headers.{read_fault}
 use Rattle.traffic_run.proofs.Over.{arrivals_long, none_by, still_empty}
 use Rattle.traffic_run.proofs.handling.run_over.Goals as goal
@@ -38,7 +38,7 @@ pub returns-in-Err-clause-leaves : goal.returns-in-Err-clause-leaves
 returns-in-Err-clause-leaves g c =
     let told = g.F.Files.told in
     let Refused = Rose (g.G.Gate.refused c.args.gate.now) (g.G.Gate.refused c.args.gate.now) in
-    none_by c.args.who.now c.args.asked.now.card c.args.asked.now.format Refused (function_of c.args.func.now) (asked_for c.args.asked.now (length c.args.func.now.handlers)) (told c.start.new.files) c.args.targets.now
+    none_by c.args.worker_plan.now c.args.asked.now.card c.args.asked.now.format Refused (function_of c.args.func.now) (asked_for c.args.asked.now (length c.args.func.now.handlers)) (told c.start.new.files) c.args.targets.now
     (still_empty c.args.targets.now (told c.args.files.now) (told c.start.new.files) c.start.ensures.kept.givens c.requires.empty)
 
 pub stop_in-requires : goal.stop_in-requires

@@ -1,7 +1,7 @@
 use Rattle.std.proofs.Common.{length}
 use Rattle.nf_base.specs.Functions.{function_of}
 use Rattle.nf_base.specs.Doors.{six_ports}
-use Rattle.traffic_run.specs.Asked.{asked_for}
+use Rattle.traffic_run.specs.TrafficSpecs.{asked_for}
 use Rattle.traffic_run.proofs.Over.{whole_shards, full_shards, cut_shards}
 use Rattle.traffic_run.proofs.handling.run_shards.Goals as goal
 

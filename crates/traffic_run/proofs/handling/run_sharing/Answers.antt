@@ -2,7 +2,7 @@ use Rattle.std.proofs.Common.{length}
 use Rattle.nf_base.specs.Functions.{function_of}
 use Rattle.nf_base.specs.Doors.{six_ports}
 use Rattle.lock_mode.specs.Gates.{Rose}
-use Rattle.traffic_run.specs.Asked.{asked_for}
+use Rattle.traffic_run.specs.TrafficSpecs.{asked_for}
 use Rattle.traffic_run.proofs.Over.{whole_sharing, cut_sharing}
 use Rattle.traffic_run.proofs.handling.run_sharing.Goals as goal
 

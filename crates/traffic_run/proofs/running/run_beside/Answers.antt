@@ -4,7 +4,7 @@ use Rattle.nf_base.specs.Functions.{function_of}
 use Rattle.nf_files.specs.Told.{IsEmptyIfTold}
 use Rattle.lock_mode.specs.Gates.{Rose}
 use Rattle.made_captures.specs.Outputs.{counts_right, is_known, journal_of, mark_of}
-use Rattle.traffic_run.specs.Asked.{asked_for}
+use Rattle.traffic_run.specs.TrafficSpecs.{asked_for}
 use Rattle.traffic_run.proofs.Back.{marks_kept, keeps_back, leaves_back, empty_beside, counts_back, known_back}
 use Rattle.traffic_run.proofs.running.run_beside.Goals as goal
 
@@ -35,7 +35,7 @@ returns-clause-leaves g c =
     let right = counts_right new.outputs (told new.files.now) in
     let known = is_known (journal_of new.outputs) (counted new.files.now).first in
     let Refused = Rose (g.G.Gate.refused c.args.gate.now) (g.G.Gate.refused c.run_over.new.gate) in
-    leaves_back c.args.who.now c.args.asked.now.card c.args.asked.now.format Refused (function_of c.args.func.now) (asked_for c.args.asked.now (length c.args.func.now.handlers)) new.captures.now (mark_of new.files.ghost_name right known new.outputs.first new.outputs.count) right (told new.files.now) c.args.targets.now c.run_over.result
+    leaves_back c.args.worker_plan.now c.args.asked.now.card c.args.asked.now.format Refused (function_of c.args.func.now) (asked_for c.args.asked.now (length c.args.func.now.handlers)) new.captures.now (mark_of new.files.ghost_name right known new.outputs.first new.outputs.count) right (told new.files.now) c.args.targets.now c.run_over.result
     (m.right ∙ c.requires.right) c.run_over.ensures.leaves
 
 pub returns-clause-counts : goal.returns-clause-counts

@@ -1,5 +1,5 @@
 use Rattle.std.proofs.Common.{◌+◌, List, Vec, Global, length, ap, sym, ◌∙◌, subst}
-use Rattle.stream_run.specs.declared.stop.Stop.{Stop}
+use Rattle.stream_run.specs.declared.fault.RunFault.{RunFault}
 use Rattle.locked_run.specs.declared.chunk.Chunk.{Chunk}
 use Rattle.locked_run.specs.Handled.{joined}
 use Rattle.locked_run.specs.Chunks.{AreOf}
@@ -14,7 +14,7 @@ returns-in-Ok-clause-goes_on g c = λ mode workers card format ready whole.
     let w = c.write_beside.new.self in
     let all = joined c.args.batch.now c.args.worked.now.order c.args.worked.now.places.items in
     let from = c.args.from in
-    turned (Unit {0}) Stop mode workers card format c.args.ports all from (g.F.Files.told c.write_beside.new.files) c.args.targets.now old _ w.made.items w.next.items tt
+    turned (Unit {0}) RunFault mode workers card format c.args.ports all from (g.F.Files.told c.write_beside.new.files) c.args.targets.now old _ w.made.items w.next.items tt
     c.write_beside.ensures.filled (ap (λ (v : Vec Chunk Global). v.items) c.swap.ensures.x_after) (ap (λ (v : Vec Chunk Global). v.items) c.swap.ensures.y_after) c.write_beside.ensures.size ready
     (c.in-Ok.ensures.given.goes_on mode workers card format c.args.ports all from old.size ready.holds whole)
 

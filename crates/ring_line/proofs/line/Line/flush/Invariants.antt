@@ -10,5 +10,5 @@ abbrev pub invariant-loop-queue : goal.invariant-loop-queue
 invariant-loop-queue g l = record {
   stands : (x : Setup) (packets : List Packet) (got : List Collected) → LineStands l.fn.self x packets got → LineStands l.self x packets got;
   order : l.self.order ≡ l.fn.self.order;
-  queues : length l.self.places ≡ length l.fn.self.places;
+  queues : length l.self.queue_workers ≡ length l.fn.self.queue_workers;
 }

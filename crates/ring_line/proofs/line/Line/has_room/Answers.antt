@@ -7,7 +7,7 @@ pub returns-then-len-lt-ALL_IN_FLIGHT-clause-none : goal.returns-then-len-lt-ALL
 returns-then-len-lt-ALL_IN_FLIGHT-clause-none g c = λ none.
     let line = c.args.self.now in
     let q = c.args.queue in
-    let place = c.item.result.now in
-    let at : slice_get line.places q ≡ Some place = slice_get_read line.places (length line.places) q place refl c.requires c.item.ensures in
-    let zero = flights_none line.places q place (line.flights ∙ none) at in
+    let queue_worker = c.item.result.now in
+    let at : slice_get line.queue_workers q ≡ Some queue_worker = slice_get_read line.queue_workers (length line.queue_workers) q queue_worker refl c.requires c.item.ensures in
+    let zero = flights_none line.queue_workers q queue_worker (line.flights ∙ none) at in
     c.has_room.ensures.all (omega (arith, zero))

@@ -12,31 +12,31 @@ pub returns-clause-stands : goal.returns-clause-stands
 returns-clause-stands g c = λ x packets got st.
     let old = c.args.self.now in
     let q = c.args.queue in
-    let place = c.item_mut.result.now in
-    let at : slice_get old.places q ≡ Some place = slice_get_read old.places (length old.places) q place refl c.requires c.item_mut.ensures.value in
+    let queue_worker = c.item_mut.result.now in
+    let at : slice_get old.queue_workers q ≡ Some queue_worker = slice_get_read old.queue_workers (length old.queue_workers) q queue_worker refl c.requires c.item_mut.ensures.value in
     record {
-      count = length-set old.places q c.poll.new.self ∙ st.count;
+      count = length-set old.queue_workers q c.poll.new.self ∙ st.count;
       order = st.order;
       time = st.time;
-      places = each_set (StandAt x packets got) old.places q c.poll.new.self st.places
-          (c.poll.ensures.stands x.function (x.share q) (packets_at x.queue q packets) (collected_at q got) (st.places q place at));
+      queue_workers = each_set (StandAt x packets got) old.queue_workers q c.poll.new.self st.queue_workers
+          (c.poll.ensures.stands x.function (x.share q) (packets_at x.queue q packets) (collected_at q got) (st.queue_workers q queue_worker at));
     }
 
 pub invariant_of-self-clause-flights : goal.invariant_of-self-clause-flights
 invariant_of-self-clause-flights g c =
     let old = c.args.self.now in
     let q = c.args.queue in
-    let place = c.item_mut.result.now in
-    let at : slice_get old.places q ≡ Some place = slice_get_read old.places (length old.places) q place refl c.requires c.item_mut.ensures.value in
-    let set = flights_set old.places q place c.poll.new.self at in
+    let queue_worker = c.item_mut.result.now in
+    let at : slice_get old.queue_workers q ≡ Some queue_worker = slice_get_read old.queue_workers (length old.queue_workers) q queue_worker refl c.requires c.item_mut.ensures.value in
+    let set = flights_set old.queue_workers q queue_worker c.poll.new.self at in
     omega (arith, set, c.poll.ensures.in_flight, old.flights)
 
 pub invariant_of-self-clause-below : goal.invariant_of-self-clause-below
 invariant_of-self-clause-below g c =
     let old = c.args.self.now in
-    subst (λ (n : ℕ). All (λ (q : ℕ). q < n) old.order.items) (sym (length-set old.places c.args.queue c.poll.new.self)) old.below
+    subst (λ (n : ℕ). All (λ (q : ℕ). q < n) old.order.items) (sym (length-set old.queue_workers c.args.queue c.poll.new.self)) old.below
 
 pub invariant_of-self-clause-enough : goal.invariant_of-self-clause-enough
 invariant_of-self-clause-enough g c =
     let old = c.args.self.now in
-    subst (λ (n : ℕ). n ≤ vec_capacity old.parts) (sym (length-set old.places c.args.queue c.poll.new.self)) old.enough
+    subst (λ (n : ℕ). n ≤ vec_capacity old.parts) (sym (length-set old.queue_workers c.args.queue c.poll.new.self)) old.enough

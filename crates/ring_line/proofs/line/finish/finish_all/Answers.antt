@@ -18,7 +18,7 @@ loop-w-preserved g c =
     record {
       moved = (
         inv.moved.0 ++ m.first ∷ [],
-        inv.moved.1 ∙ ap (λ ps. inv.moved.0 ++ ps) m.left ∙ sym (append_assoc inv.moved.0 (m.first ∷ []) c.finish_first.new.places),
+        inv.moved.1 ∙ ap (λ ps. inv.moved.0 ++ ps) m.left ∙ sym (append_assoc inv.moved.0 (m.first ∷ []) c.finish_first.new.queue_workers),
         m.more inv.moved.0 inv.moved.2,
       );
       left = omega (arith, inv.left, c.finish_first.ensures.left);
@@ -29,4 +29,4 @@ loop-w-preserved g c =
 pub returns : goal.returns
 returns g c =
     let inv = c.loop-w.invariant in
-    all_finished c.args.places inv.moved.0 c.loop-w.places c.loop-w.parts.items inv.moved.1 (omega (arith, inv.left, c.loop-w-test.false, c.len-w-end.ensures)) inv.moved.2
+    all_finished c.args.queue_workers inv.moved.0 c.loop-w.queue_workers c.loop-w.parts.items inv.moved.1 (omega (arith, inv.left, c.loop-w-test.false, c.len-w-end.ensures)) inv.moved.2

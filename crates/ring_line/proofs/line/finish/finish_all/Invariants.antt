@@ -6,8 +6,8 @@ use Rattle.ring_line.proofs.line.finish.finish_all.Given as goal
 -- the first workers are at their end
 abbrev pub invariant-loop-w : goal.invariant-loop-w
 invariant-loop-w g l = record {
-  moved : (done : List _) × (l.fn.places ≡ done ++ l.places) × AreFinished done l.parts.items;
-  left : length l.places + l.w ≡ length l.fn.places;
+  moved : (done : List _) × (l.fn.queue_workers ≡ done ++ l.queue_workers) × AreFinished done l.parts.items;
+  left : length l.queue_workers + l.w ≡ length l.fn.queue_workers;
   long : length l.parts.items ≡ l.w;
   room : vec_capacity l.parts ≡ vec_capacity l.fn.parts;
 }

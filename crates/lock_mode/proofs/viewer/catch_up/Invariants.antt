@@ -1,4 +1,0 @@
-use Rattle.lock_mode.proofs.viewer.catch_up.Given as goal
-
-abbrev pub invariant-loop : goal.invariant-loop
-invariant-loop g l = Unit {0}

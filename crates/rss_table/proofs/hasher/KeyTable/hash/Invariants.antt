@@ -1,6 +1,0 @@
-use Rattle.std.proofs.Common.{◌≡◌, take}
-use Rattle.toeplitz_hash.specs.Toeplitz.{toeplitz_of}
-use Rattle.rss_table.proofs.hasher.KeyTable.hash.Given as goal
-
-abbrev pub invariant-loop-i : goal.invariant-loop-i
-invariant-loop-i l = l.hash ≡ toeplitz_of l.self (take l.i l.input)
