@@ -29,6 +29,7 @@ use nf_base::func::Func;
 use nf_base::packet::Packet;
 use nf_base::seq::Seq;
 use std::alloc::{AllocError, Global};
+use std::hint::spin_loop;
 use std::sync::{Mutex, MutexGuard, Wait};
 use vig_tables::Tables;
 
@@ -178,7 +179,7 @@ impl<J: Naming> Shared<J> {
         ensures room { seat.old.room ≤ seat.new.room + 1 }
     {
         seat.reserve(1)?;
-        let mut guard = self.publisher.lock(rt);
+        let mut guard = taken(&self.publisher, rt);
         let placed = guard.place(rt, seat, packet);
         MutexGuard::unlock(guard);
         placed
@@ -224,4 +225,19 @@ impl<J: Naming> Shared<J> {
         let Shared { publisher } = self;
         publisher.into_inner().published().end(rt);
     }
+}
+
+/// How often a lock is tried again before a thread sleeps until it is free: to wake one costs more than a
+/// packet that is handled under it.
+const TRIES: u32 = 500;
+
+// Takes a lock, at first by trying again.
+fn taken<'m, T, R: Wait>(lock: &'m Mutex<T>, rt: &R) -> MutexGuard<'m, T> {
+    for _ in 0..TRIES {
+        if let Some(guard) = lock.try_lock() {
+            return guard;
+        }
+        spin_loop();
+    }
+    lock.lock(rt)
 }

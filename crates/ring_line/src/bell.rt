@@ -7,43 +7,76 @@ use std::hint::spin_loop;
 use std::sync::Wait;
 use std::thread::{self, Parker, Threads};
 
-/// How often a thread looks again at most before it sleeps, where each may have a processor: for a tenth
-/// of a millisecond. To be woken costs the other side more than a packet does.
-const MANY_LOOKS: u32 = 2_000;
+/// How often a thread looks again before it sleeps, where each may have a processor: for a twentieth of a
+/// millisecond. To be woken costs the other side more than a packet does.
+const MANY_LOOKS: u32 = 1_000;
 
 /// The same where another thread is known to want the processor.
 const FEW_LOOKS: u32 = 50;
 
-/// How often a thread looks again before it sleeps: more often the longer that has helped, and seldom once
-/// it hasn't, for then who is waited for may want this very processor.
+/// How far looking is trusted at first and at most.
+const FULL_TRUST: u32 = 16;
+
+/// From here on a thread looks often.
+const TRUST: u32 = 8;
+
+/// How much trust is lost where looking often didn't help; it grows by one where it did.
+const LOSS: u32 = 4;
+
+/// Where looking isn't trusted, one wait in so many looks often all the same: others may have gone since.
+const SOMETIMES: u32 = 16;
+
+/// How often a thread looks again before it sleeps: often as long as four waits of five end by that, and
+/// else seldom, for then who is waited for may want this very processor.
 #[derive(Clone, Copy, Debug, PartialEq, Eq)]
 pub struct Looks {
-    now: u32,
     most: u32,
+    trust: u32,
+    // How many waits there were since looking was trusted.
+    since: u32,
 }
 
 impl Looks {
     /// How often each of so many threads looks again.
     pub fn of<R: Threads>(rt: &R, threads: usize) -> Looks {
         Looks {
-            now: FEW_LOOKS,
             most: most_for(rt, threads),
+            trust: FULL_TRUST,
+            since: 0,
+        }
+    }
+
+    /// How often it looks at this wait.
+    fn now(&self) -> u32 {
+        if self.trust >= TRUST || self.since >= SOMETIMES {
+            self.most
+        } else {
+            FEW_LOOKS
         }
     }
 
     /// An item came while it looked.
     fn helped(&mut self) {
-        let more = self.now / 8;
-        self.now = self
-            .now
-            .saturating_add(more)
-            .saturating_add(1)
-            .min(self.most);
+        if self.trust >= TRUST {
+            self.trust = self.trust.saturating_add(1).min(FULL_TRUST);
+        } else if self.since >= SOMETIMES {
+            self.trust = TRUST;
+            self.since = 0;
+        } else {
+            self.since = self.since.saturating_add(1);
+        }
     }
 
     /// None did.
     fn failed(&mut self) {
-        self.now = FEW_LOOKS;
+        if self.trust >= TRUST {
+            self.trust = self.trust.saturating_sub(LOSS);
+            self.since = 0;
+        } else if self.since >= SOMETIMES {
+            self.since = 0;
+        } else {
+            self.since = self.since.saturating_add(1);
+        }
     }
 }
 
@@ -111,7 +144,7 @@ fn spot<T>(from: &mut Consumer<T>, looks: &mut Looks) -> Option<T>
     if let Some(item) = pop(from) {
         return Some(item);
     }
-    match look(from, looks.now) {
+    match look(from, looks.now()) {
         Some(item) => {
             looks.helped();
             Some(item)
