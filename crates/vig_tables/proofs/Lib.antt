@@ -1,4 +1,5 @@
 pub mod RowLemmas
+pub mod NumberLemmas
 pub mod TagMembers
 pub mod Tagging
 pub mod TagLemmas

@@ -1,10 +1,12 @@
 -- Rows, by the cells in which they stand.
-use Rattle.std.proofs.Common.{◌≡◌, ◌∙◌, ap, sym, refl, arith, ℕ, zero, suc, ◌+◌, ◌*◌, ◌-◌, ◌<◌, ◌≤◌, List, [], ◌∷◌, ◌++◌, length, take, drop, get_or, replicate}
-use Rattle.std.specs.Prelude.{slice_set}
-use Rattle.std.proofs.lemmas.List.{length-append, length-drop, length-take-le, drop-drop, drop-take, drop-append-le, take_at, drop_at, take-append-le, take-take, take-set-le, drop-set-lt, drop-set-add, take-replicate, drop-replicate, set-get_or, set_past, append_assoc, replicate-append-replicate}
+use Rattle.std.proofs.Common.{◌≡◌, ◌∙◌, ap, sym, refl, arith, ℕ, zero, suc, ◌+◌, ◌*◌, ◌-◌, ◌<◌, ◌≤◌, min, List, [], ◌∷◌, ◌++◌, length, take, drop, get_or, replicate}
+use Rattle.std.specs.Prelude.{slice_set, slice_get, Some, None}
+use Rattle.std.proofs.lemmas.List.{length-append, length-drop, length-take-le, drop-drop, drop-take, drop-append-le, take_at, drop_at, take_min, drop_min, get_or-take, get_or-drop, take-append-le, take-take, take-set-le, drop-set-lt, drop-set-add, take-replicate, drop-replicate, set-get_or, set_past, append_assoc, replicate-append-replicate}
 use Rattle.std.proofs.Math.ListN.{length-set, length-replicate}
 use Rattle.std.proofs.Math.Seq.{drop-append-add}
 use Rattle.std.proofs.lemmas.Nat.{mul-le}
+use Rattle.std.proofs.lemmas.Option.{slice_get-get_or, slice_get_past}
+use Rattle.std.proofs.Math.Nat.{min-le_right}
 use Rattle.vig_tables.specs.Grid.{rows_of, filled}
 
 -- the end of a row is within the cells of all
@@ -110,13 +112,6 @@ rows_of_zeros (suc count) width n is =
     ∙ ap (λ (rest : List ℕ). replicate width 0 ∷ rows_of count width rest) (drop-replicate width n 0)
     ∙ ap (λ (rest : List (List ℕ)). replicate width 0 ∷ rest) (rows_of_zeros count width (n - width) (omega arith))
 
--- as many cells as before
-pub length_written :
-    (width at : ℕ) (cells row : List ℕ) → at + width ≤ length cells → length row ≡ width
-    → length (take at cells ++ (row ++ drop width (drop at cells))) ≡ length cells
-length_written width at cells row within wide =
-    omega (arith, length-append (take at cells) (row ++ drop width (drop at cells)), length-append row (drop width (drop at cells)), length-take-le at cells (omega arith), length-drop width (drop at cells), length-drop at cells)
-
 -- cells with zeros behind them
 pub length-filled : (n : ℕ) (cells : List ℕ) → length cells ≤ n → length (filled n cells) ≡ n
 length-filled n cells le = omega (arith, length-append cells (replicate (n - length cells) 0), length-replicate {A = ℕ} (n - length cells) 0, le)
@@ -132,42 +127,13 @@ filled_more n k cells le =
     all : k + (n - length (cells ++ replicate k 0)) ≡ n - length cells
     all = omega (arith, le, length-append cells (replicate k 0), length-replicate {A = ℕ} k 0)
 
--- a row among the cells, and one behind them
+-- a row among the cells
 pub filled_row :
     (n at width : ℕ) (cells : List ℕ) → at + width ≤ length cells
     → take width (drop at (filled n cells)) ≡ take width (drop at cells)
 filled_row n at width cells le =
     ap (take width) (drop-append-le at cells (replicate (n - length cells) 0) (omega (arith, le)))
     ∙ take-append-le width (drop at cells) (replicate (n - length cells) 0) (omega (arith, le, length-drop at cells))
-
-pub filled_none :
-    (n at width : ℕ) (cells : List ℕ) → length cells ≤ at → at + width ≤ n
-    → take width (drop at (filled n cells)) ≡ replicate width 0
-filled_none n at width cells past within =
-    ap (λ (m : ℕ). take width (drop m (filled n cells))) is
-    ∙ ap (take width) (drop-append-add cells (replicate (n - length cells) 0) (at - length cells) ∙ drop-replicate (at - length cells) (n - length cells) 0)
-    ∙ take-replicate width (n - length cells - (at - length cells)) 0 (omega (arith, past, within))
-  where
-    is : at ≡ length cells + (at - length cells)
-    is = omega (arith, past)
-
--- a row written among the cells
-pub filled_written :
-    (n at width : ℕ) (cells row : List ℕ) → at + width ≤ length cells → length row ≡ width
-    → filled n (take at cells ++ (row ++ drop width (drop at cells))) ≡ take at (filled n cells) ++ (row ++ drop width (drop at (filled n cells)))
-filled_written n at width cells row within wide = sym (
-    ap (λ (xs : List ℕ). xs ++ (row ++ drop width (drop at (cells ++ zs)))) (take-append-le at cells zs le)
-    ∙ ap (λ (xs : List ℕ). take at cells ++ (row ++ drop width xs)) (drop-append-le at cells zs le)
-    ∙ ap (λ (xs : List ℕ). take at cells ++ (row ++ xs)) (drop-append-le width (drop at cells) zs (omega (arith, within, length-drop at cells)))
-    ∙ ap (λ (xs : List ℕ). take at cells ++ xs) (sym (append_assoc row (drop width (drop at cells)) zs))
-    ∙ sym (append_assoc (take at cells) (row ++ drop width (drop at cells)) zs)
-    ∙ ap (λ (m : ℕ). (take at cells ++ (row ++ drop width (drop at cells))) ++ replicate (n - m) 0) (sym (length_written width at cells row within wide)))
-  where
-    zs : List ℕ
-    zs = replicate (n - length cells) 0
-
-    le : at ≤ length cells
-    le = omega (arith, within)
 
 set-append :
     (at v : ℕ) (xs ys : List ℕ) → at < length xs
@@ -192,19 +158,70 @@ reached n k old cells e le =
     ap (filled n) e
     ∙ filled_more n k old (omega (arith, le, ap length e, length-append old (replicate k 0), length-replicate {A = ℕ} k 0))
 
--- a row, or one number of it, written among the cells
-pub row_put :
-    (count width i : ℕ) (cells row : List ℕ) → i < count → i * width + width ≤ length cells
-    → length cells ≤ count * width → length row ≡ width
-    → rows_of count width (filled (count * width) (take (i * width) cells ++ (row ++ drop width (drop (i * width) cells)))) ≡ slice_set (rows_of count width (filled (count * width) cells)) i row
-row_put count width i cells row lt within le wide =
-    ap (rows_of count width) (filled_written (count * width) (i * width) width cells row within wide)
-    ∙ row_written count width i (i * width) (filled (count * width) cells) row lt (length-filled (count * width) cells le) wide refl
+-- a number of a row, and none past its end
+pub number_of :
+    (count width i c : ℕ) (cells : List ℕ) → i < count → c < width → length cells ≡ count * width
+    → slice_get (get_or (rows_of count width cells) i []) c ≡ Some (get_or cells (i * width + c) 0)
+number_of count width i c cells lt within all =
+    slice_get-get_or (get_or (rows_of count width cells) i []) c 0 (omega (arith, within, length-row_of count width i cells lt all))
+    ∙ ap (λ (row : List ℕ). Some (get_or row c 0)) (row_of count width i (i * width) cells lt refl)
+    ∙ ap Some (get_or-take width (drop (i * width) cells) c 0 within ∙ get_or-drop (i * width) cells c 0)
 
-pub cell_put :
-    (count width i c v : ℕ) (cells : List ℕ) → i < count → c < width
-    → i * width + c < length cells → length cells ≤ count * width
-    → rows_of count width (filled (count * width) (slice_set cells (i * width + c) v)) ≡ slice_set (rows_of count width (filled (count * width) cells)) i (slice_set (get_or (rows_of count width (filled (count * width) cells)) i []) c v)
-cell_put count width i c v cells lt narrow within le =
-    ap (rows_of count width) (filled_set (count * width) (i * width + c) v cells within)
-    ∙ cell_written count width i c (i * width + c) v (filled (count * width) cells) lt narrow (length-filled (count * width) cells le) refl
+pub no_number :
+    (count width i c : ℕ) (cells : List ℕ) → i < count → width ≤ c → length cells ≡ count * width
+    → slice_get (get_or (rows_of count width cells) i []) c ≡ None
+no_number count width i c cells lt past all =
+    slice_get_past (get_or (rows_of count width cells) i []) c (omega (arith, past, length-row_of count width i cells lt all))
+
+-- a part of a row, by what is left of it in the row
+pub part_of :
+    (count width i first parts : ℕ) (cells : List ℕ) → i < count → length cells ≡ count * width
+    → take parts (drop first (get_or (rows_of count width cells) i [])) ≡ take (min parts (width - min first width)) (drop (i * width + min first width) cells)
+part_of count width i first parts cells lt all =
+    ap (take parts) (sym (drop_min first row) ∙ ap (λ (n : ℕ). drop (min first n) row) wide ∙ ap (drop from) (row_of count width i (i * width) cells lt refl ∙ ap (λ (n : ℕ). take n (drop (i * width) cells)) split) ∙ drop-take from left (drop (i * width) cells) ∙ ap (take left) (drop-drop from (i * width) cells))
+    ∙ sym (take_min parts (take left rest))
+    ∙ ap (λ (n : ℕ). take (min parts n) (take left rest)) (length-take-le left rest within)
+    ∙ take-take (min parts left) left rest (min-le_right parts left)
+  where
+    row : List ℕ
+    row = get_or (rows_of count width cells) i []
+
+    wide : length row ≡ width
+    wide = length-row_of count width i cells lt all
+
+    from left : ℕ
+    from = min first width
+    left = width - from
+
+    rest : List ℕ
+    rest = drop (i * width + from) cells
+
+    split : width ≡ from + left
+    split = omega (arith, min-le_right first width)
+
+    within : left ≤ length rest
+    within = omega (arith, min-le_right first width, row_end count width i lt, all, length-drop (i * width + from) cells)
+
+-- its end is within the cells
+pub part_end :
+    (count width i first parts : ℕ) (cells : List ℕ) → i < count → length cells ≡ count * width
+    → i * width + min first width + min parts (width - min first width) ≤ length cells
+part_end count width i first parts cells lt all =
+    omega (arith, row_end count width i lt, all, min-le_right first width, min-le_right parts (width - min first width))
+
+-- a row put over another
+pub row_put :
+    (count width i : ℕ) (cells row : List ℕ) → i < count → length cells ≡ count * width
+    → length row ≡ width
+    → rows_of count width (take (i * width) cells ++ (row ++ drop (i * width + length row) cells)) ≡ slice_set (rows_of count width cells) i row
+row_put count width i cells row lt all wide =
+    ap (λ (n : ℕ). rows_of count width (take (i * width) cells ++ (row ++ drop (i * width + n) cells))) wide
+    ∙ ap (λ (rest : List ℕ). rows_of count width (take (i * width) cells ++ (row ++ rest))) (sym (drop-drop width (i * width) cells))
+    ∙ row_written count width i (i * width) cells row lt all wide refl
+
+-- as many cells as before
+pub length_put :
+    (at : ℕ) (cells row : List ℕ) → at + length row ≤ length cells
+    → length (take at cells ++ (row ++ drop (at + length row) cells)) ≡ length cells
+length_put at cells row within =
+    omega (arith, within, length-append (take at cells) (row ++ drop (at + length row) cells), length-append row (drop (at + length row) cells), length-take-le at cells (omega arith), length-drop (at + length row) cells)

@@ -7,6 +7,7 @@ ghost use Rattle.nf_base.specs.Context.{or_zero, label_of, column_of};
 ghost use Rattle.nf_base.specs.Limits.{HaveShortKeys};
 ghost use Rattle.nf_base.specs.Shares.{owns, none_vacant};
 ghost use Rattle.vig_tables.specs.Table.{opened, with_chain, index_under, index_with, has_label, has_labels, CauseOf, if_made, can_make_at, entered, without_past, raised, overwritten, can_adopt, adopted};
+ghost use Rattle.vig_tables.specs.Grid.{row_at};
 ghost use Rattle.vig_tables.specs.Slots.{labelled, live};
 
 use crate::created::Created;
@@ -224,7 +225,7 @@ impl ChainTables {
         if self.chain.stamp(i).is_none() {
             return 0;
         }
-        number_at(self.labels.row(i), label)
+        or_zero(self.labels.number(i, label))
     }
 
     /// A free column of the entry at an index, 0 where there is none.
@@ -234,7 +235,7 @@ impl ChainTables {
         if self.chain.stamp(i).is_none() {
             return 0;
         }
-        number_at(self.columns.row(i), column)
+        or_zero(self.columns.number(i, column))
     }
 
     /// A free column of the entry at an index, if there are both.
@@ -245,7 +246,7 @@ impl ChainTables {
         if self.chain.stamp(i).is_none() {
             return None;
         }
-        number_in(self.columns.row(i), column)
+        self.columns.number(i, column)
     }
 
     /// Writes a free column of the entry at an index, if there are both.
@@ -269,22 +270,26 @@ impl ChainTables {
 
     /// Makes the entry that other tables of the chain have at an index, at that index: false where
     /// they have none, the index is not own or is live, or a key is bound.
-    pub fn adopt(&mut self, i: u32, other: &ChainTables) -> bool
+    pub fn adopt(&mut self, alloc: Global, i: u32, other: &ChainTables) -> Result<bool, AllocError>
         requires { other.now.decl ≡ self.old.decl }
-        ensures cause { result ≡ can_adopt (entry_at other.now.chain.slots i) self.old i }
+        ensures cause { let entry = entry_at other.now.chain.slots i in
+            IfOk result (λ made. made ≡ can_adopt entry self.old i) }
         ensures adopted { let entry = entry_at other.now.chain.slots i in
-            OnTrue result (self.new ≡ adopted entry i self.old) }
-        ensures unchanged { OnFalse result (self.new ≡ self.old) }
+            IfOk result (λ made. OnTrue made (self.new ≡ adopted entry i self.old)) }
+        ensures unchanged { IfOk result (λ made. OnFalse made (self.new ≡ self.old)) }
+        ensures as_before { OnErr result (self.new ≡ self.old) }
     {
         let stamp = match other.chain.stamp(i) {
             Some(stamp) => stamp,
-            None => return false,
+            None => return Ok(false),
         };
-        if !self.create_at(i, other.labels.row(i), stamp) {
-            return false;
+        let labels = other.labels.row(alloc, i)?;
+        let columns = other.columns.row(alloc, i)?;
+        if !self.create_at(i, labels.as_slice(), stamp) {
+            return Ok(false);
         }
-        self.set_columns(i, other.columns.row(i));
-        true
+        self.set_columns(i, columns.as_slice());
+        Ok(true)
     }
 
     /// Takes a stamp for one given so far: the greatest one is then no less.
@@ -306,7 +311,7 @@ impl ChainTables {
         if self.chain.stamp(i).is_none() {
             return None;
         }
-        if has_labels(guards, self.labels.row(i)) {
+        if has_labels(guards, &self.labels, i) {
             Some(i)
         } else {
             None
@@ -354,8 +359,8 @@ impl ChainTables {
             Some(stamp) => stamp,
             None => return Ok(None),
         };
-        let labels = Vec::from_slice(alloc, self.labels.row(i))?;
-        let columns = Vec::from_slice(alloc, self.columns.row(i))?;
+        let labels = self.labels.row(alloc, i)?;
+        let columns = self.columns.row(alloc, i)?;
         Ok(Some(Entry {
             stamp,
             labels: Seq::from_vec(labels),
@@ -398,42 +403,34 @@ impl ChainTables {
     }
 }
 
-/// A number of a row, none past its end.
-fn number_in(row: &[u128], column: u32) -> Option<u128>
-    ensures { result ≡ slice_get row.now column }
+/// A number, 0 where there is none.
+fn or_zero(number: Option<u128>) -> u128
+    ensures { result ≡ or_zero number }
 {
-    match row.get(column as usize) {
-        Some(number) => Some(*number),
-        None => None,
-    }
-}
-
-/// A number of a row, 0 past its end.
-fn number_at(row: &[u128], column: u32) -> u128
-    ensures { result ≡ or_zero (slice_get row.now column) }
-{
-    match row.get(column as usize) {
-        Some(number) => *number,
+    match number {
+        Some(number) => number,
         None => 0,
     }
 }
 
-/// Whether a label has a value.
-fn has_label(guard: &(u32, u128), labels: &[u128]) -> bool
-    ensures { result ≡ has_label guard.now (labelled labels.now) }
+/// Whether a label of a row has a value.
+fn has_label(guard: &(u32, u128), labels: &Rows, i: u32) -> bool
+    requires { i < length labels.now.rows }
+    ensures { result ≡ has_label guard.now (labelled (row_at labels.now i)) }
 {
-    match labels.get(guard.0 as usize) {
-        Some(value) => *value == guard.1,
+    match labels.number(i, guard.0) {
+        Some(value) => value == guard.1,
         None => false,
     }
 }
 
-/// Whether labels have these values, each with the label's number.
-fn has_labels(guards: &[(u32, u128)], labels: &[u128]) -> bool
-    ensures { result ≡ has_labels guards.now (labelled labels.now) }
+/// Whether labels of a row have these values, each with the label's number.
+fn has_labels(guards: &[(u32, u128)], labels: &Rows, i: u32) -> bool
+    requires { i < length labels.now.rows }
+    ensures { result ≡ has_labels guards.now (labelled (row_at labels.now i)) }
 {
     for guard in guards {
-        if !has_label(guard, labels) {
+        if !has_label(guard, labels, i) {
             return false;
         }
     }

@@ -1,7 +1,7 @@
 //! A map of a chain.
 ghost use Rattle.std.specs.Prelude.{◌≡◌, ℕ, ◌≤◌, ◌<◌, ◌↔◌, [], length, take, drop, IsTrue, IfOk, All, map, Some};
 ghost use Rattle.std.specs.List.{AllZip, list_any};
-ghost use Rattle.nf_base.specs.Chains.{key_in};
+ghost use Rattle.nf_base.specs.Limits.{HaveShortKeys};
 ghost use Rattle.hash_slots.specs.Tags.{tags_of};
 ghost use Rattle.vig_map.specs.Bindings.{value_of, is_bindable};
 ghost use Rattle.vig_tables.specs.Grid.{row_at};
@@ -23,11 +23,14 @@ pub struct KeyMap {
 }
 
 impl Model for KeyMap {
+    ghost use Rattle.std.specs.Prelude.{◌≤◌};
     ghost use Rattle.vig_tables.specs.Tagged.{Tagged};
 
     ghost Value = { Tagged };
 
     ghost view = { λ a. record { decl = a.decl; tags = a.slots } };
+
+    ghost invariant = { λ a. a.decl.parts ≤ 8 };
 }
 
 /// The numbers from a place on, as many as there are up to a count.
@@ -41,37 +44,6 @@ fn part(numbers: &[u128], first: u32, count: u32) -> &[u128]
     &rest[..end]
 }
 
-/// The key of a row.
-#[inline]
-fn key_at<'a>(decl: &MapDecl, labels: &'a Rows, i: u32) -> &'a [u128]
-    requires { i < length labels.now.rows }
-    ensures value { result.now ≡ key_in decl.now (row_at labels.now i) }
-    ensures few { i < 65536 }
-{
-    part(labels.row(i), decl.first, decl.parts)
-}
-
-/// Whether two keys are equal.
-///
-/// Keys of four parts, as those of flows, are compared without a loop.
-#[inline]
-fn is_same(a: &[u128], b: &[u128]) -> bool
-    ensures { IsTrue result ↔ (a.now ≡ b.now) }
-{
-    if a.len() != b.len() {
-        return false;
-    }
-    if let ([x, y, z, w], [e, f, g, h]) = (a, b) {
-        return *x == *e && *y == *f && *z == *g && *w == *h;
-    }
-    for i in 0..a.len() {
-        if a[i] != b[i] {
-            return false;
-        }
-    }
-    true
-}
-
 impl KeyMap {
     /// The index to which a key is bound.
     #[inline(always)]
@@ -83,7 +55,7 @@ impl KeyMap {
         let is_key = |i: u32|
             requires { i < length labels.now.rows }
             ensures { IsTrue result ↔ (keys_in decl.entry.now labels.entry.now i ≡ key.entry.now) }
-        { is_same(key_at(decl, labels, i), key) };
+        { labels.has_part(i, decl.first, decl.parts, key) };
         self.slots.find(tag_of(key), is_key)
     }
 
@@ -102,7 +74,7 @@ impl KeyMap {
         requires within { i < length labels.now.rows }
         ensures { IsBoundIn labels.now i self.old self.new }
     {
-        let tag = tag_of(key_at(&self.decl, labels, i));
+        let tag = labels.tag_of_part(i, self.decl.first, self.decl.parts);
         self.slots.put(tag, i);
     }
 
@@ -112,12 +84,13 @@ impl KeyMap {
         requires within { i < length labels.now.rows }
         ensures { IsUnboundIn labels.now i self.old self.new }
     {
-        let tag = tag_of(key_at(&self.decl, labels, i));
+        let tag = labels.tag_of_part(i, self.decl.first, self.decl.parts);
         self.slots.erase(tag, i);
     }
 
     /// A map in which no key is bound, with room for so many.
     fn new(alloc: Global, decl: &MapDecl, size: Size) -> Result<KeyMap, AllocError>
+        requires { decl.now.parts ≤ 8 }
         ensures { IfOk result (λ map. map ≡ opened_map decl.now size) }
     {
         Ok(KeyMap {
@@ -162,6 +135,7 @@ pub fn unbind_all(maps: &mut Vec<KeyMap>, labels: &Rows, i: u32)
 
 /// Maps for a chain of so many indices.
 pub fn new_maps(alloc: Global, decls: &[MapDecl], size: Size) -> Result<Vec<KeyMap>, AllocError>
+    requires { HaveShortKeys decls.now }
     ensures { IfOk result (λ maps.
         maps.items ≡ map (λ decl. opened_map decl size) decls.now) }
 {

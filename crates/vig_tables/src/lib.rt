@@ -5,6 +5,7 @@
 mod chain_tables;
 mod created;
 mod key_map;
+mod numbers;
 mod rows;
 mod tables;
 mod unions;

@@ -13,6 +13,6 @@ row-requires-2 c = (rows_within _ _ _ _ _ c.args.i c.in-Some.stamp c.self.invari
 
 pub returns : goal.returns
 returns c =
-    let labels = c.from_vec.ensures ∙ c.in_ok-labels.ensures.items ∙ c.row.ensures.value in
-    let columns = c.from_vec-2.ensures ∙ c.in_ok-columns.ensures.items ∙ c.row-2.ensures.value in
+    let labels = c.from_vec.ensures ∙ c.in_ok-labels.ensures in
+    let columns = c.from_vec-2.ensures ∙ c.in_ok-columns.ensures in
     rw (← c.self.view_is, labels, columns) (sym (stands _ _ _ _ _ c.args.i c.in-Some.stamp c.self.invariant.joined (sym c.in-Some.ensures.value)))

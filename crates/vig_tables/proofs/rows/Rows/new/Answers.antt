@@ -1,5 +1,5 @@
-use Rattle.std.proofs.Common.{◌∙◌, ap, arith, ℕ, ◌*◌, ◌-◌, List}
-use Rattle.vig_tables.specs.Grid.{Grid, grid_of, filled}
+use Rattle.std.proofs.Common.{◌∙◌, ap, refl, ℕ, ◌*◌, List}
+use Rattle.vig_tables.specs.Grid.{Grid, grid_of}
 use Rattle.vig_tables.proofs.RowLemmas.{rows_of_zeros}
 use Rattle.vig_tables.proofs.rows.Rows.new.Goals as goal
 
@@ -7,5 +7,5 @@ pub returns : goal.returns
 returns c =
     let count = c.args.count in
     let width = c.args.width in
-    ap (λ (xs : List ℕ). grid_of count width (filled (count * width) xs)) c.in_ok-cells.ensures.items
-    ∙ ap (λ (rows : List (List ℕ)). let grid : Grid = record { width = width; rows = rows } in grid) (rows_of_zeros count width (count * width - 0) (omega arith))
+    ap (grid_of count width) c.in_ok-numbers.ensures
+    ∙ ap (λ (rows : List (List ℕ)). let grid : Grid = record { width = width; rows = rows } in grid) (rows_of_zeros count width (count * width) refl)

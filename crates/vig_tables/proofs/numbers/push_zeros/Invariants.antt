@@ -1,6 +1,6 @@
 use Rattle.std.proofs.Common.{◌≡◌, ◌-◌, ◌++◌, length, replicate}
 use Rattle.std.specs.Vec.{vec_capacity}
-use Rattle.vig_tables.proofs.rows.push_zeros.Given as goal
+use Rattle.vig_tables.proofs.numbers.push_zeros.Given as goal
 
 abbrev pub invariant-loop-at : goal.invariant-loop-at
 invariant-loop-at l = record {

@@ -1,6 +1,6 @@
 use Rattle.std.proofs.Common.{◌≡◌, ◌∙◌, ap, arith, ℕ, ◌+◌, ◌-◌, ◌≤◌, ◌++◌, ◌∷◌, [], List, length, replicate}
 use Rattle.std.proofs.lemmas.List.{append_assoc, length-append, replicate-append-replicate}
-use Rattle.vig_tables.proofs.rows.push_zeros.Goals as goal
+use Rattle.vig_tables.proofs.numbers.push_zeros.Goals as goal
 
 pub push_reserved-requires : goal.push_reserved-requires
 push_reserved-requires c = omega (arith, c.loop-at.cells.ok.0, c.loop-at.invariant.len, c.loop-at.invariant.room, c.requires.room, c.loop-at-test.true)
