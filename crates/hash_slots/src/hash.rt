@@ -1,5 +1,5 @@
 //! The tag of a key.
-ghost use Rattle.std.specs.Prelude.{◌≡◌};
+ghost use Rattle.std.specs.Prelude.{◌≡◌, bit_and};
 ghost use Rattle.hash_slots.specs.Hashes.{tag_of, mixed, step};
 
 /// An odd number near 2^64 divided by the golden ratio.
@@ -29,14 +29,27 @@ fn stirred(hash: u64, part: u128) -> u64
     mixed(low, high).wrapping_add(low)
 }
 
+/// 32 bits of a key's hash.
+#[inline]
+fn tag(hash: u64) -> u32
+    ensures { result ≡ bit_and (mixed hash 0xD1B54A32D192ED03) 0xFFFFFFFF }
+{
+    (mixed(hash, SECOND) & 0xffff_ffff) as u32
+}
+
 /// 32 bits of the hash of a key.
+///
+/// A key of four parts, as that of a flow, is hashed without a loop.
 #[inline]
 pub fn tag_of(key: &[u128]) -> u32
     ensures { result ≡ tag_of key.now }
 {
+    if let [a, b, c, d] = key {
+        return tag(stirred(stirred(stirred(stirred(SECOND, *a), *b), *c), *d));
+    }
     let mut hash = SECOND;
     for part in key {
         hash = stirred(hash, *part);
     }
-    (mixed(hash, SECOND) & 0xffff_ffff) as u32
+    tag(hash)
 }

@@ -54,7 +54,8 @@ impl Slots {
     }
 
     /// An index with a tag whose key is the wanted one: none where there is no such.
-    #[inline]
+    // A part of its caller, so that the test of a key is no call either.
+    #[inline(always)]
     pub fn find<F: Fn(u32) -> bool>(&self, tag: u32, is_key: F) -> Option<u32>
         requires { (t i : ℕ) → Holds self.now t i → F.pre is_key i }
         ensures found { IfSome result (λ i. Holds self.now tag i × F.post is_key i true) }
