@@ -52,12 +52,17 @@ fn key_at<'a>(decl: &MapDecl, labels: &'a Rows, i: u32) -> &'a [u128]
 }
 
 /// Whether two keys are equal.
+///
+/// Keys of four parts, as those of flows, are compared without a loop.
 #[inline]
 fn is_same(a: &[u128], b: &[u128]) -> bool
     ensures { IsTrue result ↔ (a.now ≡ b.now) }
 {
     if a.len() != b.len() {
         return false;
+    }
+    if let ([x, y, z, w], [e, f, g, h]) = (a, b) {
+        return *x == *e && *y == *f && *z == *g && *w == *h;
     }
     for i in 0..a.len() {
         if a[i] != b[i] {
