@@ -9,8 +9,9 @@ use Rattle.std.proofs.lemmas.List.{map-set, length-map, get_or-map}
 use Rattle.std.proofs.lemmas.List.FromFn.{length-map-range_with_len, get_or-map-range_with_len, take-map-range_with_len}
 use Rattle.nf_base.specs.declared.share.Share.{Share}
 use Rattle.nf_base.specs.Shares.{owns}
-use Rattle.vig_chain.specs.declared.heads.Head.{Head}
-use Rattle.vig_chain.specs.Heads.{Linked, AreHeads, linked_of, rings_in, stamp_in, next_in, prev_in, head_at_start, heads_at_start, rings_at_start, next_at_start, prev_at_start, opened_heads, with_next, with_prev, with_head}
+use Rattle.vig_chain.specs.declared.cells.Head.{Head}
+use Rattle.vig_chain.specs.Cells.{head_at_start, heads_at_start, next_at_start, prev_at_start}
+use Rattle.vig_chain.specs.Heads.{Linked, AreHeads, linked_of, rings_in, stamp_in, next_in, prev_in, rings_at_start, opened_heads, with_next, with_prev, with_head}
 use Rattle.vig_chain.specs.Rings.{Rings, IsLinked, AreLinked, ring_of}
 use Rattle.vig_chain.specs.Sound.{IsSoundChain}
 use Rattle.vig_chain.specs.Stamps.{opened}

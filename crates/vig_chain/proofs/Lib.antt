@@ -1,3 +1,4 @@
+pub mod CellLemmas
 pub mod RingLemmas
 pub mod Relinking
 pub mod Slots

@@ -6,7 +6,7 @@ use Rattle.std.proofs.Math.Nat.{add-mod_right, add-mul-mod_self_left, mod-add-di
 use Rattle.std.proofs.lemmas.Bool.{cases_eq, cases_lt, lt-ltb, le-ltb}
 use Rattle.nf_base.specs.declared.share.Share.{Share}
 use Rattle.nf_base.specs.Shares.{owns}
-use Rattle.vig_chain.specs.Heads.{last_own, next_at_start, prev_at_start}
+use Rattle.vig_chain.specs.Cells.{last_own, next_at_start, prev_at_start}
 use Rattle.vig_chain.specs.Rings.{IsLinked, ring_of}
 use Rattle.vig_chain.proofs.Slots.{stamp_replicate, ring_within_size, ring_begins, ring_past}
 

@@ -1,8 +1,9 @@
 -- What a chain's memory is seen as: for each cell a head of sixteen bytes.
-use Rattle.std.specs.Prelude.{◌≡◌, ℕ, ◌+◌, ◌-◌, ◌*◌, ◌/◌, ◌%◌, ◌≤◌, ◌==◌, nat_lt, if◌then◌else◌, List, Option, Some, None, length, map, replicate, slice_set, take}
+use Rattle.std.specs.Prelude.{◌≡◌, ℕ, ◌+◌, ◌/◌, ◌%◌, ◌≤◌, ◌==◌, if◌then◌else◌, List, Option, Some, None, length, map, replicate, slice_set, take}
 use Rattle.std.specs.List.{range_with_len}
 use Rattle.nf_base.specs.declared.share.Share.{Share}
-use Rattle.vig_chain.specs.declared.heads.Head.{Head}
+use Rattle.vig_chain.specs.declared.cells.Head.{Head}
+use Rattle.vig_chain.specs.Cells.{next_at_start, prev_at_start}
 use Rattle.vig_chain.specs.Rings.{Rings, unlinked, appended}
 use Rattle.vig_chain.specs.Sound.{LinksInRange}
 
@@ -37,37 +38,6 @@ pub record AreHeads (size : ℕ) (heads : List Head) : Type 0 where
   pub most : size ≤ 65536
   pub cells : length heads ≡ size + 2
   pub links : LinksInRange (rings_in heads)
-
--- the last of a share's own indices, of so many: where there is none, the cell where the ring of
--- the available ones begins
-abbrev pub last_own : ℕ → Share → ℕ
-last_own size share =
-    if nat_lt share.queue size then size - 1 - (size - 1 - share.queue) % share.of else size + 1
-
--- The next cell and the one before, when nothing was done yet: along the own indices by as many as
--- there are shares, and round by the cell where the ring of the available ones begins.
-abbrev pub next_at_start : ℕ → Share → ℕ → ℕ
-next_at_start size share cell =
-    if nat_lt cell size then (if nat_lt (cell + share.of) size then cell + share.of else size + 1)
-    else (if cell == size then size
-    else (if nat_lt share.queue size then share.queue else size + 1))
-
-abbrev pub prev_at_start : ℕ → Share → ℕ → ℕ
-prev_at_start size share cell =
-    if nat_lt cell size then (if nat_lt cell share.of then size + 1 else cell - share.of)
-    else (if cell == size then size else last_own size share)
-
--- a cell's head when nothing was done yet
-abbrev pub head_at_start : ℕ → Share → ℕ → Head
-head_at_start size share cell = record {
-  stamp = 0;
-  next = next_at_start size share cell;
-  prev = 2 * prev_at_start size share cell;
-}
-
--- the heads of all cells when nothing was done yet
-abbrev pub heads_at_start : ℕ → Share → List Head
-heads_at_start size share = map (head_at_start size share) (range_with_len 0 (size + 2))
 
 -- the rings when nothing was done yet
 abbrev pub rings_at_start : ℕ → Share → Rings

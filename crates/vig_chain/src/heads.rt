@@ -1,26 +1,16 @@
-//! The stamps of indices, and doubly linked rings of cells: sixteen bytes a cell, in one array.
+//! The stamps of indices, and doubly linked rings of cells.
 ghost use Rattle.std.specs.Prelude.{◌≡◌, ℕ, ◌+◌, ◌<◌, ◌≤◌, length, Some, None, IfOk, slice_index, slice_set, map};
 ghost use Rattle.std.specs.List.{range_with_len};
 ghost use Rattle.nf_base.specs.Limits.{IsShare};
-ghost use Rattle.vig_chain.specs.Heads.{linked_of, opened_heads, head_at_start, stamp_in, next_in, prev_in, last_own, with_next, with_prev, with_head, cut_out, put_last};
+ghost use Rattle.vig_chain.specs.Heads.{linked_of, opened_heads, stamp_in, next_in, prev_in, with_next, with_prev, with_head, cut_out, put_last};
 ghost use Rattle.vig_chain.specs.Sound.{LinksInRange};
 ghost use Rattle.vig_chain.specs.Stamps.{stamp_of, is_vacant_at};
 
+use crate::cells::{Cells, Head};
 use nf_base::share::Share;
 use nf_base::size::Size;
 use std::alloc::{AllocError, Global};
 use std::marker::Model;
-
-/// What stands at a cell.
-#[derive(Clone, Copy, Drop)]
-struct Head {
-    /// The stamp of the entry, where there is one.
-    stamp: u64,
-    /// The next cell in its ring.
-    next: u32,
-    /// Twice the cell before in its ring, and 1 more where an entry stands here.
-    prev: u32,
-}
 
 /// A cell for each index, then the one where the ring of the entries begins, in the order of their
 /// stamps, and then the one where the ring of the available indices does.
@@ -28,7 +18,7 @@ struct Head {
 pub struct Heads {
     /// How many indices there are.
     size: u32,
-    heads: Vec<Head>,
+    cells: Cells,
 }
 
 impl Model for Heads {
@@ -36,9 +26,9 @@ impl Model for Heads {
 
     ghost Value = { Linked };
 
-    ghost view = { λ a. linked_of a.size a.heads.items };
+    ghost view = { λ a. linked_of a.size a.cells };
 
-    ghost invariant = { λ a. AreHeads a.size a.heads.items };
+    ghost invariant = { λ a. AreHeads a.size a.cells };
 }
 
 /// The stamp in a head, by the head's fields.
@@ -71,51 +61,6 @@ fn head_of(stamp: Option<u64>, next: u32, prev: u32) -> Head
     }
 }
 
-/// The last of a share's own indices, of so many: the cell where their ring begins where there is
-/// none.
-fn last_own(size: u32, share: Share) -> u32
-    requires some { 1 ≤ size }
-    requires most { size ≤ 65536 }
-    ensures { result ≡ last_own size share }
-{
-    let Share { queue, of, .. } = share;
-    if queue < size {
-        size - 1 - (size - 1 - queue) % of
-    } else {
-        size + 1
-    }
-}
-
-/// A cell's head before anything is done with the chain: the share's own indices stand in the ring
-/// of the available ones, the lesser first.
-fn head_at_start(size: u32, share: Share, cell: u32) -> Head
-    requires some { 1 ≤ size }
-    requires most { size ≤ 65536 }
-    requires within { cell < size + 2 }
-    ensures { result ≡ head_at_start size share cell }
-{
-    let Share { queue, of, .. } = share;
-    let ring = size + 1;
-    let (next, prev) = if cell < size {
-        (
-            if cell + of < size { cell + of } else { ring },
-            if of <= cell { cell - of } else { ring },
-        )
-    } else if cell == size {
-        (size, size)
-    } else {
-        (
-            if queue < size { queue } else { ring },
-            last_own(size, share),
-        )
-    };
-    Head {
-        stamp: 0,
-        next,
-        prev: 2 * prev,
-    }
-}
-
 impl Heads {
     /// The heads of so many indices, all of them vacant, of which a share's own are available.
     pub fn new(alloc: Global, size: Size, share: Share) -> Result<Heads, AllocError>
@@ -123,12 +68,11 @@ impl Heads {
         ensures some { 1 ≤ size }
         ensures most { size ≤ 65536 }
     {
-        let size = size.get();
-        let mut heads = Vec::with_capacity(alloc, size as usize + 2)?;
-        for cell in 0..size + 2 {
-            heads.push(head_at_start(size, share, cell))?;
-        }
-        Ok(Heads { size, heads })
+        let cells = Cells::new(alloc, size, share)?;
+        Ok(Heads {
+            size: size.get(),
+            cells,
+        })
     }
 
     /// Makes these heads the same as those of as many other indices.
@@ -136,7 +80,7 @@ impl Heads {
         requires { self.old.size ≡ other.now.size }
         ensures { self.new ≡ other.now }
     {
-        self.heads.copy_from_slice(other.heads.as_slice());
+        self.cells.copy_from(&other.cells);
     }
 
     /// How many indices there are.
@@ -156,7 +100,7 @@ impl Heads {
         if index >= self.size {
             return None;
         }
-        let head = self.heads[index as usize];
+        let head = self.cells.get(index);
         stamp_in(head.stamp, head.next, head.prev)
     }
 
@@ -164,7 +108,7 @@ impl Heads {
     pub fn is_vacant_at(&self, index: u32) -> bool
         ensures { result ≡ is_vacant_at self.now.stamps index }
     {
-        index < self.size && self.heads[index as usize].prev % 2 == 0
+        index < self.size && self.cells.get(index).prev % 2 == 0
     }
 
     /// The next cell in a cell's ring.
@@ -174,7 +118,7 @@ impl Heads {
         ensures value { result ≡ slice_index self.now.rings.next cell }
         ensures within { result < length self.now.rings.next }
     {
-        self.heads[cell as usize].next
+        self.cells.get(cell).next
     }
 
     /// The cell before a cell in its ring.
@@ -186,7 +130,7 @@ impl Heads {
         ensures few { result < 65538 }
         ensures links { LinksInRange self.now.rings }
     {
-        self.heads[cell as usize].prev / 2
+        self.cells.get(cell).prev / 2
     }
 
     /// Links a cell to the next one.
@@ -196,8 +140,8 @@ impl Heads {
         requires to_within { next < length self.old.rings.next }
         ensures { self.new ≡ with_next cell next self.old }
     {
-        let head = self.heads[cell as usize];
-        self.heads[cell as usize] = Head { next, ..head };
+        let head = self.cells.get(cell);
+        self.cells.set(cell, Head { next, ..head });
     }
 
     /// Links a cell to the one before it.
@@ -207,9 +151,9 @@ impl Heads {
         requires to_within { prev < length self.old.rings.next }
         ensures { self.new ≡ with_prev cell prev self.old }
     {
-        let head = self.heads[cell as usize];
+        let head = self.cells.get(cell);
         let prev = 2 * prev + head.prev % 2;
-        self.heads[cell as usize] = Head { prev, ..head };
+        self.cells.set(cell, Head { prev, ..head });
     }
 
     /// Writes the head of an index.
@@ -221,7 +165,7 @@ impl Heads {
         requires few { prev < 65538 }
         ensures { self.new ≡ with_head i stamp next prev self.old }
     {
-        self.heads[i as usize] = head_of(stamp, next, prev);
+        self.cells.set(i, head_of(stamp, next, prev));
     }
 
     /// Takes an index out of its ring.

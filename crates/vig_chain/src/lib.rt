@@ -2,6 +2,7 @@
 //! bounded number of steps, in memory taken once.
 #![tactic(auto)]
 
+mod cells;
 mod chain;
 mod heads;
 

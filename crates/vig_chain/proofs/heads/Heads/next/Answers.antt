@@ -2,4 +2,4 @@ use Rattle.vig_chain.proofs.HeadLemmas.{next_read}
 use Rattle.vig_chain.proofs.heads.Heads.next.Goals as goal
 
 pub returns-clause-within : goal.returns-clause-within
-returns-clause-within c = rw (← c.self.view_is) (next_read _ _ c.args.cell c.index.result.now c.self.invariant (rw (← c.self.view_is) at c.requires) c.index.ensures)
+returns-clause-within c = rw (← c.self.view_is) (next_read _ _ c.args.cell c.get.result c.self.invariant (rw (← c.self.view_is) at c.requires) c.get.ensures)

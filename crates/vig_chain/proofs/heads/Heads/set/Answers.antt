@@ -7,9 +7,9 @@ invariant_of-self c =
     let cells = next_cells _ _ c.self.invariant in
     let next = rw (← c.self.view_is) at c.requires.next_within in
     let prev = rw (← c.self.view_is) at c.requires.prev_within in
-    set_within _ _ c.args.i _ c.self.invariant (omega (arith, next, cells, c.head_of.ensures.next)) (omega (arith, prev, cells, c.head_of.ensures.prev))
+    rw c.set.ensures (set_within _ _ c.args.i _ c.self.invariant (omega (arith, next, cells, c.head_of.ensures.next)) (omega (arith, prev, cells, c.head_of.ensures.prev)))
 
 pub returns : goal.returns
 returns c =
     let within = rw (← c.self.view_is) at c.requires.within in
-    rw (← c.self.view_is) (set_seen _ _ c.args.i c.args.stamp c.args.next c.args.prev c.head_of.result within c.head_of.ensures.stamp c.head_of.ensures.next c.head_of.ensures.prev)
+    rw (← c.self.view_is, c.set.ensures) (set_seen _ _ c.args.i c.args.stamp c.args.next c.args.prev c.head_of.result within c.head_of.ensures.stamp c.head_of.ensures.next c.head_of.ensures.prev)

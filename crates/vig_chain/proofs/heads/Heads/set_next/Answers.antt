@@ -7,7 +7,7 @@ invariant_of-self c =
     let cells = next_cells _ _ c.self.invariant in
     let within = rw (← c.self.view_is) at c.requires.within in
     let to = rw (← c.self.view_is) at c.requires.to_within in
-    set_within _ _ c.args.cell _ c.self.invariant (omega (arith, to, cells)) (omega (arith, cells, prev_read _ _ c.args.cell c.index-head.result.now c.self.invariant within c.index-head.ensures))
+    rw c.set.ensures (set_within _ _ c.args.cell _ c.self.invariant (omega (arith, to, cells)) (omega (arith, cells, prev_read _ _ c.args.cell c.get-head.result c.self.invariant within c.get-head.ensures)))
 
 pub returns : goal.returns
-returns c = rw (← c.self.view_is) (set_next_seen _ _ c.args.cell c.args.next c.index-head.result.now c.index-head.ensures)
+returns c = rw (← c.self.view_is, c.set.ensures) (set_next_seen _ _ c.args.cell c.args.next c.get-head.result c.get-head.ensures)

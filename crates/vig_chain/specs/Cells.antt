@@ -1,0 +1,54 @@
+-- The heads of a chain's cells: one for each index, and two for the cells where the rings begin.
+use Rattle.std.specs.Prelude.{ℕ, ◌+◌, ◌-◌, ◌*◌, ◌%◌, ◌≤◌, ◌==◌, nat_lt, if◌then◌else◌, List, [], ◌∷◌, ◌++◌, length, map}
+use Rattle.std.specs.List.{range_with_len}
+use Rattle.nf_base.specs.declared.share.Share.{Share}
+use Rattle.vig_chain.specs.declared.cells.Head.{Head}
+
+-- the last of a share's own indices, of so many: where there is none, the cell where the ring of
+-- the available ones begins
+abbrev pub last_own : ℕ → Share → ℕ
+last_own size share =
+    if nat_lt share.queue size then size - 1 - (size - 1 - share.queue) % share.of else size + 1
+
+-- The next cell and the one before, when nothing was done yet: along the own indices by as many as
+-- there are shares, and round by the cell where the ring of the available ones begins.
+abbrev pub next_at_start : ℕ → Share → ℕ → ℕ
+next_at_start size share cell =
+    if nat_lt cell size then (if nat_lt (cell + share.of) size then cell + share.of else size + 1)
+    else (if cell == size then size
+    else (if nat_lt share.queue size then share.queue else size + 1))
+
+abbrev pub prev_at_start : ℕ → Share → ℕ → ℕ
+prev_at_start size share cell =
+    if nat_lt cell size then (if nat_lt cell share.of then size + 1 else cell - share.of)
+    else (if cell == size then size else last_own size share)
+
+-- a cell's head when nothing was done yet
+abbrev pub head_at_start : ℕ → Share → ℕ → Head
+head_at_start size share cell = record {
+  stamp = 0;
+  next = next_at_start size share cell;
+  prev = 2 * prev_at_start size share cell;
+}
+
+-- the heads of all cells when nothing was done yet
+abbrev pub heads_at_start : ℕ → Share → List Head
+heads_at_start size share = map (head_at_start size share) (range_with_len 0 (size + 2))
+
+-- Of the first indices the heads that stand in memory, and behind them those that so many have when
+-- nothing was done yet.
+abbrev pub filled : ℕ → Share → List Head → List Head
+filled size share heads =
+    heads ++ map (head_at_start size share) (range_with_len (length heads) (size - length heads))
+
+-- the heads of all cells
+abbrev pub cells_of : ℕ → Share → List Head → Head → Head → List Head
+cells_of size share heads entries available =
+    filled size share heads ++ entries ∷ available ∷ []
+
+-- So many heads of indices stand, of those there are, and there is room for all.
+pub record HasCells (size stand room : ℕ) : Type 0 where
+  pub some : 1 ≤ size
+  pub most : size ≤ 65536
+  pub within : stand ≤ size
+  pub room_for : size ≤ room
