@@ -239,8 +239,8 @@ impl Reader {
         }
     }
 
-    /// The next record of the capture, where it stands ready as a whole, as `next` gives it; None, and
-    /// nothing changed, where it doesn't.
+    /// The next record of the capture as `next` gives it, if it stands ready as a whole; else None,
+    /// and nothing changed: then `next` tells. When a record stands ready is no promise.
     #[inline(always)]
     pub fn next_ready<F: Files>(
         &mut self,

@@ -1,5 +1,5 @@
 -- What a replay finds under its names.
-use Rattle.std.specs.Prelude.{◌≡◌, ◌≢◌, ◌⊎◌, ℕ, List, ◌++◌, length, slice_get, Option, Some, None, Ok}
+use Rattle.std.specs.Prelude.{◌≡◌, ◌⊎◌, ℕ, List, ◌++◌, length, slice_get, Option, Some, None, Ok}
 use Rattle.nf_base.specs.Text.{Function}
 use Rattle.nf_base.specs.declared.keys.Keys.{Keys}
 use Rattle.nf_files.specs.Told.{Told}
@@ -25,12 +25,6 @@ use Rattle.call_base.specs.Source.{IsFunctionUnder}
 pub record HasPorts (c : Replay) (told : Told) (f : Function) : Type 0 where
   pub is_function : IsFunctionUnder told c.function f
   pub as_many : length c.captures ≡ length f.handlers
-
--- The text is a network function whose ports are not as many as the captures.
-pub record HasOtherPorts (c : Replay) (told : Told) : Type 0 where
-  pub function : Function
-  pub is_function : IsFunctionUnder told c.function function
-  pub not_as_many : length c.captures ≢ length function.handlers
 
 -- The captures are as many as the function's ports, and the file of this port is the first that is no
 -- capture.

@@ -20,7 +20,7 @@ use Rattle.call_base.specs.declared.status.CallFault.{CallFault}
 use Rattle.call_base.specs.declared.status.CallFault.TheVariants.{File, Memory}
 use Rattle.call_base.specs.declared.status.Halt.{Halt}
 use Rattle.call_base.specs.declared.status.Halt.TheVariants as halts
-use Rattle.call_base.specs.Captures.{Below}
+use Rattle.call_base.specs.Captures.{Below, HasOtherPorts}
 use Rattle.call_base.specs.Names.{reading}
 use Rattle.call_base.specs.Numbers.{StopsBy}
 use Rattle.call_base.specs.Outside.{Outside, HasOnlyAsked}
@@ -30,7 +30,7 @@ use Rattle.replay_call.specs.declared.ending.ReplayEnd.{ReplayEnd}
 use Rattle.replay_call.specs.declared.ending.ReplayEnd.TheVariants as ends
 use Rattle.replay_call.specs.Numbers.{numbering}
 use Rattle.replay_call.specs.Names.{inputs_of, asked_by}
-use Rattle.replay_call.specs.Contents.{HasPorts, HasOtherPorts, HasNoCapture, HasReplayed}
+use Rattle.replay_call.specs.Contents.{HasPorts, HasNoCapture, HasReplayed}
 
 -- how a replay ends that comes to this
 abbrev pub checked_by : ℕ → ReplayResult → ReplayEnd
@@ -66,7 +66,8 @@ pub record IsChecked (c : Replay) (before now : Outside) (checked : ReplayEnd) :
 
 -- Nothing was judged: why, and which names were asked for.
 abbrev pub IsRefused : Replay → Outside → Outside → Refusal → Type 0
-IsRefused c before now Usage = HasOtherPorts c before.told × HasOnlyAsked (reading c.function ∷ []) before now
+IsRefused c before now Usage =
+    HasOtherPorts before.told c.function c.captures × HasOnlyAsked (reading c.function ∷ []) before now
 IsRefused c before now (Text fault) =
     IsNoFunctionUnder before.told c.function fault × HasOnlyAsked (reading c.function ∷ []) before now
 IsRefused c before now (NoKeys why) = ⊥

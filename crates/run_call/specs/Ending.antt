@@ -18,11 +18,11 @@ use Rattle.call_base.specs.Outside.{Outside, IsUntouched, HasOnlyAsked}
 use Rattle.call_base.specs.Names.{reading, inputs_of, asked_by, asked_until, name_at}
 use Rattle.call_base.specs.Layout.{Stops}
 use Rattle.call_base.specs.Far.{IsFar}
-use Rattle.call_base.specs.Captures.{Below}
+use Rattle.call_base.specs.Captures.{Below, HasOtherPorts}
 use Rattle.call_base.specs.Created.{Left, bytes_at}
 use Rattle.call_base.specs.Source.{IsNoFunctionUnder}
 use Rattle.packet_feed.specs.Told.{IsCapture}
-use Rattle.run_call.specs.Runs.{HasPorts, IsRunOf, IsEndOf, left_by, HasOtherPorts, HasNoKeys, HasNoCapture}
+use Rattle.run_call.specs.Runs.{HasPorts, IsRunOf, IsEndOf, left_by, HasNoKeys, HasNoCapture}
 use Rattle.call_base.specs.Printed.{Printed, PrintedFront}
 use Rattle.call_base.specs.Texts.{ran_line}
 use Rattle.packet_feed.specs.Arrivals.{Arrival}
@@ -50,7 +50,8 @@ pub record IsFinished (Refused : Type 0) (c : RunAsked) (before now : Outside) (
 
 -- Nothing was begun: why, and which names were asked for.
 abbrev pub IsRefused : RunAsked → Outside → Outside → Refusal → Type 0
-IsRefused c before now Usage = HasOtherPorts c before.told × HasOnlyAsked (reading c.function ∷ []) before now
+IsRefused c before now Usage =
+    HasOtherPorts before.told c.function c.captures × HasOnlyAsked (reading c.function ∷ []) before now
 IsRefused c before now (Text fault) =
     IsNoFunctionUnder before.told c.function fault × HasOnlyAsked (reading c.function ∷ []) before now
 IsRefused c before now (NoKeys why) = HasNoKeys c before.told why × HasOnlyAsked (reading c.function ∷ []) before now

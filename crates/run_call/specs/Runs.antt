@@ -1,5 +1,5 @@
 -- The run that a command asks for, and how it ends.
-use Rattle.std.specs.Prelude.{◌≡◌, ◌≢◌, ℕ, ◌+◌, ◌<◌, ◌≤◌, List, length, map, slice_get, Some, None}
+use Rattle.std.specs.Prelude.{◌≡◌, ℕ, ◌+◌, ◌<◌, ◌≤◌, List, length, map, slice_get, Some, None}
 use Rattle.nf_base.specs.Text.{Function}
 use Rattle.nf_base.specs.declared.keys.Keys.{Keys}
 use Rattle.nf_files.specs.Told.{Told}
@@ -85,12 +85,6 @@ left_by ports Whole = ports + 2
 left_by ports (Torn port offset) = ports + 2
 left_by ports (TooMany most) = ports + 2
 left_by ports (ShareFull full) = ports + 1
-
--- The text is a network function whose ports are not as many as the captures.
-pub record HasOtherPorts (c : RunAsked) (told : Told) : Type 0 where
-  pub function : Function
-  pub is_function : IsFunctionUnder told c.function function
-  pub not_as_many : length c.captures ≢ length function.handlers
 
 -- The captures are as many as the function's ports, and keys are needed and there are none.
 pub record HasNoKeys (c : RunAsked) (told : Told) (why : NoKeys) : Type 0 where
