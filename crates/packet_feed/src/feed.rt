@@ -156,6 +156,7 @@ impl Feed {
     }
 
     // The packet that was given last.
+    #[inline(always)]
     fn last(&self) -> Packet
         ensures { result ≡ last_packet self.now }
     {
@@ -174,6 +175,7 @@ impl Feed {
     /// `End` comes exactly where no whole record is left in any capture, and `TooMany` exactly where
     /// one is and as many packets were given as were asked for. After an `Err` this feed may have
     /// moved, and no call is to be made on it.
+    #[inline(always)]
     pub fn next<F: Files>(&mut self, files: &mut F) -> Result<Fed, FeedFault>
         requires opened { EachFile (F.is_read files.old) (files_in self.old.sources) }
         // Whatever bytes and packets the feed stood for, it stands for the same bytes, and for this

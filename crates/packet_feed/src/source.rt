@@ -320,7 +320,7 @@ impl Source {
     }
 
     /// The packet that was given last, as one of a port.
-    #[inline]
+    #[inline(always)]
     #[tactic(auto, unfolding(crate::specs::Arrivals::arrival_of))]
     pub(crate) fn last(&self, port: u32) -> Packet
         ensures { result ≡ last_given port self.now }

@@ -56,6 +56,7 @@ impl HeldPacket {
     }
 
     /// Another packet in the same room.
+    #[inline(always)]
     fn refill(&mut self, packet: &Packet, original: u32, frame: &[u8]) -> Result<(), AllocError>
         requires time { packet.now.time ≤ greatest_time }
         requires captured { length frame.now ≤ 262144 }
@@ -69,6 +70,7 @@ impl HeldPacket {
         Ok(())
     }
 
+    #[inline(always)]
     pub(crate) fn packet(&self) -> &Packet
         ensures packet { result.now ≡ self.now.packet }
         ensures time { self.now.packet.time ≤ greatest_time }
@@ -76,12 +78,14 @@ impl HeldPacket {
         &self.packet
     }
 
+    #[inline(always)]
     pub(crate) fn original(&self) -> u32
         ensures { result ≡ self.now.original }
     {
         self.original
     }
 
+    #[inline(always)]
     pub(crate) fn frame(&self) -> &[u8]
         ensures frame { result.now ≡ self.now.frame }
         ensures captured { length self.now.frame ≤ 262144 }
@@ -127,6 +131,7 @@ impl Slots {
     }
 
     /// The packet of this number.
+    #[inline(always)]
     fn item(&self, i: usize) -> &HeldPacket
         requires { i < length self.now }
         ensures { result.now ≡ slice_index_or self.now i result.now }
@@ -136,6 +141,7 @@ impl Slots {
 
     /// Puts a packet behind the others: into the next slot, or a new one.
     #[tactic(auto, using(crate::proofs::Slots::slot_added))]
+    #[inline(always)]
     fn push(
         &mut self,
         alloc: Global,
@@ -208,6 +214,7 @@ impl Frames {
 
     /// The first packet.
     #[tactic(auto, using(crate::proofs::Slots::first_is))]
+    #[inline(always)]
     pub(crate) fn first(&self) -> &HeldPacket
         requires { 0 < length self.now }
         ensures { self.now ≡ result.now ∷ drop 1 self.now }
@@ -217,6 +224,7 @@ impl Frames {
 
     /// Lets the first packet go, whose answer is written, and keeps its room.
     #[tactic(auto, using(crate::proofs::Slots::one_gone, crate::proofs::Slots::row_gone))]
+    #[inline(always)]
     pub(crate) fn drop_first(&mut self)
         requires { 0 < length self.old }
         ensures rest { self.new ≡ drop 1 self.old }
@@ -234,6 +242,7 @@ impl Frames {
 
     /// Puts a packet with its frame behind the others.
     #[tactic(auto, using(crate::proofs::Slots::first_put))]
+    #[inline(always)]
     pub(crate) fn push(
         &mut self,
         alloc: Global,

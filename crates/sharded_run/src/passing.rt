@@ -34,6 +34,7 @@ use stream_run::{Ending, RunFault, Sink, stop_in};
 const ALL_IN_FLIGHT: usize = 1_024;
 
 // Writes what the first packet leaves, whose answer lies ready.
+#[inline(always)]
 fn write_ready<F: Files, G: Turns + Drop>(
     files: &mut F,
     crew: &mut Crew<G>,
@@ -177,6 +178,7 @@ fn make_room<R: Wait, F: Files, G: Turns + Drop>(
 }
 
 // Keeps the frame of the packet that was read last, and sends it to its queue, where there is room.
+#[inline(always)]
 fn send<R: Wait, G: Turns + Drop>(
     rt: &R,
     alloc: Global,
@@ -209,6 +211,7 @@ fn send<R: Wait, G: Turns + Drop>(
 }
 
 // Hands the packet that was read last to the worker of its queue, once there is room.
+#[inline(always)]
 fn hand_out<R: Wait, F: Files, G: Turns + Drop>(
     rt: &R,
     alloc: Global,

@@ -17,6 +17,7 @@ use short_answers::Told;
 use stream_run::{HandledPacket, RunFault, Sink, put_all};
 
 // Puts what one packet of a queue leaves into all files, where its answer stands whole.
+#[inline(always)]
 fn write_one<F: Files>(
     files: &mut F,
     sinks: &mut Seq<Sink>,
@@ -51,6 +52,7 @@ fn write_one<F: Files>(
 }
 
 /// Puts what one packet of a queue leaves into all files.
+#[inline(always)]
 pub(crate) fn write_told<F: Files>(
     files: &mut F,
     sinks: &mut Seq<Sink>,

@@ -7,7 +7,7 @@ use Rattle.std.proofs.lemmas.List.{append_assoc, length-append, get_or_append_le
 use Rattle.std.proofs.lemmas.List.FromFn.{length-map-range_with_len, get_or-map-range_with_len, map-range_with_len_more}
 use Rattle.nf_base.specs.declared.share.Share.{Share}
 use Rattle.vig_chain.specs.declared.cells.Head.{Head}
-use Rattle.vig_chain.specs.Cells.{head_at_start, heads_at_start, filled, cells_of}
+use Rattle.vig_chain.specs.Cells.{head_at_start, heads_at_start, filled, cells_of, Changed}
 
 -- the heads that don't stand in memory
 left : ℕ → Share → ℕ → List Head
@@ -116,6 +116,29 @@ pub set_end :
 set_end size share heads e a i k head le is =
     ap (λ (n : ℕ). filled size share heads ++ slice_set (e ∷ a ∷ []) n head) (omega (arith, is))
     ∙ sym (set-append_right (filled size share heads) (e ∷ a ∷ []) size i head (length-filled size share heads le) (omega (arith, is)))
+
+-- a head that is changed where it stands, or where a ring begins
+pub changed_stands :
+    (f : Head → Head) (size : ℕ) (share : Share) (heads : List Head) (e a : Head) (i : ℕ)
+    (head : Head) (old : List Head) → cells_of size share heads e a ≡ old
+    → head ≡ get_or heads i head → i < length heads
+    → Changed f i old (cells_of size share (slice_set heads i (f head)) e a)
+changed_stands f size share heads e a i head old same is lt =
+    rw (← same) (head , is ∙ sym (get_stands size share heads e a i head lt) , set_stands size share heads e a i (f head) lt)
+
+pub changed_entries :
+    (f : Head → Head) (size : ℕ) (share : Share) (heads : List Head) (e a : Head) (i : ℕ)
+    → length heads ≤ size → i ≡ size + 0
+    → Changed f i (cells_of size share heads e a) (cells_of size share heads (f e) a)
+changed_entries f size share heads e a i le at =
+    (e , sym (get_end size share heads e a i 0 e le at) , set_end size share heads e a i 0 (f e) le at)
+
+pub changed_available :
+    (f : Head → Head) (size : ℕ) (share : Share) (heads : List Head) (e a : Head) (i : ℕ)
+    → length heads ≤ size → i ≡ size + 1
+    → Changed f i (cells_of size share heads e a) (cells_of size share heads e (f a))
+changed_available f size share heads e a i le at =
+    (a , sym (get_end size share heads e a i 1 a le at) , set_end size share heads e a i 1 (f a) le at)
 
 pub same_sizes :
     (n m : ℕ) (s t : Share) (xs ys : List Head) (e f a b : Head) → length xs ≤ n → length ys ≤ m

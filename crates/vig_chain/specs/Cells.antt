@@ -1,5 +1,5 @@
 -- The heads of a chain's cells: one for each index, and two for the cells where the rings begin.
-use Rattle.std.specs.Prelude.{ℕ, ◌+◌, ◌-◌, ◌*◌, ◌%◌, ◌≤◌, ◌==◌, nat_lt, if◌then◌else◌, List, [], ◌∷◌, ◌++◌, length, map}
+use Rattle.std.specs.Prelude.{◌≡◌, ℕ, ◌+◌, ◌-◌, ◌*◌, ◌%◌, ◌≤◌, ◌==◌, nat_lt, if◌then◌else◌, List, [], ◌∷◌, ◌++◌, length, map, get_or, slice_set}
 use Rattle.std.specs.List.{range_with_len}
 use Rattle.nf_base.specs.declared.share.Share.{Share}
 use Rattle.vig_chain.specs.declared.cells.Head.{Head}
@@ -52,3 +52,16 @@ pub record HasCells (size stand room : ℕ) : Type 0 where
   pub most : size ≤ 65536
   pub within : stand ≤ size
   pub room_for : size ≤ room
+
+-- one head changed
+abbrev pub Changed : (Head → Head) → ℕ → List Head → List Head → Type 0
+Changed f cell old new =
+    (head : Head) × (head ≡ get_or old cell head) × (new ≡ slice_set old cell (f head))
+
+-- a head linked to the next cell, or to the one before
+abbrev pub linked_next : ℕ → Head → Head
+linked_next next head = record { stamp = head.stamp; next = next; prev = head.prev }
+
+abbrev pub linked_prev : ℕ → Head → Head
+linked_prev prev head =
+    record { stamp = head.stamp; next = head.next; prev = 2 * prev + head.prev % 2 }

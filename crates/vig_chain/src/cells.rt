@@ -1,7 +1,7 @@
 //! The heads of a chain's cells: sixteen bytes a cell, written in memory as they change.
 ghost use Rattle.std.specs.Prelude.{◌≡◌, ◌+◌, ◌<◌, ◌≤◌, length, get_or, slice_set, IfOk};
 ghost use Rattle.std.specs.Vec.{vec_capacity};
-ghost use Rattle.vig_chain.specs.Cells.{last_own, head_at_start, heads_at_start, filled, HasCells};
+ghost use Rattle.vig_chain.specs.Cells.{last_own, head_at_start, heads_at_start, filled, HasCells, Changed, linked_next, linked_prev};
 
 use nf_base::share::Share;
 use nf_base::size::Size;
@@ -141,7 +141,7 @@ impl Cells {
     }
 
     /// The head of a cell.
-    #[inline]
+    #[inline(always)]
     pub fn get(&self, cell: u32) -> Head
         requires { cell < length self.now }
         ensures { result ≡ get_or self.now cell result }
@@ -157,8 +157,47 @@ impl Cells {
         }
     }
 
+    /// Links a cell to the next one.
+    #[inline(always)]
+    pub fn set_next(&mut self, cell: u32, next: u32)
+        requires within { cell < length self.old }
+        ensures { Changed (linked_next next) cell self.old self.new }
+    {
+        if (cell as usize) < self.heads.len() {
+            self.heads[cell as usize].next = next;
+        } else if cell == self.size {
+            self.entries.next = next;
+        } else if cell > self.size {
+            self.available.next = next;
+        } else {
+            reach(&mut self.heads, self.size, self.share, cell);
+            self.heads[cell as usize].next = next;
+        }
+    }
+
+    /// Links a cell to the one before it.
+    #[inline(always)]
+    pub fn set_prev(&mut self, cell: u32, prev: u32)
+        requires within { cell < length self.old }
+        requires few { prev < 65538 }
+        ensures { Changed (linked_prev prev) cell self.old self.new }
+    {
+        if (cell as usize) < self.heads.len() {
+            let head = &mut self.heads[cell as usize];
+            head.prev = 2 * prev + head.prev % 2;
+        } else if cell == self.size {
+            self.entries.prev = 2 * prev + self.entries.prev % 2;
+        } else if cell > self.size {
+            self.available.prev = 2 * prev + self.available.prev % 2;
+        } else {
+            reach(&mut self.heads, self.size, self.share, cell);
+            let head = &mut self.heads[cell as usize];
+            head.prev = 2 * prev + head.prev % 2;
+        }
+    }
+
     /// Writes the head of a cell.
-    #[inline]
+    #[inline(always)]
     pub fn set(&mut self, cell: u32, head: Head)
         requires { cell < length self.old }
         ensures { self.new ≡ slice_set self.old cell head }

@@ -14,8 +14,8 @@ use std::marker::Model;
 ///
 /// Contracts see it as the list, by index, of the stamp of its entry or none, beside the greatest
 /// stamp given so far and the share. Times, stamps and lifetimes are in nanoseconds. No call but
-/// `new` takes memory, and each but `new` and `copy_from` goes a bounded number of steps, whatever
-/// the chain's size.
+/// `new` takes memory. Each but `copy_from` goes a bounded number of steps, whatever the chain's
+/// size, and one more for each index that is reached for the first time.
 #[derive(Drop)]
 pub struct Chain {
     /// The stamps of the entries, and the rings of these and of the available indices.

@@ -112,7 +112,7 @@ impl Heads {
     }
 
     /// The next cell in a cell's ring.
-    #[inline]
+    #[inline(always)]
     pub fn next(&self, cell: u32) -> u32
         requires { cell < length self.now.rings.next }
         ensures value { result ≡ slice_index self.now.rings.next cell }
@@ -122,7 +122,7 @@ impl Heads {
     }
 
     /// The cell before a cell in its ring.
-    #[inline]
+    #[inline(always)]
     fn prev(&self, cell: u32) -> u32
         requires { cell < length self.now.rings.next }
         ensures value { result ≡ slice_index self.now.rings.prev cell }
@@ -134,30 +134,27 @@ impl Heads {
     }
 
     /// Links a cell to the next one.
-    #[inline]
+    #[inline(always)]
     fn set_next(&mut self, cell: u32, next: u32)
         requires within { cell < length self.old.rings.next }
         requires to_within { next < length self.old.rings.next }
         ensures { self.new ≡ with_next cell next self.old }
     {
-        let head = self.cells.get(cell);
-        self.cells.set(cell, Head { next, ..head });
+        self.cells.set_next(cell, next);
     }
 
     /// Links a cell to the one before it.
-    #[inline]
+    #[inline(always)]
     fn set_prev(&mut self, cell: u32, prev: u32)
         requires within { cell < length self.old.rings.next }
         requires to_within { prev < length self.old.rings.next }
         ensures { self.new ≡ with_prev cell prev self.old }
     {
-        let head = self.cells.get(cell);
-        let prev = 2 * prev + head.prev % 2;
-        self.cells.set(cell, Head { prev, ..head });
+        self.cells.set_prev(cell, prev);
     }
 
     /// Writes the head of an index.
-    #[inline]
+    #[inline(always)]
     fn set(&mut self, i: u32, stamp: Option<u64>, next: u32, prev: u32)
         requires within { i < self.old.size }
         requires next_within { next < length self.old.rings.next }
@@ -169,7 +166,7 @@ impl Heads {
     }
 
     /// Takes an index out of its ring.
-    #[inline]
+    #[inline(always)]
     pub fn unlink(&mut self, i: u32)
         requires { i < length self.old.rings.next }
         ensures value { self.new ≡ cut_out i self.old }
@@ -183,7 +180,7 @@ impl Heads {
 
     /// Puts an index that is in no ring last in one, which begins at a cell, with the stamp of an
     /// entry or none.
-    #[inline]
+    #[inline(always)]
     pub fn append(&mut self, i: u32, ring: u32, stamp: Option<u64>)
         requires within { i < self.old.size }
         requires cell_within { i < length self.old.rings.next }

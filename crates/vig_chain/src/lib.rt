@@ -1,5 +1,5 @@
-//! A chain of indices with expiry: indices are given out, renewed, and given up by age, each in a
-//! bounded number of steps, in memory taken once.
+//! A chain of indices with expiry: indices are given out, renewed, and given up by age, in memory
+//! taken once, each in a bounded number of steps once it was reached.
 #![tactic(auto)]
 
 mod cells;

@@ -7,7 +7,7 @@ invariant_of-self c =
     let cells = next_cells _ _ c.self.invariant in
     let within = rw (← c.self.view_is) at c.requires.within in
     let to = rw (← c.self.view_is) at c.requires.to_within in
-    rw c.set.ensures (set_within _ _ c.args.cell _ c.self.invariant (omega (arith, cells, next_read _ _ c.args.cell c.get-head.result c.self.invariant within c.get-head.ensures)) (omega (arith, to, cells)))
+    rw c.set_prev.ensures.2 (set_within _ _ c.args.cell _ c.self.invariant (omega (arith, cells, next_read _ _ c.args.cell c.set_prev.ensures.0 c.self.invariant within c.set_prev.ensures.1)) (omega (arith, to, cells)))
 
 pub returns : goal.returns
-returns c = rw (← c.self.view_is, c.set.ensures) (set_prev_seen _ _ c.args.cell c.args.prev c.get-head.result c.get-head.ensures)
+returns c = rw (← c.self.view_is, c.set_prev.ensures.2) (set_prev_seen _ _ c.args.cell c.args.prev c.set_prev.ensures.0 c.set_prev.ensures.1)
