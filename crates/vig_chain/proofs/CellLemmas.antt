@@ -7,7 +7,7 @@ use Rattle.std.proofs.lemmas.List.{append_assoc, length-append, get_or_append_le
 use Rattle.std.proofs.lemmas.List.FromFn.{length-map-range_with_len, get_or-map-range_with_len, map-range_with_len_more}
 use Rattle.nf_base.specs.declared.share.Share.{Share}
 use Rattle.vig_chain.specs.declared.cells.Head.{Head}
-use Rattle.vig_chain.specs.Cells.{head_at_start, heads_at_start, filled, cells_of, Changed}
+use Rattle.vig_chain.specs.Cells.{head_at_start, heads_at_start, filled, cells_of, all_heads, Changed}
 
 -- the heads that don't stand in memory
 left : ℕ → Share → ℕ → List Head
@@ -122,36 +122,30 @@ pub changed_stands :
     (f : Head → Head) (size : ℕ) (share : Share) (heads : List Head) (e a : Head) (i : ℕ)
     (head : Head) (old : List Head) → cells_of size share heads e a ≡ old
     → head ≡ get_or heads i head → i < length heads
-    → Changed f i old (cells_of size share (slice_set heads i (f head)) e a)
+    → Changed f i (all_heads size old) (all_heads size (cells_of size share (slice_set heads i (f head)) e a))
 changed_stands f size share heads e a i head old same is lt =
-    rw (← same) (head , is ∙ sym (get_stands size share heads e a i head lt) , set_stands size share heads e a i (f head) lt)
+    rw (← same) (head, is ∙ sym (get_stands size share heads e a i head lt), ap (all_heads size) (set_stands size share heads e a i (f head) lt))
 
 pub changed_entries :
     (f : Head → Head) (size : ℕ) (share : Share) (heads : List Head) (e a : Head) (i : ℕ)
     → length heads ≤ size → i ≡ size + 0
-    → Changed f i (cells_of size share heads e a) (cells_of size share heads (f e) a)
+    → Changed f i (all_heads size (cells_of size share heads e a)) (all_heads size (cells_of size share heads (f e) a))
 changed_entries f size share heads e a i le at =
-    (e , sym (get_end size share heads e a i 0 e le at) , set_end size share heads e a i 0 (f e) le at)
+    (e, sym (get_end size share heads e a i 0 e le at), ap (all_heads size) (set_end size share heads e a i 0 (f e) le at))
 
 pub changed_available :
     (f : Head → Head) (size : ℕ) (share : Share) (heads : List Head) (e a : Head) (i : ℕ)
     → length heads ≤ size → i ≡ size + 1
-    → Changed f i (cells_of size share heads e a) (cells_of size share heads e (f a))
+    → Changed f i (all_heads size (cells_of size share heads e a)) (all_heads size (cells_of size share heads e (f a)))
 changed_available f size share heads e a i le at =
-    (a , sym (get_end size share heads e a i 1 a le at) , set_end size share heads e a i 1 (f a) le at)
-
-pub same_sizes :
-    (n m : ℕ) (s t : Share) (xs ys : List Head) (e f a b : Head) → length xs ≤ n → length ys ≤ m
-    → length (cells_of n s xs e a) ≡ length (cells_of m t ys f b) → n ≡ m
-same_sizes n m s t xs ys e f a b le le' is =
-    omega (arith, is, length-cells n s xs e a le, length-cells m t ys f b le')
+    (a, sym (get_end size share heads e a i 1 a le at), ap (all_heads size) (set_end size share heads e a i 1 (f a) le at))
 
 pub same_cells :
     (n m : ℕ) (s t : Share) (xs ys : List Head) (e f a b : Head) → n ≡ m → s ≡ t → xs ≡ ys → e ≡ f
-    → a ≡ b → cells_of n s xs e a ≡ cells_of m t ys f b
+    → a ≡ b → all_heads n (cells_of n s xs e a) ≡ all_heads m (cells_of m t ys f b)
 same_cells n m s t xs ys e f a b ns ss xss es avs =
-    ap (λ (k : ℕ). cells_of k s xs e a) ns
-    ∙ ap (λ (share : Share). cells_of m share xs e a) ss
-    ∙ ap (λ (heads : List Head). cells_of m t heads e a) xss
-    ∙ ap (λ (head : Head). cells_of m t ys head a) es
-    ∙ ap (cells_of m t ys f) avs
+    ap (λ (k : ℕ). all_heads k (cells_of k s xs e a)) ns
+    ∙ ap (λ (share : Share). all_heads m (cells_of m share xs e a)) ss
+    ∙ ap (λ (heads : List Head). all_heads m (cells_of m t heads e a)) xss
+    ∙ ap (λ (head : Head). all_heads m (cells_of m t ys head a)) es
+    ∙ ap (λ (head : Head). all_heads m (cells_of m t ys f head)) avs

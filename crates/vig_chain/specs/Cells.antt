@@ -46,6 +46,14 @@ abbrev pub cells_of : ℕ → Share → List Head → Head → Head → List Hea
 cells_of size share heads entries available =
     filled size share heads ++ entries ∷ available ∷ []
 
+-- how many indices there are, and the heads of all cells
+pub record AllHeads : Type 0 where
+  pub size : ℕ
+  pub heads : List Head
+
+abbrev pub all_heads : ℕ → List Head → AllHeads
+all_heads size heads = record { size = size; heads = heads }
+
 -- So many heads of indices stand, of those there are, and there is room for all.
 pub record HasCells (size stand room : ℕ) : Type 0 where
   pub some : 1 ≤ size
@@ -54,9 +62,10 @@ pub record HasCells (size stand room : ℕ) : Type 0 where
   pub room_for : size ≤ room
 
 -- one head changed
-abbrev pub Changed : (Head → Head) → ℕ → List Head → List Head → Type 0
+abbrev pub Changed : (Head → Head) → ℕ → AllHeads → AllHeads → Type 0
 Changed f cell old new =
-    (head : Head) × (head ≡ get_or old cell head) × (new ≡ slice_set old cell (f head))
+    (head : Head) × (head ≡ get_or old.heads cell head)
+    × (new ≡ all_heads old.size (slice_set old.heads cell (f head)))
 
 -- a head linked to the next cell, or to the one before
 abbrev pub linked_next : ℕ → Head → Head

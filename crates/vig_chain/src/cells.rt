@@ -1,7 +1,7 @@
 //! The heads of a chain's cells: sixteen bytes a cell, written in memory as they change.
 ghost use Rattle.std.specs.Prelude.{◌≡◌, ◌+◌, ◌<◌, ◌≤◌, length, get_or, slice_set, IfOk};
 ghost use Rattle.std.specs.Vec.{vec_capacity};
-ghost use Rattle.vig_chain.specs.Cells.{last_own, head_at_start, heads_at_start, filled, HasCells, Changed, linked_next, linked_prev};
+ghost use Rattle.vig_chain.specs.Cells.{last_own, head_at_start, heads_at_start, filled, HasCells, all_heads, Changed, linked_next, linked_prev};
 
 use nf_base::share::Share;
 use nf_base::size::Size;
@@ -37,14 +37,14 @@ pub struct Cells {
 }
 
 impl Model for Cells {
-    ghost use Rattle.std.specs.Prelude.{List, length};
+    ghost use Rattle.std.specs.Prelude.{length};
     ghost use Rattle.std.specs.Vec.{vec_capacity};
-    ghost use Rattle.vig_chain.specs.declared.cells.Head.{Head};
-    ghost use Rattle.vig_chain.specs.Cells.{cells_of, HasCells};
+    ghost use Rattle.vig_chain.specs.Cells.{AllHeads, all_heads, cells_of, HasCells};
 
-    ghost Value = { List Head };
+    ghost Value = { AllHeads };
 
-    ghost view = { λ a. cells_of a.size a.share a.heads.items a.entries a.available };
+    ghost view = { λ a.
+        all_heads a.size (cells_of a.size a.share a.heads.items a.entries a.available) };
 
     ghost invariant = { λ a. HasCells a.size (length a.heads.items) (vec_capacity a.heads) };
 }
@@ -66,6 +66,8 @@ fn last_own(size: u32, share: Share) -> u32
 
 /// A cell's head before anything is done with the chain: the share's own indices stand in the ring
 /// of the available ones, the lesser first.
+#[cold]
+#[inline(never)]
 fn head_at_start(size: u32, share: Share, cell: u32) -> Head
     requires some { 1 ≤ size }
     requires most { size ≤ 65536 }
@@ -112,7 +114,8 @@ fn reach(heads: &mut Vec<Head>, size: u32, share: Share, index: u32)
 impl Cells {
     /// The heads of so many indices, all of them vacant, of which a share's own are available.
     pub fn new(alloc: Global, size: Size, share: Share) -> Result<Cells, AllocError>
-        ensures value { IfOk result (λ cells. cells ≡ heads_at_start size share) }
+        ensures value { IfOk result (λ cells.
+            cells ≡ all_heads size (heads_at_start size share)) }
         ensures some { 1 ≤ size }
         ensures most { size ≤ 65536 }
     {
@@ -128,7 +131,7 @@ impl Cells {
 
     /// Makes these heads the same as those of as many other indices.
     pub fn copy_from(&mut self, other: &Cells)
-        requires { length self.old ≡ length other.now }
+        requires { self.old.size ≡ other.now.size }
         ensures { self.new ≡ other.now }
     {
         self.share = other.share;
@@ -140,11 +143,20 @@ impl Cells {
         }
     }
 
+    /// How many indices there are.
+    #[inline]
+    pub fn size(&self) -> u32
+        ensures value { result ≡ self.now.size }
+        ensures most { result ≤ 65536 }
+    {
+        self.size
+    }
+
     /// The head of a cell.
     #[inline(always)]
     pub fn get(&self, cell: u32) -> Head
-        requires { cell < length self.now }
-        ensures { result ≡ get_or self.now cell result }
+        requires { cell < length self.now.heads }
+        ensures { result ≡ get_or self.now.heads cell result }
     {
         if (cell as usize) < self.heads.len() {
             self.heads[cell as usize]
@@ -160,7 +172,7 @@ impl Cells {
     /// Links a cell to the next one.
     #[inline(always)]
     pub fn set_next(&mut self, cell: u32, next: u32)
-        requires within { cell < length self.old }
+        requires within { cell < length self.old.heads }
         ensures { Changed (linked_next next) cell self.old self.new }
     {
         if (cell as usize) < self.heads.len() {
@@ -178,7 +190,7 @@ impl Cells {
     /// Links a cell to the one before it.
     #[inline(always)]
     pub fn set_prev(&mut self, cell: u32, prev: u32)
-        requires within { cell < length self.old }
+        requires within { cell < length self.old.heads }
         requires few { prev < 65538 }
         ensures { Changed (linked_prev prev) cell self.old self.new }
     {
@@ -199,8 +211,8 @@ impl Cells {
     /// Writes the head of a cell.
     #[inline(always)]
     pub fn set(&mut self, cell: u32, head: Head)
-        requires { cell < length self.old }
-        ensures { self.new ≡ slice_set self.old cell head }
+        requires { cell < length self.old.heads }
+        ensures { self.new ≡ all_heads self.old.size (slice_set self.old.heads cell head) }
     {
         if (cell as usize) < self.heads.len() {
             self.heads[cell as usize] = head;

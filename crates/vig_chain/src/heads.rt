@@ -16,8 +16,6 @@ use std::marker::Model;
 /// stamps, and then the one where the ring of the available indices does.
 #[derive(Drop)]
 pub struct Heads {
-    /// How many indices there are.
-    size: u32,
     cells: Cells,
 }
 
@@ -26,9 +24,9 @@ impl Model for Heads {
 
     ghost Value = { Linked };
 
-    ghost view = { λ a. linked_of a.size a.cells };
+    ghost view = { λ a. linked_of a.cells.size a.cells.heads };
 
-    ghost invariant = { λ a. AreHeads a.size a.cells };
+    ghost invariant = { λ a. AreHeads a.cells.size a.cells.heads };
 }
 
 /// The stamp in a head, by the head's fields.
@@ -68,10 +66,8 @@ impl Heads {
         ensures some { 1 ≤ size }
         ensures most { size ≤ 65536 }
     {
-        let cells = Cells::new(alloc, size, share)?;
         Ok(Heads {
-            size: size.get(),
-            cells,
+            cells: Cells::new(alloc, size, share)?,
         })
     }
 
@@ -89,7 +85,7 @@ impl Heads {
         ensures value { result ≡ self.now.size }
         ensures most { result ≤ 65536 }
     {
-        self.size
+        self.cells.size()
     }
 
     /// The stamp of the entry at an index: none where the index is vacant or past the end.
@@ -97,7 +93,7 @@ impl Heads {
     pub fn stamp(&self, index: u32) -> Option<u64>
         ensures { result ≡ stamp_of self.now.stamps index }
     {
-        if index >= self.size {
+        if index >= self.cells.size() {
             return None;
         }
         let head = self.cells.get(index);
@@ -108,7 +104,7 @@ impl Heads {
     pub fn is_vacant_at(&self, index: u32) -> bool
         ensures { result ≡ is_vacant_at self.now.stamps index }
     {
-        index < self.size && self.cells.get(index).prev % 2 == 0
+        index < self.cells.size() && self.cells.get(index).prev % 2 == 0
     }
 
     /// The next cell in a cell's ring.
