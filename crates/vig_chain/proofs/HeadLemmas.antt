@@ -10,7 +10,9 @@ use Rattle.std.proofs.lemmas.List.FromFn.{length-map-range_with_len, get_or-map-
 use Rattle.nf_base.specs.declared.share.Share.{Share}
 use Rattle.nf_base.specs.Shares.{owns}
 use Rattle.vig_chain.specs.declared.cells.Head.{Head}
-use Rattle.vig_chain.specs.Cells.{head_at_start, heads_at_start, next_at_start, prev_at_start}
+use Rattle.vig_chain.specs.declared.cells.Ring.{Ring}
+use Rattle.vig_chain.specs.declared.cells.Ring.TheVariants.{Entries, Available}
+use Rattle.vig_chain.specs.Cells.{head_at_start, heads_at_start, next_at_start, prev_at_start, end_of}
 use Rattle.vig_chain.specs.Heads.{Linked, AreHeads, linked_of, rings_in, stamp_in, next_in, prev_in, rings_at_start, opened_heads, with_next, with_prev, with_head}
 use Rattle.vig_chain.specs.Rings.{Rings, IsLinked, AreLinked, ring_of}
 use Rattle.vig_chain.specs.Sound.{IsSoundChain}
@@ -35,6 +37,16 @@ same_parts size s s' n n' p p' e f g =
 pub next_cells :
     (size : ℕ) (heads : List Head) → AreHeads size heads → length (map next_in heads) ≡ size + 2
 next_cells size heads k = length-map heads next_in ∙ k.cells
+
+-- a ring begins at a cell
+end_below : (size : ℕ) (ring : Ring) → end_of size ring < size + 2
+end_below size Entries = omega arith
+end_below size Available = omega arith
+
+pub end_within :
+    (size : ℕ) (heads : List Head) (ring : Ring) → AreHeads size heads
+    → end_of size ring < length (map next_in heads)
+end_within size heads ring k = omega (arith, end_below size ring, next_cells size heads k)
 
 -- a head written keeps the links within, where its own are
 pub set_within :

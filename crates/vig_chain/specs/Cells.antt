@@ -3,6 +3,8 @@ use Rattle.std.specs.Prelude.{◌≡◌, ℕ, ◌+◌, ◌-◌, ◌*◌, ◌%◌
 use Rattle.std.specs.List.{range_with_len}
 use Rattle.nf_base.specs.declared.share.Share.{Share}
 use Rattle.vig_chain.specs.declared.cells.Head.{Head}
+use Rattle.vig_chain.specs.declared.cells.Ring.{Ring}
+use Rattle.vig_chain.specs.declared.cells.Ring.TheVariants.{Entries, Available}
 
 -- the last of a share's own indices, of so many: where there is none, the cell where the ring of
 -- the available ones begins
@@ -45,6 +47,11 @@ filled size share heads =
 abbrev pub cells_of : ℕ → Share → List Head → Head → Head → List Head
 cells_of size share heads entries available =
     filled size share heads ++ entries ∷ available ∷ []
+
+-- the cell where a ring of so many indices begins
+abbrev pub end_of : ℕ → Ring → ℕ
+end_of size Entries = size
+end_of size Available = size + 1
 
 -- how many indices there are, and the heads of all cells
 pub record AllHeads : Type 0 where

@@ -1,7 +1,7 @@
 //! The heads of a chain's cells: sixteen bytes a cell, written in memory as they change.
 ghost use Rattle.std.specs.Prelude.{◌≡◌, ◌+◌, ◌<◌, ◌≤◌, length, get_or, slice_set, IfOk};
 ghost use Rattle.std.specs.Vec.{vec_capacity};
-ghost use Rattle.vig_chain.specs.Cells.{last_own, head_at_start, heads_at_start, filled, HasCells, all_heads, Changed, linked_next, linked_prev};
+ghost use Rattle.vig_chain.specs.Cells.{last_own, head_at_start, heads_at_start, filled, HasCells, all_heads, end_of, Changed, linked_next, linked_prev};
 
 use nf_base::share::Share;
 use nf_base::size::Size;
@@ -17,6 +17,15 @@ pub struct Head {
     pub next: u32,
     /// Twice the cell before in its ring, and 1 more where an entry stands here.
     pub prev: u32,
+}
+
+/// Which ring of cells.
+#[derive(Clone, Copy, Drop)]
+pub enum Ring {
+    /// That of the entries.
+    Entries,
+    /// That of the available indices.
+    Available,
 }
 
 /// A head for each index, then one for the cell where the ring of the entries begins, and one for
@@ -152,9 +161,10 @@ impl Cells {
         self.size
     }
 
-    /// The head of a cell.
-    #[inline(always)]
-    pub fn get(&self, cell: u32) -> Head
+    /// The head of a cell, wherever it stands.
+    #[cold]
+    #[inline(never)]
+    fn get_anywhere(&self, cell: u32) -> Head
         requires { cell < length self.now.heads }
         ensures { result ≡ get_or self.now.heads cell result }
     {
@@ -169,9 +179,57 @@ impl Cells {
         }
     }
 
-    /// Links a cell to the next one.
+    /// The head of a cell.
     #[inline(always)]
-    pub fn set_next(&mut self, cell: u32, next: u32)
+    pub fn get(&self, cell: u32) -> Head
+        requires { cell < length self.now.heads }
+        ensures { result ≡ get_or self.now.heads cell result }
+    {
+        if (cell as usize) < self.heads.len() {
+            self.heads[cell as usize]
+        } else {
+            self.get_anywhere(cell)
+        }
+    }
+
+    /// The cell where a ring begins.
+    #[inline(always)]
+    pub fn end(&self, ring: Ring) -> u32
+        ensures { result ≡ end_of self.now.size ring }
+    {
+        match ring {
+            Ring::Entries => self.size,
+            Ring::Available => self.size + 1,
+        }
+    }
+
+    /// Its head.
+    #[inline(always)]
+    pub fn end_head(&self, ring: Ring) -> Head
+        ensures { result ≡ get_or self.now.heads (end_of self.now.size ring) result }
+    {
+        match ring {
+            Ring::Entries => self.entries,
+            Ring::Available => self.available,
+        }
+    }
+
+    /// Links the cell where a ring begins to the one before it.
+    #[inline(always)]
+    pub fn set_end_prev(&mut self, ring: Ring, prev: u32)
+        requires few { prev < 65538 }
+        ensures { Changed (linked_prev prev) (end_of self.old.size ring) self.old self.new }
+    {
+        match ring {
+            Ring::Entries => self.entries.prev = 2 * prev + self.entries.prev % 2,
+            Ring::Available => self.available.prev = 2 * prev + self.available.prev % 2,
+        }
+    }
+
+    /// Links a cell to the next one, wherever it stands.
+    #[cold]
+    #[inline(never)]
+    fn set_next_anywhere(&mut self, cell: u32, next: u32)
         requires within { cell < length self.old.heads }
         ensures { Changed (linked_next next) cell self.old self.new }
     {
@@ -187,9 +245,23 @@ impl Cells {
         }
     }
 
-    /// Links a cell to the one before it.
+    /// Links a cell to the next one.
     #[inline(always)]
-    pub fn set_prev(&mut self, cell: u32, prev: u32)
+    pub fn set_next(&mut self, cell: u32, next: u32)
+        requires within { cell < length self.old.heads }
+        ensures { Changed (linked_next next) cell self.old self.new }
+    {
+        if (cell as usize) < self.heads.len() {
+            self.heads[cell as usize].next = next;
+        } else {
+            self.set_next_anywhere(cell, next);
+        }
+    }
+
+    /// Links a cell to the one before it, wherever it stands.
+    #[cold]
+    #[inline(never)]
+    fn set_prev_anywhere(&mut self, cell: u32, prev: u32)
         requires within { cell < length self.old.heads }
         requires few { prev < 65538 }
         ensures { Changed (linked_prev prev) cell self.old self.new }
@@ -208,10 +280,26 @@ impl Cells {
         }
     }
 
-    /// Writes the head of a cell.
+    /// Links a cell to the one before it.
     #[inline(always)]
-    pub fn set(&mut self, cell: u32, head: Head)
-        requires { cell < length self.old.heads }
+    pub fn set_prev(&mut self, cell: u32, prev: u32)
+        requires within { cell < length self.old.heads }
+        requires few { prev < 65538 }
+        ensures { Changed (linked_prev prev) cell self.old self.new }
+    {
+        if (cell as usize) < self.heads.len() {
+            let head = &mut self.heads[cell as usize];
+            head.prev = 2 * prev + head.prev % 2;
+        } else {
+            self.set_prev_anywhere(cell, prev);
+        }
+    }
+
+    /// Writes the head of a cell, wherever it stands.
+    #[cold]
+    #[inline(never)]
+    fn set_anywhere(&mut self, cell: u32, head: Head)
+        requires within { cell < length self.old.heads }
         ensures { self.new ≡ all_heads self.old.size (slice_set self.old.heads cell head) }
     {
         if (cell as usize) < self.heads.len() {
@@ -223,6 +311,19 @@ impl Cells {
         } else {
             reach(&mut self.heads, self.size, self.share, cell);
             self.heads[cell as usize] = head;
+        }
+    }
+
+    /// Writes the head of a cell.
+    #[inline(always)]
+    pub fn set(&mut self, cell: u32, head: Head)
+        requires within { cell < length self.old.heads }
+        ensures { self.new ≡ all_heads self.old.size (slice_set self.old.heads cell head) }
+    {
+        if (cell as usize) < self.heads.len() {
+            self.heads[cell as usize] = head;
+        } else {
+            self.set_anywhere(cell, head);
         }
     }
 }

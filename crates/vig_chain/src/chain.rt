@@ -4,6 +4,7 @@ ghost use Rattle.std.specs.Bool.{OnTrue, OnFalse};
 ghost use Rattle.nf_base.specs.Shares.{owns};
 ghost use Rattle.vig_chain.specs.Stamps.{opened, stamp_of, is_available, is_past, is_due_at, SomeIndexHas, NoIndexHas, IsOldest, NoneAbove, raised, stamped, freed};
 
+use crate::cells::Ring;
 use crate::heads::Heads;
 use nf_base::share::Share;
 use nf_base::size::Size;
@@ -94,8 +95,7 @@ impl Chain {
         ensures { let available = is_available self.now in
             MatchBool result (NoIndexHas available) (SomeIndexHas available) }
     {
-        let ring = self.heads.size() + 1;
-        self.heads.next(ring) == ring
+        self.heads.first(Ring::Available) == self.heads.end(Ring::Available)
     }
 
     /// The entry with the least stamp, as its index and that stamp: none where there are no
@@ -105,7 +105,7 @@ impl Chain {
         ensures oldest { IfSome result (λ entry. IsOldest self.now entry.0) }
         ensures none { IfNone result ((i s : ℕ) → stamp_of self.now.slots i ≡ Some s → ⊥) }
     {
-        let first = self.heads.next(self.heads.size());
+        let first = self.heads.first(Ring::Entries);
         match self.stamp(first) {
             Some(stamp) => Some((first, stamp)),
             None => None,
@@ -126,7 +126,7 @@ impl Chain {
     {
         let stamp = time.max(self.greatest);
         self.heads.unlink(index);
-        self.heads.append(index, self.heads.size(), Some(stamp));
+        self.heads.append(index, Ring::Entries, Some(stamp));
         self.greatest = stamp;
     }
 
@@ -136,7 +136,7 @@ impl Chain {
         ensures { self.new ≡ freed index self.old }
     {
         self.heads.unlink(index);
-        self.heads.append(index, self.heads.size() + 1, None);
+        self.heads.append(index, Ring::Available, None);
     }
 
     /// Makes an entry at an own vacant index: none where no own index is vacant.
@@ -148,9 +148,8 @@ impl Chain {
         ensures stamped { IfSome result (λ i. self.new ≡ stamped time i self.old) }
         ensures unchanged { IfNone result (self.new ≡ self.old) }
     {
-        let ring = self.heads.size() + 1;
-        let index = self.heads.next(ring);
-        if index == ring {
+        let index = self.heads.first(Ring::Available);
+        if index == self.heads.end(Ring::Available) {
             return None;
         }
         self.put(index, time);

@@ -2,11 +2,12 @@
 ghost use Rattle.std.specs.Prelude.{◌≡◌, ℕ, ◌+◌, ◌<◌, ◌≤◌, length, Some, None, IfOk, slice_index, slice_set, map};
 ghost use Rattle.std.specs.List.{range_with_len};
 ghost use Rattle.nf_base.specs.Limits.{IsShare};
+ghost use Rattle.vig_chain.specs.Cells.{end_of};
 ghost use Rattle.vig_chain.specs.Heads.{linked_of, opened_heads, stamp_in, next_in, prev_in, with_next, with_prev, with_head, cut_out, put_last};
 ghost use Rattle.vig_chain.specs.Sound.{LinksInRange};
 ghost use Rattle.vig_chain.specs.Stamps.{stamp_of, is_vacant_at};
 
-use crate::cells::{Cells, Head};
+use crate::cells::{Cells, Head, Ring};
 use nf_base::share::Share;
 use nf_base::size::Size;
 use std::alloc::{AllocError, Global};
@@ -109,12 +110,40 @@ impl Heads {
 
     /// The next cell in a cell's ring.
     #[inline(always)]
-    pub fn next(&self, cell: u32) -> u32
+    fn next(&self, cell: u32) -> u32
         requires { cell < length self.now.rings.next }
         ensures value { result ≡ slice_index self.now.rings.next cell }
         ensures within { result < length self.now.rings.next }
     {
         self.cells.get(cell).next
+    }
+
+    /// The cell where a ring begins.
+    #[inline(always)]
+    pub fn end(&self, ring: Ring) -> u32
+        ensures value { result ≡ end_of self.now.size ring }
+        ensures within { result < length self.now.rings.next }
+    {
+        self.cells.end(ring)
+    }
+
+    /// The first cell of a ring: where it is empty, the one where it begins.
+    #[inline(always)]
+    pub fn first(&self, ring: Ring) -> u32
+        ensures value { result ≡ slice_index self.now.rings.next (end_of self.now.size ring) }
+        ensures within { result < length self.now.rings.next }
+    {
+        self.cells.end_head(ring).next
+    }
+
+    /// The last cell of a ring.
+    #[inline(always)]
+    fn last(&self, ring: Ring) -> u32
+        ensures value { result ≡ slice_index self.now.rings.prev (end_of self.now.size ring) }
+        ensures within { result < length self.now.rings.next }
+        ensures few { result < 65538 }
+    {
+        self.cells.end_head(ring).prev / 2
     }
 
     /// The cell before a cell in its ring.
@@ -149,6 +178,15 @@ impl Heads {
         self.cells.set_prev(cell, prev);
     }
 
+    /// Links the cell where a ring begins to the one before it.
+    #[inline(always)]
+    fn set_last(&mut self, ring: Ring, prev: u32)
+        requires to_within { prev < length self.old.rings.next }
+        ensures { self.new ≡ with_prev (end_of self.old.size ring) prev self.old }
+    {
+        self.cells.set_end_prev(ring, prev);
+    }
+
     /// Writes the head of an index.
     #[inline(always)]
     fn set(&mut self, i: u32, stamp: Option<u64>, next: u32, prev: u32)
@@ -174,18 +212,16 @@ impl Heads {
         self.set_prev(after, before);
     }
 
-    /// Puts an index that is in no ring last in one, which begins at a cell, with the stamp of an
-    /// entry or none.
+    /// Puts an index that is in no ring last in one, with the stamp of an entry or none.
     #[inline(always)]
-    pub fn append(&mut self, i: u32, ring: u32, stamp: Option<u64>)
+    pub fn append(&mut self, i: u32, ring: Ring, stamp: Option<u64>)
         requires within { i < self.old.size }
         requires cell_within { i < length self.old.rings.next }
-        requires ring_within { ring < length self.old.rings.next }
-        ensures { self.new ≡ put_last i ring stamp self.old }
+        ensures { self.new ≡ put_last i (end_of self.old.size ring) stamp self.old }
     {
-        let last = self.prev(ring);
+        let last = self.last(ring);
         self.set_next(last, i);
-        self.set(i, stamp, ring, last);
-        self.set_prev(ring, i);
+        self.set(i, stamp, self.end(ring), last);
+        self.set_last(ring, i);
     }
 }

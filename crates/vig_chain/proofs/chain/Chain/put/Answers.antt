@@ -20,10 +20,7 @@ append-requires-clause-cell_within c =
     let own = own_at _ _ _ c.self.invariant c.args.index (rw (← c.self.view_is) at c.requires) in
     simp (c.unlink.ensures.value, length-set) (omega (arith, own.1, c.self.invariant.cells))
 
-pub append-requires-clause-ring_within : goal.append-requires-clause-ring_within
-append-requires-clause-ring_within c = simp (c.size.ensures.value, c.unlink.ensures.value, length-set) (omega (arith, c.self.invariant.cells))
-
 pub invariant_of-self : goal.invariant_of-self
 invariant_of-self c =
     let own = own_at _ _ _ c.self.invariant c.args.index (rw (← c.self.view_is) at c.requires) in
-    rw (c.append.ensures, c.size.ensures.value, c.unlink.ensures.value) (sound_set _ c.args.index c.max-stamp.result (Some c.max-stamp.result) _ _ c.self.invariant c.unlink.ensures.within own.1 own.0 (omega arith) (λ u e. same_Some u c.max-stamp.result (sym e)))
+    rw (c.append.ensures, c.unlink.ensures.value) (sound_set _ c.args.index c.max-stamp.result (Some c.max-stamp.result) _ _ c.self.invariant c.unlink.ensures.within own.1 own.0 (omega arith) (λ u e. same_Some u c.max-stamp.result (sym e)))

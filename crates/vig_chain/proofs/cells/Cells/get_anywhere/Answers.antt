@@ -1,6 +1,6 @@
 use Rattle.std.proofs.Common.{sym, arith, ◌≡◌, ◌+◌}
 use Rattle.vig_chain.proofs.CellLemmas.{length-cells, get_start, get_end}
-use Rattle.vig_chain.proofs.cells.Cells.get.Goals as goal
+use Rattle.vig_chain.proofs.cells.Cells.get_anywhere.Goals as goal
 
 pub returns-then-cell-self : goal.returns-then-cell-self
 returns-then-cell-self c =
