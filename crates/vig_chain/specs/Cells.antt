@@ -68,6 +68,11 @@ pub record HasCells (size stand room : ℕ) : Type 0 where
   pub within : stand ≤ size
   pub room_for : size ≤ room
 
+-- what is read of a head
+abbrev pub Reads : (Head → ℕ) → ℕ → AllHeads → ℕ → Type 0
+Reads f cell all read =
+    (head : Head) × (head ≡ get_or all.heads cell head) × (read ≡ f head)
+
 -- one head changed
 abbrev pub Changed : (Head → Head) → ℕ → AllHeads → AllHeads → Type 0
 Changed f cell old new =

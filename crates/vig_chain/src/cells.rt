@@ -1,7 +1,7 @@
 //! The heads of a chain's cells: sixteen bytes a cell, written in memory as they change.
 ghost use Rattle.std.specs.Prelude.{◌≡◌, ◌+◌, ◌<◌, ◌≤◌, length, get_or, slice_set, IfOk};
 ghost use Rattle.std.specs.Vec.{vec_capacity};
-ghost use Rattle.vig_chain.specs.Cells.{last_own, head_at_start, heads_at_start, filled, HasCells, all_heads, end_of, Changed, linked_next, linked_prev};
+ghost use Rattle.vig_chain.specs.Cells.{last_own, head_at_start, heads_at_start, filled, HasCells, all_heads, end_of, Reads, Changed, linked_next, linked_prev};
 
 use nf_base::share::Share;
 use nf_base::size::Size;
@@ -189,6 +189,32 @@ impl Cells {
             self.heads[cell as usize]
         } else {
             self.get_anywhere(cell)
+        }
+    }
+
+    /// The cell next to a cell.
+    #[inline(always)]
+    pub fn next(&self, cell: u32) -> u32
+        requires { cell < length self.now.heads }
+        ensures { Reads (λ head. head.next) cell self.now result }
+    {
+        if (cell as usize) < self.heads.len() {
+            self.heads[cell as usize].next
+        } else {
+            self.get_anywhere(cell).next
+        }
+    }
+
+    /// Twice the cell before a cell, and 1 more where an entry stands there.
+    #[inline(always)]
+    pub fn prev(&self, cell: u32) -> u32
+        requires { cell < length self.now.heads }
+        ensures { Reads (λ head. head.prev) cell self.now result }
+    {
+        if (cell as usize) < self.heads.len() {
+            self.heads[cell as usize].prev
+        } else {
+            self.get_anywhere(cell).prev
         }
     }
 

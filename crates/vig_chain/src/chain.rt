@@ -120,6 +120,7 @@ impl Chain {
     }
 
     /// Puts an entry at an available index, or gives the one there the next stamp.
+    #[inline(always)]
     fn put(&mut self, index: u32, time: u64)
         requires { IsTrue (is_available self.old index) ⊎ IsSome (stamp_of self.old.slots index) }
         ensures { self.new ≡ stamped time index self.old }

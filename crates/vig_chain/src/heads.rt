@@ -105,7 +105,7 @@ impl Heads {
     pub fn is_vacant_at(&self, index: u32) -> bool
         ensures { result ≡ is_vacant_at self.now.stamps index }
     {
-        index < self.cells.size() && self.cells.get(index).prev % 2 == 0
+        index < self.cells.size() && self.cells.prev(index) % 2 == 0
     }
 
     /// The next cell in a cell's ring.
@@ -115,7 +115,7 @@ impl Heads {
         ensures value { result ≡ slice_index self.now.rings.next cell }
         ensures within { result < length self.now.rings.next }
     {
-        self.cells.get(cell).next
+        self.cells.next(cell)
     }
 
     /// The cell where a ring begins.
@@ -155,7 +155,7 @@ impl Heads {
         ensures few { result < 65538 }
         ensures links { LinksInRange self.now.rings }
     {
-        self.cells.get(cell).prev / 2
+        self.cells.prev(cell) / 2
     }
 
     /// Links a cell to the next one.
