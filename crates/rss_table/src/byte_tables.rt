@@ -6,7 +6,7 @@ ghost use Rattle.toeplitz_hash.specs.Toeplitz.{toeplitz_of};
 use nf_base::card::TableSize;
 use nf_base::hash_key::HashKey;
 use nf_base::keys::Keys;
-use nf_base::packet::{Fields, Packet};
+use nf_base::packet::{Addresses, Fields, Packet};
 use nf_base::seq::Seq;
 use std::alloc::{AllocError, Global};
 use std::marker::Model;
@@ -64,18 +64,23 @@ impl KeyTable {
         hash
     }
 
-    /// The hash of a handled packet under the key. Where it is known how many bytes an input has, there is
-    /// no loop.
+    /// The hash of a handled packet under the key. By version, so that an input of IPv4 is laid out and
+    /// hashed without a loop.
+    #[inline(always)]
     #[tactic(auto, using(std::proofs::lemmas::List::take_all))]
     fn hash_fields(&self, fields: &Fields) -> u32
         ensures { result ≡ toeplitz_of self.now (input_bytes fields.now) }
     {
-        let input = input_of(fields);
-        let bytes = input.as_slice();
-        if bytes.len() == FOUR_BYTES {
-            self.hash(&bytes[..FOUR_BYTES])
-        } else {
-            self.hash(bytes)
+        match fields.addresses {
+            Addresses::Four { .. } => {
+                let input = input_of(fields);
+                let bytes = input.as_slice();
+                if bytes.len() == FOUR_BYTES {
+                    return self.hash(&bytes[..FOUR_BYTES]);
+                }
+                self.hash(bytes)
+            }
+            Addresses::Six { .. } => self.hash(input_of(fields).as_slice()),
         }
     }
 }
