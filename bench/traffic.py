@@ -32,7 +32,7 @@ TCP, UDP = 6, 17
 
 def client(flow):
     """The address and the port that opened a flow."""
-    return (10 << 24) + flow, 1024 + flow
+    return (10 << 24) + flow, 1024 + flow % 64_000
 
 
 def scattered(flow):
