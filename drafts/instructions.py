@@ -40,4 +40,4 @@ else:
         per=lambda k:(fb.get(k,0)-fa.get(k,0))/(2*(n2-n1))
         ks=sorted(fb,key=per,reverse=True)
         print("==",th.name)
-        for k in ks[:14]: print(f"{per(k):9.1f} {k[:140]}")
+        for k in ks[:24]: print(f"{per(k):9.1f} {k[:140]}")
