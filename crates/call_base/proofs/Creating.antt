@@ -26,6 +26,7 @@ created_none t name = record {
   contents = λ n others. refl;
   rests = λ g lt. refl;
   givens = λ g lt. refl;
+  kinds = λ g k was. was;
 }
 
 -- what stands under a name, where another one is created
@@ -60,6 +61,7 @@ created_more a b c name made file s h apart =
       contents = λ n others. h.contents n (λ e. others made (omega arith) (sym e)) ∙ s.contents n (λ k lt. others k (omega (arith, lt)));
       rests = λ g lt. h.rests g (λ e. omega (arith, e, at, lt)) ∙ s.rests g lt;
       givens = λ g lt. h.givens g (λ e. omega (arith, e, at, lt)) ∙ s.givens g lt;
+      kinds = λ g k was. h.kinds g k (s.kinds g k was);
     }
 
 standing_same : (b c : Told) (n : List ℕ) (g : ℕ) → Same b c → IsStanding b n g → IsStanding c n g
@@ -77,6 +79,7 @@ created_same a b c name made s h = record {
   contents = λ n others. h.contents n ∙ s.contents n others;
   rests = λ g lt. h.rests g ∙ s.rests g lt;
   givens = λ g lt. h.givens g ∙ s.givens g lt;
+  kinds = λ g k was. h.kinds g ∙ s.kinds g k was;
 }
 
 -- ---- names that are opened one after another

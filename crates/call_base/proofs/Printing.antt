@@ -60,6 +60,7 @@ writes_nothing t file = record {
   next_same = refl;
   givens = λ g other. refl;
   names = λ g. refl;
+  kinds = λ g. refl;
   contents = λ n other. refl;
 }
 

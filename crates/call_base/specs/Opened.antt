@@ -1,5 +1,6 @@
 -- Names that are opened and created one after another.
 use Rattle.std.specs.Prelude.{◌≡◌, ◌≢◌, ◌⊎◌, ℕ, ◌+◌, ◌<◌, ◌≤◌, List, [], ◌∷◌, length, Some, slice_get, Result, Ok, Err}
+use Rattle.nf_files.specs.declared.kind.Kind.{Kind}
 use Rattle.nf_files.specs.Told.{Told, IsToldAs, IsEmptyIfTold}
 use Rattle.nf_files.specs.Causes.{Counted, FaultedAsking, Asked, asking}
 use Rattle.stream_run.specs.declared.fault.RunFault.{RunFault}
@@ -56,6 +57,7 @@ pub record AreCreated (before now : Told) (name : ℕ → List ℕ) (made : ℕ)
   pub contents : (n : List ℕ) → ((k : ℕ) → k < made → name k ≢ n) → now.content n ≡ before.content n
   pub rests : (g : ℕ) → g < before.next → now.rest g ≡ before.rest g
   pub givens : (g : ℕ) → g < before.next → now.given g ≡ before.given g
+  pub kinds : (g : ℕ) (k : Kind) → before.kind g ≡ Some k → now.kind g ≡ Some k
 
 -- all of so many names were created, under these numbers
 pub record AreAllCreated (before now : Told) (name : ℕ → List ℕ) (targets : List ℕ) (count : ℕ) : Type 0 where

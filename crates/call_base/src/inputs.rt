@@ -1,5 +1,6 @@
 //! The captures of a call, opened to be read.
 ghost use Rattle.std.specs.Prelude.{◌≡◌, ◌+◌, ◌≤◌, [], ◌∷◌, ℕ, List, length, map, IfOk, OnOk, string_bytes};
+ghost use Rattle.nf_files.specs.Told.{IsRead};
 ghost use Rattle.nf_base.specs.Functions.{function_of};
 ghost use Rattle.packet_feed.specs.Told.{EachFile};
 ghost use Rattle.call_base.specs.Names.{reading};
@@ -44,14 +45,14 @@ fn start_feed<F: Files>(
     requires from { AreFrom (layout.first + 1) captures.items layout.captures }
     requires all { length captures.items ≡ layout.captures }
     requires as_many { layout.captures ≡ length func.now.handlers }
-    requires read { EachFile (F.is_read files.old) captures.items }
+    requires read { EachFile (IsRead (F.told files.old)) captures.items }
     requires next { (F.told files.old).next ≡ layout.first + 1 + layout.captures }
     ensures fresh { let f = function_of func.now in
         IfOk result (λ inputs. IsFresh f most inputs.captures.items inputs.feed) }
     ensures from { IfOk result (λ inputs.
         AreFrom (layout.first + 1) inputs.captures.items layout.captures) }
     ensures all { IfOk result (λ inputs. length inputs.captures.items ≡ layout.captures) }
-    ensures readable { IfOk result (λ inputs. EachFile (F.is_read files.new) inputs.captures.items) }
+    ensures readable { IfOk result (λ inputs. EachFile (IsRead (F.told files.new)) inputs.captures.items) }
     ensures next { OnOk result ((F.told files.new).next ≡ layout.first + 1 + layout.captures) }
     ensures reads { let now = seen (F.told files.new) (F.counted files.new) in
         (c : Reads) → (before : Outside) → c.most ≡ most → 2 ≤ before.told.next →
@@ -83,7 +84,7 @@ pub fn open_inputs<F: Files>(
     ensures from { IfOk result (λ inputs.
         AreFrom (layout.first + 1) inputs.captures.items layout.captures) }
     ensures all { IfOk result (λ inputs. length inputs.captures.items ≡ layout.captures) }
-    ensures readable { IfOk result (λ inputs. EachFile (F.is_read files.new) inputs.captures.items) }
+    ensures readable { IfOk result (λ inputs. EachFile (IsRead (F.told files.new)) inputs.captures.items) }
     ensures next { OnOk result ((F.told files.new).next ≡ layout.first + 1 + layout.captures) }
     // Whatever text was read before.
     ensures reads { let now = seen (F.told files.new) (F.counted files.new) in

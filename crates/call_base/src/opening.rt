@@ -1,6 +1,7 @@
 //! Names that are opened and created.
 ghost use Rattle.std.specs.Prelude.{◌≡◌, ◌^◌, ◌+◌, ◌-◌, ◌≤◌, ◌<◌, ℕ, min, map, length, IfOk, IfErr, OnErr, Some, string_bytes, slice_get};
-ghost use Rattle.nf_files.specs.Told.{Same};
+ghost use Rattle.nf_files.specs.declared.kind.Kind.{Kind};
+ghost use Rattle.nf_files.specs.Told.{Same, IsRead, IsWritten};
 ghost use Rattle.nf_files.specs.Openings.{Opens, Creates};
 ghost use Rattle.stream_run.specs.Stops.{stop_of};
 ghost use Rattle.call_base.specs.Outside.{IsUntouched};
@@ -25,12 +26,9 @@ fn open_next<F: Files>(files: &mut F, name: &String, last: u32) -> Result<u32, R
     requires last { (F.told files.old).next ≡ last + 1 }
     ensures ok { let name = string_bytes name.now in
         IfOk result (λ file. Opens (F.told files.old) (F.told files.new) name file) }
-    ensures readable { IfOk result (F.is_read files.new) }
     ensures err { OnErr result (Same (F.told files.old) (F.told files.new)) }
     ensures cause { let name = reading (string_bytes name.now) in
         AsksNext name (last + 1) (F.counted files.old) (F.counted files.new) result }
-    ensures reads { (g : ℕ) → F.is_read files.old g → F.is_read files.new g }
-    ensures writes { (g : ℕ) → F.is_written files.old g → F.is_written files.new g }
 {
     match files.open_in(name) {
         Ok(file) => Ok(file),
@@ -43,12 +41,9 @@ pub fn create_next<F: Files>(files: &mut F, name: &String, last: u32) -> Result<
     requires last { (F.told files.old).next ≡ last + 1 }
     ensures ok { let name = string_bytes name.now in
         IfOk result (λ file. Creates (F.told files.old) (F.told files.new) name file) }
-    ensures writable { IfOk result (F.is_written files.new) }
     ensures err { OnErr result (Same (F.told files.old) (F.told files.new)) }
     ensures cause { let name = writing (string_bytes name.now) in
         AsksNext name (last + 1) (F.counted files.old) (F.counted files.new) result }
-    ensures reads { (g : ℕ) → F.is_read files.old g → F.is_read files.new g }
-    ensures writes { (g : ℕ) → F.is_written files.old g → F.is_written files.new g }
 {
     match files.create_out(name) {
         Ok(file) => Ok(file),
@@ -68,16 +63,17 @@ pub fn open_captures<F: Files>(
         IfOk result (λ opened. AreOpened (F.told files.old) (F.told files.new) names opened.items) }
     ensures all { IfOk result (λ opened. length opened.items ≡ length names.now) }
     ensures readable { IfOk result (λ opened. (i : ℕ) → (f : ℕ) →
-        slice_get opened.items i ≡ Some f → F.is_read files.new f) }
+        slice_get opened.items i ≡ Some f → IsRead (F.told files.new) f) }
     ensures untouched { IsUntouched (F.told files.old) (F.told files.new) }
     ensures cause { let names = map reading (map string_bytes names.now) in
         AsksAll names (F.counted files.old) (F.counted files.new) result }
     ensures from { IfErr result (StopsFrom (last + 1) (length names.now)) }
     ensures here { IfErr result (StopsNext (F.told files.new).next) }
-    // What is left of files that were opened before stays.
+    // Files that were opened or created before stay so, and so does what is left of them.
+    ensures kinds { (g : ℕ) → (kind : Kind) →
+        (F.told files.old).kind g ≡ Some kind → (F.told files.new).kind g ≡ Some kind }
     ensures rests { (g : ℕ) → g < (F.told files.old).next →
         (F.told files.new).rest g ≡ (F.told files.old).rest g }
-    ensures reads { (g : ℕ) → F.is_read files.old g → F.is_read files.new g }
 {
     let mut opened = Vec::new(alloc);
     let mut last = last;
@@ -106,12 +102,9 @@ fn create_at<F: Files>(
     requires last { (F.told files.old).next ≡ last + 1 }
     ensures ok { let name = name_at format (string_bytes out.now) ports place in
         IfOk result (λ file. Creates (F.told files.old) (F.told files.new) name file) }
-    ensures writable { IfOk result (F.is_written files.new) }
     ensures err { OnErr result (Same (F.told files.old) (F.told files.new)) }
     ensures cause { let name = writing (name_at format (string_bytes out.now) ports place) in
         AsksNext name (last + 1) (F.counted files.old) (F.counted files.new) result }
-    ensures reads { (g : ℕ) → F.is_read files.old g → F.is_read files.new g }
-    ensures writes { (g : ℕ) → F.is_written files.old g → F.is_written files.new g }
 {
     match name_at(alloc, format, out, ports, place) {
         Ok(name) => create_next(files, &name, last),
@@ -136,10 +129,9 @@ pub fn create_targets<F: Files>(
     ensures some { let name = name_at format (string_bytes out.now) ports in
         IfErr result (AreSomeCreated (F.told files.old) (F.told files.new) name (ports + 1)) }
     ensures writable { IfOk result (λ targets. (i : ℕ) → (f : ℕ) →
-        slice_get targets.items i ≡ Some f → F.is_written files.new f) }
+        slice_get targets.items i ≡ Some f → IsWritten (F.told files.new) f) }
     ensures cause { let names = created_by format (string_bytes out.now) ports (ports + 1) in
         AsksAll names (F.counted files.old) (F.counted files.new) result }
-    ensures reads { (g : ℕ) → F.is_read files.old g → F.is_read files.new g }
 {
     let mut targets = Vec::new(alloc);
     let mut last = last;

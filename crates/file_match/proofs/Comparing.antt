@@ -103,6 +103,7 @@ keeps_both a b c file h k = record {
   rests = λ g ne. k.rests g ne ∙ h.rests g ne;
   givens = λ g. k.givens g ∙ h.givens g;
   names = λ g. k.names g ∙ h.names g;
+  kinds = λ g. k.kinds g ∙ h.kinds g;
   contents = λ n. k.contents n ∙ h.contents n;
   latest_same = λ n. k.latest_same n ∙ h.latest_same n;
   next_same = k.next_same ∙ h.next_same;

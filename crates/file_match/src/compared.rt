@@ -1,5 +1,6 @@
 //! A file that is compared with bytes.
 ghost use Rattle.std.specs.Prelude.{◌≡◌, ◌<◌, ◌++◌, ℕ, List, Option, true, length, vec_len, IfOk, OnOk};
+ghost use Rattle.nf_files.specs.Told.{IsRead};
 ghost use Rattle.nf_files.specs.Causes.{HasCause};
 ghost use Rattle.nf_files.specs.Reads.{Keeps};
 ghost use Rattle.nf_files.specs.Expected.{IsNotMemory};
@@ -55,14 +56,12 @@ fn are_next<F: Files>(
     room: &mut [u8],
     bytes: &[u8],
 ) -> Result<bool, FilesFault>
-    requires opened { F.is_read files.old file }
+    requires opened { IsRead (F.told files.old) file }
     requires room { 0 < length room.old }
     ensures next { AreNext bytes.now ((F.told files.old).rest file) ((F.told files.new).rest file) result }
     ensures kept { Keeps (F.told files.old) (F.told files.new) file }
     ensures no_memory { IsNotMemory result }
     ensures cause { HasCause (F.counted files.old) (F.counted files.new) file result }
-    ensures reads { (g : ℕ) → F.is_read files.old g → F.is_read files.new g }
-    ensures writes { (g : ℕ) → F.is_written files.old g → F.is_written files.new g }
 {
     let mut rest = bytes;
     while !rest.is_empty() {
@@ -101,7 +100,7 @@ impl Compared {
 
     /// Compares the next bytes of the file with these.
     pub fn compare<F: Files>(&mut self, files: &mut F, bytes: &[u8]) -> Result<(), FilesFault>
-        requires opened { F.is_read files.old self.old.file }
+        requires opened { IsRead (F.told files.old) self.old.file }
         // Whatever was found since some start, it was found of these bytes too.
         ensures compares { let file = self.old.file in
             (start : Option (List ℕ)) → (before : List ℕ) →
@@ -112,8 +111,6 @@ impl Compared {
         ensures no_memory { IsNotMemory result }
         ensures cause { let file = self.old.file in
             HasCause (F.counted files.old) (F.counted files.new) file result }
-        ensures reads { (g : ℕ) → F.is_read files.old g → F.is_read files.new g }
-        ensures writes { (g : ℕ) → F.is_written files.old g → F.is_written files.new g }
     {
         if !self.same {
             return Ok(());
@@ -125,7 +122,7 @@ impl Compared {
 
     /// Whether the file held the bytes that it was compared with, and none behind them.
     pub fn is_whole<F: Files>(&mut self, files: &mut F) -> Result<bool, FilesFault>
-        requires opened { F.is_read files.old self.old.file }
+        requires opened { IsRead (F.told files.old) self.old.file }
         ensures whole { let file = self.old.file in
             (start : Option (List ℕ)) → (bytes : List ℕ) →
             Found self.old bytes start ((F.told files.old).rest file) → IsWhole bytes start result }
@@ -134,8 +131,6 @@ impl Compared {
         ensures no_memory { IsNotMemory result }
         ensures cause { let file = self.old.file in
             HasCause (F.counted files.old) (F.counted files.new) file result }
-        ensures reads { (g : ℕ) → F.is_read files.old g → F.is_read files.new g }
-        ensures writes { (g : ℕ) → F.is_written files.old g → F.is_written files.new g }
     {
         if !self.same {
             return Ok(false);

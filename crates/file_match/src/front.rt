@@ -1,6 +1,6 @@
 //! The front of what is left of a file.
 ghost use Rattle.std.specs.Prelude.{◌≡◌, ◌<◌, ◌≤◌, ℕ, length, take, IfOk};
-ghost use Rattle.nf_files.specs.Told.{IsEmptyIfTold};
+ghost use Rattle.nf_files.specs.Told.{IsEmptyIfTold, IsRead};
 ghost use Rattle.nf_files.specs.Pieces.{Takes};
 ghost use Rattle.nf_files.specs.Causes.{HasCause};
 ghost use Rattle.nf_files.specs.Reads.{Keeps, Reads};
@@ -15,15 +15,13 @@ fn read_some<F: Files>(
     room: &mut [u8],
     most: usize,
 ) -> Result<usize, FilesFault>
-    requires opened { F.is_read files.old file }
+    requires opened { IsRead (F.told files.old) file }
     requires within { most ≤ length room.old }
     ensures ok { IfOk result (λ count.
         Reads (F.told files.old) (F.told files.new) file count (take most room.new)) }
     ensures kept { Keeps (F.told files.old) (F.told files.new) file }
     ensures no_memory { IsNotMemory result }
     ensures cause { HasCause (F.counted files.old) (F.counted files.new) file result }
-    ensures reads { (g : ℕ) → F.is_read files.old g → F.is_read files.new g }
-    ensures writes { (g : ℕ) → F.is_written files.old g → F.is_written files.new g }
 {
     files.read(file, &mut room[..most])
 }
@@ -37,7 +35,7 @@ pub fn read_front<F: Files>(
     room: &mut [u8],
     most: usize,
 ) -> Result<usize, FilesFault>
-    requires opened { F.is_read files.old file }
+    requires opened { IsRead (F.told files.old) file }
     requires within { most ≤ length room.old }
     ensures within { IfOk result (λ count. count ≤ most) }
     ensures taken { IfOk result (λ count. Takes (take count room.new)
@@ -48,8 +46,6 @@ pub fn read_front<F: Files>(
     ensures kept { Keeps (F.told files.old) (F.told files.new) file }
     ensures no_memory { IsNotMemory result }
     ensures cause { HasCause (F.counted files.old) (F.counted files.new) file result }
-    ensures reads { (g : ℕ) → F.is_read files.old g → F.is_read files.new g }
-    ensures writes { (g : ℕ) → F.is_written files.old g → F.is_written files.new g }
 {
     let count = read_some(files, file, room, most)?;
     Ok(count)

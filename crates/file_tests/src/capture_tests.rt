@@ -1,6 +1,6 @@
 //! Captures in files.
 use crate::calls::{header, left, next, open};
-use crate::story::{End, read_all};
+use crate::story::{End, Story, read_all};
 use nf_files::{Files, MemoryFiles};
 use pcap_file::{CapFault, Head, push_header, push_record};
 use std::alloc::{AllocError, Global};
@@ -25,6 +25,12 @@ fn changed(alloc: Global, bytes: &[u8], at: usize, new: &[u8]) -> Result<Vec<u8>
     Ok(out)
 }
 
+/// How many records a capture gives, and how it ends; the calls on files that are listed fail.
+fn ended(alloc: Global, bytes: &[u8], fails: &[u64]) -> Result<(usize, End), AllocError> {
+    let story = read_all(alloc, bytes, fails)?;
+    Ok((story.heads.len(), story.end))
+}
+
 #[test]
 fn a_wrong_header_is_no_capture(rt: HostRuntime) -> Result<(), Fail> {
     let wrong = End::Unread(CapFault::NotCapture);
@@ -39,8 +45,8 @@ fn a_wrong_header_is_no_capture(rt: HostRuntime) -> Result<(), Fail> {
     ];
     for (at, new, end, what) in cases {
         let bytes = changed(rt.alloc(), &BIG, at, new)?;
-        let story = read_all(rt.alloc(), bytes.as_slice(), &[])?;
-        assert_eq!(rt; story.end, end, "{what}");
+        let ended = ended(rt.alloc(), bytes.as_slice(), &[])?;
+        assert_eq!(rt; ended.1, end, "{what}");
     }
     Ok(())
 }
@@ -49,14 +55,14 @@ fn a_wrong_header_is_no_capture(rt: HostRuntime) -> Result<(), Fail> {
 #[test]
 fn a_torn_record_is_named_by_its_offset(rt: HostRuntime) -> Result<(), Fail> {
     for cut in 0..44 {
-        let story = read_all(rt.alloc(), BIG.get(..cut).unwrap_or(&BIG), &[])?;
-        let (count, end) = match cut {
+        let ended = ended(rt.alloc(), BIG.get(..cut).unwrap_or(&BIG), &[])?;
+        let wanted = match cut {
             0..24 => (0, End::Unread(CapFault::NotCapture)),
             24 => (0, End::End),
             25..43 => (0, End::Torn(24)),
             _ => (1, End::End),
         };
-        assert_eq!(rt; (story.heads.len(), story.end), (count, end), "{cut} bytes");
+        assert_eq!(rt; ended, wanted, "{cut} bytes");
     }
     Ok(())
 }
@@ -74,9 +80,50 @@ fn each_call_that_fails_is_told(rt: HostRuntime) -> Result<(), Fail> {
         (5, 1, End::End),
     ];
     for (call, count, end) in cases {
-        let story = read_all(rt.alloc(), &BIG, &[call])?;
-        assert_eq!(rt; (story.heads.len(), story.end), (count, end), "call {call}");
+        let ended = ended(rt.alloc(), &BIG, &[call])?;
+        assert_eq!(rt; ended, (count, end), "call {call}");
     }
+    Ok(())
+}
+
+/// A capture of three frames, of which the last is cut.
+fn cut_capture(alloc: Global) -> Result<Vec<u8>, AllocError> {
+    let mut out = Vec::new(alloc);
+    push_header(&mut out)?;
+    push_record(&mut out, 5, 60, &[1, 2, 3])?;
+    push_record(&mut out, 1_000_000_000, 1500, &[])?;
+    push_record(&mut out, 4_294_967_295_999_999_999, 64, &[4, 5])?;
+    out.pop();
+    Ok(out)
+}
+
+/// What is shown of a record: its time, and its captured and original bytes.
+type Shown = Option<(u64, u32, u32)>;
+
+fn shown(story: &Story, number: usize) -> Shown {
+    story
+        .heads
+        .get(number)
+        .map(|head| (head.time, head.captured, head.original))
+}
+
+/// The first two records that a capture gives, how many there are, and the end.
+fn first_two(alloc: Global, bytes: &[u8]) -> Result<([Shown; 2], usize, End), AllocError> {
+    let story = read_all(alloc, bytes, &[])?;
+    let shown = [shown(&story, 0), shown(&story, 1)];
+    Ok((shown, story.heads.len(), story.end))
+}
+
+/// The records of the whole frames have 19 and 16 bytes, behind the header's 24.
+#[test]
+fn records_are_given_up_to_a_tear(rt: HostRuntime) -> Result<(), Fail> {
+    let bytes = cut_capture(rt.alloc())?;
+    let (shown, count, end) = first_two(rt.alloc(), bytes.as_slice())?;
+    assert_eq!(rt;
+        shown.as_slice(),
+        [Some((5, 3, 60)), Some((1_000_000_000, 0, 1500))].as_slice()
+    );
+    assert_eq!(rt; (count, end), (2, End::Torn(59)));
     Ok(())
 }
 
@@ -87,6 +134,12 @@ fn record(alloc: Global, numbers: [u8; 16], zeros: usize) -> Result<Vec<u8>, All
     bytes.extend_from_slice(&numbers)?;
     bytes.resize(bytes.len().saturating_add(zeros), 0)?;
     Ok(bytes)
+}
+
+/// The first record's time, and how a capture ends.
+fn first_time(alloc: Global, bytes: &[u8]) -> Result<(Option<u64>, End), AllocError> {
+    let story = read_all(alloc, bytes, &[])?;
+    Ok((story.heads.first().map(|head| head.time), story.end))
 }
 
 #[test]
@@ -105,9 +158,8 @@ fn times_are_capped_and_262_145_captured_bytes_are_torn(rt: HostRuntime) -> Resu
     ];
     for (numbers, zeros, time, end) in cases {
         let bytes = record(rt.alloc(), numbers, zeros)?;
-        let story = read_all(rt.alloc(), bytes.as_slice(), &[])?;
-        let given = story.heads.first().map(|head| head.time);
-        assert_eq!(rt; (given, story.end), (time, end), "{zeros}");
+        let given = first_time(rt.alloc(), bytes.as_slice())?;
+        assert_eq!(rt; given, (time, end), "{zeros}");
     }
     Ok(())
 }

@@ -1,5 +1,6 @@
 //! Calls on files, listed and then made one after another. What they answer is compared, and not proved.
 ghost use Rattle.std.specs.Prelude.{IfSome};
+ghost use Rattle.nf_files.specs.Told.{IsRead, IsWritten};
 
 use nf_files::{Files, FilesFault};
 use std::alloc::{AllocError, Global};
@@ -52,10 +53,10 @@ fn count_in(answer: Result<usize, FilesFault>) -> Answer {
 }
 
 fn open<F: Files>(files: &mut F, last: &mut Last, name: &str) -> Answer
-    requires input { IfSome last.old.input (F.is_read files.old) }
-    requires output { IfSome last.old.output (F.is_written files.old) }
-    ensures input { IfSome last.new.input (F.is_read files.new) }
-    ensures output { IfSome last.new.output (F.is_written files.new) }
+    requires input { IfSome last.old.input (IsRead (F.told files.old)) }
+    requires output { IfSome last.old.output (IsWritten (F.told files.old)) }
+    ensures input { IfSome last.new.input (IsRead (F.told files.new)) }
+    ensures output { IfSome last.new.output (IsWritten (F.told files.new)) }
 {
     match files.open_in(name) {
         Ok(file) => {
@@ -67,10 +68,10 @@ fn open<F: Files>(files: &mut F, last: &mut Last, name: &str) -> Answer
 }
 
 fn create<F: Files>(files: &mut F, last: &mut Last, name: &str) -> Answer
-    requires input { IfSome last.old.input (F.is_read files.old) }
-    requires output { IfSome last.old.output (F.is_written files.old) }
-    ensures input { IfSome last.new.input (F.is_read files.new) }
-    ensures output { IfSome last.new.output (F.is_written files.new) }
+    requires input { IfSome last.old.input (IsRead (F.told files.old)) }
+    requires output { IfSome last.old.output (IsWritten (F.told files.old)) }
+    ensures input { IfSome last.new.input (IsRead (F.told files.new)) }
+    ensures output { IfSome last.new.output (IsWritten (F.told files.new)) }
 {
     match files.create_out(name) {
         Ok(file) => {
@@ -87,10 +88,10 @@ fn read<F: Files>(
     out: &mut [u8],
     bytes: &mut Vec<u8>,
 ) -> Result<Answer, AllocError>
-    requires input { IfSome last.now.input (F.is_read files.old) }
-    requires output { IfSome last.now.output (F.is_written files.old) }
-    ensures input { IfSome last.now.input (F.is_read files.new) }
-    ensures output { IfSome last.now.output (F.is_written files.new) }
+    requires input { IfSome last.now.input (IsRead (F.told files.old)) }
+    requires output { IfSome last.now.output (IsWritten (F.told files.old)) }
+    ensures input { IfSome last.now.input (IsRead (F.told files.new)) }
+    ensures output { IfSome last.now.output (IsWritten (F.told files.new)) }
 {
     match last.input {
         None => Ok(Answer::Nothing),
@@ -105,10 +106,10 @@ fn read<F: Files>(
 }
 
 fn write<F: Files>(files: &mut F, last: &Last, piece: &[u8]) -> Answer
-    requires input { IfSome last.now.input (F.is_read files.old) }
-    requires output { IfSome last.now.output (F.is_written files.old) }
-    ensures input { IfSome last.now.input (F.is_read files.new) }
-    ensures output { IfSome last.now.output (F.is_written files.new) }
+    requires input { IfSome last.now.input (IsRead (F.told files.old)) }
+    requires output { IfSome last.now.output (IsWritten (F.told files.old)) }
+    ensures input { IfSome last.now.input (IsRead (F.told files.new)) }
+    ensures output { IfSome last.now.output (IsWritten (F.told files.new)) }
 {
     match last.output {
         None => Answer::Nothing,
@@ -117,10 +118,10 @@ fn write<F: Files>(files: &mut F, last: &Last, piece: &[u8]) -> Answer
 }
 
 fn print<F: Files>(files: &mut F, last: &Last, is_error: bool, piece: &[u8]) -> Answer
-    requires input { IfSome last.now.input (F.is_read files.old) }
-    requires output { IfSome last.now.output (F.is_written files.old) }
-    ensures input { IfSome last.now.input (F.is_read files.new) }
-    ensures output { IfSome last.now.output (F.is_written files.new) }
+    requires input { IfSome last.now.input (IsRead (F.told files.old)) }
+    requires output { IfSome last.now.output (IsWritten (F.told files.old)) }
+    ensures input { IfSome last.now.input (IsRead (F.told files.new)) }
+    ensures output { IfSome last.now.output (IsWritten (F.told files.new)) }
 {
     count_in(files.write(u32::from(is_error), piece))
 }
@@ -132,10 +133,10 @@ fn make<F: Files>(
     call: &Call,
     bytes: &mut Vec<u8>,
 ) -> Result<Answer, AllocError>
-    requires input { IfSome last.old.input (F.is_read files.old) }
-    requires output { IfSome last.old.output (F.is_written files.old) }
-    ensures input { IfSome last.new.input (F.is_read files.new) }
-    ensures output { IfSome last.new.output (F.is_written files.new) }
+    requires input { IfSome last.old.input (IsRead (F.told files.old)) }
+    requires output { IfSome last.old.output (IsWritten (F.told files.old)) }
+    ensures input { IfSome last.new.input (IsRead (F.told files.new)) }
+    ensures output { IfSome last.new.output (IsWritten (F.told files.new)) }
 {
     match *call {
         Call::Open(name) => Ok(open(files, last, name)),

@@ -1,4 +1,6 @@
 //! What a capture in memory gives, from its header to its end.
+ghost use Rattle.nf_files.specs.Told.{IsRead};
+
 use crate::calls::{header, next, open};
 use nf_files::{Files, MemoryFiles};
 use pcap_file::{CapFault, Head, Next, Reader};
@@ -58,7 +60,7 @@ fn tell<F: Files>(
     files: &mut F,
     story: &mut Story,
 ) -> Result<(), AllocError>
-    requires { F.is_read files.old reader.old.file }
+    requires { IsRead (F.told files.old) reader.old.file }
 {
     let mut frame = Vec::new(alloc);
     for _ in 0..1000 {

@@ -1,5 +1,6 @@
 //! A run over made-up traffic, from the function's file to the files that it leaves.
 ghost use Rattle.std.specs.Prelude.{◌≡◌, ◌+◌, ◌≤◌, ◌∷◌, ℕ, [], length, slice_get, Some};
+ghost use Rattle.nf_files.specs.Told.{IsWritten};
 ghost use Rattle.nf_base.specs.Functions.{function_of};
 ghost use Rattle.lock_mode.specs.Gates.{Rose};
 ghost use Rattle.packet_feed.specs.Told.{EachFile};
@@ -87,7 +88,7 @@ fn run_created<
     requires flows { 1 ≤ (asked job.now).flows }
     requires worker_plan { IsWorkerPlan (asked job.now) (function_of job.now.func.now) worker_plan.now }
     requires serves { Serves (function_of job.now.func.now) worker_plan.now }
-    requires created { EachFile (F.is_written files.old) targets.now }
+    requires created { EachFile (IsWritten (F.told files.old)) targets.now }
     requires ready { let l = leaves_of (asked job.now) before job.now.layout.ports in
         HasCreated l before (seen (F.told files.old) (F.counted files.old)) targets.now }
     ensures gens { let Refused = Rose (G.refused gate.old) (G.refused gate.new) in

@@ -1,12 +1,10 @@
 //! Hashes as many inputs of 12 bytes as each line says, under one of four keys each, and prints the
-//! `xor` of their hashes, in hexadecimal. `bench/hash` times it. Its tests are those of the hash
-//! and of the table.
+//! `xor` of their hashes, in hexadecimal. `bench/hash` times it. At the line `checks` it prints whether
+//! the hash and the table are right.
 #![tactic(auto)]
 
-#[cfg(test)]
-mod queue_tests;
-#[cfg(test)]
-mod toeplitz_tests;
+mod queues;
+mod suite;
 
 use std::io;
 use toeplitz_hash::{DEFAULT_KEY, toeplitz};
@@ -50,12 +48,20 @@ fn input_from(state: u64) -> [u8; 12] {
     ]
 }
 
+fn answer(rt: &HostRuntime, line: &str) -> io::Result<()> {
+    if line == "checks" {
+        suite::tell_all(rt)?;
+        return queues::tell_all(rt);
+    }
+    match line.parse::<u32>() {
+        Ok(count) => println!(rt; "{:08x}", hash_all(count)),
+        Err(_) => Ok(()),
+    }
+}
+
 fn main(rt: HostRuntime) -> io::Result<()> {
     for line in rt.lines(rt.alloc()) {
-        if let Ok(count) = line?.as_str().parse::<u32>() {
-            let all = hash_all(count);
-            println!(rt; "{all:08x}")?;
-        }
+        answer(&rt, line?.as_str())?;
     }
     Ok(())
 }

@@ -1,5 +1,6 @@
 //! A journal that is read from its file.
 ghost use Rattle.std.specs.Prelude.{◌≡◌, ◌++◌, ℕ, List, [], Option, vec_len, IfOk};
+ghost use Rattle.nf_files.specs.Told.{IsRead};
 ghost use Rattle.nf_files.specs.Causes.{HasCause};
 ghost use Rattle.nf_files.specs.Reads.{Keeps};
 ghost use Rattle.run_history.specs.declared.line.JournalLine.{JournalLine};
@@ -114,15 +115,13 @@ impl Journal {
 
     // Reads once more; false says that nothing is left of the file.
     fn fill<F: Files>(&mut self, alloc: Global, files: &mut F) -> Result<bool, FilesFault>
-        requires opened { F.is_read files.old self.old.file }
+        requires opened { IsRead (F.told files.old) self.old.file }
         ensures fills { let file = self.old.file in Fills self.old.held self.new.held
             ((F.told files.old).rest file) ((F.told files.new).rest file) result }
         ensures same_file { self.new.file ≡ self.old.file }
         ensures kept { Keeps (F.told files.old) (F.told files.new) self.old.file }
         ensures cause { let file = self.old.file in
             HasCause (F.counted files.old) (F.counted files.new) file result }
-        ensures reads { (g : ℕ) → F.is_read files.old g → F.is_read files.new g }
-        ensures writes { (g : ℕ) → F.is_written files.old g → F.is_written files.new g }
     {
         let count = read_front(files, self.file, self.room.as_mut_slice(), ROOM)?;
         if count == 0 {
@@ -151,7 +150,7 @@ impl Journal {
     /// none are left. After `Wrong` or an `Err` this journal may have moved, and no call is to be made
     /// on it.
     pub fn next<F: Files>(&mut self, alloc: Global, files: &mut F) -> Result<Next, FilesFault>
-        requires opened { F.is_read files.old self.old.file }
+        requires opened { IsRead (F.told files.old) self.old.file }
         // Whatever lines were read since some start, this one stands behind them; or other bytes do.
         ensures gives { let file = self.old.file in
             (start : Option (List ℕ)) → (lines : List JournalLine) →
@@ -161,8 +160,6 @@ impl Journal {
         ensures kept { Keeps (F.told files.old) (F.told files.new) self.old.file }
         ensures cause { let file = self.old.file in
             HasCause (F.counted files.old) (F.counted files.new) file result }
-        ensures reads { (g : ℕ) → F.is_read files.old g → F.is_read files.new g }
-        ensures writes { (g : ℕ) → F.is_written files.old g → F.is_written files.new g }
     {
         'fills: loop {
             match self.advance() {
@@ -184,7 +181,7 @@ impl Journal {
         alloc: Global,
         files: &mut F,
     ) -> Result<Option<Header>, FilesFault>
-        requires opened { F.is_read files.old self.old.file }
+        requires opened { IsRead (F.told files.old) self.old.file }
         ensures heads { let file = self.old.file in
             (start : Option (List ℕ)) → Stands start [] self.old ((F.told files.old).rest file) →
             Heads start self.new ((F.told files.new).rest file) result }
@@ -192,8 +189,6 @@ impl Journal {
         ensures kept { Keeps (F.told files.old) (F.told files.new) self.old.file }
         ensures cause { let file = self.old.file in
             HasCause (F.counted files.old) (F.counted files.new) file result }
-        ensures reads { (g : ℕ) → F.is_read files.old g → F.is_read files.new g }
-        ensures writes { (g : ℕ) → F.is_written files.old g → F.is_written files.new g }
     {
         let next = self.next(alloc, files)?;
         Ok(header_in(next))
@@ -201,7 +196,7 @@ impl Journal {
 
     /// Whether no byte is left.
     pub fn is_over<F: Files>(&mut self, alloc: Global, files: &mut F) -> Result<bool, FilesFault>
-        requires opened { F.is_read files.old self.old.file }
+        requires opened { IsRead (F.told files.old) self.old.file }
         ensures over { let file = self.old.file in
             (start : Option (List ℕ)) → (lines : List JournalLine) →
             Stands start lines self.old ((F.told files.old).rest file) →
@@ -210,8 +205,6 @@ impl Journal {
         ensures kept { Keeps (F.told files.old) (F.told files.new) self.old.file }
         ensures cause { let file = self.old.file in
             HasCause (F.counted files.old) (F.counted files.new) file result }
-        ensures reads { (g : ℕ) → F.is_read files.old g → F.is_read files.new g }
-        ensures writes { (g : ℕ) → F.is_written files.old g → F.is_written files.new g }
     {
         if self.at < self.bytes.len() {
             return Ok(false);

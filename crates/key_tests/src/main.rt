@@ -3,15 +3,15 @@
 //! object's labels are there. `six` behind the number of ports names those that have a handler for
 //! IPv6, and behind the port of a place says that its packets are IPv6, as in
 //! `2 six 1 | 1:src_port 1six:src_port`. `512` behind the number of ports stands for a table of as
-//! many entries, and `52` for keys of as many bytes. Prints a key for each port, or `none`.
+//! many entries, and `52` for keys of as many bytes. Prints a key for each port, or `none`; and behind
+//! the last line whether keys are those that other ways than equations give.
 //!
 //! Given the word `time`, it prints how long it takes to find the keys of four ports for eight
-//! objects with eight labels, for either version of IP. Its tests are those of the keys.
+//! objects with eight labels, for either version of IP.
 #![tactic(auto)]
 
 mod line;
-#[cfg(test)]
-mod tests;
+mod other_ways;
 mod times;
 
 use std::{env, io};
@@ -27,6 +27,7 @@ fn main(rt: HostRuntime) -> io::Result<()> {
             let answer = line::answer(rt.alloc(), line?.as_str())?;
             println!(rt; "{}", answer.as_str())?;
         }
+        other_ways::tell_all(&rt)?;
     }
     Ok(())
 }

@@ -1,11 +1,10 @@
 //! Plays events of two seats at a learning bridge, and prints what each comes to, and then the order
-//! of all that was done. Its tests are those of the machine.
+//! of all that was done; and what the last of other events comes to, with whether it is right.
 #![tactic(auto)]
 
 mod bridge;
 mod playing;
-#[cfg(test)]
-mod tests;
+mod seats;
 
 use bridge::{alone, bridge, look};
 use lock_core::{Log, Ordered, Placed};
@@ -56,5 +55,6 @@ fn play(rt: &HostRuntime, func: &Func) -> io::Result<()> {
 
 fn main(rt: HostRuntime) -> io::Result<()> {
     let func = bridge(rt.alloc())?;
-    play(&rt, &func)
+    play(&rt, &func)?;
+    seats::tell_all(&rt)
 }

@@ -23,10 +23,10 @@ all_of zero (x ∷ xs) ys e = absurd (omega (arith, e))
 all_of (suc n) (x ∷ xs) ys e = ap (λ (cs : List Chunk). x ∷ cs) (all_of n xs ys (omega (arith, e)))
 
 -- chunks were given, by whichever name
-pub given_as : {T : Type 0} (wrote writes : ℕ → Type 0) (counted counts : Counted) (was now : Told) (files : List ℕ) (lent left before after : List Chunk) (result : Result T RunFault) → lent ≡ before → after ≡ left → AreGiven wrote writes counted counts was now files lent left result → AreGiven wrote writes counted counts was now files before after result
-given_as wrote writes counted counts was now files lent left before after result e f given =
-    subst (λ (cs : List Chunk). AreGiven wrote writes counted counts was now files before cs result) (sym f)
-    (subst (λ (cs : List Chunk). AreGiven wrote writes counted counts was now files cs left result) e given)
+pub given_as : {T : Type 0} (counted counts : Counted) (was now : Told) (files : List ℕ) (lent left before after : List Chunk) (result : Result T RunFault) → lent ≡ before → after ≡ left → AreGiven counted counts was now files lent left result → AreGiven counted counts was now files before after result
+given_as counted counts was now files lent left before after result e f given =
+    subst (λ (cs : List Chunk). AreGiven counted counts was now files before cs result) (sym f)
+    (subst (λ (cs : List Chunk). AreGiven counted counts was now files cs left result) e given)
 
 -- where the chunks were the last ones all is written
 pub writes_last : (T E : Type 0) (mode : Mode) (workers : ℕ) (card : Card) (format : CaptureFormat) (ports : ℕ) (all : List Handled) (next : ℕ) (now : Told) (files : List ℕ) (chunks : List Chunk) (result : Result T E) → length all ≤ next → GoOnTo mode workers card format ports all next now files chunks result → Writes mode workers card format ports all now files result

@@ -66,11 +66,10 @@ GoOnTo mode workers card format ports all next now files chunks (Ok x) =
 GoOnTo mode workers card format ports all next now files chunks (Err e) =
     AreFronts mode workers card format ports all now files
 
--- Chunks were given to these files, one after another: what was created, counted and told before
--- and after it, and what is held then.
-pub record AreGiven {T : Type 0} (was_created is_created : ℕ → Type 0) (counted counts : Counted)
-    (was now : Told) (files : List ℕ) (before after : List Chunk) (result : Result T RunFault)
-    : Type 0 where
+-- Chunks were given to these files, one after another: what was counted and told before and after it,
+-- and what is held then.
+pub record AreGiven {T : Type 0} (counted counts : Counted) (was now : Told) (files : List ℕ)
+    (before after : List Chunk) (result : Result T RunFault) : Type 0 where
   pub goes_on : (mode : Mode) (workers : ℕ) (card : Card) (format : CaptureFormat) (ports : ℕ)
       (all : List Handled) (from size : ℕ) → HoldAll format ports all from size before →
       AreWhole mode workers card format ports (take from all) was files →
@@ -80,4 +79,3 @@ pub record AreGiven {T : Type 0} (was_created is_created : ℕ → Type 0) (coun
   pub kept : KeepsBut files was now
   pub cause : IsStopCause counted counts result
   pub among : StopsAmong [] files result
-  pub created : (g : ℕ) → was_created g → is_created g

@@ -6,6 +6,7 @@ use Rattle.capture_format.specs.declared.format.CaptureFormat.{CaptureFormat}
 use Rattle.nf_base.specs.declared.state.State.{State}
 use Rattle.nf_base.specs.Text.{Function}
 use Rattle.nf_files.specs.Told.{Told, IsToldAs, IsEmptyIfTold}
+use Rattle.nf_files.specs.Told as told
 use Rattle.packet_feed.specs.Arrivals.{Arrival}
 use Rattle.packet_feed.specs.Told.{EachFile, IsApart}
 use Rattle.run_history.specs.declared.line.Mode.{Mode}
@@ -33,8 +34,8 @@ pub record AreSettled (f : Function) (mode : Mode) (workers : ℕ) (Refused : Ty
   pub order : Keeps rule.order given (map arrival_of hs)
 
 -- files that were created, none of them twice and not too many, to which nothing was given yet
-pub record AreFresh (is_written : ℕ → Type 0) (now : Told) (files : List ℕ) : Type 0 where
-  pub created : EachFile is_written files
+pub record AreFresh (now : Told) (files : List ℕ) : Type 0 where
+  pub created : EachFile (told.IsWritten now) files
   pub apart : IsApart files
   pub few : length files ≤ 2 ^ 32
   pub empty : (k file : ℕ) → slice_get files k ≡ Some file → IsEmptyIfTold (now.given file)

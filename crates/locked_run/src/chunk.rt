@@ -1,6 +1,7 @@
 //! What the packets of a chunk leave, made and held before any of it is given to a file.
 ghost use Rattle.std.specs.Prelude.{◌≡◌, ◌^◌, ◌+◌, ◌*◌, ◌<◌, ◌≤◌, ◌∷◌, ◌++◌, [], ℕ, List, length, map, slice_get, Some, IfOk, OnOk};
 ghost use Rattle.std.specs.Bool.{OnTrue};
+ghost use Rattle.nf_files.specs.Told.{IsWritten};
 ghost use Rattle.nf_base.specs.declared.card.Card.{Card};
 ghost use Rattle.nf_base.specs.declared.done.Action.TheVariants.{Skip};
 ghost use Rattle.capture_format.specs.declared.format.CaptureFormat.{CaptureFormat};
@@ -141,7 +142,7 @@ impl Chunk {
 
     /// Gives what was made to the files, behind what packets before it leave there.
     pub(crate) fn write<F: Files>(&mut self, files: &mut F) -> Result<(), RunFault>
-        requires created { EachFile (F.is_written files.old) (files_of self.old.sinks) }
+        requires created { EachFile (IsWritten (F.told files.old)) (files_of self.old.sinks) }
         requires apart { IsApart (files_of self.old.sinks) }
         ensures goes_on { (mode : Mode) → (workers : ℕ) → (card : Card) →
             (format : CaptureFormat) → (ports : ℕ) → (hs chunk : List Handled) →
@@ -155,7 +156,6 @@ impl Chunk {
         ensures kept { KeepsAllBut (files_of self.old.sinks) (F.told files.old) (F.told files.new) }
         ensures cause { IsStopCause (F.counted files.old) (F.counted files.new) result }
         ensures among { StopsAmong [] (files_of self.old.sinks) result }
-        ensures writes { (g : ℕ) → F.is_written files.old g → F.is_written files.new g }
     {
         if self.made {
             flush_all(&mut self.sinks, files)

@@ -1,5 +1,6 @@
 //! All packets are read before any of them is handled.
 ghost use Rattle.std.specs.Prelude.{◌≡◌, ℕ, List, [], length};
+ghost use Rattle.nf_files.specs.Told.{IsRead};
 ghost use Rattle.packet_feed.specs.Told.{EachFile};
 ghost use Rattle.packet_feed.specs.Sources.{files_in};
 ghost use Rattle.stream_run.specs.Writing.{KeepsBut, IsStopCause, StopsAmong};
@@ -20,15 +21,13 @@ pub(crate) fn read_all<F: Files>(
     batch: &mut Batch,
 ) -> Result<Ending, RunFault>
     requires captures { files_in feed.old.sources ≡ captures.now }
-    requires opened { EachFile (F.is_read files.old) captures.now }
+    requires opened { EachFile (IsRead (F.told files.old)) captures.now }
     requires empty { batch.old ≡ [] }
     ensures reads_all { ReadsAll (length captures.now)
         feed.old (F.told files.old) feed.new (F.told files.new) batch.new result }
     ensures kept { (targets : List ℕ) → KeepsBut targets (F.told files.old) (F.told files.new) }
     ensures cause { IsStopCause (F.counted files.old) (F.counted files.new) result }
     ensures among { (targets : List ℕ) → StopsAmong captures.now targets result }
-    ensures reads { (g : ℕ) → F.is_read files.old g → F.is_read files.new g }
-    ensures writes { (g : ℕ) → F.is_written files.old g → F.is_written files.new g }
 {
     'packets: loop {
         match feed.next(files) {

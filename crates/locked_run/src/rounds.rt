@@ -1,5 +1,6 @@
 //! Chunks that are written while those behind them are made.
 ghost use Rattle.std.specs.Prelude.{◌≡◌, ◌^◌, ◌+◌, ◌*◌, ◌<◌, ◌≤◌, [], ℕ, List, length, map, take, IfOk};
+ghost use Rattle.nf_files.specs.Told.{IsWritten};
 ghost use denote.Param.Send.{IsSync};
 ghost use Rattle.nf_base.specs.declared.card.Card.{Card};
 ghost use Rattle.capture_format.specs.declared.format.CaptureFormat.{CaptureFormat};
@@ -101,12 +102,12 @@ impl Rounds {
         requires at { AreAt (map packet_of batch.now) worked.now.order worked.now.places.items }
         requires rounds { AreRounds targets.now (step_of self.old) self.old }
         requires room { from + (step_of self.old + step_of self.old) < 2 ^ 64 }
-        requires created { EachFile (F.is_written files.old) targets.now }
+        requires created { EachFile (IsWritten (F.told files.old)) targets.now }
         ensures filled { let all = joined batch.now worked.now.order worked.now.places.items in
             AreFilled ports all (from + step_of self.old) self.old.size self.old.next.items
             self.new.next.items }
-        ensures given { AreGiven (F.is_written files.old) (F.is_written files.new)
-            (F.counted files.old) (F.counted files.new) (F.told files.old) (F.told files.new)
+        ensures given { AreGiven (F.counted files.old) (F.counted files.new)
+            (F.told files.old) (F.told files.new)
             targets.now self.old.made.items self.new.made.items result }
         ensures size { self.new.size ≡ self.old.size }
     {
@@ -124,10 +125,9 @@ impl Rounds {
         { fill_each(rt, next, ports, batch, order, places, behind, size) };
         let mut write = ||
             requires { AreOf targets.now made.now.items
-                × EachFile (F.is_written files.now) targets.now × IsApart targets.now }
+                × EachFile (IsWritten (F.told files.now)) targets.now × IsApart targets.now }
             ensures { let was = files.entry.now in let is = files.exit.now in
-                AreGiven (F.is_written was) (F.is_written is) (F.counted was) (F.counted is)
-                (F.told was) (F.told is) targets.entry.now made.entry.now.items
+                AreGiven (F.counted was) (F.counted is) (F.told was) (F.told is) targets.entry.now made.entry.now.items
                 made.exit.now.items result }
         { write_made(files, made, targets) };
         let (_, written) = join_mut(rt, &mut fill, &mut write);
@@ -148,7 +148,7 @@ impl Rounds {
         requires at { AreAt (map packet_of batch.now) worked.now.order worked.now.places.items }
         requires rounds { AreRounds targets.now (step_of self.old) self.old }
         requires room { from + (step_of self.old + step_of self.old) < 2 ^ 64 }
-        requires created { EachFile (F.is_written files.old) targets.now }
+        requires created { EachFile (IsWritten (F.told files.old)) targets.now }
         ensures goes_on { let all = joined batch.now worked.now.order worked.now.places.items in
             (mode : Mode) → (workers : ℕ) → (card : Card) → (format : CaptureFormat) →
             AreReady format ports all from self.old →
@@ -160,7 +160,6 @@ impl Rounds {
         ensures kept { KeepsBut targets.now (F.told files.old) (F.told files.new) }
         ensures cause { IsStopCause (F.counted files.old) (F.counted files.new) result }
         ensures among { StopsAmong [] targets.now result }
-        ensures writes { (g : ℕ) → F.is_written files.old g → F.is_written files.new g }
     {
         match self.write_beside(rt, files, ports, batch, worked, from, targets) {
             Ok(()) => {
@@ -187,7 +186,7 @@ impl Rounds {
     ) -> Result<(), RunFault>
         requires at { AreAt (map packet_of batch.now) worked.now.order worked.now.places.items }
         requires rounds { AreRounds targets.now (step_of self.old) self.old }
-        requires created { EachFile (F.is_written files.old) targets.now }
+        requires created { EachFile (IsWritten (F.told files.old)) targets.now }
         ensures goes_on { let all = joined batch.now worked.now.order worked.now.places.items in
             (mode : Mode) → (workers : ℕ) → (card : Card) → (format : CaptureFormat) →
             AreAllIdle format self.old →

@@ -2,7 +2,7 @@
 ghost use Rattle.std.specs.Prelude.{◌≡◌, ◌^◌, ◌+◌, ◌<◌, ◌≤◌, ◌⊎◌, ℕ, List, [], Some, length, map, slice_get, All, IfOk};
 ghost use Rattle.nf_base.specs.Doors.{six_ports, IsServed};
 ghost use Rattle.nf_base.specs.Functions.{function_of};
-ghost use Rattle.nf_files.specs.Told.{Told, IsEmptyIfTold};
+ghost use Rattle.nf_files.specs.Told.{Told, IsEmptyIfTold, IsRead, IsWritten};
 ghost use Rattle.packet_feed.specs.Arrivals.{Arrival, packet_of};
 ghost use Rattle.packet_feed.specs.Told.{EachFile, IsApart};
 ghost use Rattle.packet_feed.specs.Sources.{files_in, sixes_in};
@@ -79,12 +79,11 @@ fn write_heads<F: Files>(
     targets: &[u32],
 ) -> Result<(), RunFault>
     requires heading { IsHeading (record { mode = mode; workers = workers; card = card }) }
-    requires fresh { AreFresh (F.is_written files.old) (F.told files.old) targets.now }
+    requires fresh { AreFresh (F.told files.old) targets.now }
     ensures written { Writes mode workers card format ports [] (F.told files.new) targets.now result }
     ensures kept { KeepsBut targets.now (F.told files.old) (F.told files.new) }
     ensures cause { IsStopCause (F.counted files.old) (F.counted files.new) result }
     ensures among { StopsAmong [] targets.now result }
-    ensures writes { (g : ℕ) → F.is_written files.old g → F.is_written files.new g }
 {
     match begin_sinks(alloc, mode, workers, card, format, ports, targets) {
         Ok(sinks) => {
@@ -111,7 +110,7 @@ fn write<R: Threads + Sync, F: Files>(
 ) -> Result<(), RunFault>
     requires heading { IsHeading (record { mode = mode; workers = workers; card = card }) }
     requires at { AreAt (map packet_of batch.now) worked.now.order worked.now.places.items }
-    requires fresh { AreFresh (F.is_written files.old) (F.told files.old) targets.now }
+    requires fresh { AreFresh (F.told files.old) targets.now }
     ensures written { let hs = joined batch.now worked.now.order worked.now.places.items in
         Writes mode workers card format ports hs (F.told files.new) targets.now result }
     ensures kept { KeepsBut targets.now (F.told files.old) (F.told files.new) }
@@ -149,7 +148,7 @@ fn settle<R: Threads + Wait + Sync, F: Files, T: Turns + Sync, G: Gate + Drop + 
     requires ports { let ports = length func.now.handlers in
         All (λ p. p.id.port < ports) (map packet_of batch.now) }
     requires served { All (IsServed (function_of func.now)) (map packet_of batch.now) }
-    requires fresh { AreFresh (F.is_written files.old) (F.told files.old) targets.now }
+    requires fresh { AreFresh (F.told files.old) targets.now }
     ensures settles { let Refused = Rose (G.refused gate.old) (G.refused gate.new) in
         Settles (function_of func.now) workers card format Refused (length func.now.handlers)
         batch.now (F.told files.new) targets.now result }
@@ -211,8 +210,8 @@ pub fn run<R: Threads + Wait + Sync, F: Files, T: Turns + Sync, G: Gate + Drop +
     requires six { sixes_in feed.old.sources ≡ six_ports (function_of func.now) }
     requires ports { length captures.now ≡ length func.now.handlers }
     requires new { feed.old.given ≡ 0 }
-    requires opened { EachFile (F.is_read files.old) captures.now }
-    requires created { EachFile (F.is_written files.old) targets.now }
+    requires opened { EachFile (IsRead (F.told files.old)) captures.now }
+    requires created { EachFile (IsWritten (F.told files.old)) targets.now }
     requires apart { IsApart targets.now }
     requires as_many { length targets.now ≡ length func.now.handlers + 1 }
     requires few { length targets.now ≤ 2 ^ 32 }

@@ -1,5 +1,6 @@
 //! How many packets a chunk is of, and how chunks are written.
 ghost use Rattle.std.specs.Prelude.{◌+◌, ◌*◌, ◌<◌, ◌≤◌, [], ℕ, List, length, take};
+ghost use Rattle.nf_files.specs.Told.{IsWritten};
 ghost use Rattle.nf_base.specs.declared.card.Card.{Card};
 ghost use Rattle.capture_format.specs.declared.format.CaptureFormat.{CaptureFormat};
 ghost use Rattle.packet_feed.specs.Told.{EachFile, IsApart};
@@ -55,7 +56,7 @@ fn write_each<F: Files>(
     targets: &[u32],
 ) -> Result<(), RunFault>
     requires files { AreOf targets.now chunks.old }
-    requires created { EachFile (F.is_written files.old) targets.now }
+    requires created { EachFile (IsWritten (F.told files.old)) targets.now }
     requires apart { IsApart targets.now }
     ensures goes_on { (mode : Mode) → (workers : ℕ) → (card : Card) →
         (format : CaptureFormat) → (ports : ℕ) → (all : List Handled) → (from size : ℕ) →
@@ -68,7 +69,6 @@ fn write_each<F: Files>(
     ensures kept { KeepsBut targets.now (F.told files.old) (F.told files.new) }
     ensures cause { IsStopCause (F.counted files.old) (F.counted files.new) result }
     ensures among { StopsAmong [] targets.now result }
-    ensures writes { (g : ℕ) → F.is_written files.old g → F.is_written files.new g }
 {
     for i in 0..chunks.len() {
         let chunk = &mut chunks[i];
@@ -87,11 +87,10 @@ pub(crate) fn write_made<F: Files>(
     targets: &[u32],
 ) -> Result<(), RunFault>
     requires files { AreOf targets.now chunks.old.items }
-    requires created { EachFile (F.is_written files.old) targets.now }
+    requires created { EachFile (IsWritten (F.told files.old)) targets.now }
     requires apart { IsApart targets.now }
-    ensures { AreGiven (F.is_written files.old) (F.is_written files.new) (F.counted files.old)
-        (F.counted files.new) (F.told files.old) (F.told files.new) targets.now chunks.old.items
-        chunks.new.items result }
+    ensures { AreGiven (F.counted files.old) (F.counted files.new) (F.told files.old) (F.told files.new)
+        targets.now chunks.old.items chunks.new.items result }
 {
     write_each(files, chunks.as_mut_slice(), targets)
 }

@@ -2,7 +2,7 @@
 ghost use Rattle.std.specs.Prelude.{◌≡◌, ◌≤◌, length};
 ghost use Rattle.nf_base.specs.Doors.{six_ports};
 ghost use Rattle.nf_base.specs.Functions.{function_of};
-ghost use Rattle.nf_files.specs.Told.{IsEmptyIfTold};
+ghost use Rattle.nf_files.specs.Told.{IsEmptyIfTold, IsRead, IsWritten};
 ghost use Rattle.packet_feed.specs.Told.{EachFile, IsApart};
 ghost use Rattle.packet_feed.specs.Sources.{files_in, sixes_in};
 
@@ -118,8 +118,8 @@ fn run_made<R: Threads + Wait + Sync, F: Files, T: Turns + Sync, G: Gate + Drop 
     requires six { sixes_in feed.old.sources ≡ six_ports (function_of func.now) }
     requires ports { length opened.now ≡ length func.now.handlers }
     requires new { feed.old.given ≡ 0 }
-    requires readable { EachFile (F.is_read files.old) opened.now }
-    requires writable { EachFile (F.is_written files.old) made.now }
+    requires readable { EachFile (IsRead (F.told files.old)) opened.now }
+    requires writable { EachFile (IsWritten (F.told files.old)) made.now }
     requires apart { IsApart made.now }
     requires few { length made.now ≤ 3 }
     requires empty { EachFile (λ file. IsEmptyIfTold ((F.told files.old).given file)) made.now }

@@ -10,7 +10,8 @@ use Rattle.nf_files.specs.Causes.{Counted, FirstAfter, HasCause}
 use Rattle.nf_files.specs.declared.fault.FilesFault.{FilesFault}
 use Rattle.nf_files.specs.declared.fault.FilesFault.TheVariants.{Failed, Memory}
 use Rattle.made_captures.specs.Told.{with_made}
-use Rattle.made_captures.specs.Outputs.{Counting, journal_of, is_output, with_bytes, sum_of, bytes_from, is_right, counts_right, is_known, told_if, mark_of, told_beside}
+use Rattle.made_captures.specs.Outputs.{Counting, journal_of, is_output, with_bytes, sum_of, bytes_from, is_right, counts_right, is_known, told_if, mark_of, with_kinds, told_beside}
+use Rattle.made_captures.proofs.KindsBeside.{writes_kinds, same_kinds}
 use Rattle.made_captures.proofs.Placing.{writes_on, same_on}
 
 -- ---- the bytes that were given
@@ -116,13 +117,14 @@ writes_if false old new file piece w = record {
   rests = λ g. refl;
   givens = λ g ne. refl;
   names = λ g. refl;
+  kinds = λ g. refl;
   latest_same = λ n. refl;
   next_same = w.next_same;
 }
 
 same_if : (right : Bool) (old new : Told) → Same old new → Same (told_if right old) (told_if right new)
 same_if true old new s = s
-same_if false old new s = record { contents = λ n. refl; rests = λ g. refl; givens = λ g. refl; names = λ g. refl; latest_same = λ n. refl; next_same = s.next_same }
+same_if false old new s = record { contents = λ n. refl; rests = λ g. refl; givens = λ g. refl; names = λ g. refl; kinds = λ g. refl; latest_same = λ n. refl; next_same = s.next_same }
 
 -- ---- beside made captures
 
@@ -138,7 +140,7 @@ writes_beside captures which c now old new before after file n piece low fits co
     let later = with_bytes c file (length piece) in
     let here = writes_on captures (mark_of which right known c.first c.count) (told_if right old) (told_if right new) file piece low (writes_if right old new file piece w) in
     let there = with_flags captures which c.first c.count new right (counts_right later new) known (is_known (journal_of c) after.first) (sym (right_writes c old new file piece fits w)) (sym (ap (λ (d : Counted). is_known (journal_of c) d.first) same)) in
-    let put = subst (λ (t : Told). Writes (told_beside captures which c old before) t file piece) there here in
+    let put = subst (λ (t : Told). Writes (told_beside captures which c old before) t file piece) (ap (with_kinds captures (journal_of c) new.kind) there) (writes_kinds captures (journal_of c) old.kind new.kind _ _ file piece w.kinds here) in
     subst (λ (d : Counting). Writes (told_beside captures which c old before) (told_beside captures which d new after) file piece) (sym (is ∙ ap (with_bytes c file) count)) put
 
 pub same_beside : (captures : List (List ℕ)) (which : ℕ) (c : Counting) (old new : Told) (before after : Counted) → is_known (journal_of c) after.first ≡ is_known (journal_of c) before.first → Same old new
@@ -147,4 +149,5 @@ same_beside captures which c old new before after known s =
     let right = counts_right c old in
     let k = is_known (journal_of c) before.first in
     let here = same_on captures (mark_of which right k c.first c.count) (told_if right old) (told_if right new) (same_if right old new s) in
-    subst (λ (t : Told). Same (told_beside captures which c old before) t) (with_flags captures which c.first c.count new right (counts_right c new) k (is_known (journal_of c) after.first) (sym (right_same c old new s.givens)) (sym known)) here
+    let there = with_flags captures which c.first c.count new right (counts_right c new) k (is_known (journal_of c) after.first) (sym (right_same c old new s.givens)) (sym known) in
+    subst (λ (t : Told). Same (told_beside captures which c old before) t) (ap (with_kinds captures (journal_of c) new.kind) there) (same_kinds captures (journal_of c) old.kind new.kind _ _ s.kinds here)

@@ -88,6 +88,8 @@ creates_on captures mark old new created file lt c = record {
   rests = λ g ne. ap (first_of (left_at captures g)) (c.rests g ne);
   givens = c.givens;
   names = names_but mark file old.name new.name lt c.names;
+  written = c.written;
+  kinds = c.kinds;
   contents = c.contents;
   latest_other = c.latest_other;
 }
@@ -100,6 +102,7 @@ writes_on captures mark old new file piece lt w = record {
   rests = λ g. ap (first_of (left_at captures g)) (w.rests g);
   givens = w.givens;
   names = names_on mark old.name new.name w.names;
+  kinds = w.kinds;
   latest_same = w.latest_same;
   next_same = w.next_same;
 }
@@ -110,6 +113,7 @@ same_on captures mark old new s = record {
   rests = λ g. ap (first_of (left_at captures g)) (s.rests g);
   givens = s.givens;
   names = names_on mark old.name new.name s.names;
+  kinds = s.kinds;
   latest_same = s.latest_same;
   next_same = s.next_same;
 }
@@ -138,29 +142,9 @@ reads_made captures new mark told file port count buffer e le g =
         rests = λ n ne. ap (λ (left : Option (List ℕ)). first_of left (told.rest n)) (ap (λ (all : List (List ℕ)). left_at all n) g.kept ∙ left_other captures g.later file port n e ne);
         givens = λ n. refl;
         names = λ n. refl;
+        kinds = λ n. refl;
         contents = λ n. refl;
         latest_same = λ n. refl;
         next_same = refl;
       };
     }
-
--- the numbers of made captures stay theirs
-still_made : (captures new : List (List ℕ)) (later : List ℕ) (file port number : ℕ) (before : List ℕ) → port_of (length captures) file ≡ Some port → slice_get captures port ≡ Some before → new ≡ slice_set captures port later
-    → ((number ≡ file) ⊎ (number ≡ file → ⊥)) → IsMade captures number → IsMade new number
-still_made captures new later file port number before e at kept (inl same) made =
-    (later, ap (λ (all : List (List ℕ)). left_at all number) kept ∙ ap (left_at (slice_set captures port later)) same ∙ left_set captures before later file port e at)
-still_made captures new later file port number before e at kept (inr ne) made =
-    (made.0, ap (λ (all : List (List ℕ)). left_at all number) kept ∙ left_other captures later file port number e ne ∙ made.1)
-
-pub made_on : (captures new : List (List ℕ)) (file port count number : ℕ) (buffer : List ℕ) → port_of (length captures) file ≡ Some port → IsGiven port count buffer captures new
-    → IsMade captures number → IsMade new number
-made_on captures new file port count number buffer e g =
-    still_made captures new g.later file port number (take count buffer ++ g.later) e g.given g.kept (cases_eq number file)
-
-no_left : (captures : List (List ℕ)) (x : Option ℕ) (left : List ℕ) → x ≡ None → option_and_then (λ (p : ℕ). slice_get captures p) x ≡ Some left → ⊥
-no_left captures (Some port) left e f = absurd cc
-no_left captures None left e f = absurd cc
-
--- a made capture has a port
-pub is_some_port : (captures : List (List ℕ)) (file : ℕ) → port_of (length captures) file ≡ None → IsMade captures file → ⊥
-is_some_port captures file e made = no_left captures (port_of (length captures) file) made.0 e made.1

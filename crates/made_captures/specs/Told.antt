@@ -31,5 +31,6 @@ with_made captures mark told = record {
   given = told.given;
   name = names_of mark told.name;
   latest = told.latest;
+  kind = told.kind;
   next = told.next;
 }

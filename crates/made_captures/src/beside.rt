@@ -1,6 +1,5 @@
 //! Made captures beside the files outside.
 ghost use Rattle.std.specs.Prelude.{◌≡◌, ◌≤◌, []};
-ghost use Rattle.made_captures.specs.Captures.{IsMade};
 ghost use Rattle.made_captures.specs.Told.{standard_named};
 ghost use Rattle.made_captures.specs.Outputs.{told_beside, counts_right, is_known, journal_of, mark_of, told_if, standard_if};
 
@@ -54,10 +53,6 @@ impl<'a, F: Files> Files for MadeCaptures<'a, F> {
 
     ghost counted = { λ m. F.counted m.files.now };
 
-    ghost is_read = { λ m. IsMade m.captures.now };
-
-    ghost is_written = { λ m g. F.is_written m.files.now g × (g ≤ journal_of m.outputs) };
-
     ghost will_open = { λ _ _. ⊥ };
 
     ghost will_not_open = { λ _ _. ⊥ };
@@ -76,7 +71,7 @@ impl<'a, F: Files> Files for MadeCaptures<'a, F> {
         Err(FilesFault::Memory(AllocError))
     }
 
-    #[tactic(auto, using(crate::proofs::Placing::reads_made, crate::proofs::Placing::made_on, crate::proofs::Placing::is_some_port))]
+    #[tactic(auto, using(crate::proofs::KindsBeside::reads_beside, crate::proofs::KindsBeside::is_some_port))]
     fn read(&mut self, file: u32, out: &mut [u8]) -> Result<usize, FilesFault> {
         match self.captures.port(file) {
             Some(port) => Ok(self.captures.read(port, out)),

@@ -1,42 +1,14 @@
-//! Texts of functions.
+//! Functions, and their texts.
+use nf_base::func::Func;
+use nf_syntax::parse;
+use nf_types::check;
+use std::alloc::Global;
 
-/// Port 0 is inside, port 1 outside, and one flow is remembered.
-pub const FIREWALL: &str = "nf fw {\n\
-  ports 2;\n\
-  chain flows 1 lifetime 60000000000 { map by_flow(a: 32, b: 32, c: 16, d: 16); }\n\
-  on 0 {\n\
-    get e = flows.by_flow(src_ip, dst_ip, src_port, dst_port) { touch e; }\n\
-    else {\n\
-      new f = flows(a = src_ip, b = dst_ip, c = src_port, d = dst_port) { }\n\
-      full { drop; }\n\
-    }\n\
-    forward 1;\n\
-  }\n\
-  on 1 {\n\
-    get e = flows.by_flow(dst_ip, src_ip, dst_port, src_port) { touch e; forward 0; }\n\
-    drop;\n\
-  }\n\
-}\n\
-";
-
-/// The same, and 100 flows are remembered.
-pub const WIDE: &str = "nf fw {\n\
-  ports 2;\n\
-  chain flows 100 lifetime 60000000000 { map by_flow(a: 32, b: 32, c: 16, d: 16); }\n\
-  on 0 {\n\
-    get e = flows.by_flow(src_ip, dst_ip, src_port, dst_port) { touch e; }\n\
-    else {\n\
-      new f = flows(a = src_ip, b = dst_ip, c = src_port, d = dst_port) { }\n\
-      full { drop; }\n\
-    }\n\
-    forward 1;\n\
-  }\n\
-  on 1 {\n\
-    get e = flows.by_flow(dst_ip, src_ip, dst_port, src_port) { touch e; forward 0; }\n\
-    drop;\n\
-  }\n\
-}\n\
-";
+/// The function that a text is.
+pub fn function(alloc: Global, text: &[u8]) -> Option<Func> {
+    let tree = parse(alloc, text).ok()?;
+    check(alloc, &tree).ok()
+}
 
 /// A function that drops all packets at so many ports, one to four.
 pub fn dropping(ports: u32) -> &'static str {

@@ -6,25 +6,22 @@
 #![tactic(auto)]
 
 ghost use Rattle.std.specs.Prelude.{◌≤◌, length};
+ghost use Rattle.made_captures.specs.Captures.{IsMade};
+ghost use Rattle.nf_files.specs.Told.{IsRead};
 ghost use Rattle.packet_feed.specs.Told.{EachFile, IsApart};
 ghost use Rattle.packet_feed.specs.Sources.{files_in};
 
 mod calls;
 mod digest;
 mod functions;
-mod outcome;
-#[cfg(test)]
-mod tests;
-mod verdict;
 
 use calls::{captures_of, next, shown, start};
 use digest::Digest;
-use functions::dropping;
+use functions::{dropping, function};
 use made_captures::{MadeCaptures, Outputs};
 use nf_base::func::Func;
 use nf_base::packet::PacketId;
 use nf_files::{Files, MemoryFiles};
-use outcome::function;
 use packet_feed::{Fed, Feed};
 use std::alloc::Global;
 use std::io;
@@ -52,7 +49,7 @@ fn show(rt: &HostRuntime, id: PacketId, time: u64, frame: &[u8]) -> io::Result<(
 
 // Prints the packets of captures.
 fn tell<F: Files>(rt: &HostRuntime, feed: &mut Feed, files: &mut F, count: u32) -> io::Result<()>
-    requires { EachFile (F.is_read files.old) (files_in feed.old.sources) }
+    requires { EachFile (IsRead (F.told files.old)) (files_in feed.old.sources) }
 {
     let mut digest = Digest::new();
     for k in 0..=count {
@@ -80,7 +77,7 @@ fn tell_from<F: Files>(
     captures: &[u32],
     count: u32,
 ) -> io::Result<()>
-    requires readable { EachFile (F.is_read files.old) captures.now }
+    requires readable { EachFile (IsRead (F.told files.old)) captures.now }
     requires apart { IsApart captures.now }
 {
     if captures.len() > 4 || captures.len() != func.handlers.len() as usize {
@@ -92,13 +89,28 @@ fn tell_from<F: Files>(
     }
 }
 
+// The same of captures that are made beside files.
+fn tell_beside<F: Files>(
+    rt: &HostRuntime,
+    alloc: Global,
+    beside: &mut MadeCaptures<'_, F>,
+    func: &Func,
+    captures: &[u32],
+    count: u32,
+) -> io::Result<()>
+    requires made { EachFile (IsMade beside.old.captures.now) captures.now }
+    requires apart { IsApart captures.now }
+{
+    tell_from(rt, alloc, beside, func, captures, count)
+}
+
 fn show_for(rt: &HostRuntime, alloc: Global, func: &Func, numbers: [u32; 4]) -> io::Result<()> {
     let mut captures = captures_of(alloc, numbers)?;
     let all = captures.numbers(alloc)?;
     let mut files = MemoryFiles::new(alloc, Vec::new(alloc));
     let outputs = Outputs::new(2, 0);
     let mut beside = MadeCaptures::beside(&mut files, &mut captures, outputs);
-    tell_from(rt, alloc, &mut beside, func, all.as_slice(), numbers[1])
+    tell_beside(rt, alloc, &mut beside, func, all.as_slice(), numbers[1])
 }
 
 fn show_all(rt: &HostRuntime, alloc: Global, numbers: [u32; 4]) -> io::Result<()> {

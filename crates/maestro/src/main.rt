@@ -8,9 +8,6 @@ ghost use Rattle.call_base.specs.Outside.{seen};
 ghost use Rattle.lock_mode.specs.Gates.{Rose};
 ghost use Rattle.maestro.specs.Exits.{Exits};
 
-#[cfg(test)]
-mod tests;
-
 use lock_mode::Gate;
 use maestro_cli::{Idle, PackGate, Status, maestro};
 use nf_files::{Files, RealFiles};

@@ -21,6 +21,7 @@ writes_more o m n file a b p q = record {
   rests = λ g. q.rests g ∙ p.rests g;
   givens = λ g other. q.givens g other ∙ p.givens g other;
   names = λ g. q.names g ∙ p.names g;
+  kinds = λ g. q.kinds g ∙ p.kinds g;
   latest_same = λ k. q.latest_same k ∙ p.latest_same k;
   next_same = q.next_same ∙ p.next_same;
 }
@@ -38,6 +39,7 @@ writes_none o file = record {
   rests = λ g. refl;
   givens = λ g other. refl;
   names = λ g. refl;
+  kinds = λ g. refl;
   latest_same = λ k. refl;
   next_same = refl;
 }

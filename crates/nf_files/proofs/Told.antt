@@ -7,7 +7,6 @@ use Rattle.std.proofs.lemmas.Bool.Decides.{eqb_tells}
 use Rattle.std.specs.Str.{bytes_eq}
 use Rattle.nf_files.specs.declared.memory.named.Named.{Named}
 use Rattle.nf_files.specs.declared.memory.opened.OpenFile.{OpenFile}
-use Rattle.nf_files.specs.declared.kind.Kind.{Kind}
 use Rattle.nf_files.specs.declared.kind.Kind.TheVariants.{Input, Output}
 use Rattle.nf_files.specs.Memory.{numbered, number_of, put_under, content_of, told_of}
 use Rattle.nf_files.specs.Opened.{rest_of, given_of, name_of, kind_of, stands_under, last_created, displaced, Changes}
@@ -15,8 +14,8 @@ use Rattle.nf_files.specs.Openings.{Opens, Creates}
 use Rattle.nf_files.specs.Pieces.{Gains}
 use Rattle.nf_files.specs.Puts.{Puts}
 use Rattle.nf_files.specs.Writes.{Writes}
-use Rattle.nf_files.proofs.Numbers.{at_number, same_numbers, other_numbers, number_is}
-use Rattle.nf_files.proofs.Standing.{last_within, last_named, not_same, not_under, got_last, got_before, last_now, last_before, last_gone, last_stays}
+use Rattle.nf_files.proofs.Numbers.{at_number, same_numbers, other_numbers, number_is, still_opened}
+use Rattle.nf_files.proofs.Standing.{last_within, last_named, not_same, not_under, got_last, got_before, kind_grows, last_now, last_before, last_gone, last_stays}
 
 -- what was given to the file that stands under a name is as before
 same_content : (xs ys : List OpenFile) (p : Option (List ℕ)) (o : Option ℕ) → ((j : ℕ) → o ≡ Some j → given_of (slice_get ys j) ≡ given_of (slice_get xs j)) → content_of ys p o ≡ content_of xs p o
@@ -53,6 +52,7 @@ writes_opened ns o e xs ys file k piece is ch gained rest = record {
   rests = same_numbers None None (λ j. rest_of (slice_get xs j)) (λ j. rest_of (slice_get ys j)) (at_each rest_of xs ys k rest ch.others);
   givens = other_numbers (Some o) (Some e) (λ j. given_of (slice_get xs j)) (λ j. given_of (slice_get ys j)) file k is (λ j other. ap given_of (ch.others j other));
   names = same_numbers None None (λ j. name_of (slice_get xs j)) (λ j. name_of (slice_get ys j)) ch.names;
+  kinds = same_numbers None None (λ j. kind_of (slice_get xs j)) (λ j. kind_of (slice_get ys j)) ch.kinds;
   latest_same = λ n. ap number_of (ch.lasts n);
   next_same = ap (λ m. suc (suc m)) ch.count;
 }
@@ -71,9 +71,6 @@ before f o e xs y file is =
 at_end : {B : Type 0} (f : Option OpenFile → Option B) (o e : Option B) (xs : List OpenFile) (y : OpenFile) (file : ℕ) → file ≡ length xs + 2 → numbered o e (λ j. f (slice_get (xs ++ y ∷ []) j)) file ≡ f (Some y)
 at_end f o e xs y file is =
     at_number o e (λ j. f (slice_get (xs ++ y ∷ []) j)) file (length xs) is ∙ ap f (got_last xs y)
-
-pub kind_at_end : (xs : List OpenFile) (y : OpenFile) (k : Kind) (j : ℕ) → j ≡ length xs → y.kind ≡ k → kind_of (slice_get (xs ++ y ∷ []) j) ≡ Some k
-kind_at_end xs y k j is kind = rw (is, got_last xs y) (ap Some kind)
 
 one_more : (xs : List OpenFile) (y : OpenFile) → suc (suc (length (xs ++ y ∷ []))) ≡ suc (suc (length xs)) + 1
 one_more xs y = rw (length-append xs (y ∷ [])) (omega arith)
@@ -94,6 +91,8 @@ opens ns o e xs y opened file is kind left = record {
   rests = before rest_of None None xs y file is;
   givens = before given_of (Some o) (Some e) xs y file is;
   names = before name_of None None xs y file is;
+  read = at_end kind_of None None xs y file is ∙ ap Some kind;
+  kinds = λ g k known. still_opened (λ j. kind_of (slice_get xs j)) (λ j. kind_of (slice_get (xs ++ y ∷ []) j)) k (λ j. kind_grows xs j y k) g known;
   contents = λ n. content_before xs y (put_under ns n) n (input_under y n kind);
   latest_same = λ n. ap number_of (last_before xs y n (input_under y n kind));
 }
@@ -124,6 +123,8 @@ creates ns o e xs y created file is kind stands name bytes =
       rests = before rest_of None None xs y file is;
       givens = before given_of (Some o) (Some e) xs y file is;
       names = before name_of None None xs y file is;
+      written = at_end kind_of None None xs y file is ∙ ap Some kind;
+      kinds = λ g k known. still_opened (λ j. kind_of (slice_get xs j)) (λ j. kind_of (slice_get (xs ++ y ∷ []) j)) k (λ j. kind_grows xs j y k) g known;
       contents = λ n other. content_before xs y (put_under ns n) n (away n other);
       latest_other = λ n other. ap number_of (last_before xs y n (away n other));
     }
@@ -132,7 +133,7 @@ creates ns o e xs y created file is kind stands name bytes =
 as_before : {B : Type 0} (f : Option OpenFile → B) (put : List ℕ) → ((x : OpenFile) → f (Some (displaced put x)) ≡ f (Some x)) → (xs : List OpenFile) (j : ℕ) → f (slice_get (map (displaced put) xs) j) ≡ f (slice_get xs j)
 as_before f put same xs j = ap f (slice_get-map (displaced put) xs j) ∙ seen f put same (slice_get xs j)
 
-pub kinds_before : (put : List ℕ) (xs : List OpenFile) (j : ℕ) → kind_of (slice_get (map (displaced put) xs) j) ≡ kind_of (slice_get xs j)
+kinds_before : (put : List ℕ) (xs : List OpenFile) (j : ℕ) → kind_of (slice_get (map (displaced put) xs) j) ≡ kind_of (slice_get xs j)
 kinds_before put xs j = as_before kind_of put (λ x. refl) xs j
 
 -- bytes were put under a name
@@ -148,5 +149,6 @@ puts ns o e xs y put bytes name put_bytes =
       rests = same_numbers None None (λ j. rest_of (slice_get xs j)) (λ j. rest_of (slice_get ys j)) (as_before rest_of put (λ x. refl) xs);
       givens = same_numbers (Some o) (Some e) (λ j. given_of (slice_get xs j)) (λ j. given_of (slice_get ys j)) (as_before given_of put (λ x. refl) xs);
       names = same_numbers None None (λ j. name_of (slice_get xs j)) (λ j. name_of (slice_get ys j)) (as_before name_of put (λ x. refl) xs);
+      kinds = same_numbers None None (λ j. kind_of (slice_get xs j)) (λ j. kind_of (slice_get ys j)) (kinds_before put xs);
       next_same = ap (λ m. suc (suc m)) (length-map xs (displaced put));
     }

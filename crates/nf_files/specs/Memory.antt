@@ -1,8 +1,7 @@
 -- What files in memory tell.
-use Rattle.std.specs.Prelude.{◌≡◌, ℕ, ◌^◌, zero, suc, ◌-◌, ◌≤◌, ◌<◌, ◌⊎◌, Bool, true, false, List, [], ◌∷◌, length, Option, Some, None, IsSome, slice_get, if◌then◌else◌, nat_eq}
+use Rattle.std.specs.Prelude.{◌≡◌, ℕ, ◌^◌, zero, suc, ◌-◌, ◌<◌, ◌⊎◌, Bool, true, false, List, [], ◌∷◌, length, Option, Some, None, IsSome, slice_get, if◌then◌else◌, nat_eq}
 use Rattle.std.specs.List.{list_any}
 use Rattle.std.specs.Str.{bytes_eq}
-use Rattle.nf_files.specs.declared.kind.Kind.TheVariants.{Input, Output}
 use Rattle.nf_files.specs.declared.memory.opened.OpenFile.{OpenFile}
 use Rattle.nf_files.specs.declared.memory.named.Named.{Named}
 use Rattle.nf_files.specs.declared.memory.store.Store.{Store}
@@ -40,6 +39,7 @@ told_of names output errors files = record {
   given = numbered (Some output) (Some errors) (λ k. given_of (slice_get files k));
   name = numbered None None (λ k. name_of (slice_get files k));
   latest = λ n. number_of (last_created files n);
+  kind = numbered None None (λ k. kind_of (slice_get files k));
   next = suc (suc (length files));
 }
 
@@ -51,6 +51,7 @@ nothing = record {
   given = numbered (Some []) (Some []) (λ k. None);
   name = λ g. None;
   latest = λ n. None;
+  kind = λ g. None;
   next = 2;
 }
 
@@ -65,12 +66,6 @@ calls_counted c = counted_of c.count
 
 abbrev pub memory_counted : MemoryFiles → Counted
 memory_counted m = calls_counted m.calls
-
-abbrev pub is_input : List OpenFile → ℕ → Type 0
-is_input files g = (2 ≤ g) × (kind_of (slice_get files (g - 2)) ≡ Some Input)
-
-abbrev pub is_output : List OpenFile → ℕ → Type 0
-is_output files g = (2 ≤ g) × (kind_of (slice_get files (g - 2)) ≡ Some Output)
 
 -- the next call stands in the list of those that fail
 abbrev pub is_listed : Calls → Bool

@@ -1,6 +1,7 @@
 -- A name that is opened to be read, or created to be written.
-use Rattle.std.specs.Prelude.{◌≡◌, ◌≢◌, ℕ, ◌+◌, ◌≤◌, List}
-use Rattle.nf_files.specs.Told.{Told, IsToldAs, IsEmptyIfTold}
+use Rattle.std.specs.Prelude.{◌≡◌, ◌≢◌, ℕ, ◌+◌, ◌≤◌, List, Some}
+use Rattle.nf_files.specs.declared.kind.Kind.{Kind}
+use Rattle.nf_files.specs.Told.{Told, IsToldAs, IsEmptyIfTold, IsRead, IsWritten}
 
 -- a name was opened, and all of its content is still to be read
 pub record Opens (old new : Told) (opened : List ℕ) (file : ℕ) : Type 0 where
@@ -11,6 +12,8 @@ pub record Opens (old new : Told) (opened : List ℕ) (file : ℕ) : Type 0 wher
   pub rests : (g : ℕ) → g ≢ file → new.rest g ≡ old.rest g
   pub givens : (g : ℕ) → g ≢ file → new.given g ≡ old.given g
   pub names : (g : ℕ) → g ≢ file → new.name g ≡ old.name g
+  pub read : IsRead new file
+  pub kinds : (g : ℕ) (k : Kind) → old.kind g ≡ Some k → new.kind g ≡ Some k
   pub contents : (n : List ℕ) → new.content n ≡ old.content n
   pub latest_same : (n : List ℕ) → new.latest n ≡ old.latest n
 
@@ -26,5 +29,7 @@ pub record Creates (old new : Told) (created : List ℕ) (file : ℕ) : Type 0 w
   pub rests : (g : ℕ) → g ≢ file → new.rest g ≡ old.rest g
   pub givens : (g : ℕ) → g ≢ file → new.given g ≡ old.given g
   pub names : (g : ℕ) → g ≢ file → new.name g ≡ old.name g
+  pub written : IsWritten new file
+  pub kinds : (g : ℕ) (k : Kind) → old.kind g ≡ Some k → new.kind g ≡ Some k
   pub contents : (n : List ℕ) → n ≢ created → new.content n ≡ old.content n
   pub latest_other : (n : List ℕ) → n ≢ created → new.latest n ≡ old.latest n

@@ -11,4 +11,5 @@ pub record Puts (old new : Told) (put : List ℕ) (bytes : List ℕ) : Type 0 wh
   pub rests : (g : ℕ) → new.rest g ≡ old.rest g
   pub givens : (g : ℕ) → new.given g ≡ old.given g
   pub names : (g : ℕ) → new.name g ≡ old.name g
+  pub kinds : (g : ℕ) → new.kind g ≡ old.kind g
   pub next_same : new.next ≡ old.next

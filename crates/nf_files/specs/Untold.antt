@@ -1,27 +1,33 @@
 -- Files of which nothing is told but the number that the next opening gives.
-use Rattle.std.specs.Prelude.{◌≡◌, ℕ, ◌+◌, ◌-◌, ◌≤◌, List, [], Option, Some, None, option_map, slice_get}
+use Rattle.std.specs.Prelude.{◌≡◌, ℕ, ◌+◌, ◌-◌, ◌≤◌, List, [], length, Option, Some, None, option_map, slice_get}
 use Rattle.std.specs.Io.KnownBytes.{prepend_known}
 use Rattle.nf_files.specs.declared.kind.Kind.{Kind}
 use Rattle.nf_files.specs.declared.kind.Kind.TheVariants as good
 use Rattle.nf_files.specs.declared.system_file.SystemFile.{SystemFile}
 use Rattle.nf_files.specs.declared.system_file.SystemFile.TheVariants.{Input, Output}
 use Rattle.nf_files.specs.Told.{Told}
-
--- so many files were opened
-abbrev pub untold : ℕ → Told
-untold opened = record {
-  content = λ n. None;
-  rest = λ g. None;
-  given = λ g. None;
-  name = λ g. None;
-  latest = λ n. None;
-  next = opened + 2;
-}
+use Rattle.nf_files.specs.Memory.{numbered}
 
 -- what an opened file is good for
 abbrev pub good_for : {F : Type 0} → SystemFile F → Kind
 good_for (Input origin ahead) = good.Input
 good_for (Output file) = good.Output
+
+-- the same of a number that an opening or a creation gave
+abbrev pub kind_at : {F : Type 0} → List (SystemFile F) → ℕ → Option Kind
+kind_at files = numbered None None (λ k. option_map good_for (slice_get files k))
+
+-- these files were opened
+abbrev pub untold : {F : Type 0} → List (SystemFile F) → Told
+untold files = record {
+  content = λ n. None;
+  rest = λ g. None;
+  given = λ g. None;
+  name = λ g. None;
+  latest = λ n. None;
+  kind = kind_at files;
+  next = length files + 2;
+}
 
 -- the number of an opened file that is good for this
 abbrev pub IsOf : {F : Type 0} → Kind → List (SystemFile F) → ℕ → Type 0

@@ -12,6 +12,7 @@ pub record Writes (old new : Told) (file : ℕ) (piece : List ℕ) : Type 0 wher
   pub rests : (g : ℕ) → new.rest g ≡ old.rest g
   pub givens : (g : ℕ) → g ≢ file → new.given g ≡ old.given g
   pub names : (g : ℕ) → new.name g ≡ old.name g
+  pub kinds : (g : ℕ) → new.kind g ≡ old.kind g
   pub latest_same : (n : List ℕ) → new.latest n ≡ old.latest n
   pub next_same : new.next ≡ old.next
 

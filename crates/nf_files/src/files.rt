@@ -1,6 +1,6 @@
 // The trait of the files outside.
-ghost use Rattle.std.specs.Prelude.{◌≡◌, ◌<◌, ◌≤◌, ◌^◌, ◌⊎◌, ℕ, List, IfOk, OnErr, None, length, take};
-ghost use Rattle.nf_files.specs.Told.{Told, Same};
+ghost use Rattle.std.specs.Prelude.{◌≡◌, ◌<◌, ◌≤◌, ◌^◌, ℕ, List, IfOk, OnErr, None, length, take};
+ghost use Rattle.nf_files.specs.Told.{Told, IsRead, TakesBytes, Same};
 ghost use Rattle.nf_files.specs.Openings.{Opens, Creates};
 ghost use Rattle.nf_files.specs.Pieces.{Takes};
 ghost use Rattle.nf_files.specs.Reads.{Keeps, Reads};
@@ -23,12 +23,6 @@ pub trait Files {
 
     ghost counted: { Self → Counted };
 
-    // The number is one that an opening gave.
-    ghost is_read: { Self → ℕ → Type 0 };
-
-    // The number is one that a creation gave.
-    ghost is_written: { Self → ℕ → Type 0 };
-
     // The next call is known to fail, or is known not to: an opening of this name, or a call of
     // another kind.
     ghost will_open: { Self → List ℕ → Type 0 };
@@ -45,76 +39,64 @@ pub trait Files {
     /// Opens a name to be read from its first byte, and gives the file's number.
     fn open_in(&mut self, name: &str) -> Result<u32, FilesFault>
         ensures ok { IfOk result (λ file. Opens (told self.old) (told self.new) name.now file) }
-        ensures readable { IfOk result (is_read self.new) }
         ensures err { OnErr result (Same (told self.old) (told self.new)) }
         ensures cause { let one = an_asking name.now Input in
             HasAsked (counted self.old) (counted self.new) one (told self.old).next result }
         // A number of 32 bits was left for it.
         ensures numbered { IsFailed result → (told self.old).next < 2 ^ 32 }
         ensures fails { will_not_open self.old name.now → IsFailed result }
-        ensures passes { will_open self.old name.now → IsFailed result → ⊥ }
-        ensures reads { (g : ℕ) → is_read self.old g → is_read self.new g }
-        ensures writes { (g : ℕ) → is_written self.old g → is_written self.new g };
+        ensures passes { will_open self.old name.now → IsFailed result → ⊥ };
 
     /// Empties a name, or makes it, to be written, and gives the file's number.
     fn create_out(&mut self, name: &str) -> Result<u32, FilesFault>
         ensures ok { IfOk result (λ file. Creates (told self.old) (told self.new) name.now file) }
-        ensures writable { IfOk result (is_written self.new) }
         ensures err { OnErr result (Same (told self.old) (told self.new)) }
         ensures cause { let one = an_asking name.now Output in
             HasAsked (counted self.old) (counted self.new) one (told self.old).next result }
         ensures numbered { IsFailed result → (told self.old).next < 2 ^ 32 }
         ensures fails { will_fail self.old → IsFailed result }
-        ensures passes { will_pass self.old → IsFailed result → ⊥ }
-        ensures reads { (g : ℕ) → is_read self.old g → is_read self.new g }
-        ensures writes { (g : ℕ) → is_written self.old g → is_written self.new g };
+        ensures passes { will_pass self.old → IsFailed result → ⊥ };
 
     /// Reads bytes of a file into the front of `out`, and gives their number.
     ///
     /// 0 for an `out` that isn't empty is the end of the file.
     fn read(&mut self, file: u32, out: &mut [u8]) -> Result<usize, FilesFault>
-        requires opened { is_read self.old file }
+        requires opened { IsRead (told self.old) file }
         ensures ok { IfOk result (λ count. Reads (told self.old) (told self.new) file count out.new) }
         ensures err { OnErr result (Same (told self.old) (told self.new)) }
         ensures no_memory { IsNotMemory result }
         ensures cause { HasCause (counted self.old) (counted self.new) file result }
         ensures fails { will_fail self.old → IsFailed result }
-        ensures passes { will_pass self.old → IsFailed result → ⊥ }
-        ensures reads { (g : ℕ) → is_read self.old g → is_read self.new g }
-        ensures writes { (g : ℕ) → is_written self.old g → is_written self.new g };
+        ensures passes { will_pass self.old → IsFailed result → ⊥ };
 
     /// Writes bytes of the front of `piece` to a file, and gives their number.
     ///
     /// Where none of a piece that isn't empty is taken, that is a fault.
     fn write(&mut self, file: u32, piece: &[u8]) -> Result<usize, FilesFault>
-        requires created { (file < 2) ⊎ is_written self.old file }
+        requires created { TakesBytes (told self.old) file }
         ensures within { IfOk result (λ count. count ≤ length piece.now) }
         ensures some { IfOk result (λ count. 0 < length piece.now → 0 < count) }
         ensures ok { IfOk result (λ count. Writes (told self.old) (told self.new) file (take count piece.now)) }
         ensures err { OnErr result (Same (told self.old) (told self.new)) }
         ensures cause { HasCause (counted self.old) (counted self.new) file result }
         ensures fails { will_fail self.old → IsFailed result }
-        ensures passes { will_pass self.old → IsFailed result → ⊥ }
-        ensures reads { (g : ℕ) → is_read self.old g → is_read self.new g }
-        ensures writes { (g : ℕ) → is_written self.old g → is_written self.new g };
+        ensures passes { will_pass self.old → IsFailed result → ⊥ };
 
     /// The bytes of a file that stand ready: some of the front of what is left, which were read ahead.
     ///
     /// There may be none, and there may be more of the file behind them.
     fn ahead(&self, file: u32) -> &[u8]
-        requires opened { is_read self.now file }
+        requires opened { IsRead (told self.now) file }
         ensures value { result.now ≡ ready self.now file };
 
     /// Takes so many of the bytes that stand ready. This is none of the calls that can fail.
     fn take(&mut self, file: u32, count: usize)
-        requires opened { is_read self.old file }
+        requires opened { IsRead (told self.old) file }
         requires within { count ≤ length (ready self.old file) }
         ensures taken { let front = take count (ready self.old file) in
             Takes front ((told self.old).rest file) ((told self.new).rest file) }
         ensures kept { Keeps (told self.old) (told self.new) file }
-        ensures same_count { counted self.new ≡ counted self.old }
-        ensures reads { (g : ℕ) → is_read self.old g → is_read self.new g }
-        ensures writes { (g : ℕ) → is_written self.old g → is_written self.new g };
+        ensures same_count { counted self.new ≡ counted self.old };
 
     // No file is the first to fail exactly where no fault was counted.
     ghost counts: { (files : Self) → IsCount (counted files) };

@@ -1,6 +1,6 @@
 // Files in memory.
-ghost use Rattle.std.specs.Prelude.{◌≡◌, ℕ, [], option_map, unwrap_or, OnOk, OnErr, None, suc};
-ghost use Rattle.nf_files.specs.Memory.{memory_told, memory_counted, nothing, is_input, is_output, will_fail, will_pass, will_open, will_not_open, ready_at};
+ghost use Rattle.std.specs.Prelude.{◌≡◌, [], option_map, unwrap_or, OnOk, OnErr, None, suc};
+ghost use Rattle.nf_files.specs.Memory.{memory_told, memory_counted, nothing, will_fail, will_pass, will_open, will_not_open, ready_at};
 ghost use Rattle.nf_files.specs.Causes.{no_calls};
 ghost use Rattle.nf_files.specs.Standard.{of_standard};
 ghost use Rattle.nf_files.specs.Puts.{Puts};
@@ -53,8 +53,6 @@ impl MemoryFiles {
     pub fn put(&mut self, name: &str, bytes: &[u8]) -> Result<(), AllocError>
         ensures ok { OnOk result (Puts (memory_told self.old) (memory_told self.new) name.now bytes.now) }
         ensures err { OnErr result (Same (memory_told self.old) (memory_told self.new)) }
-        ensures reads { (g : ℕ) → is_input self.old.store.files.items g → is_input self.new.store.files.items g }
-        ensures writes { (g : ℕ) → is_output self.old.store.files.items g → is_output self.new.store.files.items g }
         ensures calls { self.new.calls ≡ self.old.calls }
     {
         self.store.put(self.alloc, name, bytes)
@@ -82,10 +80,6 @@ impl Files for MemoryFiles {
     ghost told = { memory_told };
 
     ghost counted = { memory_counted };
-
-    ghost is_read = { λ m. is_input m.store.files.items };
-
-    ghost is_written = { λ m. is_output m.store.files.items };
 
     ghost will_open = { will_open };
 

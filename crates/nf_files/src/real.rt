@@ -4,8 +4,7 @@ ghost use Rattle.std.specs.Io.{ReadsAtMost, WritesAtMost};
 ghost use Rattle.std.specs.Io.KnownBytes.{Consumes, ReadConsumes, WriteAppends};
 ghost use Rattle.nf_files.specs.Causes.{counted_of, HasCause};
 ghost use Rattle.nf_files.specs.Expected.{IsNotMemory};
-ghost use Rattle.nf_files.specs.Untold.{untold, left_at, ready_at, held_at, IsOf};
-ghost use Rattle.nf_files.specs.declared.kind.Kind.{Kind};
+ghost use Rattle.nf_files.specs.Untold.{untold, kind_at, left_at, ready_at, held_at, IsOf};
 ghost use Rattle.nf_files.specs.declared.kind.Kind.TheVariants.{Input, Output};
 
 use crate::ahead::Ahead;
@@ -77,8 +76,8 @@ impl<'a, R: rt::Files, O: Write, E: Write> RealFiles<'a, R, O, E> {
         ensures cause { let old = counted_of self.old.count in
             HasCause old (counted_of self.new.count) file result }
         ensures no_memory { IsNotMemory result }
-        ensures kinds { (k : Kind) (g : ℕ) →
-            IsOf k self.old.opened.items g → IsOf k self.new.opened.items g }
+        ensures kinds { (g : ℕ) →
+            kind_at self.new.opened.items g ≡ kind_at self.old.opened.items g }
     {
         let answer = match &mut self.opened[file as usize - 2] {
             SystemFile::Input { ahead, .. } => ahead.read(out),
@@ -109,8 +108,8 @@ impl<'a, R: rt::Files, O: Write, E: Write> RealFiles<'a, R, O, E> {
             (take count (ready_at self.old.opened.items file)) }
         ensures as_many { length self.new.opened.items ≡ length self.old.opened.items }
         ensures same { self.new.count ≡ self.old.count }
-        ensures kinds { (k : Kind) (g : ℕ) →
-            IsOf k self.old.opened.items g → IsOf k self.new.opened.items g }
+        ensures kinds { (g : ℕ) →
+            kind_at self.new.opened.items g ≡ kind_at self.old.opened.items g }
     {
         match &mut self.opened[file as usize - 2] {
             SystemFile::Input { ahead, .. } => ahead.take(count),
@@ -135,8 +134,8 @@ impl<'a, R: rt::Files, O: Write, E: Write> RealFiles<'a, R, O, E> {
             result piece.now }
         ensures as_many { length self.new.opened.items ≡ length self.old.opened.items }
         ensures same { self.new.count ≡ self.old.count }
-        ensures kinds { (k : Kind) (g : ℕ) →
-            IsOf k self.old.opened.items g → IsOf k self.new.opened.items g }
+        ensures kinds { (g : ℕ) →
+            kind_at self.new.opened.items g ≡ kind_at self.old.opened.items g }
     {
         if file < 2 {
             return self.standard.write(file, piece);
@@ -166,8 +165,8 @@ impl<'a, R: rt::Files, O: Write, E: Write> RealFiles<'a, R, O, E> {
         ensures as_many { length self.new.opened.items ≡ length self.old.opened.items }
         ensures cause { let old = counted_of self.old.count in
             HasCause old (counted_of self.new.count) file result }
-        ensures kinds { (k : Kind) (g : ℕ) →
-            IsOf k self.old.opened.items g → IsOf k self.new.opened.items g }
+        ensures kinds { (g : ℕ) →
+            kind_at self.new.opened.items g ≡ kind_at self.old.opened.items g }
     {
         let answer = some_taken(piece, self.write_once(file, piece));
         self.count.answer(file, answer)
@@ -175,13 +174,9 @@ impl<'a, R: rt::Files, O: Write, E: Write> RealFiles<'a, R, O, E> {
 }
 
 impl<'a, R: rt::Files, O: Write, E: Write> Files for RealFiles<'a, R, O, E> {
-    ghost told = { λ r. untold (length r.opened.items) };
+    ghost told = { λ r. untold r.opened.items };
 
     ghost counted = { λ r. counted_of r.count };
-
-    ghost is_read = { λ r. IsOf Input r.opened.items };
-
-    ghost is_written = { λ r. IsOf Output r.opened.items };
 
     ghost will_open = { λ _ _. ⊥ };
 

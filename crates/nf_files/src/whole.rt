@@ -1,7 +1,8 @@
 // Whole files, over any files outside.
-ghost use Rattle.std.specs.Prelude.{◌≡◌, ◌<◌, ◌⊎◌, ℕ, IfOk, vec_len};
+ghost use Rattle.std.specs.Prelude.{◌≡◌, ◌<◌, IfOk, vec_len};
 ghost use Rattle.nf_files.specs.Causes.{HasCause};
 ghost use Rattle.nf_files.specs.Reads.{Keeps, ReadsWhole};
+ghost use Rattle.nf_files.specs.Told.{IsRead, TakesBytes};
 ghost use Rattle.nf_files.specs.Writes.{WritesAll};
 
 use crate::{Files, FilesFault};
@@ -22,12 +23,10 @@ fn buffer(alloc: Global) -> Result<Vec<u8>, AllocError>
 ///
 /// After an `Err` some of it may be gone.
 pub fn read_whole<F: Files>(alloc: Global, files: &mut F, file: u32) -> Result<Vec<u8>, FilesFault>
-    requires opened { F.is_read files.old file }
+    requires opened { IsRead (F.told files.old) file }
     ensures ok { IfOk result (λ bytes. ReadsWhole (F.told files.old) (F.told files.new) file bytes.items) }
     ensures kept { Keeps (F.told files.old) (F.told files.new) file }
     ensures cause { HasCause (F.counted files.old) (F.counted files.new) file result }
-    ensures reads { (g : ℕ) → F.is_read files.old g → F.is_read files.new g }
-    ensures writes { (g : ℕ) → F.is_written files.old g → F.is_written files.new g }
 {
     let mut all = Vec::new(alloc);
     let mut piece = buffer(alloc)?;
@@ -45,11 +44,9 @@ pub fn read_whole<F: Files>(alloc: Global, files: &mut F, file: u32) -> Result<V
 ///
 /// After an `Err` the file was given a front of the piece, and not all of it.
 pub fn write_whole<F: Files>(files: &mut F, file: u32, piece: &[u8]) -> Result<(), FilesFault>
-    requires created { (file < 2) ⊎ F.is_written files.old file }
+    requires created { TakesBytes (F.told files.old) file }
     ensures wrote { WritesAll (F.told files.old) (F.told files.new) file piece.now result }
     ensures cause { HasCause (F.counted files.old) (F.counted files.new) file result }
-    ensures reads { (g : ℕ) → F.is_read files.old g → F.is_read files.new g }
-    ensures writes { (g : ℕ) → F.is_written files.old g → F.is_written files.new g }
 {
     let mut at: usize = 0;
     while at < piece.len() {

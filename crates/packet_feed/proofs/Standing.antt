@@ -215,13 +215,14 @@ kept_more files k f start old new e h kept = record {
   rests = λ g others. kept.rests g (λ same. at_file (λ (x : ℕ). x ≢ g) files k f e others (sym same)) ∙ h.rests g others;
   givens = λ g. kept.givens g ∙ h.givens g;
   names = λ g. kept.names g ∙ h.names g;
+  kinds = λ g. kept.kinds g ∙ h.kinds g;
   contents = λ n. kept.contents n ∙ h.contents n;
   latest_same = λ n. kept.latest_same n ∙ h.latest_same n;
   next_same = kept.next_same ∙ h.next_same;
 }
 
 pub kept_none : (files : List ℕ) (told : Told) → KeepsOthers files told told
-kept_none files told = record { rests = λ g others. refl; givens = λ g. refl; names = λ g. refl; contents = λ n. refl; latest_same = λ n. refl; next_same = refl }
+kept_none files told = record { rests = λ g others. refl; givens = λ g. refl; names = λ g. refl; kinds = λ g. refl; contents = λ n. refl; latest_same = λ n. refl; next_same = refl }
 
 pub settled_more : (sources : List Stream) (k : ℕ) (new_s : Stream) → IsSettled new_s.ahead → ((port : ℕ) (s : Stream) → port < k → slice_get sources port ≡ Some s → IsSettled s.ahead)
     → (port : ℕ) (s : Stream) → port < k + 1 → slice_get (set sources k new_s) port ≡ Some s → IsSettled s.ahead

@@ -26,6 +26,7 @@ pub record KeepsOthers (files : List ℕ) (old new : Told) : Type 0 where
   pub rests : (g : ℕ) → All (λ f. f ≢ g) files → new.rest g ≡ old.rest g
   pub givens : (g : ℕ) → new.given g ≡ old.given g
   pub names : (g : ℕ) → new.name g ≡ old.name g
+  pub kinds : (g : ℕ) → new.kind g ≡ old.kind g
   pub contents : (n : List ℕ) → new.content n ≡ old.content n
   pub latest_same : (n : List ℕ) → new.latest n ≡ old.latest n
   pub next_same : new.next ≡ old.next

@@ -1,6 +1,6 @@
 //! A capture that is read from its file, one packet after the other, whatever its format.
 ghost use Rattle.std.specs.Prelude.{◌≡◌, ◌≤◌, ℕ, true, Some, IfOk, IfErr, IfSome, IfNone, option_map};
-ghost use Rattle.nf_files.specs.Told.{Told};
+ghost use Rattle.nf_files.specs.Told.{Told, IsRead};
 ghost use Rattle.nf_files.specs.Reads.{Keeps};
 ghost use Rattle.pcap_file.specs.Held.{IsBegun};
 ghost use Rattle.pcap_file.specs.Causes.{IsCause, IsNoHeaderFault};
@@ -42,7 +42,7 @@ fn next_record<F: Files>(
     files: &mut F,
     frame: &mut Vec<u8>,
 ) -> Result<Next, CapFault>
-    requires opened { F.is_read files.old reader.old.file }
+    requires opened { IsRead (F.told files.old) reader.old.file }
     ensures steps { let file = reader.old.file in
         let before = records_left reader.old ((F.told files.old).rest file) in
         let after = records_left reader.new ((F.told files.new).rest file) in
@@ -57,8 +57,6 @@ fn next_record<F: Files>(
     ensures cause { let file = reader.old.file in
         IsCause (F.counted files.old) (F.counted files.new) file result }
     ensures never { IsNoHeaderFault result }
-    ensures reads { (g : ℕ) → F.is_read files.old g → F.is_read files.new g }
-    ensures writes { (g : ℕ) → F.is_written files.old g → F.is_written files.new g }
 {
     let next = reader.next(files, frame)?;
     Ok(next_of(next))
@@ -71,7 +69,7 @@ fn ready_record<F: Files>(
     files: &mut F,
     frame: &mut Vec<u8>,
 ) -> Option<Result<Next, CapFault>>
-    requires opened { F.is_read files.old reader.old.file }
+    requires opened { IsRead (F.told files.old) reader.old.file }
     ensures steps { let file = reader.old.file in
         let before = records_left reader.old ((F.told files.old).rest file) in
         let after = records_left reader.new ((F.told files.new).rest file) in
@@ -87,8 +85,6 @@ fn ready_record<F: Files>(
     ensures kept { Keeps (F.told files.old) (F.told files.new) reader.old.file }
     ensures cause { F.counted files.new ≡ F.counted files.old }
     ensures err { IfSome result (λ answer. IfErr answer (λ fault. fault ≡ CapFault.Memory)) }
-    ensures reads { (g : ℕ) → F.is_read files.old g → F.is_read files.new g }
-    ensures writes { (g : ℕ) → F.is_written files.old g → F.is_written files.new g }
 {
     match reader.next_ready(files, frame) {
         Some(Ok(next)) => Some(Ok(next_of(next))),
@@ -104,7 +100,7 @@ fn next_block<F: Files>(
     files: &mut F,
     frame: &mut Vec<u8>,
 ) -> Result<Next, CapFault>
-    requires opened { F.is_read files.old reader.old.file }
+    requires opened { IsRead (F.told files.old) reader.old.file }
     ensures steps { let file = reader.old.file in
         let before = blocks.left_of reader.old ((F.told files.old).rest file) in
         let after = blocks.left_of reader.new ((F.told files.new).rest file) in
@@ -115,8 +111,6 @@ fn next_block<F: Files>(
     ensures cause { let file = reader.old.file in
         IsCause (F.counted files.old) (F.counted files.new) file result }
     ensures never { IsNoHeaderFault result }
-    ensures reads { (g : ℕ) → F.is_read files.old g → F.is_read files.new g }
-    ensures writes { (g : ℕ) → F.is_written files.old g → F.is_written files.new g }
 {
     reader.next(files, frame)
 }
@@ -128,15 +122,13 @@ impl Captured {
         files: &mut F,
         file: u32,
     ) -> Result<Captured, CapFault>
-        requires opened { F.is_read files.old file }
+        requires opened { IsRead (F.told files.old) file }
         ensures heads { let before = (F.told files.old).rest file in
             Heads before ((F.told files.new).rest file) result }
         ensures headed { let before = (F.told files.old).rest file in
             IfOk result (IsHeaded file before ((F.told files.new).rest file)) }
         ensures kept { Keeps (F.told files.old) (F.told files.new) file }
         ensures cause { IsCause (F.counted files.old) (F.counted files.new) file result }
-        ensures reads { (g : ℕ) → F.is_read files.old g → F.is_read files.new g }
-        ensures writes { (g : ℕ) → F.is_written files.old g → F.is_written files.new g }
     {
         match Front::begin(alloc, files, file) {
             Err(fault) => Err(fault),
@@ -174,7 +166,7 @@ impl Captured {
         files: &mut F,
         frame: &mut Vec<u8>,
     ) -> Option<Result<Next, CapFault>>
-        requires opened { F.is_read files.old (file_in self.old) }
+        requires opened { IsRead (F.told files.old) (file_in self.old) }
         ensures steps { let file = file_in self.old in
             let before = left_of self.old ((F.told files.old).rest file) in
             let after = left_of self.new ((F.told files.new).rest file) in
@@ -190,8 +182,6 @@ impl Captured {
         ensures kept { Keeps (F.told files.old) (F.told files.new) (file_in self.old) }
         ensures cause { F.counted files.new ≡ F.counted files.old }
         ensures err { IfSome result (λ answer. IfErr answer (λ fault. fault ≡ CapFault.Memory)) }
-        ensures reads { (g : ℕ) → F.is_read files.old g → F.is_read files.new g }
-        ensures writes { (g : ℕ) → F.is_written files.old g → F.is_written files.new g }
     {
         match self {
             Captured::Pcap(reader) => ready_record(reader, files, frame),
@@ -208,7 +198,7 @@ impl Captured {
         files: &mut F,
         frame: &mut Vec<u8>,
     ) -> Result<Next, CapFault>
-        requires opened { F.is_read files.old (file_in self.old) }
+        requires opened { IsRead (F.told files.old) (file_in self.old) }
         ensures steps { let file = file_in self.old in
             let before = left_of self.old ((F.told files.old).rest file) in
             Steps before (left_of self.new ((F.told files.new).rest file)) frame.new.items result }
@@ -223,8 +213,6 @@ impl Captured {
         ensures cause { let file = file_in self.old in
             IsCause (F.counted files.old) (F.counted files.new) file result }
         ensures never { IsNoHeaderFault result }
-        ensures reads { (g : ℕ) → F.is_read files.old g → F.is_read files.new g }
-        ensures writes { (g : ℕ) → F.is_written files.old g → F.is_written files.new g }
     {
         match self {
             Captured::Pcap(reader) => next_record(reader, files, frame),

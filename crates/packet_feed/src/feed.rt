@@ -2,7 +2,7 @@
 ghost use Rattle.std.specs.Prelude.{◌≡◌, ◌^◌, ◌<◌, ◌≤◌, ◌+◌, ℕ, List, [], length, IfOk, IfErr, IfSome, OnErr, option_map};
 ghost use Rattle.nf_base.specs.Doors.{six_ports};
 ghost use Rattle.nf_base.specs.Functions.{function_of};
-ghost use Rattle.nf_files.specs.Told.{Told};
+ghost use Rattle.nf_files.specs.Told.{Told, IsRead};
 ghost use Rattle.pcap_file.specs.Record.{greatest_time};
 ghost use Rattle.packet_feed.specs.Arrivals.{Arrival, fields_seen};
 ghost use Rattle.packet_feed.specs.Order.{in_order, IsOrdered};
@@ -77,7 +77,7 @@ impl Feed {
         captures: &[u32],
         most: u32,
     ) -> Result<Feed, FeedFault>
-        requires opened { EachFile (F.is_read files.old) captures.now }
+        requires opened { EachFile (IsRead (F.told files.old)) captures.now }
         // No file stands there twice.
         requires apart { IsApart captures.now }
         requires ports { length captures.now ≤ 2 ^ 32 }
@@ -93,8 +93,6 @@ impl Feed {
         ensures kept { KeepsOthers captures.now (F.told files.old) (F.told files.new) }
         ensures cause { IsCause (F.counted files.old) (F.counted files.new) captures.now result }
         ensures one { IfErr result (λ fault. IsOneOf captures.now fault) }
-        ensures reads { (g : ℕ) → F.is_read files.old g → F.is_read files.new g }
-        ensures writes { (g : ℕ) → F.is_written files.old g → F.is_written files.new g }
         // The order in which packets are given is the capture order.
         ensures ordered { (arrivals : List Arrival) → IsOrdered arrivals (in_order arrivals) }
     {
@@ -116,7 +114,7 @@ impl Feed {
     /// moved, and no call is to be made on it.
     #[inline(always)]
     pub fn advance<F: Files>(&mut self, files: &mut F) -> Result<Moved, FeedFault>
-        requires opened { EachFile (F.is_read files.old) (files_in self.old.sources) }
+        requires opened { EachFile (IsRead (F.told files.old)) (files_in self.old.sources) }
         // Whatever bytes and packets the feed stood for, it stands for the same bytes, and for the
         // packet that it tells of behind them; or they are all, in capture order, and captures are
         // torn as it tells; or there are more.
@@ -136,8 +134,6 @@ impl Feed {
             IsCause (F.counted files.old) (F.counted files.new) all result }
         ensures never { IsNoHeaderFault result }
         ensures one { IfErr result (λ fault. IsOneOf (files_in self.old.sources) fault) }
-        ensures reads { (g : ℕ) → F.is_read files.old g → F.is_read files.new g }
-        ensures writes { (g : ℕ) → F.is_written files.old g → F.is_written files.new g }
     {
         fill_next(&mut self.sources, files, self.settled, self.shown)?;
         match earliest(&self.sources) {
@@ -177,7 +173,7 @@ impl Feed {
     /// moved, and no call is to be made on it.
     #[inline(always)]
     pub fn next<F: Files>(&mut self, files: &mut F) -> Result<Fed, FeedFault>
-        requires opened { EachFile (F.is_read files.old) (files_in self.old.sources) }
+        requires opened { EachFile (IsRead (F.told files.old)) (files_in self.old.sources) }
         // Whatever bytes and packets the feed stood for, it stands for the same bytes, and for this
         // packet behind them; or they are all, in capture order, and captures are torn as it tells;
         // or there are more.
@@ -197,8 +193,6 @@ impl Feed {
             IsCause (F.counted files.old) (F.counted files.new) all result }
         ensures never { IsNoHeaderFault result }
         ensures one { IfErr result (λ fault. IsOneOf (files_in self.old.sources) fault) }
-        ensures reads { (g : ℕ) → F.is_read files.old g → F.is_read files.new g }
-        ensures writes { (g : ℕ) → F.is_written files.old g → F.is_written files.new g }
     {
         match self.advance(files) {
             Err(fault) => Err(fault),
@@ -218,7 +212,7 @@ impl Feed {
         files: &mut F,
         port: u32,
     ) -> Result<Option<Packet>, FeedFault>
-        requires opened { EachFile (F.is_read files.old) (files_in self.old.sources) }
+        requires opened { EachFile (IsRead (F.told files.old)) (files_in self.old.sources) }
         requires inside { port < length self.old.sources }
         requires room { self.old.given < self.old.most }
         // Whatever bytes and packets the feed stood for, it stands for the same bytes, and for this
@@ -236,8 +230,6 @@ impl Feed {
             IsCause (F.counted files.old) (F.counted files.new) all result }
         ensures never { IsNoHeaderFault result }
         ensures one { IfErr result (λ fault. IsOneOf (files_in self.old.sources) fault) }
-        ensures reads { (g : ℕ) → F.is_read files.old g → F.is_read files.new g }
-        ensures writes { (g : ℕ) → F.is_written files.old g → F.is_written files.new g }
     {
         let place = port as usize;
         self.settled = false;

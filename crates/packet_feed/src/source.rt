@@ -1,5 +1,6 @@
 //! One capture that is read as a stream.
 ghost use Rattle.std.specs.Prelude.{◌≡◌, ◌+◌, ◌-◌, ◌^◌, ◌<◌, ◌≤◌, ℕ, length, if◌then◌else◌, Some, None, OnOk, IfSome, option_map};
+ghost use Rattle.nf_files.specs.Told.{IsRead};
 ghost use Rattle.frame_ip.specs.Frame.{fields_in};
 ghost use Rattle.nf_base.specs.Doors.{served_fields};
 ghost use Rattle.nf_files.specs.Reads.{Keeps};
@@ -96,13 +97,11 @@ impl Source {
         file: u32,
         six: bool,
     ) -> Result<Source, CapFault>
-        requires opened { F.is_read files.old file }
+        requires opened { IsRead (F.told files.old) file }
         ensures opens { let before = (F.told files.old).rest file in
             Opens file six before ((F.told files.new).rest file) result }
         ensures kept { Keeps (F.told files.old) (F.told files.new) file }
         ensures cause { IsCause (F.counted files.old) (F.counted files.new) file result }
-        ensures reads { (g : ℕ) → F.is_read files.old g → F.is_read files.new g }
-        ensures writes { (g : ℕ) → F.is_written files.old g → F.is_written files.new g }
     {
         let captured = Captured::header(alloc, files, file)?;
         Ok(Source {
@@ -178,7 +177,7 @@ impl Source {
     // Reads the next packet, which may have to be read from its file.
     #[inline(never)]
     fn read_on<F: Files>(&mut self, files: &mut F) -> Result<(), CapFault>
-        requires opened { F.is_read files.old self.old.reading.file }
+        requires opened { IsRead (F.told files.old) self.old.reading.file }
         requires unread { self.old.ahead ≡ Unread }
         ensures filled { let file = self.old.reading.file in
             OnOk result (IsFilled self.old self.new
@@ -192,8 +191,6 @@ impl Source {
         ensures cause { let file = self.old.reading.file in
             IsCause (F.counted files.old) (F.counted files.new) file result }
         ensures never { IsNoHeaderFault result }
-        ensures reads { (g : ℕ) → F.is_read files.old g → F.is_read files.new g }
-        ensures writes { (g : ℕ) → F.is_written files.old g → F.is_written files.new g }
     {
         match self.captured.next(files, &mut self.frame)? {
             Next::Frame(head) => self.hold(true, head),
@@ -207,7 +204,7 @@ impl Source {
     // Reads the next packet. Most are whole records that stand ready.
     #[inline]
     fn read<F: Files>(&mut self, files: &mut F) -> Result<(), CapFault>
-        requires opened { F.is_read files.old self.old.reading.file }
+        requires opened { IsRead (F.told files.old) self.old.reading.file }
         requires unread { self.old.ahead ≡ Unread }
         ensures filled { let file = self.old.reading.file in
             OnOk result (IsFilled self.old self.new
@@ -221,8 +218,6 @@ impl Source {
         ensures cause { let file = self.old.reading.file in
             IsCause (F.counted files.old) (F.counted files.new) file result }
         ensures never { IsNoHeaderFault result }
-        ensures reads { (g : ℕ) → F.is_read files.old g → F.is_read files.new g }
-        ensures writes { (g : ℕ) → F.is_written files.old g → F.is_written files.new g }
     {
         match self.captured.next_ready(files, &mut self.frame) {
             None => self.read_on(files),
@@ -249,7 +244,7 @@ impl Source {
     /// Reads the next packet, where it isn't known yet what comes next.
     #[inline]
     pub(crate) fn fill<F: Files>(&mut self, files: &mut F) -> Result<(), CapFault>
-        requires opened { F.is_read files.old self.old.reading.file }
+        requires opened { IsRead (F.told files.old) self.old.reading.file }
         ensures filled { let file = self.old.reading.file in
             OnOk result (IsFilled self.old self.new
             ((F.told files.old).rest file) ((F.told files.new).rest file)) }
@@ -262,8 +257,6 @@ impl Source {
         ensures cause { let file = self.old.reading.file in
             IsCause (F.counted files.old) (F.counted files.new) file result }
         ensures never { IsNoHeaderFault result }
-        ensures reads { (g : ℕ) → F.is_read files.old g → F.is_read files.new g }
-        ensures writes { (g : ℕ) → F.is_written files.old g → F.is_written files.new g }
     {
         match self.ahead {
             Ahead::Unread => self.read(files),

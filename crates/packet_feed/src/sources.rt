@@ -3,7 +3,7 @@ ghost use Rattle.std.specs.Prelude.{◌≡◌, ◌≢◌, ◌-◌, ◌^◌, ◌<
 ghost use Rattle.std.specs.List.{All};
 ghost use Rattle.nf_base.specs.Doors.{six_ports};
 ghost use Rattle.nf_base.specs.Functions.{function_of};
-ghost use Rattle.nf_files.specs.Told.{Told};
+ghost use Rattle.nf_files.specs.Told.{Told, IsRead};
 ghost use Rattle.packet_feed.specs.Arrivals.{Arrival};
 ghost use Rattle.packet_feed.specs.Faults.{IsCause, IsNoHeaderFault};
 ghost use Rattle.packet_feed.specs.Told.{EachFile, IsApart, KeepsOthers};
@@ -27,7 +27,7 @@ pub(crate) fn open_all<F: Files>(
     func: &Func,
     captures: &[u32],
 ) -> Result<Seq<Source>, FeedFault>
-    requires opened { EachFile (F.is_read files.old) captures.now }
+    requires opened { EachFile (IsRead (F.told files.old)) captures.now }
     requires apart { IsApart captures.now }
     requires ports { length captures.now ≤ 2 ^ 32 }
     requires ports_of { length captures.now ≡ length func.now.handlers }
@@ -37,8 +37,6 @@ pub(crate) fn open_all<F: Files>(
         SourcesStandByPort (F.told files.old) [] sources (F.told files.new)) }
     ensures kept { KeepsOthers captures.now (F.told files.old) (F.told files.new) }
     ensures cause { IsCause (F.counted files.old) (F.counted files.new) captures.now result }
-    ensures reads { (g : ℕ) → F.is_read files.old g → F.is_read files.new g }
-    ensures writes { (g : ℕ) → F.is_written files.old g → F.is_written files.new g }
 {
     let mut sources = Seq::new(alloc);
     for (port, file) in captures.iter().enumerate() {
@@ -55,7 +53,7 @@ pub(crate) fn open_all<F: Files>(
 
 /// Reads the next record of each capture of which it isn't known yet what comes next.
 pub(crate) fn fill_all<F: Files>(sources: &mut Seq<Source>, files: &mut F) -> Result<(), FeedFault>
-    requires opened { EachFile (F.is_read files.old) (files_in sources.old) }
+    requires opened { EachFile (IsRead (F.told files.old)) (files_in sources.old) }
     requires apart { IsApart (files_in sources.old) }
     requires ports { length sources.old ≤ 2 ^ 32 }
     ensures stand { (start : Told) → (given : List Arrival) →
@@ -70,8 +68,6 @@ pub(crate) fn fill_all<F: Files>(sources: &mut Seq<Source>, files: &mut F) -> Re
     ensures cause { let all = files_in sources.old in
         IsCause (F.counted files.old) (F.counted files.new) all result }
     ensures never { IsNoHeaderFault result }
-    ensures reads { (g : ℕ) → F.is_read files.old g → F.is_read files.new g }
-    ensures writes { (g : ℕ) → F.is_written files.old g → F.is_written files.new g }
 {
     for port in 0..sources.len() {
         match sources.item_mut(port).fill(files) {
@@ -101,7 +97,7 @@ pub(crate) fn fill_at<F: Files>(
     files: &mut F,
     port: usize,
 ) -> Result<(), FeedFault>
-    requires opened { EachFile (F.is_read files.old) (files_in sources.old) }
+    requires opened { EachFile (IsRead (F.told files.old)) (files_in sources.old) }
     requires apart { IsApart (files_in sources.old) }
     requires ports { length sources.old ≤ 2 ^ 32 }
     requires inside { port < length sources.old }
@@ -121,8 +117,6 @@ pub(crate) fn fill_at<F: Files>(
     ensures cause { let all = files_in sources.old in
         IsCause (F.counted files.old) (F.counted files.new) all result }
     ensures never { IsNoHeaderFault result }
-    ensures reads { (g : ℕ) → F.is_read files.old g → F.is_read files.new g }
-    ensures writes { (g : ℕ) → F.is_written files.old g → F.is_written files.new g }
 {
     match sources.item_mut(port).fill(files) {
         Ok(()) => Ok(()),
@@ -139,7 +133,7 @@ pub(crate) fn fill_next<F: Files>(
     settled: bool,
     last: usize,
 ) -> Result<(), FeedFault>
-    requires opened { EachFile (F.is_read files.old) (files_in sources.old) }
+    requires opened { EachFile (IsRead (F.told files.old)) (files_in sources.old) }
     requires apart { IsApart (files_in sources.old) }
     requires ports { length sources.old ≤ 2 ^ 32 }
     requires settled { settled ≡ true → AreSettledBut last sources.old }
@@ -156,8 +150,6 @@ pub(crate) fn fill_next<F: Files>(
     ensures cause { let all = files_in sources.old in
         IsCause (F.counted files.old) (F.counted files.new) all result }
     ensures never { IsNoHeaderFault result }
-    ensures reads { (g : ℕ) → F.is_read files.old g → F.is_read files.new g }
-    ensures writes { (g : ℕ) → F.is_written files.old g → F.is_written files.new g }
 {
     if !settled {
         return fill_all(sources, files);

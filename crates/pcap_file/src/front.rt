@@ -2,7 +2,7 @@
 ghost use Rattle.std.specs.Prelude.{◌≡◌, ◌<◌, ◌≤◌, ◌+◌, ◌-◌, ℕ, [], length, take, drop, max, vec_len, IfOk, OnOk, OnErr, nat_eq, slice_range};
 ghost use Rattle.nf_files.specs.Causes.{HasCause};
 ghost use Rattle.nf_files.specs.Reads.{Keeps, Reads};
-ghost use Rattle.nf_files.specs.Told.{Same};
+ghost use Rattle.nf_files.specs.Told.{Same, IsRead};
 ghost use Rattle.nf_files.specs.Pieces.{Takes};
 ghost use Rattle.pcap_file.specs.Causes.{IsCause, IsNoHeaderFault};
 ghost use Rattle.pcap_file.specs.Taken.{TakesHeader};
@@ -52,15 +52,13 @@ fn read_into<F: Files>(
     at: usize,
     end: usize,
 ) -> Result<usize, FilesFault>
-    requires opened { F.is_read files.old file }
+    requires opened { IsRead (F.told files.old) file }
     requires room { (at < end) × (end ≤ length bytes.old) }
     ensures ok { IfOk result (λ count.
         Reads (F.told files.old) (F.told files.new) file count (slice_range bytes.new at end)) }
     ensures front { take at bytes.new ≡ take at bytes.old }
     ensures err { OnErr result (Same (F.told files.old) (F.told files.new)) }
     ensures cause { HasCause (F.counted files.old) (F.counted files.new) file result }
-    ensures reads { (g : ℕ) → F.is_read files.old g → F.is_read files.new g }
-    ensures writes { (g : ℕ) → F.is_written files.old g → F.is_written files.new g }
 {
     files.read(file, &mut bytes[at..end])
 }
@@ -109,7 +107,7 @@ impl Front {
 
     // Reads once; false says that nothing is left of the file.
     fn refill<F: Files>(&mut self, files: &mut F, wanted: usize) -> Result<bool, FilesFault>
-        requires opened { F.is_read files.old self.old.file }
+        requires opened { IsRead (F.told files.old) self.old.file }
         requires room { (length self.old.bytes < wanted) × (wanted ≤ 266240) }
         ensures grows { Grows self.old self.new (F.told files.old) (F.told files.new) }
         ensures more { let left = (F.told files.new).rest self.old.file in
@@ -117,8 +115,6 @@ impl Front {
         ensures most { length self.new.bytes ≤ wanted }
         ensures cause { let file = self.old.file in
             HasCause (F.counted files.old) (F.counted files.new) file result }
-        ensures reads { (g : ℕ) → F.is_read files.old g → F.is_read files.new g }
-        ensures writes { (g : ℕ) → F.is_written files.old g → F.is_written files.new g }
     {
         let count = read_into(
             files,
@@ -141,7 +137,7 @@ impl Front {
 
     /// Takes until so many bytes are held, or nothing is left of the file.
     pub fn fill<F: Files>(&mut self, files: &mut F, wanted: usize) -> Result<bool, FilesFault>
-        requires opened { F.is_read files.old self.old.file }
+        requires opened { IsRead (F.told files.old) self.old.file }
         requires room { (length self.old.bytes ≤ wanted) × (wanted ≤ 266240) }
         ensures grows { Grows self.old self.new (F.told files.old) (F.told files.new) }
         ensures filled { let left = (F.told files.new).rest self.old.file in
@@ -150,8 +146,6 @@ impl Front {
         ensures most { length self.new.bytes ≤ wanted }
         ensures cause { let file = self.old.file in
             HasCause (F.counted files.old) (F.counted files.new) file result }
-        ensures reads { (g : ℕ) → F.is_read files.old g → F.is_read files.new g }
-        ensures writes { (g : ℕ) → F.is_written files.old g → F.is_written files.new g }
     {
         while self.count < wanted {
             if !self.refill(files, wanted)? {
@@ -166,7 +160,7 @@ impl Front {
     ///
     /// After an `Err` bytes may be held that were to be stepped over.
     pub fn skip<F: Files>(&mut self, files: &mut F, count: u32) -> Result<bool, FilesFault>
-        requires opened { F.is_read files.old self.old.file }
+        requires opened { IsRead (F.told files.old) self.old.file }
         requires room { length self.old.bytes < 266240 }
         ensures skipped { let file = self.old.file in
             IfOk result (Skips count ((F.told files.old).rest file) ((F.told files.new).rest file)) }
@@ -175,8 +169,6 @@ impl Front {
         ensures kept { Keeps (F.told files.old) (F.told files.new) self.old.file }
         ensures cause { let file = self.old.file in
             HasCause (F.counted files.old) (F.counted files.new) file result }
-        ensures reads { (g : ℕ) → F.is_read files.old g → F.is_read files.new g }
-        ensures writes { (g : ℕ) → F.is_written files.old g → F.is_written files.new g }
     {
         let held = self.as_slice().len();
         let mut left = count as usize;
@@ -197,7 +189,7 @@ impl Front {
         held: usize,
         piece: usize,
     ) -> Result<bool, FilesFault>
-        requires opened { F.is_read files.old self.old.file }
+        requires opened { IsRead (F.told files.old) self.old.file }
         requires held { held ≡ length self.old.bytes }
         requires room { held + piece ≤ 266240 }
         ensures skipped { let file = self.old.file in
@@ -207,8 +199,6 @@ impl Front {
         ensures kept { Keeps (F.told files.old) (F.told files.new) self.old.file }
         ensures cause { let file = self.old.file in
             HasCause (F.counted files.old) (F.counted files.new) file result }
-        ensures reads { (g : ℕ) → F.is_read files.old g → F.is_read files.new g }
-        ensures writes { (g : ℕ) → F.is_written files.old g → F.is_written files.new g }
     {
         let whole = self.fill(files, held + piece)?;
         self.truncate(held);
@@ -219,7 +209,7 @@ impl Front {
     ///
     /// The file is one that was opened to be read, and nothing of it was read yet.
     pub fn begin<F: Files>(alloc: Global, files: &mut F, file: u32) -> Result<Front, CapFault>
-        requires opened { F.is_read files.old file }
+        requires opened { IsRead (F.told files.old) file }
         ensures begun { IfOk result (λ front. IsBegun file front (F.told files.old) (F.told files.new)) }
         // No byte behind the header is taken.
         ensures takes { let left = (F.told files.old).rest file in
@@ -227,8 +217,6 @@ impl Front {
         ensures kept { Keeps (F.told files.old) (F.told files.new) file }
         ensures cause { IsCause (F.counted files.old) (F.counted files.new) file result }
         ensures never { IsNoHeaderFault result }
-        ensures reads { (g : ℕ) → F.is_read files.old g → F.is_read files.new g }
-        ensures writes { (g : ℕ) → F.is_written files.old g → F.is_written files.new g }
     {
         let mut front = match Front::new(alloc, file) {
             Ok(front) => front,

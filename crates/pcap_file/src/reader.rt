@@ -4,7 +4,7 @@ ghost use Rattle.pcap_file.specs.declared.reader.Next.TheVariants.{End, Torn};
 ghost use Rattle.pcap_file.specs.declared.reader.State.TheVariants.{Going, Ended, Cut};
 ghost use Rattle.nf_files.specs.Causes.{HasCause};
 ghost use Rattle.nf_files.specs.Reads.{Keeps};
-ghost use Rattle.nf_files.specs.Told.{Told};
+ghost use Rattle.nf_files.specs.Told.{Told, IsRead};
 ghost use Rattle.pcap_file.specs.Held.{Held, Grows, IsBegun};
 ghost use Rattle.pcap_file.specs.Causes.{IsCause, IsNoHeaderFault};
 ghost use Rattle.pcap_file.specs.Taken.{TakesHeader, TakesRecord};
@@ -68,7 +68,7 @@ fn reach<F: Files>(
     order: Endian,
     offset: u64,
 ) -> Result<(), FilesFault>
-    requires opened { F.is_read files.old front.old.file }
+    requires opened { IsRead (F.told files.old) front.old.file }
     ensures grows { let none : Held = record { file = front.old.file; bytes = [] } in
         Grows none front.new (F.told files.old) (F.told files.new) }
     ensures reached { let left = (F.told files.new).rest front.old.file in
@@ -76,8 +76,6 @@ fn reach<F: Files>(
     ensures only { OnOk result (IsOnly order offset front.new.bytes) }
     ensures most { length front.new.bytes ≤ 16 + 262144 }
     ensures cause { HasCause (F.counted files.old) (F.counted files.new) front.old.file result }
-    ensures reads { (g : ℕ) → F.is_read files.old g → F.is_read files.new g }
-    ensures writes { (g : ℕ) → F.is_written files.old g → F.is_written files.new g }
 {
     front.clear();
     if !front.fill(files, RECORD_HEADER)? {
@@ -113,7 +111,7 @@ impl Reader {
     ///
     /// The file is one that was opened to be read, and nothing of it was read yet.
     pub fn header<F: Files>(alloc: Global, files: &mut F, file: u32) -> Result<Reader, CapFault>
-        requires opened { F.is_read files.old file }
+        requires opened { IsRead (F.told files.old) file }
         // What is left is the capture that the bytes of the file are, or their header is short or
         // wrong.
         ensures heads { Heads ((F.told files.old).rest file) (F.told files.new) result }
@@ -123,8 +121,6 @@ impl Reader {
         ensures ok { IfOk result (IsOpened file) }
         ensures kept { Keeps (F.told files.old) (F.told files.new) file }
         ensures cause { IsCause (F.counted files.old) (F.counted files.new) file result }
-        ensures reads { (g : ℕ) → F.is_read files.old g → F.is_read files.new g }
-        ensures writes { (g : ℕ) → F.is_written files.old g → F.is_written files.new g }
     {
         match Front::begin(alloc, files, file) {
             Err(fault) => Err(fault),
@@ -161,7 +157,7 @@ impl Reader {
         files: &mut F,
         frame: &mut Vec<u8>,
     ) -> Option<Result<Next, CapFault>>
-        requires opened { F.is_read files.old self.old.file }
+        requires opened { IsRead (F.told files.old) self.old.file }
         requires going { self.old.state ≡ Going }
         ensures steps { let before = left self.old (F.told files.old) in
             IfSome result (Steps before (left self.new (F.told files.new)) frame.new.items) }
@@ -176,8 +172,6 @@ impl Reader {
         ensures kept { Keeps (F.told files.old) (F.told files.new) self.old.file }
         ensures cause { F.counted files.new ≡ F.counted files.old }
         ensures err { IfSome result (λ answer. IfErr answer (λ fault. fault ≡ CapFault.Memory)) }
-        ensures reads { (g : ℕ) → F.is_read files.old g → F.is_read files.new g }
-        ensures writes { (g : ℕ) → F.is_written files.old g → F.is_written files.new g }
     {
         let ready = files.ahead(self.front.file());
         let record = first(self.form.order, self.offset, ready)?;
@@ -196,7 +190,7 @@ impl Reader {
     // The next record, where the end was not found yet: a call, since most records stand ready.
     #[inline(never)]
     fn advance<F: Files>(&mut self, files: &mut F, frame: &mut Vec<u8>) -> Result<Next, CapFault>
-        requires opened { F.is_read files.old self.old.file }
+        requires opened { IsRead (F.told files.old) self.old.file }
         requires going { self.old.state ≡ Going }
         ensures steps { let before = left self.old (F.told files.old) in
             Steps before (left self.new (F.told files.new)) frame.new.items result }
@@ -210,8 +204,6 @@ impl Reader {
         ensures kept { Keeps (F.told files.old) (F.told files.new) self.old.file }
         ensures cause { IsCause (F.counted files.old) (F.counted files.new) self.old.file result }
         ensures never { IsNoHeaderFault result }
-        ensures reads { (g : ℕ) → F.is_read files.old g → F.is_read files.new g }
-        ensures writes { (g : ℕ) → F.is_written files.old g → F.is_written files.new g }
     {
         reach(files, &mut self.front, self.form.order, self.offset)?;
         match first(self.form.order, self.offset, self.front.as_slice()) {
@@ -247,7 +239,7 @@ impl Reader {
         files: &mut F,
         frame: &mut Vec<u8>,
     ) -> Option<Result<Next, CapFault>>
-        requires opened { F.is_read files.old self.old.file }
+        requires opened { IsRead (F.told files.old) self.old.file }
         ensures steps { let before = left self.old (F.told files.old) in
             IfSome result (Steps before (left self.new (F.told files.new)) frame.new.items) }
         ensures moves { IfSome result (Moves self.old self.new frame.old.items frame.new.items) }
@@ -261,8 +253,6 @@ impl Reader {
         ensures kept { Keeps (F.told files.old) (F.told files.new) self.old.file }
         ensures cause { F.counted files.new ≡ F.counted files.old }
         ensures err { IfSome result (λ answer. IfErr answer (λ fault. fault ≡ CapFault.Memory)) }
-        ensures reads { (g : ℕ) → F.is_read files.old g → F.is_read files.new g }
-        ensures writes { (g : ℕ) → F.is_written files.old g → F.is_written files.new g }
     {
         match self.state {
             State::Going => self.take_ready(files, frame),
@@ -275,7 +265,7 @@ impl Reader {
     /// After `End` or `Torn` the answer stays the same. After an `Err` this reader may have moved,
     /// and no call is to be made on it.
     pub fn next<F: Files>(&mut self, files: &mut F, frame: &mut Vec<u8>) -> Result<Next, CapFault>
-        requires opened { F.is_read files.old self.old.file }
+        requires opened { IsRead (F.told files.old) self.old.file }
         // Where the rest of the file is told: the next record of what is left is taken off it, or
         // there is none, and the capture ends or is torn as the answer says.
         ensures steps { let before = left self.old (F.told files.old) in
@@ -293,8 +283,6 @@ impl Reader {
         ensures kept { Keeps (F.told files.old) (F.told files.new) self.old.file }
         ensures cause { IsCause (F.counted files.old) (F.counted files.new) self.old.file result }
         ensures never { IsNoHeaderFault result }
-        ensures reads { (g : ℕ) → F.is_read files.old g → F.is_read files.new g }
-        ensures writes { (g : ℕ) → F.is_written files.old g → F.is_written files.new g }
     {
         match self.state {
             State::Ended => Ok(Next::End),

@@ -26,6 +26,7 @@ keeps_then a b d file k l = record {
   rests = λ g ne. l.rests g ne ∙ k.rests g ne;
   givens = λ g. l.givens g ∙ k.givens g;
   names = λ g. l.names g ∙ k.names g;
+  kinds = λ g. l.kinds g ∙ k.kinds g;
   contents = λ n. l.contents n ∙ k.contents n;
   latest_same = λ n. l.latest_same n ∙ k.latest_same n;
   next_same = l.next_same ∙ k.next_same;

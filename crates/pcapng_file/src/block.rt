@@ -9,6 +9,7 @@
 //!
 //! All numbers stand in the section's byte order (pcapng, "General Block Structure").
 ghost use Rattle.std.specs.Prelude.{◌≡◌, ◌+◌, ◌<◌, ◌≤◌, ℕ, List, [], length, take, max, true, Some, None, IfOk, OnOk, OnErr, IfSome, IfNone, if◌then◌else◌, ◌&&◌, nat_le, nat_eq};
+ghost use Rattle.nf_files.specs.Told.{IsRead};
 ghost use Rattle.nf_files.specs.Causes.{HasCause};
 ghost use Rattle.nf_files.specs.Reads.{Keeps};
 ghost use Rattle.pcap_file.specs.Form.{number_in};
@@ -53,7 +54,7 @@ pub(crate) enum Taken {
 
 // Takes until so many bytes are held, if they are not yet.
 fn at_least<F: Files>(files: &mut F, front: &mut Front, wanted: usize) -> Result<bool, FilesFault>
-    requires opened { F.is_read files.old front.old.file }
+    requires opened { IsRead (F.told files.old) front.old.file }
     requires room { wanted ≤ 266240 }
     ensures grows { Grows front.old front.new (F.told files.old) (F.told files.new) }
     ensures filled { let left = (F.told files.new).rest front.old.file in
@@ -61,8 +62,6 @@ fn at_least<F: Files>(files: &mut F, front: &mut Front, wanted: usize) -> Result
     ensures same { wanted ≤ length front.old.bytes → front.new ≡ front.old }
     ensures most { length front.new.bytes ≤ max wanted (length front.old.bytes) }
     ensures cause { HasCause (F.counted files.old) (F.counted files.new) front.old.file result }
-    ensures reads { (g : ℕ) → F.is_read files.old g → F.is_read files.new g }
-    ensures writes { (g : ℕ) → F.is_written files.old g → F.is_written files.new g }
 {
     if front.as_slice().len() >= wanted {
         Ok(true)
@@ -78,7 +77,7 @@ fn order_ahead<F: Files>(
     front: &mut Front,
     order: Endian,
 ) -> Result<Option<Endian>, FilesFault>
-    requires opened { F.is_read files.old front.old.file }
+    requires opened { IsRead (F.told files.old) front.old.file }
     requires ready { IsReady front.old.bytes }
     ensures grows { Grows front.old front.new (F.told files.old) (F.told files.new) }
     ensures found { IfOk result (λ found. IfSome found (IsOrdered order front.new.bytes)) }
@@ -86,8 +85,6 @@ fn order_ahead<F: Files>(
         to_come front.old.bytes ((F.told files.old).rest front.old.file) ≡ Some bytes →
         IfOk result (λ found. IfNone found (IsRefused order offset bytes front.new.bytes)) }
     ensures cause { HasCause (F.counted files.old) (F.counted files.new) front.old.file result }
-    ensures reads { (g : ℕ) → F.is_read files.old g → F.is_read files.new g }
-    ensures writes { (g : ℕ) → F.is_written files.old g → F.is_written files.new g }
 {
     if !at_least(files, front, START)? {
         return Ok(None);
@@ -119,7 +116,7 @@ fn total_of(order: Endian, offset: u64, held: &[u8]) -> Option<u32>
 
 // Takes a block up to its closing length, and holds its front; false where there is less of it.
 fn body<F: Files>(files: &mut F, front: &mut Front, total: u32) -> Result<bool, FilesFault>
-    requires opened { F.is_read files.old front.old.file }
+    requires opened { IsRead (F.told files.old) front.old.file }
     requires least { 12 ≤ total }
     requires held { length front.old.bytes ≤ held_of total }
     ensures body { (bytes : List ℕ) →
@@ -131,8 +128,6 @@ fn body<F: Files>(files: &mut F, front: &mut Front, total: u32) -> Result<bool, 
     ensures same_file { front.new.file ≡ front.old.file }
     ensures kept { Keeps (F.told files.old) (F.told files.new) front.old.file }
     ensures cause { HasCause (F.counted files.old) (F.counted files.new) front.old.file result }
-    ensures reads { (g : ℕ) → F.is_read files.old g → F.is_read files.new g }
-    ensures writes { (g : ℕ) → F.is_written files.old g → F.is_written files.new g }
 {
     let held = (total - CLOSING).min(MOST_HELD);
     if !front.fill(files, held as usize)? {
@@ -176,7 +171,7 @@ fn closing<F: Files>(
     order: Endian,
     total: u32,
 ) -> Result<bool, FilesFault>
-    requires opened { F.is_read files.old front.old.file }
+    requires opened { IsRead (F.told files.old) front.old.file }
     requires held { length front.old.bytes ≤ 262172 }
     ensures closing { (bytes : List ℕ) → (F.told files.old).rest front.old.file ≡ Some bytes →
         let left = (F.told files.new).rest front.old.file in
@@ -185,8 +180,6 @@ fn closing<F: Files>(
     ensures same_file { front.new.file ≡ front.old.file }
     ensures kept { Keeps (F.told files.old) (F.told files.new) front.old.file }
     ensures cause { HasCause (F.counted files.old) (F.counted files.new) front.old.file result }
-    ensures reads { (g : ℕ) → F.is_read files.old g → F.is_read files.new g }
-    ensures writes { (g : ℕ) → F.is_written files.old g → F.is_written files.new g }
 {
     let held = front.as_slice().len();
     front.fill(files, held + CLOSING as usize)?;
@@ -203,7 +196,7 @@ fn close<F: Files>(
     order: Endian,
     total: u32,
 ) -> Result<bool, FilesFault>
-    requires opened { F.is_read files.old front.old.file }
+    requires opened { IsRead (F.told files.old) front.old.file }
     requires least { 12 ≤ total }
     requires held { length front.old.bytes ≤ held_of total }
     ensures closed { (bytes : List ℕ) →
@@ -215,8 +208,6 @@ fn close<F: Files>(
     ensures same_file { front.new.file ≡ front.old.file }
     ensures kept { Keeps (F.told files.old) (F.told files.new) front.old.file }
     ensures cause { HasCause (F.counted files.old) (F.counted files.new) front.old.file result }
-    ensures reads { (g : ℕ) → F.is_read files.old g → F.is_read files.new g }
-    ensures writes { (g : ℕ) → F.is_written files.old g → F.is_written files.new g }
 {
     if !body(files, front, total)? {
         return Ok(false);
@@ -231,7 +222,7 @@ fn reach<F: Files>(
     order: Endian,
     offset: u64,
 ) -> Result<Option<Block>, FilesFault>
-    requires opened { F.is_read files.old front.old.file }
+    requires opened { IsRead (F.told files.old) front.old.file }
     requires ready { IsReady front.old.bytes }
     ensures reached { (bytes : List ℕ) →
         to_come front.old.bytes ((F.told files.old).rest front.old.file) ≡ Some bytes →
@@ -242,8 +233,6 @@ fn reach<F: Files>(
     ensures same_file { front.new.file ≡ front.old.file }
     ensures kept { Keeps (F.told files.old) (F.told files.new) front.old.file }
     ensures cause { HasCause (F.counted files.old) (F.counted files.new) front.old.file result }
-    ensures reads { (g : ℕ) → F.is_read files.old g → F.is_read files.new g }
-    ensures writes { (g : ℕ) → F.is_written files.old g → F.is_written files.new g }
 {
     let found = match order_ahead(files, front, order)? {
         None => return Ok(None),
@@ -273,7 +262,7 @@ pub(crate) fn take<F: Files>(
     order: Endian,
     offset: u64,
 ) -> Result<Taken, FilesFault>
-    requires opened { F.is_read files.old front.old.file }
+    requires opened { IsRead (F.told files.old) front.old.file }
     requires ready { IsReady front.old.bytes }
     ensures taken { (bytes : List ℕ) →
         to_come front.old.bytes ((F.told files.old).rest front.old.file) ≡ Some bytes →
@@ -284,8 +273,6 @@ pub(crate) fn take<F: Files>(
     ensures same_file { front.new.file ≡ front.old.file }
     ensures kept { Keeps (F.told files.old) (F.told files.new) front.old.file }
     ensures cause { HasCause (F.counted files.old) (F.counted files.new) front.old.file result }
-    ensures reads { (g : ℕ) → F.is_read files.old g → F.is_read files.new g }
-    ensures writes { (g : ℕ) → F.is_written files.old g → F.is_written files.new g }
 {
     match reach(files, front, order, offset) {
         Err(fault) => {

@@ -2,7 +2,7 @@
 ghost use Rattle.std.specs.Prelude.{◌≡◌, ℕ, List, Some, Ok, IfOk, IfErr, IfSome, IfNone};
 ghost use Rattle.pcap_file.specs.declared.reader.State.TheVariants.{Going};
 ghost use Rattle.nf_files.specs.Reads.{Keeps};
-ghost use Rattle.nf_files.specs.Told.{Told};
+ghost use Rattle.nf_files.specs.Told.{Told, IsRead};
 ghost use Rattle.pcap_file.specs.Held.{IsBegun};
 ghost use Rattle.pcap_file.specs.Causes.{IsCause, IsNoHeaderFault};
 ghost use Rattle.pcap_file.specs.Taken.{TakesHeader};
@@ -67,7 +67,7 @@ impl NgReader {
     ///
     /// The file is one that was opened to be read, and nothing of it was read yet.
     pub fn header<F: Files>(alloc: Global, files: &mut F, file: u32) -> Result<NgReader, CapFault>
-        requires opened { F.is_read files.old file }
+        requires opened { IsRead (F.told files.old) file }
         // What is left is the capture that the bytes of the file are, or their header is short or
         // wrong.
         ensures heads { Heads ((F.told files.old).rest file) (F.told files.new) result }
@@ -77,8 +77,6 @@ impl NgReader {
         ensures ok { IfOk result (IsOpened file) }
         ensures kept { Keeps (F.told files.old) (F.told files.new) file }
         ensures cause { IsCause (F.counted files.old) (F.counted files.new) file result }
-        ensures reads { (g : ℕ) → F.is_read files.old g → F.is_read files.new g }
-        ensures writes { (g : ℕ) → F.is_written files.old g → F.is_written files.new g }
     {
         match Front::begin(alloc, files, file) {
             Err(fault) => Err(fault),
@@ -117,7 +115,7 @@ impl NgReader {
         files: &mut F,
         frame: &mut Vec<u8>,
     ) -> Result<Option<Next>, CapFault>
-        requires opened { F.is_read files.old self.old.file }
+        requires opened { IsRead (F.told files.old) self.old.file }
         requires going { self.old.state ≡ Going }
         ensures stepped { (before : Stream) → left self.old (F.told files.old) ≡ Some before →
             IfOk result (Stepped before (left self.new (F.told files.new)) frame.new.items) }
@@ -127,8 +125,6 @@ impl NgReader {
         ensures kept { Keeps (F.told files.old) (F.told files.new) self.old.file }
         ensures cause { IsCause (F.counted files.old) (F.counted files.new) self.old.file result }
         ensures never { IsNoHeaderFault result }
-        ensures reads { (g : ℕ) → F.is_read files.old g → F.is_read files.new g }
-        ensures writes { (g : ℕ) → F.is_written files.old g → F.is_written files.new g }
     {
         match take(
             files,
@@ -173,7 +169,7 @@ impl NgReader {
         files: &mut F,
         frame: &mut Vec<u8>,
     ) -> Option<Result<Option<Next>, CapFault>>
-        requires opened { F.is_read files.old self.old.file }
+        requires opened { IsRead (F.told files.old) self.old.file }
         requires going { self.old.state ≡ Going }
         ensures stepped { (before : Stream) → left self.old (F.told files.old) ≡ Some before →
             IfSome result (λ answer. IfOk answer
@@ -186,8 +182,6 @@ impl NgReader {
         ensures kept { Keeps (F.told files.old) (F.told files.new) self.old.file }
         ensures count { F.counted files.new ≡ F.counted files.old }
         ensures err { IfSome result (λ answer. IfErr answer (λ fault. fault ≡ CapFault.Memory)) }
-        ensures reads { (g : ℕ) → F.is_read files.old g → F.is_read files.new g }
-        ensures writes { (g : ℕ) → F.is_written files.old g → F.is_written files.new g }
     {
         if !self.front.is_empty() {
             return None;
@@ -220,7 +214,7 @@ impl NgReader {
         files: &mut F,
         frame: &mut Vec<u8>,
     ) -> Result<Option<Next>, CapFault>
-        requires opened { F.is_read files.old self.old.file }
+        requires opened { IsRead (F.told files.old) self.old.file }
         requires going { self.old.state ≡ Going }
         ensures stepped { (before : Stream) → left self.old (F.told files.old) ≡ Some before →
             IfOk result (Stepped before (left self.new (F.told files.new)) frame.new.items) }
@@ -230,8 +224,6 @@ impl NgReader {
         ensures kept { Keeps (F.told files.old) (F.told files.new) self.old.file }
         ensures cause { IsCause (F.counted files.old) (F.counted files.new) self.old.file result }
         ensures never { IsNoHeaderFault result }
-        ensures reads { (g : ℕ) → F.is_read files.old g → F.is_read files.new g }
-        ensures writes { (g : ℕ) → F.is_written files.old g → F.is_written files.new g }
     {
         match self.take_ready(files, frame) {
             Some(answer) => answer,
@@ -241,7 +233,7 @@ impl NgReader {
 
     // The next packet, where the end was not found yet.
     fn advance<F: Files>(&mut self, files: &mut F, frame: &mut Vec<u8>) -> Result<Next, CapFault>
-        requires opened { F.is_read files.old self.old.file }
+        requires opened { IsRead (F.told files.old) self.old.file }
         requires going { self.old.state ≡ Going }
         ensures steps { let before = left self.old (F.told files.old) in
             Steps before (left self.new (F.told files.new)) frame.new.items result }
@@ -250,8 +242,6 @@ impl NgReader {
         ensures kept { Keeps (F.told files.old) (F.told files.new) self.old.file }
         ensures cause { IsCause (F.counted files.old) (F.counted files.new) self.old.file result }
         ensures never { IsNoHeaderFault result }
-        ensures reads { (g : ℕ) → F.is_read files.old g → F.is_read files.new g }
-        ensures writes { (g : ℕ) → F.is_written files.old g → F.is_written files.new g }
     {
         loop {
             if let Some(next) = self.step(files, frame)? {
@@ -265,7 +255,7 @@ impl NgReader {
     /// After `End` or `Torn` the answer stays the same. After an `Err` this reader may have moved,
     /// and no call is to be made on it.
     pub fn next<F: Files>(&mut self, files: &mut F, frame: &mut Vec<u8>) -> Result<Next, CapFault>
-        requires opened { F.is_read files.old self.old.file }
+        requires opened { IsRead (F.told files.old) self.old.file }
         // Where the rest of the file is told: the next packet of what is left is taken off it, or
         // there is none, and the capture ends or is torn as the answer says.
         ensures steps { let before = left self.old (F.told files.old) in
@@ -278,8 +268,6 @@ impl NgReader {
         ensures kept { Keeps (F.told files.old) (F.told files.new) self.old.file }
         ensures cause { IsCause (F.counted files.old) (F.counted files.new) self.old.file result }
         ensures never { IsNoHeaderFault result }
-        ensures reads { (g : ℕ) → F.is_read files.old g → F.is_read files.new g }
-        ensures writes { (g : ℕ) → F.is_written files.old g → F.is_written files.new g }
     {
         match self.state {
             State::Ended => Ok(Next::End),

@@ -2,6 +2,7 @@
 //!
 //! Each function goes on from where a replay came, whatever was there before it began.
 ghost use Rattle.std.specs.Prelude.{◌≡◌, ◌+◌, ◌≤◌, ◌++◌, [], ◌∷◌, length, map, IfSome, string_bytes};
+ghost use Rattle.nf_files.specs.Told.{IsRead};
 ghost use Rattle.nf_base.specs.Functions.{function_of};
 ghost use Rattle.packet_feed.specs.Told.{EachFile, IsApart};
 ghost use Rattle.replay_run.specs.Queues.{lent};
@@ -97,9 +98,9 @@ fn replay_keyed<F: Files>(
         IsFresh f job.now.command.now.most captures.now feed.old }
     requires all { length captures.now ≡ job.now.layout.ports }
     requires as_many { length outputs.now ≡ job.now.layout.ports }
-    requires read { EachFile (F.is_read files.old) captures.now }
-    requires opened { EachFile (F.is_read files.old) outputs.now }
-    requires opened_journal { F.is_read files.old begun.lines.file }
+    requires read { EachFile (IsRead (F.told files.old)) captures.now }
+    requires opened { EachFile (IsRead (F.told files.old)) outputs.now }
+    requires opened_journal { IsRead (F.told files.old) begun.lines.file }
     requires apart { IsApart (captures.now ++ begun.lines.file ∷ outputs.now) }
     ensures replays { let now = seen (F.told files.old) (F.counted files.old) in
         (before : Outside) → IsJob before job.now →
@@ -131,9 +132,9 @@ fn replay_begun<F: Files>(
         IsFresh f job.now.command.now.most captures.now feed.old }
     requires all { length captures.now ≡ job.now.layout.ports }
     requires as_many { length outputs.now ≡ job.now.layout.ports }
-    requires read { EachFile (F.is_read files.old) captures.now }
-    requires opened { EachFile (F.is_read files.old) outputs.now }
-    requires opened_journal { F.is_read files.old begun.lines.file }
+    requires read { EachFile (IsRead (F.told files.old)) captures.now }
+    requires opened { EachFile (IsRead (F.told files.old)) outputs.now }
+    requires opened_journal { IsRead (F.told files.old) begun.lines.file }
     requires apart { IsApart (captures.now ++ begun.lines.file ∷ outputs.now) }
     ensures replays { let now = seen (F.told files.old) (F.counted files.old) in
         (before : Outside) → IsJob before job.now →
@@ -173,9 +174,9 @@ fn replay_ready<F: Files>(
         IsFresh f job.now.command.now.most captures.now feed.old }
     requires all { length captures.now ≡ job.now.layout.ports }
     requires as_many { length outputs.now ≡ job.now.layout.ports }
-    requires read { EachFile (F.is_read files.old) captures.now }
-    requires opened { EachFile (F.is_read files.old) outputs.now }
-    requires opened_journal { F.is_read files.old journal }
+    requires read { EachFile (IsRead (F.told files.old)) captures.now }
+    requires opened { EachFile (IsRead (F.told files.old)) outputs.now }
+    requires opened_journal { IsRead (F.told files.old) journal }
     requires apart { IsApart (captures.now ++ journal ∷ outputs.now) }
     ensures replays { let now = seen (F.told files.old) (F.counted files.old) in
         (before : Outside) → IsJob before job.now →
@@ -204,7 +205,7 @@ fn replay_named<F: Files>(
         IsFresh f job.now.command.now.most captures.now feed.old }
     requires all { length captures.now ≡ job.now.layout.ports }
     requires some { length names.now ≡ job.now.layout.ports + 1 }
-    requires read { EachFile (F.is_read files.old) captures.now }
+    requires read { EachFile (IsRead (F.told files.old)) captures.now }
     requires last { (F.told files.old).next ≡ last + 1 }
     requires from { AreFrom (job.now.layout.first + 1) captures.now job.now.layout.ports }
     requires next { (F.told files.old).next ≡ job.now.layout.first + 1 + job.now.layout.ports }
@@ -237,7 +238,7 @@ fn replay_fed<F: Files>(
     requires fresh { let f = function_of job.now.func.now in
         IsFresh f job.now.command.now.most captures.now feed.old }
     requires all { length captures.now ≡ job.now.layout.ports }
-    requires read { EachFile (F.is_read files.old) captures.now }
+    requires read { EachFile (IsRead (F.told files.old)) captures.now }
     requires from { AreFrom (job.now.layout.first + 1) captures.now job.now.layout.ports }
     requires next { (F.told files.old).next ≡ job.now.layout.first + 1 + job.now.layout.ports }
     ensures replays { let now = seen (F.told files.old) (F.counted files.old) in

@@ -30,6 +30,7 @@ others_both files a b c h k = record {
   rests = λ g others. k.rests g others ∙ h.rests g others;
   givens = λ g. k.givens g ∙ h.givens g;
   names = λ g. k.names g ∙ h.names g;
+  kinds = λ g. k.kinds g ∙ h.kinds g;
   contents = λ n. k.contents n ∙ h.contents n;
   latest_same = λ n. k.latest_same n ∙ h.latest_same n;
   next_same = k.next_same ∙ h.next_same;
@@ -37,7 +38,7 @@ others_both files a b c h k = record {
 
 -- among more files
 pub others_wider : (xs all : List ℕ) (a b : Told) → ((g : ℕ) → All (λ f. f ≢ g) all → All (λ f. f ≢ g) xs) → KeepsOthers xs a b → KeepsOthers all a b
-others_wider xs all a b wide h = record { rests = λ g others. h.rests g (wide g others); givens = h.givens; names = h.names; contents = h.contents; latest_same = h.latest_same; next_same = h.next_same }
+others_wider xs all a b wide h = record { rests = λ g others. h.rests g (wide g others); givens = h.givens; names = h.names; kinds = h.kinds; contents = h.contents; latest_same = h.latest_same; next_same = h.next_same }
 
 pub others_left : (xs ys : List ℕ) (a b : Told) → KeepsOthers xs a b → KeepsOthers (xs ++ ys) a b
 others_left xs ys a b h = others_wider xs (xs ++ ys) a b (λ g. all_left (λ f. f ≢ g) xs ys) h
@@ -61,6 +62,7 @@ others_one xs file ys a b h = record {
   rests = λ g others. h.rests g (λ same. All-head (λ f. f ≢ g) file ys (all_right (λ f. f ≢ g) xs (file ∷ ys) others) (sym same));
   givens = h.givens;
   names = h.names;
+  kinds = h.kinds;
   contents = h.contents;
   latest_same = h.latest_same;
   next_same = h.next_same;

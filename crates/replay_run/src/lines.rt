@@ -3,7 +3,7 @@ ghost use Rattle.std.specs.Prelude.{◌≡◌, ◌^◌, ◌≢◌, ◌≤◌, �
 ghost use Rattle.std.specs.List.{All};
 ghost use Rattle.nf_base.specs.Functions.{function_of};
 ghost use Rattle.nf_base.specs.Doors.{six_ports};
-ghost use Rattle.nf_files.specs.Told.{Told};
+ghost use Rattle.nf_files.specs.Told.{Told, IsRead};
 ghost use Rattle.nf_files.specs.Reads.{Keeps};
 ghost use Rattle.packet_feed.specs.Told.{EachFile, IsApart, KeepsOthers};
 ghost use Rattle.packet_feed.specs.Sources.{files_in, sixes_in};
@@ -50,7 +50,7 @@ fn next_line<F: Files>(
     files: &mut F,
     journal: &mut Journal,
 ) -> Result<Next, RunFault>
-    requires opened { F.is_read files.old journal.old.file }
+    requires opened { IsRead (F.told files.old) journal.old.file }
     ensures gives { let file = journal.old.file in
         (start : Option (List ℕ)) → (lines : List JournalLine) →
         Stands start lines journal.old ((F.told files.old).rest file) →
@@ -59,8 +59,6 @@ fn next_line<F: Files>(
     ensures kept { Keeps (F.told files.old) (F.told files.new) journal.old.file }
     ensures cause { IsStopCause (F.counted files.old) (F.counted files.new) result }
     ensures at { StopsAt journal.old.file result }
-    ensures reads { (g : ℕ) → F.is_read files.old g → F.is_read files.new g }
-    ensures writes { (g : ℕ) → F.is_written files.old g → F.is_written files.new g }
 {
     match journal.next(alloc, files) {
         Ok(next) => Ok(next),
@@ -70,7 +68,7 @@ fn next_line<F: Files>(
 
 // Whether there is more behind the lines that were asked for.
 fn end_of<F: Files>(alloc: Global, files: &mut F, journal: &mut Journal) -> Result<End, RunFault>
-    requires opened { F.is_read files.old journal.old.file }
+    requires opened { IsRead (F.told files.old) journal.old.file }
     ensures ends { let file = journal.old.file in
         (start : Option (List ℕ)) → (lines : List JournalLine) →
         Stands start lines journal.old ((F.told files.old).rest file) →
@@ -80,8 +78,6 @@ fn end_of<F: Files>(alloc: Global, files: &mut F, journal: &mut Journal) -> Resu
     ensures kept { Keeps (F.told files.old) (F.told files.new) journal.old.file }
     ensures cause { IsStopCause (F.counted files.old) (F.counted files.new) result }
     ensures at { StopsAt journal.old.file result }
-    ensures reads { (g : ℕ) → F.is_read files.old g → F.is_read files.new g }
-    ensures writes { (g : ℕ) → F.is_written files.old g → F.is_written files.new g }
 {
     match journal.is_over(alloc, files) {
         Ok(true) => Ok(End::Over),
@@ -122,9 +118,9 @@ pub(crate) fn read_lines<F: Files>(
     requires six { sixes_in feed.old.sources ≡ six_ports (function_of func.now) }
     requires new { feed.old.given ≡ 0 }
     requires most { feed.old.most ≡ most }
-    requires read { EachFile (F.is_read files.old) captures.now }
-    requires opened { EachFile (F.is_read files.old) (files_of outputs.old) }
-    requires opened_journal { F.is_read files.old journal.old.file }
+    requires read { EachFile (IsRead (F.told files.old)) captures.now }
+    requires opened { EachFile (IsRead (F.told files.old)) (files_of outputs.old) }
+    requires opened_journal { IsRead (F.told files.old) journal.old.file }
     requires apart { IsApart (files_of outputs.old) }
     requires clear { AreClear captures.now (files_of outputs.old) }
     requires no_capture { All (λ f. f ≢ journal.old.file) captures.now }
@@ -145,8 +141,6 @@ pub(crate) fn read_lines<F: Files>(
     ensures cause { IsStopCause (F.counted files.old) (F.counted files.new) result }
     ensures among { let others = journal.old.file ∷ files_of outputs.old in
         StopsAmong captures.now others result }
-    ensures reads { (g : ℕ) → F.is_read files.old g → F.is_read files.new g }
-    ensures writes { (g : ℕ) → F.is_written files.old g → F.is_written files.new g }
 {
     let mut buffer = match compare_headers(alloc, files, format, outputs) {
         Ok(buffer) => buffer,

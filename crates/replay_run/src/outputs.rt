@@ -1,5 +1,6 @@
 //! Outputs that are compared side by side, by port.
 ghost use Rattle.std.specs.Prelude.{◌≡◌, ◌^◌, ◌≤◌, ◌∷◌, ◌++◌, [], ℕ, List, Option, Some, true, length, slice_get, IfOk, OnOk};
+ghost use Rattle.nf_files.specs.Told.{IsRead};
 ghost use Rattle.nf_base.specs.declared.card.Card.{Card};
 ghost use Rattle.nf_files.specs.Reads.{Keeps};
 ghost use Rattle.pcap_file.specs.Record.{greatest_time};
@@ -40,7 +41,7 @@ fn compare_next<F: Files>(
     compared: &mut Compared,
     bytes: &[u8],
 ) -> Result<(), RunFault>
-    requires opened { F.is_read files.old compared.old.file }
+    requires opened { IsRead (F.told files.old) compared.old.file }
     ensures compares { let file = compared.old.file in
         (start : Option (List ℕ)) → (before : List ℕ) →
         Found compared.old before start ((F.told files.old).rest file) → OnOk result
@@ -49,8 +50,6 @@ fn compare_next<F: Files>(
     ensures kept { Keeps (F.told files.old) (F.told files.new) compared.old.file }
     ensures cause { IsStopCause (F.counted files.old) (F.counted files.new) result }
     ensures at { StopsAt compared.old.file result }
-    ensures reads { (g : ℕ) → F.is_read files.old g → F.is_read files.new g }
-    ensures writes { (g : ℕ) → F.is_written files.old g → F.is_written files.new g }
 {
     match compared.compare(files, bytes) {
         Ok(()) => Ok(()),
@@ -70,7 +69,7 @@ fn compare_sent<F: Files>(
     frame: &[u8],
     done: &Done,
 ) -> Result<(), RunFault>
-    requires opened { F.is_read files.old compared.old.file }
+    requires opened { IsRead (F.told files.old) compared.old.file }
     requires time { packet.now.time ≤ greatest_time }
     requires captured { length frame.now ≤ 262144 }
     ensures compares { let file = compared.old.file in
@@ -82,8 +81,6 @@ fn compare_sent<F: Files>(
     ensures kept { Keeps (F.told files.old) (F.told files.new) compared.old.file }
     ensures cause { IsStopCause (F.counted files.old) (F.counted files.new) result }
     ensures at { StopsAt compared.old.file result }
-    ensures reads { (g : ℕ) → F.is_read files.old g → F.is_read files.new g }
-    ensures writes { (g : ℕ) → F.is_written files.old g → F.is_written files.new g }
 {
     buffer.clear();
     let handled = HandledPacket {
@@ -105,7 +102,7 @@ fn compare_heads<F: Files>(
     all: &mut Seq<Compared>,
     head: &[u8],
 ) -> Result<(), RunFault>
-    requires opened { EachFile (F.is_read files.old) (files_of all.old) }
+    requires opened { EachFile (IsRead (F.told files.old)) (files_of all.old) }
     requires apart { IsApart (files_of all.old) }
     ensures compares { (start : ℕ → Option (List ℕ)) →
         AreFound (λ k. []) start all.old (F.told files.old) →
@@ -114,8 +111,6 @@ fn compare_heads<F: Files>(
     ensures kept { KeepsOthers (files_of all.old) (F.told files.old) (F.told files.new) }
     ensures cause { IsStopCause (F.counted files.old) (F.counted files.new) result }
     ensures among { StopsAmong [] (files_of all.old) result }
-    ensures reads { (g : ℕ) → F.is_read files.old g → F.is_read files.new g }
-    ensures writes { (g : ℕ) → F.is_written files.old g → F.is_written files.new g }
 {
     for k in 0..all.len() {
         match compare_next(files, all.item_mut(k), head) {
@@ -134,7 +129,7 @@ pub(crate) fn compare_headers<F: Files>(
     format: CaptureFormat,
     all: &mut Seq<Compared>,
 ) -> Result<Vec<u8>, RunFault>
-    requires opened { EachFile (F.is_read files.old) (files_of all.old) }
+    requires opened { EachFile (IsRead (F.told files.old)) (files_of all.old) }
     requires apart { IsApart (files_of all.old) }
     requires fresh { (k : ℕ) → (c : Comparing) → slice_get all.old k ≡ Some c → c.same ≡ true }
     ensures compares { (mode : Mode) → (workers : ℕ) → (card : Card) → OnOk result
@@ -144,8 +139,6 @@ pub(crate) fn compare_headers<F: Files>(
     ensures kept { KeepsOthers (files_of all.old) (F.told files.old) (F.told files.new) }
     ensures cause { IsStopCause (F.counted files.old) (F.counted files.new) result }
     ensures among { StopsAmong [] (files_of all.old) result }
-    ensures reads { (g : ℕ) → F.is_read files.old g → F.is_read files.new g }
-    ensures writes { (g : ℕ) → F.is_written files.old g → F.is_written files.new g }
 {
     let mut buffer = Vec::new(alloc);
     match push_head(&mut buffer, format) {
@@ -169,7 +162,7 @@ pub(crate) fn compare_all<F: Files>(
     frame: &[u8],
     done: &Done,
 ) -> Result<(), RunFault>
-    requires opened { EachFile (F.is_read files.old) (files_of all.old) }
+    requires opened { EachFile (IsRead (F.told files.old)) (files_of all.old) }
     requires apart { IsApart (files_of all.old) }
     requires few { length all.old ≤ 2 ^ 32 }
     requires time { packet.now.time ≤ greatest_time }
@@ -185,8 +178,6 @@ pub(crate) fn compare_all<F: Files>(
     ensures kept { KeepsOthers (files_of all.old) (F.told files.old) (F.told files.new) }
     ensures cause { IsStopCause (F.counted files.old) (F.counted files.new) result }
     ensures among { StopsAmong [] (files_of all.old) result }
-    ensures reads { (g : ℕ) → F.is_read files.old g → F.is_read files.new g }
-    ensures writes { (g : ℕ) → F.is_written files.old g → F.is_written files.new g }
 {
     for k in 0..all.len() {
         let one = all.item_mut(k);
@@ -202,7 +193,7 @@ pub(crate) fn compare_all<F: Files>(
 
 // Whether one output held what it was compared with, and no more.
 fn is_whole<F: Files>(files: &mut F, compared: &mut Compared) -> Result<bool, RunFault>
-    requires opened { F.is_read files.old compared.old.file }
+    requires opened { IsRead (F.told files.old) compared.old.file }
     ensures whole { let file = compared.old.file in
         (start : Option (List ℕ)) → (bytes : List ℕ) →
         Found compared.old bytes start ((F.told files.old).rest file) → IsWhole bytes start result }
@@ -210,8 +201,6 @@ fn is_whole<F: Files>(files: &mut F, compared: &mut Compared) -> Result<bool, Ru
     ensures kept { Keeps (F.told files.old) (F.told files.new) compared.old.file }
     ensures cause { IsStopCause (F.counted files.old) (F.counted files.new) result }
     ensures at { StopsAt compared.old.file result }
-    ensures reads { (g : ℕ) → F.is_read files.old g → F.is_read files.new g }
-    ensures writes { (g : ℕ) → F.is_written files.old g → F.is_written files.new g }
 {
     match compared.is_whole(files) {
         Ok(same) => Ok(same),
@@ -224,7 +213,7 @@ pub(crate) fn first_other<F: Files>(
     files: &mut F,
     all: &mut Seq<Compared>,
 ) -> Result<Option<u32>, RunFault>
-    requires opened { EachFile (F.is_read files.old) (files_of all.old) }
+    requires opened { EachFile (IsRead (F.told files.old)) (files_of all.old) }
     requires apart { IsApart (files_of all.old) }
     requires few { length all.old ≤ 2 ^ 32 }
     ensures other { (start : ℕ → Option (List ℕ)) → (bytes : ℕ → List ℕ) →
@@ -233,8 +222,6 @@ pub(crate) fn first_other<F: Files>(
     ensures kept { KeepsOthers (files_of all.old) (F.told files.old) (F.told files.new) }
     ensures cause { IsStopCause (F.counted files.old) (F.counted files.new) result }
     ensures among { StopsAmong [] (files_of all.old) result }
-    ensures reads { (g : ℕ) → F.is_read files.old g → F.is_read files.new g }
-    ensures writes { (g : ℕ) → F.is_written files.old g → F.is_written files.new g }
 {
     for k in 0..all.len() {
         match is_whole(files, all.item_mut(k)) {

@@ -1,5 +1,6 @@
 //! The packets that the lines of a journal are of.
 ghost use Rattle.std.specs.Prelude.{◌≡◌, ◌^◌, ◌<◌, ℕ, [], length};
+ghost use Rattle.nf_files.specs.Told.{IsRead};
 ghost use Rattle.packet_feed.specs.Told.{EachFile, KeepsOthers};
 ghost use Rattle.packet_feed.specs.Sources.{files_in, sixes_in};
 ghost use Rattle.run_history.specs.declared.line.Mode.TheVariants.{One, Lock};
@@ -22,7 +23,7 @@ fn next_of_all<F: Files>(
 ) -> Result<Option<Packet>, RunFault>
     requires captures { files_in feed.old.sources ≡ captures.now }
     requires room { feed.old.given < feed.old.most }
-    requires read { EachFile (F.is_read files.old) captures.now }
+    requires read { EachFile (IsRead (F.told files.old)) captures.now }
     ensures fetches { Fetches One line.now feed.old feed.new (F.told files.old) (F.told files.new) result }
     ensures counts { CountsOne feed.old feed.new result }
     ensures same_captures { files_in feed.new.sources ≡ files_in feed.old.sources }
@@ -31,8 +32,6 @@ fn next_of_all<F: Files>(
     ensures kept { KeepsOthers captures.now (F.told files.old) (F.told files.new) }
     ensures cause { IsStopCause (F.counted files.old) (F.counted files.new) result }
     ensures among { StopsAmong captures.now [] result }
-    ensures reads { (g : ℕ) → F.is_read files.old g → F.is_read files.new g }
-    ensures writes { (g : ℕ) → F.is_written files.old g → F.is_written files.new g }
 {
     match feed.next(files) {
         Ok(Fed::Packet(packet)) => Ok(Some(packet)),
@@ -51,7 +50,7 @@ fn next_of_port<F: Files>(
 ) -> Result<Option<Packet>, RunFault>
     requires captures { files_in feed.old.sources ≡ captures.now }
     requires room { feed.old.given < feed.old.most }
-    requires read { EachFile (F.is_read files.old) captures.now }
+    requires read { EachFile (IsRead (F.told files.old)) captures.now }
     ensures fetches { Fetches Lock line.now feed.old feed.new (F.told files.old) (F.told files.new) result }
     ensures counts { CountsOne feed.old feed.new result }
     ensures same_captures { files_in feed.new.sources ≡ files_in feed.old.sources }
@@ -60,8 +59,6 @@ fn next_of_port<F: Files>(
     ensures kept { KeepsOthers captures.now (F.told files.old) (F.told files.new) }
     ensures cause { IsStopCause (F.counted files.old) (F.counted files.new) result }
     ensures among { StopsAmong captures.now [] result }
-    ensures reads { (g : ℕ) → F.is_read files.old g → F.is_read files.new g }
-    ensures writes { (g : ℕ) → F.is_written files.old g → F.is_written files.new g }
 {
     match port_of(line) {
         None => Ok(None),
@@ -88,7 +85,7 @@ pub(crate) fn packet_for<F: Files>(
 ) -> Result<Option<Packet>, RunFault>
     requires captures { files_in feed.old.sources ≡ captures.now }
     requires room { feed.old.given < feed.old.most }
-    requires read { EachFile (F.is_read files.old) captures.now }
+    requires read { EachFile (IsRead (F.told files.old)) captures.now }
     ensures fetches { Fetches mode line.now feed.old feed.new (F.told files.old) (F.told files.new) result }
     ensures counts { CountsOne feed.old feed.new result }
     ensures same_captures { files_in feed.new.sources ≡ files_in feed.old.sources }
@@ -97,8 +94,6 @@ pub(crate) fn packet_for<F: Files>(
     ensures kept { KeepsOthers captures.now (F.told files.old) (F.told files.new) }
     ensures cause { IsStopCause (F.counted files.old) (F.counted files.new) result }
     ensures among { StopsAmong captures.now [] result }
-    ensures reads { (g : ℕ) → F.is_read files.old g → F.is_read files.new g }
-    ensures writes { (g : ℕ) → F.is_written files.old g → F.is_written files.new g }
 {
     match mode {
         Mode::One => next_of_all(files, feed, captures, line),

@@ -2,7 +2,7 @@
 ghost use Rattle.std.specs.Prelude.{◌≡◌, ◌↔◌, ◌^◌, ◌<◌, ◌≤◌, ◌++◌, ◌∷◌, [], ℕ, List, Option, IsTrue, length, IfOk, IfSome};
 ghost use Rattle.nf_base.specs.Functions.{function_of};
 ghost use Rattle.nf_base.specs.Doors.{six_ports};
-ghost use Rattle.nf_files.specs.Told.{Told};
+ghost use Rattle.nf_files.specs.Told.{Told, IsRead};
 ghost use Rattle.nf_files.specs.Reads.{Keeps};
 ghost use Rattle.packet_feed.specs.Told.{EachFile, IsApart, KeepsOthers};
 ghost use Rattle.packet_feed.specs.Sources.{files_in, sixes_in};
@@ -41,7 +41,7 @@ fn finish<F: Files>(
     judge: &Judge,
     compared: &mut Seq<Compared>,
 ) -> Result<ReplayResult, RunFault>
-    requires opened { EachFile (F.is_read files.old) (files_of compared.old) }
+    requires opened { EachFile (IsRead (F.told files.old)) (files_of compared.old) }
     requires apart { IsApart (files_of compared.old) }
     requires few { length compared.old ≤ 2 ^ 32 }
     ensures finishes { (start : ℕ → Option (List ℕ)) → (bytes : ℕ → List ℕ) →
@@ -50,8 +50,6 @@ fn finish<F: Files>(
     ensures kept { KeepsOthers (files_of compared.old) (F.told files.old) (F.told files.new) }
     ensures cause { IsStopCause (F.counted files.old) (F.counted files.new) result }
     ensures among { StopsAmong [] (files_of compared.old) result }
-    ensures reads { (g : ℕ) → F.is_read files.old g → F.is_read files.new g }
-    ensures writes { (g : ℕ) → F.is_written files.old g → F.is_written files.new g }
 {
     match first_other(files, compared) {
         Ok(Some(port)) => Ok(ReplayResult::Output(port)),
@@ -95,9 +93,9 @@ fn replay_with<F: Files>(
     requires six { sixes_in feed.old.sources ≡ six_ports (function_of func.now) }
     requires new { feed.old.given ≡ 0 }
     requires most { feed.old.most ≡ most }
-    requires read { EachFile (F.is_read files.old) captures.now }
-    requires opened { EachFile (F.is_read files.old) outputs.now }
-    requires opened_journal { F.is_read files.old journal.old.file }
+    requires read { EachFile (IsRead (F.told files.old)) captures.now }
+    requires opened { EachFile (IsRead (F.told files.old)) outputs.now }
+    requires opened_journal { IsRead (F.told files.old) journal.old.file }
     requires apart { IsApart (captures.now ++ journal.old.file ∷ outputs.now) }
     requires as_many { length outputs.now ≡ length captures.now }
     requires few { length outputs.now ≤ 2 ^ 32 }
@@ -111,8 +109,6 @@ fn replay_with<F: Files>(
     ensures cause { IsStopCause (F.counted files.old) (F.counted files.new) result }
     ensures among { let others = journal.old.file ∷ outputs.now in
         StopsAmong captures.now others result }
-    ensures reads { (g : ℕ) → F.is_read files.old g → F.is_read files.new g }
-    ensures writes { (g : ℕ) → F.is_written files.old g → F.is_written files.new g }
 {
     let table = table_of(&header);
     let mode = header.mode();
@@ -169,15 +165,13 @@ pub fn first_line<F: Files>(
     files: &mut F,
     journal: u32,
 ) -> Result<Option<OpenedJournal>, RunFault>
-    requires opened { F.is_read files.old journal }
+    requires opened { IsRead (F.told files.old) journal }
     ensures heads { let old = (F.told files.old).rest journal in
         Heads old ((F.told files.new).rest journal) result }
     ensures same_file { IfOk result (λ found. IfSome found (λ begun. begun.lines.file ≡ journal)) }
     ensures kept { Keeps (F.told files.old) (F.told files.new) journal }
     ensures cause { IsStopCause (F.counted files.old) (F.counted files.new) result }
     ensures at { StopsAt journal result }
-    ensures reads { (g : ℕ) → F.is_read files.old g → F.is_read files.new g }
-    ensures writes { (g : ℕ) → F.is_written files.old g → F.is_written files.new g }
 {
     let mut lines = match Journal::new(alloc, journal) {
         Ok(lines) => lines,
@@ -224,9 +218,9 @@ pub fn replay<F: Files>(
     requires six { sixes_in feed.old.sources ≡ six_ports (function_of func.now) }
     requires new { feed.old.given ≡ 0 }
     requires most { feed.old.most ≡ most }
-    requires read { EachFile (F.is_read files.old) captures.now }
-    requires opened { EachFile (F.is_read files.old) outputs.now }
-    requires opened_journal { F.is_read files.old begun.lines.file }
+    requires read { EachFile (IsRead (F.told files.old)) captures.now }
+    requires opened { EachFile (IsRead (F.told files.old)) outputs.now }
+    requires opened_journal { IsRead (F.told files.old) begun.lines.file }
     // No file stands there twice.
     requires apart { IsApart (captures.now ++ begun.lines.file ∷ outputs.now) }
     requires as_many { length outputs.now ≡ length captures.now }
@@ -242,8 +236,6 @@ pub fn replay<F: Files>(
     ensures cause { IsStopCause (F.counted files.old) (F.counted files.new) result }
     // The file that failed is one of the captures, the journal or one of the outputs.
     ensures among { StopsAmong captures.now (begun.lines.file ∷ outputs.now) result }
-    ensures reads { (g : ℕ) → F.is_read files.old g → F.is_read files.new g }
-    ensures writes { (g : ℕ) → F.is_written files.old g → F.is_written files.new g }
 {
     let OpenedJournal { lines, header } = begun;
     if !is_keyed(header.mode(), keys) {

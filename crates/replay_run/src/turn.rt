@@ -1,5 +1,6 @@
 //! One line of a journal, and its packet.
 ghost use Rattle.std.specs.Prelude.{◌≡◌, ◌^◌, ◌<◌, ◌≤◌, ◌+◌, ◌++◌, ℕ, Ok, true, length, IfSome};
+ghost use Rattle.nf_files.specs.Told.{IsRead};
 ghost use Rattle.nf_base.specs.Functions.{function_of};
 ghost use Rattle.nf_base.specs.Doors.{six_ports};
 ghost use Rattle.nf_engine.specs.View.{fixed_of};
@@ -67,8 +68,8 @@ pub(crate) fn one_turn<F: Files>(
     requires ports { length captures.now ≡ length func.now.handlers }
     requires six { sixes_in feed.old.sources ≡ six_ports (function_of func.now) }
     requires room { feed.old.given < feed.old.most }
-    requires read { EachFile (F.is_read files.old) captures.now }
-    requires opened { EachFile (F.is_read files.old) (files_of outputs.old) }
+    requires read { EachFile (IsRead (F.told files.old)) captures.now }
+    requires opened { EachFile (IsRead (F.told files.old)) (files_of outputs.old) }
     requires apart { IsApart (files_of outputs.old) }
     requires clear { AreClear captures.now (files_of outputs.old) }
     requires few { length outputs.old ≤ 2 ^ 32 }
@@ -87,8 +88,6 @@ pub(crate) fn one_turn<F: Files>(
         KeepsOthers all (F.told files.old) (F.told files.new) }
     ensures cause { IsStopCause (F.counted files.old) (F.counted files.new) result }
     ensures among { StopsAmong captures.now (files_of outputs.old) result }
-    ensures reads { (g : ℕ) → F.is_read files.old g → F.is_read files.new g }
-    ensures writes { (g : ℕ) → F.is_written files.old g → F.is_written files.new g }
 {
     match packet_for(files, feed, mode, captures, line) {
         Ok(Some(packet)) => {

@@ -1,7 +1,7 @@
 //! A run, from its files to the files that it leaves.
 ghost use Rattle.std.specs.Prelude.{◌≡◌, ◌+◌, ◌≤◌, ◌∷◌, [], length, ℕ};
 ghost use Rattle.nf_base.specs.Functions.{function_of};
-ghost use Rattle.nf_files.specs.Told.{IsEmptyIfTold};
+ghost use Rattle.nf_files.specs.Told.{IsEmptyIfTold, IsRead, IsWritten};
 ghost use Rattle.packet_feed.specs.Told.{EachFile};
 ghost use Rattle.command_words.specs.View as view;
 ghost use Rattle.call_base.specs.Names.{reading};
@@ -48,8 +48,8 @@ fn run_one<F: Files>(
     ghost before: { Outside }
     requires job { IsJob before.told job.now }
     requires alone { (asked job.now).workers ≡ 1 }
-    requires opened { EachFile (F.is_read files.old) captures.now }
-    requires created { EachFile (F.is_written files.old) targets.now }
+    requires opened { EachFile (IsRead (F.told files.old)) captures.now }
+    requires created { EachFile (IsWritten (F.told files.old)) targets.now }
     requires ready { HasReady before (seen (F.told files.old) (F.counted files.old)) job.now
         captures.now targets.now feed.old }
     ensures runs { (old new : ℕ) → RunsTo (Rose old new) (asked job.now) before
@@ -86,8 +86,8 @@ fn run_shards<
     ghost before: { Outside }
     requires job { IsJob before.told job.now }
     requires several { IsWorkerPlan (asked job.now) (function_of job.now.func.now) (Shards keys.now) }
-    requires opened { EachFile (F.is_read files.old) captures.now }
-    requires created { EachFile (F.is_written files.old) targets.now }
+    requires opened { EachFile (IsRead (F.told files.old)) captures.now }
+    requires created { EachFile (IsWritten (F.told files.old)) targets.now }
     requires ready { HasReady before (seen (F.told files.old) (F.counted files.old)) job.now
         captures.now targets.now feed.old }
     ensures runs { (old new : ℕ) → RunsTo (Rose old new) (asked job.now) before
@@ -125,8 +125,8 @@ fn run_tables<R: Threads + Wait + Sync, F: Files, G: Turns + Sync, L: Gate + Dro
     ghost before: { Outside }
     requires job { IsJob before.told job.now }
     requires several { IsWorkerPlan (asked job.now) (function_of job.now.func.now) Tables }
-    requires opened { EachFile (F.is_read files.old) captures.now }
-    requires created { EachFile (F.is_written files.old) targets.now }
+    requires opened { EachFile (IsRead (F.told files.old)) captures.now }
+    requires created { EachFile (IsWritten (F.told files.old)) targets.now }
     requires ready { HasReady before (seen (F.told files.old) (F.counted files.old)) job.now
         captures.now targets.now feed.old }
     ensures runs { RunsTo (Rose (L.refused gate.old) (L.refused gate.new)) (asked job.now) before
@@ -164,8 +164,8 @@ fn run_ready<
 ) -> Result<End, Halt>
     ghost before: { Outside }
     requires job { IsJob before.told job.now }
-    requires opened { EachFile (F.is_read files.old) captures.now }
-    requires created { EachFile (F.is_written files.old) targets.now }
+    requires opened { EachFile (IsRead (F.told files.old)) captures.now }
+    requires created { EachFile (IsWritten (F.told files.old)) targets.now }
     requires ready { HasReady before (seen (F.told files.old) (F.counted files.old)) job.now
         captures.now targets.now feed.old }
     ensures runs { RunsTo (Rose (L.refused gate.old) (L.refused gate.new)) (asked job.now) before
@@ -200,7 +200,7 @@ fn run_fed<
 ) -> Result<End, Halt>
     ghost before: { Outside }
     requires job { IsJob before.told job.now }
-    requires opened { EachFile (F.is_read files.old) captures.now }
+    requires opened { EachFile (IsRead (F.told files.old)) captures.now }
     requires fed { HasFed before (seen (F.told files.old) (F.counted files.old)) job.now
         captures.now feed.old }
     ensures runs { RunsTo (Rose (L.refused gate.old) (L.refused gate.new)) (asked job.now) before

@@ -1,18 +1,26 @@
 -- How calls go that a file may stop, one after another.
-use Rattle.std.proofs.Common.{◌≡◌, ℕ, List, [], Option, Some, None, Result, Ok, Err, refl, sym, subst}
+use Rattle.std.proofs.Common.{◌≡◌, ℕ, List, [], Option, Some, None, Result, Ok, Err, refl, sym, ap, subst, ◌∙◌}
 use Rattle.std.specs.List.{slice_get}
-use Rattle.nf_files.specs.Told.{Told}
+use Rattle.nf_files.specs.Told.{Told, IsRead, IsWritten}
 use Rattle.nf_files.specs.Causes.{Counted}
-use Rattle.packet_feed.specs.Told.{KeepsOthers}
+use Rattle.packet_feed.specs.Told.{EachFile, KeepsOthers}
 use Rattle.packet_feed.specs.Faults.{FaultedAt, IsCause}
 use Rattle.packet_feed.specs.declared.fault.FeedFault.{FeedFault}
 use Rattle.packet_feed.specs.declared.fault.FeedFault.TheVariants as feed
 use Rattle.stream_run.specs.declared.fault.RunFault.{RunFault}
 use Rattle.stream_run.specs.declared.fault.RunFault.TheVariants as fault
 use Rattle.stream_run.specs.Streaming.{stop_on, stop_in}
-use Rattle.stream_run.specs.Writing.{KeepsAllBut, IsStopCause, StopsAmong}
+use Rattle.stream_run.specs.Writing.{KeepsAllBut, KeepsBut, IsStopCause, StopsAmong}
 use Rattle.stream_run.proofs.Held.{but_both, but_none, but_read, but_written, stops_wider, stops_reading}
 use Rattle.sharded_run.specs.Passing.{WentOn}
+
+-- files that were created are still written, by whichever name of theirs
+pub still_created : (files now : List ℕ) (old new : Told) → KeepsBut files old new → now ≡ files → EachFile (IsWritten old) files → EachFile (IsWritten new) now
+still_created files now old new kept same created = λ port file e. kept.kinds file ∙ created port file (ap (λ (fs : List ℕ). slice_get fs port) (sym same) ∙ e)
+
+-- and files that were opened still read
+pub still_opened : (files captures now : List ℕ) (old new : Told) → KeepsBut files old new → now ≡ captures → EachFile (IsRead old) captures → EachFile (IsRead new) now
+still_opened files captures now old new kept same opened = λ port file e. kept.kinds file ∙ opened port file (ap (λ (fs : List ℕ). slice_get fs port) (sym same) ∙ e)
 
 pub went_none : {T : Type 0} (captures files : List ℕ) (told : Told) (count : Counted) (t : T) → WentOn captures files told told count count (Ok t)
 went_none captures files told count t = record { kept = but_none files told; cause = refl; among = tt }

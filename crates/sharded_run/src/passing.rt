@@ -2,7 +2,7 @@
 ghost use Rattle.std.specs.Prelude.{◌≡◌, ◌^◌, ◌<◌, ◌≤◌, ℕ, List, length, IfErr};
 ghost use Rattle.nf_base.specs.declared.card.Card.{Card};
 ghost use Rattle.capture_format.specs.declared.format.CaptureFormat.{CaptureFormat};
-ghost use Rattle.nf_files.specs.Told.{Told};
+ghost use Rattle.nf_files.specs.Told.{Told, IsRead, IsWritten};
 ghost use Rattle.pcap_file.specs.Record.{greatest_time};
 ghost use Rattle.packet_feed.specs.Arrivals.{Arrival};
 ghost use Rattle.packet_feed.specs.Told.{EachFile, IsApart};
@@ -42,7 +42,7 @@ fn write_ready<F: Files, G: Turns + Drop>(
 ) -> Result<(), RunFault>
     requires ready { LineHasAnswer crew.old.line }
     requires some { 0 < length crew.old.frames }
-    requires created { EachFile (F.is_written files.old) (files_of sinks.old) }
+    requires created { EachFile (IsWritten (F.told files.old)) (files_of sinks.old) }
     requires apart { IsApart (files_of sinks.old) }
     requires few { length sinks.old ≤ 2 ^ 32 }
     ensures wrote { (x : Setup) → (card : Card) → (format : CaptureFormat) → (all : List Arrival) →
@@ -53,8 +53,6 @@ fn write_ready<F: Files, G: Turns + Drop>(
     ensures went { (captures : List ℕ) → WentOn captures (files_of sinks.old) (F.told files.old)
         (F.told files.new) (F.counted files.old) (F.counted files.new) result }
     ensures rests { (g : ℕ) → (F.told files.new).rest g ≡ (F.told files.old).rest g }
-    ensures reads { (g : ℕ) → F.is_read files.old g → F.is_read files.new g }
-    ensures writes { (g : ℕ) → F.is_written files.old g → F.is_written files.new g }
 {
     let answer = crew.line.answer();
     let kept = crew.frames.first();
@@ -82,7 +80,7 @@ fn write_come<F: Files, G: Turns + Drop>(
     crew: &mut Crew<G>,
     sinks: &mut Seq<Sink>,
 ) -> Result<(), RunFault>
-    requires created { EachFile (F.is_written files.old) (files_of sinks.old) }
+    requires created { EachFile (IsWritten (F.told files.old)) (files_of sinks.old) }
     requires apart { IsApart (files_of sinks.old) }
     requires few { length sinks.old ≤ 2 ^ 32 }
     ensures wrote { (x : Setup) → (card : Card) → (format : CaptureFormat) → (all : List Arrival) →
@@ -93,8 +91,6 @@ fn write_come<F: Files, G: Turns + Drop>(
     ensures went { (captures : List ℕ) → WentOn captures (files_of sinks.old) (F.told files.old)
         (F.told files.new) (F.counted files.old) (F.counted files.new) result }
     ensures rests { (g : ℕ) → (F.told files.new).rest g ≡ (F.told files.old).rest g }
-    ensures reads { (g : ℕ) → F.is_read files.old g → F.is_read files.new g }
-    ensures writes { (g : ℕ) → F.is_written files.old g → F.is_written files.new g }
 {
     for _ in 0..ALL_IN_FLIGHT {
         if !crew.line.is_ready() {
@@ -117,7 +113,7 @@ pub(crate) fn write_next<R: Wait, F: Files, G: Turns + Drop>(
     sinks: &mut Seq<Sink>,
 ) -> Result<Option<shard_core::Stop>, RunFault>
     requires some { 0 < length crew.old.frames }
-    requires created { EachFile (F.is_written files.old) (files_of sinks.old) }
+    requires created { EachFile (IsWritten (F.told files.old)) (files_of sinks.old) }
     requires apart { IsApart (files_of sinks.old) }
     requires few { length sinks.old ≤ 2 ^ 32 }
     ensures wrote { (x : Setup) → (card : Card) → (format : CaptureFormat) → (all : List Arrival) →
@@ -128,8 +124,6 @@ pub(crate) fn write_next<R: Wait, F: Files, G: Turns + Drop>(
     ensures went { (captures : List ℕ) → WentOn captures (files_of sinks.old) (F.told files.old)
         (F.told files.new) (F.counted files.old) (F.counted files.new) result }
     ensures rests { (g : ℕ) → (F.told files.new).rest g ≡ (F.told files.old).rest g }
-    ensures reads { (g : ℕ) → F.is_read files.old g → F.is_read files.new g }
-    ensures writes { (g : ℕ) → F.is_written files.old g → F.is_written files.new g }
 {
     match crew.line.await_first(rt) {
         First::Answer => match write_come(files, crew, sinks) {
@@ -149,7 +143,7 @@ fn make_room<R: Wait, F: Files, G: Turns + Drop>(
     queue: u32,
 ) -> Result<Option<shard_core::Stop>, RunFault>
     requires queue { queue < crew.old.router.workers }
-    requires created { EachFile (F.is_written files.old) (files_of sinks.old) }
+    requires created { EachFile (IsWritten (F.told files.old)) (files_of sinks.old) }
     requires apart { IsApart (files_of sinks.old) }
     requires few { length sinks.old ≤ 2 ^ 32 }
     ensures wrote { (x : Setup) → (card : Card) → (format : CaptureFormat) → (all : List Arrival) →
@@ -161,8 +155,6 @@ fn make_room<R: Wait, F: Files, G: Turns + Drop>(
     ensures went { (captures : List ℕ) → WentOn captures (files_of sinks.old) (F.told files.old)
         (F.told files.new) (F.counted files.old) (F.counted files.new) result }
     ensures rests { (g : ℕ) → (F.told files.new).rest g ≡ (F.told files.old).rest g }
-    ensures reads { (g : ℕ) → F.is_read files.old g → F.is_read files.new g }
-    ensures writes { (g : ℕ) → F.is_written files.old g → F.is_written files.new g }
 {
     for _ in rt.forever() {
         if crew.line.has_room(queue) {
@@ -225,7 +217,7 @@ fn hand_out<R: Wait, F: Files, G: Turns + Drop>(
     requires time { packet.now.time ≤ greatest_time }
     requires captured { length (frame_of feed.now) ≤ 262144 }
     requires fewer { length crew.old.frames < feed.now.given }
-    requires created { EachFile (F.is_written files.old) (files_of sinks.old) }
+    requires created { EachFile (IsWritten (F.told files.old)) (files_of sinks.old) }
     requires apart { IsApart (files_of sinks.old) }
     requires few { length sinks.old ≤ 2 ^ 32 }
     ensures handed { let queue = queue_by crew.old.router.keys crew.old.router.workers packet.now in
@@ -240,8 +232,6 @@ fn hand_out<R: Wait, F: Files, G: Turns + Drop>(
     ensures went { (captures : List ℕ) → WentOn captures (files_of sinks.old) (F.told files.old)
         (F.told files.new) (F.counted files.old) (F.counted files.new) result }
     ensures rests { (g : ℕ) → (F.told files.new).rest g ≡ (F.told files.old).rest g }
-    ensures reads { (g : ℕ) → F.is_read files.old g → F.is_read files.new g }
-    ensures writes { (g : ℕ) → F.is_written files.old g → F.is_written files.new g }
 {
     let queue = crew.router.queue(packet);
     match make_room(rt, files, crew, sinks, queue) {
@@ -271,8 +261,8 @@ pub(crate) fn pass_one<R: Wait, F: Files, G: Turns + Drop>(
     requires captures { files_in feed.old.sources ≡ captures.now }
     requires keyed { length captures.now ≤ length crew.old.router.keys.ports }
     requires fewer { length crew.old.frames ≤ feed.old.given }
-    requires opened { EachFile (F.is_read files.old) captures.now }
-    requires created { EachFile (F.is_written files.old) (files_of sinks.old) }
+    requires opened { EachFile (IsRead (F.told files.old)) captures.now }
+    requires created { EachFile (IsWritten (F.told files.old)) (files_of sinks.old) }
     requires apart { IsApart (files_of sinks.old) }
     requires few { length sinks.old ≤ 2 ^ 32 }
     ensures passed { let ports = length captures.now in
@@ -291,8 +281,6 @@ pub(crate) fn pass_one<R: Wait, F: Files, G: Turns + Drop>(
     ensures fewer { length crew.new.frames ≤ feed.new.given }
     ensures went { WentOn captures.now (files_of sinks.old) (F.told files.old)
         (F.told files.new) (F.counted files.old) (F.counted files.new) result }
-    ensures reads { (g : ℕ) → F.is_read files.old g → F.is_read files.new g }
-    ensures writes { (g : ℕ) → F.is_written files.old g → F.is_written files.new g }
 {
     match feed.next(files) {
         Ok(Fed::Packet(packet)) => {

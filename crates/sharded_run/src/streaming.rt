@@ -2,7 +2,7 @@
 ghost use Rattle.std.specs.Prelude.{◌≡◌, ◌^◌, ◌≤◌, ℕ, List, [], length};
 ghost use Rattle.nf_base.specs.declared.card.Card.{Card};
 ghost use Rattle.capture_format.specs.declared.format.CaptureFormat.{CaptureFormat};
-ghost use Rattle.nf_files.specs.Told.{Told};
+ghost use Rattle.nf_files.specs.Told.{Told, IsRead, IsWritten};
 ghost use Rattle.packet_feed.specs.Arrivals.{Arrival};
 ghost use Rattle.packet_feed.specs.Told.{EachFile, IsApart};
 ghost use Rattle.packet_feed.specs.Sources.{files_in};
@@ -36,7 +36,7 @@ fn drain<R: Wait, F: Files, G: Turns + Drop>(
     ending: Ending,
 ) -> Result<RunEnd, RunFault>
     requires fewer { length crew.old.frames ≤ feed.now.given }
-    requires created { EachFile (F.is_written files.old) (files_of sinks.old) }
+    requires created { EachFile (IsWritten (F.told files.old)) (files_of sinks.old) }
     requires apart { IsApart (files_of sinks.old) }
     requires few { length sinks.old ≤ 2 ^ 32 }
     ensures flows { (x : Setup) → (card : Card) → (format : CaptureFormat) → (ports : ℕ) →
@@ -53,8 +53,6 @@ fn drain<R: Wait, F: Files, G: Turns + Drop>(
     ensures same_files { files_of sinks.new ≡ files_of sinks.old }
     ensures went { (captures : List ℕ) → WentOn captures (files_of sinks.old) (F.told files.old)
         (F.told files.new) (F.counted files.old) (F.counted files.new) result }
-    ensures reads { (g : ℕ) → F.is_read files.old g → F.is_read files.new g }
-    ensures writes { (g : ℕ) → F.is_written files.old g → F.is_written files.new g }
 {
     for _ in rt.forever() {
         if crew.line.left() == 0 {
@@ -86,8 +84,8 @@ fn pass_all<R: Wait, F: Files, G: Turns + Drop>(
     requires captures { files_in feed.old.sources ≡ captures.now }
     requires keyed { length captures.now ≤ length crew.old.router.keys.ports }
     requires fewer { length crew.old.frames ≤ feed.old.given }
-    requires opened { EachFile (F.is_read files.old) captures.now }
-    requires created { EachFile (F.is_written files.old) (files_of sinks.old) }
+    requires opened { EachFile (IsRead (F.told files.old)) captures.now }
+    requires created { EachFile (IsWritten (F.told files.old)) (files_of sinks.old) }
     requires apart { IsApart (files_of sinks.old) }
     requires few { length sinks.old ≤ 2 ^ 32 }
     ensures flows { let ports = length captures.now in
@@ -104,7 +102,6 @@ fn pass_all<R: Wait, F: Files, G: Turns + Drop>(
     ensures same_files { files_of sinks.new ≡ files_of sinks.old }
     ensures went { WentOn captures.now (files_of sinks.old) (F.told files.old)
         (F.told files.new) (F.counted files.old) (F.counted files.new) result }
-    ensures writes { (g : ℕ) → F.is_written files.old g → F.is_written files.new g }
 {
     for _ in rt.forever() {
         match pass_one(rt, alloc, files, crew, feed, captures, sinks) {
@@ -130,8 +127,8 @@ pub(crate) fn flow<R: Wait, F: Files, G: Turns + Drop>(
     requires captures { files_in feed.old.sources ≡ captures.now }
     requires keyed { length captures.now ≤ length crew.old.router.keys.ports }
     requires fewer { length crew.old.frames ≤ feed.old.given }
-    requires opened { EachFile (F.is_read files.old) captures.now }
-    requires created { EachFile (F.is_written files.old) (files_of sinks.old) }
+    requires opened { EachFile (IsRead (F.told files.old)) captures.now }
+    requires created { EachFile (IsWritten (F.told files.old)) (files_of sinks.old) }
     requires apart { IsApart (files_of sinks.old) }
     requires few { length sinks.old ≤ 2 ^ 32 }
     ensures flows { let ports = length captures.now in

@@ -1,5 +1,6 @@
 //! What a packet leaves is written.
 ghost use Rattle.std.specs.Prelude.{◌≡◌, ◌^◌, ◌≤◌, ◌∷◌, ◌++◌, [], ℕ, List, length};
+ghost use Rattle.nf_files.specs.Told.{IsWritten};
 ghost use Rattle.nf_base.specs.declared.card.Card.{Card};
 ghost use Rattle.capture_format.specs.declared.format.CaptureFormat.{CaptureFormat};
 ghost use Rattle.packet_feed.specs.Told.{EachFile, IsApart};
@@ -26,7 +27,7 @@ fn write_one<F: Files>(
     queue: u32,
     done: &Done,
 ) -> Result<(), RunFault>
-    requires created { EachFile (F.is_written files.old) (files_of sinks.old) }
+    requires created { EachFile (IsWritten (F.told files.old)) (files_of sinks.old) }
     requires apart { IsApart (files_of sinks.old) }
     requires few { length sinks.old ≤ 2 ^ 32 }
     ensures goes_on { let h : Handled = record { arrival = kept.now; worker = queue; done = done.now } in
@@ -38,8 +39,6 @@ fn write_one<F: Files>(
     ensures kept { KeepsAllBut (files_of sinks.old) (F.told files.old) (F.told files.new) }
     ensures cause { IsStopCause (F.counted files.old) (F.counted files.new) result }
     ensures among { StopsAmong [] (files_of sinks.old) result }
-    ensures reads { (g : ℕ) → F.is_read files.old g → F.is_read files.new g }
-    ensures writes { (g : ℕ) → F.is_written files.old g → F.is_written files.new g }
 {
     let handled = HandledPacket {
         worker: queue,
@@ -62,7 +61,7 @@ pub(crate) fn write_told<F: Files>(
     told: Told<'_>,
     plain: &mut PlainAnswer,
 ) -> Result<(), RunFault>
-    requires created { EachFile (F.is_written files.old) (files_of sinks.old) }
+    requires created { EachFile (IsWritten (F.told files.old)) (files_of sinks.old) }
     requires apart { IsApart (files_of sinks.old) }
     requires few { length sinks.old ≤ 2 ^ 32 }
     ensures goes_on { let h : Handled = record { arrival = kept.now; worker = queue; done = done_told told.entry } in
@@ -74,8 +73,6 @@ pub(crate) fn write_told<F: Files>(
     ensures kept { KeepsAllBut (files_of sinks.old) (F.told files.old) (F.told files.new) }
     ensures cause { IsStopCause (F.counted files.old) (F.counted files.new) result }
     ensures among { StopsAmong [] (files_of sinks.old) result }
-    ensures reads { (g : ℕ) → F.is_read files.old g → F.is_read files.new g }
-    ensures writes { (g : ℕ) → F.is_written files.old g → F.is_written files.new g }
 {
     match told {
         Told::Plain(action) => {

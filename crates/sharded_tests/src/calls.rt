@@ -4,7 +4,8 @@ ghost use Rattle.std.specs.Prelude.{◌≡◌, ◌≤◌, ◌+◌, ◌^◌, ℕ,
 ghost use Rattle.nf_base.specs.Doors.{six_ports};
 ghost use Rattle.nf_base.specs.Functions.{function_of};
 ghost use Rattle.toeplitz_hash.specs.Meeting.{HashAlikeWhereTheyMeet};
-ghost use Rattle.nf_files.specs.Told.{IsEmptyIfTold};
+ghost use Rattle.nf_files.specs.Openings.{Opens, Creates};
+ghost use Rattle.nf_files.specs.Told.{IsEmptyIfTold, IsRead, IsWritten};
 ghost use Rattle.packet_feed.specs.Told.{EachFile, IsApart};
 ghost use Rattle.packet_feed.specs.Sources.{files_in, sixes_in};
 
@@ -22,19 +23,36 @@ use std::sync::{Arc, Wait};
 use std::thread::Threads;
 use stream_run::RunFault;
 
+// Opens a name to be read.
+fn open_one<F: Files>(files: &mut F, name: &str) -> Result<u32, FilesFault>
+    ensures ok { IfOk result (λ file. Opens (F.told files.old) (F.told files.new) name.now file) }
+    ensures reads { (g : ℕ) → IsRead (F.told files.old) g → IsRead (F.told files.new) g }
+{
+    files.open_in(name)
+}
+
+// Creates a name to be written.
+fn create_one<F: Files>(files: &mut F, name: &str) -> Result<u32, FilesFault>
+    ensures ok { IfOk result (λ file. Creates (F.told files.old) (F.told files.new) name.now file) }
+    ensures reads { (g : ℕ) → IsRead (F.told files.old) g → IsRead (F.told files.new) g }
+    ensures writes { (g : ℕ) → IsWritten (F.told files.old) g → IsWritten (F.told files.new) g }
+{
+    files.create_out(name)
+}
+
 /// Opens names to be read.
 pub fn open_all<F: Files>(
     alloc: Global,
     files: &mut F,
     names: &[&str],
 ) -> Result<Vec<u32>, FilesFault>
-    ensures readable { IfOk result (λ opened. EachFile (F.is_read files.new) opened.items) }
+    ensures readable { IfOk result (λ opened. EachFile (IsRead (F.told files.new)) opened.items) }
     ensures apart { IfOk result (λ opened. IsApart opened.items) }
     ensures count { IfOk result (λ opened. length opened.items ≡ length names.now) }
 {
     let mut opened = Vec::new(alloc);
     for name in names {
-        let file = files.open_in(name)?;
+        let file = open_one(files, name)?;
         opened.push(file)?;
     }
     Ok(opened)
@@ -46,16 +64,16 @@ pub fn create_all<F: Files>(
     files: &mut F,
     names: &[&str],
 ) -> Result<Vec<u32>, FilesFault>
-    ensures writable { IfOk result (λ made. EachFile (F.is_written files.new) made.items) }
+    ensures writable { IfOk result (λ made. EachFile (IsWritten (F.told files.new)) made.items) }
     ensures apart { IfOk result (λ made. IsApart made.items) }
     ensures count { IfOk result (λ made. length made.items ≡ length names.now) }
     ensures empty { IfOk result (λ made.
         EachFile (λ file. IsEmptyIfTold ((F.told files.new).given file)) made.items) }
-    ensures reads { (g : ℕ) → F.is_read files.old g → F.is_read files.new g }
+    ensures reads { (g : ℕ) → IsRead (F.told files.old) g → IsRead (F.told files.new) g }
 {
     let mut made = Vec::new(alloc);
     for name in names {
-        let file = files.create_out(name)?;
+        let file = create_one(files, name)?;
         made.push(file)?;
     }
     Ok(made)
@@ -69,14 +87,14 @@ pub fn start<F: Files>(
     opened: &[u32],
     most: u32,
 ) -> Result<Feed, FeedFault>
-    requires readable { EachFile (F.is_read files.old) opened.now }
+    requires readable { EachFile (IsRead (F.told files.old)) opened.now }
     requires apart { IsApart opened.now }
     requires ports { length opened.now ≤ 2 ^ 32 }
     requires ports_of { length opened.now ≡ length func.now.handlers }
     ensures files { IfOk result (λ feed. files_in feed.sources ≡ opened.now) }
     ensures six { IfOk result (λ feed. sixes_in feed.sources ≡ six_ports (function_of func.now)) }
     ensures new { IfOk result (λ feed. feed.given ≡ 0) }
-    ensures reads { (g : ℕ) → F.is_read files.old g → F.is_read files.new g }
+    ensures reads { (g : ℕ) → IsRead (F.told files.old) g → IsRead (F.told files.new) g }
 {
     Feed::start(alloc, files, func, opened, most)
 }
@@ -99,8 +117,8 @@ pub fn run_all<R: Threads + Wait + Clone + Send + Sync + Drop + 'static, F: File
     requires six { sixes_in feed.old.sources ≡ six_ports (function_of func.now) }
     requires ports { length opened.now ≡ length func.now.handlers }
     requires new { feed.old.given ≡ 0 }
-    requires readable { EachFile (F.is_read files.old) opened.now }
-    requires writable { EachFile (F.is_written files.old) made.now }
+    requires readable { EachFile (IsRead (F.told files.old)) opened.now }
+    requires writable { EachFile (IsWritten (F.told files.old)) made.now }
     requires apart { IsApart made.now }
     requires as_many { length made.now ≡ length func.now.handlers + 1 }
     requires few { length made.now ≤ 2 ^ 32 }

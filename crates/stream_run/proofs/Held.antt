@@ -58,7 +58,7 @@ flushed_front bytes held count (Some a) (Some b) h k = record {
 }
 
 pub other_kept : (old new : Told) (file : ℕ) (bytes : List ℕ) → Writes old new file bytes → KeepsOther file old new
-other_kept old new file bytes w = record { current = w.current; rests = w.rests; givens = w.givens; names = w.names; contents = w.contents; latest_same = w.latest_same; next_same = w.next_same }
+other_kept old new file bytes w = record { current = w.current; rests = w.rests; givens = w.givens; names = w.names; kinds = w.kinds; contents = w.contents; latest_same = w.latest_same; next_same = w.next_same }
 
 -- ---- all files
 
@@ -141,13 +141,14 @@ kept_more files k f start old new e h kept = record {
   rests = λ g. kept.rests g ∙ h.rests g;
   givens = λ g others. kept.givens g (λ same. at_file (λ (x : ℕ). x ≢ g) files k f e others (sym same)) ∙ h.givens g others;
   names = λ g. kept.names g ∙ h.names g;
+  kinds = λ g. kept.kinds g ∙ h.kinds g;
   contents = λ n others. kept.contents n (λ is. at_file (λ (x : ℕ). start.name x ≢ Some n) files k f e others (sym (h.names f) ∙ is)) ∙ h.contents n others;
   latest_same = λ n. kept.latest_same n ∙ h.latest_same n;
   next_same = kept.next_same ∙ h.next_same;
 }
 
 pub kept_none : (files : List ℕ) (told : Told) → KeepsAllBut files told told
-kept_none files told = record { current = λ n file all c. c; rests = λ g. refl; givens = λ g others. refl; names = λ g. refl; contents = λ n others. refl; latest_same = λ n. refl; next_same = refl }
+kept_none files told = record { current = λ n file all c. c; rests = λ g. refl; givens = λ g others. refl; names = λ g. refl; kinds = λ g. refl; contents = λ n others. refl; latest_same = λ n. refl; next_same = refl }
 
 pub same_length : (xs ys : List Holding) → files_of xs ≡ files_of ys → length xs ≡ length ys
 same_length xs ys e = omega (arith, ap (λ (t : List ℕ). length t) e, length-map xs (λ (x : Holding). x.file), length-map ys (λ (x : Holding). x.file))
@@ -183,7 +184,7 @@ empty_more sinks k new_s none h j s lt e = elim (got_set sinks k j new_s s e) [
 -- ---- nothing else changes
 
 pub but_none : (files : List ℕ) (told : Told) → KeepsBut files told told
-but_none files told = record { current = λ n file all c. c; givens = λ g others. refl; names = λ g. refl; contents = λ n others. refl; latest_same = λ n. refl; next_same = refl }
+but_none files told = record { current = λ n file all c. c; givens = λ g others. refl; names = λ g. refl; kinds = λ g. refl; contents = λ n others. refl; latest_same = λ n. refl; next_same = refl }
 
 named_still : (files : List ℕ) (old now : Told) (n : List ℕ) → ((g : ℕ) → now.name g ≡ old.name g) → All (λ (f : ℕ). old.name f ≢ Some n) files → All (λ (f : ℕ). now.name f ≢ Some n) files
 named_still files old now n same h = All-weaker (λ (f : ℕ). old.name f ≢ Some n) (λ (f : ℕ). now.name f ≢ Some n) (λ f ne is. ne (sym (same f) ∙ is)) files h
@@ -200,16 +201,17 @@ but_both files old now new h k = record {
   current = λ n file all c. k.current n file (other_still files old now n file h.names all) (h.current n file all c);
   givens = λ g others. k.givens g others ∙ h.givens g others;
   names = λ g. k.names g ∙ h.names g;
+  kinds = λ g. k.kinds g ∙ h.kinds g;
   contents = λ n others. k.contents n (named_still files old now n h.names others) ∙ h.contents n others;
   latest_same = λ n. k.latest_same n ∙ h.latest_same n;
   next_same = k.next_same ∙ h.next_same;
 }
 
 pub but_read : (files captures : List ℕ) (old new : Told) → KeepsOthers captures old new → KeepsBut files old new
-but_read files captures old new k = record { current = λ n file all c. record { last = k.latest_same n ∙ c.last; follows = k.contents n ∙ c.follows ∙ sym (k.givens file) }; givens = λ g others. k.givens g; names = k.names; contents = λ n others. k.contents n; latest_same = k.latest_same; next_same = k.next_same }
+but_read files captures old new k = record { current = λ n file all c. record { last = k.latest_same n ∙ c.last; follows = k.contents n ∙ c.follows ∙ sym (k.givens file) }; givens = λ g others. k.givens g; names = k.names; kinds = k.kinds; contents = λ n others. k.contents n; latest_same = k.latest_same; next_same = k.next_same }
 
 pub but_written : (files all : List ℕ) (old new : Told) → all ≡ files → KeepsAllBut all old new → KeepsBut files old new
-but_written files all old new same k = subst (λ (fs : List ℕ). KeepsBut fs old new) same (record { current = k.current; givens = k.givens; names = k.names; contents = k.contents; latest_same = k.latest_same; next_same = k.next_same })
+but_written files all old new same k = subst (λ (fs : List ℕ). KeepsBut fs old new) same (record { current = k.current; givens = k.givens; names = k.names; kinds = k.kinds; contents = k.contents; latest_same = k.latest_same; next_same = k.next_same })
 
 -- captures were read on
 pub read_on : (files captures : List ℕ) (start old new : Told) → KeepsBut files start old → KeepsOthers captures old new → KeepsBut files start new

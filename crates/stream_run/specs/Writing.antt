@@ -43,6 +43,7 @@ pub record KeepsOther (file : ℕ) (old new : Told) : Type 0 where
   pub rests : (g : ℕ) → new.rest g ≡ old.rest g
   pub givens : (g : ℕ) → g ≢ file → new.given g ≡ old.given g
   pub names : (g : ℕ) → new.name g ≡ old.name g
+  pub kinds : (g : ℕ) → new.kind g ≡ old.kind g
   pub contents : (n : List ℕ) → old.name file ≢ Some n → new.content n ≡ old.content n
   pub latest_same : (n : List ℕ) → new.latest n ≡ old.latest n
   pub next_same : new.next ≡ old.next
@@ -110,6 +111,7 @@ pub record KeepsAllBut (files : List ℕ) (old new : Told) : Type 0 where
   pub rests : (g : ℕ) → new.rest g ≡ old.rest g
   pub givens : (g : ℕ) → All (λ f. f ≢ g) files → new.given g ≡ old.given g
   pub names : (g : ℕ) → new.name g ≡ old.name g
+  pub kinds : (g : ℕ) → new.kind g ≡ old.kind g
   pub contents : (n : List ℕ) → All (λ f. old.name f ≢ Some n) files → new.content n ≡ old.content n
   pub latest_same : (n : List ℕ) → new.latest n ≡ old.latest n
   pub next_same : new.next ≡ old.next
@@ -137,6 +139,7 @@ pub record KeepsBut (files : List ℕ) (old new : Told) : Type 0 where
   pub current : (n : List ℕ) (file : ℕ) → All (IsSameOrOther old n file) files → IsCurrent old n file → IsCurrent new n file
   pub givens : (g : ℕ) → All (λ f. f ≢ g) files → new.given g ≡ old.given g
   pub names : (g : ℕ) → new.name g ≡ old.name g
+  pub kinds : (g : ℕ) → new.kind g ≡ old.kind g
   pub contents : (n : List ℕ) → All (λ f. old.name f ≢ Some n) files → new.content n ≡ old.content n
   pub latest_same : (n : List ℕ) → new.latest n ≡ old.latest n
   pub next_same : new.next ≡ old.next

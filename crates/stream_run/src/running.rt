@@ -1,5 +1,6 @@
 //! Packets, handled as they come.
 ghost use Rattle.std.specs.Prelude.{◌≡◌, ◌^◌, ◌<◌, ◌≤◌, ◌+◌, [], ℕ, Some, length};
+ghost use Rattle.nf_files.specs.Told.{IsRead, IsWritten};
 ghost use Rattle.nf_base.specs.declared.card.Card.{Card};
 ghost use Rattle.capture_format.specs.declared.format.CaptureFormat.{CaptureFormat};
 ghost use Rattle.nf_base.specs.Doors.{six_ports, IsServed};
@@ -79,7 +80,7 @@ fn handle_one<F: Files>(
     requires whole { tables.old.share.of ≡ 1 }
     requires port { (last_packet feed.now).id.port < length func.now.handlers }
     requires served { IsServed (function_of func.now) (last_packet feed.now) }
-    requires created { EachFile (F.is_written files.old) (files_of sinks.old) }
+    requires created { EachFile (IsWritten (F.told files.old)) (files_of sinks.old) }
     requires apart { IsApart (files_of sinks.old) }
     requires few { length sinks.old ≤ 2 ^ 32 }
     requires captured { length (frame_of feed.now) ≤ 262144 }
@@ -92,8 +93,6 @@ fn handle_one<F: Files>(
     ensures kept { KeepsAllBut (files_of sinks.old) (F.told files.old) (F.told files.new) }
     ensures cause { IsStopCause (F.counted files.old) (F.counted files.new) result }
     ensures among { StopsAmong [] (files_of sinks.old) result }
-    ensures reads { (g : ℕ) → F.is_read files.old g → F.is_read files.new g }
-    ensures writes { (g : ℕ) → F.is_written files.old g → F.is_written files.new g }
 {
     let id = feed.id();
     let time = feed.time();
@@ -153,8 +152,8 @@ pub fn handle_all<F: Files>(
     requires six { sixes_in feed.old.sources ≡ six_ports (function_of func.now) }
     requires ports { length captures.now ≡ length func.now.handlers }
     requires new { feed.old.given ≡ 0 }
-    requires opened { EachFile (F.is_read files.old) captures.now }
-    requires created { EachFile (F.is_written files.old) (files_of sinks.old) }
+    requires opened { EachFile (IsRead (F.told files.old)) captures.now }
+    requires created { EachFile (IsWritten (F.told files.old)) (files_of sinks.old) }
     requires apart { IsApart (files_of sinks.old) }
     requires few { length sinks.old ≤ 2 ^ 32 }
     // Where the sinks hold what each file begins with, with some card.
@@ -169,8 +168,6 @@ pub fn handle_all<F: Files>(
     ensures kept { KeepsBut (files_of sinks.old) (F.told files.old) (F.told files.new) }
     ensures cause { IsStopCause (F.counted files.old) (F.counted files.new) result }
     ensures among { StopsAmong captures.now (files_of sinks.old) result }
-    ensures reads { (g : ℕ) → F.is_read files.old g → F.is_read files.new g }
-    ensures writes { (g : ℕ) → F.is_written files.old g → F.is_written files.new g }
 {
     let mut context = Context::new();
     'packets: loop {

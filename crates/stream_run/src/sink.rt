@@ -1,5 +1,6 @@
 //! A file that is written in large pieces.
 ghost use Rattle.std.specs.Prelude.{◌≡◌, ◌<◌, ◌++◌, ◌⊎◌, ℕ, List, false, length, OnOk, vec_len};
+ghost use Rattle.nf_files.specs.Told.{IsWritten};
 ghost use Rattle.frame_ip.specs.Edit.{IsUnedited};
 ghost use Rattle.stream_run.specs.Texts.{written_of, sent_bytes, line_of};
 ghost use Rattle.stream_run.specs.Writing.{Holds, GoesOn, IsLittle, KeepsOther, IsStopCause, StopsAt};
@@ -48,7 +49,7 @@ impl Sink {
     /// Gives all bytes to the file.
     #[inline(never)]
     pub fn flush<F: Files>(&mut self, files: &mut F) -> Result<(), RunFault>
-        requires created { F.is_written files.old self.old.file }
+        requires created { IsWritten (F.told files.old) self.old.file }
         ensures goes_on { (bytes : List ℕ) →
             Holds bytes ((F.told files.old).given self.old.file) self.old.held →
             GoesOn bytes ((F.told files.new).given self.old.file) self.new.held result }
@@ -58,8 +59,6 @@ impl Sink {
         ensures kept { KeepsOther self.old.file (F.told files.old) (F.told files.new) }
         ensures cause { IsStopCause (F.counted files.old) (F.counted files.new) result }
         ensures at { StopsAt self.old.file result }
-        ensures reads { (g : ℕ) → F.is_read files.old g → F.is_read files.new g }
-        ensures writes { (g : ℕ) → F.is_written files.old g → F.is_written files.new g }
     {
         match write_whole(files, self.file, self.held.as_slice()) {
             Ok(()) => {
@@ -73,7 +72,7 @@ impl Sink {
     /// Gives what is held to the file where it is much.
     #[inline(always)]
     pub(crate) fn flush_full<F: Files>(&mut self, files: &mut F) -> Result<(), RunFault>
-        requires created { F.is_written files.old self.old.file }
+        requires created { IsWritten (F.told files.old) self.old.file }
         ensures goes_on { (bytes : List ℕ) →
             Holds bytes ((F.told files.old).given self.old.file) self.old.held →
             GoesOn bytes ((F.told files.new).given self.old.file) self.new.held result }
@@ -84,8 +83,6 @@ impl Sink {
         ensures kept { KeepsOther self.old.file (F.told files.old) (F.told files.new) }
         ensures cause { IsStopCause (F.counted files.old) (F.counted files.new) result }
         ensures at { StopsAt self.old.file result }
-        ensures reads { (g : ℕ) → F.is_read files.old g → F.is_read files.new g }
-        ensures writes { (g : ℕ) → F.is_written files.old g → F.is_written files.new g }
     {
         if self.held.len() < PIECE {
             Ok(())

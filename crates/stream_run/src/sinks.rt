@@ -1,6 +1,7 @@
 //! Files that are written side by side, by number: the outputs in the order of their ports, and the
 //! journal behind them.
 ghost use Rattle.std.specs.Prelude.{◌≡◌, ◌^◌, ◌≤◌, ◌∷◌, ◌++◌, [], ℕ, List, false, length, OnOk};
+ghost use Rattle.nf_files.specs.Told.{IsWritten};
 ghost use Rattle.nf_base.specs.declared.card.Card.{Card};
 ghost use Rattle.capture_format.specs.declared.format.CaptureFormat.{CaptureFormat};
 ghost use Rattle.nf_base.specs.declared.done.Action.TheVariants.{To};
@@ -128,7 +129,7 @@ fn hold_parts(
 
 /// Gives to the files what is held for them where it is much.
 pub fn flush_full<F: Files>(sinks: &mut Seq<Sink>, files: &mut F) -> Result<(), RunFault>
-    requires created { EachFile (F.is_written files.old) (files_of sinks.old) }
+    requires created { EachFile (IsWritten (F.told files.old)) (files_of sinks.old) }
     requires apart { IsApart (files_of sinks.old) }
     ensures goes_on { (mode : Mode) → (workers : ℕ) → (card : Card) →
         (format : CaptureFormat) → (ports : ℕ) → (hs : List Handled) →
@@ -140,8 +141,6 @@ pub fn flush_full<F: Files>(sinks: &mut Seq<Sink>, files: &mut F) -> Result<(), 
     ensures kept { KeepsAllBut (files_of sinks.old) (F.told files.old) (F.told files.new) }
     ensures cause { IsStopCause (F.counted files.old) (F.counted files.new) result }
     ensures among { StopsAmong [] (files_of sinks.old) result }
-    ensures reads { (g : ℕ) → F.is_read files.old g → F.is_read files.new g }
-    ensures writes { (g : ℕ) → F.is_written files.old g → F.is_written files.new g }
 {
     for k in 0..sinks.len() {
         let sink = sinks.item_mut(k);
@@ -164,7 +163,7 @@ pub(crate) fn put_parts<F: Files>(
     edited: bool,
 ) -> Result<(), RunFault>
     requires edited { edited ≡ false → IsUnedited handled.now.done.edits }
-    requires created { EachFile (F.is_written files.old) (files_of sinks.old) }
+    requires created { EachFile (IsWritten (F.told files.old)) (files_of sinks.old) }
     requires apart { IsApart (files_of sinks.old) }
     requires few { length sinks.old ≤ 2 ^ 32 }
     ensures goes_on { (mode : Mode) → (workers : ℕ) → (card : Card) →
@@ -178,8 +177,6 @@ pub(crate) fn put_parts<F: Files>(
     ensures kept { KeepsAllBut (files_of sinks.old) (F.told files.old) (F.told files.new) }
     ensures cause { IsStopCause (F.counted files.old) (F.counted files.new) result }
     ensures among { StopsAmong [] (files_of sinks.old) result }
-    ensures reads { (g : ℕ) → F.is_read files.old g → F.is_read files.new g }
-    ensures writes { (g : ℕ) → F.is_written files.old g → F.is_written files.new g }
 {
     match hold_parts(sinks, ports, handled, edited) {
         Ok(()) => flush_full(sinks, files),
@@ -194,7 +191,7 @@ pub fn put_all<F: Files>(
     ports: u32,
     handled: &HandledPacket,
 ) -> Result<(), RunFault>
-    requires created { EachFile (F.is_written files.old) (files_of sinks.old) }
+    requires created { EachFile (IsWritten (F.told files.old)) (files_of sinks.old) }
     requires apart { IsApart (files_of sinks.old) }
     requires few { length sinks.old ≤ 2 ^ 32 }
     ensures goes_on { (mode : Mode) → (workers : ℕ) → (card : Card) →
@@ -208,8 +205,6 @@ pub fn put_all<F: Files>(
     ensures kept { KeepsAllBut (files_of sinks.old) (F.told files.old) (F.told files.new) }
     ensures cause { IsStopCause (F.counted files.old) (F.counted files.new) result }
     ensures among { StopsAmong [] (files_of sinks.old) result }
-    ensures reads { (g : ℕ) → F.is_read files.old g → F.is_read files.new g }
-    ensures writes { (g : ℕ) → F.is_written files.old g → F.is_written files.new g }
 {
     let told = handled.parts();
     put_parts(sinks, files, ports, &told, true)
@@ -217,7 +212,7 @@ pub fn put_all<F: Files>(
 
 /// Gives to all files what is held for them.
 pub fn flush_all<F: Files>(sinks: &mut Seq<Sink>, files: &mut F) -> Result<(), RunFault>
-    requires created { EachFile (F.is_written files.old) (files_of sinks.old) }
+    requires created { EachFile (IsWritten (F.told files.old)) (files_of sinks.old) }
     requires apart { IsApart (files_of sinks.old) }
     ensures goes_on { (mode : Mode) → (workers : ℕ) → (card : Card) →
         (format : CaptureFormat) → (ports : ℕ) → (hs : List Handled) →
@@ -228,8 +223,6 @@ pub fn flush_all<F: Files>(sinks: &mut Seq<Sink>, files: &mut F) -> Result<(), R
     ensures kept { KeepsAllBut (files_of sinks.old) (F.told files.old) (F.told files.new) }
     ensures cause { IsStopCause (F.counted files.old) (F.counted files.new) result }
     ensures among { StopsAmong [] (files_of sinks.old) result }
-    ensures reads { (g : ℕ) → F.is_read files.old g → F.is_read files.new g }
-    ensures writes { (g : ℕ) → F.is_written files.old g → F.is_written files.new g }
 {
     for k in 0..sinks.len() {
         let sink = sinks.item_mut(k);

@@ -3,7 +3,7 @@ ghost use Rattle.std.specs.Prelude.{◌≡◌, ◌^◌, ◌+◌, ◌≤◌, ℕ,
 ghost use Rattle.nf_base.specs.Doors.{six_ports};
 ghost use Rattle.nf_base.specs.Step.{opening};
 ghost use Rattle.nf_base.specs.Functions.{function_of};
-ghost use Rattle.nf_files.specs.Told.{IsEmptyIfTold};
+ghost use Rattle.nf_files.specs.Told.{IsEmptyIfTold, IsRead, IsWritten};
 ghost use Rattle.packet_feed.specs.Told.{EachFile, IsApart};
 ghost use Rattle.packet_feed.specs.Sources.{files_in, sixes_in};
 ghost use Rattle.run_history.specs.declared.line.Mode.TheVariants.{One};
@@ -47,8 +47,8 @@ fn flow<F: Files>(
     requires six { sixes_in feed.old.sources ≡ six_ports (function_of func.now) }
     requires ports { length captures.now ≡ length func.now.handlers }
     requires new { feed.old.given ≡ 0 }
-    requires opened { EachFile (F.is_read files.old) captures.now }
-    requires created { EachFile (F.is_written files.old) (files_of sinks.old) }
+    requires opened { EachFile (IsRead (F.told files.old)) captures.now }
+    requires created { EachFile (IsWritten (F.told files.old)) (files_of sinks.old) }
     requires apart { IsApart (files_of sinks.old) }
     requires few { length sinks.old ≤ 2 ^ 32 }
     ensures flows { let ports = length func.now.handlers in
@@ -84,8 +84,8 @@ fn stream<F: Files>(
     requires six { sixes_in feed.old.sources ≡ six_ports (function_of func.now) }
     requires ports { length captures.now ≡ length func.now.handlers }
     requires new { feed.old.given ≡ 0 }
-    requires opened { EachFile (F.is_read files.old) captures.now }
-    requires created { EachFile (F.is_written files.old) (files_of sinks.old) }
+    requires opened { EachFile (IsRead (F.told files.old)) captures.now }
+    requires created { EachFile (IsWritten (F.told files.old)) (files_of sinks.old) }
     requires apart { IsApart (files_of sinks.old) }
     requires few { length sinks.old ≤ 2 ^ 32 }
     ensures streams { let ports = length func.now.handlers in
@@ -140,8 +140,8 @@ pub fn run<F: Files>(
     requires six { sixes_in feed.old.sources ≡ six_ports (function_of func.now) }
     requires ports { length captures.now ≡ length func.now.handlers }
     requires new { feed.old.given ≡ 0 }
-    requires opened { EachFile (F.is_read files.old) captures.now }
-    requires created { EachFile (F.is_written files.old) targets.now }
+    requires opened { EachFile (IsRead (F.told files.old)) captures.now }
+    requires created { EachFile (IsWritten (F.told files.old)) targets.now }
     requires apart { IsApart targets.now }
     requires as_many { length targets.now ≡ length func.now.handlers + 1 }
     requires few { length targets.now ≤ 2 ^ 32 }

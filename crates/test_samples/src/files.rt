@@ -3,7 +3,8 @@
 ghost use Rattle.std.specs.Prelude.{◌≡◌, ◌≤◌, ◌^◌, ℕ, length, IfOk};
 ghost use Rattle.nf_base.specs.Doors.{six_ports};
 ghost use Rattle.nf_base.specs.Functions.{function_of};
-ghost use Rattle.nf_files.specs.Told.{IsEmptyIfTold};
+ghost use Rattle.nf_files.specs.Openings.{Opens, Creates};
+ghost use Rattle.nf_files.specs.Told.{IsEmptyIfTold, IsRead, IsWritten};
 ghost use Rattle.packet_feed.specs.Told.{EachFile, IsApart};
 ghost use Rattle.packet_feed.specs.Sources.{files_in, sixes_in};
 ghost use Rattle.test_samples.specs.Order.{AreInOrder};
@@ -41,19 +42,36 @@ pub fn left_in(
     Ok(left)
 }
 
+// Opens a name to be read.
+fn open_one<F: Files>(files: &mut F, name: &str) -> Result<u32, FilesFault>
+    ensures ok { IfOk result (λ file. Opens (F.told files.old) (F.told files.new) name.now file) }
+    ensures reads { (g : ℕ) → IsRead (F.told files.old) g → IsRead (F.told files.new) g }
+{
+    files.open_in(name)
+}
+
+// Creates a name to be written.
+fn create_one<F: Files>(files: &mut F, name: &str) -> Result<u32, FilesFault>
+    ensures ok { IfOk result (λ file. Creates (F.told files.old) (F.told files.new) name.now file) }
+    ensures reads { (g : ℕ) → IsRead (F.told files.old) g → IsRead (F.told files.new) g }
+    ensures writes { (g : ℕ) → IsWritten (F.told files.old) g → IsWritten (F.told files.new) g }
+{
+    files.create_out(name)
+}
+
 /// Opens names to be read.
 pub fn open_all<F: Files>(
     alloc: Global,
     files: &mut F,
     names: &[&str],
 ) -> Result<Vec<u32>, FilesFault>
-    ensures readable { IfOk result (λ opened. EachFile (F.is_read files.new) opened.items) }
+    ensures readable { IfOk result (λ opened. EachFile (IsRead (F.told files.new)) opened.items) }
     ensures apart { IfOk result (λ opened. IsApart opened.items) }
     ensures count { IfOk result (λ opened. length opened.items ≡ length names.now) }
 {
     let mut opened = Vec::new(alloc);
     for name in names {
-        let file = files.open_in(name)?;
+        let file = open_one(files, name)?;
         opened.push(file)?;
     }
     Ok(opened)
@@ -65,17 +83,17 @@ pub fn create_all<F: Files>(
     files: &mut F,
     names: &[&str],
 ) -> Result<Vec<u32>, FilesFault>
-    ensures writable { IfOk result (λ made. EachFile (F.is_written files.new) made.items) }
+    ensures writable { IfOk result (λ made. EachFile (IsWritten (F.told files.new)) made.items) }
     ensures apart { IfOk result (λ made. IsApart made.items) }
     ensures in_order { IfOk result (λ made. AreInOrder made.items) }
     ensures count { IfOk result (λ made. length made.items ≡ length names.now) }
     ensures empty { IfOk result (λ made.
         EachFile (λ file. IsEmptyIfTold ((F.told files.new).given file)) made.items) }
-    ensures reads { (g : ℕ) → F.is_read files.old g → F.is_read files.new g }
+    ensures reads { (g : ℕ) → IsRead (F.told files.old) g → IsRead (F.told files.new) g }
 {
     let mut made = Vec::new(alloc);
     for name in names {
-        let file = files.create_out(name)?;
+        let file = create_one(files, name)?;
         made.push(file)?;
     }
     Ok(made)
@@ -89,7 +107,7 @@ pub fn start<F: Files>(
     captures: &[u32],
     most: u32,
 ) -> Result<Feed, FeedFault>
-    requires readable { EachFile (F.is_read files.old) captures.now }
+    requires readable { EachFile (IsRead (F.told files.old)) captures.now }
     requires apart { IsApart captures.now }
     requires ports { length captures.now ≤ 2 ^ 32 }
     requires ports_of { length captures.now ≡ length func.now.handlers }
@@ -97,16 +115,15 @@ pub fn start<F: Files>(
     ensures six { IfOk result (λ feed. sixes_in feed.sources ≡ six_ports (function_of func.now)) }
     ensures new { IfOk result (λ feed. feed.given ≡ 0) }
     ensures most { IfOk result (λ feed. feed.most ≡ most) }
-    ensures readable { IfOk result (λ feed. EachFile (F.is_read files.new) (files_in feed.sources)) }
-    ensures reads { (g : ℕ) → F.is_read files.old g → F.is_read files.new g }
+    ensures readable { IfOk result (λ feed. EachFile (IsRead (F.told files.new)) (files_in feed.sources)) }
 {
     Feed::start(alloc, files, func, captures, most)
 }
 
 /// The next packet of captures.
 pub fn next<F: Files>(feed: &mut Feed, files: &mut F) -> Result<Fed, FeedFault>
-    requires { EachFile (F.is_read files.old) (files_in feed.old.sources) }
-    ensures readable { EachFile (F.is_read files.new) (files_in feed.new.sources) }
+    requires { EachFile (IsRead (F.told files.old)) (files_in feed.old.sources) }
+    ensures readable { EachFile (IsRead (F.told files.new)) (files_in feed.new.sources) }
     ensures files { files_in feed.new.sources ≡ files_in feed.old.sources }
 {
     feed.next(files)

@@ -5,6 +5,7 @@ use Rattle.std.proofs.lemmas.Bool.{cases_lt, le-ltb}
 use Rattle.capture_format.specs.declared.format.CaptureFormat.{CaptureFormat}
 use Rattle.nf_base.specs.declared.card.Card.{Card}
 use Rattle.nf_base.specs.Text.{Function}
+use Rattle.nf_files.specs.declared.kind.Kind.{Kind}
 use Rattle.nf_files.specs.Told.{Told, IsToldAs}
 use Rattle.packet_feed.specs.Arrivals.{Arrival}
 use Rattle.stream_run.specs.declared.fault.RunFault.{RunFault}
@@ -12,7 +13,7 @@ use Rattle.stream_run.specs.Texts.{file_bytes}
 use Rattle.stream_run.specs.Writing.{IsSameOrOther, KeepsBut, IsFrontIfTold}
 use Rattle.made_captures.specs.Told.{names_of, names_beyond, with_made}
 use Rattle.nf_files.specs.Causes.{Counted}
-use Rattle.made_captures.specs.Outputs.{Counting, journal_of, bytes_from, is_right, counts_right, is_known, flag, mark_of, told_if, told_beside}
+use Rattle.made_captures.specs.Outputs.{Counting, journal_of, bytes_from, is_right, counts_right, is_known, flag, mark_of, told_if, kind_beside, kinds_beside, with_kinds, told_beside}
 use Rattle.made_captures.proofs.Placing.{name_low}
 use Rattle.traffic_run.specs.declared.worker_plan.WorkerPlan.{WorkerPlan}
 use Rattle.traffic_run.specs.declared.worker_plan.WorkerPlan.TheVariants as worker_plans
@@ -70,25 +71,34 @@ mark_says w v r s k l f g n m e =
 
 -- ---- nothing else changes
 
-keeps_true : (files : List ℕ) (cs ds : List (List ℕ)) (a b : List ℕ) (old new : Told) → ((k d : ℕ) → k < length files → slice_index_or files k d < 2 ^ 32) → KeepsBut files (with_made cs a old) (with_made ds b new) → KeepsBut files old new
-keeps_true files cs ds a b old new small k = record {
+beyond : (captures : List (List ℕ)) (last : ℕ) (kind : ℕ → Option Kind) (g : ℕ) → kinds_beside captures last kind (2 ^ 32 + g) ≡ kind g
+beyond captures last kind g =
+    let off : 2 ^ 32 + g - 2 ^ 32 ≡ g = omega arith in
+    ap (λ (b : Bool). cond b (kind_beside captures last kind (2 ^ 32 + g)) (kind (2 ^ 32 + g - 2 ^ 32))) (le-ltb (2 ^ 32 + g) (2 ^ 32) (omega arith)) ∙ ap kind off
+
+kind_again : (cs ds : List (List ℕ)) (l m : ℕ) (old new : ℕ → Option Kind) (g : ℕ) → kinds_beside ds m new (2 ^ 32 + g) ≡ kinds_beside cs l old (2 ^ 32 + g) → new g ≡ old g
+kind_again cs ds l m old new g e = sym (beyond ds m new g) ∙ e ∙ beyond cs l old g
+
+keeps_true : (files : List ℕ) (cs ds : List (List ℕ)) (a b : List ℕ) (l m : ℕ) (old new : Told) → ((k d : ℕ) → k < length files → slice_index_or files k d < 2 ^ 32) → KeepsBut files (with_kinds cs l old.kind (with_made cs a old)) (with_kinds ds m new.kind (with_made ds b new)) → KeepsBut files old new
+keeps_true files cs ds a b l m old new small k = record {
   current = λ n file all c. let later = k.current n file (λ i d lt. other (slice_index_or files i d) (small i d lt) n file (all i d lt)) (record { last = c.last; follows = c.follows }) in record { last = later.last; follows = later.follows };
   givens = k.givens;
   names = λ g. name_again a b old.name new.name g k.names (cases_lt g (2 ^ 32));
+  kinds = λ g. kind_again cs ds l m old.kind new.kind g (k.kinds (2 ^ 32 + g));
   contents = λ n others. k.contents n (λ i d lt. λ is. others i d lt (sym (name_low a old.name (slice_index_or files i d) (small i d lt)) ∙ is));
   latest_same = k.latest_same;
   next_same = k.next_same;
 }
   where
-    other : (f : ℕ) → f < 2 ^ 32 → (n : List ℕ) (file : ℕ) → IsSameOrOther old n file f → IsSameOrOther (with_made cs a old) n file f
+    other : (f : ℕ) → f < 2 ^ 32 → (n : List ℕ) (file : ℕ) → IsSameOrOther old n file f → IsSameOrOther (with_kinds cs l old.kind (with_made cs a old)) n file f
     other f lt n file (inl e) = inl e
     other f lt n file (inr o) = inr (o.0, λ is. o.1 (sym (name_low a old.name f lt) ∙ is))
 
-pub keeps_back : (files : List ℕ) (cs ds : List (List ℕ)) (a b : List ℕ) (r s : Bool) (old new : Told) → r ≡ true → s ≡ true → ((k d : ℕ) → k < length files → slice_index_or files k d < 2 ^ 32) → KeepsBut files (with_made cs a (told_if r old)) (with_made ds b (told_if s new)) → KeepsBut files old new
-keeps_back files cs ds a b r s old new p q small k =
-    keeps_true files cs ds a b old new small
-    (subst (λ (x : Bool). KeepsBut files (with_made cs a old) (with_made ds b (told_if x new))) q
-    (subst (λ (x : Bool). KeepsBut files (with_made cs a (told_if x old)) (with_made ds b (told_if s new))) p k))
+pub keeps_back : (files : List ℕ) (cs ds : List (List ℕ)) (a b : List ℕ) (l m : ℕ) (r s : Bool) (old new : Told) → r ≡ true → s ≡ true → ((k d : ℕ) → k < length files → slice_index_or files k d < 2 ^ 32) → KeepsBut files (with_kinds cs l old.kind (with_made cs a (told_if r old))) (with_kinds ds m new.kind (with_made ds b (told_if s new))) → KeepsBut files old new
+keeps_back files cs ds a b l m r s old new p q small k =
+    keeps_true files cs ds a b l m old new small
+    (subst (λ (x : Bool). KeepsBut files (with_kinds cs l old.kind (with_made cs a old)) (with_kinds ds m new.kind (with_made ds b (told_if x new)))) q
+    (subst (λ (x : Bool). KeepsBut files (with_kinds cs l old.kind (with_made cs a (told_if x old))) (with_kinds ds m new.kind (with_made ds b (told_if s new)))) p k))
 
 -- ---- what was given to files
 
@@ -123,9 +133,9 @@ leaves_same worker_plan card format Refused f arrivals told now files (Err stop)
 given_if : (right : Bool) (told : Told) (g : ℕ) → right ≡ true → (told_if right told).given g ≡ told.given g
 given_if right told g e = ap (λ (b : Bool). (told_if b told).given g) e
 
-pub leaves_back : (worker_plan : WorkerPlan) (card : Card) (format : CaptureFormat) (Refused : Type 0) (f : Function) (arrivals : List Arrival) (captures : List (List ℕ)) (mark : List ℕ) (right : Bool) (now : Told) (files : List ℕ) (result : Result UncountedResult RunFault) → right ≡ true
-    → Leaves worker_plan card format Refused f arrivals (with_made captures mark (told_if right now)) files result → Leaves worker_plan card format Refused f arrivals now files result
-leaves_back worker_plan card format Refused f arrivals captures mark right now files result e h = leaves_same worker_plan card format Refused f arrivals (with_made captures mark (told_if right now)) now files result (λ g. given_if right now g e) h
+pub leaves_back : (worker_plan : WorkerPlan) (card : Card) (format : CaptureFormat) (Refused : Type 0) (f : Function) (arrivals : List Arrival) (captures : List (List ℕ)) (mark : List ℕ) (last : ℕ) (right : Bool) (now : Told) (files : List ℕ) (result : Result UncountedResult RunFault) → right ≡ true
+    → Leaves worker_plan card format Refused f arrivals (with_kinds captures last now.kind (with_made captures mark (told_if right now))) files result → Leaves worker_plan card format Refused f arrivals now files result
+leaves_back worker_plan card format Refused f arrivals captures mark last right now files result e h = leaves_same worker_plan card format Refused f arrivals (with_kinds captures last now.kind (with_made captures mark (told_if right now))) now files result (λ g. given_if right now g e) h
 
 pub empty_beside : (right : Bool) (told : Told) (P : Option (List ℕ) → Type 0) (g : ℕ) → right ≡ true → P (told.given g) → P ((told_if right told).given g)
 empty_beside right told P g e p = subst P (sym (given_if right told g e)) p

@@ -4,7 +4,7 @@ ghost use Rattle.nf_base.specs.Functions.{function_of};
 ghost use Rattle.nf_base.specs.Doors.{six_ports};
 ghost use Rattle.toeplitz_hash.specs.Meeting.{HashAlikeWhereTheyMeet};
 ghost use Rattle.lock_mode.specs.Gates.{Rose};
-ghost use Rattle.nf_files.specs.Told.{IsEmptyIfTold};
+ghost use Rattle.nf_files.specs.Told.{IsEmptyIfTold, IsRead, IsWritten};
 ghost use Rattle.packet_feed.specs.Told.{EachFile, IsApart};
 ghost use Rattle.stream_run.specs.Writing.{KeepsBut, IsStopCause, StopsAmong};
 ghost use Rattle.traffic_run.specs.TrafficSpecs.{asked_for};
@@ -45,8 +45,8 @@ fn run_one<F: Files>(
     requires ports { length captures.now ≡ length func.now.handlers }
     requires some_port { 1 ≤ length func.now.handlers }
     requires few_ports { length captures.now ≤ 4 }
-    requires opened { EachFile (F.is_read files.old) captures.now }
-    requires created { EachFile (F.is_written files.old) targets.now }
+    requires opened { EachFile (IsRead (F.told files.old)) captures.now }
+    requires created { EachFile (IsWritten (F.told files.old)) targets.now }
     requires apart { IsApart targets.now }
     requires as_many { length targets.now ≡ length func.now.handlers + 1 }
     requires empty { (k : ℕ) → (file : ℕ) → slice_get targets.now k ≡ Some file →
@@ -95,8 +95,8 @@ fn run_shards<
     requires ports { length captures.now ≡ length func.now.handlers }
     requires some_port { 1 ≤ length func.now.handlers }
     requires few_ports { length captures.now ≤ 4 }
-    requires opened { EachFile (F.is_read files.old) captures.now }
-    requires created { EachFile (F.is_written files.old) targets.now }
+    requires opened { EachFile (IsRead (F.told files.old)) captures.now }
+    requires created { EachFile (IsWritten (F.told files.old)) targets.now }
     requires apart { IsApart targets.now }
     requires as_many { length targets.now ≡ length func.now.handlers + 1 }
     requires empty { (k : ℕ) → (file : ℕ) → slice_get targets.now k ≡ Some file →
@@ -153,8 +153,8 @@ fn run_sharing<R: Threads + Wait + Sync, F: Files, T: Turns + Sync, G: Gate + Dr
     requires ports { length captures.now ≡ length func.now.handlers }
     requires some_port { 1 ≤ length func.now.handlers }
     requires few_ports { length captures.now ≤ 4 }
-    requires opened { EachFile (F.is_read files.old) captures.now }
-    requires created { EachFile (F.is_written files.old) targets.now }
+    requires opened { EachFile (IsRead (F.told files.old)) captures.now }
+    requires created { EachFile (IsWritten (F.told files.old)) targets.now }
     requires apart { IsApart targets.now }
     requires as_many { length targets.now ≡ length func.now.handlers + 1 }
     requires empty { (k : ℕ) → (file : ℕ) → slice_get targets.now k ≡ Some file →
@@ -215,8 +215,8 @@ fn run_by<
     requires ports { length captures.now ≡ length func.now.handlers }
     requires some_port { 1 ≤ length func.now.handlers }
     requires few_ports { length captures.now ≤ 4 }
-    requires opened { EachFile (F.is_read files.old) captures.now }
-    requires created { EachFile (F.is_written files.old) targets.now }
+    requires opened { EachFile (IsRead (F.told files.old)) captures.now }
+    requires created { EachFile (IsWritten (F.told files.old)) targets.now }
     requires apart { IsApart targets.now }
     requires as_many { length targets.now ≡ length func.now.handlers + 1 }
     requires empty { (k : ℕ) → (file : ℕ) → slice_get targets.now k ≡ Some file →
@@ -265,8 +265,8 @@ pub(crate) fn run_over<
     requires ports { length captures.now ≡ length func.now.handlers }
     requires some_port { 1 ≤ length func.now.handlers }
     requires few_ports { length captures.now ≤ 4 }
-    requires opened { EachFile (F.is_read files.old) captures.now }
-    requires created { EachFile (F.is_written files.old) targets.now }
+    requires opened { EachFile (IsRead (F.told files.old)) captures.now }
+    requires created { EachFile (IsWritten (F.told files.old)) targets.now }
     requires apart { IsApart targets.now }
     requires as_many { length targets.now ≡ length func.now.handlers + 1 }
     requires empty { (k : ℕ) → (file : ℕ) → slice_get targets.now k ≡ Some file →

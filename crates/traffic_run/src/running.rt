@@ -3,7 +3,7 @@ ghost use Rattle.std.specs.Prelude.{◌≡◌, ◌+◌, ◌<◌, ◌≤◌, ◌^
 ghost use Rattle.nf_base.specs.Functions.{function_of};
 ghost use Rattle.nf_base.specs.Doors.{six_ports};
 ghost use Rattle.lock_mode.specs.Gates.{Rose};
-ghost use Rattle.nf_files.specs.Told.{Told, IsEmptyIfTold};
+ghost use Rattle.nf_files.specs.Told.{Told, IsEmptyIfTold, IsWritten};
 ghost use Rattle.packet_feed.specs.Told.{EachFile, IsApart};
 ghost use Rattle.stream_run.specs.Writing.{KeepsBut, IsStopCause, StopsAmong};
 ghost use Rattle.made_captures.specs.Captures.{IsMade, numbers_of};
@@ -58,10 +58,11 @@ fn run_beside<
     requires alone { IsApart captures.now }
     requires opened { EachFile (IsMade beside.old.captures.now) captures.now }
     requires before { AreBefore beside.old.outputs targets.now }
+    requires low { journal_of beside.old.outputs + length beside.old.captures.now < 2 ^ 32 }
     requires ports { length captures.now ≡ length func.now.handlers }
     requires some_port { 1 ≤ length func.now.handlers }
     requires few_ports { length captures.now ≤ 4 }
-    requires created { EachFile (F.is_written beside.old.files.now) targets.now }
+    requires created { EachFile (IsWritten (F.told beside.old.files.now)) targets.now }
     requires apart { IsApart targets.now }
     requires as_many { length targets.now ≡ length func.now.handlers + 1 }
     requires empty { (k : ℕ) → (file : ℕ) → slice_get targets.now k ≡ Some file →
@@ -130,12 +131,12 @@ fn run_made<
     requires alone { IsApart captures.now }
     requires opened { EachFile (IsMade made) captures.now }
     requires from_two { 2 ≤ first }
-    requires fit { first + length func.now.handlers < 2 ^ 32 }
+    requires fit { first + length func.now.handlers + length made < 2 ^ 32 }
     requires numbers { (k : ℕ) → (file : ℕ) → slice_get targets.now k ≡ Some file → file ≡ first + k }
     requires ports { length captures.now ≡ length func.now.handlers }
     requires some_port { 1 ≤ length func.now.handlers }
     requires few_ports { length captures.now ≤ 4 }
-    requires created { EachFile (F.is_written files.old) targets.now }
+    requires created { EachFile (IsWritten (F.told files.old)) targets.now }
     requires as_many { length targets.now ≡ length func.now.handlers + 1 }
     requires empty { (k : ℕ) → (file : ℕ) → slice_get targets.now k ≡ Some file →
         IsEmptyIfTold ((F.told files.old).given file) }
@@ -247,7 +248,7 @@ pub fn run<
     requires serves { Serves (function_of func.now) worker_plan.now }
     requires from_two { 2 ≤ first }
     requires numbers { (k : ℕ) → (file : ℕ) → slice_get targets.now k ≡ Some file → file ≡ first + k }
-    requires created { EachFile (F.is_written files.old) targets.now }
+    requires created { EachFile (IsWritten (F.told files.old)) targets.now }
     requires as_many { length targets.now ≡ length func.now.handlers + 1 }
     requires empty { (k : ℕ) → (file : ℕ) → slice_get targets.now k ≡ Some file →
         IsEmptyIfTold ((F.told files.old).given file) }

@@ -1,14 +1,13 @@
 //! Prints made-up traffic, a line each: seed, how many packets, of how many flows, at how many ports.
 //!
 //! Of each of the first eight packets it prints the port, the number there, the time in nanoseconds
-//! and the frame; and last a digest of all packets. `fuzz/traffic.py` prints the same.
+//! and the frame; and last a digest of all packets. `fuzz/traffic.py` prints the same. It says so where a packet
+//! has other fields than those that are read of its frame.
 #![tactic(auto)]
 
-#[cfg(test)]
-mod tests;
-
+use frame_ip::fields_of;
 use gen_traffic::Traffic;
-use nf_base::packet::PacketId;
+use nf_base::packet::{Packet, PacketId};
 use std::io;
 use test_samples::digest::Digest;
 
@@ -39,6 +38,11 @@ fn show(rt: &HostRuntime, id: PacketId, time: u64, frame: &[u8]) -> io::Result<(
     println!(rt; "")
 }
 
+// Whether a packet has the fields of its frame; this promises nothing, so that it is compared.
+fn has_fields_of(packet: &Packet, frame: &[u8]) -> bool {
+    fields_of(frame, 42) == packet.fields
+}
+
 fn show_all(rt: &HostRuntime, numbers: [u32; 4]) -> io::Result<()> {
     let mut traffic = traffic_of(numbers);
     let mut digest = Digest::new();
@@ -49,6 +53,9 @@ fn show_all(rt: &HostRuntime, numbers: [u32; 4]) -> io::Result<()> {
                 let frame = sent.1;
                 if k < SHOWN {
                     show(rt, packet.id, packet.time, &frame)?;
+                }
+                if !has_fields_of(&packet, &frame) {
+                    println!(rt; "{k}: other fields")?;
                 }
                 digest.add(&packet, &frame);
             }

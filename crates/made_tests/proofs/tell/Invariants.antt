@@ -1,7 +1,8 @@
 use Rattle.packet_feed.specs.Told.{EachFile}
 use Rattle.packet_feed.specs.Sources.{files_in}
 use Rattle.made_tests.proofs.tell.Given as goal
+use Rattle.nf_files.specs.Told.{IsRead}
 
 -- all captures can be read
 abbrev pub invariant-loop-k : goal.invariant-loop-k
-invariant-loop-k g l = EachFile (g.F.Files.is_read l.files) (files_in l.feed.sources)
+invariant-loop-k g l = EachFile (IsRead (g.F.Files.told l.files)) (files_in l.feed.sources)

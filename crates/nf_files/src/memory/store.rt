@@ -1,12 +1,12 @@
 // Names, what stands under them, and the files that were opened.
-ghost use Rattle.std.specs.Prelude.{◌≡◌, ◌<◌, ◌≤◌, ◌+◌, ◌-◌, ◌⊎◌, ℕ, List, length, take, slice_get, option_map, OnOk, OnErr, Some};
-ghost use Rattle.nf_files.specs.Memory.{store_told, nothing, is_input, is_output};
+ghost use Rattle.std.specs.Prelude.{◌≡◌, ◌≤◌, ◌+◌, ◌-◌, ℕ, List, length, take, slice_get, option_map, OnOk, OnErr, Some};
+ghost use Rattle.nf_files.specs.Memory.{store_told, nothing};
 ghost use Rattle.nf_files.specs.Openings.{Opens, Creates};
 ghost use Rattle.nf_files.specs.Puts.{Puts};
 ghost use Rattle.nf_files.specs.Opened.{left_of};
 ghost use Rattle.nf_files.specs.Pieces.{Takes};
 ghost use Rattle.nf_files.specs.Reads.{Keeps, Reads};
-ghost use Rattle.nf_files.specs.Told.{Same};
+ghost use Rattle.nf_files.specs.Told.{IsRead, TakesBytes, Same};
 ghost use Rattle.nf_files.specs.Writes.{Writes};
 
 use super::named::{Named, put_bytes};
@@ -65,8 +65,6 @@ impl Store {
     pub fn put(&mut self, alloc: Global, name: &str, bytes: &[u8]) -> Result<(), AllocError>
         ensures ok { OnOk result (Puts (store_told self.old) (store_told self.new) name.now bytes.now) }
         ensures err { OnErr result (Same (store_told self.old) (store_told self.new)) }
-        ensures reads { (g : ℕ) → is_input self.old.files.items g → is_input self.new.files.items g }
-        ensures writes { (g : ℕ) → is_output self.old.files.items g → is_output self.new.files.items g }
         ensures count { length self.new.files.items ≡ length self.old.files.items }
     {
         let named = Named {
@@ -81,10 +79,7 @@ impl Store {
     // Opens a name to be read, under which these bytes stand.
     pub fn open(&mut self, alloc: Global, bytes: Vec<u8>) -> Result<(), AllocError>
         ensures ok { OnOk result ((n : List ℕ) → (store_told self.old).content n ≡ Some bytes.items → Opens (store_told self.old) (store_told self.new) n (length self.old.files.items + 2)) }
-        ensures readable { OnOk result (is_input self.new.files.items (length self.old.files.items + 2)) }
         ensures err { OnErr result (Same (store_told self.old) (store_told self.new)) }
-        ensures reads { (g : ℕ) → is_input self.old.files.items g → is_input self.new.files.items g }
-        ensures writes { (g : ℕ) → is_output self.old.files.items g → is_output self.new.files.items g }
     {
         self.files.push(input(alloc, bytes))?;
         Ok(())
@@ -93,10 +88,7 @@ impl Store {
     // Creates a name, empty, to be written.
     pub fn create(&mut self, alloc: Global, name: &str) -> Result<(), AllocError>
         ensures ok { OnOk result (Creates (store_told self.old) (store_told self.new) name.now (length self.old.files.items + 2)) }
-        ensures writable { OnOk result (is_output self.new.files.items (length self.old.files.items + 2)) }
         ensures err { OnErr result (Same (store_told self.old) (store_told self.new)) }
-        ensures reads { (g : ℕ) → is_input self.old.files.items g → is_input self.new.files.items g }
-        ensures writes { (g : ℕ) → is_output self.old.files.items g → is_output self.new.files.items g }
     {
         let file = output(alloc, name)?;
         self.files.push(file)?;
@@ -105,17 +97,15 @@ impl Store {
 
     // Reads what is left of a file, as much as fits.
     pub fn read(&mut self, file: u32, out: &mut [u8]) -> usize
-        requires input { is_input self.old.files.items file }
+        requires input { IsRead (store_told self.old) file }
         ensures ok { Reads (store_told self.old) (store_told self.new) file result out.new }
-        ensures reads { (g : ℕ) → is_input self.old.files.items g → is_input self.new.files.items g }
-        ensures writes { (g : ℕ) → is_output self.old.files.items g → is_output self.new.files.items g }
     {
         read_at(&mut self.files, file as usize - 2, out)
     }
 
     // What is left of a file.
     pub fn left(&self, file: u32) -> &[u8]
-        requires input { is_input self.now.files.items file }
+        requires input { IsRead (store_told self.now) file }
         ensures { result.now ≡ left_of (slice_get self.now.files.items (file - 2)) }
     {
         left_at(self.files.as_slice(), file as usize - 2)
@@ -123,24 +113,20 @@ impl Store {
 
     // Takes so many bytes from what is left of a file.
     pub fn take(&mut self, file: u32, count: usize)
-        requires input { is_input self.old.files.items file }
+        requires input { IsRead (store_told self.old) file }
         requires within { count ≤ length (left_of (slice_get self.old.files.items (file - 2))) }
         ensures taken { let front = take count (left_of (slice_get self.old.files.items (file - 2))) in
             Takes front ((store_told self.old).rest file) ((store_told self.new).rest file) }
         ensures kept { Keeps (store_told self.old) (store_told self.new) file }
-        ensures reads { (g : ℕ) → is_input self.old.files.items g → is_input self.new.files.items g }
-        ensures writes { (g : ℕ) → is_output self.old.files.items g → is_output self.new.files.items g }
     {
         skip_at(&mut self.files, file as usize - 2, count)
     }
 
     // Gives a piece to a file.
     pub fn write(&mut self, file: u32, piece: &[u8]) -> Result<(), AllocError>
-        requires output { (file < 2) ⊎ is_output self.old.files.items file }
+        requires output { TakesBytes (store_told self.old) file }
         ensures ok { OnOk result (Writes (store_told self.old) (store_told self.new) file piece.now) }
         ensures err { OnErr result (Same (store_told self.old) (store_told self.new)) }
-        ensures reads { (g : ℕ) → is_input self.old.files.items g → is_input self.new.files.items g }
-        ensures writes { (g : ℕ) → is_output self.old.files.items g → is_output self.new.files.items g }
     {
         match file {
             0 => self.output.extend_from_slice(piece),

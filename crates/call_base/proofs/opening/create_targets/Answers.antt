@@ -12,6 +12,8 @@ use Rattle.call_base.proofs.Asking.{asked_more, asks_next, asks_here, front_rang
 use Rattle.call_base.proofs.Creating.{created_more, created_same}
 use Rattle.call_base.proofs.Naming.{names_apart}
 use Rattle.call_base.proofs.opening.create_targets.Goals as goal
+use Rattle.nf_files.specs.declared.kind.Kind.TheVariants.{Output}
+use Rattle.nf_files.specs.Told.{IsWritten}
 
 -- one name more of those that are created
 next_of : (format : CaptureFormat) (out : List ℕ) (ports made : ℕ) → created_by format out ports made ++ writing (name_at format out ports made) ∷ [] ≡ created_by format out ports (made + 1)
@@ -43,10 +45,9 @@ places-preserved g c =
       ];
       created = created_more (told c.args.files.now) (told c.places.files) (told c.create_at.new.files) (name_at c.args.format out ports) k c.in-Ok.file inv.created c.in-Ok.ensures.ok (λ j lt. names_apart c.args.format out ports j k c.requires.few (omega (arith, lt, c.places-test.true)) (omega (arith, c.places-test.true)) (λ e. omega (arith, e, lt)));
       writable = λ i f got. elim (got_either old c.in-Ok.file i f (ap (λ xs. slice_get xs i) (sym new) ∙ got)) [
-        | inl was ↦ c.create_at.ensures.writes f (inv.writable i f was)
-        | inr last ↦ subst (g.F.Files.is_written c.create_at.new.files) (sym last.1) c.in-Ok.ensures.writable
+        | inl was ↦ c.in-Ok.ensures.ok.kinds f Output (inv.writable i f was)
+        | inr last ↦ subst (IsWritten (g.F.Files.told c.create_at.new.files)) (sym last.1) c.in-Ok.ensures.ok.written
       ];
-      reads = λ n r. c.create_at.ensures.reads n (inv.reads n r);
       asked = asked_more (created_by c.args.format out ports k) (writing (name_at c.args.format out ports k)) (counted c.args.files.now) (counted c.places.files) (counted c.create_at.new.files) inv.asked c.in-Ok.ensures.cause
           ∙ ap (λ (t : List Asked). asking t (counted c.args.files.now)) (next_of c.args.format out ports k);
     }

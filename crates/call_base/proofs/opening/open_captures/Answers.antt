@@ -8,6 +8,8 @@ use Rattle.call_base.proofs.Got.{got_either, got_item}
 use Rattle.call_base.proofs.Asking.{front_more, front_taken, asked_more, asks_next, asks_here}
 use Rattle.call_base.proofs.Creating.{opened_more, untouched_both, untouched_opened}
 use Rattle.call_base.proofs.opening.open_captures.Goals as goal
+use Rattle.nf_files.specs.declared.kind.Kind.TheVariants.{Input}
+use Rattle.nf_files.specs.Told.{IsRead}
 
 -- a name of a loop, as it is asked for
 read_item : (names : List (String Global)) (i : ℕ) (x : String Global) → i < length names → x ≡ get_or names i x → slice_get (map reading (map string_bytes names)) i ≡ Some (reading (string_bytes x))
@@ -32,12 +34,12 @@ loop-name-preserved g c =
       opened = subst (λ (xs : List ℕ). AreOpened (told c.args.files.now) (told c.open_next.new.files) (map string_bytes c.args.names.now) xs) (sym new)
           (opened_more (told c.args.files.now) (told c.loop-name.files) (told c.open_next.new.files) (map string_bytes c.args.names.now) old n c.in-Ok.file inv.opened inv.untouched.contents (ap (slice_get (map string_bytes c.args.names.now)) inv.count ∙ named) c.in-Ok.ensures.ok);
       readable = λ j f got. elim (got_either old c.in-Ok.file j f (ap (λ xs. slice_get xs j) (sym new) ∙ got)) [
-        | inl was ↦ c.open_next.ensures.reads f (inv.readable j f was)
-        | inr last ↦ subst (g.F.Files.is_read c.open_next.new.files) (sym last.1) c.in-Ok.ensures.readable
+        | inl was ↦ c.in-Ok.ensures.ok.kinds f Input (inv.readable j f was)
+        | inr last ↦ subst (IsRead (g.F.Files.told c.open_next.new.files)) (sym last.1) c.in-Ok.ensures.ok.read
       ];
       untouched = untouched_both (told c.args.files.now) (told c.loop-name.files) (told c.open_next.new.files) inv.untouched (untouched_opened (told c.loop-name.files) (told c.open_next.new.files) n c.in-Ok.file c.in-Ok.ensures.ok);
+      kinds = λ n kind was. c.in-Ok.ensures.ok.kinds n kind (inv.kinds n kind was);
       rests = λ n lt. c.in-Ok.ensures.ok.rests n (λ same. absurd (omega (arith, same, lt, c.in-Ok.ensures.ok.number, inv.from))) ∙ inv.rests n lt;
-      reads = λ n r. c.open_next.ensures.reads n (inv.reads n r);
       asked = asked_more (take i all) (reading n) (counted c.args.files.now) (counted c.loop-name.files) (counted c.open_next.new.files) inv.asked c.in-Ok.ensures.cause
           ∙ ap (λ (t : List Asked). asking t (counted c.args.files.now)) (sym (front_more all i (reading n) one));
     }

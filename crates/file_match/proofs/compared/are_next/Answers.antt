@@ -17,8 +17,6 @@ loop-rest-preserved g c =
       taken = taken_more was.0 c.loop-rest.rest.now (take c.in_ok-count.count c.read_front.new.room) c.in-Some.more.now c.args.bytes.now _ _ _ was.1 c.in-Some.ensures was.2 c.in_ok-count.ensures.taken;
       room = c.read_front.ensures.long ∙ inv.room;
       kept = keeps_both (told c.args.files.now) (told c.loop-rest.files) (told c.read_front.new.files) c.args.file inv.kept c.read_front.ensures.kept;
-      reads = λ n r. c.read_front.ensures.reads n (inv.reads n r);
-      writes = λ n r. c.read_front.ensures.writes n (inv.writes n r);
       count = c.in_ok-count.ensures.cause ∙ inv.count;
     }
 

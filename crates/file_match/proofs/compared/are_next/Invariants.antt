@@ -11,8 +11,6 @@ invariant-loop-rest g l =
       taken : (front : List ℕ) × (front ++ l.rest ≡ l.bytes) × Takes front ((told l.fn.files).rest l.file) ((told l.files).rest l.file);
       room : length l.room ≡ length l.fn.room;
       kept : Keeps (told l.fn.files) (told l.files) l.file;
-      reads : (h : ℕ) → g.F.Files.is_read l.fn.files h → g.F.Files.is_read l.files h;
-      writes : (h : ℕ) → g.F.Files.is_written l.fn.files h → g.F.Files.is_written l.files h;
       count : g.F.Files.counted l.files ≡ g.F.Files.counted l.fn.files;
     }
 

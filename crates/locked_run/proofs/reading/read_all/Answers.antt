@@ -4,6 +4,7 @@ use Rattle.packet_feed.specs.Sources.{files_in}
 use Rattle.stream_run.proofs.Held.{but_none, read_on}
 use Rattle.sharded_run.specs.Reading.{Gathers}
 use Rattle.sharded_run.proofs.Gathered.{gathers_none, gathers_more}
+use Rattle.sharded_run.proofs.Went.{still_opened}
 use Rattle.locked_run.proofs.reading.read_all.Goals as goal
 
 pub packets-init : goal.packets-init
@@ -14,8 +15,6 @@ packets-init g c =
       gathers = subst (λ (as_list : List Arrival). Gathers ports c.args.feed.now c.args.feed.now told told as_list) (sym c.requires.empty) (gathers_none ports c.args.feed.now told);
       captures = c.requires.captures;
       kept = λ targets. but_none targets told;
-      reads = λ n r. r;
-      writes = λ n r. r;
       count = refl;
     }
 
@@ -56,7 +55,11 @@ packets-preserved g c =
           (ap (λ (fs : List ℕ). length fs) c.requires.captures));
       captures = c.next.ensures.same_files ∙ inv.captures;
       kept = λ targets. read_on targets (files_in c.packets.feed.sources) (told c.args.files.now) (told c.packets.files) (told c.next.new.files) (inv.kept targets) c.next.ensures.kept;
-      reads = λ n r. c.next.ensures.reads n (inv.reads n r);
-      writes = λ n r. c.next.ensures.writes n (inv.writes n r);
       count = ok.cause ∙ inv.count;
     }
+
+pub next-requires : goal.next-requires
+next-requires g c =
+    let told = g.F.Files.told in
+    let inv = c.packets.invariant in
+    record { opened = still_opened [] c.args.captures.now (files_in c.packets.feed.sources) (told c.args.files.now) (told c.packets.files) (inv.kept []) inv.captures c.requires.opened }

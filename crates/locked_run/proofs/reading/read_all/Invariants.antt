@@ -12,8 +12,6 @@ invariant-packets g l =
       gathers : Gathers (length l.captures) l.fn.feed l.feed (told l.fn.files) (told l.files) l.batch;
       captures : files_in l.feed.sources ≡ l.captures;
       kept : (targets : List ℕ) → KeepsBut targets (told l.fn.files) (told l.files);
-      reads : (n : ℕ) → g.F.Files.is_read l.fn.files n → g.F.Files.is_read l.files n;
-      writes : (n : ℕ) → g.F.Files.is_written l.fn.files n → g.F.Files.is_written l.files n;
       count : g.F.Files.counted l.files ≡ g.F.Files.counted l.fn.files;
     }
 

@@ -28,7 +28,7 @@ pub settle-requires-clause-fresh : goal.settle-requires-clause-fresh
 settle-requires-clause-fresh g c κs within =
     let told = g.F.Files.told in
     record {
-      created = λ k file e. c.read_all.ensures.writes file (c.requires.created k file e);
+      created = λ k file e. (c.read_all.ensures.kept []).kinds file ∙ c.requires.created k file e;
       apart = c.requires.apart;
       few = c.requires.few;
       empty = still_empty (told c.args.files.now) (told c.read_all.new.files) c.args.targets.now (c.read_all.ensures.kept []) c.requires.empty;

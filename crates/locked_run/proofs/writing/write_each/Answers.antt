@@ -33,7 +33,6 @@ loop-i-preserved g c =
       same_files = of_set targets now i w (c.write.ensures.same_files ∙ files) inv.same_files;
       kept = but_both targets (told c.args.files.now) (told c.loop-i.files) (told c.write.new.files) inv.kept
           (but_written targets (files_of b.sinks) (told c.loop-i.files) (told c.write.new.files) files c.write.ensures.kept);
-      writes = λ n r. c.write.ensures.writes n (inv.writes n r);
       count = c.in-Ok.ensures.cause ∙ inv.count;
     }
 

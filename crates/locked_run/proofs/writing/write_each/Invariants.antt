@@ -19,6 +19,5 @@ invariant-loop-i g l =
       rest : (j : ℕ) (c : Chunk) → l.i ≤ j → slice_get l.chunks j ≡ Some c → slice_get l.fn.chunks j ≡ Some c;
       same_files : AreOf l.targets l.chunks;
       kept : KeepsBut l.targets (told l.fn.files) (told l.files);
-      writes : (n : ℕ) → g.F.Files.is_written l.fn.files n → g.F.Files.is_written l.files n;
       count : g.F.Files.counted l.files ≡ g.F.Files.counted l.fn.files;
     }

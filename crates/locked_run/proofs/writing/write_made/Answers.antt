@@ -11,7 +11,7 @@ pub returns : goal.returns
 returns g c =
     let F = g.F.Files in
     let w = c.write_each in
-    given_as (F.is_written c.args.files.now) (F.is_written w.new.files) (F.counted c.args.files.now) (F.counted w.new.files) (F.told c.args.files.now) (F.told w.new.files) c.args.targets.now
+    given_as (F.counted c.args.files.now) (F.counted w.new.files) (F.told c.args.files.now) (F.told w.new.files) c.args.targets.now
     c.as_mut_slice.result.now w.new.chunks c.args.chunks.now.items _ w.result
     c.as_mut_slice.ensures.value
     (all_of c.args.chunks.now.len w.new.chunks _ (sym c.as_mut_slice.ensures.len ∙ sym w.auto.chunks))
@@ -22,5 +22,4 @@ returns g c =
       kept = w.ensures.kept;
       cause = w.ensures.cause;
       among = w.ensures.among;
-      created = w.ensures.writes;
     })

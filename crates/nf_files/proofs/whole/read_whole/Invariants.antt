@@ -1,4 +1,4 @@
-use Rattle.std.proofs.Common.{◌≡◌, ℕ, vec_len}
+use Rattle.std.proofs.Common.{◌≡◌, vec_len}
 use Rattle.nf_files.specs.Pieces.{Takes}
 use Rattle.nf_files.specs.Reads.{Keeps}
 use Rattle.nf_files.proofs.whole.read_whole.Given as goal
@@ -11,7 +11,5 @@ invariant-turns g l =
       bytes : Takes l.all.items ((told l.fn.files).rest l.file) ((told l.files).rest l.file);
       room : vec_len l.piece ≡ 65536;
       kept : Keeps (told l.fn.files) (told l.files) l.file;
-      reads : (h : ℕ) → g.F.Files.is_read l.fn.files h → g.F.Files.is_read l.files h;
-      writes : (h : ℕ) → g.F.Files.is_written l.fn.files h → g.F.Files.is_written l.files h;
       count : g.F.Files.counted l.files ≡ g.F.Files.counted l.fn.files;
     }

@@ -13,7 +13,5 @@ loop-at-preserved g c =
     record {
       in_range = omega (arith, c.in_ok-at.ensures.within, ap length back, length-drop c.loop-at.at piece, c.loop-at.invariant.in_range);
       wrote = subst (λ (p : List ℕ). Writes (told c.args.files.now) (told c.write.new.self) c.args.file p) (front_more piece c.loop-at.at count) (writes_more _ _ _ c.args.file (take c.loop-at.at piece) (take count (drop c.loop-at.at piece)) c.loop-at.invariant.wrote wrote);
-      reads = λ h r. c.in_ok-at.ensures.reads h (c.loop-at.invariant.reads h r);
-      writes = λ h r. c.in_ok-at.ensures.writes h (c.loop-at.invariant.writes h r);
       count = c.in_ok-at.ensures.cause ∙ c.loop-at.invariant.count;
     }

@@ -1,4 +1,4 @@
-use Rattle.std.proofs.Common.{◌≡◌, ◌≤◌, ◌-◌, ℕ, take, length}
+use Rattle.std.proofs.Common.{◌≡◌, ◌≤◌, ◌-◌, take, length}
 use Rattle.nf_files.specs.Writes.{Writes}
 use Rattle.nf_files.proofs.whole.write_whole.Given as goal
 
@@ -9,8 +9,6 @@ invariant-loop-at g l =
     record {
       in_range : l.at ≤ length l.piece;
       wrote : Writes (told l.fn.files) (told l.files) l.file (take l.at l.piece);
-      reads : (h : ℕ) → g.F.Files.is_read l.fn.files h → g.F.Files.is_read l.files h;
-      writes : (h : ℕ) → g.F.Files.is_written l.fn.files h → g.F.Files.is_written l.files h;
       count : g.F.Files.counted l.files ≡ g.F.Files.counted l.fn.files;
     }
 

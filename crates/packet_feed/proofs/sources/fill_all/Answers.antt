@@ -17,7 +17,7 @@ fill-requires g c =
     let lt : port < length now = omega (arith, c.len-port-end.ensures, c.loop-port-test.true, same_length now c.args.sources.now c.loop-port.invariant.same_files) in
     let at = slice_get_read now (length now) port s refl lt c.item_mut.ensures.value in
     let file = sym (ap (λ (fs : List ℕ). slice_get fs port) c.loop-port.invariant.same_files) ∙ file_at now port s at in
-    record { opened = c.loop-port.invariant.reads s.reading.file (c.requires.opened port s.reading.file file) }
+    record { opened = c.loop-port.invariant.kept.kinds s.reading.file ∙ c.requires.opened port s.reading.file file }
 
 pub returns-in-Err-clause-same_files : goal.returns-in-Err-clause-same_files
 returns-in-Err-clause-same_files g c =
@@ -87,8 +87,6 @@ loop-port-preserved g c =
       same_six = map_kept (λ (x : Stream). x.six) now port s c.fill.new.self at c.fill.ensures.same_six ∙ inv.same_six;
       same_counts = map_kept (λ (x : Stream). x.seq) now port s c.fill.new.self at c.fill.ensures.same_count ∙ inv.same_counts;
       kept = kept_more (files_in c.args.sources.now) port f (told c.args.files.now) (told c.loop-port.files) (told c.fill.new.files) file inv.kept c.fill.ensures.kept;
-      reads = λ h r. c.fill.ensures.reads h (inv.reads h r);
-      writes = λ h r. c.fill.ensures.writes h (inv.writes h r);
       count = c.in-Ok.ensures.cause ∙ inv.count;
     }
 

@@ -19,7 +19,5 @@ invariant-loop-port g l =
       same_six : sixes_in l.sources ≡ sixes_in l.fn.sources;
       same_counts : counts_in l.sources ≡ counts_in l.fn.sources;
       kept : KeepsOthers (files_in l.fn.sources) (told l.fn.files) (told l.files);
-      reads : (h : ℕ) → g.F.Files.is_read l.fn.files h → g.F.Files.is_read l.files h;
-      writes : (h : ℕ) → g.F.Files.is_written l.fn.files h → g.F.Files.is_written l.files h;
       count : g.F.Files.counted l.files ≡ g.F.Files.counted l.fn.files;
     }

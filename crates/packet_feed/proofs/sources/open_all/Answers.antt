@@ -14,7 +14,7 @@ pub open-requires : goal.open-requires
 open-requires g c =
     let all = c.args.captures.now in
     let port = c.loop-port.port in
-    record { opened = c.loop-port.invariant.reads (get_or all port 0) (c.requires.opened port (get_or all port 0) (slice_get-get_or all port 0 (omega arith))) }
+    record { opened = c.loop-port.invariant.opened.kept.kinds (get_or all port 0) ∙ c.requires.opened port (get_or all port 0) (slice_get-get_or all port 0 (omega arith)) }
 
 pub returns-in-Err-clause-opens : goal.returns-in-Err-clause-opens
 returns-in-Err-clause-opens g c =
@@ -45,8 +45,6 @@ loop-port-preserved g c =
     record {
       opened = subst (λ (xs : List Stream). AreOpenedSoFar all six (port + 1) (told c.args.files.now) xs (told c.open.new.files)) (sym c.in-Ok-push.ensures.ok)
           (opened_more all six port f (told c.args.files.now) (told c.loop-port.files) (told c.open.new.files) c.loop-port.sources c.in-Ok.source c.requires.apart at as_many (subst (λ (b : Bool). IsOpened f b ((told c.loop-port.files).rest f) c.in-Ok.source ((told c.open.new.files).rest f)) c.has_six.ensures c.in-Ok.ensures.opens) c.open.ensures.kept inv.opened);
-      reads = λ h r. c.open.ensures.reads h (inv.reads h r);
-      writes = λ h r. c.open.ensures.writes h (inv.writes h r);
       count = c.in-Ok.ensures.cause ∙ inv.count;
     }
 

@@ -10,7 +10,5 @@ invariant-loop-port g l =
     let told = g.F.Files.told in
     record {
       opened : AreOpenedSoFar l.captures (six_ports (function_of l.func)) l.port (told l.fn.files) l.sources (told l.files);
-      reads : (h : ℕ) → g.F.Files.is_read l.fn.files h → g.F.Files.is_read l.files h;
-      writes : (h : ℕ) → g.F.Files.is_written l.fn.files h → g.F.Files.is_written l.files h;
       count : g.F.Files.counted l.files ≡ g.F.Files.counted l.fn.files;
     }

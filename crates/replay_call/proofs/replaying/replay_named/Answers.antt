@@ -13,6 +13,7 @@ use Rattle.replay_call.specs.declared.job.Job.{Job}
 use Rattle.replay_call.specs.Progress.{IsSized, HasFed, asked, ports_of}
 use Rattle.replay_call.proofs.Beginning.{halted, are_unopened}
 use Rattle.replay_call.proofs.Judging.{has_ready}
+use Rattle.nf_files.specs.declared.kind.Kind.TheVariants.{Input}
 use Rattle.replay_call.proofs.replaying.replay_named.Goals as goal
 
 -- the places of files that were opened one behind another tell their numbers
@@ -76,3 +77,6 @@ returns g c =
           (from_behind before a job c.args.captures.now c.args.feed.now c.args.last (length c.args.names.now) c.in-Err.stop fed c.requires.last (omega (arith, c.requires.some, ports_are job c.requires.sized)) c.in-Err.ensures.from)
           (subst (λ (ns : List (List ℕ)). AsksSome (map reading ns) a.counted b.counted c.in-Err.stop) named c.in-Err.ensures.cause));
     }
+
+pub replay_ready-requires-clause-read : goal.replay_ready-requires-clause-read
+replay_ready-requires-clause-read g c = λ port file e. c.open_captures.ensures.kinds file Input (c.requires.read port file e)

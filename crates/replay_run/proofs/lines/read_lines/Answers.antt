@@ -70,8 +70,6 @@ lines-init g c =
       same_file = refl;
       same_outputs = c.compare_headers.ensures.same_files;
       kept = others_outputs captures c.args.journal.now.file outputs old now kept;
-      reads = c.compare_headers.ensures.reads;
-      writes = c.compare_headers.ensures.writes;
       count = c.in-Ok.ensures.cause;
     }
 
@@ -112,8 +110,6 @@ lines-preserved g c =
       same_file = c.next_line.ensures.same_file ∙ inv.same_file;
       same_outputs = c.one_turn.ensures.same_outputs ∙ inv.same_outputs;
       kept = others_both (captures ++ file ∷ outputs) first mid new (others_both (captures ++ file ∷ outputs) first old mid inv.kept (others_one captures file outputs old mid read)) (others_around captures file outputs mid new turned);
-      reads = λ n r. c.one_turn.ensures.reads n (c.next_line.ensures.reads n (inv.reads n r));
-      writes = λ n r. c.one_turn.ensures.writes n (c.next_line.ensures.writes n (inv.writes n r));
       count = c.in-Ok-true.ensures.cause ∙ c.in-Ok-Line.ensures.cause ∙ inv.count;
     }
 

@@ -26,8 +26,6 @@ invariant-lines g l =
       same_file : l.journal.file ≡ l.fn.journal.file;
       same_outputs : files_of l.outputs ≡ files_of l.fn.outputs;
       kept : KeepsOthers (l.captures ++ l.fn.journal.file ∷ files_of l.fn.outputs) (told l.fn.files) (told l.files);
-      reads : (n : ℕ) → g.F.Files.is_read l.fn.files n → g.F.Files.is_read l.files n;
-      writes : (n : ℕ) → g.F.Files.is_written l.fn.files n → g.F.Files.is_written l.files n;
       count : g.F.Files.counted l.files ≡ g.F.Files.counted l.fn.files;
     }
 

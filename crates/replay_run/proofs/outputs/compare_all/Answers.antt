@@ -23,7 +23,7 @@ compare_sent-requires-clause-opened g c =
     let at = slice_get_read now (length now) k o refl lt c.item_mut-one.ensures.value in
     let file = sym (ap (λ (fs : List ℕ). slice_get fs k) inv.same_files) ∙ file_at now k o at in
     let apart = subst (λ (fs : List ℕ). IsApart fs) (sym inv.same_files) c.requires.apart in
-    inv.reads o.file (c.requires.opened k o.file file)
+    inv.kept.kinds o.file ∙ c.requires.opened k o.file file
 
 pub returns-in-Err-clause-same_files : goal.returns-in-Err-clause-same_files
 returns-in-Err-clause-same_files g c =
@@ -81,8 +81,6 @@ loop-k-preserved g c =
           (found_step (bytes_of mode workers card c.args.format ports k hs) (sent_bytes c.args.format k (came_to worker c.args.packet.now c.args.original c.args.frame.now c.args.done.now)) start o c.compare_sent.new.compared (told c.loop-k.files) (told c.compare_sent.new.files) c.compare_sent.ensures.same_file c.in-Ok.ensures.compares was)) (inv.partly worker start mode workers card ports hs few found);
       same_files = map_kept (λ (x : Comparing). x.file) now k o c.compare_sent.new.compared at c.compare_sent.ensures.same_file ∙ inv.same_files;
       kept = kept_more (files_of c.args.all.now) k o.file (told c.args.files.now) (told c.loop-k.files) (told c.compare_sent.new.files) file inv.kept c.compare_sent.ensures.kept;
-      reads = λ n r. c.compare_sent.ensures.reads n (inv.reads n r);
-      writes = λ n r. c.compare_sent.ensures.writes n (inv.writes n r);
       count = c.in-Ok.ensures.cause ∙ inv.count;
     }
 

@@ -19,7 +19,5 @@ invariant-loop-k g l =
           → IsPartly (FoundAt (λ k. bytes_of mode workers card l.format ports k (hs ++ came_to worker l.packet l.original l.frame l.done ∷ [])) start) (FoundAt (λ k. bytes_of mode workers card l.format ports k hs) start) l.k (told l.files) l.all;
       same_files : files_of l.all ≡ files_of l.fn.all;
       kept : KeepsOthers (files_of l.fn.all) (told l.fn.files) (told l.files);
-      reads : (n : ℕ) → g.F.Files.is_read l.fn.files n → g.F.Files.is_read l.files n;
-      writes : (n : ℕ) → g.F.Files.is_written l.fn.files n → g.F.Files.is_written l.files n;
       count : g.F.Files.counted l.files ≡ g.F.Files.counted l.fn.files;
     }

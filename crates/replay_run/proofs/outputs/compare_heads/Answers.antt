@@ -21,7 +21,7 @@ compare_next-requires g c =
     let at = slice_get_read now (length now) k o refl lt c.item_mut.ensures.value in
     let file = sym (ap (λ (fs : List ℕ). slice_get fs k) inv.same_files) ∙ file_at now k o at in
     let apart = subst (λ (fs : List ℕ). IsApart fs) (sym inv.same_files) c.requires.apart in
-    record { opened = inv.reads o.file (c.requires.opened k o.file file) }
+    record { opened = inv.kept.kinds o.file ∙ c.requires.opened k o.file file }
 
 pub returns-in-Err-clause-same_files : goal.returns-in-Err-clause-same_files
 returns-in-Err-clause-same_files g c =
@@ -78,8 +78,6 @@ loop-k-preserved g c =
           (λ found. found_step [] c.args.head.now start o c.compare_next.new.compared (told c.loop-k.files) (told c.compare_next.new.files) c.compare_next.ensures.same_file c.in-Ok.ensures.compares found) (inv.partly start fresh);
       same_files = map_kept (λ (x : Comparing). x.file) now k o c.compare_next.new.compared at c.compare_next.ensures.same_file ∙ inv.same_files;
       kept = kept_more (files_of c.args.all.now) k o.file (told c.args.files.now) (told c.loop-k.files) (told c.compare_next.new.files) file inv.kept c.compare_next.ensures.kept;
-      reads = λ n r. c.compare_next.ensures.reads n (inv.reads n r);
-      writes = λ n r. c.compare_next.ensures.writes n (inv.writes n r);
       count = c.in-Ok.ensures.cause ∙ inv.count;
     }
 

@@ -13,7 +13,5 @@ invariant-loop-k g l =
           → IsPartly (FoundAt (λ k. l.head) start) (FoundAt (λ k. []) start) l.k (told l.files) l.all;
       same_files : files_of l.all ≡ files_of l.fn.all;
       kept : KeepsOthers (files_of l.fn.all) (told l.fn.files) (told l.files);
-      reads : (n : ℕ) → g.F.Files.is_read l.fn.files n → g.F.Files.is_read l.files n;
-      writes : (n : ℕ) → g.F.Files.is_written l.fn.files n → g.F.Files.is_written l.files n;
       count : g.F.Files.counted l.files ≡ g.F.Files.counted l.fn.files;
     }

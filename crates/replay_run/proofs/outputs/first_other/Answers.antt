@@ -23,7 +23,7 @@ is_whole-requires g c =
     let at = slice_get_read now (length now) k o refl lt c.item_mut.ensures.value in
     let file = sym (ap (λ (fs : List ℕ). slice_get fs k) inv.same_files) ∙ file_at now k o at in
     let apart = subst (λ (fs : List ℕ). IsApart fs) (sym inv.same_files) c.requires.apart in
-    record { opened = inv.reads o.file (c.requires.opened k o.file file) }
+    record { opened = inv.kept.kinds o.file ∙ c.requires.opened k o.file file }
 
 pub returns-in-Err-clause-kept : goal.returns-in-Err-clause-kept
 returns-in-Err-clause-kept g c =
@@ -67,8 +67,6 @@ loop-k-preserved g c =
           (λ was. subst (λ (n : ℕ). IsToldAs (bytes k) (start n)) (sym c.is_whole.ensures.same_file) (told_whole RunFault (bytes k) (start o.file) ((rw c.in-Ok-true.field-0-test at c.in-Ok-true.ensures.whole) (start o.file) (bytes k) was))) (inv.partly start bytes found);
       same_files = map_kept (λ (x : Comparing). x.file) now k o c.is_whole.new.compared at c.is_whole.ensures.same_file ∙ inv.same_files;
       kept = kept_more (files_of c.args.all.now) k o.file (told c.args.files.now) (told c.loop-k.files) (told c.is_whole.new.files) file inv.kept c.is_whole.ensures.kept;
-      reads = λ n r. c.is_whole.ensures.reads n (inv.reads n r);
-      writes = λ n r. c.is_whole.ensures.writes n (inv.writes n r);
       count = c.in-Ok-true.ensures.cause ∙ inv.count;
     }
 

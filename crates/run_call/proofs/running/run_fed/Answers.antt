@@ -1,4 +1,5 @@
 use Rattle.std.proofs.Common.{◌+◌, ◌∙◌, ℕ, List, slice_get, ap, sym, subst}
+use Rattle.nf_files.specs.declared.kind.Kind.TheVariants.{Input}
 use Rattle.call_base.specs.Names.{name_at, created_by}
 use Rattle.call_base.specs.Opened.{AreSomeCreated, AsksSome}
 use Rattle.call_base.specs.Outside.{seen}
@@ -60,7 +61,7 @@ run_ready-requires g c κs within =
                           (
                             requires.0,
                             (
-                              λ p f e. c.create_targets.ensures.reads f (requires.1.0 p f e),
+                              λ p f e. c.in-Ok.ensures.created.created.kinds f Input (requires.1.0 p f e),
                               (
                                 λ p f e. c.in-Ok.ensures.writable p f (ap (λ (fs : List ℕ). slice_get fs p) (sym c.as_slice-targets.ensures.value) ∙ e),
                                 is_ready g.before a b job c.args.captures.now c.as_slice-targets.result.now c.in-Ok.targets.items c.args.feed.now requires.0 requires.1.1 c.as_slice-targets.ensures.value c.in-Ok.ensures.created c.in-Ok.ensures.cause,

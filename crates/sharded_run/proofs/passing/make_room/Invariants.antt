@@ -17,6 +17,4 @@ invariant-loop g l =
       same_files : files_of l.sinks ≡ files_of l.fn.sinks;
       went : (captures : List ℕ) → WentOn {T = Unit {0}} captures (files_of l.fn.sinks) (told l.fn.files) (told l.files) (g.F.Files.counted l.fn.files) (g.F.Files.counted l.files) (Ok tt);
       rests : (n : ℕ) → (told l.files).rest n ≡ (told l.fn.files).rest n;
-      reads : (n : ℕ) → g.F.Files.is_read l.fn.files n → g.F.Files.is_read l.files n;
-      writes : (n : ℕ) → g.F.Files.is_written l.fn.files n → g.F.Files.is_written l.files n;
     }

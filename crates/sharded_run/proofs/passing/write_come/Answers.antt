@@ -1,8 +1,8 @@
-use Rattle.std.proofs.Common.{◌≡◌, ◌≤◌, ◌∙◌, ℕ, List, length, ap, sym, subst, refl, arith}
+use Rattle.std.proofs.Common.{◌≡◌, ◌≤◌, ◌∙◌, ℕ, List, [], length, ap, sym, subst, refl, arith}
 use Rattle.std.proofs.lemmas.List.{length-map}
 use Rattle.packet_feed.specs.Told.{IsApart}
 use Rattle.stream_run.specs.Writing.{files_of}
-use Rattle.sharded_run.proofs.Went.{went_none, went_ok, went_then}
+use Rattle.sharded_run.proofs.Went.{went_none, went_ok, went_then, still_created}
 use Rattle.sharded_run.proofs.Passed.{same_both, some_first}
 use Rattle.sharded_run.proofs.passing.write_come.Goals as goal
 
@@ -15,14 +15,18 @@ loop-init g c =
       same_files = refl;
       went = λ captures. went_none captures (files_of c.args.sinks.now) (told c.args.files.now) (g.F.Files.counted c.args.files.now) (tt {0});
       rests = λ n. refl;
-      reads = λ n r. r;
-      writes = λ n r. r;
     }
 
 pub write_ready-requires-clause-some : goal.write_ready-requires-clause-some
 write_ready-requires-clause-some g c =
     let has = c.is_ready.ensures.yes c.if-not-is_ready.false in
     omega (arith, some_first has.queue c.loop.crew.line.order.items has.first, c.loop.crew.as_many)
+
+pub write_ready-requires-clause-created : goal.write_ready-requires-clause-created
+write_ready-requires-clause-created g c =
+    let told = g.F.Files.told in
+    let inv = c.loop.invariant in
+    still_created (files_of c.args.sinks.now) (files_of c.loop.sinks) (told c.args.files.now) (told c.loop.files) (inv.went []).kept inv.same_files c.requires.created
 
 pub write_ready-requires-clause-apart : goal.write_ready-requires-clause-apart
 write_ready-requires-clause-apart g c =
@@ -52,6 +56,4 @@ loop-preserved g c =
       same_files = c.write_ready.ensures.same_files ∙ inv.same_files;
       went = λ captures. went_then captures _ _ _ _ _ _ _ _ (tt {0}) _ inv.same_files (inv.went captures) (went_ok captures _ _ _ _ _ _ (tt {0}) (c.in-Ok.ensures.went captures));
       rests = λ n. c.write_ready.ensures.rests n ∙ inv.rests n;
-      reads = λ n r. c.write_ready.ensures.reads n (inv.reads n r);
-      writes = λ n r. c.write_ready.ensures.writes n (inv.writes n r);
     }

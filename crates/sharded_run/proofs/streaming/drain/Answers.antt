@@ -1,6 +1,6 @@
-use Rattle.std.proofs.Common.{◌∙◌, refl, arith}
+use Rattle.std.proofs.Common.{◌∙◌, [], refl, arith}
 use Rattle.stream_run.specs.Writing.{files_of}
-use Rattle.sharded_run.proofs.Went.{went_none, went_ok, went_err, went_then}
+use Rattle.sharded_run.proofs.Went.{went_none, went_ok, went_err, went_then, still_created}
 use Rattle.sharded_run.proofs.Passed.{gathers_rest, same_both}
 use Rattle.sharded_run.proofs.Flowed.{none_in_flight, all_over, met_behind, some_met, cut_short}
 use Rattle.sharded_run.proofs.streaming.drain.Goals as goal
@@ -14,8 +14,6 @@ loop-init g c =
       same_files = refl;
       went = λ captures. went_none captures (files_of c.args.sinks.now) (told c.args.files.now) (g.F.Files.counted c.args.files.now) (tt {0});
       rests = λ n. refl;
-      reads = λ n r. r;
-      writes = λ n r. r;
     }
 
 pub returns-then-left-eq0-clause-flows : goal.returns-then-left-eq0-clause-flows
@@ -70,6 +68,10 @@ loop-preserved g c =
       same_files = c.write_next.ensures.same_files ∙ inv.same_files;
       went = λ captures. went_then captures _ _ _ _ _ _ _ _ (tt {0}) _ inv.same_files (inv.went captures) (went_ok captures _ _ _ _ _ _ (tt {0}) (c.in-Ok-None.ensures.went captures));
       rests = λ n. c.write_next.ensures.rests n ∙ inv.rests n;
-      reads = λ n r. c.write_next.ensures.reads n (inv.reads n r);
-      writes = λ n r. c.write_next.ensures.writes n (inv.writes n r);
     }
+
+pub write_next-requires-clause-created : goal.write_next-requires-clause-created
+write_next-requires-clause-created g c =
+    let told = g.F.Files.told in
+    let inv = c.loop.invariant in
+    still_created (files_of c.args.sinks.now) (files_of c.loop.sinks) (told c.args.files.now) (told c.loop.files) (inv.went []).kept inv.same_files c.requires.created

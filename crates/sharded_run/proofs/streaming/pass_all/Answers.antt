@@ -2,7 +2,7 @@ use Rattle.std.proofs.Common.{◌≡◌, ◌∙◌, ◌++◌, ◌∷◌, [], len
 use Rattle.stream_run.specs.Writing.{files_of}
 use Rattle.sharded_run.specs.declared.result.ShareFull.{ShareFull}
 use Rattle.sharded_run.specs.Passing.{MeetsStop}
-use Rattle.sharded_run.proofs.Went.{went_none, went_ok, went_err, went_then}
+use Rattle.sharded_run.proofs.Went.{went_none, went_ok, went_err, went_then, still_created, still_opened}
 use Rattle.sharded_run.proofs.Flowed.{suits_on, flows_as, stops_in, held_at, fronts_at, some_met, cut_short}
 use Rattle.sharded_run.proofs.streaming.pass_all.Goals as goal
 
@@ -18,8 +18,6 @@ loop-init g c =
       fewer = c.requires.fewer;
       same_files = refl;
       went = went_none c.args.captures.now (files_of c.args.sinks.now) (told c.args.files.now) (g.F.Files.counted c.args.files.now) (tt {0});
-      reads = λ n r. r;
-      writes = λ n r. r;
     }
 
 pub loop-preserved : goal.loop-preserved
@@ -40,8 +38,6 @@ loop-preserved g c =
       fewer = on.fewer;
       same_files = on.same_files ∙ inv.same_files;
       went = went_then c.args.captures.now _ _ _ _ _ _ _ _ (tt {0}) _ inv.same_files inv.went (went_ok c.args.captures.now _ _ _ _ _ _ (tt {0}) c.in-Ok-On.ensures.went);
-      reads = λ k r. on.reads k (inv.reads k r);
-      writes = λ k r. on.writes k (inv.writes k r);
     }
 
 pub returns-in-Ok-End-clause-flows : goal.returns-in-Ok-End-clause-flows
@@ -105,3 +101,15 @@ pub returns-in-Err-clause-went : goal.returns-in-Err-clause-went
 returns-in-Err-clause-went g c =
     let inv = c.loop.invariant in
     went_then c.args.captures.now _ _ _ _ _ _ _ _ (tt {0}) _ inv.same_files inv.went (went_err c.args.captures.now _ _ _ _ _ c.in-Err.stop c.in-Err.ensures.went)
+
+pub pass_one-requires-clause-created : goal.pass_one-requires-clause-created
+pass_one-requires-clause-created g c =
+    let told = g.F.Files.told in
+    let inv = c.loop.invariant in
+    still_created (files_of c.args.sinks.now) (files_of c.loop.sinks) (told c.args.files.now) (told c.loop.files) inv.went.kept inv.same_files c.requires.created
+
+pub pass_one-requires-clause-opened : goal.pass_one-requires-clause-opened
+pass_one-requires-clause-opened g c =
+    let told = g.F.Files.told in
+    let inv = c.loop.invariant in
+    still_opened (files_of c.args.sinks.now) c.args.captures.now c.args.captures.now (told c.args.files.now) (told c.loop.files) inv.went.kept refl c.requires.opened

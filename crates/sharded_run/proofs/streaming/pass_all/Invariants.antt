@@ -27,6 +27,4 @@ invariant-loop g l =
       fewer : length l.crew.frames ≤ l.feed.given;
       same_files : files_of l.sinks ≡ files_of l.fn.sinks;
       went : WentOn {T = Unit {0}} l.captures (files_of l.fn.sinks) (told l.fn.files) (told l.files) (g.F.Files.counted l.fn.files) (g.F.Files.counted l.files) (Ok tt);
-      reads : (n : ℕ) → g.F.Files.is_read l.fn.files n → g.F.Files.is_read l.files n;
-      writes : (n : ℕ) → g.F.Files.is_written l.fn.files n → g.F.Files.is_written l.files n;
     }

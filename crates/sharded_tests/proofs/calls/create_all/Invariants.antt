@@ -1,5 +1,5 @@
 use Rattle.std.proofs.Common.{◌≡◌, ◌+◌, ℕ, length, Some, slice_get}
-use Rattle.nf_files.specs.Told.{IsEmptyIfTold}
+use Rattle.nf_files.specs.Told.{IsEmptyIfTold, IsRead, IsWritten}
 use Rattle.packet_feed.specs.Told.{EachFile}
 use Rattle.sharded_tests.proofs.calls.create_all.Given as goal
 
@@ -11,7 +11,7 @@ invariant-loop-name g l =
       count : length l.made.items ≡ l.name-index;
       next : (told l.files).next ≡ (told l.fn.files).next + l.name-index;
       numbered : (i f : ℕ) → slice_get l.made.items i ≡ Some f → f ≡ (told l.fn.files).next + i;
-      writable : EachFile (g.F.Files.is_written l.files) l.made.items;
+      writable : EachFile (IsWritten (g.F.Files.told l.files)) l.made.items;
       empty : EachFile (λ file. IsEmptyIfTold ((told l.files).given file)) l.made.items;
-      reads : (h : ℕ) → g.F.Files.is_read l.fn.files h → g.F.Files.is_read l.files h;
+      reads : (h : ℕ) → IsRead (told l.fn.files) h → IsRead (told l.files) h;
     }

@@ -1,6 +1,7 @@
 use Rattle.std.proofs.Common.{◌≡◌, ◌+◌, ℕ, length, Some, slice_get}
 use Rattle.packet_feed.specs.Told.{EachFile}
 use Rattle.sharded_tests.proofs.calls.open_all.Given as goal
+use Rattle.nf_files.specs.Told.{IsRead}
 
 -- those so far are opened, and numbered in order
 abbrev pub invariant-loop-name : goal.invariant-loop-name
@@ -10,5 +11,5 @@ invariant-loop-name g l =
       count : length l.opened.items ≡ l.name-index;
       next : (told l.files).next ≡ (told l.fn.files).next + l.name-index;
       numbered : (i f : ℕ) → slice_get l.opened.items i ≡ Some f → f ≡ (told l.fn.files).next + i;
-      readable : EachFile (g.F.Files.is_read l.files) l.opened.items;
+      readable : EachFile (IsRead (g.F.Files.told l.files)) l.opened.items;
     }

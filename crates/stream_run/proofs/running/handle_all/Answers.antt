@@ -21,8 +21,6 @@ packets-init g c =
       same = refl;
       same_files = refl;
       kept = but_none (files_of c.args.sinks.now) (told c.args.files.now);
-      reads = λ n r. r;
-      writes = λ n r. r;
       count = refl;
     }
 
@@ -67,8 +65,6 @@ packets-preserved g c =
       same = c.handle_one.ensures.same ∙ inv.same;
       same_files = c.handle_one.ensures.same_files ∙ inv.same_files;
       kept = written_on (files_of c.args.sinks.now) (files_of c.packets.sinks) (files_in c.packets.feed.sources) (told c.args.files.now) (told c.packets.files) (told c.advance.new.files) (told c.handle_one.new.files) inv.same_files inv.kept c.advance.ensures.kept c.handle_one.ensures.kept;
-      reads = λ n r. c.handle_one.ensures.reads n (c.advance.ensures.reads n (inv.reads n r));
-      writes = λ n r. c.handle_one.ensures.writes n (c.advance.ensures.writes n (inv.writes n r));
       count = c.in-Ok.ensures.cause ∙ ok.cause ∙ inv.count;
     }
 

@@ -23,8 +23,6 @@ invariant-packets g l =
       same : fixed_of l.tables ≡ fixed_of l.fn.tables;
       same_files : files_of l.sinks ≡ files_of l.fn.sinks;
       kept : KeepsBut (files_of l.fn.sinks) (told l.fn.files) (told l.files);
-      reads : (n : ℕ) → g.F.Files.is_read l.fn.files n → g.F.Files.is_read l.files n;
-      writes : (n : ℕ) → g.F.Files.is_written l.fn.files n → g.F.Files.is_written l.files n;
       count : g.F.Files.counted l.files ≡ g.F.Files.counted l.fn.files;
     }
 

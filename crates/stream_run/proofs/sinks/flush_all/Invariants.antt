@@ -19,7 +19,5 @@ invariant-loop-k g l =
       empty : (j : ℕ) (s : Holding) → j < l.k → slice_get l.sinks j ≡ Some s → length s.held ≡ 0;
       same_files : files_of l.sinks ≡ files_of l.fn.sinks;
       kept : KeepsAllBut (files_of l.fn.sinks) (told l.fn.files) (told l.files);
-      reads : (n : ℕ) → g.F.Files.is_read l.fn.files n → g.F.Files.is_read l.files n;
-      writes : (n : ℕ) → g.F.Files.is_written l.fn.files n → g.F.Files.is_written l.files n;
       count : g.F.Files.counted l.files ≡ g.F.Files.counted l.fn.files;
     }

@@ -19,7 +19,7 @@ flush_full-requires g c =
     let at = slice_get_read now (length now) k s refl lt c.item_mut-sink.ensures.value in
     let file = sym (ap (λ (fs : List ℕ). slice_get fs k) inv.same_files) ∙ file_at now k s at in
     let apart = subst (λ (fs : List ℕ). IsApart fs) (sym inv.same_files) c.requires.apart in
-    record { created = inv.writes s.file (c.requires.created k s.file file) }
+    record { created = inv.kept.kinds s.file ∙ c.requires.created k s.file file }
 
 pub returns-in-Err-clause-goes_on : goal.returns-in-Err-clause-goes_on
 returns-in-Err-clause-goes_on g c = λ mode workers card format ports hs held j f q.
@@ -69,8 +69,6 @@ loop-k-init g c =
       little = λ j s lt e. absurd (omega (arith, lt));
       same_files = refl;
       kept = kept_none (files_of c.args.sinks.now) now;
-      reads = λ n r. r;
-      writes = λ n r. r;
       count = refl;
     }
 
@@ -90,8 +88,6 @@ loop-k-preserved g c =
       little = little_more now k c.flush_full.new.self c.in-Ok.ensures.little inv.little;
       same_files = map_kept (λ (x : Holding). x.file) now k s c.flush_full.new.self at c.flush_full.ensures.same_file ∙ inv.same_files;
       kept = kept_more (files_of c.args.sinks.now) k s.file (told c.args.files.now) (told c.loop-k.files) (told c.flush_full.new.files) file inv.kept c.flush_full.ensures.kept;
-      reads = λ n r. c.flush_full.ensures.reads n (inv.reads n r);
-      writes = λ n r. c.flush_full.ensures.writes n (inv.writes n r);
       count = c.in-Ok.ensures.cause ∙ inv.count;
     }
 

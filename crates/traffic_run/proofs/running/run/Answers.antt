@@ -54,6 +54,13 @@ run_made-handled-requires-clause-few_ports g c = λ κs lives.
     let made = made_at c.args.asked n c.len-ports.result c.count.result c.in-Ok.captures c.len-ports.ensures.value c.count.ensures.value c.in-Ok.ensures in
     omega (arith, as_many c.args.asked n c.in-Ok.captures made, c.in-Ok-numbers.ensures.count, c.as_slice-numbers.ensures.len, c.requires.few_ports)
 
+pub run_made-handled-requires-clause-fit : goal.run_made-handled-requires-clause-fit
+run_made-handled-requires-clause-fit g c = λ κs lives.
+    let n = length c.args.func.now.handlers in
+    let made = made_at c.args.asked n c.len-ports.result c.count.result c.in-Ok.captures c.len-ports.ensures.value c.count.ensures.value c.in-Ok.ensures in
+    let low = ltb-true (c.args.first + c.len-ports.result + c.len-ports.result) (2 ^ 32) (sym c.is_low.ensures ∙ c.if-not-is_low.false) in
+    omega (arith, low, as_many c.args.asked n c.in-Ok.captures made, c.len-ports.ensures.value)
+
 pub returns-clause-runs : goal.returns-clause-runs
 returns-clause-runs g c =
     let told = g.F.Files.told in

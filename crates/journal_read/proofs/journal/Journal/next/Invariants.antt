@@ -12,8 +12,6 @@ invariant-fills g l =
       grows : Grows l.fn.self.held l.self.held ((told l.fn.files).rest file) ((told l.files).rest file);
       same_file : l.self.file ≡ file;
       kept : Keeps (told l.fn.files) (told l.files) file;
-      reads : (h : ℕ) → g.F.Files.is_read l.fn.files h → g.F.Files.is_read l.files h;
-      writes : (h : ℕ) → g.F.Files.is_written l.fn.files h → g.F.Files.is_written l.files h;
       count : g.F.Files.counted l.files ≡ g.F.Files.counted l.fn.files;
     }
 

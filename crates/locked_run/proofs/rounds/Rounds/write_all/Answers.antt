@@ -23,11 +23,11 @@ rounds-init g c =
         current = λ n file all k. k;
         givens = λ k others. refl;
         names = λ k. refl;
+        kinds = λ k. refl;
         contents = λ n others. refl;
         latest_same = λ n. refl;
         next_same = refl;
       };
-      writes = λ n r. r;
       count = refl;
     }
 
@@ -63,7 +63,6 @@ rounds-preserved g c =
       rounds = rounds_then targets (step_of c.args.self.now) (step_of c.rounds.self) t.self inv.rounds.step_is c.turn.ensures.rounds;
       within = (let test = c.rounds-test.true in omega (arith, test, value));
       kept = but_both targets (told c.args.files.now) (told c.rounds.files) (told t.files) inv.kept c.turn.ensures.kept;
-      writes = λ n r. c.turn.ensures.writes n (inv.writes n r);
       count = c.in-Ok.ensures.cause ∙ inv.count;
     }
 

@@ -19,7 +19,6 @@ invariant-rounds g l =
       rounds : AreRounds l.targets (step_of l.fn.self) l.self;
       within : l.from ≤ length l.worked.places.items;
       kept : KeepsBut l.targets (told l.fn.files) (told l.files);
-      writes : (n : ℕ) → g.F.Files.is_written l.fn.files n → g.F.Files.is_written l.files n;
       count : g.F.Files.counted l.files ≡ g.F.Files.counted l.fn.files;
     }
 

@@ -1,5 +1,5 @@
 use Rattle.std.proofs.Common.{◌≤◌, ◌-◌, List, ℕ, length, drop, ap, ◌∙◌, arith}
-use Rattle.std.proofs.lemmas.List.{length-take, length-drop}
+use Rattle.std.proofs.lemmas.List.{length-take}
 use Rattle.nf_files.proofs.Ranges.{later_start}
 use Rattle.nf_files.proofs.buffer.Buffer.advance.Goals as goal
 

@@ -1,6 +1,5 @@
-use Rattle.std.proofs.Common.{ap, subst, sym, ◌++◌, take, ℕ, List, length, ◌≤◌}
+use Rattle.std.proofs.Common.{ap, subst, ℕ, List, length, ◌≤◌}
 use Rattle.nf_files.specs.declared.kind.Kind.TheVariants.{Input}
-use Rattle.nf_files.specs.Pieces.{Takes}
 use Rattle.nf_files.proofs.Changed.{changes, takes_here, given_same, within_kind, left_here}
 use Rattle.nf_files.proofs.memory.opened.skip_at.Goals as goal
 

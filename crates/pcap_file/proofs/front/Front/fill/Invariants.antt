@@ -9,8 +9,6 @@ invariant-loop-self g l =
     record {
       grows : Grows l.fn.self l.self (told l.fn.files) (told l.files);
       most : length l.self.bytes ≤ l.wanted;
-      reads : (h : ℕ) → g.F.Files.is_read l.fn.files h → g.F.Files.is_read l.files h;
-      writes : (h : ℕ) → g.F.Files.is_written l.fn.files h → g.F.Files.is_written l.files h;
       count : g.F.Files.counted l.files ≡ g.F.Files.counted l.fn.files;
     }
 

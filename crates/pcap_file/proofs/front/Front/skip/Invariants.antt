@@ -14,8 +14,6 @@ invariant-loop-left g l =
       less : l.left ≤ l.fn.count;
       done : Skips (l.fn.count - l.left) ((told l.fn.files).rest file) ((told l.files).rest file) true;
       kept : Keeps (told l.fn.files) (told l.files) file;
-      reads : (h : ℕ) → g.F.Files.is_read l.fn.files h → g.F.Files.is_read l.files h;
-      writes : (h : ℕ) → g.F.Files.is_written l.fn.files h → g.F.Files.is_written l.files h;
       count : g.F.Files.counted l.files ≡ g.F.Files.counted l.fn.files;
     }
 

@@ -16,8 +16,6 @@ invariant-loop-next g l =
       going : l.self.state ≡ Going;
       file_is : l.self.file ≡ l.fn.self.file;
       kept : Keeps (told l.fn.files) (told l.files) l.fn.self.file;
-      reads : (h : ℕ) → g.F.Files.is_read l.fn.files h → g.F.Files.is_read l.files h;
-      writes : (h : ℕ) → g.F.Files.is_written l.fn.files h → g.F.Files.is_written l.files h;
       count : g.F.Files.counted l.files ≡ g.F.Files.counted l.fn.files;
     }
 

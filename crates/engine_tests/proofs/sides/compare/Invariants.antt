@@ -1,6 +1,0 @@
--- the tables are of the function, with the whole share
-use Rattle.std.proofs.Common.{◌≡◌}
-use Rattle.engine_tests.proofs.sides.compare.Given as goal
-
-abbrev pub invariant-loop-seq : goal.invariant-loop-seq
-invariant-loop-seq l = (l.tables.decls ≡ l.func.chains) × (l.tables.share.of ≡ 1)

@@ -1,0 +1,5 @@
+// Captures that are read as streams.
+mod calls;
+mod pcapng_tests;
+mod story;
+mod tests;

@@ -1,0 +1,4 @@
+// Captures in pcapng.
+mod calls;
+mod story;
+mod tests;
